@@ -1,0 +1,53 @@
+-- The byte form of a description, part by part. All numbers are big-endian.
+use Rattle.std.specs.Prelude.{ℕ, ◌≡◌, List, [], ◌∷◌, ◌++◌, length, Option, Some, None}
+use Rattle.std.specs.Int.{w16, w32, w64, to_be_bytes}
+use Rattle.iceoryx2_data.specs.declared.description.MessagingPattern.{MessagingPattern}
+use Rattle.iceoryx2_data.specs.declared.description.MessagingPattern.TheVariants.{Event}
+use Rattle.iceoryx2_data.specs.declared.event.StaticConfig.{StaticConfig as EventConfig}
+use Rattle.iceoryx2_data.specs.declared.event.Deadline.{Deadline}
+use Rattle.iceoryx2_data.specs.Description.{Description, IsDescription}
+use Rattle.iceoryx2_data.specs.Span.{Span}
+
+-- the length as two bytes, and the bytes
+abbrev pub text : List ℕ → List ℕ
+text t = to_be_bytes w16 (length t) ++ t
+
+-- eight bytes
+abbrev pub number : ℕ → List ℕ
+number n = to_be_bytes w64 n
+
+-- a flag, and the value where there is one
+abbrev pub option : {A : Type 0} → (A → List ℕ) → Option A → List ℕ
+option form None = 0 ∷ []
+option form (Some x) = 1 ∷ form x
+
+-- seconds, and nanoseconds as four bytes
+abbrev pub span : Span → List ℕ
+span s = number s.seconds ++ to_be_bytes w32 s.nanoseconds
+
+abbrev pub deadline : Deadline → List ℕ
+deadline d = span d.value ++ span d.creation_time
+
+-- the settings in the order in which they are verified
+abbrev pub event : EventConfig → List ℕ
+event s = number s.max_notifiers ++ number s.max_listeners ++ number s.event_id_max_value ++ number s.max_nodes
+    ++ option number s.notifier_created_event ++ option number s.notifier_dropped_event ++ option number s.notifier_dead_event ++ option deadline s.deadline
+
+-- the pattern's byte, and its settings
+abbrev pub pattern : MessagingPattern → List ℕ
+pattern (Event s) = 1 ∷ event s
+
+-- IOX2, and the version
+abbrev pub magic : List ℕ
+magic = 0x49 ∷ 0x4f ∷ 0x58 ∷ 0x32 ∷ 0x01 ∷ []
+
+-- so far no service has attributes: their count alone is written
+abbrev pub no_attributes : List ℕ
+no_attributes = to_be_bytes w16 0
+
+abbrev pub description : Description → List ℕ
+description d = magic ++ d.hash.0 ++ text d.name ++ no_attributes ++ pattern d.pattern
+
+-- The bytes are the byte form of the description, nothing before them or behind.
+abbrev pub IsForm : Description → List ℕ → Type 0
+IsForm d bytes = IsDescription d × (bytes ≡ description d)

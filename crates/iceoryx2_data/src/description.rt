@@ -1,0 +1,169 @@
+//! What nodes that share a service agree on.
+
+ghost use Rattle.std.specs.Prelude.{◌≡◌, ◌<◌, ◌≤◌, ◌↔◌, ◌⊎◌, IfOk, OnOk, IsTrue, length, string_bytes};
+ghost use Rattle.iceoryx2_data.specs.Texts.{IsText};
+ghost use Rattle.hex.specs.Hex.{encode_lower};
+ghost use Rattle.std.specs.Prelude.{Err};
+
+use crate::event;
+use std::alloc::{AllocError, Global};
+use std::marker::Model;
+
+/// A service's name: 1 to 255 bytes of UTF-8.
+#[derive(Debug, Drop)]
+pub struct ServiceName {
+    text: String,
+}
+
+impl Model for ServiceName {
+    ghost use Rattle.std.specs.Prelude.{List, ℕ, string_bytes};
+    ghost use Rattle.iceoryx2_data.specs.Texts.{IsText};
+
+    ghost Value = { List ℕ };
+
+    ghost view = { λ name. string_bytes name.text };
+
+    ghost invariant = { λ name. IsText 1 255 (string_bytes name.text) };
+}
+
+/// Why a text is no service's name.
+#[derive(Clone, Copy, Debug, PartialEq, Eq)]
+pub enum ServiceNameError {
+    /// It is empty, or longer than 255 bytes.
+    Length,
+    /// There was no memory for a copy.
+    OutOfMemory,
+}
+
+impl ServiceName {
+    /// A copy of the text as a name. `Length` where it has no byte or more than 255, which is
+    /// tested first, and `OutOfMemory` where the copy found no memory.
+    #[tactic(auto, using(crate::proofs::Utf8::is_text))]
+    pub fn new(alloc: Global, text: &str) -> Result<ServiceName, ServiceNameError>
+        ensures name { IfOk result (λ name. name ≡ text.now) }
+        ensures length { (result ≡ Err ServiceNameError.Length) ↔ ((length text.now ≡ 0) ⊎ (255 < length text.now)) }
+    {
+        if text.is_empty() || text.len() > 255 {
+            return Err(ServiceNameError::Length);
+        }
+        match String::from_str(alloc, text) {
+            Ok(text) => Ok(ServiceName::from_text(text)),
+            Err(_) => Err(ServiceNameError::OutOfMemory),
+        }
+    }
+
+    /// A name of a text that has its length already.
+    pub(crate) fn from_text(text: String) -> ServiceName
+        requires { IsText 1 255 (string_bytes text) }
+        ensures { result ≡ string_bytes text }
+    {
+        ServiceName { text }
+    }
+
+    pub fn as_str(&self) -> &str
+        ensures value { result.now ≡ self.now }
+        ensures text { IsText 1 255 self.now }
+    {
+        &self.text
+    }
+}
+
+impl Clone for ServiceName {
+    fn clone(&self) -> Result<ServiceName, AllocError>
+        ensures { IfOk result (λ copy. copy ≡ self.now) }
+    {
+        Ok(ServiceName {
+            text: self.text.clone()?,
+        })
+    }
+}
+
+/// The hash by which a service is found.
+#[derive(Clone, Copy, Debug, PartialEq, Eq, PartialOrd, Ord)]
+pub struct ServiceHash(pub [u8; 20]);
+
+impl ServiceHash {
+    /// The hash in 40 hexadecimal digits, in lower case.
+    pub fn to_text(&self, alloc: Global) -> Result<String, AllocError>
+        ensures { IfOk result (λ text. string_bytes text ≡ encode_lower self.now.0) }
+    {
+        hex::encode(alloc, self.0.as_slice())
+    }
+}
+
+/// A service's pattern with its settings.
+#[derive(Clone, Copy, Debug, PartialEq, Eq)]
+pub enum MessagingPattern {
+    Event(event::StaticConfig),
+}
+
+impl MessagingPattern {
+    ghost use Rattle.iceoryx2_data.specs.Description.{IsSamePattern};
+
+    /// Whether both are of the same pattern, whatever their settings.
+    pub fn is_same_pattern(&self, other: &MessagingPattern) -> bool
+        ensures { IsTrue result ↔ IsSamePattern self.now other.now }
+    {
+        match (self, other) {
+            (MessagingPattern::Event(_), MessagingPattern::Event(_)) => true,
+        }
+    }
+}
+
+/// What nodes that share a service agree on: its hash, its name, and its pattern with the
+/// settings.
+#[derive(Debug, Drop)]
+pub struct StaticConfig {
+    hash: ServiceHash,
+    name: ServiceName,
+    pattern: MessagingPattern,
+}
+
+impl Model for StaticConfig {
+    ghost use Rattle.iceoryx2_data.specs.Description.{Description};
+
+    ghost Value = { Description };
+
+    ghost view = { λ d. record { hash = d.hash; name = d.name; pattern = d.pattern } };
+}
+
+impl StaticConfig {
+    ghost use Rattle.iceoryx2_data.specs.Description.{max_nodes_of};
+
+    pub fn new(hash: ServiceHash, name: ServiceName, pattern: MessagingPattern) -> StaticConfig
+        ensures { result ≡ (record { hash = hash; name = name; pattern = pattern }) }
+    {
+        StaticConfig {
+            hash,
+            name,
+            pattern,
+        }
+    }
+
+    pub fn service_hash(&self) -> &ServiceHash
+        ensures { result.now ≡ self.now.hash }
+    {
+        &self.hash
+    }
+
+    pub fn name(&self) -> &ServiceName
+        ensures { result.now ≡ self.now.name }
+    {
+        &self.name
+    }
+
+    pub fn messaging_pattern(&self) -> &MessagingPattern
+        ensures { result.now ≡ self.now.pattern }
+    {
+        &self.pattern
+    }
+
+    /// For how many nodes the service is.
+    pub fn max_nodes(&self) -> u64
+        ensures value { result ≡ max_nodes_of self.now.pattern }
+    {
+        match &self.pattern {
+            MessagingPattern::Event(settings) => settings.max_nodes,
+        }
+    }
+}

@@ -1,0 +1,4 @@
+//! Where nodes leave what they agreed on: what a builder calls, and a table that answers.
+#![tactic(auto)]
+
+pub mod storage;
