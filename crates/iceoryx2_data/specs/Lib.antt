@@ -3,3 +3,4 @@ pub mod Texts
 pub mod Defaults
 pub mod Description
 pub mod Form
+pub mod Reading

@@ -1,0 +1,117 @@
+-- Reading the byte form from left to right, part by part.
+use Rattle.std.specs.Prelude.{◌≡◌, ℕ, zero, suc, Bool, List, [], ◌∷◌, length, take, drop, Option, Some, None, Result, Ok, Err, nat_lt, ◌==◌, if◌then◌else◌, bytes_eq}
+use Rattle.std.specs.Int.{Width, w16, w32, w64, byte_len, from_be_bytes}
+use Rattle.std.specs.Str.{is_utf8}
+use Rattle.iceoryx2_data.specs.declared.bytes.DecodeError.{DecodeError}
+use Rattle.iceoryx2_data.specs.declared.bytes.DecodeError.TheVariants.{Malformed, OutOfMemory}
+use Rattle.iceoryx2_data.specs.declared.description.MessagingPattern.{MessagingPattern}
+use Rattle.iceoryx2_data.specs.declared.description.MessagingPattern.TheVariants.{Event}
+use Rattle.iceoryx2_data.specs.declared.event.StaticConfig.{StaticConfig as EventConfig}
+use Rattle.iceoryx2_data.specs.declared.event.Deadline.{Deadline}
+use Rattle.iceoryx2_data.specs.Span.{Span}
+use Rattle.iceoryx2_data.specs.Description.{Description}
+use Rattle.iceoryx2_data.specs.Form.{magic, no_attributes}
+
+infixl 10 ◌>>=◌
+abbrev pub ◌>>=◌ : {A B : Type 0} → Option A → (A → Option B) → Option B
+None >>= f = None
+(Some x) >>= f = f x
+
+-- A part is read from the front of the bytes: its value, and the bytes after it.
+abbrev pub Part : Type 0 → Type 0
+Part A = List ℕ → Option (A × List ℕ)
+
+-- ---- parts made of parts
+
+abbrev pub then_at : {A B : Type 0} → Part A → Part B → Part (A × B)
+then_at first second bytes = first bytes >>= λ a. second a.1 >>= λ b. Some ((a.0, b.0), b.1)
+
+abbrev pub as_at : {A B : Type 0} → (A → B) → Part A → Part B
+as_at to part bytes = part bytes >>= λ a. Some (to a.0, a.1)
+
+abbrev pub where_at : {A : Type 0} → (A → Bool) → Part A → Part A
+where_at test part bytes = part bytes >>= λ a. if test a.0 then Some a else None
+
+-- ---- numbers, bytes, texts and options
+
+abbrev pub number_at : Width → Part ℕ
+number_at w bytes = if nat_lt (length bytes) (byte_len w) then None else Some (from_be_bytes w (take (byte_len w) bytes), drop (byte_len w) bytes)
+
+-- n bytes
+abbrev pub bytes_at : ℕ → Part (List ℕ)
+bytes_at n bytes = if nat_lt (length bytes) n then None else Some (take n bytes, drop n bytes)
+
+-- just these bytes
+unfoldable pub literal_at : List ℕ → Part (Unit {0})
+literal_at bytes input = bytes_at (length bytes) input >>= λ t. if bytes_eq t.0 bytes then Some (tt, t.1) else None
+
+-- a text of lo to hi bytes
+unfoldable pub text_at : ℕ → ℕ → Part (List ℕ)
+text_at lo hi bytes = number_at w16 bytes >>= λ n. if nat_lt n.0 lo then None else if nat_lt hi n.0 then None else bytes_at n.0 n.1 >>= λ t. if is_utf8 t.0 then Some t else None
+
+unfoldable pub option_at : {A : Type 0} → Part A → Part (Option A)
+option_at part [] = None
+option_at part (zero ∷ rest) = Some (None, rest)
+option_at part (suc zero ∷ rest) = part rest >>= λ x. Some (Some x.0, x.1)
+option_at part (suc (suc b) ∷ rest) = None
+
+-- ---- the settings of events
+
+abbrev pub span_from : ℕ × ℕ → Span
+span_from p = record { seconds = p.0; nanoseconds = p.1 }
+
+unfoldable pub span_at : Part Span
+span_at = as_at span_from (where_at (λ p. nat_lt p.1 1_000_000_000) (then_at (number_at w64) (number_at w32)))
+
+abbrev pub deadline_from : Span × Span → Deadline
+deadline_from p = record { value = p.0; creation_time = p.1 }
+
+unfoldable pub deadline_at : Part Deadline
+deadline_at = as_at deadline_from (then_at span_at span_at)
+
+abbrev pub Options : Type 0
+Options = Option ℕ × (Option ℕ × (Option ℕ × Option Deadline))
+
+abbrev pub event_from : ℕ × (ℕ × (ℕ × (ℕ × Options))) → EventConfig
+event_from p = record {
+  max_notifiers = p.0;
+  max_listeners = p.1.0;
+  event_id_max_value = p.1.1.0;
+  max_nodes = p.1.1.1.0;
+  notifier_created_event = p.1.1.1.1.0;
+  notifier_dropped_event = p.1.1.1.1.1.0;
+  notifier_dead_event = p.1.1.1.1.1.1.0;
+  deadline = p.1.1.1.1.1.1.1;
+}
+
+unfoldable pub event_at : Part EventConfig
+event_at = as_at event_from (then_at (number_at w64) (then_at (number_at w64) (then_at (number_at w64) (then_at (number_at w64) (then_at (option_at (number_at w64)) (then_at (option_at (number_at w64)) (then_at (option_at (number_at w64)) (option_at deadline_at))))))))
+
+-- ---- the whole
+
+unfoldable pub pattern_at : Part MessagingPattern
+pattern_at [] = None
+pattern_at (zero ∷ rest) = None
+pattern_at (suc zero ∷ rest) = event_at rest >>= λ x. Some (Event x.0, x.1)
+pattern_at (suc (suc b) ∷ rest) = None
+
+abbrev pub description_from : Unit {0} × (List ℕ × (List ℕ × (Unit {0} × MessagingPattern))) → Description
+description_from p = record { hash = record { 0 = p.1.0 }; name = p.1.1.0; pattern = p.1.1.1.1 }
+
+unfoldable pub description_at : Part Description
+description_at = as_at description_from (then_at (literal_at magic) (then_at (bytes_at 20) (then_at (text_at 1 255) (then_at (literal_at no_attributes) pattern_at))))
+
+-- all of the bytes
+unfoldable pub all_of : List ℕ → Option Description
+all_of bytes = description_at bytes >>= λ x. if length x.1 == 0 then Some x.0 else None
+
+-- ---- what the code returns
+
+-- What a function returned, seen by view, is what reading gives, unless memory ran out.
+abbrev pub Fails : {Y : Type 0} → DecodeError → Option Y → Type 0
+Fails Malformed read = read ≡ None
+Fails OutOfMemory read = Unit {0}
+
+abbrev pub Gives : {X Y : Type 0} → (X → Y) → Result X DecodeError → Option Y → Type 0
+Gives view (Ok x) read = read ≡ Some (view x)
+Gives view (Err e) read = Fails e read

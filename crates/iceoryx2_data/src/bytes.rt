@@ -1,0 +1,63 @@
+//! The bytes by which nodes tell each other of a service.
+
+ghost use Rattle.std.specs.Prelude.{◌≡◌, IfOk, MatchResult};
+ghost use Rattle.iceoryx2_data.specs.Description.{Description};
+ghost use Rattle.iceoryx2_data.specs.Form.{IsForm};
+ghost use Rattle.iceoryx2_data.specs.declared.bytes.DecodeError.TheVariants.{OutOfMemory};
+
+mod reading;
+mod writing;
+
+use crate::description::StaticConfig;
+use std::alloc::{AllocError, Global};
+use std::error::Error;
+use std::fmt;
+
+/// Why bytes give no description.
+#[derive(Clone, Copy, Debug, PartialEq, Eq)]
+pub enum DecodeError {
+    /// They are the byte form of no description.
+    Malformed,
+    /// There was no memory for the description.
+    OutOfMemory,
+}
+
+impl fmt::Display for DecodeError {
+    fn fmt<W: fmt::Write>(&self, f: &mut fmt::Formatter<W>) -> fmt::Result {
+        match self {
+            DecodeError::Malformed => write!(f, "the bytes are no description"),
+            DecodeError::OutOfMemory => write!(f, "out of memory"),
+        }
+    }
+}
+
+impl Error for DecodeError {}
+
+impl From<AllocError> for DecodeError {
+    ghost from_gives = { λ _ e. e ≡ OutOfMemory };
+
+    fn from(_: AllocError) -> DecodeError {
+        DecodeError::OutOfMemory
+    }
+}
+
+/// The byte form of the description.
+pub fn encode(alloc: Global, description: &StaticConfig) -> Result<Vec<u8>, AllocError>
+    ensures { IfOk result (λ bytes. IsForm description.now bytes.items) }
+{
+    let mut out = Vec::new(alloc);
+    writing::put_description(&mut out, description)?;
+    Ok(out)
+}
+
+/// The description whose byte form the bytes are: `Malformed` where there is none, and
+/// `OutOfMemory` where the name found no memory.
+pub fn decode(alloc: Global, bytes: &[u8]) -> Result<StaticConfig, DecodeError>
+    // What is found has the bytes as its form.
+    ensures found { IfOk result (λ d. IsForm d bytes.now) }
+
+    // The description of the bytes is found, unless memory runs out.
+    ensures only { (d : Description) → IsForm d bytes.now → MatchResult result (λ found. found ≡ d) (λ e. e ≡ OutOfMemory) }
+{
+    reading::all(alloc, bytes)
+}

@@ -1,0 +1,157 @@
+//! Writing the byte form, part by part, at the end of what was written.
+
+ghost use Rattle.std.specs.Prelude.{◌≡◌, ◌<◌, ◌^◌, ◌++◌, length, IfSome, OnOk};
+ghost use Rattle.iceoryx2_data.specs.Form as form;
+ghost use Rattle.iceoryx2_data.specs.Description.{IsPattern, IsEvent, IsDeadline, IsDescription};
+ghost use Rattle.iceoryx2_data.specs.Span.{IsSpan};
+
+use crate::description::{MessagingPattern, StaticConfig};
+use crate::event;
+use crate::event::{Deadline, EventId};
+use crate::time::{Duration, Time};
+use std::alloc::AllocError;
+
+fn put_number(out: &mut Vec<u8>, number: u64) -> Result<(), AllocError>
+    ensures { OnOk result (out.new.items ≡ out.old.items ++ form.number number) }
+{
+    out.extend_from_slice(&number.to_be_bytes())
+}
+
+fn put_text(out: &mut Vec<u8>, text: &str) -> Result<(), AllocError>
+    requires { length text.now < 2 ^ 16 }
+    ensures { OnOk result (out.new.items ≡ out.old.items ++ form.text text.now) }
+{
+    out.extend_from_slice(&(text.len() as u16).to_be_bytes())?;
+    out.extend_from_slice(text.as_bytes())?;
+    Ok(())
+}
+
+fn put_id(out: &mut Vec<u8>, id: Option<EventId>) -> Result<(), AllocError>
+    ensures { OnOk result (out.new.items ≡ out.old.items ++ form.option form.number id) }
+{
+    match id {
+        None => out.push(0)?,
+        Some(id) => {
+            out.push(1)?;
+            put_number(out, id.as_value())?;
+        }
+    }
+    Ok(())
+}
+
+fn put_duration(out: &mut Vec<u8>, duration: Duration) -> Result<(), AllocError>
+    ensures { OnOk result (out.new.items ≡ out.old.items ++ form.span duration) }
+{
+    put_number(out, duration.seconds())?;
+    out.extend_from_slice(&duration.nanoseconds().to_be_bytes())?;
+    Ok(())
+}
+
+fn put_time(out: &mut Vec<u8>, time: Time) -> Result<(), AllocError>
+    ensures { OnOk result (out.new.items ≡ out.old.items ++ form.span time) }
+{
+    put_number(out, time.seconds())?;
+    out.extend_from_slice(&time.nanoseconds().to_be_bytes())?;
+    Ok(())
+}
+
+fn put_deadline(out: &mut Vec<u8>, deadline: Deadline) -> Result<(), AllocError>
+    ensures { OnOk result (out.new.items ≡ out.old.items ++ form.deadline deadline) }
+{
+    put_duration(out, deadline.value)?;
+    put_time(out, deadline.creation_time)?;
+    Ok(())
+}
+
+fn put_optional_deadline(out: &mut Vec<u8>, deadline: Option<Deadline>) -> Result<(), AllocError>
+    ensures { OnOk result (out.new.items ≡ out.old.items ++ form.option form.deadline deadline) }
+{
+    match deadline {
+        None => out.push(0)?,
+        Some(value) => {
+            out.push(1)?;
+            put_deadline(out, value)?;
+        }
+    }
+    Ok(())
+}
+
+fn put_event(out: &mut Vec<u8>, settings: &event::StaticConfig) -> Result<(), AllocError>
+    ensures { OnOk result (out.new.items ≡ out.old.items ++ form.event settings.now) }
+{
+    put_number(out, settings.max_notifiers)?;
+    put_number(out, settings.max_listeners)?;
+    put_number(out, settings.event_id_max_value)?;
+    put_number(out, settings.max_nodes)?;
+    put_id(out, settings.notifier_created_event)?;
+    put_id(out, settings.notifier_dropped_event)?;
+    put_id(out, settings.notifier_dead_event)?;
+    put_optional_deadline(out, settings.deadline)?;
+    Ok(())
+}
+
+fn id_fits(id: Option<EventId>)
+    ensures { IfSome id (λ n. n < 2 ^ 64) }
+{
+    match id {
+        None => {}
+        Some(id) => {
+            let _value = id.as_value();
+        }
+    }
+}
+
+fn deadline_fits(deadline: Option<Deadline>)
+    ensures { IfSome deadline IsDeadline }
+{
+    match deadline {
+        None => {}
+        Some(deadline) => {
+            let _seconds = deadline.value.seconds();
+            let _nanoseconds = deadline.value.nanoseconds();
+            let _creation_seconds = deadline.creation_time.seconds();
+            let _creation_nanoseconds = deadline.creation_time.nanoseconds();
+        }
+    }
+}
+
+/// Its numbers are within their limits.
+fn event_fits(settings: &event::StaticConfig)
+    ensures { IsEvent settings.now }
+{
+    let _notifiers = settings.max_notifiers;
+    let _listeners = settings.max_listeners;
+    let _event_id = settings.event_id_max_value;
+    let _nodes = settings.max_nodes;
+    id_fits(settings.notifier_created_event);
+    id_fits(settings.notifier_dropped_event);
+    id_fits(settings.notifier_dead_event);
+    deadline_fits(settings.deadline);
+}
+
+fn put_pattern(out: &mut Vec<u8>, pattern: &MessagingPattern) -> Result<(), AllocError>
+    ensures form { OnOk result (out.new.items ≡ out.old.items ++ form.pattern pattern.now) }
+    ensures fits { OnOk result (IsPattern pattern.now) }
+{
+    match pattern {
+        MessagingPattern::Event(settings) => {
+            out.push(1)?;
+            put_event(out, settings)?;
+            event_fits(settings);
+        }
+    }
+    Ok(())
+}
+
+/// The whole byte form, behind what was written.
+pub fn put_description(out: &mut Vec<u8>, description: &StaticConfig) -> Result<(), AllocError>
+    ensures form { OnOk result (out.new.items ≡ out.old.items ++ form.description description.now) }
+    ensures fits { OnOk result (IsDescription description.now) }
+{
+    out.extend_from_slice(&[0x49, 0x4f, 0x58, 0x32, 0x01])?;
+    out.extend_from_slice(&description.service_hash().0)?;
+    put_text(out, description.name().as_str())?;
+    out.extend_from_slice(&[0, 0])?;
+    put_pattern(out, description.messaging_pattern())?;
+    Ok(())
+}
