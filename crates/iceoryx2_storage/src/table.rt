@@ -1,3 +1,5 @@
 //! A storage within one process.
 
+mod services;
+mod sorted;
 pub mod world;

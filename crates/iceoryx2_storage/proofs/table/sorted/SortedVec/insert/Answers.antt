@@ -1,0 +1,38 @@
+use Rattle.std.proofs.Common.{rules, arith, get_or, set, ◌≡◌, true, List, sym, ap, subst, ◌∙◌}
+use Rattle.std.specs.Prelude.{T}
+use Rattle.std.specs.FinMap.{put, is_sorted}
+use Rattle.std.specs.FinMap.Entries.{is_sorted-put, is_sorted-where_key}
+use Rattle.iceoryx2_storage.proofs.Places.{find_at, find_gap, put_at, put_gap, without_at, without_gap, T_true, true_T}
+use Rattle.iceoryx2_storage.proofs.Views.{map_put, map_without}
+use Rattle.std.specs.FinMap as map
+use Rattle.iceoryx2_storage.proofs.table.sorted.SortedVec.insert.Goals as goal
+
+pub returns-in-Ok : goal.returns-in-Ok
+returns-in-Ok g c =
+    let it = c.in-Ok.ensures.found in
+    let read : get_or c.args.self.now.entries.items c.in-Ok.at c.index_mut.result.now ≡ c.index_mut.result.now = search rules in
+    ap (λ l. map.from_sorted {R = g.K.Ord.cmp} l) (ap (λ (e : g.row.K.Denot × g.row.V.Denot). set c.args.self.now.entries.items c.in-Ok.at (e.0, c.args.value)) (sym read)
+        ∙ sym (put_at g.K.Ord.cmp g.met.K.Ord.total c.args.key c.args.value c.args.self.now.entries.items (true_T c.args.self.now.sorted) c.in-Ok.at c.index_mut.result.now it.0 (it.1 c.index_mut.result.now)))
+    ∙ map_put g.K.Ord.cmp g.met.K.Ord.total c.args.self.now.entries.items c.args.self.now.sorted c.args.key c.args.value
+
+pub returns-in-Err : goal.returns-in-Err
+returns-in-Err g c =
+    let it = put_gap g.K.Ord.cmp g.met.K.Ord.total c.args.key c.args.value c.args.self.now.entries.items c.in-Err.at c.in-Err.ensures.in_range c.in-Err.ensures.gap in
+    let went = c.insert.ensures.succeeds c.requires in
+    let same : c.insert.new.self.items ≡ put g.K.Ord.cmp c.args.key c.args.value c.args.self.now.entries.items = grind (arith, it, went, c.insert.ensures.items) in
+    ap (λ l. map.from_sorted {R = g.K.Ord.cmp} l) same ∙ map_put g.K.Ord.cmp g.met.K.Ord.total c.args.self.now.entries.items c.args.self.now.sorted c.args.key c.args.value
+
+pub invariant_of-self : goal.invariant_of-self
+invariant_of-self g c =
+    let it = c.in-Ok.ensures.found in
+    let read : get_or c.args.self.now.entries.items c.in-Ok.at c.index_mut.result.now ≡ c.index_mut.result.now = search rules in
+    let same = ap (λ (e : g.row.K.Denot × g.row.V.Denot). set c.args.self.now.entries.items c.in-Ok.at (e.0, c.args.value)) (sym read)
+        ∙ sym (put_at g.K.Ord.cmp g.met.K.Ord.total c.args.key c.args.value c.args.self.now.entries.items (true_T c.args.self.now.sorted) c.in-Ok.at c.index_mut.result.now it.0 (it.1 c.index_mut.result.now)) in
+    record { sorted = T_true _ (subst (λ (l : List (g.row.K.Denot × g.row.V.Denot)). T (is_sorted g.K.Ord.cmp l)) (sym same) (is_sorted-put g.K.Ord.cmp g.met.K.Ord.total c.args.key c.args.value c.args.self.now.entries.items (true_T c.args.self.now.sorted))) }
+
+pub invariant_of-self-in-Err : goal.invariant_of-self-in-Err
+invariant_of-self-in-Err g c =
+    let it = put_gap g.K.Ord.cmp g.met.K.Ord.total c.args.key c.args.value c.args.self.now.entries.items c.in-Err.at c.in-Err.ensures.in_range c.in-Err.ensures.gap in
+    let went = c.insert.ensures.succeeds c.requires in
+    let same : c.insert.new.self.items ≡ put g.K.Ord.cmp c.args.key c.args.value c.args.self.now.entries.items = grind (arith, it, went, c.insert.ensures.items) in
+    record { sorted = T_true _ (subst (λ (l : List (g.row.K.Denot × g.row.V.Denot)). T (is_sorted g.K.Ord.cmp l)) (sym same) (is_sorted-put g.K.Ord.cmp g.met.K.Ord.total c.args.key c.args.value c.args.self.now.entries.items (true_T c.args.self.now.sorted))) }

@@ -1,0 +1,96 @@
+-- What stands for the services, and how a step of one participant changes it.
+use Rattle.std.specs.Prelude.{◌≡◌, refl, ℕ, Bool, true, false, nat_lt, Option, Some, None, Result, Ok, Err}
+use Rattle.std.specs.Option.{option_map}
+use Rattle.std.specs.FinMap as map
+use Rattle.std.specs.Coded.{Coded, code_by, coded×, coded_ℕ}
+use Rattle.std.specs.declared.alloc.AllocError.{AllocError}
+use Rattle.iceoryx2_data.specs.declared.description.ServiceHash.{ServiceHash}
+use Rattle.iceoryx2_storage.specs.declared.table.world.Participant.{Participant}
+use Rattle.iceoryx2_storage.specs.declared.table.world.Phase.{Phase}
+use Rattle.iceoryx2_storage.specs.declared.table.world.Phase.TheVariants as at
+use Rattle.iceoryx2_storage.specs.declared.table.world.Row.{Row}
+use Rattle.iceoryx2_storage.specs.declared.storage.Release.{Release as Released}
+use Rattle.iceoryx2_storage.specs.Sets as set
+use Rattle.iceoryx2_storage.specs.Orders.{hash_cmp, place_cmp}
+use Rattle.iceoryx2_storage.specs.World.{Segment, set_to, or_idle, unless_idle}
+use Rattle.iceoryx2_storage.specs.Acts.{Act}
+use Rattle.iceoryx2_storage.specs.Acts as act
+use Rattle.iceoryx2_storage.specs.Steps.{Spot, step, has_room}
+use Rattle.iceoryx2_storage.specs.Codes.{coded_hash, coded_row, coded_segment, coded_participant, coded_phase}
+use Rattle.iceoryx2_storage.specs.Access.{left_as}
+
+pub record Book : Type 0 where
+  pub rows : map.FinMap hash_cmp Row
+  pub segments : map.FinMap hash_cmp Segment
+  -- who is absent is Idle
+  pub phases : map.FinMap place_cmp Phase
+  pub counter : ℕ
+
+abbrev pub coded_book : Coded Book
+coded_book =
+    code_by (map.FinMap hash_cmp Row × (map.FinMap hash_cmp Segment × (map.FinMap place_cmp Phase × ℕ)))
+    (coded× (map.code coded_hash coded_row) (coded× (map.code coded_hash coded_segment) (coded× (map.code (coded× coded_participant coded_hash) coded_phase) coded_ℕ)))
+    (λ w. (w.rows, (w.segments, (w.phases, w.counter))))
+    (λ p. record { rows = p.0; segments = p.1.0; phases = p.1.1.0; counter = p.1.1.1 }) (λ _. refl)
+
+abbrev pub phase_at : Book → Participant → ServiceHash → Phase
+phase_at b p h = or_idle (map.get b.phases (p, h))
+
+-- what a step of p at h changes, where it is allowed
+abbrev pub tries : Book → Participant → ServiceHash → Act → Option Spot
+tries b p h a = step p h a (or_idle (map.get b.phases (p, h))) (map.get b.rows h) (map.get b.segments h) b.counter
+
+abbrev pub with_spot : Book → Participant → ServiceHash → Spot → Book
+with_spot b p h s = record { rows = set_to b.rows h s.row; segments = set_to b.segments h s.segment; phases = set_to b.phases (p, h) (unless_idle s.phase); counter = s.counter }
+
+-- the step is allowed, and has its effect
+abbrev pub Done : Book → Participant → ServiceHash → Act → Book → Type 0
+Done b p h a c = (s : Spot) × (tries b p h a ≡ Some s) × (c ≡ with_spot b p h s)
+
+-- a step without memory: it has its effect, or it is forbidden and nothing changes
+abbrev pub Steps : Book → Participant → ServiceHash → Act → Bool → Book → Type 0
+Steps b p h a true c = Done b p h a c
+Steps b p h a false c = (tries b p h a ≡ None) × (c ≡ b)
+
+-- what can want memory: something is kept that wasn't
+abbrev pub needs_room : Act → Phase → Bool
+needs_room act.Read at.Idle = true
+needs_room act.Lock f = true
+needs_room (act.Make m) f = true
+needs_room (act.Publish d) f = true
+needs_room act.Join (at.Read n) = true
+needs_room _ _ = false
+
+-- the step is allowed, and found no memory
+abbrev pub Starved : Book → Participant → ServiceHash → Act → Book → Type 0
+Starved b p h a c = (s : Spot) × (tries b p h a ≡ Some s) × (needs_room a (or_idle (map.get b.phases (p, h))) ≡ true) × (c ≡ b)
+
+-- a step that can want memory
+abbrev pub Tries : Book → Participant → ServiceHash → Act → Result Bool AllocError → Book → Type 0
+Tries b p h a (Ok done) c = Steps b p h a done c
+Tries b p h a (Err e) c = Starved b p h a c
+
+-- a leave, with what it leaves
+abbrev pub Leaves : Book → Participant → ServiceHash → Option Released → Book → Type 0
+Leaves b p h (Some r) c = (s : Spot) × (tries b p h act.Leave ≡ Some s) × (r ≡ left_as s.phase) × (c ≡ with_spot b p h s)
+Leaves b p h None c = (tries b p h act.Leave ≡ None) × (c ≡ b)
+
+-- the segment takes one more
+abbrev pub Admits : ℕ → Participant → Segment → Result Bool AllocError → Segment → Type 0
+Admits n p s (Ok true) t = (has_room n s ≡ true) × (t ≡ record s { participants = set.insert s.participants p })
+Admits n p s (Ok false) t = (has_room n s ≡ false) × (t ≡ s)
+Admits n p s (Err e) t = (has_room n s ≡ true) × (t ≡ s)
+
+-- one goes who is not the last, or the segment is marked
+abbrev pub Dismisses : Participant → Segment → Bool → Segment → Type 0
+Dismisses p s true t = (nat_lt 1 (set.len s.participants) ≡ true) × (t ≡ record s { participants = set.remove s.participants p })
+Dismisses p s false t = (nat_lt 1 (set.len s.participants) ≡ false) × (t ≡ record s { participants = set.empty; marked = true })
+
+-- the phase of who takes the segment away, where it may
+abbrev pub TakesSegment : Phase → Option Phase → Type 0
+TakesSegment x o = (p : Participant) (h : ServiceHash) (r : Option Row) (s : Option Segment) (c : ℕ) → step p h act.RemoveSegment x r s c ≡ option_map (λ y. record { phase = y; row = r; segment = None; counter = c }) o
+
+-- who takes the description away, where it may, holds nothing
+abbrev pub TakesDescription : Phase → Bool → Type 0
+TakesDescription x true = (p : Participant) (h : ServiceHash) (r : Option Row) (s : Option Segment) (c : ℕ) → step p h act.RemoveDescription x r s c ≡ Some (record { phase = at.Idle; row = None; segment = s; counter = c })
+TakesDescription x false = (p : Participant) (h : ServiceHash) (r : Option Row) (s : Option Segment) (c : ℕ) → step p h act.RemoveDescription x r s c ≡ None
