@@ -16,7 +16,9 @@ use Rattle.iceoryx2_storage.specs.World.{Segment, or_idle}
 use Rattle.iceoryx2_storage.specs.Acts.{Act}
 use Rattle.iceoryx2_storage.specs.Acts as act
 use Rattle.iceoryx2_storage.specs.Rows as row
-use Rattle.iceoryx2_storage.specs.Steps.{Spot, step, now, begins, has_room, last_number}
+use Rattle.iceoryx2_data.specs.Description.{Description}
+use Rattle.iceoryx2_data.specs.Form as form
+use Rattle.iceoryx2_storage.specs.Steps.{Spot, step, now, begins, fits, has_room, last_number}
 use Rattle.iceoryx2_storage.specs.Book.{Book, tries, with_spot, needs_room, Done, Starved, Leaves}
 use Rattle.iceoryx2_storage.specs.declared.storage.OpenSegmentError.TheVariants as Opening
 use Rattle.iceoryx2_storage.specs.declared.storage.Release.{Release as Released}
@@ -124,3 +126,11 @@ read_tried b p h x n d e free there =
     reads (at.Joined m k) f = absurd (cc)
     reads (at.Leaving m) f = absurd (cc)
     reads (at.Cleared m) f = absurd (cc)
+
+-- who made a segment publishes what fits it
+pub publish_tried : (b : Book) (p : Participant) (h : ServiceHash) (d : Description) (n : ℕ) (s : Segment) → or_idle (map.get b.phases (p, h)) ≡ at.Made n → map.get b.segments h ≡ Some s → fits h s d ≡ true
+    → tries b p h (act.Publish d) ≡ now (at.Joined n 1) (Some (row.Published n (form.description d))) (map.get b.segments h) b.counter
+publish_tried b p h d n s e there fit =
+    by_both b p h (act.Publish d) (at.Made n) (Some s) e there
+    ∙ ap (λ (t : Bool). if t then now (at.Joined n 1) (Some (row.Published n (form.description d))) (Some s) b.counter else None) fit
+    ∙ ap (λ x. now (at.Joined n 1) (Some (row.Published n (form.description d))) x b.counter) (sym there)

@@ -5,6 +5,7 @@ use Rattle.std.specs.FinMap as map
 use Rattle.std.specs.Coded.{Coded, code_by, coded×, coded_ℕ}
 use Rattle.std.specs.declared.alloc.AllocError.{AllocError}
 use Rattle.iceoryx2_data.specs.declared.description.ServiceHash.{ServiceHash}
+use Rattle.iceoryx2_data.specs.Description.{Description}
 use Rattle.iceoryx2_storage.specs.declared.table.world.Participant.{Participant}
 use Rattle.iceoryx2_storage.specs.declared.table.world.Phase.{Phase}
 use Rattle.iceoryx2_storage.specs.declared.table.world.Phase.TheVariants as at
@@ -15,7 +16,7 @@ use Rattle.iceoryx2_storage.specs.Orders.{hash_cmp, place_cmp}
 use Rattle.iceoryx2_storage.specs.World.{Segment, set_to, or_idle, unless_idle}
 use Rattle.iceoryx2_storage.specs.Acts.{Act}
 use Rattle.iceoryx2_storage.specs.Acts as act
-use Rattle.iceoryx2_storage.specs.Steps.{Spot, step, has_room}
+use Rattle.iceoryx2_storage.specs.Steps.{Spot, step, fits, has_room}
 use Rattle.iceoryx2_storage.specs.Codes.{coded_hash, coded_row, coded_segment, coded_participant, coded_phase}
 use Rattle.iceoryx2_storage.specs.Access.{left_as}
 
@@ -74,6 +75,11 @@ Tries b p h a (Err e) c = Starved b p h a c
 abbrev pub Leaves : Book → Participant → ServiceHash → Option Released → Book → Type 0
 Leaves b p h (Some r) c = (s : Spot) × (tries b p h act.Leave ≡ Some s) × (r ≡ left_as s.phase) × (c ≡ with_spot b p h s)
 Leaves b p h None c = (tries b p h act.Leave ≡ None) × (c ≡ b)
+
+-- there is a segment that the description fits
+abbrev pub segment_fits : ServiceHash → Option Segment → Description → Bool
+segment_fits h None d = false
+segment_fits h (Some s) d = fits h s d
 
 -- the segment takes one more
 abbrev pub Admits : ℕ → Participant → Segment → Result Bool AllocError → Segment → Type 0

@@ -1,18 +1,20 @@
 //! What stands for the services, and the steps of one participant at one of them.
 
-ghost use Rattle.std.specs.Prelude.{◌≡◌, ◌≢◌, ◌⊎◌, is_some, MatchOption, Some, None, IsSome, IsTrue};
+ghost use Rattle.std.specs.Prelude.{◌≡◌, ◌≢◌, ◌&&◌, is_some, MatchOption, Some, None, IsSome, IsTrue, Ok, true};
 ghost use Rattle.std.specs.FinMap as map;
 ghost use Rattle.iceoryx2_storage.specs.Orders.{place_cmp};
 ghost use Rattle.iceoryx2_storage.specs.World.{or_idle, unless_idle, set_to};
 ghost use Rattle.iceoryx2_storage.specs.Acts as act;
-ghost use Rattle.iceoryx2_storage.specs.Steps.{begins as begins_spec, has_room as has_room_spec};
-ghost use Rattle.iceoryx2_storage.specs.Access.{open_refusal, segment_refusal};
-ghost use Rattle.iceoryx2_storage.specs.Book.{Steps, Tries, Leaves, Admits, Dismisses, TakesSegment, TakesDescription};
+ghost use Rattle.iceoryx2_storage.specs.Steps.{begins as begins_spec, fits as fits_spec, has_room as has_room_spec};
+ghost use Rattle.iceoryx2_data.specs.Description.{IsDescription};
+ghost use Rattle.iceoryx2_storage.specs.Access.{has_made, open_refusal, segment_refusal};
+ghost use Rattle.iceoryx2_storage.specs.Book.{Steps, Tries, Leaves, Admits, Dismisses, TakesSegment, TakesDescription, segment_fits};
 
 use super::sorted::SortedVec;
-use super::world::{Participant, Phase, Row};
+use super::world::{Bytes, Participant, Phase, Row};
 use crate::storage::{OpenSegmentError, Release};
-use iceoryx2_data::description::ServiceHash;
+use iceoryx2_data::bytes::encode;
+use iceoryx2_data::description::{ServiceHash, StaticConfig};
 use std::alloc::{AllocError, Global};
 use std::marker::Model;
 
@@ -43,6 +45,13 @@ impl StoredSegment {
         ensures { result ≡ has_room_spec number self.now }
     {
         self.number == number && !self.marked && (self.participants.len() as u64) < self.capacity
+    }
+
+    // It is described so: for this service, and for as many nodes.
+    fn fits(&self, hash: &ServiceHash, description: &StaticConfig) -> bool
+        ensures { result ≡ fits_spec hash.now self.now description.now }
+    {
+        description.service_hash().cmp(hash).is_eq() && description.max_nodes() == self.capacity
     }
 
     // Why it isn't opened.
@@ -347,6 +356,47 @@ impl Services {
         participants.insert(participant, ());
         self.segments.insert(*hash, StoredSegment { number, capacity: max_nodes, participants, marked: false });
         set_phase(&mut self.phases, place, Phase::Made(number));
+        Ok(true)
+    }
+
+    /// Whether the participant made the segment of this number, and the description fits it.
+    pub fn may_publish(&self, participant: Participant, hash: &ServiceHash, number: u64, description: &StaticConfig) -> bool
+        ensures { result ≡ (has_made number (or_idle (map.get self.now.phases (participant, hash.now))) && segment_fits hash.now (map.get self.now.segments hash.now) description.now) }
+    {
+        let Phase::Made(made) = phase_in(&self.phases, &(participant, *hash)) else {
+            return false;
+        };
+        if made != number {
+            return false;
+        }
+        match self.segments.get(hash) {
+            Some(segment) => segment.fits(hash, description),
+            None => false,
+        }
+    }
+
+    pub fn publish(&mut self, participant: Participant, hash: &ServiceHash, description: &StaticConfig) -> Result<bool, AllocError>
+        ensures effect { Tries self.old participant hash.now (act.Publish description.now) result self.new }
+        ensures limits { result ≡ Ok true → IsDescription description.now }
+    {
+        let place = (participant, *hash);
+        let Phase::Made(number) = phase_in(&self.phases, &place) else {
+            return Ok(false);
+        };
+        let Some(segment) = self.segments.get(hash) else {
+            return Ok(false);
+        };
+        if !segment.fits(hash, description) {
+            return Ok(false);
+        }
+        let Ok(bytes) = encode(self.rows.allocator(), description) else {
+            return Err(AllocError);
+        };
+        if self.rows.reserve().is_err() {
+            return Err(AllocError);
+        }
+        self.rows.insert(*hash, Row::Published(number, Bytes::from_vec(bytes)));
+        set_phase(&mut self.phases, place, Phase::Joined(number, 1));
         Ok(true)
     }
 
