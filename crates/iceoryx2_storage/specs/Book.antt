@@ -12,13 +12,13 @@ use Rattle.iceoryx2_storage.specs.declared.table.world.Phase.TheVariants as at
 use Rattle.iceoryx2_storage.specs.declared.table.world.Row.{Row}
 use Rattle.iceoryx2_storage.specs.declared.storage.Release.{Release as Released}
 use Rattle.iceoryx2_storage.specs.Sets as set
-use Rattle.iceoryx2_storage.specs.Orders.{hash_cmp, place_cmp}
-use Rattle.iceoryx2_storage.specs.World.{Segment, set_to, or_idle, unless_idle}
+use Rattle.iceoryx2_storage.specs.Orders.{hash_cmp, place_cmp, tag_cmp}
+use Rattle.iceoryx2_storage.specs.World.{World, Segment, set_to, or_idle, unless_idle}
 use Rattle.iceoryx2_storage.specs.Acts.{Act}
 use Rattle.iceoryx2_storage.specs.Acts as act
 use Rattle.iceoryx2_storage.specs.Steps.{Spot, step, fits, has_room}
 use Rattle.iceoryx2_storage.specs.Codes.{coded_hash, coded_row, coded_segment, coded_participant, coded_phase}
-use Rattle.iceoryx2_storage.specs.Access.{left_as}
+use Rattle.iceoryx2_storage.specs.Access.{Tickets, left_as}
 
 pub record Book : Type 0 where
   pub rows : map.FinMap hash_cmp Row
@@ -100,3 +100,11 @@ TakesSegment x o = (p : Participant) (h : ServiceHash) (r : Option Row) (s : Opt
 abbrev pub TakesDescription : Phase → Bool → Type 0
 TakesDescription x true = (p : Participant) (h : ServiceHash) (r : Option Row) (s : Option Segment) (c : ℕ) → step p h act.RemoveDescription x r s c ≡ Some (record { phase = at.Idle; row = None; segment = s; counter = c })
 TakesDescription x false = (p : Participant) (h : ServiceHash) (r : Option Row) (s : Option Segment) (c : ℕ) → step p h act.RemoveDescription x r s c ≡ None
+
+-- the world of the services, the tags and the tickets
+abbrev pub world : Book → set.FinSet tag_cmp → Tickets → World
+world b t k = record { rows = b.rows; segments = b.segments; phases = b.phases; tags = t; tickets = k; counter = b.counter }
+
+-- nothing stands, nobody holds anything, and the counter is at this number
+abbrev pub empty_world : ℕ → World
+empty_world n = record { rows = map.empty; segments = map.empty; phases = map.empty; tags = map.empty; tickets = map.empty; counter = n }

@@ -2,4 +2,5 @@
 
 mod services;
 mod sorted;
+mod stored;
 pub mod world;

@@ -1,0 +1,37 @@
+use Rattle.std.proofs.Common.{◌≡◌, Bool, ap, subst}
+use Rattle.std.specs.Prelude.{Ok, Err}
+use Rattle.iceoryx2_storage.specs.declared.storage.RemoveError.TheVariants as Removing
+use Rattle.iceoryx2_storage.specs.declared.table.world.Participant.TheVariants.{Node}
+use Rattle.iceoryx2_storage.specs.Acts as act
+use Rattle.iceoryx2_storage.specs.Letter as letter
+use Rattle.iceoryx2_storage.specs.Access.{Tickets, nothing, moves, stepped}
+use Rattle.iceoryx2_storage.specs.Book.{Book, Steps, world}
+use Rattle.iceoryx2_storage.specs.Sets as set
+use Rattle.iceoryx2_storage.specs.Orders.{tag_cmp}
+use Rattle.std.specs.FinMap as map
+use Rattle.iceoryx2_storage.proofs.Accesses.{part, simply_refusal, simply_done}
+use Rattle.iceoryx2_storage.proofs.table.stored.StoredWorld.remove_description.Goals as goal
+
+pub returns-then-remove_description : goal.returns-then-remove_description
+returns-then-remove_description c =
+    let i = c.args.node in
+    let h = c.args.hash.now in
+    let b : Book = c.self.inside.services in
+    let done = subst (λ (d : Bool). Steps b (Node i) h act.RemoveDescription d c.remove_description.new.self) c.if-remove_description.true c.remove_description.ensures in
+    let t : set.FinSet tag_cmp = map.from_sorted c.self.inside.tags.entries.items in
+    let k : Tickets = map.from_sorted c.self.inside.tickets.entries.items in
+    part (letter.RemoveDescription i h (Ok tt)) (moves done.0) c.self.view_is
+        (simply_done _ _ _ (ap (stepped Removing.Other tt) done.1))
+        (ap (λ x. world x t k) done.2)
+
+pub returns : goal.returns
+returns c =
+    let i = c.args.node in
+    let h = c.args.hash.now in
+    let b : Book = c.self.inside.services in
+    let forbidden = subst (λ (d : Bool). Steps b (Node i) h act.RemoveDescription d c.remove_description.new.self) c.if-remove_description.false c.remove_description.ensures in
+    let t : set.FinSet tag_cmp = map.from_sorted c.self.inside.tags.entries.items in
+    let k : Tickets = map.from_sorted c.self.inside.tickets.entries.items in
+    part (letter.RemoveDescription i h (Err Removing.Other)) nothing c.self.view_is
+        (simply_refusal _ _ (ap (stepped Removing.Other tt) forbidden.0))
+        (ap (λ x. world x t k) forbidden.1)

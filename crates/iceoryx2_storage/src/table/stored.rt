@@ -1,0 +1,245 @@
+//! What a table keeps, and the own part of each access of a node.
+
+ghost use Rattle.std.specs.Prelude.{◌≡◌, ◌&&◌, nat_lt};
+ghost use Rattle.std.specs.FinMap as map;
+ghost use Rattle.std.specs.Ordering.{nat_cmp};
+ghost use Rattle.iceoryx2_storage.specs.Letter as letter;
+ghost use Rattle.iceoryx2_storage.specs.Letter.{fetched};
+ghost use Rattle.iceoryx2_storage.specs.Access.{IsOwnPart, has_lock, is_ticket};
+
+use super::services::Services;
+use super::sorted::SortedVec;
+use super::world::{Participant, Phase, Row, Ticket};
+use crate::storage::{
+    Existence, FetchError, LockError, MakeSegmentError, OpenSegmentError, PublishError, Release,
+    ReleaseError, RemoveError, Tag, TagError,
+};
+use iceoryx2_data::description::{ServiceHash, StaticConfig};
+use std::alloc::Global;
+use std::marker::Model;
+
+/// The services, the tags and the tickets.
+#[derive(Drop)]
+pub struct StoredWorld {
+    services: Services,
+    tags: SortedVec<(u64, ServiceHash), ()>,
+    tickets: SortedVec<u64, Ticket>,
+}
+
+impl Model for StoredWorld {
+    ghost use Rattle.std.specs.FinMap as map;
+    ghost use Rattle.std.specs.Ordering.{nat_cmp};
+    ghost use Rattle.iceoryx2_storage.specs.Orders.{tag_cmp};
+    ghost use Rattle.iceoryx2_storage.specs.World.{World};
+    ghost use Rattle.iceoryx2_storage.specs.Codes.{coded_world};
+    ghost use Rattle.iceoryx2_storage.specs.Book.{world};
+
+    ghost Value = { World };
+
+    ghost coded = { coded_world };
+
+    ghost view = { λ t. world t.services (map.from_sorted {R = tag_cmp} t.tags.entries.items) (map.from_sorted {R = nat_cmp} t.tickets.entries.items) };
+}
+
+// It is this node's ticket for this service and number.
+fn is_held(tickets: &SortedVec<u64, Ticket>, ticket: u64, node: u64, hash: &ServiceHash, number: u64) -> bool
+    ensures { result ≡ is_ticket node hash.now number (map.get (map.from_sorted {R = nat_cmp} tickets.now.entries.items) ticket) }
+{
+    match tickets.get(&ticket) {
+        None => false,
+        Some(held) => held.node == node && held.hash.cmp(hash).is_eq() && held.number == number,
+    }
+}
+
+// It holds the lock of this number, for at least one node.
+fn may_make(phase: Phase, number: u64, max_nodes: u64) -> bool
+    ensures { result ≡ (has_lock number phase && nat_lt 0 max_nodes) }
+{
+    match phase {
+        Phase::Locked(held) => held == number && max_nodes > 0,
+        _ => false,
+    }
+}
+
+impl StoredWorld {
+    ghost use Rattle.iceoryx2_storage.specs.Book.{empty_world};
+
+    pub fn starting_at(alloc: Global, counter: u64) -> StoredWorld
+        ensures { result ≡ empty_world counter }
+    {
+        StoredWorld {
+            services: Services::starting_at(alloc, counter),
+            tags: SortedVec::new(alloc),
+            tickets: SortedVec::new(alloc),
+        }
+    }
+
+    pub fn exists(&self, hash: &ServiceHash) -> Existence
+        ensures { IsOwnPart self.now (letter.Exists hash.now result) self.now }
+    {
+        match self.services.row_at(hash) {
+            None => Existence::No,
+            Some(Row::Locked(_)) => Existence::BeingSetUp,
+            Some(Row::Published(_, _)) => Existence::Yes,
+        }
+    }
+
+    pub fn fetch(&mut self, node: u64, hash: &ServiceHash) -> Result<(u64, Vec<u8>), FetchError>
+        ensures { IsOwnPart self.old (letter.Fetch node hash.now (fetched result)) self.new }
+    {
+        let Some(row) = self.services.row_at(hash) else {
+            return Err(FetchError::DoesNotExist);
+        };
+        let Row::Published(number, bytes) = row else {
+            return Err(FetchError::NotFinalized);
+        };
+        let number = *number;
+        let Ok(copy) = bytes.copy() else {
+            return Err(FetchError::OutOfMemory);
+        };
+        let Ok(_) = self.services.read(Participant::Node(node), hash) else {
+            return Err(FetchError::OutOfMemory);
+        };
+        Ok((number, copy))
+    }
+
+    pub fn counts(&self, node: u64, hash: &ServiceHash) -> bool
+        ensures { IsOwnPart self.now (letter.Counts node hash.now result) self.now }
+    {
+        match self.services.phase_at(Participant::Node(node), hash) {
+            Phase::Joined(_, _) => true,
+            _ => false,
+        }
+    }
+
+    pub fn make_tag(&mut self, node: u64, hash: &ServiceHash) -> Result<Tag, TagError>
+        ensures { IsOwnPart self.old (letter.MakeTag node hash.now result) self.new }
+    {
+        let key = (node, *hash);
+        if let Some(_) = self.tags.get(&key) {
+            return Ok(Tag::Found);
+        }
+        if self.tags.reserve().is_err() {
+            return Err(TagError::OutOfMemory);
+        }
+        self.tags.insert(key, ());
+        Ok(Tag::Made)
+    }
+
+    pub fn remove_tag(&mut self, node: u64, hash: &ServiceHash) -> Result<(), RemoveError>
+        ensures { IsOwnPart self.old (letter.RemoveTag node hash.now result) self.new }
+    {
+        let _ = self.tags.remove(&(node, *hash));
+        Ok(())
+    }
+
+    pub fn lock(&mut self, node: u64, hash: &ServiceHash) -> Result<u64, LockError>
+        ensures { IsOwnPart self.old (letter.Lock node hash.now result) self.new }
+    {
+        match self.services.row_at(hash) {
+            Some(Row::Locked(_)) => return Err(LockError::Creation),
+            Some(Row::Published(_, _)) => return Err(LockError::AlreadyExists),
+            None => {}
+        }
+        let number = self.services.counter();
+        let Ok(locked) = self.services.lock(Participant::Node(node), hash) else {
+            return Err(LockError::OutOfMemory);
+        };
+        if !locked {
+            return Err(LockError::Other);
+        }
+        Ok(number)
+    }
+
+    pub fn make_segment(&mut self, node: u64, hash: &ServiceHash, number: u64, max_nodes: u64) -> Result<(), MakeSegmentError>
+        ensures { IsOwnPart self.old (letter.MakeSegment node hash.now number max_nodes result) self.new }
+    {
+        let participant = Participant::Node(node);
+        if !may_make(self.services.phase_at(participant, hash), number, max_nodes) {
+            return Err(MakeSegmentError::Other);
+        }
+        if self.services.has_segment(hash) {
+            return Err(MakeSegmentError::AlreadyExists);
+        }
+        let Ok(made) = self.services.make(participant, hash, max_nodes) else {
+            return Err(MakeSegmentError::OutOfMemory);
+        };
+        if !made {
+            return Err(MakeSegmentError::Other);
+        }
+        Ok(())
+    }
+
+    pub fn remove_segment(&mut self, node: u64, hash: &ServiceHash) -> Result<(), RemoveError>
+        ensures { IsOwnPart self.old (letter.RemoveSegment node hash.now result) self.new }
+    {
+        if self.services.remove_segment(Participant::Node(node), hash) {
+            return Ok(());
+        }
+        Err(RemoveError::Other)
+    }
+
+    pub fn remove_description(&mut self, node: u64, hash: &ServiceHash) -> Result<(), RemoveError>
+        ensures { IsOwnPart self.old (letter.RemoveDescription node hash.now result) self.new }
+    {
+        if self.services.remove_description(Participant::Node(node), hash) {
+            return Ok(());
+        }
+        Err(RemoveError::Other)
+    }
+
+    pub fn publish(&mut self, node: u64, hash: &ServiceHash, number: u64, description: &StaticConfig) -> Result<u64, PublishError>
+        ensures { IsOwnPart self.old (letter.Publish node hash.now number description.now result) self.new }
+    {
+        let participant = Participant::Node(node);
+        if !self.services.may_publish(participant, hash, number, description) {
+            return Err(PublishError::Other);
+        }
+        if self.tickets.reserve().is_err() {
+            return Err(PublishError::OutOfMemory);
+        }
+        let Ok(published) = self.services.publish(participant, hash, description) else {
+            return Err(PublishError::OutOfMemory);
+        };
+        if !published {
+            return Err(PublishError::Other);
+        }
+        self.tickets.insert(number, Ticket { node, hash: *hash, number });
+        Ok(number)
+    }
+
+    pub fn open_segment(&mut self, node: u64, hash: &ServiceHash, number: u64) -> Result<u64, OpenSegmentError>
+        ensures { IsOwnPart self.old (letter.OpenSegment node hash.now number result) self.new }
+    {
+        let participant = Participant::Node(node);
+        if let Some(refusal) = self.services.open_refusal(participant, hash, number) {
+            return Err(refusal);
+        }
+        let ticket = self.services.counter();
+        if self.tickets.reserve().is_err() {
+            return Err(OpenSegmentError::OutOfMemory);
+        }
+        let Ok(joined) = self.services.join(participant, hash) else {
+            return Err(OpenSegmentError::OutOfMemory);
+        };
+        if !joined {
+            return Err(OpenSegmentError::Failed);
+        }
+        self.services.set_counter(ticket + 1);
+        self.tickets.insert(ticket, Ticket { node, hash: *hash, number });
+        Ok(ticket)
+    }
+
+    pub fn release(&mut self, ticket: u64, node: u64, hash: &ServiceHash, number: u64) -> Result<Release, ReleaseError>
+        ensures { IsOwnPart self.old (letter.Release ticket node hash.now number result) self.new }
+    {
+        if !is_held(&self.tickets, ticket, node, hash, number) {
+            return Err(ReleaseError::NoSuchTicket);
+        }
+        let Some(release) = self.services.leave(Participant::Node(node), hash) else {
+            return Err(ReleaseError::NoSuchTicket);
+        };
+        let _ = self.tickets.remove(&ticket);
+        Ok(release)
+    }
+}
