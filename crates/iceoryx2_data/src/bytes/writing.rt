@@ -2,10 +2,10 @@
 
 ghost use Rattle.std.specs.Prelude.{◌≡◌, ◌<◌, ◌^◌, ◌++◌, length, IfSome, OnOk};
 ghost use Rattle.iceoryx2_data.specs.Form as form;
-ghost use Rattle.iceoryx2_data.specs.Description.{IsPattern, IsEvent, IsDeadline, IsDescription};
+ghost use Rattle.iceoryx2_data.specs.Description.{IsHash, IsPattern, IsEvent, IsDeadline, IsDescription};
 ghost use Rattle.iceoryx2_data.specs.Span.{IsSpan};
 
-use crate::description::{MessagingPattern, StaticConfig};
+use crate::description::{MessagingPattern, ServiceHash, StaticConfig};
 use crate::event;
 use crate::event::{Deadline, EventId};
 use crate::time::{Duration, Time};
@@ -23,6 +23,15 @@ fn put_text(out: &mut Vec<u8>, text: &str) -> Result<(), AllocError>
 {
     out.extend_from_slice(&(text.len() as u16).to_be_bytes())?;
     out.extend_from_slice(text.as_bytes())?;
+    Ok(())
+}
+
+fn put_hash(out: &mut Vec<u8>, hash: &ServiceHash) -> Result<(), AllocError>
+    ensures form { OnOk result (out.new.items ≡ out.old.items ++ hash.now.0) }
+    ensures fits { OnOk result (IsHash hash.now) }
+{
+    let bytes = hash.0.as_slice();
+    out.extend_from_slice(bytes)?;
     Ok(())
 }
 
@@ -76,9 +85,11 @@ fn put_optional_deadline(out: &mut Vec<u8>, deadline: Option<Deadline>) -> Resul
     Ok(())
 }
 
+/// The pattern's byte, and the settings.
 fn put_event(out: &mut Vec<u8>, settings: &event::StaticConfig) -> Result<(), AllocError>
-    ensures { OnOk result (out.new.items ≡ out.old.items ++ form.event settings.now) }
+    ensures { OnOk result (out.new.items ≡ out.old.items ++ form.pattern (MessagingPattern.Event settings.now)) }
 {
+    out.push(1)?;
     put_number(out, settings.max_notifiers)?;
     put_number(out, settings.max_listeners)?;
     put_number(out, settings.event_id_max_value)?;
@@ -135,7 +146,6 @@ fn put_pattern(out: &mut Vec<u8>, pattern: &MessagingPattern) -> Result<(), Allo
 {
     match pattern {
         MessagingPattern::Event(settings) => {
-            out.push(1)?;
             put_event(out, settings)?;
             event_fits(settings);
         }
@@ -149,7 +159,7 @@ pub fn put_description(out: &mut Vec<u8>, description: &StaticConfig) -> Result<
     ensures fits { OnOk result (IsDescription description.now) }
 {
     out.extend_from_slice(&[0x49, 0x4f, 0x58, 0x32, 0x01])?;
-    out.extend_from_slice(&description.service_hash().0)?;
+    put_hash(out, description.service_hash())?;
     put_text(out, description.name().as_str())?;
     out.extend_from_slice(&[0, 0])?;
     put_pattern(out, description.messaging_pattern())?;
