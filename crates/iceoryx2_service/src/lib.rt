@@ -1,0 +1,12 @@
+//! A session of commands over a table, and the layers below it under one name.
+#![tactic(auto)]
+
+mod slots;
+
+pub mod command;
+pub mod session;
+
+pub use iceoryx2_builder as builder;
+pub use iceoryx2_data as data;
+pub use iceoryx2_rounds as rounds;
+pub use iceoryx2_storage as storage;
