@@ -1,0 +1,3 @@
+//! A storage within one process.
+
+pub mod world;

@@ -1,0 +1,80 @@
+//! What a table holds of each service and of each participant.
+
+ghost use Rattle.std.specs.Prelude.{◌≡◌, ℕ, List, IfOk};
+
+use iceoryx2_data::description::ServiceHash;
+use std::alloc::AllocError;
+use std::marker::Model;
+
+/// Who acts. Node 7 and peer 7 are different participants.
+#[derive(Clone, Copy, Debug, PartialEq, Eq, PartialOrd, Ord)]
+pub enum Participant {
+    /// One whose calls come through the table's accesses.
+    Node(u64),
+    /// One that shares the table's services without it.
+    Peer(u64),
+}
+
+/// Where a participant is with a service.
+#[derive(Clone, Copy, Debug, PartialEq, Eq)]
+pub enum Phase {
+    Idle,
+    /// It has read the description of this number.
+    Read(u64),
+    /// It holds the lock of this number.
+    Locked(u64),
+    /// It holds the lock of this number, and its segment.
+    Made(u64),
+    /// It is registered at this number, so many times.
+    Joined(u64, u64),
+    /// It was the last one to leave this number, and has to remove what is left.
+    Leaving(u64),
+    /// It was the last one to leave this number, and has removed the segment.
+    Cleared(u64),
+}
+
+/// Bytes that are kept.
+#[derive(Drop)]
+pub struct Bytes {
+    bytes: Vec<u8>,
+}
+
+impl Model for Bytes {
+    ghost use Rattle.std.specs.Prelude.{ℕ, List};
+
+    ghost Value = { List ℕ };
+
+    ghost view = { λ b. b.bytes.items };
+}
+
+impl Bytes {
+    pub fn from_vec(bytes: Vec<u8>) -> Self
+        ensures { result ≡ bytes.items }
+    {
+        Bytes { bytes }
+    }
+
+    /// A copy of them.
+    pub fn copy(&self) -> Result<Vec<u8>, AllocError>
+        ensures { IfOk result (λ copy. copy.items ≡ self.now) }
+    {
+        self.bytes.clone()
+    }
+}
+
+/// What is written under a hash.
+#[derive(Drop)]
+pub enum Row {
+    /// Somebody is creating the service of this number.
+    Locked(u64),
+    /// The service of this number, and its description's bytes.
+    Published(u64, Bytes),
+}
+
+/// Whose a ticket is, and for which service and number.
+#[derive(Clone, Copy, Debug, PartialEq, Eq)]
+pub struct Ticket {
+    pub node: u64,
+    pub hash: ServiceHash,
+    pub number: u64,
+}
