@@ -2,6 +2,8 @@
 
 ghost use Rattle.std.specs.Prelude.{◌≡◌, true};
 ghost use Rattle.iceoryx2_storage.specs.Run.{Joins};
+ghost use Rattle.iceoryx2_rounds.specs.Creates.{IsCreateWord};
+ghost use Rattle.iceoryx2_rounds.specs.Opens.{IsOpenWord};
 ghost use Rattle.iceoryx2_builder.specs.Event.{event_meaning, event_adjusted};
 ghost use Rattle.iceoryx2_builder.specs.Request.{started, letter_of_events};
 

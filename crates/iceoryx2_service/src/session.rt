@@ -9,7 +9,8 @@ use iceoryx2_data::description::ServiceName;
 use iceoryx2_data::time::{ClockFault, Time};
 use iceoryx2_rounds::port_factory::CloseError;
 use iceoryx2_rounds::port_factory::event::PortFactory;
-use iceoryx2_storage::table::{Local, Table};
+use iceoryx2_storage::local::Local;
+use iceoryx2_storage::table::Table;
 
 /// A table, and 64 slots for the factories that commands open over it. It has to be spent by
 /// `finish`.

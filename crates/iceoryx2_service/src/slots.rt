@@ -3,7 +3,7 @@
 ghost use Rattle.std.specs.Prelude.{◌≡◌, ◌<◌, slice_set, slice_get, Some, None};
 
 use iceoryx2_rounds::port_factory::event;
-use iceoryx2_storage::table::Local;
+use iceoryx2_storage::local::Local;
 use std::marker::Model;
 
 /// How many slots a session has.

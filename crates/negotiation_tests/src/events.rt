@@ -6,7 +6,8 @@ use iceoryx2_builder::event::EventId;
 use iceoryx2_data::config::Config;
 use iceoryx2_rounds::error::{EventCreateError, EventOpenError};
 use iceoryx2_storage::storage::Storage;
-use iceoryx2_storage::table::{Local, Table};
+use iceoryx2_storage::local::Local;
+use iceoryx2_storage::table::Table;
 use std::test::Fail;
 
 #[test]

@@ -8,7 +8,8 @@ use iceoryx2_data::time::Time;
 use iceoryx2_rounds::error::{EventCreateError, EventOpenError};
 use iceoryx2_rounds::port_factory::event::PortFactory;
 use iceoryx2_storage::storage::{ServiceNameHasher, Sha1Hasher};
-use iceoryx2_storage::table::{Local, Table};
+use iceoryx2_storage::local::Local;
+use iceoryx2_storage::table::Table;
 use std::alloc::Global;
 use std::process::Abort;
 

@@ -2,7 +2,8 @@
 
 ghost use Rattle.std.specs.Prelude.{◌≡◌};
 ghost use Rattle.iceoryx2_rounds.specs.Verdict.{verdict, marked_clauses};
-ghost use Rattle.iceoryx2_builder.specs.Event.{rows, raised_of};
+ghost use Rattle.std.specs.Option.{option_map};
+ghost use Rattle.iceoryx2_builder.specs.Event.{rows, raised_of, stamped as stamped_at};
 ghost use Rattle.iceoryx2_builder.specs.Request.{started};
 
 use iceoryx2_data::config;
@@ -68,6 +69,19 @@ fn raised(value: u64) -> u64
     ensures { result ≡ raised_of value }
 {
     if value == 0 { 1 } else { value }
+}
+
+/// The deadline of a service that is created at this time.
+fn stamped(deadline: Option<Deadline>, now: Time) -> Option<Deadline>
+    ensures { result ≡ option_map (stamped_at now) deadline }
+{
+    match deadline {
+        None => None,
+        Some(deadline) => Some(Deadline {
+            value: deadline.value,
+            creation_time: now,
+        }),
+    }
 }
 
 /// Whether the existing settings offer what is marked.
@@ -181,13 +195,7 @@ impl Pattern for Asked {
 
     fn published(&self, now: Time) -> Result<MessagingPattern, AllocError> {
         let mut settings = self.settings;
-        settings.deadline = match settings.deadline {
-            None => None,
-            Some(deadline) => Some(Deadline {
-                value: deadline.value,
-                creation_time: now,
-            }),
-        };
+        settings.deadline = stamped(self.settings.deadline, now);
         Ok(MessagingPattern::Event(settings))
     }
 }
