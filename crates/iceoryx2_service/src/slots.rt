@@ -39,17 +39,27 @@ impl Model for Slots {
     ghost invariant = { λ slots. length slots.places ≡ 64 };
 }
 
+fn abandon(place: Option<Held>) {
+    match place {
+        None => {}
+        Some(held) => held.abandon(),
+    }
+}
+
 // Takes the places apart, whatever they hold.
 macro_rules! let_go {
     ($places:expr; $($place:ident)*) => {
         let [$($place),*] = $places;
-        $(
-            match $place {
-                None => {}
-                Some(held) => held.abandon(),
-            }
-        )*
+        $(abandon($place);)*
     };
+}
+
+fn abandon_all(places: [Option<Held>; SLOTS]) {
+    let_go!(places;
+        p0 p1 p2 p3 p4 p5 p6 p7 p8 p9 p10 p11 p12 p13 p14 p15
+        p16 p17 p18 p19 p20 p21 p22 p23 p24 p25 p26 p27 p28 p29 p30 p31
+        p32 p33 p34 p35 p36 p37 p38 p39 p40 p41 p42 p43 p44 p45 p46 p47
+        p48 p49 p50 p51 p52 p53 p54 p55 p56 p57 p58 p59 p60 p61 p62 p63);
 }
 
 impl Slots {
@@ -87,10 +97,6 @@ impl Slots {
     /// Lets go of the places.
     pub fn destroy(self) {
         let Slots { places } = self;
-        let_go!(places;
-            p0 p1 p2 p3 p4 p5 p6 p7 p8 p9 p10 p11 p12 p13 p14 p15
-            p16 p17 p18 p19 p20 p21 p22 p23 p24 p25 p26 p27 p28 p29 p30 p31
-            p32 p33 p34 p35 p36 p37 p38 p39 p40 p41 p42 p43 p44 p45 p46 p47
-            p48 p49 p50 p51 p52 p53 p54 p55 p56 p57 p58 p59 p60 p61 p62 p63);
+        abandon_all(places);
     }
 }
