@@ -12,3 +12,5 @@ pub mod Parts
 pub mod Accesses
 pub mod Stands
 pub mod Empty
+pub mod Calm
+pub mod Granted
