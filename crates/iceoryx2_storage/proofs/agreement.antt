@@ -14,3 +14,6 @@ pub mod Stands
 pub mod Empty
 pub mod Calm
 pub mod Granted
+pub mod Spent
+pub mod Left
+pub mod Closing

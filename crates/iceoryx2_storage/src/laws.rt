@@ -1,6 +1,6 @@
 //! What is true of every world of a table, whatever its nodes do and whatever steps peers take.
 
-ghost use Rattle.std.specs.Prelude.{◌≡◌, ◌≢◌, ℕ, ◌+◌, ◌≤◌, List, [], ◌∷◌, ◌++◌, Some, Result, Ok, Err};
+ghost use Rattle.std.specs.Prelude.{◌≡◌, ◌≢◌, ℕ, ◌+◌, ◌≤◌, List, [], ◌∷◌, ◌++◌, Some, None, Result, Ok, Err};
 ghost use Rattle.iceoryx2_data.specs.declared.description.ServiceHash.{ServiceHash};
 ghost use Rattle.iceoryx2_data.specs.Description.{Description};
 ghost use Rattle.iceoryx2_data.specs.Form.{IsForm};
@@ -16,7 +16,7 @@ ghost use Rattle.iceoryx2_storage.specs.declared.storage.ReleaseError.{ReleaseEr
 ghost use Rattle.iceoryx2_storage.specs.Access.{IsOwnPart};
 ghost use Rattle.iceoryx2_storage.specs.Letter.{Letter, Lock, Publish, Fetch, OpenSegment, RemoveDescription, Release};
 ghost use Rattle.iceoryx2_storage.specs.Run.{Run};
-ghost use Rattle.iceoryx2_storage.specs.Agreement.{AgreesEverywhere, Later, locked_number};
+ghost use Rattle.iceoryx2_storage.specs.Agreement.{AgreesEverywhere, Later, Spent, locked_number};
 ghost use Rattle.iceoryx2_storage.specs.Across.{Numbered, Agrees, empty_world, ticket_of};
 ghost use Rattle.iceoryx2_storage.specs.Peers.{IsAccess};
 ghost use Rattle.iceoryx2_storage.specs.Faulty.{IsFaulty};
@@ -52,6 +52,10 @@ pub fn agreement()
     // What is later than a later world is later, where the first one agrees.
     ensures later { (u v w : World) → Agrees u → Later u v → Later v w → Later u w }
 
+    // A number that is spent at a service never comes back there.
+    ensures spent { (w v : World) (l : Letter) (h : ServiceHash) (n : ℕ)
+        → IsFaulty w l v → Agrees w → Spent w h n → Spent v h n }
+
     // Each ticket is one of a factory that stands.
     ensures ticket { (w : World) (t : ℕ) (x : Ticket)
         → Agrees w → ticket_of w t ≡ Some x
@@ -74,6 +78,10 @@ pub fn agreement()
     ensures released { (w v : World) (f : Factory) (e : ReleaseError)
         → Agrees w → Stands w f
         → IsAccess w (Release f.ticket f.node f.description.hash f.number (Err e)) v → ⊥ }
+
+    // A granted release takes the ticket out.
+    ensures taken_out { (w v : World) (node number ticket : ℕ) (h : ServiceHash) (left : Released)
+        → IsFaulty w (Release ticket node h number (Ok left)) v → ticket_of v ticket ≡ None }
 
     // Who locks a service and publishes a description under the lock's number has a factory that
     // stands with it. Its ticket is not below the counter at the beginning: no factory had it.
