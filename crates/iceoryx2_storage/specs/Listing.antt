@@ -14,7 +14,7 @@ use Rattle.iceoryx2_storage.specs.declared.table.listing.ListedSegment.{ListedSe
 use Rattle.iceoryx2_storage.specs.declared.table.listing.Entry.{Entry}
 use Rattle.iceoryx2_storage.specs.Sets as set
 use Rattle.iceoryx2_storage.specs.Orders.{hash_cmp}
-use Rattle.iceoryx2_storage.specs.World.{World, Segment, row_of, segment_of}
+use Rattle.iceoryx2_storage.specs.World.{World, Segment}
 use Rattle.iceoryx2_storage.specs.Access.{Tickets}
 
 -- it is a ticket of this node for this service
@@ -46,6 +46,9 @@ abbrev pub keyed : List Entry → List (ServiceHash × Entry)
 keyed es = map (λ e. (e.hash, e)) es
 
 -- Every hash with a row or a segment is listed once, in ascending order, with what stands there, and no other hash.
-pub record Lists (w : World) (es : List Entry) : Type 0 where
+pub record ListsAll (rows : finite.FinMap hash_cmp Row) (segments : finite.FinMap hash_cmp Segment) (es : List Entry) : Type 0 where
   pub ascends : T (is_sorted hash_cmp (keyed es))
-  pub each : (h : ServiceHash) → find hash_cmp h (keyed es) ≡ entry_at h (row_of w h) (segment_of w h)
+  pub each : (h : ServiceHash) → find hash_cmp h (keyed es) ≡ entry_at h (finite.get rows h) (finite.get segments h)
+
+abbrev pub Lists : World → List Entry → Type 0
+Lists w es = ListsAll w.rows w.segments es

@@ -1,8 +1,8 @@
 //! A storage within one process.
 
-ghost use Rattle.std.specs.Prelude.{◌≡◌};
+ghost use Rattle.std.specs.Prelude.{◌≡◌, IfOk};
 ghost use Rattle.iceoryx2_storage.specs.Access.{tag_of};
-ghost use Rattle.iceoryx2_storage.specs.Listing.{held};
+ghost use Rattle.iceoryx2_storage.specs.Listing.{Lists, held};
 
 pub mod listing;
 mod services;
@@ -59,7 +59,9 @@ impl Table {
     }
 
     /// Each service with a row or a segment, in the order of the hashes' bytes.
-    pub fn list(&self) -> Result<Vec<Entry>, AllocError> {
+    pub fn list(&self) -> Result<Vec<Entry>, AllocError>
+        ensures { IfOk result (λ entries. Lists self.now entries.items) }
+    {
         self.world.list()
     }
 

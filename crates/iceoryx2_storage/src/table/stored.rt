@@ -1,7 +1,7 @@
 //! What a table keeps, and the own part of each access of a node.
 
-ghost use Rattle.std.specs.Prelude.{◌≡◌, ◌&&◌, nat_lt, filter, length};
-ghost use Rattle.iceoryx2_storage.specs.Listing.{held, is_held};
+ghost use Rattle.std.specs.Prelude.{◌≡◌, ◌&&◌, IfOk, nat_lt, filter, length};
+ghost use Rattle.iceoryx2_storage.specs.Listing.{Lists, held, is_held};
 ghost use Rattle.std.specs.FinMap as map;
 ghost use Rattle.std.specs.Ordering.{nat_cmp};
 ghost use Rattle.iceoryx2_storage.specs.Letter as letter;
@@ -92,7 +92,9 @@ impl StoredWorld {
         }
     }
 
-    pub fn list(&self) -> Result<Vec<Entry>, AllocError> {
+    pub fn list(&self) -> Result<Vec<Entry>, AllocError>
+        ensures { IfOk result (λ entries. Lists self.now entries.items) }
+    {
         self.services.list()
     }
 
