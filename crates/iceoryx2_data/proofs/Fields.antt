@@ -9,14 +9,11 @@ use Rattle.iceoryx2_data.specs.declared.bytes.DecodeError.{DecodeError}
 use Rattle.iceoryx2_data.specs.declared.bytes.DecodeError.TheVariants.{Malformed, OutOfMemory}
 use Rattle.iceoryx2_data.specs.declared.description.MessagingPattern.{MessagingPattern}
 use Rattle.iceoryx2_data.specs.declared.description.MessagingPattern.TheVariants.{Event}
-use Rattle.iceoryx2_data.specs.declared.event.StaticConfig.{StaticConfig as EventConfig}
-use Rattle.iceoryx2_data.specs.contracts.description.MessagingPattern.{enum}
-use borrow.Enum.Total.{values_d}
 use Rattle.iceoryx2_data.specs.Span.{IsSpan}
 use Rattle.iceoryx2_data.specs.Description.{Description, IsDeadline, IsEvent, IsPattern, IsDescription}
 use Rattle.iceoryx2_data.specs.Form.{text, number, option, span, deadline, event, pattern, magic, no_attributes, description, IsForm}
 use Rattle.iceoryx2_data.specs.Reading.{then_at, where_at, number_at, option_at, span_from, span_at, deadline_from, deadline_at, event_from, event_at, pattern_at, description_from, description_at, all_of, Gives}
-use Rattle.iceoryx2_data.proofs.Parts.{IsBytes, IsBytes-rest, bind_some, guard_is, some_is, Takes, Reads, Reads-then, Reads-as, Reads-where, Reads-form, Reads-bytes, Reads-literal, Reads-number32, Reads-number64, Reads-text, Reads-option}
+use Rattle.iceoryx2_data.proofs.Parts.{IsBytes, IsBytes-rest, bind_some, guard_is, some_is, Takes, Reads, Reads-then, Reads-as, Reads-where, Reads-form, Reads-each_byte, Reads-literal, Reads-number32, Reads-number64, Reads-text, Reads-option}
 
 abbrev Below64 : ℕ → Type 0
 Below64 n = n < 2 ^ 64
@@ -76,9 +73,9 @@ regroup a b c d e = simp append_assoc
 pub Reads-description : Reads description_at description IsDescription
 unfolding description_at
 Reads-description = Reads-form _ _ description IsDescription (Reads-as description_from (λ d. (tt, (d.hash.0, (d.name, (tt, d.pattern))))) _ _ _ IsDescription (λ b. refl) (λ a. refl)
-    (λ a h. record { hash = h.1.0; name = h.1.1.0; pattern = h.1.1.1.1 })
-    (λ d h. (tt, (h.hash, (h.name, (tt, h.pattern)))))
-    (Reads-then _ _ _ _ _ _ (Reads-literal magic) (Reads-then _ _ _ _ _ _ (Reads-bytes 20) (Reads-then _ _ _ _ _ _ (Reads-text 1 255 (omega arith)) (Reads-then _ _ _ _ _ _ (Reads-literal no_attributes) Reads-pattern)))))
+    (λ a h. record { hash = record { twenty = h.1.0.0; bytes = h.1.0.1 }; name = h.1.1.0; pattern = h.1.1.1.1 })
+    (λ d h. (tt, ((h.hash.twenty, h.hash.bytes), (h.name, (tt, h.pattern)))))
+    (Reads-then _ _ _ _ _ _ (Reads-literal magic) (Reads-then _ _ _ _ _ _ (Reads-each_byte 20) (Reads-then _ _ _ _ _ _ (Reads-text 1 255 (omega arith)) (Reads-then _ _ _ _ _ _ (Reads-literal no_attributes) Reads-pattern)))))
     (λ d. regroup magic d.hash.0 (text d.name) no_attributes (pattern d.pattern))
 
 pub all_takes : (bytes : List ℕ) (d : Description) → IsBytes bytes → all_of bytes ≡ Some d → IsForm d bytes
@@ -108,5 +105,13 @@ is_only bytes (Ok found) given d form = some_is found d (sym given ∙ ap all_of
 is_only bytes (Err OutOfMemory) given d form = refl
 is_only bytes (Err Malformed) given d form = absurd (none-some d (sym given ∙ ap all_of form.1 ∙ all_again d form.0))
 
-pub pattern_whole : (p : MessagingPattern) (d : EventConfig × Unit {0}) → 1 ∷ [] ++ event (values_d enum 0 d p).0 ≡ pattern p
-pattern_whole (Event s) d = refl
+-- ---- the laws of the byte form
+
+pub one_description : (bytes : List ℕ) (c d : Description) → IsForm c bytes → IsForm d bytes → c ≡ d
+one_description bytes c d fc fd = some_is c d (sym (all_again c fc.0) ∙ ap all_of (sym fc.1 ∙ fd.1) ∙ all_again d fd.0)
+
+pub no_front : (bytes rest : List ℕ) (c d : Description) → IsForm c bytes → IsForm d (bytes ++ rest) → rest ≡ []
+no_front bytes rest c d fc fd =
+    let one : description_at (bytes ++ rest) ≡ Some (c, rest) = ap (λ (b : List ℕ). description_at (b ++ rest)) fc.1 ∙ Reads-description.again c rest fc.0 in
+    let two : description_at (bytes ++ rest) ≡ Some (d, []) = ap description_at (fd.1 ∙ sym (append-nil (description d))) ∙ Reads-description.again d [] fd.0 in
+    ap (λ (p : Description × List ℕ). p.1) (some_is (c, rest) (d, []) (sym one ∙ two))

@@ -1,10 +1,10 @@
 -- A part that is read is the part that was written, and what was written is read again.
 use Rattle.std.proofs.Common.{◌≡◌, ℕ, zero, suc, ◌+◌, ◌^◌, ◌<◌, ◌≤◌, Bool, true, false, cond, ltb, List, [], ◌∷◌, ◌++◌, length, get_or, take, drop, Option, Some, None, refl, sym, ap, subst, ◌∙◌, append_assoc, arith, inl, inr}
-use Rattle.std.specs.Prelude.{IfSome, IsTrue}
+use Rattle.std.specs.Prelude.{All, IfSome, IsTrue}
 use Rattle.std.specs.Int.{Width, w16, w32, w64, byte_len, from_be_bytes, to_be_bytes}
 use Rattle.std.specs.Str.{is_utf8}
 use Rattle.std.proofs.lemmas.Bool.{cases_lt, ltb-false, le-ltb}
-use Rattle.std.proofs.lemmas.List.{take_at, drop_at, take-append-drop, length-append, length-take, get_or-drop, get_or-take, get_or_past}
+use Rattle.std.proofs.lemmas.List.{take_at, drop_at, take-append-drop, length-append, length-take, get_or-drop, get_or-take, get_or_past, get_or_default, get_or_append_left}
 use Rattle.std.proofs.lemmas.Nat.{be_bytes_2, be_bytes_4, be_bytes_8, from_be_bytes-to_be_bytes_2, from_be_bytes-to_be_bytes_4, from_be_bytes-to_be_bytes_8}
 use Rattle.std.specs.Str.{bytes_eq}
 use Rattle.std.proofs.lemmas.Slice.Eq.{bytes_eq-Decides}
@@ -151,6 +151,17 @@ Reads-bytes n = record {
   again = λ t rest len.
       let long : ltb (length (t ++ rest)) n ≡ false = le-ltb _ _ (omega (arith, length-append t rest)) in
       rw (long, take_at t rest n len, drop_at t rest n len) refl;
+}
+
+-- n bytes, each of them below 256
+pub Reads-each_byte : (n : ℕ) → Reads (bytes_at n) (λ t. t) (λ t. (length t ≡ n) × All (λ b. b < 256) t)
+Reads-each_byte n = record {
+  takes = λ bytes x fits e.
+      let hb = Reads-bytes n in
+      let t = hb.takes bytes x fits e in
+      let each : All (λ b. b < 256) x.0 = λ k d lt. rw (get_or_default x.0 k d 0 lt, ← get_or_append_left x.0 x.1 0 k lt, ← t.0.parts) (fits k) in
+      (t.0, (t.1, each));
+  again = λ t rest fits. let hb = Reads-bytes n in hb.again t rest fits.0;
 }
 
 pub Reads-number : (w : Width) (limit : ℕ) → IsWide w limit → Reads (number_at w) (to_be_bytes w) (λ n. n < limit)

@@ -1,5 +1,5 @@
 -- What a description is.
-use Rattle.std.specs.Prelude.{ℕ, ◌≡◌, ◌<◌, ◌^◌, List, length, IfSome}
+use Rattle.std.specs.Prelude.{ℕ, ◌≡◌, ◌<◌, ◌^◌, List, length, All, IfSome}
 use Rattle.iceoryx2_data.specs.declared.description.ServiceHash.{ServiceHash}
 use Rattle.iceoryx2_data.specs.declared.description.MessagingPattern.{MessagingPattern}
 use Rattle.iceoryx2_data.specs.declared.description.MessagingPattern.TheVariants.{Event}
@@ -36,8 +36,13 @@ pub record IsEvent (s : EventConfig) : Type 0 where
 abbrev pub IsPattern : MessagingPattern → Type 0
 IsPattern (Event s) = IsEvent s
 
+-- twenty bytes
+pub record IsHash (h : ServiceHash) : Type 0 where
+  pub twenty : length h.0 ≡ 20
+  pub bytes : All (λ b. b < 256) h.0
+
 -- The limits of a description.
 pub record IsDescription (d : Description) : Type 0 where
-  pub hash : length d.hash.0 ≡ 20
+  pub hash : IsHash d.hash
   pub name : IsText 1 255 d.name
   pub pattern : IsPattern d.pattern

@@ -1,11 +1,13 @@
 //! The bytes by which nodes tell each other of a service.
 
-ghost use Rattle.std.specs.Prelude.{◌≡◌, IfOk, MatchResult};
-ghost use Rattle.iceoryx2_data.specs.Description.{Description};
+ghost use Rattle.std.specs.Prelude.{◌≡◌, ◌<◌, ◌++◌, ℕ, List, [], All, IfOk, MatchResult};
+ghost use Rattle.iceoryx2_data.specs.Description.{Description, IsDescription};
 ghost use Rattle.iceoryx2_data.specs.Form.{IsForm};
 ghost use Rattle.iceoryx2_data.specs.declared.bytes.DecodeError.TheVariants.{OutOfMemory};
 
 mod reading;
+#[cfg(test)]
+mod tests;
 mod writing;
 
 use crate::description::StaticConfig;
@@ -61,3 +63,21 @@ pub fn decode(alloc: Global, bytes: &[u8]) -> Result<StaticConfig, DecodeError>
 {
     reading::all(alloc, bytes)
 }
+
+/// The laws of the byte form.
+pub fn laws()
+    // Each description has a byte form,
+    ensures exists { (d : Description) → IsDescription d → (bytes : List ℕ) × IsForm d bytes }
+
+    // which is a list of bytes,
+    ensures bytes { (d : Description) (bytes : List ℕ) → IsForm d bytes → All (λ b. b < 256) bytes }
+
+    // and the only one.
+    ensures only_form { (d : Description) (bytes other : List ℕ) → IsForm d bytes → IsForm d other → bytes ≡ other }
+
+    // Bytes are the form of one description at most,
+    ensures only_description { (bytes : List ℕ) (c d : Description) → IsForm c bytes → IsForm d bytes → c ≡ d }
+
+    // and none of them is the front of a longer form.
+    ensures no_front { (bytes rest : List ℕ) (c d : Description) → IsForm c bytes → IsForm d (bytes ++ rest) → rest ≡ [] }
+{}

@@ -1,9 +1,10 @@
 //! What nodes that share a service agree on.
 
-ghost use Rattle.std.specs.Prelude.{◌≡◌, ◌<◌, ◌≤◌, ◌↔◌, ◌⊎◌, IfOk, OnOk, IsTrue, length, string_bytes};
+ghost use Rattle.std.specs.Prelude.{◌≡◌, ◌<◌, ◌≤◌, ◌↔◌, ◌⊎◌, IfOk, OnOk, IsTrue, All, length, string_bytes};
 ghost use Rattle.iceoryx2_data.specs.Texts.{IsText};
 ghost use Rattle.hex.specs.Hex.{encode_lower};
 ghost use Rattle.std.specs.Prelude.{Err};
+ghost use Rattle.iceoryx2_data.specs.Description.{IsHash, IsPattern};
 
 use crate::event;
 use std::alloc::{AllocError, Global};
@@ -87,7 +88,16 @@ impl ServiceHash {
     pub fn to_text(&self, alloc: Global) -> Result<String, AllocError>
         ensures { IfOk result (λ text. string_bytes text ≡ encode_lower self.now.0) }
     {
-        hex::encode(alloc, self.0.as_slice())
+        hex::encode(alloc, self.as_bytes())
+    }
+
+    pub(crate) fn as_bytes(&self) -> &[u8]
+        ensures value { result.now ≡ self.now.0 }
+        ensures limits { IsHash self.now }
+    {
+        let bytes = self.0.as_slice();
+        are_bytes(bytes);
+        bytes
     }
 }
 
@@ -110,6 +120,22 @@ impl MessagingPattern {
     }
 }
 
+/// Each of them is a byte.
+fn are_bytes(bytes: &[u8])
+    ensures { All (λ b. b < 256) bytes.now }
+{
+    let _length = bytes.len();
+}
+
+/// Its numbers are within the limits of their types.
+fn pattern_fits(pattern: &MessagingPattern)
+    ensures { IsPattern pattern.now }
+{
+    match pattern {
+        MessagingPattern::Event(settings) => settings.fits(),
+    }
+}
+
 /// What nodes that share a service agree on: its hash, its name, and its pattern with the
 /// settings.
 #[derive(Debug, Drop)]
@@ -125,14 +151,22 @@ impl Model for StaticConfig {
     ghost Value = { Description };
 
     ghost view = { λ d. record { hash = d.hash; name = d.name; pattern = d.pattern } };
+
+    ghost use Rattle.iceoryx2_data.specs.Description.{IsDescription};
+
+    ghost invariant = { λ d. IsDescription (record { hash = d.hash; name = d.name; pattern = d.pattern }) };
 }
 
 impl StaticConfig {
-    ghost use Rattle.iceoryx2_data.specs.Description.{max_nodes_of};
+    ghost use Rattle.iceoryx2_data.specs.Description.{IsDescription, max_nodes_of};
 
     pub fn new(hash: ServiceHash, name: ServiceName, pattern: MessagingPattern) -> StaticConfig
-        ensures { result ≡ (record { hash = hash; name = name; pattern = pattern }) }
+        ensures value { result ≡ (record { hash = hash; name = name; pattern = pattern }) }
+        ensures limits { IsDescription result }
     {
+        let _bytes = hash.as_bytes();
+        let _text = name.as_str();
+        pattern_fits(&pattern);
         StaticConfig {
             hash,
             name,
@@ -141,19 +175,22 @@ impl StaticConfig {
     }
 
     pub fn service_hash(&self) -> &ServiceHash
-        ensures { result.now ≡ self.now.hash }
+        ensures value { result.now ≡ self.now.hash }
+        ensures limits { IsDescription self.now }
     {
         &self.hash
     }
 
     pub fn name(&self) -> &ServiceName
-        ensures { result.now ≡ self.now.name }
+        ensures value { result.now ≡ self.now.name }
+        ensures limits { IsDescription self.now }
     {
         &self.name
     }
 
     pub fn messaging_pattern(&self) -> &MessagingPattern
-        ensures { result.now ≡ self.now.pattern }
+        ensures value { result.now ≡ self.now.pattern }
+        ensures limits { IsDescription self.now }
     {
         &self.pattern
     }
@@ -161,6 +198,7 @@ impl StaticConfig {
     /// For how many nodes the service is.
     pub fn max_nodes(&self) -> u64
         ensures value { result ≡ max_nodes_of self.now.pattern }
+        ensures limits { IsDescription self.now }
     {
         match &self.pattern {
             MessagingPattern::Event(settings) => settings.max_nodes,

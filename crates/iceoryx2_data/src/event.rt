@@ -1,6 +1,7 @@
 //! What nodes agree on for a service of events.
 
-ghost use Rattle.std.specs.Prelude.{◌≡◌, ◌<◌, ◌^◌};
+ghost use Rattle.std.specs.Prelude.{◌≡◌, ◌<◌, ◌^◌, IfSome};
+ghost use Rattle.iceoryx2_data.specs.Description.{IsDeadline, IsEvent};
 
 use crate::time::{Duration, Time};
 use std::marker::Model;
@@ -58,4 +59,45 @@ pub struct StaticConfig {
     /// What is sent for a notifier whose process died, where something is.
     pub notifier_dead_event: Option<EventId>,
     pub deadline: Option<Deadline>,
+}
+
+impl StaticConfig {
+    /// Its numbers are within the limits of their types.
+    pub(crate) fn fits(&self)
+        ensures { IsEvent self.now }
+    {
+        let _notifiers = self.max_notifiers;
+        let _listeners = self.max_listeners;
+        let _event_id = self.event_id_max_value;
+        let _nodes = self.max_nodes;
+        id_fits(self.notifier_created_event);
+        id_fits(self.notifier_dropped_event);
+        id_fits(self.notifier_dead_event);
+        deadline_fits(self.deadline);
+    }
+}
+
+fn id_fits(id: Option<EventId>)
+    ensures { IfSome id (λ n. n < 2 ^ 64) }
+{
+    match id {
+        None => {}
+        Some(id) => {
+            let _value = id.as_value();
+        }
+    }
+}
+
+fn deadline_fits(deadline: Option<Deadline>)
+    ensures { IfSome deadline IsDeadline }
+{
+    match deadline {
+        None => {}
+        Some(deadline) => {
+            let _seconds = deadline.value.seconds();
+            let _nanoseconds = deadline.value.nanoseconds();
+            let _creation_seconds = deadline.creation_time.seconds();
+            let _creation_nanoseconds = deadline.creation_time.nanoseconds();
+        }
+    }
 }

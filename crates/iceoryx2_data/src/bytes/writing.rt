@@ -1,9 +1,8 @@
 //! Writing the byte form, part by part, at the end of what was written.
 
-ghost use Rattle.std.specs.Prelude.{◌≡◌, ◌<◌, ◌^◌, ◌++◌, length, IfSome, OnOk};
+ghost use Rattle.std.specs.Prelude.{◌≡◌, ◌<◌, ◌^◌, ◌++◌, length, OnOk};
+ghost use Rattle.iceoryx2_data.specs.Description.{IsDescription};
 ghost use Rattle.iceoryx2_data.specs.Form as form;
-ghost use Rattle.iceoryx2_data.specs.Description.{IsPattern, IsEvent, IsDeadline, IsDescription};
-ghost use Rattle.iceoryx2_data.specs.Span.{IsSpan};
 
 use crate::description::{MessagingPattern, StaticConfig};
 use crate::event;
@@ -76,9 +75,11 @@ fn put_optional_deadline(out: &mut Vec<u8>, deadline: Option<Deadline>) -> Resul
     Ok(())
 }
 
+/// The pattern's byte, and the settings.
 fn put_event(out: &mut Vec<u8>, settings: &event::StaticConfig) -> Result<(), AllocError>
-    ensures { OnOk result (out.new.items ≡ out.old.items ++ form.event settings.now) }
+    ensures { OnOk result (out.new.items ≡ out.old.items ++ form.pattern (MessagingPattern.Event settings.now)) }
 {
+    out.push(1)?;
     put_number(out, settings.max_notifiers)?;
     put_number(out, settings.max_listeners)?;
     put_number(out, settings.event_id_max_value)?;
@@ -90,66 +91,21 @@ fn put_event(out: &mut Vec<u8>, settings: &event::StaticConfig) -> Result<(), Al
     Ok(())
 }
 
-fn id_fits(id: Option<EventId>)
-    ensures { IfSome id (λ n. n < 2 ^ 64) }
-{
-    match id {
-        None => {}
-        Some(id) => {
-            let _value = id.as_value();
-        }
-    }
-}
-
-fn deadline_fits(deadline: Option<Deadline>)
-    ensures { IfSome deadline IsDeadline }
-{
-    match deadline {
-        None => {}
-        Some(deadline) => {
-            let _seconds = deadline.value.seconds();
-            let _nanoseconds = deadline.value.nanoseconds();
-            let _creation_seconds = deadline.creation_time.seconds();
-            let _creation_nanoseconds = deadline.creation_time.nanoseconds();
-        }
-    }
-}
-
-/// Its numbers are within their limits.
-fn event_fits(settings: &event::StaticConfig)
-    ensures { IsEvent settings.now }
-{
-    let _notifiers = settings.max_notifiers;
-    let _listeners = settings.max_listeners;
-    let _event_id = settings.event_id_max_value;
-    let _nodes = settings.max_nodes;
-    id_fits(settings.notifier_created_event);
-    id_fits(settings.notifier_dropped_event);
-    id_fits(settings.notifier_dead_event);
-    deadline_fits(settings.deadline);
-}
-
 fn put_pattern(out: &mut Vec<u8>, pattern: &MessagingPattern) -> Result<(), AllocError>
-    ensures form { OnOk result (out.new.items ≡ out.old.items ++ form.pattern pattern.now) }
-    ensures fits { OnOk result (IsPattern pattern.now) }
+    ensures { OnOk result (out.new.items ≡ out.old.items ++ form.pattern pattern.now) }
 {
     match pattern {
-        MessagingPattern::Event(settings) => {
-            out.push(1)?;
-            put_event(out, settings)?;
-            event_fits(settings);
-        }
+        MessagingPattern::Event(settings) => put_event(out, settings),
     }
-    Ok(())
 }
 
 /// The whole byte form, behind what was written.
 pub fn put_description(out: &mut Vec<u8>, description: &StaticConfig) -> Result<(), AllocError>
     ensures form { OnOk result (out.new.items ≡ out.old.items ++ form.description description.now) }
-    ensures fits { OnOk result (IsDescription description.now) }
+    ensures limits { OnOk result (IsDescription description.now) }
 {
     out.extend_from_slice(&[0x49, 0x4f, 0x58, 0x32, 0x01])?;
-    out.extend_from_slice(&description.service_hash().0)?;
+    out.extend_from_slice(description.service_hash().as_bytes())?;
     put_text(out, description.name().as_str())?;
     out.extend_from_slice(&[0, 0])?;
     put_pattern(out, description.messaging_pattern())?;

@@ -1,0 +1,14 @@
+pub mod Moved
+pub mod Keeps
+pub mod Step
+pub mod Whole
+pub mod Counts
+pub mod Maps
+pub mod Effects
+pub mod Tickets
+pub mod Holding
+pub mod Worlds
+pub mod Parts
+pub mod Accesses
+pub mod Stands
+pub mod Empty
