@@ -1,11 +1,9 @@
--- What a table's readers tell of its world.
-use Rattle.std.specs.Prelude.{◌≡◌, ℕ, Bool, ◌&&◌, ◌==◌, List, Option, Some, None, T, length, filter, map}
+-- What a table lists of its world.
+use Rattle.std.specs.Prelude.{◌≡◌, List, Option, Some, None, T, map}
 use Rattle.std.specs.Option.{option_map}
 use Rattle.std.specs.FinMap as finite
 use Rattle.std.specs.FinMap.Entries.{find, is_sorted}
-use Rattle.std.specs.Ordering.{eq_by_cmp}
 use Rattle.iceoryx2_data.specs.declared.description.ServiceHash.{ServiceHash}
-use Rattle.iceoryx2_storage.specs.declared.table.world.Ticket.{Ticket}
 use Rattle.iceoryx2_storage.specs.declared.table.world.Row.{Row}
 use Rattle.iceoryx2_storage.specs.declared.table.world.Row.TheVariants as row
 use Rattle.iceoryx2_storage.specs.declared.table.listing.ListedRow.{ListedRow}
@@ -15,15 +13,6 @@ use Rattle.iceoryx2_storage.specs.declared.table.listing.Entry.{Entry}
 use Rattle.iceoryx2_storage.specs.Sets as set
 use Rattle.iceoryx2_storage.specs.Orders.{hash_cmp}
 use Rattle.iceoryx2_storage.specs.World.{World, Segment}
-use Rattle.iceoryx2_storage.specs.Access.{Tickets}
-
--- it is a ticket of this node for this service
-abbrev pub is_held : ℕ → ServiceHash → ℕ × Ticket → Bool
-is_held i h e = e.1.node == i && eq_by_cmp hash_cmp e.1.hash h
-
--- how many tickets the node has for the service
-abbrev pub held : Tickets → ℕ → ServiceHash → ℕ
-held k i h = length (filter (is_held i h) (finite.entries k))
 
 abbrev pub listed_row : Option Row → ListedRow
 listed_row None = listed.Absent

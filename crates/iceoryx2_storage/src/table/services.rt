@@ -32,7 +32,7 @@ pub struct StoredSegment {
 
 impl Model for StoredSegment {
     ghost use Rattle.std.specs.FinMap as map;
-ghost use Rattle.std.specs.Option.{option_copied};
+    ghost use Rattle.std.specs.Option.{option_copied};
     ghost use Rattle.iceoryx2_storage.specs.Orders.{participant_cmp};
     ghost use Rattle.iceoryx2_storage.specs.World.{Segment};
     ghost use Rattle.iceoryx2_storage.specs.Codes.{coded_segment};
@@ -148,7 +148,7 @@ pub struct Services {
 
 impl Model for Services {
     ghost use Rattle.std.specs.FinMap as map;
-ghost use Rattle.std.specs.Option.{option_copied};
+    ghost use Rattle.std.specs.Option.{option_copied};
     ghost use Rattle.iceoryx2_storage.specs.Orders.{hash_cmp, place_cmp};
     ghost use Rattle.iceoryx2_storage.specs.Book.{Book, coded_book};
 

@@ -65,7 +65,10 @@ impl<K: Ord + Copy, V> SortedVec<K, V> {
 }
 
 /// Puts the keys of another map in, too. Where memory runs out, some of them may be in.
-pub fn add_keys<K: Ord + Copy, V>(keys: &mut SortedVec<K, ()>, other: &SortedVec<K, V>) -> Result<(), AllocError>
+pub fn add_keys<K: Ord + Copy, V>(
+    keys: &mut SortedVec<K, ()>,
+    other: &SortedVec<K, V>,
+) -> Result<(), AllocError>
     ensures { OnOk result ((q : K) → is_some (map.get (map.from_sorted {R = K.cmp} keys.new.entries.items) q) ≡ (is_some (map.get (map.from_sorted {R = K.cmp} keys.old.entries.items) q) || is_some (map.get (map.from_sorted {R = K.cmp} other.now.entries.items) q))) }
 {
     for (key, _) in other.entries.iter() {

@@ -1,4 +1,4 @@
-use Rattle.std.proofs.Common.{◌≡◌, ◌<◌, ◌||◌, Bool, List, take, length, sym, ap, ◌∙◌, arith}
+use Rattle.std.proofs.Common.{◌||◌, Bool, List, take, sym, ap, ◌∙◌, arith}
 use Rattle.std.specs.Prelude.{is_some}
 use Rattle.std.specs.FinMap as map
 use Rattle.std.specs.FinMap.Entries.{find}

@@ -34,12 +34,12 @@ returns c =
     let all : take c.loop-hash.hash-index keys ≡ keys = take_all c.loop-hash.hash-index keys (omega arith) in
     let sorted : is_sorted hash_cmp keys ≡ true = ap (is_sorted hash_cmp) c.deref-hash-items.ensures.value ∙ hashes.sorted in
     let row_there = λ (h : ServiceHash). c.in_ok-add_keys.ensures h ∙ ap (λ m. is_some (map.get {R = hash_cmp} m h) || is_some (map.get {R = hash_cmp} (map.from_sorted c.self.inside.rows.entries.items) h)) c.new-hashes.ensures
-        ∙ ap (λ o. is_some o || is_some (map.get {R = hash_cmp} (map.from_sorted c.self.inside.rows.entries.items) h)) (map.get-empty hash_cmp h)
-        ∙ ap (λ (b : Book). is_some (map.get b.rows h)) c.self.view_is in
+    ∙ ap (λ o. is_some o || is_some (map.get {R = hash_cmp} (map.from_sorted c.self.inside.rows.entries.items) h)) (map.get-empty hash_cmp h)
+    ∙ ap (λ (b : Book). is_some (map.get b.rows h)) c.self.view_is in
     let each : (h : ServiceHash) → is_some (find hash_cmp h keys) ≡ (is_some (map.get rows h) || is_some (map.get segments h)) = λ h.
-        ap (λ (l : List (ServiceHash × Unit {0})). is_some (find hash_cmp h l)) c.deref-hash-items.ensures.value
-        ∙ ap is_some (sym (map.get-from_sorted hash_cmp hashes.entries.items h (true_T hashes.sorted)))
-        ∙ c.in_ok-add_keys-2.ensures h
-        ∙ ap (λ (b : Bool). b || is_some (map.get {R = hash_cmp} (map.from_sorted c.self.inside.segments.entries.items) h)) (row_there h)
-        ∙ ap (λ (b : Book). is_some (map.get rows h) || is_some (map.get b.segments h)) c.self.view_is in
+    ap (λ (l : List (ServiceHash × Unit {0})). is_some (find hash_cmp h l)) c.deref-hash-items.ensures.value
+    ∙ ap is_some (sym (map.get-from_sorted hash_cmp hashes.entries.items h (true_T hashes.sorted)))
+    ∙ c.in_ok-add_keys-2.ensures h
+    ∙ ap (λ (b : Bool). b || is_some (map.get {R = hash_cmp} (map.from_sorted c.self.inside.segments.entries.items) h)) (row_there h)
+    ∙ ap (λ (b : Book). is_some (map.get rows h) || is_some (map.get b.segments h)) c.self.view_is in
     subst (λ (es : List Entry). ListsAll rows segments es) (sym (c.loop-hash.invariant ∙ ap (listing rows segments) all)) (lists rows segments keys sorted each)

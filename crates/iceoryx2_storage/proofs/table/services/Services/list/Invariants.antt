@@ -1,6 +1,4 @@
 use Rattle.std.proofs.Common.{◌≡◌, take}
-use Rattle.std.specs.FinMap as map
-use Rattle.iceoryx2_storage.specs.Orders.{hash_cmp}
 use Rattle.iceoryx2_storage.proofs.Listed.{listing}
 use Rattle.iceoryx2_storage.proofs.table.services.Services.list.Given as goal
 
