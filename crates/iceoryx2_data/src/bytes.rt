@@ -38,8 +38,8 @@ impl Error for DecodeError {}
 impl From<AllocError> for DecodeError {
     ghost from_gives = { λ _ e. e ≡ OutOfMemory };
 
-    fn from(_: AllocError) -> DecodeError {
-        DecodeError::OutOfMemory
+    fn from(_: AllocError) -> Self {
+        Self::OutOfMemory
     }
 }
 
