@@ -1,0 +1,3 @@
+pub mod Verdicts
+pub mod LookSteps
+pub mod OpenSteps

@@ -1,0 +1,64 @@
+-- The words of create, with their answers.
+use Rattle.std.specs.Prelude.{◌≡◌, ℕ, Bool, true, false, List, [], ◌∷◌, ◌++◌, Result, Ok, Err, Some, None}
+use Rattle.iceoryx2_data.specs.declared.description.ServiceHash.{ServiceHash}
+use Rattle.iceoryx2_data.specs.declared.time.ClockFault.{ClockFault}
+use Rattle.iceoryx2_data.specs.Description.{Description, max_nodes_of}
+use Rattle.iceoryx2_data.specs.Span.{Span, zero_span}
+use Rattle.iceoryx2_storage.specs.declared.storage.Tag.{Tag}
+use Rattle.iceoryx2_storage.specs.declared.storage.TagError.{TagError}
+use Rattle.iceoryx2_storage.specs.declared.storage.LockError.{LockError}
+use Rattle.iceoryx2_storage.specs.declared.storage.PublishError.{PublishError}
+use Rattle.iceoryx2_storage.specs.Letter.{Letter, Counts, MakeTag, Lock, Publish}
+use Rattle.iceoryx2_rounds.specs.declared.look.Outcome.TheVariants.{Nothing, Found, Faulty}
+use Rattle.iceoryx2_rounds.specs.declared.pattern.CreateRefusal.TheVariants as refusal
+use Rattle.iceoryx2_rounds.specs.Meaning.{Meaning}
+use Rattle.iceoryx2_rounds.specs.Registered.{Registered}
+use Rattle.iceoryx2_rounds.specs.Looks.{IsLookWord}
+use Rattle.iceoryx2_rounds.specs.GivesBack.{GivesBack, OwnLock, OwnSegment, own_tag}
+use Rattle.iceoryx2_rounds.specs.Refusals.{of_tag, of_lock, of_publish}
+use Rattle.iceoryx2_rounds.specs.Segments.{IsSegmentWord}
+
+-- Whether the clock stops a create: one that needs it, and a clock that can't be read.
+abbrev pub clock_stops : Bool → Result Span ClockFault → Bool
+clock_stops true (Err fault) = true
+clock_stops true (Ok time) = false
+clock_stops false now = false
+
+-- the time of a create; a create that doesn't need the time publishes none
+abbrev pub time_of : Result Span ClockFault → Span
+time_of (Ok time) = time
+time_of (Err fault) = zero_span
+
+-- what a create publishes, and carries
+abbrev pub description_of : {F E C : Type 0} → Meaning F E C → ServiceHash → List ℕ → Result Span ClockFault → Description
+description_of m hash name now = record { hash = hash; name = name; pattern = m.published (time_of now) }
+
+module _ {F E C : Type 0} (m : Meaning F E C) (node : ℕ) (hash : ServiceHash) where
+  -- The words up to the tag: nothing is found, the node isn't counted, and it has its tag; or what is in the way.
+  pub data IsEntryWord : List Letter → Result Tag C → Type 0 where
+    look_faulty : {u : List Letter} {fault : F} → IsLookWord m node hash u (Faulty fault) → IsEntryWord u (Err (m.create_error_of fault))
+    look_found : {u : List Letter} {n : ℕ} {d : Description} → IsLookWord m node hash u (Found n d) → IsEntryWord u (Err (m.create_refusal refusal.AlreadyExists))
+    counted : {u : List Letter} → IsLookWord m node hash u Nothing → IsEntryWord (u ++ Counts node hash true ∷ []) (Err (m.create_refusal refusal.ServiceInCorruptedState))
+    no_copies : {u : List Letter} → IsLookWord m node hash u Nothing → IsEntryWord (u ++ Counts node hash false ∷ []) (Err (m.create_refusal refusal.OutOfMemory))
+    no_tag : {u : List Letter} (e : TagError) → IsLookWord m node hash u Nothing → IsEntryWord (u ++ Counts node hash false ∷ MakeTag node hash (Err e) ∷ []) (Err (m.create_refusal (of_tag e)))
+    entered : {u : List Letter} (tag : Tag) → IsLookWord m node hash u Nothing → IsEntryWord (u ++ Counts node hash false ∷ MakeTag node hash (Ok tag) ∷ []) (Ok tag)
+
+  -- The words of a create that publishes this description.
+  module _ (clock_stops : Bool) (d : Description) where
+    pub data IsCreating : List Letter → Result Registered C → Type 0 where
+      forbidden : {error : C} → m.history_refusal ≡ Some error → IsCreating [] (Err error)
+      not_entered : {u : List Letter} {error : C} → m.history_refusal ≡ None → IsEntryWord u (Err error) → IsCreating u (Err error)
+      clock_fault : {tag : Tag} {u v : List Letter} → m.history_refusal ≡ None → clock_stops ≡ true → IsEntryWord u (Ok tag) → GivesBack node hash (own_tag tag) v
+          → IsCreating (u ++ v) (Err (m.create_refusal refusal.InternalFailure))
+      not_locked : {tag : Tag} {u v : List Letter} (e : LockError) → m.history_refusal ≡ None → clock_stops ≡ false → IsEntryWord u (Ok tag) → GivesBack node hash (own_tag tag) v
+          → IsCreating (u ++ Lock node hash (Err e) ∷ v) (Err (m.create_refusal (of_lock e)))
+      no_segment : {tag : Tag} {u v w : List Letter} {n : ℕ} {why : _} → m.history_refusal ≡ None → clock_stops ≡ false → IsEntryWord u (Ok tag) → IsSegmentWord node hash n (max_nodes_of d.pattern) v (Err why) → GivesBack node hash (OwnLock ∷ own_tag tag) w
+          → IsCreating (u ++ Lock node hash (Ok n) ∷ (v ++ w)) (Err (m.create_refusal why))
+      not_published : {tag : Tag} {u v w : List Letter} {n : ℕ} (e : PublishError) → m.history_refusal ≡ None → clock_stops ≡ false → IsEntryWord u (Ok tag) → IsSegmentWord node hash n (max_nodes_of d.pattern) v (Ok tt) → GivesBack node hash (OwnSegment ∷ OwnLock ∷ own_tag tag) w
+          → IsCreating (u ++ Lock node hash (Ok n) ∷ (v ++ Publish node hash n d (Err e) ∷ w)) (Err (m.create_refusal (of_publish e)))
+      published : {tag : Tag} {u v : List Letter} (n t : ℕ) → m.history_refusal ≡ None → clock_stops ≡ false → IsEntryWord u (Ok tag) → IsSegmentWord node hash n (max_nodes_of d.pattern) v (Ok tt)
+          → IsCreating (u ++ Lock node hash (Ok n) ∷ (v ++ Publish node hash n d (Ok t) ∷ [])) (Ok (record { node = node; number = n; ticket = t; description = d }))
+
+  -- The words of create, for a name and the clock's answer.
+  abbrev pub IsCreateWord : List ℕ → Result Span ClockFault → List Letter → Result Registered C → Type 0
+  IsCreateWord name now word answer = IsCreating (clock_stops m.needs_clock now) (description_of m hash name now) word answer

@@ -1,0 +1,13 @@
+pub mod Verdict
+pub mod Meaning
+pub mod Registered
+pub mod Looks
+pub mod GivesBack
+pub mod Refusals
+pub mod Segments
+pub mod Creates
+pub mod Opens
+pub mod Closes
+pub mod Answers
+pub mod Texts
+pub mod States

@@ -1,0 +1,61 @@
+-- What an access's refusal makes of a call.
+use Rattle.std.specs.Prelude.{Option, Some, None}
+use Rattle.iceoryx2_storage.specs.declared.storage.TagError.{TagError}
+use Rattle.iceoryx2_storage.specs.declared.storage.TagError.TheVariants as tag
+use Rattle.iceoryx2_storage.specs.declared.storage.LockError.{LockError}
+use Rattle.iceoryx2_storage.specs.declared.storage.LockError.TheVariants as lock
+use Rattle.iceoryx2_storage.specs.declared.storage.MakeSegmentError.{MakeSegmentError}
+use Rattle.iceoryx2_storage.specs.declared.storage.MakeSegmentError.TheVariants as make
+use Rattle.iceoryx2_storage.specs.declared.storage.RemoveError.{RemoveError}
+use Rattle.iceoryx2_storage.specs.declared.storage.RemoveError.TheVariants as remove
+use Rattle.iceoryx2_storage.specs.declared.storage.PublishError.{PublishError}
+use Rattle.iceoryx2_storage.specs.declared.storage.PublishError.TheVariants as publish
+use Rattle.iceoryx2_storage.specs.declared.storage.OpenSegmentError.{OpenSegmentError}
+use Rattle.iceoryx2_storage.specs.declared.storage.OpenSegmentError.TheVariants as segment
+use Rattle.iceoryx2_rounds.specs.declared.pattern.OpenRefusal.{OpenRefusal}
+use Rattle.iceoryx2_rounds.specs.declared.pattern.OpenRefusal.TheVariants as open_refusal
+use Rattle.iceoryx2_rounds.specs.declared.pattern.CreateRefusal.{CreateRefusal}
+use Rattle.iceoryx2_rounds.specs.declared.pattern.CreateRefusal.TheVariants as create_refusal
+
+-- of a create
+
+abbrev pub of_tag : TagError → CreateRefusal
+of_tag tag.Fault = create_refusal.InternalFailure
+of_tag tag.OutOfMemory = create_refusal.OutOfMemory
+
+abbrev pub of_lock : LockError → CreateRefusal
+of_lock lock.AlreadyExists = create_refusal.AlreadyExists
+of_lock lock.Creation = create_refusal.IsBeingCreatedByAnotherInstance
+of_lock lock.InsufficientPermissions = create_refusal.InsufficientPermissions
+of_lock lock.Other = create_refusal.InternalFailure
+of_lock lock.OutOfMemory = create_refusal.OutOfMemory
+
+-- The segment that is there is removed, but not the one that is there at the sixth making.
+abbrev pub of_make : MakeSegmentError → CreateRefusal
+of_make make.AlreadyExists = create_refusal.ServiceInCorruptedState
+of_make make.InsufficientPermissions = create_refusal.InsufficientPermissions
+of_make make.Other = create_refusal.InternalFailure
+of_make make.OutOfMemory = create_refusal.OutOfMemory
+
+abbrev pub of_remove : RemoveError → CreateRefusal
+of_remove remove.InsufficientPermissions = create_refusal.InsufficientPermissions
+of_remove remove.Other = create_refusal.InternalFailure
+
+abbrev pub of_publish : PublishError → CreateRefusal
+of_publish publish.Other = create_refusal.ServiceInCorruptedState
+of_publish publish.OutOfMemory = create_refusal.OutOfMemory
+
+-- of an open
+
+abbrev pub of_tag_opening : TagError → OpenRefusal
+of_tag_opening tag.Fault = open_refusal.InternalFailure
+of_tag_opening tag.OutOfMemory = open_refusal.OutOfMemory
+
+-- After `Failed` it looks again.
+abbrev pub of_opening : OpenSegmentError → Option OpenRefusal
+of_opening segment.DoesNotExist = Some open_refusal.ServiceInCorruptedState
+of_opening segment.Marked = Some open_refusal.IsMarkedForDestruction
+of_opening segment.Full = Some open_refusal.ExceedsMaxNumberOfNodes
+of_opening segment.Failed = None
+of_opening segment.OutOfNumbers = Some open_refusal.InternalFailure
+of_opening segment.OutOfMemory = Some open_refusal.OutOfMemory

@@ -1,0 +1,22 @@
+-- The words of a create's segment part, with what comes of it.
+use Rattle.std.specs.Prelude.{◌≢◌, ◌<◌, ◌≤◌, ℕ, zero, suc, List, [], ◌∷◌, ◌++◌, Result, Ok, Err}
+use Rattle.iceoryx2_data.specs.declared.description.ServiceHash.{ServiceHash}
+use Rattle.iceoryx2_storage.specs.declared.storage.MakeSegmentError.{MakeSegmentError}
+use Rattle.iceoryx2_storage.specs.declared.storage.MakeSegmentError.TheVariants as make
+use Rattle.iceoryx2_storage.specs.declared.storage.RemoveError.{RemoveError}
+use Rattle.iceoryx2_storage.specs.Letter.{Letter, MakeSegment, RemoveSegment}
+use Rattle.iceoryx2_rounds.specs.declared.pattern.CreateRefusal.{CreateRefusal}
+use Rattle.iceoryx2_rounds.specs.declared.pattern.CreateRefusal.TheVariants as create_refusal
+use Rattle.iceoryx2_rounds.specs.Refusals.{of_make, of_remove}
+
+module _ (node : ℕ) (hash : ServiceHash) (number max_nodes : ℕ) where
+  -- so many times a segment that was left is found and removed
+  abbrev pub cleared : ℕ → List Letter
+  cleared zero = []
+  cleared (suc k) = cleared k ++ MakeSegment node hash number max_nodes (Err make.AlreadyExists) ∷ RemoveSegment node hash (Ok tt) ∷ []
+
+  pub data IsSegmentWord : List Letter → Result (Unit {0}) CreateRefusal → Type 0 where
+    made : (k : ℕ) → k ≤ 5 → IsSegmentWord (cleared k ++ MakeSegment node hash number max_nodes (Ok tt) ∷ []) (Ok tt)
+    not_made : (k : ℕ) (e : MakeSegmentError) → k ≤ 5 → e ≢ make.AlreadyExists → IsSegmentWord (cleared k ++ MakeSegment node hash number max_nodes (Err e) ∷ []) (Err (of_make e))
+    not_removed : (k : ℕ) (e : RemoveError) → k < 5 → IsSegmentWord (cleared k ++ MakeSegment node hash number max_nodes (Err make.AlreadyExists) ∷ RemoveSegment node hash (Err e) ∷ []) (Err (of_remove e))
+    still_there : IsSegmentWord (cleared 5 ++ MakeSegment node hash number max_nodes (Err make.AlreadyExists) ∷ []) (Err create_refusal.ServiceInCorruptedState)

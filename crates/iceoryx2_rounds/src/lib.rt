@@ -1,0 +1,11 @@
+//! How a service is created, opened and closed: once, for any pattern and over any storage.
+#![tactic(auto)]
+
+pub mod create;
+pub mod error;
+mod give_back;
+pub mod look;
+pub mod open;
+pub mod pattern;
+pub mod port_factory;
+pub mod verdict;

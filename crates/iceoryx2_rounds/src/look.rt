@@ -1,0 +1,92 @@
+//! How a call sees whether there is a service.
+
+ghost use Rattle.std.specs.Prelude.{Ok};
+ghost use Rattle.iceoryx2_storage.specs.Letter.{fetched};
+ghost use Rattle.iceoryx2_storage.specs.Run.{Joins};
+ghost use Rattle.iceoryx2_rounds.specs.Looks.{IsLookWord, LeadsTo};
+
+use crate::error::ServiceState;
+use crate::pattern::Pattern;
+use iceoryx2_data::bytes::{DecodeError, decode};
+use iceoryx2_data::description::{ServiceHash, StaticConfig};
+use iceoryx2_storage::storage::{Existence, FetchError, Storage};
+use std::alloc::Global;
+
+/// What a look finds.
+#[derive(Drop)]
+pub enum Outcome<F> {
+    Nothing,
+    /// A service of the pattern and the message types, with its number.
+    Found(u64, StaticConfig),
+    Faulty(F),
+}
+
+/// Asks whether there is a service of this hash, and reads its description.
+pub(crate) fn look<P: Pattern, S: Storage>(
+    pattern: &P,
+    node: u64,
+    hash: &ServiceHash,
+    storage: &mut S,
+) -> Outcome<P::Fault>
+    ensures { Joins S.step storage.old (λ word. IsLookWord (P.meaning pattern.now) node hash.now word result) storage.new }
+{
+    match storage.exists(hash) {
+        Existence::No => Outcome::Nothing,
+        Existence::Fault => Outcome::Faulty(pattern.fault(ServiceState::Corrupted)),
+        Existence::Yes | Existence::BeingSetUp => {
+            let answer = storage.fetch(node, hash);
+            outcome_of(pattern, hash, answer)
+        }
+    }
+}
+
+/// What a fetch's answer means.
+fn outcome_of<P: Pattern>(
+    pattern: &P,
+    hash: &ServiceHash,
+    answer: Result<(u64, Vec<u8>), FetchError>,
+) -> Outcome<P::Fault>
+    ensures { LeadsTo (P.meaning pattern.now) hash.now (fetched answer) result }
+{
+    match answer {
+        Ok((number, bytes)) => read(pattern, hash, number, *bytes.allocator(), &bytes),
+        Err(error) => match error {
+            FetchError::DoesNotExist => Outcome::Nothing,
+            FetchError::NotFinalized => {
+                Outcome::Faulty(pattern.fault(ServiceState::HangsInCreation))
+            }
+            FetchError::OpenFault | FetchError::ReadFault => {
+                Outcome::Faulty(pattern.fault(ServiceState::InsufficientPermissions))
+            }
+            FetchError::OutOfMemory => Outcome::Faulty(pattern.fault(ServiceState::OutOfMemory)),
+        },
+    }
+}
+
+/// What fetched bytes mean.
+fn read<P: Pattern>(
+    pattern: &P,
+    hash: &ServiceHash,
+    number: u64,
+    alloc: Global,
+    bytes: &[u8],
+) -> Outcome<P::Fault>
+    ensures { LeadsTo (P.meaning pattern.now) hash.now (Ok (number, bytes.now)) result }
+{
+    let description = match decode(alloc, bytes) {
+        Ok(description) => description,
+        Err(DecodeError::Malformed) => {
+            return Outcome::Faulty(pattern.fault(ServiceState::Corrupted));
+        }
+        Err(DecodeError::OutOfMemory) => {
+            return Outcome::Faulty(pattern.fault(ServiceState::OutOfMemory));
+        }
+    };
+    if *description.service_hash() != *hash {
+        return Outcome::Faulty(pattern.fault(ServiceState::Corrupted));
+    }
+    match pattern.misfit(&description) {
+        Some(fault) => Outcome::Faulty(fault),
+        None => Outcome::Found(number, description),
+    }
+}

@@ -1,0 +1,113 @@
+//! How a service is opened.
+
+ghost use Rattle.std.specs.Prelude.{◌≡◌, Option};
+ghost use Rattle.iceoryx2_storage.specs.Run.{Joins};
+ghost use Rattle.iceoryx2_rounds.specs.Opens.{IsOpenWord, IsRound, IsSecondLook};
+ghost use Rattle.iceoryx2_rounds.specs.Refusals.{of_opening, of_tag_opening};
+
+use crate::give_back::give_back_tag;
+use crate::look::{Outcome, look};
+use crate::pattern::{OpenRefusal, Pattern};
+use crate::port_factory::Registration;
+use iceoryx2_data::description::ServiceHash;
+use iceoryx2_storage::storage::{OpenSegmentError, Storage, Tag, TagError};
+
+fn tag_refusal(error: TagError) -> OpenRefusal
+    ensures { result ≡ of_tag_opening error }
+{
+    match error {
+        TagError::Fault => OpenRefusal::InternalFailure,
+        TagError::OutOfMemory => OpenRefusal::OutOfMemory,
+    }
+}
+
+/// Why a refused opening ends the call. `None` asks for a second look.
+fn opening_refusal(error: OpenSegmentError) -> Option<OpenRefusal>
+    ensures { result ≡ of_opening error }
+{
+    match error {
+        OpenSegmentError::DoesNotExist => Some(OpenRefusal::ServiceInCorruptedState),
+        OpenSegmentError::Marked => Some(OpenRefusal::IsMarkedForDestruction),
+        OpenSegmentError::Full => Some(OpenRefusal::ExceedsMaxNumberOfNodes),
+        OpenSegmentError::Failed => None,
+        OpenSegmentError::OutOfNumbers => Some(OpenRefusal::InternalFailure),
+        OpenSegmentError::OutOfMemory => Some(OpenRefusal::OutOfMemory),
+    }
+}
+
+/// Looks again after a failed opening, and gives the tag back. `None` asks for another round.
+fn look_again<P: Pattern, S: Storage>(
+    pattern: &P,
+    node: u64,
+    hash: &ServiceHash,
+    tag: Tag,
+    storage: &mut S,
+) -> Option<P::OpenError>
+    ensures { Joins S.step storage.old (λ word. IsSecondLook (P.meaning pattern.now) node hash.now tag result word) storage.new }
+{
+    let seen = look(pattern, node, hash, storage);
+    give_back_tag(node, hash, tag, storage);
+    match seen {
+        Outcome::Faulty(fault) => return Some(pattern.open_error_of(fault)),
+        Outcome::Nothing => return Some(pattern.open_refusal(OpenRefusal::DoesNotExist)),
+        Outcome::Found(_, _) => return None,
+    }
+}
+
+/// One round. `None` asks for another one.
+fn try_open<P: Pattern, S: Storage>(
+    pattern: &P,
+    node: u64,
+    hash: &ServiceHash,
+    storage: &mut S,
+) -> Option<Result<Registration, P::OpenError>>
+    ensures { Joins S.step storage.old (λ word. IsRound (P.meaning pattern.now) node hash.now word result) storage.new }
+{
+    let (number, description) = match look(pattern, node, hash, storage) {
+        Outcome::Faulty(fault) => return Some(Err(pattern.open_error_of(fault))),
+        Outcome::Nothing => return Some(Err(pattern.open_refusal(OpenRefusal::DoesNotExist))),
+        Outcome::Found(number, description) => (number, description),
+    };
+    match pattern.verify(&description) {
+        Ok(()) => {}
+        Err(error) => return Some(Err(error)),
+    }
+    let tag = match storage.make_tag(node, hash) {
+        Ok(tag) => tag,
+        Err(error) => return Some(Err(pattern.open_refusal(tag_refusal(error)))),
+    };
+    match storage.open_segment(node, hash, number) {
+        Ok(ticket) => Some(Ok(Registration::new(node, number, ticket, description))),
+        Err(error) => match opening_refusal(error) {
+            Some(refusal) => {
+                give_back_tag(node, hash, tag, storage);
+                Some(Err(pattern.open_refusal(refusal)))
+            }
+            None => match look_again(pattern, node, hash, tag, storage) {
+                Some(error) => Some(Err(error)),
+                None => None,
+            },
+        },
+    }
+}
+
+/// Opens the service of this hash, in at most six rounds.
+///
+/// The settings are required as they are. The registration carries the description that was read
+/// and accepted in the round that opened.
+pub fn open<P: Pattern, S: Storage>(
+    pattern: &P,
+    node: u64,
+    hash: &ServiceHash,
+    storage: &mut S,
+) -> Result<Registration, P::OpenError>
+    ensures { Joins S.step storage.old (λ word. IsOpenWord (P.meaning pattern.now) node hash.now word result) storage.new }
+{
+    for _round in 0..6u64 {
+        match try_open(pattern, node, hash, storage) {
+            Some(answer) => return answer,
+            None => {}
+        }
+    }
+    Err(pattern.open_refusal(OpenRefusal::ServiceInCorruptedState))
+}
