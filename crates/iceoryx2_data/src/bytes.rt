@@ -6,6 +6,8 @@ ghost use Rattle.iceoryx2_data.specs.Form.{IsForm};
 ghost use Rattle.iceoryx2_data.specs.declared.bytes.DecodeError.TheVariants.{OutOfMemory};
 
 mod reading;
+#[cfg(test)]
+mod tests;
 mod writing;
 
 use crate::description::StaticConfig;

@@ -33,16 +33,16 @@ turned false false e x y f = f
 module _ {K X : Type 0} (R : K → K → Ordering) (o : IsTotalOrder R) (es : List (K × X)) (s : is_sorted R es ≡ true) where
   pub map_put : (k : K) (v : X) → map.from_sorted {R = R} (put R k v es) ≡ map.insert (map.from_sorted es) k v
   map_put k v = same_entries_map _ _ (
-    entries-from_sorted R (put R k v es) (is_sorted-put R o k v es (true_T s))
-    ∙ ap (put R k v) (sym (entries-from_sorted R es (true_T s)))
-    ∙ sym (entries-insert o (map.from_sorted es) k v))
+      entries-from_sorted R (put R k v es) (is_sorted-put R o k v es (true_T s))
+      ∙ ap (put R k v) (sym (entries-from_sorted R es (true_T s)))
+      ∙ sym (entries-insert o (map.from_sorted es) k v))
 
   pub map_without : IsAntisymmetric R → (k : K) → map.from_sorted {R = R} (where_key R (λ x. not (eq_by_cmp R k x)) es) ≡ map.remove (map.from_sorted es) k
   map_without same k = same_map o same _ _ (λ q.
-    get-from_sorted R (where_key R (λ x. not (eq_by_cmp R k x)) es) q (is_sorted-where_key R _ es (true_T s))
-    ∙ find-where_key R (λ x. not (eq_by_cmp R k x)) q (λ x t. ap (λ r. not (is_eq r)) (sym (alike_right o q x k t))) es
-    ∙ turned (eq_by_cmp R k q) (eq_by_cmp R q k) ((eq_by_cmp_equiv o).symm k q) _ _ (sym (get-from_sorted R es q (true_T s)))
-    ∙ sym (get-remove o (map.from_sorted es) k q))
+      get-from_sorted R (where_key R (λ x. not (eq_by_cmp R k x)) es) q (is_sorted-where_key R _ es (true_T s))
+      ∙ find-where_key R (λ x. not (eq_by_cmp R k x)) q (λ x t. ap (λ r. not (is_eq r)) (sym (alike_right o q x k t))) es
+      ∙ turned (eq_by_cmp R k q) (eq_by_cmp R q k) ((eq_by_cmp_equiv o).symm k q) _ _ (sym (get-from_sorted R es q (true_T s)))
+      ∙ sym (get-remove o (map.from_sorted es) k q))
 
   unused : ℕ
   unused = 0
@@ -55,10 +55,10 @@ module _ {K X : Type 0} {R : K → K → Ordering} (o : IsTotalOrder R) (exact :
   -- what stands already is set to no effect
   pub kept : (m : map.FinMap R X) (k : K) → m ≡ set_to m k (map.get m k)
   kept m k = sym (same_map o exact _ _ (λ q. get-set_to m k (map.get m k) q ∙
-    elim (eq_by_cmp R q k) as (λ b. eq_by_cmp R q k ≡ b → cond b (map.get m k) (map.get m q) ≡ map.get m q) [
-      | true ↦ λ e. ap (λ x. map.get m x) (sym (exact q k ((Equal-is (R q k)).0 e)))
-      | false ↦ λ e. refl
-    ] refl))
+      elim (eq_by_cmp R q k) as (λ b. eq_by_cmp R q k ≡ b → cond b (map.get m k) (map.get m q) ≡ map.get m q) [
+        | true ↦ λ e. ap (λ x. map.get m x) (sym (exact q k ((Equal-is (R q k)).0 e)))
+        | false ↦ λ e. refl
+      ] refl))
 
   pub kept_at : (m : map.FinMap R X) (k : K) (v : Option X) → map.get m k ≡ v → m ≡ set_to m k v
   kept_at m k v e = kept m k ∙ ap (set_to m k) e
@@ -67,16 +67,16 @@ module _ {K X : Type 0} (R : K → K → Ordering) (o : IsTotalOrder R) (same : 
   -- to put back what was taken away changes nothing
   pub put_back : (m : map.FinMap R X) (k : K) (v : X) → map.get m k ≡ Some v → map.insert (map.remove m k) k v ≡ m
   put_back m k v there = same_map o same _ _ (λ q. get-insert o (map.remove m k) k v q ∙ ap (cond (eq_by_cmp R q k) (Some v)) (get-remove o m k q) ∙
-    elim (eq_by_cmp R q k) as (λ b. eq_by_cmp R q k ≡ b → cond b (Some v) (cond b None (map.get m q)) ≡ map.get m q) [
-      | true ↦ λ e. sym there ∙ ap (λ x. map.get m x) (sym (same q k ((Equal-is (R q k)).0 e)))
-      | false ↦ λ e. refl
-    ] refl)
+      elim (eq_by_cmp R q k) as (λ b. eq_by_cmp R q k ≡ b → cond b (Some v) (cond b None (map.get m q)) ≡ map.get m q) [
+        | true ↦ λ e. sym there ∙ ap (λ x. map.get m x) (sym (same q k ((Equal-is (R q k)).0 e)))
+        | false ↦ λ e. refl
+      ] refl)
 
   -- to change what stands there is to set it
   pub put_other : (m : map.FinMap R X) (k : K) (v : X) → map.insert (map.remove m k) k v ≡ map.insert m k v
   put_other m k v = same_map o same _ _ (λ q. get-insert o (map.remove m k) k v q ∙ ap (cond (eq_by_cmp R q k) (Some v)) (get-remove o m k q) ∙
-    elim (eq_by_cmp R q k) as (λ b. cond b (Some v) (cond b None (map.get m q)) ≡ cond b (Some v) (map.get m q)) [ true ↦ refl | false ↦ refl ]
-    ∙ sym (get-insert o m k v q))
+      elim (eq_by_cmp R q k) as (λ b. cond b (Some v) (cond b None (map.get m q)) ≡ cond b (Some v) (map.get m q)) [ true ↦ refl | false ↦ refl ]
+      ∙ sym (get-insert o m k v q))
 
 -- a phase that is stored
 pub there : (o : Option Phase) (x : Phase) → or_idle o ≡ x → x ≢ at.Idle → o ≢ None

@@ -2,5 +2,6 @@
 #![tactic(auto)]
 
 pub mod laws;
+pub mod local;
 pub mod storage;
 pub mod table;

@@ -8,9 +8,11 @@ ghost use Rattle.iceoryx2_storage.specs.Acts as act;
 ghost use Rattle.iceoryx2_storage.specs.Steps.{begins as begins_spec, fits as fits_spec, has_room as has_room_spec};
 ghost use Rattle.iceoryx2_data.specs.Description.{IsDescription};
 ghost use Rattle.iceoryx2_storage.specs.Access.{has_made, open_refusal, segment_refusal};
+ghost use Rattle.iceoryx2_storage.specs.Listing.{listed_segment};
 ghost use Rattle.iceoryx2_storage.specs.Book.{Steps, Tries, Leaves, Admits, Dismisses, TakesSegment, TakesDescription, segment_fits};
 
-use super::sorted::SortedVec;
+use super::listing::{Entry, ListedRow, ListedSegment};
+use super::sorted::{SortedVec, add_keys};
 use super::world::{Bytes, Participant, Phase, Row};
 use crate::storage::{OpenSegmentError, Release};
 use iceoryx2_data::bytes::encode;
@@ -93,6 +95,18 @@ impl StoredSegment {
         }
     }
 
+    // The segment as it is listed.
+    fn listed(&self) -> ListedSegment
+        ensures { result ≡ listed_segment self.now }
+    {
+        ListedSegment {
+            number: self.number,
+            max_nodes: self.capacity,
+            participants: self.participants.len() as u64,
+            marked: self.marked,
+        }
+    }
+
     // It takes one more with this number.
     fn admit(&mut self, number: u64, participant: Participant) -> Result<bool, AllocError>
         ensures { Admits number participant self.old result self.new }
@@ -140,15 +154,18 @@ impl Model for Services {
     ghost coded = { coded_book };
 
     ghost view = { λ t. record {
-        rows = map.from_sorted {R = hash_cmp} t.rows.entries.items;
-        segments = map.from_sorted {R = hash_cmp} t.segments.entries.items;
-        phases = map.from_sorted {R = place_cmp} t.phases.entries.items;
-        counter = t.counter;
+      rows = map.from_sorted {R = hash_cmp} t.rows.entries.items;
+      segments = map.from_sorted {R = hash_cmp} t.segments.entries.items;
+      phases = map.from_sorted {R = place_cmp} t.phases.entries.items;
+      counter = t.counter;
     } };
 }
 
 // Who is not stored is Idle.
-fn phase_in(phases: &SortedVec<(Participant, ServiceHash), Phase>, place: &(Participant, ServiceHash)) -> Phase
+fn phase_in(
+    phases: &SortedVec<(Participant, ServiceHash), Phase>,
+    place: &(Participant, ServiceHash),
+) -> Phase
     ensures { result ≡ or_idle (map.get (map.from_sorted {R = place_cmp} phases.now.entries.items) place.now) }
 {
     match phases.get(place) {
@@ -158,7 +175,11 @@ fn phase_in(phases: &SortedVec<(Participant, ServiceHash), Phase>, place: &(Part
 }
 
 // Sets the phase of one that is stored; takes no memory.
-fn set_phase(phases: &mut SortedVec<(Participant, ServiceHash), Phase>, place: (Participant, ServiceHash), phase: Phase)
+fn set_phase(
+    phases: &mut SortedVec<(Participant, ServiceHash), Phase>,
+    place: (Participant, ServiceHash),
+    phase: Phase,
+)
     ensures { map.get (map.from_sorted {R = place_cmp} phases.old.entries.items) place ≢ None → map.from_sorted {R = place_cmp} phases.new.entries.items ≡ set_to (map.from_sorted {R = place_cmp} phases.old.entries.items) place (unless_idle phase) }
 {
     match phase {
@@ -202,6 +223,18 @@ fn may_remove_description(phase: Phase) -> bool
     }
 }
 
+// The row as it is listed.
+fn listed_row(row: Option<&Row>) -> Result<ListedRow, AllocError> {
+    match row {
+        None => Ok(ListedRow::Absent),
+        Some(Row::Locked(number)) => Ok(ListedRow::Locked(*number)),
+        Some(Row::Published(number, bytes)) => {
+            let bytes = bytes.copy()?;
+            Ok(ListedRow::Published(*number, Bytes::from_vec(bytes)))
+        }
+    }
+}
+
 impl Services {
     pub fn starting_at(alloc: Global, counter: u64) -> Services
         ensures { result ≡ (record { rows = map.empty; segments = map.empty; phases = map.empty; counter = counter }) }
@@ -226,6 +259,32 @@ impl Services {
         self.counter = counter;
     }
 
+    // What is listed of a hash.
+    fn entry(&self, hash: &ServiceHash) -> Result<Entry, AllocError> {
+        let row = listed_row(self.rows.get(hash))?;
+        let segment = match self.segments.get(hash) {
+            Some(segment) => Some(segment.listed()),
+            None => None,
+        };
+        Ok(Entry {
+            hash: *hash,
+            row,
+            segment,
+        })
+    }
+
+    pub fn list(&self) -> Result<Vec<Entry>, AllocError> {
+        let alloc = self.rows.allocator();
+        let mut hashes = SortedVec::new(alloc);
+        add_keys(&mut hashes, &self.rows)?;
+        add_keys(&mut hashes, &self.segments)?;
+        let mut entries = Vec::new(alloc);
+        for (hash, _) in hashes.entries.iter() {
+            entries.push(self.entry(hash)?)?;
+        }
+        Ok(entries)
+    }
+
     pub fn row_at(&self, hash: &ServiceHash) -> Option<&Row>
         ensures { MatchOption result (map.get self.now.rows hash.now ≡ None) (λ r. map.get self.now.rows hash.now ≡ Some r.now) }
     {
@@ -247,13 +306,22 @@ impl Services {
         phase_in(&self.phases, &(participant, *hash))
     }
 
-    pub fn open_refusal(&self, participant: Participant, hash: &ServiceHash, number: u64) -> Option<OpenSegmentError>
+    pub fn open_refusal(
+        &self,
+        participant: Participant,
+        hash: &ServiceHash,
+        number: u64,
+    ) -> Option<OpenSegmentError>
         ensures { result ≡ open_refusal number (map.get self.now.segments hash.now) self.now.counter (or_idle (map.get self.now.phases (participant, hash.now))) }
     {
         let Some(segment) = self.segments.get(hash) else {
             return Some(OpenSegmentError::DoesNotExist);
         };
-        segment.refusal(number, self.counter, phase_in(&self.phases, &(participant, *hash)))
+        segment.refusal(
+            number,
+            self.counter,
+            phase_in(&self.phases, &(participant, *hash)),
+        )
     }
 
     pub fn read(&mut self, participant: Participant, hash: &ServiceHash) -> Result<bool, AllocError>
@@ -333,7 +401,12 @@ impl Services {
         true
     }
 
-    pub fn make(&mut self, participant: Participant, hash: &ServiceHash, max_nodes: u64) -> Result<bool, AllocError>
+    pub fn make(
+        &mut self,
+        participant: Participant,
+        hash: &ServiceHash,
+        max_nodes: u64,
+    ) -> Result<bool, AllocError>
         ensures { Tries self.old participant hash.now (act.Make max_nodes) result self.new }
     {
         let place = (participant, *hash);
@@ -354,13 +427,27 @@ impl Services {
             return Err(AllocError);
         }
         participants.insert(participant, ());
-        self.segments.insert(*hash, StoredSegment { number, capacity: max_nodes, participants, marked: false });
+        self.segments.insert(
+            *hash,
+            StoredSegment {
+                number,
+                capacity: max_nodes,
+                participants,
+                marked: false,
+            },
+        );
         set_phase(&mut self.phases, place, Phase::Made(number));
         Ok(true)
     }
 
     /// Whether the participant made the segment of this number, and the description fits it.
-    pub fn may_publish(&self, participant: Participant, hash: &ServiceHash, number: u64, description: &StaticConfig) -> bool
+    pub fn may_publish(
+        &self,
+        participant: Participant,
+        hash: &ServiceHash,
+        number: u64,
+        description: &StaticConfig,
+    ) -> bool
         ensures { result ≡ (has_made number (or_idle (map.get self.now.phases (participant, hash.now))) && segment_fits hash.now (map.get self.now.segments hash.now) description.now) }
     {
         let Phase::Made(made) = phase_in(&self.phases, &(participant, *hash)) else {
@@ -375,7 +462,12 @@ impl Services {
         }
     }
 
-    pub fn publish(&mut self, participant: Participant, hash: &ServiceHash, description: &StaticConfig) -> Result<bool, AllocError>
+    pub fn publish(
+        &mut self,
+        participant: Participant,
+        hash: &ServiceHash,
+        description: &StaticConfig,
+    ) -> Result<bool, AllocError>
         ensures effect { Tries self.old participant hash.now (act.Publish description.now) result self.new }
         ensures limits { result ≡ Ok true → IsDescription description.now }
     {
@@ -395,7 +487,8 @@ impl Services {
         if self.rows.reserve().is_err() {
             return Err(AllocError);
         }
-        self.rows.insert(*hash, Row::Published(number, Bytes::from_vec(bytes)));
+        self.rows
+            .insert(*hash, Row::Published(number, Bytes::from_vec(bytes)));
         set_phase(&mut self.phases, place, Phase::Joined(number, 1));
         Ok(true)
     }

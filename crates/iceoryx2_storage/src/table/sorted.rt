@@ -64,6 +64,18 @@ impl<K: Ord + Copy, V> SortedVec<K, V> {
     }
 }
 
+// Puts the keys of the other map in, too.
+pub fn add_keys<K: Ord + Copy, V>(
+    keys: &mut SortedVec<K, ()>,
+    other: &SortedVec<K, V>,
+) -> Result<(), AllocError> {
+    for (key, _) in other.entries.iter() {
+        keys.reserve()?;
+        keys.insert(*key, ());
+    }
+    Ok(())
+}
+
 impl<K: Ord + Copy, V: Drop> SortedVec<K, V> {
     /// Sets the value of a key, where there is room for one more.
     pub fn insert(&mut self, key: K, value: V)

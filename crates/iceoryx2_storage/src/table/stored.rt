@@ -1,12 +1,14 @@
 //! What a table keeps, and the own part of each access of a node.
 
-ghost use Rattle.std.specs.Prelude.{◌≡◌, ◌&&◌, nat_lt};
+ghost use Rattle.std.specs.Prelude.{◌≡◌, ◌&&◌, nat_lt, filter, length};
+ghost use Rattle.iceoryx2_storage.specs.Listing.{held, is_held};
 ghost use Rattle.std.specs.FinMap as map;
 ghost use Rattle.std.specs.Ordering.{nat_cmp};
 ghost use Rattle.iceoryx2_storage.specs.Letter as letter;
 ghost use Rattle.iceoryx2_storage.specs.Letter.{fetched};
-ghost use Rattle.iceoryx2_storage.specs.Access.{IsOwnPart, has_lock, is_ticket};
+ghost use Rattle.iceoryx2_storage.specs.Access.{IsOwnPart, has_lock, is_ticket, tag_of};
 
+use super::listing::Entry;
 use super::services::Services;
 use super::sorted::SortedVec;
 use super::world::{Participant, Phase, Row, Ticket};
@@ -15,7 +17,7 @@ use crate::storage::{
     ReleaseError, RemoveError, Tag, TagError,
 };
 use iceoryx2_data::description::{ServiceHash, StaticConfig};
-use std::alloc::Global;
+use std::alloc::{AllocError, Global};
 use std::marker::Model;
 
 /// The services, the tags and the tickets.
@@ -41,8 +43,24 @@ impl Model for StoredWorld {
     ghost view = { λ t. world t.services (map.from_sorted {R = tag_cmp} t.tags.entries.items) (map.from_sorted {R = nat_cmp} t.tickets.entries.items) };
 }
 
+// How many of the tickets are this node's for this service.
+fn count_held(tickets: &[(u64, Ticket)], node: u64, hash: &ServiceHash) -> usize
+    ensures { result ≡ length (filter (is_held node hash.now) tickets.now) }
+{
+    tickets
+        .iter()
+        .filter(|entry| entry.1.node == node && entry.1.hash.cmp(hash).is_eq())
+        .count()
+}
+
 // It is this node's ticket for this service and number.
-fn is_held(tickets: &SortedVec<u64, Ticket>, ticket: u64, node: u64, hash: &ServiceHash, number: u64) -> bool
+fn is_held_as(
+    tickets: &SortedVec<u64, Ticket>,
+    ticket: u64,
+    node: u64,
+    hash: &ServiceHash,
+    number: u64,
+) -> bool
     ensures { result ≡ is_ticket node hash.now number (map.get (map.from_sorted {R = nat_cmp} tickets.now.entries.items) ticket) }
 {
     match tickets.get(&ticket) {
@@ -72,6 +90,31 @@ impl StoredWorld {
             tags: SortedVec::new(alloc),
             tickets: SortedVec::new(alloc),
         }
+    }
+
+    pub fn list(&self) -> Result<Vec<Entry>, AllocError> {
+        self.services.list()
+    }
+
+    pub fn has_tag(&self, node: u64, hash: &ServiceHash) -> bool
+        ensures { result ≡ tag_of self.now node hash.now }
+    {
+        match self.tags.get(&(node, *hash)) {
+            Some(_) => true,
+            None => false,
+        }
+    }
+
+    pub fn tickets(&self, node: u64, hash: &ServiceHash) -> u64
+        ensures { result ≡ held self.now.tickets node hash.now }
+    {
+        count_held(&self.tickets.entries, node, hash) as u64
+    }
+
+    pub fn counter(&self) -> u64
+        ensures { result ≡ self.now.counter }
+    {
+        self.services.counter()
     }
 
     pub fn exists(&self, hash: &ServiceHash) -> Existence
@@ -151,7 +194,13 @@ impl StoredWorld {
         Ok(number)
     }
 
-    pub fn make_segment(&mut self, node: u64, hash: &ServiceHash, number: u64, max_nodes: u64) -> Result<(), MakeSegmentError>
+    pub fn make_segment(
+        &mut self,
+        node: u64,
+        hash: &ServiceHash,
+        number: u64,
+        max_nodes: u64,
+    ) -> Result<(), MakeSegmentError>
         ensures { IsOwnPart self.old (letter.MakeSegment node hash.now number max_nodes result) self.new }
     {
         let participant = Participant::Node(node);
@@ -182,17 +231,29 @@ impl StoredWorld {
     pub fn remove_description(&mut self, node: u64, hash: &ServiceHash) -> Result<(), RemoveError>
         ensures { IsOwnPart self.old (letter.RemoveDescription node hash.now result) self.new }
     {
-        if self.services.remove_description(Participant::Node(node), hash) {
+        if self
+            .services
+            .remove_description(Participant::Node(node), hash)
+        {
             return Ok(());
         }
         Err(RemoveError::Other)
     }
 
-    pub fn publish(&mut self, node: u64, hash: &ServiceHash, number: u64, description: &StaticConfig) -> Result<u64, PublishError>
+    pub fn publish(
+        &mut self,
+        node: u64,
+        hash: &ServiceHash,
+        number: u64,
+        description: &StaticConfig,
+    ) -> Result<u64, PublishError>
         ensures { IsOwnPart self.old (letter.Publish node hash.now number description.now result) self.new }
     {
         let participant = Participant::Node(node);
-        if !self.services.may_publish(participant, hash, number, description) {
+        if !self
+            .services
+            .may_publish(participant, hash, number, description)
+        {
             return Err(PublishError::Other);
         }
         if self.tickets.reserve().is_err() {
@@ -204,11 +265,23 @@ impl StoredWorld {
         if !published {
             return Err(PublishError::Other);
         }
-        self.tickets.insert(number, Ticket { node, hash: *hash, number });
+        self.tickets.insert(
+            number,
+            Ticket {
+                node,
+                hash: *hash,
+                number,
+            },
+        );
         Ok(number)
     }
 
-    pub fn open_segment(&mut self, node: u64, hash: &ServiceHash, number: u64) -> Result<u64, OpenSegmentError>
+    pub fn open_segment(
+        &mut self,
+        node: u64,
+        hash: &ServiceHash,
+        number: u64,
+    ) -> Result<u64, OpenSegmentError>
         ensures { IsOwnPart self.old (letter.OpenSegment node hash.now number result) self.new }
     {
         let participant = Participant::Node(node);
@@ -226,14 +299,27 @@ impl StoredWorld {
             return Err(OpenSegmentError::Failed);
         }
         self.services.set_counter(ticket + 1);
-        self.tickets.insert(ticket, Ticket { node, hash: *hash, number });
+        self.tickets.insert(
+            ticket,
+            Ticket {
+                node,
+                hash: *hash,
+                number,
+            },
+        );
         Ok(ticket)
     }
 
-    pub fn release(&mut self, ticket: u64, node: u64, hash: &ServiceHash, number: u64) -> Result<Release, ReleaseError>
+    pub fn release(
+        &mut self,
+        ticket: u64,
+        node: u64,
+        hash: &ServiceHash,
+        number: u64,
+    ) -> Result<Release, ReleaseError>
         ensures { IsOwnPart self.old (letter.Release ticket node hash.now number result) self.new }
     {
-        if !is_held(&self.tickets, ticket, node, hash, number) {
+        if !is_held_as(&self.tickets, ticket, node, hash, number) {
             return Err(ReleaseError::NoSuchTicket);
         }
         let Some(release) = self.services.leave(Participant::Node(node), hash) else {

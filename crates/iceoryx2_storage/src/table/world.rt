@@ -54,6 +54,12 @@ impl Bytes {
         Bytes { bytes }
     }
 
+    pub fn as_slice(&self) -> &[u8]
+        ensures { result.now ≡ self.now }
+    {
+        &self.bytes
+    }
+
     /// A copy of them.
     pub fn copy(&self) -> Result<Vec<u8>, AllocError>
         ensures { IfOk result (λ copy. copy.items ≡ self.now) }

@@ -18,12 +18,12 @@ returns-then-is_err c =
     let left : nat_lt c.self.inside.counter last_number ≡ true = grind (arith, nat_tests, c.if-number-ge18446744073709551615.false) in
     let tried = lock_tried _ p h c.phase_in.result (sym c.phase_in.ensures) (sym c.begins.ensures ∙ c.if-not-begins.false) c.in_default.ensures left in
     starved p h act.Lock _ c.self.view_is tried refl
-        (λ i. record {
-          rows = c.reserve.ensures.same i;
-          segments = map.from_sorted {R = hash_cmp} c.self.inside.segments.entries.items;
-          phases = map.from_sorted {R = place_cmp} c.self.inside.phases.entries.items;
-          counter = c.self.inside.counter;
-        })
+    (λ i. record {
+      rows = c.reserve.ensures.same i;
+      segments = map.from_sorted {R = hash_cmp} c.self.inside.segments.entries.items;
+      phases = map.from_sorted {R = place_cmp} c.self.inside.phases.entries.items;
+      counter = c.self.inside.counter;
+    })
 
 pub returns-then-is_err-2 : goal.returns-then-is_err-2
 returns-then-is_err-2 c =
@@ -32,12 +32,12 @@ returns-then-is_err-2 c =
     let left : nat_lt c.self.inside.counter last_number ≡ true = grind (arith, nat_tests, c.if-number-ge18446744073709551615.false) in
     let tried = lock_tried _ p h c.phase_in.result (sym c.phase_in.ensures) (sym c.begins.ensures ∙ c.if-not-begins.false) c.in_default.ensures left in
     starved p h act.Lock _ c.self.view_is tried refl
-        (λ i. record {
-          rows = c.reserve.ensures.same i;
-          segments = map.from_sorted {R = hash_cmp} c.self.inside.segments.entries.items;
-          phases = c.reserve-2.ensures.same i;
-          counter = c.self.inside.counter;
-        })
+    (λ i. record {
+      rows = c.reserve.ensures.same i;
+      segments = map.from_sorted {R = hash_cmp} c.self.inside.segments.entries.items;
+      phases = c.reserve-2.ensures.same i;
+      counter = c.self.inside.counter;
+    })
 
 pub returns : goal.returns
 returns c =
@@ -47,9 +47,9 @@ returns c =
     let left : nat_lt c.self.inside.counter last_number ≡ true = grind (arith, nat_tests, c.if-number-ge18446744073709551615.false) in
     let tried = lock_tried _ p h c.phase_in.result (sym c.phase_in.ensures) (sym c.begins.ensures ∙ c.if-not-begins.false) c.in_default.ensures left in
     did p h act.Lock _ c.self.view_is tried
-        (λ i. record {
-          rows = (c.insert.ensures ∙ ap (λ m. map.insert m h (row.Locked n)) c.reserve.ensures.same) i;
-          segments = kept hash_total hash_exact (map.from_sorted {R = hash_cmp} c.self.inside.segments.entries.items) h i;
-          phases = (c.insert-2.ensures ∙ ap (λ m. map.insert m (p, h) (at.Locked n)) c.reserve-2.ensures.same) i;
-          counter = n + 1;
-        })
+    (λ i. record {
+      rows = (c.insert.ensures ∙ ap (λ m. map.insert m h (row.Locked n)) c.reserve.ensures.same) i;
+      segments = kept hash_total hash_exact (map.from_sorted {R = hash_cmp} c.self.inside.segments.entries.items) h i;
+      phases = (c.insert-2.ensures ∙ ap (λ m. map.insert m (p, h) (at.Locked n)) c.reserve-2.ensures.same) i;
+      counter = n + 1;
+    })

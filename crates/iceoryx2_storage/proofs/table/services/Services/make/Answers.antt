@@ -44,7 +44,7 @@ returns-then-is_err-2 c =
     let some : nat_lt 0 a ≡ true = grind (arith, nat_tests, c.if-max_nodes-eq0.false) in
     let tried = by_both _ p h (act.Make a) (at.Locked n) None phase none ∙ ap (λ (b : Bool). if b then now (at.Made n) (map.get rows h) (Some (made p n a)) c.self.inside.counter else None) some in
     starved p h (act.Make a) _ c.self.view_is tried refl
-        (λ i. record { rows = rows; segments = c.reserve-2.ensures.same i; phases = phases; counter = c.self.inside.counter })
+    (λ i. record { rows = rows; segments = c.reserve-2.ensures.same i; phases = phases; counter = c.self.inside.counter })
 
 pub returns : goal.returns
 returns c =
@@ -61,9 +61,9 @@ returns c =
     let tried = by_both _ p h (act.Make a) (at.Locked n) None phase none ∙ ap (λ (b : Bool). if b then now (at.Made n) (map.get rows h) (Some (made p n a)) c.self.inside.counter else None) some in
     let alone = c.insert.ensures ∙ ap (λ t. map.insert t p tt) (c.reserve.ensures.same ∙ c.new-participants.ensures) in
     did p h (act.Make a) (record { phase = at.Made n; row = _; segment = Some (made p n a); counter = _ }) c.self.view_is tried
-        (λ i. record {
-          rows = kept hash_total hash_exact rows h i;
-          segments = (c.insert-2.ensures ∙ ap (λ t. map.insert t h (record { number = n; capacity = a; participants = map.from_sorted {R = participant_cmp} c.insert.new.self.entries.items; marked = false })) c.reserve-2.ensures.same ∙ ap (λ (t : set.FinSet participant_cmp). map.insert m h (record { number = n; capacity = a; participants = t; marked = false })) alone) i;
-          phases = c.set_phase.ensures (there_by _ _ phase refl) i;
-          counter = c.self.inside.counter;
-        })
+    (λ i. record {
+      rows = kept hash_total hash_exact rows h i;
+      segments = (c.insert-2.ensures ∙ ap (λ t. map.insert t h (record { number = n; capacity = a; participants = map.from_sorted {R = participant_cmp} c.insert.new.self.entries.items; marked = false })) c.reserve-2.ensures.same ∙ ap (λ (t : set.FinSet participant_cmp). map.insert m h (record { number = n; capacity = a; participants = t; marked = false })) alone) i;
+      phases = c.set_phase.ensures (there_by _ _ phase refl) i;
+      counter = c.self.inside.counter;
+    })

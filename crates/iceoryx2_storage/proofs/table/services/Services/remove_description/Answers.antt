@@ -14,8 +14,8 @@ returns-then-not-may_remove_description c =
     let h = c.args.hash.now in
     let forbidden = subst (λ (b : Bool). TakesDescription c.phase_in.result b) c.if-not-may_remove_description.true c.may_remove_description.ensures.effect in
     refused p h act.RemoveDescription c.self.view_is
-        (by_phase _ p h act.RemoveDescription c.phase_in.result (sym c.phase_in.ensures) ∙ forbidden p h _ _ _)
-        (sym c.self.view_is)
+    (by_phase _ p h act.RemoveDescription c.phase_in.result (sym c.phase_in.ensures) ∙ forbidden p h _ _ _)
+    (sym c.self.view_is)
 
 pub returns : goal.returns
 returns c =
@@ -24,10 +24,10 @@ returns c =
     let allowed = subst (λ (b : Bool). TakesDescription c.phase_in.result b) c.if-not-may_remove_description.false c.may_remove_description.ensures.effect in
     let held = c.may_remove_description.ensures.held c.if-not-may_remove_description.false in
     did p h act.RemoveDescription (record { phase = at.Idle; row = None; segment = _; counter = _ }) c.self.view_is
-        (by_phase _ p h act.RemoveDescription c.phase_in.result (sym c.phase_in.ensures) ∙ allowed p h _ _ _)
-        (λ i. record {
-          rows = c.remove.ensures.items hash_exact i;
-          segments = kept hash_total hash_exact (map.from_sorted {R = hash_cmp} c.self.inside.segments.entries.items) h i;
-          phases = c.set_phase.ensures (there _ _ (sym c.phase_in.ensures) held) i;
-          counter = c.self.inside.counter;
-        })
+    (by_phase _ p h act.RemoveDescription c.phase_in.result (sym c.phase_in.ensures) ∙ allowed p h _ _ _)
+    (λ i. record {
+      rows = c.remove.ensures.items hash_exact i;
+      segments = kept hash_total hash_exact (map.from_sorted {R = hash_cmp} c.self.inside.segments.entries.items) h i;
+      phases = c.set_phase.ensures (there _ _ (sym c.phase_in.ensures) held) i;
+      counter = c.self.inside.counter;
+    })

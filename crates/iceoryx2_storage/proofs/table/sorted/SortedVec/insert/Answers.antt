@@ -12,7 +12,7 @@ returns-in-Ok g c =
     let it = c.in-Ok.ensures.found in
     let read : get_or c.args.self.now.entries.items c.in-Ok.at c.index_mut.result.now ≡ c.index_mut.result.now = search rules in
     ap (λ l. map.from_sorted {R = g.K.Ord.cmp} l) (ap (λ (e : g.row.K.Denot × g.row.V.Denot). set c.args.self.now.entries.items c.in-Ok.at (e.0, c.args.value)) (sym read)
-        ∙ sym (put_at g.K.Ord.cmp g.met.K.Ord.total c.args.key c.args.value c.args.self.now.entries.items (true_T c.args.self.now.sorted) c.in-Ok.at c.index_mut.result.now it.0 (it.1 c.index_mut.result.now)))
+    ∙ sym (put_at g.K.Ord.cmp g.met.K.Ord.total c.args.key c.args.value c.args.self.now.entries.items (true_T c.args.self.now.sorted) c.in-Ok.at c.index_mut.result.now it.0 (it.1 c.index_mut.result.now)))
     ∙ map_put g.K.Ord.cmp g.met.K.Ord.total c.args.self.now.entries.items c.args.self.now.sorted c.args.key c.args.value
 
 pub returns-in-Err : goal.returns-in-Err
@@ -27,7 +27,7 @@ invariant_of-self g c =
     let it = c.in-Ok.ensures.found in
     let read : get_or c.args.self.now.entries.items c.in-Ok.at c.index_mut.result.now ≡ c.index_mut.result.now = search rules in
     let same = ap (λ (e : g.row.K.Denot × g.row.V.Denot). set c.args.self.now.entries.items c.in-Ok.at (e.0, c.args.value)) (sym read)
-        ∙ sym (put_at g.K.Ord.cmp g.met.K.Ord.total c.args.key c.args.value c.args.self.now.entries.items (true_T c.args.self.now.sorted) c.in-Ok.at c.index_mut.result.now it.0 (it.1 c.index_mut.result.now)) in
+    ∙ sym (put_at g.K.Ord.cmp g.met.K.Ord.total c.args.key c.args.value c.args.self.now.entries.items (true_T c.args.self.now.sorted) c.in-Ok.at c.index_mut.result.now it.0 (it.1 c.index_mut.result.now)) in
     record { sorted = T_true _ (subst (λ (l : List (g.row.K.Denot × g.row.V.Denot)). T (is_sorted g.K.Ord.cmp l)) (sym same) (is_sorted-put g.K.Ord.cmp g.met.K.Ord.total c.args.key c.args.value c.args.self.now.entries.items (true_T c.args.self.now.sorted))) }
 
 pub invariant_of-self-in-Err : goal.invariant_of-self-in-Err

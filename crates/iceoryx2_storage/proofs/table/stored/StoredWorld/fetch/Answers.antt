@@ -19,8 +19,8 @@ returns-in_default c =
     let h = c.args.hash.now in
     let b : Book = c.self.inside.services in
     part (letter.Fetch i h (Err Fetching.DoesNotExist)) nothing c.self.view_is
-        (gives_refusal _ _ _ (ap (fetch_of i h (spot_at b i h)) c.in_default.ensures))
-        (sym c.self.view_is)
+    (gives_refusal _ _ _ (ap (fetch_of i h (spot_at b i h)) c.in_default.ensures))
+    (sym c.self.view_is)
 
 pub returns-in_default-row : goal.returns-in_default-row
 returns-in_default-row c =
@@ -28,8 +28,8 @@ returns-in_default-row c =
     let h = c.args.hash.now in
     let b : Book = c.self.inside.services in
     part (letter.Fetch i h (Err Fetching.NotFinalized)) nothing c.self.view_is
-        (gives_refusal _ _ _ (ap (fetch_of i h (spot_at b i h)) (c.in-Some.ensures ∙ ap Some c.in_default-row.is)))
-        (sym c.self.view_is)
+    (gives_refusal _ _ _ (ap (fetch_of i h (spot_at b i h)) (c.in-Some.ensures ∙ ap Some c.in_default-row.is)))
+    (sym c.self.view_is)
 
 pub returns-in_default-copy : goal.returns-in_default-copy
 returns-in_default-copy c =
@@ -37,8 +37,8 @@ returns-in_default-copy c =
     let h = c.args.hash.now in
     let b : Book = c.self.inside.services in
     part (letter.Fetch i h (Err Fetching.OutOfMemory)) nothing c.self.view_is
-        (gives_starved _ _ _ (ap (fetch_of i h (spot_at b i h)) (c.in-Some.ensures ∙ ap Some c.in-Published.is)))
-        (sym c.self.view_is)
+    (gives_starved _ _ _ (ap (fetch_of i h (spot_at b i h)) (c.in-Some.ensures ∙ ap Some c.in-Published.is)))
+    (sym c.self.view_is)
 
 pub returns-in_default-read : goal.returns-in_default-read
 returns-in_default-read c =
@@ -48,8 +48,8 @@ returns-in_default-read c =
     let t : set.FinSet tag_cmp = map.from_sorted c.self.inside.tags.entries.items in
     let k : Tickets = map.from_sorted c.self.inside.tickets.entries.items in
     part (letter.Fetch i h (Err Fetching.OutOfMemory)) nothing c.self.view_is
-        (gives_starved _ _ _ (ap (fetch_of i h (spot_at b i h)) (c.in-Some.ensures ∙ ap Some c.in-Published.is)))
-        (ap (λ x. world x t k) c.in_default-read.ensures.3)
+    (gives_starved _ _ _ (ap (fetch_of i h (spot_at b i h)) (c.in-Some.ensures ∙ ap Some c.in-Published.is)))
+    (ap (λ x. world x t k) c.in_default-read.ensures.3)
 
 pub returns : goal.returns
 returns c =
@@ -57,5 +57,5 @@ returns c =
     let h = c.args.hash.now in
     let b : Book = c.self.inside.services in
     part (letter.Fetch i h (Ok (c.in-Published.number, c.in-Ok.copy.items))) (read (tries b (Node i) h act.Read)) c.self.view_is
-        (gives_done _ _ _ _ (ap (fetch_of i h (spot_at b i h)) (c.in-Some.ensures ∙ ap Some (c.in-Published.is ∙ ap (row.Published c.in-Published.number) (sym c.in-Ok.ensures)))))
-        (read_or_not i h b _ _ _ _ c.in-Ok-read.ensures)
+    (gives_done _ _ _ _ (ap (fetch_of i h (spot_at b i h)) (c.in-Some.ensures ∙ ap Some (c.in-Published.is ∙ ap (row.Published c.in-Published.number) (sym c.in-Ok.ensures)))))
+    (read_or_not i h b _ _ _ _ c.in-Ok-read.ensures)

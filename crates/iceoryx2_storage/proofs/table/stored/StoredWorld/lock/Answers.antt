@@ -17,16 +17,16 @@ returns-in-Some-Locked c =
     let i = c.args.node in
     let h = c.args.hash.now in
     part (letter.Lock i h (Err Locking.Creation)) nothing c.self.view_is
-        (gives_refusal _ _ _ (ap (lock_of i h (spot_at c.self.inside.services i h)) (c.in-Some-Locked.ensures ∙ ap Some c.in-Some-Locked.field-0-is)))
-        (sym c.self.view_is)
+    (gives_refusal _ _ _ (ap (lock_of i h (spot_at c.self.inside.services i h)) (c.in-Some-Locked.ensures ∙ ap Some c.in-Some-Locked.field-0-is)))
+    (sym c.self.view_is)
 
 pub returns-in-Some-Published : goal.returns-in-Some-Published
 returns-in-Some-Published c =
     let i = c.args.node in
     let h = c.args.hash.now in
     part (letter.Lock i h (Err Locking.AlreadyExists)) nothing c.self.view_is
-        (gives_refusal _ _ _ (ap (lock_of i h (spot_at c.self.inside.services i h)) (c.in-Some-Published.ensures ∙ ap Some c.in-Some-Published.field-0-is)))
-        (sym c.self.view_is)
+    (gives_refusal _ _ _ (ap (lock_of i h (spot_at c.self.inside.services i h)) (c.in-Some-Published.ensures ∙ ap Some c.in-Some-Published.field-0-is)))
+    (sym c.self.view_is)
 
 pub returns-in_default : goal.returns-in_default
 returns-in_default c =
@@ -37,8 +37,8 @@ returns-in_default c =
     let t : set.FinSet tag_cmp = map.from_sorted c.self.inside.tags.entries.items in
     let k : Tickets = map.from_sorted c.self.inside.tickets.entries.items in
     part (letter.Lock i h (Err Locking.OutOfMemory)) nothing c.self.view_is
-        (gives_starved _ _ _ (ap (lock_of i h (spot_at b i h)) c.in-None.ensures ∙ ap (stepped Locking.Other b.counter) starved.1))
-        (ap (λ x. world x t k) starved.3)
+    (gives_starved _ _ _ (ap (lock_of i h (spot_at b i h)) c.in-None.ensures ∙ ap (stepped Locking.Other b.counter) starved.1))
+    (ap (λ x. world x t k) starved.3)
 
 pub returns-then-not-locked : goal.returns-then-not-locked
 returns-then-not-locked c =
@@ -49,8 +49,8 @@ returns-then-not-locked c =
     let t : set.FinSet tag_cmp = map.from_sorted c.self.inside.tags.entries.items in
     let k : Tickets = map.from_sorted c.self.inside.tickets.entries.items in
     part (letter.Lock i h (Err Locking.Other)) nothing c.self.view_is
-        (gives_refusal _ _ _ (ap (lock_of i h (spot_at b i h)) c.in-None.ensures ∙ ap (stepped Locking.Other b.counter) forbidden.0))
-        (ap (λ x. world x t k) forbidden.1)
+    (gives_refusal _ _ _ (ap (lock_of i h (spot_at b i h)) c.in-None.ensures ∙ ap (stepped Locking.Other b.counter) forbidden.0))
+    (ap (λ x. world x t k) forbidden.1)
 
 pub returns : goal.returns
 returns c =
@@ -61,5 +61,5 @@ returns c =
     let t : set.FinSet tag_cmp = map.from_sorted c.self.inside.tags.entries.items in
     let k : Tickets = map.from_sorted c.self.inside.tickets.entries.items in
     part (letter.Lock i h (Ok c.counter-number.result)) (moves done.0) c.self.view_is
-        (gives_done _ _ _ _ (ap (lock_of i h (spot_at b i h)) c.in-None.ensures ∙ ap (stepped Locking.Other b.counter) done.1 ∙ ap (λ n. Ok (n, moves done.0)) (sym c.counter-number.ensures)))
-        (ap (λ x. world x t k) done.2)
+    (gives_done _ _ _ _ (ap (lock_of i h (spot_at b i h)) c.in-None.ensures ∙ ap (stepped Locking.Other b.counter) done.1 ∙ ap (λ n. Ok (n, moves done.0)) (sym c.counter-number.ensures)))
+    (ap (λ x. world x t k) done.2)

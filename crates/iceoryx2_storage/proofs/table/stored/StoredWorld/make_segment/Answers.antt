@@ -22,8 +22,8 @@ returns-then-not-may_make c =
     let b : Book = c.self.inside.services in
     let may_not = ap (λ (f : Phase). has_lock n f && nat_lt 0 m) (sym c.phase_at.ensures) ∙ sym c.may_make.ensures ∙ c.if-not-may_make.true in
     part (letter.MakeSegment i h n m (Err Making.Other)) nothing c.self.view_is
-        (gives_refusal _ _ _ (ap (λ (x : Bool). if x then make_of i h m (spot_at b i h) (map.get b.segments h) else Err Making.Other) may_not))
-        (sym c.self.view_is)
+    (gives_refusal _ _ _ (ap (λ (x : Bool). if x then make_of i h m (spot_at b i h) (map.get b.segments h) else Err Making.Other) may_not))
+    (sym c.self.view_is)
 
 pub returns-then-has_segment : goal.returns-then-has_segment
 returns-then-has_segment c =
@@ -35,8 +35,8 @@ returns-then-has_segment c =
     let may = ap (λ (f : Phase). has_lock n f && nat_lt 0 m) (sym c.phase_at.ensures) ∙ sym c.may_make.ensures ∙ c.if-not-may_make.false in
     let there = some_of _ (sym c.has_segment.ensures ∙ c.if-has_segment.true) in
     part (letter.MakeSegment i h n m (Err Making.AlreadyExists)) nothing c.self.view_is
-        (gives_refusal _ _ _ (ap (λ (x : Bool). if x then make_of i h m (spot_at b i h) (map.get b.segments h) else Err Making.Other) may ∙ ap (make_of i h m (spot_at b i h)) there.is))
-        (sym c.self.view_is)
+    (gives_refusal _ _ _ (ap (λ (x : Bool). if x then make_of i h m (spot_at b i h) (map.get b.segments h) else Err Making.Other) may ∙ ap (make_of i h m (spot_at b i h)) there.is))
+    (sym c.self.view_is)
 
 pub returns-in_default : goal.returns-in_default
 returns-in_default c =
@@ -51,8 +51,8 @@ returns-in_default c =
     let t : set.FinSet tag_cmp = map.from_sorted c.self.inside.tags.entries.items in
     let k : Tickets = map.from_sorted c.self.inside.tickets.entries.items in
     part (letter.MakeSegment i h n m (Err Making.OutOfMemory)) nothing c.self.view_is
-        (gives_starved _ _ _ (ap (λ (x : Bool). if x then make_of i h m (spot_at b i h) (map.get b.segments h) else Err Making.Other) may ∙ ap (make_of i h m (spot_at b i h)) none ∙ ap (stepped Making.Other tt) starved.1))
-        (ap (λ x. world x t k) starved.3)
+    (gives_starved _ _ _ (ap (λ (x : Bool). if x then make_of i h m (spot_at b i h) (map.get b.segments h) else Err Making.Other) may ∙ ap (make_of i h m (spot_at b i h)) none ∙ ap (stepped Making.Other tt) starved.1))
+    (ap (λ x. world x t k) starved.3)
 
 pub returns : goal.returns
 returns c =
@@ -67,5 +67,5 @@ returns c =
     let t : set.FinSet tag_cmp = map.from_sorted c.self.inside.tags.entries.items in
     let k : Tickets = map.from_sorted c.self.inside.tickets.entries.items in
     part (letter.MakeSegment i h n m (Ok tt)) (moves done.0) c.self.view_is
-        (gives_done _ _ _ _ (ap (λ (x : Bool). if x then make_of i h m (spot_at b i h) (map.get b.segments h) else Err Making.Other) may ∙ ap (make_of i h m (spot_at b i h)) none ∙ ap (stepped Making.Other tt) done.1))
-        (ap (λ x. world x t k) done.2)
+    (gives_done _ _ _ _ (ap (λ (x : Bool). if x then make_of i h m (spot_at b i h) (map.get b.segments h) else Err Making.Other) may ∙ ap (make_of i h m (spot_at b i h)) none ∙ ap (stepped Making.Other tt) done.1))
+    (ap (λ x. world x t k) done.2)

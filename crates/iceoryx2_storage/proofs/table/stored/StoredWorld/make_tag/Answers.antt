@@ -14,8 +14,8 @@ returns-in-Some c =
     let i = c.args.node in
     let h = c.args.hash.now in
     part (letter.MakeTag i h (Ok Found)) nothing c.self.view_is
-        (subst (λ (b : Bool). MakesTag i h b (Ok Found) nothing) (sym (ap is_some c.in-Some.ensures)) (refl, refl))
-        (sym c.self.view_is)
+    (subst (λ (b : Bool). MakesTag i h b (Ok Found) nothing) (sym (ap is_some c.in-Some.ensures)) (refl, refl))
+    (sym c.self.view_is)
 
 pub returns-then-is_err : goal.returns-then-is_err
 returns-then-is_err c =
@@ -23,8 +23,8 @@ returns-then-is_err c =
     let h = c.args.hash.now in
     let k : Tickets = map.from_sorted c.self.inside.tickets.entries.items in
     part (letter.MakeTag i h (Err Tagging.OutOfMemory)) nothing c.self.view_is
-        (subst (λ (b : Bool). MakesTag i h b (Err Tagging.OutOfMemory) nothing) (sym (ap is_some c.in_default.ensures)) (inr (refl, refl)))
-        (ap (λ x. world c.self.inside.services x k) c.reserve.ensures.same)
+    (subst (λ (b : Bool). MakesTag i h b (Err Tagging.OutOfMemory) nothing) (sym (ap is_some c.in_default.ensures)) (inr (refl, refl)))
+    (ap (λ x. world c.self.inside.services x k) c.reserve.ensures.same)
 
 pub returns : goal.returns
 returns c =
@@ -32,5 +32,5 @@ returns c =
     let h = c.args.hash.now in
     let k : Tickets = map.from_sorted c.self.inside.tickets.entries.items in
     part (letter.MakeTag i h (Ok Made)) (tags true) c.self.view_is
-        (subst (λ (b : Bool). MakesTag i h b (Ok Made) (tags true)) (sym (ap is_some c.in_default.ensures)) (inl (refl, refl)))
-        (ap (λ x. world c.self.inside.services x k) (c.insert.ensures ∙ ap (λ m. map.insert m (i, h) tt) c.reserve.ensures.same))
+    (subst (λ (b : Bool). MakesTag i h b (Ok Made) (tags true)) (sym (ap is_some c.in_default.ensures)) (inl (refl, refl)))
+    (ap (λ x. world c.self.inside.services x k) (c.insert.ensures ∙ ap (λ m. map.insert m (i, h) tt) c.reserve.ensures.same))

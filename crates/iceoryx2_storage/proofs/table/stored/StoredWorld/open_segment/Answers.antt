@@ -25,8 +25,8 @@ returns-in-Some c =
     let t : set.FinSet tag_cmp = map.from_sorted c.self.inside.tags.entries.items in
     let k : Tickets = map.from_sorted c.self.inside.tickets.entries.items in
     part (letter.OpenSegment i h n (Err c.in-Some.refusal)) nothing c.self.view_is
-        (gives_refusal _ _ _ (ap (λ (r : Option OpenSegmentError). opened i h n (seat (world b t k) i h) r (tries b (Node i) h act.Join)) (sym c.open_refusal.ensures ∙ c.in-Some.is)))
-        (sym c.self.view_is)
+    (gives_refusal _ _ _ (ap (λ (r : Option OpenSegmentError). opened i h n (seat (world b t k) i h) r (tries b (Node i) h act.Join)) (sym c.open_refusal.ensures ∙ c.in-Some.is)))
+    (sym c.self.view_is)
 
 pub returns-then-is_err : goal.returns-then-is_err
 returns-then-is_err c =
@@ -39,8 +39,8 @@ returns-then-is_err c =
     let t : set.FinSet tag_cmp = map.from_sorted c.self.inside.tags.entries.items in
     let k : Tickets = map.from_sorted c.self.inside.tickets.entries.items in
     part (letter.OpenSegment i h n (Err Opening.OutOfMemory)) nothing c.self.view_is
-        (gives_starved _ _ _ (opens_by i h n (seat (world b t k) i h) _ _ _ none may.1))
-        (ap (λ x. world b t x) c.reserve.ensures.same)
+    (gives_starved _ _ _ (opens_by i h n (seat (world b t k) i h) _ _ _ none may.1))
+    (ap (λ x. world b t x) c.reserve.ensures.same)
 
 pub returns-in_default-join : goal.returns-in_default-join
 returns-in_default-join c =
@@ -53,8 +53,8 @@ returns-in_default-join c =
     let t : set.FinSet tag_cmp = map.from_sorted c.self.inside.tags.entries.items in
     let k : Tickets = map.from_sorted c.self.inside.tickets.entries.items in
     part (letter.OpenSegment i h n (Err Opening.OutOfMemory)) nothing c.self.view_is
-        (gives_starved _ _ _ (opens_by i h n (seat (world b t k) i h) _ _ _ none starved.1))
-        (λ j. world (starved.3 j) t (c.reserve.ensures.same j))
+    (gives_starved _ _ _ (opens_by i h n (seat (world b t k) i h) _ _ _ none starved.1))
+    (λ j. world (starved.3 j) t (c.reserve.ensures.same j))
 
 pub returns : goal.returns
 returns c =
@@ -70,5 +70,5 @@ returns c =
     let s : Spot = done.0 in
     let t : set.FinSet tag_cmp = map.from_sorted c.self.inside.tags.entries.items in
     part (letter.OpenSegment i h n (Ok u)) (moves_with (record s { counter = u + 1 }) (with_ticket i h k u n)) c.self.view_is
-        (gives_done _ _ _ _ (opens_by i h n (seat (world b t k) i h) _ _ _ none done.1 ∙ ap (λ v. Ok (v, moves_with (record s { counter = v + 1 }) (with_ticket i h k v n))) (sym c.counter-ticket.ensures)))
-        (λ j. world ((c.set_counter.ensures ∙ ap (λ (y : Book). record y { counter = u + 1 }) done.2) j) t ((c.insert.ensures ∙ ap (λ m. map.insert m u held) c.reserve.ensures.same) j))
+    (gives_done _ _ _ _ (opens_by i h n (seat (world b t k) i h) _ _ _ none done.1 ∙ ap (λ v. Ok (v, moves_with (record s { counter = v + 1 }) (with_ticket i h k v n))) (sym c.counter-ticket.ensures)))
+    (λ j. world ((c.set_counter.ensures ∙ ap (λ (y : Book). record y { counter = u + 1 }) done.2) j) t ((c.insert.ensures ∙ ap (λ m. map.insert m u held) c.reserve.ensures.same) j))

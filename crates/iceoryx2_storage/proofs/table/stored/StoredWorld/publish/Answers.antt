@@ -20,8 +20,8 @@ returns-then-not-may_publish c =
     let n = c.args.number in
     let d = c.args.description.now in
     part (letter.Publish i h n d (Err Publishing.Other)) nothing c.self.view_is
-        (tt, gives_refusal _ _ _ (no_publish i h n d _ _ _ _ _ (sym c.may_publish.ensures ∙ c.if-not-may_publish.true)))
-        (sym c.self.view_is)
+    (tt, gives_refusal _ _ _ (no_publish i h n d _ _ _ _ _ (sym c.may_publish.ensures ∙ c.if-not-may_publish.true)))
+    (sym c.self.view_is)
 
 pub returns-then-is_err : goal.returns-then-is_err
 returns-then-is_err c =
@@ -34,8 +34,8 @@ returns-then-is_err c =
     let may = may_publish i h n d k (map.get b.rows h) b.counter _ _ (sym c.may_publish.ensures ∙ c.if-not-may_publish.false) in
     let t : set.FinSet tag_cmp = map.from_sorted c.self.inside.tags.entries.items in
     part (letter.Publish i h n d (Err Publishing.OutOfMemory)) nothing c.self.view_is
-        (tt, gives_starved _ _ _ (publishes_by i h n d k _ _ _ _ _ may.0 may.1.is))
-        (ap (λ x. world b t x) c.reserve.ensures.same)
+    (tt, gives_starved _ _ _ (publishes_by i h n d k _ _ _ _ _ may.0 may.1.is))
+    (ap (λ x. world b t x) c.reserve.ensures.same)
 
 pub returns-in_default : goal.returns-in_default
 returns-in_default c =
@@ -49,8 +49,8 @@ returns-in_default c =
     let starved = c.in_default.ensures.effect in
     let t : set.FinSet tag_cmp = map.from_sorted c.self.inside.tags.entries.items in
     part (letter.Publish i h n d (Err Publishing.OutOfMemory)) nothing c.self.view_is
-        (tt, gives_starved _ _ _ (publishes_by i h n d k _ _ _ _ _ may.0 starved.1))
-        (λ j. world (starved.3 j) t (c.reserve.ensures.same j))
+    (tt, gives_starved _ _ _ (publishes_by i h n d k _ _ _ _ _ may.0 starved.1))
+    (λ j. world (starved.3 j) t (c.reserve.ensures.same j))
 
 pub returns : goal.returns
 returns c =
@@ -65,5 +65,5 @@ returns c =
     let done = subst (λ (x : Bool). Tries b (Node i) h (act.Publish d) (Ok x) c.publish.new.self) c.if-not-published.false c.in-Ok.ensures.effect in
     let t : set.FinSet tag_cmp = map.from_sorted c.self.inside.tags.entries.items in
     part (letter.Publish i h n d (Ok n)) (moves_with done.0 (with_ticket i h k n n)) c.self.view_is
-        (c.in-Ok.ensures.limits (ap Ok c.if-not-published.false), gives_done _ _ _ _ (publishes_by i h n d k _ _ _ _ _ may.0 done.1))
-        (λ j. world (done.2 j) t ((c.insert.ensures ∙ ap (λ m. map.insert m n held) c.reserve.ensures.same) j))
+    (c.in-Ok.ensures.limits (ap Ok c.if-not-published.false), gives_done _ _ _ _ (publishes_by i h n d k _ _ _ _ _ may.0 done.1))
+    (λ j. world (done.2 j) t ((c.insert.ensures ∙ ap (λ m. map.insert m n held) c.reserve.ensures.same) j))

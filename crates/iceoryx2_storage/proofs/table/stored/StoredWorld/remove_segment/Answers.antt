@@ -21,8 +21,8 @@ returns-then-remove_segment c =
     let t : set.FinSet tag_cmp = map.from_sorted c.self.inside.tags.entries.items in
     let k : Tickets = map.from_sorted c.self.inside.tickets.entries.items in
     part (letter.RemoveSegment i h (Ok tt)) (moves done.0) c.self.view_is
-        (simply_done _ _ _ (ap (stepped Removing.Other tt) done.1))
-        (ap (λ x. world x t k) done.2)
+    (simply_done _ _ _ (ap (stepped Removing.Other tt) done.1))
+    (ap (λ x. world x t k) done.2)
 
 pub returns : goal.returns
 returns c =
@@ -33,5 +33,5 @@ returns c =
     let t : set.FinSet tag_cmp = map.from_sorted c.self.inside.tags.entries.items in
     let k : Tickets = map.from_sorted c.self.inside.tickets.entries.items in
     part (letter.RemoveSegment i h (Err Removing.Other)) nothing c.self.view_is
-        (simply_refusal _ _ (ap (stepped Removing.Other tt) forbidden.0))
-        (ap (λ x. world x t k) forbidden.1)
+    (simply_refusal _ _ (ap (stepped Removing.Other tt) forbidden.0))
+    (ap (λ x. world x t k) forbidden.1)
