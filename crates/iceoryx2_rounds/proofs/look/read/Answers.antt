@@ -10,10 +10,10 @@ pub returns-in-Err-OutOfMemory : goal.returns-in-Err-OutOfMemory
 returns-in-Err-OutOfMemory g c = rw c.fault-in-Err-OutOfMemory.ensures not_decoded
 
 pub returns-then-ne : goal.returns-then-ne
-returns-then-ne g c = rw c.fault-then-ne.ensures (other_hash c.in-Ok.ensures.found (rw c.service_hash.ensures at (other_hashes c.service_hash.result.now c.args.hash.now c.ne.result c.ne.ensures c.if-ne.true)))
+returns-then-ne g c = rw c.fault-then-ne.ensures (other_hash c.in-Ok.ensures.found (rw c.service_hash.ensures.value at (other_hashes c.service_hash.result.now c.args.hash.now c.ne.result c.ne.ensures c.if-ne.true)))
 
 pub returns-in-Some : goal.returns-in-Some
-returns-in-Some g c = misfit c.in-Ok.ensures.found (rw c.service_hash.ensures at (same_hashes c.service_hash.result.now c.args.hash.now c.ne.result c.ne.ensures c.if-ne.false)) (sym c.in-Some.ensures)
+returns-in-Some g c = misfit c.in-Ok.ensures.found (rw c.service_hash.ensures.value at (same_hashes c.service_hash.result.now c.args.hash.now c.ne.result c.ne.ensures c.if-ne.false)) (sym c.in-Some.ensures)
 
 pub returns-in-None : goal.returns-in-None
-returns-in-None g c = fits c.in-Ok.ensures.found (rw c.service_hash.ensures at (same_hashes c.service_hash.result.now c.args.hash.now c.ne.result c.ne.ensures c.if-ne.false)) (sym c.in-None.ensures)
+returns-in-None g c = fits c.in-Ok.ensures.found (rw c.service_hash.ensures.value at (same_hashes c.service_hash.result.now c.args.hash.now c.ne.result c.ne.ensures c.if-ne.false)) (sym c.in-None.ensures)
