@@ -1,3 +1,5 @@
 pub mod Verdicts
 pub mod LookSteps
 pub mod OpenSteps
+pub mod Counts
+pub mod Held

@@ -11,3 +11,5 @@ pub mod Closes
 pub mod Answers
 pub mod Texts
 pub mod States
+pub mod Counts
+pub mod Holds

@@ -4,6 +4,7 @@
 pub mod create;
 pub mod error;
 mod give_back;
+pub mod laws;
 pub mod look;
 pub mod open;
 pub mod pattern;
