@@ -5,4 +5,9 @@ pub mod Lift
 pub mod Counts
 pub mod Create
 pub mod There
+pub mod Leave
+pub mod Close
+pub mod Tickets
+pub mod Open
+pub mod Opened
 pub mod Calls

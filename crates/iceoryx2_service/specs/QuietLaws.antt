@@ -1,14 +1,15 @@
 -- What is told of the calls over a world that shows the quiet machine.
-use Rattle.std.specs.Prelude.{◌≡◌, ℕ, false, Result, Ok, Err, None}
+use Rattle.std.specs.Prelude.{◌≡◌, ◌≢◌, ℕ, false, Result, Ok, Err, Some, None, IfOk}
 use Rattle.std.specs.FinMap as map
 use Rattle.iceoryx2_data.specs.declared.description.ServiceHash.{ServiceHash}
 use Rattle.iceoryx2_storage.specs.declared.table.world.Participant.TheVariants.{Node}
 use Rattle.iceoryx2_storage.specs.World.{World, row_of, segment_of, phase_of}
 use Rattle.iceoryx2_storage.specs.Access.{Tickets, tag_of}
 use Rattle.iceoryx2_storage.specs.Across.{Agrees, join_count}
-use Rattle.iceoryx2_storage.specs.Standing.{Factory, ticket_for}
+use Rattle.iceoryx2_storage.specs.Standing.{Factory, Stands, ticket_for}
 use Rattle.iceoryx2_rounds.specs.Registered.{Registered}
-use Rattle.iceoryx2_service.specs.Quiet.{Quiet, Shows}
+use Rattle.iceoryx2_service.specs.Quiet.{Quiet, Service, Shows, service_of, count_of}
+use Rattle.iceoryx2_service.specs.QuietCalls.{Closes}
 
 -- the factory of a registration
 abbrev pub factory_of : Registered → Factory
@@ -19,13 +20,35 @@ abbrev pub tickets_after : {E : Type 0} → Tickets → Result Registered E → 
 tickets_after k (Ok r) = map.insert k r.ticket (ticket_for (factory_of r))
 tickets_after k (Err e) = k
 
--- The machine has made such a call: the world shows its new state and agrees, and these tickets are held in it.
-pub record Follows (Calls : Quiet → Type 0) (held : Tickets) (v : World) : Type 0 where
+-- After a create or an open from w to v, which is one of these calls of the machine.
+pub record IsCall {E : Type 0} (w : World) (Calls : Quiet → Type 0) (answer : Result Registered E) (v : World) : Type 0 where
   pub state : Quiet
   pub call : Calls state
   pub shows : Shows v state
   pub agrees : Agrees v
-  pub tickets : v.tickets ≡ held
+  pub tickets : v.tickets ≡ tickets_after w.tickets answer
+  -- the factory that it gave stands, and its ticket is a new one
+  pub given : IfOk answer (λ r. Stands v (factory_of r) × (r.ticket ≡ w.counter))
+  -- what stood before stands
+  pub kept : (f : Factory) → Stands w f → Stands v f
+
+-- After the close of a factory from w to v, where w shows q.
+pub record IsClose (w : World) (q : Quiet) (r : Registered) (v : World) : Type 0 where
+  pub state : Quiet
+  pub call : Closes q r.node r.description.hash state
+  pub shows : Shows v state
+  pub agrees : Agrees v
+  pub tickets : v.tickets ≡ map.remove w.tickets r.ticket
+  -- what stood before stands, but for this factory
+  pub kept : (f : Factory) → f.ticket ≢ r.ticket → Stands w f → Stands v f
+
+-- The node has opened the service of this hash and number.
+pub record HasOpened (q : Quiet) (i : ℕ) (h : ServiceHash) (n : ℕ) : Type 0 where
+  pub service : Service
+  pub there : service_of q h ≡ Some service
+  pub number : service.number ≡ n
+  pub count : ℕ
+  pub counted : count_of service i ≡ Some count
 
 -- Both worlds have the same descriptions, segments, tags and counts.
 pub record HoldsTheSame (w v : World) : Type 0 where
