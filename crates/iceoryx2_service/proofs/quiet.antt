@@ -11,3 +11,6 @@ pub mod Tickets
 pub mod Open
 pub mod Opened
 pub mod Calls
+pub mod Same
+pub mod After
+pub mod Listing

@@ -1,5 +1,5 @@
 -- What is told of the calls over a world that shows the quiet machine.
-use Rattle.std.specs.Prelude.{◌≡◌, ◌≢◌, ℕ, false, Result, Ok, Err, Some, None, IfOk}
+use Rattle.std.specs.Prelude.{◌≡◌, ◌≢◌, ℕ, false, Option, Some, None, Result, Ok, Err, IfOk, unwrap_or}
 use Rattle.std.specs.FinMap as map
 use Rattle.iceoryx2_data.specs.declared.description.ServiceHash.{ServiceHash}
 use Rattle.iceoryx2_storage.specs.declared.table.world.Participant.TheVariants.{Node}
@@ -49,6 +49,14 @@ pub record HasOpened (q : Quiet) (i : ℕ) (h : ServiceHash) (n : ℕ) : Type 0 
   pub number : service.number ≡ n
   pub count : ℕ
   pub counted : count_of service i ≡ Some count
+
+-- how often a node has opened the service under a hash
+abbrev pub times_at : Option Service → ℕ → ℕ
+times_at None i = 0
+times_at (Some x) i = unwrap_or (count_of x i) 0
+
+abbrev pub times_opened : Quiet → ℕ → ServiceHash → ℕ
+times_opened q i h = times_at (service_of q h) i
 
 -- Both worlds have the same descriptions, segments, tags and counts.
 pub record HoldsTheSame (w v : World) : Type 0 where

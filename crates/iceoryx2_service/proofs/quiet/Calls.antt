@@ -71,7 +71,7 @@ is_call {E = E} {w = w} {v = v} (Ok r) made gives run old =
       kept = kept_by_call {E = E} w v (Ok r) old kept.0 kept.1 made.tickets (λ x is. let same : r ≡ x = cc in ap (λ (z : Registered). z.ticket) (sym same) ∙ gives.ticket);
     }
 
-with_service_has : (q : Quiet) (h : ServiceHash) (x : Service) → service_of (spend (with_service q h (Some x))) h ≡ Some x
+pub with_service_has : (q : Quiet) (h : ServiceHash) (x : Service) → service_of (spend (with_service q h (Some x))) h ≡ Some x
 with_service_has q h x = map.get-insert hash_total q.services h x h ∙ ap (λ b. cond b (Some x) (service_of q h)) (own_hash h)
 
 module _ {F E C : Type 0} (m : Meaning F E C) (q : Quiet) (i : ℕ) (h : ServiceHash) (w : World) (s : Shows w q) where
