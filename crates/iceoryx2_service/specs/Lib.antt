@@ -1,1 +1,4 @@
-
+pub mod Quiet
+pub mod QuietCalls
+pub mod QuietLists
+pub mod QuietLaws

@@ -4,6 +4,7 @@
 mod slots;
 
 pub mod command;
+pub mod quiet_laws;
 pub mod session;
 
 pub use iceoryx2_builder as builder;
