@@ -1,10 +1,10 @@
 //! A session of commands over a table, and the layers below it under one name.
 #![tactic(auto)]
 
-mod slots;
-
 pub mod command;
+pub mod laws;
 pub mod session;
+mod slots;
 
 pub use iceoryx2_builder as builder;
 pub use iceoryx2_data as data;
