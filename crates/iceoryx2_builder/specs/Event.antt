@@ -59,11 +59,13 @@ raised_of n = if nat_eq n 0 then 1 else n
 
 -- zeros become one where a service has to have room for somebody
 abbrev pub event_adjusted : Asked → Asked
-event_adjusted asked = record asked { settings = record asked.settings {
-  max_notifiers = raised_of asked.settings.max_notifiers;
-  max_listeners = raised_of asked.settings.max_listeners;
-  max_nodes = raised_of asked.settings.max_nodes;
-} }
+event_adjusted asked = record asked {
+  settings = record asked.settings {
+    max_notifiers = raised_of asked.settings.max_notifiers;
+    max_listeners = raised_of asked.settings.max_listeners;
+    max_nodes = raised_of asked.settings.max_nodes;
+  };
+}
 
 -- a deadline is stamped with the time of the creation
 abbrev pub stamped : Span → Deadline → Deadline

@@ -9,11 +9,10 @@ ghost use Rattle.iceoryx2_builder.specs.Request.{started, letter_of_events};
 
 pub mod asked;
 
-pub use iceoryx2_data::event::EventId;
-
 use crate::event::asked::Asked;
 use iceoryx2_data::config;
 use iceoryx2_data::description::ServiceName;
+pub use iceoryx2_data::event::EventId;
 use iceoryx2_data::time::{ClockFault, Time};
 use iceoryx2_rounds::create::create;
 use iceoryx2_rounds::error::{EventCreateError, EventOpenError};

@@ -4,3 +4,4 @@ pub mod Defaults
 pub mod Description
 pub mod Form
 pub mod Reading
+pub mod Errors

@@ -25,6 +25,11 @@ pub enum DecodeError {
 }
 
 impl fmt::Display for DecodeError {
+    ghost use Rattle.std.specs.Prelude.{Some};
+    ghost use Rattle.iceoryx2_data.specs.Errors.{decode_error_text};
+
+    ghost output = { λ error. Some (decode_error_text error) };
+
     fn fmt<W: fmt::Write>(&self, f: &mut fmt::Formatter<W>) -> fmt::Result {
         match self {
             DecodeError::Malformed => write!(f, "the bytes are no description"),
@@ -38,8 +43,8 @@ impl Error for DecodeError {}
 impl From<AllocError> for DecodeError {
     ghost from_gives = { λ _ e. e ≡ OutOfMemory };
 
-    fn from(_: AllocError) -> DecodeError {
-        DecodeError::OutOfMemory
+    fn from(_: AllocError) -> Self {
+        Self::OutOfMemory
     }
 }
 

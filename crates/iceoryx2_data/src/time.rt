@@ -82,14 +82,11 @@ impl Time {
     pub fn new(seconds: u64, nanoseconds: u32) -> Option<Time>
         ensures { MatchOption result (1_000_000_000 ≤ nanoseconds) (λ d. (d.seconds ≡ seconds) × (d.nanoseconds ≡ nanoseconds) × (nanoseconds < 1_000_000_000)) }
     {
-        if nanoseconds < 1_000_000_000 {
-            Some(Time {
-                seconds,
-                nanoseconds,
-            })
-        } else {
-            None
-        }
+        let since_zero = Duration::new(seconds, nanoseconds)?;
+        Some(Time {
+            seconds: since_zero.seconds,
+            nanoseconds: since_zero.nanoseconds,
+        })
     }
 
     /// The whole seconds.

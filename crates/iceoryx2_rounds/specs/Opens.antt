@@ -43,12 +43,6 @@ module _ {F E C : Type 0} (m : Meaning F E C) (node : ℕ) (hash : ServiceHash) 
     opened : {u : List Letter} {n : ℕ} {d : Description} {tag : Tag} (t : ℕ) → IsReady n d tag u
         → IsLastRound (u ++ OpenSegment node hash n (Ok t) ∷ []) (Ok (record { node = node; number = n; ticket = t; description = d }))
 
-  -- The second look, and the tag given back: it ends the call with an error, or asks for another round.
-  pub data IsSecondLook (tag : Tag) : Option E → List Letter → Type 0 where
-    second_faulty : {v w : List Letter} {fault : F} → IsLookWord m node hash v (Faulty fault) → GivesBack node hash (own_tag tag) w → IsSecondLook tag (Some (m.open_error_of fault)) (v ++ w)
-    second_none : {v w : List Letter} → IsLookWord m node hash v Nothing → GivesBack node hash (own_tag tag) w → IsSecondLook tag (Some (m.open_refusal refusal.DoesNotExist)) (v ++ w)
-    second_found : {v w : List Letter} {k : ℕ} {e : Description} → IsLookWord m node hash v (Found k e) → GivesBack node hash (own_tag tag) w → IsSecondLook tag None (v ++ w)
-
   -- so many failed rounds
   pub data AreFailedRounds : ℕ → List Letter → Type 0 where
     no_round : AreFailedRounds 0 []
@@ -59,7 +53,13 @@ module _ {F E C : Type 0} (m : Meaning F E C) (node : ℕ) (hash : ServiceHash) 
     ended : {k : ℕ} {u v : List Letter} {answer : Result Registered E} → k ≤ 5 → AreFailedRounds k u → IsLastRound v answer → IsOpenWord (u ++ v) answer
     six_failed : {u : List Letter} → AreFailedRounds 6 u → IsOpenWord u (Err (m.open_refusal refusal.ServiceInCorruptedState))
 
-  -- One round, which may ask for another.
+  -- What the code's parts are said by: a second look with the tag given back, which ends the call with an error or asks for another round;
+  pub data IsSecondLook (tag : Tag) : Option E → List Letter → Type 0 where
+    second_faulty : {v w : List Letter} {fault : F} → IsLookWord m node hash v (Faulty fault) → GivesBack node hash (own_tag tag) w → IsSecondLook tag (Some (m.open_error_of fault)) (v ++ w)
+    second_none : {v w : List Letter} → IsLookWord m node hash v Nothing → GivesBack node hash (own_tag tag) w → IsSecondLook tag (Some (m.open_refusal refusal.DoesNotExist)) (v ++ w)
+    second_found : {v w : List Letter} {k : ℕ} {e : Description} → IsLookWord m node hash v (Found k e) → GivesBack node hash (own_tag tag) w → IsSecondLook tag None (v ++ w)
+
+  -- and one round, which may ask for another.
   abbrev pub IsRound : List Letter → Option (Result Registered E) → Type 0
   IsRound word None = IsFailedRound word
   IsRound word (Some answer) = IsLastRound word answer

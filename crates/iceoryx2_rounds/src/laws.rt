@@ -1,13 +1,15 @@
 //! What holds of every word of a call, whatever the pattern.
 
-ghost use Rattle.std.specs.Prelude.{ℕ, List, [], Result, Ok, Err};
+ghost use Rattle.std.specs.Prelude.{ℕ, List, [], ◌∷◌, Result, Ok, Err};
 ghost use Rattle.iceoryx2_data.specs.Span.{Span};
 ghost use Rattle.iceoryx2_data.specs.declared.description.ServiceHash.{ServiceHash};
 ghost use Rattle.iceoryx2_data.specs.declared.time.ClockFault.{ClockFault};
 ghost use Rattle.iceoryx2_storage.specs.Letter.{Letter};
+ghost use Rattle.iceoryx2_storage.specs.declared.storage.Tag.{Tag};
 ghost use Rattle.iceoryx2_rounds.specs.declared.pattern.CreateRefusal.{CreateRefusal};
 ghost use Rattle.iceoryx2_rounds.specs.Counts.{IsWithin};
 ghost use Rattle.iceoryx2_rounds.specs.Creates.{IsCreateWord};
+ghost use Rattle.iceoryx2_rounds.specs.GivesBack.{OwnLock, OwnSegment, own_tag};
 ghost use Rattle.iceoryx2_rounds.specs.Holds.{Holds};
 ghost use Rattle.iceoryx2_rounds.specs.Opens.{IsOpenWord};
 ghost use Rattle.iceoryx2_rounds.specs.Registered.{Registered};
@@ -41,4 +43,16 @@ pub fn refused_create_gives_back<P: Pattern>()
 /// A refused open has given back each tag that it made, and took away none that was there.
 pub fn refused_open_gives_back<P: Pattern>()
     ensures { (p : P) (node : ℕ) (hash : ServiceHash) (word : List Letter) (error : P.OpenError) → IsOpenWord (P.meaning p) node hash word (Err error) → Holds node hash [] word [] }
+{}
+
+/// A create that succeeds keeps its segment, its lock, under which the description now stands, and
+/// its tag, which may have been there. It has given back nothing of its own.
+pub fn create_keeps_what_it_made<P: Pattern>()
+    ensures { (p : P) (node : ℕ) (hash : ServiceHash) (name : List ℕ) (now : Result Span ClockFault) (word : List Letter) (r : Registered) → IsCreateWord (P.meaning p) node hash name now word (Ok r) → (tag : Tag) × Holds node hash [] word (OwnSegment ∷ OwnLock ∷ own_tag tag) }
+{}
+
+/// An open that succeeds keeps the tag of its last round, which may have been there, and has given
+/// back the tags that it made in failed rounds.
+pub fn open_keeps_its_tag<P: Pattern>()
+    ensures { (p : P) (node : ℕ) (hash : ServiceHash) (word : List Letter) (r : Registered) → IsOpenWord (P.meaning p) node hash word (Ok r) → (tag : Tag) × Holds node hash [] word (own_tag tag) }
 {}

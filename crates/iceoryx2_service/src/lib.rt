@@ -3,6 +3,7 @@
 
 pub mod command;
 pub mod laws;
+pub mod quiet_laws;
 pub mod session;
 mod slots;
 

@@ -162,3 +162,6 @@ impl Storage for Table {
         self.world.release(ticket, node, hash, number)
     }
 }
+
+#[cfg(test)]
+mod tests;

@@ -34,7 +34,10 @@ pub fn parse(alloc: Global, line: &[u8]) -> Result<Line, AllocError> {
     let Ok(text) = std::str::from_utf8(line) else {
         return Ok(Line::NotACommand);
     };
-    let words: Vec<&str> = text.split(' ').filter(|word| !word.is_empty()).collect(alloc)?;
+    let words: Vec<&str> = text
+        .split(' ')
+        .filter(|word| !word.is_empty())
+        .collect(alloc)?;
     match words.as_slice() {
         [] => Ok(Line::Blank),
         ["close", slot] => Ok(close(slot)),
@@ -81,13 +84,7 @@ fn how_of(word: &str) -> Option<How> {
     }
 }
 
-fn event(
-    alloc: Global,
-    how: &str,
-    node: &str,
-    slot: &str,
-    name: &str,
-) -> Result<Line, AllocError> {
+fn event(alloc: Global, how: &str, node: &str, slot: &str, name: &str) -> Result<Line, AllocError> {
     let (Some(how), Some(node), Some(slot)) = (how_of(how), number(node), slot_number(slot)) else {
         return Ok(Line::NotACommand);
     };

@@ -78,7 +78,10 @@ fn two_nodes_share_a_service(rt: HostRuntime) -> Result<(), Fail> {
     let lines = "event create 1 0 xample\nevent open 2 1 xample\nclose 1\nclose 0\n";
     for piece in [1, 3, 1000] {
         let (text, status) = answered(rt.alloc(), lines.as_bytes(), piece);
-        assert_eq!(rt; text.as_slice(), "ok 0 number=0\nok 1 number=0\nclosed 1\nclosed 0\n".as_bytes());
+        assert_eq!(rt;
+            text.as_slice(),
+            "ok 0 number=0\nok 1 number=0\nclosed 1\nclosed 0\n".as_bytes()
+        );
         assert_eq!(rt; status, 0);
     }
     Ok(())
@@ -95,7 +98,10 @@ fn blank_lines_are_counted(rt: HostRuntime) -> Result<(), Fail> {
 #[test]
 fn a_missing_service_is_no_fault_of_the_line(rt: HostRuntime) -> Result<(), Fail> {
     let (text, status) = answered(rt.alloc(), "\n  event  open 1   0 a  \r\n \r".as_bytes(), 7);
-    assert_eq!(rt; text.as_slice(), "EventOpenError::DoesNotExist\n".as_bytes());
+    assert_eq!(rt;
+        text.as_slice(),
+        "EventOpenError::DoesNotExist\n".as_bytes()
+    );
     assert_eq!(rt; status, 0);
     Ok(())
 }
@@ -104,7 +110,8 @@ fn a_missing_service_is_no_fault_of_the_line(rt: HostRuntime) -> Result<(), Fail
 fn slots_are_told(rt: HostRuntime) -> Result<(), Fail> {
     let lines = "event create 1 7 a\nevent create 2 7 b\nclose 8\nevent create 3 8 a\nclose 007\n";
     let (text, status) = answered(rt.alloc(), lines.as_bytes(), 100);
-    let wanted = "ok 7 number=0\nslot 7 in use\nslot 8 empty\nEventCreateError::AlreadyExists\nclosed 7\n";
+    let wanted =
+        "ok 7 number=0\nslot 7 in use\nslot 8 empty\nEventCreateError::AlreadyExists\nclosed 7\n";
     assert_eq!(rt; text.as_slice(), wanted.as_bytes());
     assert_eq!(rt; status, 0);
     Ok(())
@@ -174,7 +181,16 @@ fn a_reader_that_fails_ends_the_program(rt: HostRuntime) -> Result<(), Fail> {
 #[test]
 fn a_writer_that_fails_ends_the_program(rt: HostRuntime) -> Result<(), Fail> {
     let lines = "event create 1 0 a\nclose 0\nclose 0\n";
-    for (room, wanted) in [(0, 3), (1, 3), (13, 3), (14, 3), (22, 3), (23, 3), (35, 3), (36, 0)] {
+    for (room, wanted) in [
+        (0, 3),
+        (1, 3),
+        (13, 3),
+        (14, 3),
+        (22, 3),
+        (23, 3),
+        (35, 3),
+        (36, 0),
+    ] {
         let mut page = Page {
             text: Vec::new(rt.alloc()),
             room,

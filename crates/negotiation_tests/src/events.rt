@@ -5,8 +5,8 @@ use iceoryx2_builder::builder::Node;
 use iceoryx2_builder::event::EventId;
 use iceoryx2_data::config::Config;
 use iceoryx2_rounds::error::{EventCreateError, EventOpenError};
-use iceoryx2_storage::storage::Storage;
 use iceoryx2_storage::local::Local;
+use iceoryx2_storage::storage::Storage;
 use iceoryx2_storage::table::Table;
 use std::test::Fail;
 
@@ -56,17 +56,39 @@ fn a_second_factory_of_a_node_takes_no_further_node_slot(rt: HostRuntime) -> Res
 #[test]
 fn the_first_setting_that_is_too_small_is_named(rt: HostRuntime) -> Result<(), Fail> {
     let mut table = Table::new(rt.alloc());
-    let builder = events(&rt, rt.alloc(), 1, "xample").max_notifiers(4).max_listeners(4);
+    let builder = events(&rt, rt.alloc(), 1, "xample")
+        .max_notifiers(4)
+        .max_listeners(4);
     let factory = created(&rt, builder, &mut table);
-    let builder = events(&rt, rt.alloc(), 2, "xample").max_notifiers(8).max_listeners(8);
-    assert_eq!(rt; open_refusal(&rt, builder, &mut table), EventOpenError::DoesNotSupportRequestedAmountOfNotifiers);
-    let builder = events(&rt, rt.alloc(), 2, "xample").max_listeners(8).max_notifiers(4);
-    assert_eq!(rt; open_refusal(&rt, builder, &mut table), EventOpenError::DoesNotSupportRequestedAmountOfListeners);
+    let builder = events(&rt, rt.alloc(), 2, "xample")
+        .max_notifiers(8)
+        .max_listeners(8);
+    assert_eq!(rt;
+        open_refusal(&rt, builder, &mut table),
+        EventOpenError::DoesNotSupportRequestedAmountOfNotifiers
+    );
+    let builder = events(&rt, rt.alloc(), 2, "xample")
+        .max_listeners(8)
+        .max_notifiers(4);
+    assert_eq!(rt;
+        open_refusal(&rt, builder, &mut table),
+        EventOpenError::DoesNotSupportRequestedAmountOfListeners
+    );
     let builder = events(&rt, rt.alloc(), 2, "xample").event_id_max_value(256);
-    assert_eq!(rt; open_refusal(&rt, builder, &mut table), EventOpenError::DoesNotSupportRequestedMaxEventId);
+    assert_eq!(rt;
+        open_refusal(&rt, builder, &mut table),
+        EventOpenError::DoesNotSupportRequestedMaxEventId
+    );
     let builder = events(&rt, rt.alloc(), 2, "xample").max_nodes(37);
-    assert_eq!(rt; open_refusal(&rt, builder, &mut table), EventOpenError::DoesNotSupportRequestedAmountOfNodes);
-    let second = opened(&rt, events(&rt, rt.alloc(), 2, "xample").max_notifiers(3), &mut table);
+    assert_eq!(rt;
+        open_refusal(&rt, builder, &mut table),
+        EventOpenError::DoesNotSupportRequestedAmountOfNodes
+    );
+    let second = opened(
+        &rt,
+        events(&rt, rt.alloc(), 2, "xample").max_notifiers(3),
+        &mut table,
+    );
     assert_eq!(rt; second.static_config().max_notifiers, 4);
     closed(&rt, second, &mut table);
     closed(&rt, factory, &mut table);
@@ -77,9 +99,16 @@ fn the_first_setting_that_is_too_small_is_named(rt: HostRuntime) -> Result<(), F
 fn a_service_for_one_node_has_no_room_for_a_second(rt: HostRuntime) -> Result<(), Fail> {
     let mut table = Table::new(rt.alloc());
     let hash = hash_of_events(&rt, rt.alloc(), "xample");
-    let factory = created(&rt, events(&rt, rt.alloc(), 1, "xample").max_nodes(1), &mut table);
+    let factory = created(
+        &rt,
+        events(&rt, rt.alloc(), 1, "xample").max_nodes(1),
+        &mut table,
+    );
     let builder = events(&rt, rt.alloc(), 2, "xample");
-    assert_eq!(rt; open_refusal(&rt, builder, &mut table), EventOpenError::ExceedsMaxNumberOfNodes);
+    assert_eq!(rt;
+        open_refusal(&rt, builder, &mut table),
+        EventOpenError::ExceedsMaxNumberOfNodes
+    );
     assert!(rt; !table.has_tag(2, &hash));
     closed(&rt, factory, &mut table);
     Ok(())
@@ -90,7 +119,10 @@ fn a_table_without_numbers_creates_nothing(rt: HostRuntime) -> Result<(), Fail> 
     let mut table = Table::starting_at(rt.alloc(), u64::MAX);
     let hash = hash_of_events(&rt, rt.alloc(), "xample");
     let builder = events(&rt, rt.alloc(), 1, "xample");
-    assert_eq!(rt; create_refusal(&rt, builder, &mut table), EventCreateError::InternalFailure);
+    assert_eq!(rt;
+        create_refusal(&rt, builder, &mut table),
+        EventCreateError::InternalFailure
+    );
     assert!(rt; !table.has_tag(1, &hash));
     assert_eq!(rt; table.list()?.len(), 0);
     assert_eq!(rt; table.counter(), u64::MAX);
@@ -104,7 +136,10 @@ fn the_last_number_creates_a_service_that_nobody_else_opens(rt: HostRuntime) -> 
     let factory = created(&rt, events(&rt, rt.alloc(), 1, "xample"), &mut table);
     assert_eq!(rt; factory.number(), 18_446_744_073_709_551_614);
     let builder = events(&rt, rt.alloc(), 2, "xample");
-    assert_eq!(rt; open_refusal(&rt, builder, &mut table), EventOpenError::InternalFailure);
+    assert_eq!(rt;
+        open_refusal(&rt, builder, &mut table),
+        EventOpenError::InternalFailure
+    );
     assert!(rt; !table.has_tag(2, &hash));
     closed(&rt, factory, &mut table);
     Ok(())
@@ -114,13 +149,22 @@ fn the_last_number_creates_a_service_that_nobody_else_opens(rt: HostRuntime) -> 
 fn what_is_missing_or_there_is_named(rt: HostRuntime) -> Result<(), Fail> {
     let mut table = Table::new(rt.alloc());
     let builder = events(&rt, rt.alloc(), 1, "xample");
-    assert_eq!(rt; open_refusal(&rt, builder, &mut table), EventOpenError::DoesNotExist);
+    assert_eq!(rt;
+        open_refusal(&rt, builder, &mut table),
+        EventOpenError::DoesNotExist
+    );
     let factory = created(&rt, events(&rt, rt.alloc(), 1, "xample"), &mut table);
     let builder = events(&rt, rt.alloc(), 2, "xample");
-    assert_eq!(rt; create_refusal(&rt, builder, &mut table), EventCreateError::AlreadyExists);
+    assert_eq!(rt;
+        create_refusal(&rt, builder, &mut table),
+        EventCreateError::AlreadyExists
+    );
     closed(&rt, factory, &mut table);
     let builder = events(&rt, rt.alloc(), 2, "xample");
-    assert_eq!(rt; open_refusal(&rt, builder, &mut table), EventOpenError::DoesNotExist);
+    assert_eq!(rt;
+        open_refusal(&rt, builder, &mut table),
+        EventOpenError::DoesNotExist
+    );
     Ok(())
 }
 
@@ -130,9 +174,15 @@ fn a_lock_of_another_makes_calls_hang(rt: HostRuntime) -> Result<(), Fail> {
     let hash = hash_of_events(&rt, rt.alloc(), "xample");
     assert!(rt; matches!(table.lock(7, &hash), Ok(0)));
     let builder = events(&rt, rt.alloc(), 1, "xample");
-    assert_eq!(rt; open_refusal(&rt, builder, &mut table), EventOpenError::HangsInCreation);
+    assert_eq!(rt;
+        open_refusal(&rt, builder, &mut table),
+        EventOpenError::HangsInCreation
+    );
     let builder = events(&rt, rt.alloc(), 1, "xample");
-    assert_eq!(rt; create_refusal(&rt, builder, &mut table), EventCreateError::HangsInCreation);
+    assert_eq!(rt;
+        create_refusal(&rt, builder, &mut table),
+        EventCreateError::HangsInCreation
+    );
     assert!(rt; !table.has_tag(1, &hash));
     Ok(())
 }
@@ -160,7 +210,10 @@ fn a_node_tells_what_it_was_made_of(rt: HostRuntime) -> Result<(), Fail> {
     let builder = node.service_builder(name(&rt, rt.alloc(), "mine")).event();
     let factory = created(&rt, builder, &mut table);
     assert_eq!(rt; factory.static_config().max_nodes, 5);
-    assert_eq!(rt; factory.static_config().notifier_created_event, Some(EventId::new(9)));
+    assert_eq!(rt;
+        factory.static_config().notifier_created_event,
+        Some(EventId::new(9))
+    );
     assert_eq!(rt; factory.node(), 3);
     closed(&rt, factory, &mut table);
     Ok(())

@@ -3,8 +3,7 @@
 use crate::support::*;
 use iceoryx2_data::config::Config;
 use iceoryx2_data::time::Time;
-use iceoryx2_rounds::error::EventCreateError;
-use iceoryx2_rounds::error::EventOpenError;
+use iceoryx2_rounds::error::{EventCreateError, EventOpenError};
 use iceoryx2_service::command::{Call, Command, EventSetting, How, Refusal, Reply, Settings};
 use iceoryx2_service::session::Session;
 use iceoryx2_storage::table::Table;
@@ -36,7 +35,13 @@ fn slots_are_tested_before_anything_is_called(rt: HostRuntime) -> Result<(), Fai
     assert_eq!(rt; past, Reply::NoSuchSlot);
     assert_eq!(rt; empty, Reply::SlotEmpty);
     assert_eq!(rt; past_call, Reply::NoSuchSlot);
-    assert_eq!(rt; made, Reply::Opened { slot: 63, number: 0 });
+    assert_eq!(rt;
+        made,
+        Reply::Opened {
+            slot: 63,
+            number: 0
+        }
+    );
     assert_eq!(rt; taken, Reply::SlotInUse);
     assert_eq!(rt; counter, 1);
     assert_eq!(rt; table.list()?.len(), 0);
@@ -71,7 +76,13 @@ fn finishing_closes_every_slot(rt: HostRuntime) -> Result<(), Fail> {
 fn settings_are_set_in_order(rt: HostRuntime) -> Result<(), Fail> {
     let alloc = rt.alloc();
     let mut session = Session::new(Config::default(), Table::new(alloc));
-    let settings = vec![in alloc; EventSetting::MaxNodes(9), EventSetting::MaxNotifiers(3), EventSetting::MaxListeners(4), EventSetting::EventIdMaxValue(5), EventSetting::MaxNodes(2)];
+    let settings = vec![in alloc;
+        EventSetting::MaxNodes(9),
+        EventSetting::MaxNotifiers(3),
+        EventSetting::MaxListeners(4),
+        EventSetting::EventIdMaxValue(5),
+        EventSetting::MaxNodes(2),
+    ];
     let Ok(settings) = settings else {
         let _table = session.finish();
         panic!(rt; "no memory")
@@ -89,8 +100,14 @@ fn settings_are_set_in_order(rt: HostRuntime) -> Result<(), Fail> {
     let missing = session.apply(call(&rt, alloc, How::Open, 1, 1, "b"));
     let _table = session.finish();
     assert_eq!(rt; made, Reply::Opened { slot: 0, number: 0 });
-    assert_eq!(rt; refused, Reply::Refused(Refusal::EventCreate(EventCreateError::AlreadyExists)));
-    assert_eq!(rt; missing, Reply::Refused(Refusal::EventOpen(EventOpenError::DoesNotExist)));
+    assert_eq!(rt;
+        refused,
+        Reply::Refused(Refusal::EventCreate(EventCreateError::AlreadyExists))
+    );
+    assert_eq!(rt;
+        missing,
+        Reply::Refused(Refusal::EventOpen(EventOpenError::DoesNotExist))
+    );
     let entries = entries?;
     assert_eq!(rt; entries.len(), 1);
     let Some(segment) = entries[0].segment else {

@@ -7,8 +7,8 @@ use iceoryx2_data::description::{ServiceHash, ServiceName};
 use iceoryx2_data::time::Time;
 use iceoryx2_rounds::error::{EventCreateError, EventOpenError};
 use iceoryx2_rounds::port_factory::event::PortFactory;
-use iceoryx2_storage::storage::{ServiceNameHasher, Sha1Hasher};
 use iceoryx2_storage::local::Local;
+use iceoryx2_storage::storage::{ServiceNameHasher, Sha1Hasher};
 use iceoryx2_storage::table::Table;
 use std::alloc::Global;
 use std::process::Abort;
@@ -33,11 +33,7 @@ pub fn hash_of_events(rt: &impl Abort, alloc: Global, text: &str) -> ServiceHash
 }
 
 /// A service that is created at time zero.
-pub fn created(
-    rt: &impl Abort,
-    builder: Builder<Local>,
-    table: &mut Table,
-) -> PortFactory<Local> {
+pub fn created(rt: &impl Abort, builder: Builder<Local>, table: &mut Table) -> PortFactory<Local> {
     match builder.create(table, Ok(Time::default())) {
         Ok(factory) => factory,
         Err(error) => panic!(rt; "refused: {error}"),

@@ -98,9 +98,8 @@ impl<K: Ord + Copy, V: Drop> SortedVec<K, V> {
     pub fn replace(&mut self, key: K, value: V)
         ensures { map.get (map.from_sorted {R = K.cmp} self.old.entries.items) key ≢ None → map.from_sorted {R = K.cmp} self.new.entries.items ≡ map.insert (map.from_sorted {R = K.cmp} self.old.entries.items) key value }
     {
-        match self.search(&key) {
-            Ok(at) => self.entries[at].1 = value,
-            Err(_) => {}
+        if let Ok(at) = self.search(&key) {
+            self.entries[at].1 = value;
         }
     }
 

@@ -266,15 +266,16 @@ impl StoredWorld {
         if !published {
             return Err(PublishError::Other);
         }
+        let ticket = number;
         self.tickets.insert(
-            number,
+            ticket,
             Ticket {
                 node,
                 hash: *hash,
                 number,
             },
         );
-        Ok(number)
+        Ok(ticket)
     }
 
     pub fn open_segment(

@@ -15,8 +15,8 @@ returns-in-Ok g c = λ _.
     ∙ sym (put_at g.K.Ord.cmp g.met.K.Ord.total c.args.key c.args.value c.args.self.now.entries.items (true_T c.args.self.now.sorted) c.in-Ok.at c.index_mut.result.now it.0 (it.1 c.index_mut.result.now)))
     ∙ map_put g.K.Ord.cmp g.met.K.Ord.total c.args.self.now.entries.items c.args.self.now.sorted c.args.key c.args.value
 
-pub returns-in-Err : goal.returns-in-Err
-returns-in-Err g c = λ there. absurd (there (map.get-from_sorted g.K.Ord.cmp c.args.self.now.entries.items c.args.key (true_T c.args.self.now.sorted) ∙ find_gap g.K.Ord.cmp g.met.K.Ord.total c.args.key c.args.self.now.entries.items _ c.in-Err.ensures.gap))
+pub returns-in_default : goal.returns-in_default
+returns-in_default g c = λ there. absurd (there (map.get-from_sorted g.K.Ord.cmp c.args.self.now.entries.items c.args.key (true_T c.args.self.now.sorted) ∙ find_gap g.K.Ord.cmp g.met.K.Ord.total c.args.key c.args.self.now.entries.items _ c.in_default.ensures.gap))
 
 pub invariant_of-self : goal.invariant_of-self
 invariant_of-self g c =

@@ -1,0 +1,16 @@
+pub mod Seats
+pub mod Here
+pub mod Absent
+pub mod Lift
+pub mod Counts
+pub mod Create
+pub mod There
+pub mod Leave
+pub mod Close
+pub mod Tickets
+pub mod Open
+pub mod Opened
+pub mod Calls
+pub mod Same
+pub mod After
+pub mod Listing
