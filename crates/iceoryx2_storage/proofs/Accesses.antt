@@ -1,6 +1,6 @@
 -- The own parts of accesses, from what was tested and done.
 use Rattle.std.proofs.Common.{◌≡◌, ℕ, ◌+◌, Bool, true, false, Option, Some, None, inl, inr, refl, sym, ap, subst, ◌∙◌}
-use Rattle.std.specs.Prelude.{Result, Ok, Err, is_some, ◌&&◌, ◌==◌, nat_lt, if◌then◌else◌}
+use Rattle.std.specs.Prelude.{Result, Ok, Err, is_some, ◌&&◌, ◌==◌, if◌then◌else◌}
 use Rattle.std.specs.FinMap as map
 use Rattle.iceoryx2_data.specs.declared.description.ServiceHash.{ServiceHash}
 use Rattle.iceoryx2_data.specs.Description.{Description}
@@ -16,7 +16,7 @@ use Rattle.iceoryx2_storage.specs.declared.storage.PublishError.TheVariants as P
 use Rattle.iceoryx2_storage.specs.Orders.{tag_cmp}
 use Rattle.iceoryx2_storage.specs.World.{World, Segment, or_idle}
 use Rattle.iceoryx2_storage.specs.Acts as act
-use Rattle.iceoryx2_storage.specs.Steps.{Spot, step, now, fits}
+use Rattle.iceoryx2_storage.specs.Steps.{Spot, step, now}
 use Rattle.iceoryx2_storage.specs.Letter.{Letter}
 use Rattle.iceoryx2_storage.specs.declared.storage.OpenSegmentError.{OpenSegmentError}
 use Rattle.iceoryx2_storage.specs.Access.{Tickets, Seat, Change, nothing, moves_with, with_ticket, opened, read, published, has_made, Own, IsOwnPart, Gives, Simply, seat, write, node_of, hash_of}

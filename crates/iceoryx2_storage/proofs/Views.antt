@@ -1,21 +1,16 @@
 -- What the fields of a table say of its world.
-use Rattle.std.proofs.Common.{◌≡◌, ◌≢◌, ℕ, Bool, true, false, cond, not, List, [], length, Option, Some, None, refl, sym, ap, subst, ◌∙◌}
-use Rattle.std.specs.Prelude.{T, is_some}
+use Rattle.std.proofs.Common.{◌≡◌, ◌≢◌, ℕ, Bool, true, false, cond, not, List, [], length, Option, Some, None, refl, sym, ap, ◌∙◌}
+use Rattle.std.specs.Prelude.{is_some}
 use mathlib.Core.Bool.{true≢false}
 use Rattle.std.specs.FinMap as map
-use Rattle.std.specs.FinMap.{find, put, is_sorted, get-from_sorted, entries-from_sorted, entries-insert, same_entries_map, same_map, IsAntisymmetric, get-remove, get-insert}
+use Rattle.std.specs.FinMap.{put, is_sorted, get-from_sorted, entries-from_sorted, entries-insert, same_entries_map, same_map, IsAntisymmetric, get-remove, get-insert}
 use Rattle.std.specs.FinMap.Entries.{where_key, is_sorted-put, is_sorted-where_key, find-where_key}
 use Rattle.std.specs.Ordering.{eq_by_cmp, is_eq}
 use Rattle.std.specs.declared.cmp.Ordering.{Ordering}
-use Rattle.std.specs.declared.cmp.Ordering.TheVariants.{Equal}
 use Rattle.std.specs.Cmp.{IsTotalOrder, alike_right, eq_by_cmp_equiv, Equal-is}
-use Rattle.iceoryx2_storage.specs.declared.table.world.Participant.{Participant}
-use Rattle.iceoryx2_data.specs.declared.description.ServiceHash.{ServiceHash}
-use Rattle.iceoryx2_storage.specs.declared.table.world.Row.{Row}
 use Rattle.iceoryx2_storage.specs.declared.table.world.Phase.{Phase}
 use Rattle.iceoryx2_storage.specs.declared.table.world.Phase.TheVariants as at
-use Rattle.iceoryx2_storage.specs.Orders.{hash_cmp, hash_total, hash_exact, place_cmp, place_total, place_exact}
-use Rattle.iceoryx2_storage.specs.World.{World, row_of, phase_of, or_idle, unless_idle, set_to}
+use Rattle.iceoryx2_storage.specs.World.{or_idle, unless_idle, set_to}
 use Rattle.iceoryx2_storage.proofs.Places.{true_T}
 
 pub from_nil : {K X : Type 0} (R : K → K → Ordering) → ◌≡◌ {A = map.FinMap R X} (map.from_sorted []) map.empty

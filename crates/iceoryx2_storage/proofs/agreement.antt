@@ -12,3 +12,8 @@ pub mod Parts
 pub mod Accesses
 pub mod Stands
 pub mod Empty
+pub mod Calm
+pub mod Granted
+pub mod Spent
+pub mod Left
+pub mod Closing

@@ -115,3 +115,9 @@ pub record LaterAt (c : ℕ) (old new : Option Row) : Type 0 where
 pub record Later (old new : World) : Type 0 where
   pub counter : old.counter ≤ new.counter
   pub rows : (h : ServiceHash) → LaterAt old.counter (row_of old h) (row_of new h)
+
+-- A number that is spent at a service: it is below the counter, and neither the row's nor the segment's.
+pub record Spent (w : World) (h : ServiceHash) (n : ℕ) : Type 0 where
+  pub below : n < w.counter
+  pub row : (x : Row) → row_of w h ≡ Some x → row_number x ≢ n
+  pub segment : (x : Segment) → segment_of w h ≡ Some x → x.number ≢ n

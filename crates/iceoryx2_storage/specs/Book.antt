@@ -104,7 +104,3 @@ TakesDescription x false = (p : Participant) (h : ServiceHash) (r : Option Row) 
 -- the world of the services, the tags and the tickets
 abbrev pub world : Book → set.FinSet tag_cmp → Tickets → World
 world b t k = record { rows = b.rows; segments = b.segments; phases = b.phases; tags = t; tickets = k; counter = b.counter }
-
--- nothing stands, nobody holds anything, and the counter is at this number
-abbrev pub empty_world : ℕ → World
-empty_world n = record { rows = map.empty; segments = map.empty; phases = map.empty; tags = map.empty; tickets = map.empty; counter = n }

@@ -1,11 +1,9 @@
--- What a table's readers tell of its world.
-use Rattle.std.specs.Prelude.{◌≡◌, ℕ, Bool, ◌&&◌, ◌==◌, List, Option, Some, None, T, length, filter, map}
+-- What a table lists of its world.
+use Rattle.std.specs.Prelude.{◌≡◌, List, Option, Some, None, T, map}
 use Rattle.std.specs.Option.{option_map}
 use Rattle.std.specs.FinMap as finite
 use Rattle.std.specs.FinMap.Entries.{find, is_sorted}
-use Rattle.std.specs.Ordering.{eq_by_cmp}
 use Rattle.iceoryx2_data.specs.declared.description.ServiceHash.{ServiceHash}
-use Rattle.iceoryx2_storage.specs.declared.table.world.Ticket.{Ticket}
 use Rattle.iceoryx2_storage.specs.declared.table.world.Row.{Row}
 use Rattle.iceoryx2_storage.specs.declared.table.world.Row.TheVariants as row
 use Rattle.iceoryx2_storage.specs.declared.table.listing.ListedRow.{ListedRow}
@@ -14,16 +12,7 @@ use Rattle.iceoryx2_storage.specs.declared.table.listing.ListedSegment.{ListedSe
 use Rattle.iceoryx2_storage.specs.declared.table.listing.Entry.{Entry}
 use Rattle.iceoryx2_storage.specs.Sets as set
 use Rattle.iceoryx2_storage.specs.Orders.{hash_cmp}
-use Rattle.iceoryx2_storage.specs.World.{World, Segment, row_of, segment_of}
-use Rattle.iceoryx2_storage.specs.Access.{Tickets}
-
--- it is a ticket of this node for this service
-abbrev pub is_held : ℕ → ServiceHash → ℕ × Ticket → Bool
-is_held i h e = e.1.node == i && eq_by_cmp hash_cmp e.1.hash h
-
--- how many tickets the node has for the service
-abbrev pub held : Tickets → ℕ → ServiceHash → ℕ
-held k i h = length (filter (is_held i h) (finite.entries k))
+use Rattle.iceoryx2_storage.specs.World.{World, Segment}
 
 abbrev pub listed_row : Option Row → ListedRow
 listed_row None = listed.Absent
@@ -46,6 +35,9 @@ abbrev pub keyed : List Entry → List (ServiceHash × Entry)
 keyed es = map (λ e. (e.hash, e)) es
 
 -- Every hash with a row or a segment is listed once, in ascending order, with what stands there, and no other hash.
-pub record Lists (w : World) (es : List Entry) : Type 0 where
+pub record ListsAll (rows : finite.FinMap hash_cmp Row) (segments : finite.FinMap hash_cmp Segment) (es : List Entry) : Type 0 where
   pub ascends : T (is_sorted hash_cmp (keyed es))
-  pub each : (h : ServiceHash) → find hash_cmp h (keyed es) ≡ entry_at h (row_of w h) (segment_of w h)
+  pub each : (h : ServiceHash) → find hash_cmp h (keyed es) ≡ entry_at h (finite.get rows h) (finite.get segments h)
+
+abbrev pub Lists : World → List Entry → Type 0
+Lists w es = ListsAll w.rows w.segments es

@@ -1,8 +1,9 @@
 //! A storage within one process.
 
-ghost use Rattle.std.specs.Prelude.{◌≡◌};
+ghost use Rattle.std.specs.Prelude.{◌≡◌, IfOk};
 ghost use Rattle.iceoryx2_storage.specs.Access.{tag_of};
-ghost use Rattle.iceoryx2_storage.specs.Listing.{held};
+ghost use Rattle.iceoryx2_storage.specs.Across.{empty_world, ticket_count};
+ghost use Rattle.iceoryx2_storage.specs.Listing.{Lists};
 
 pub mod listing;
 mod services;
@@ -39,8 +40,6 @@ impl Model for Table {
 }
 
 impl Table {
-    ghost use Rattle.iceoryx2_storage.specs.Book.{empty_world};
-
     /// An empty table whose first number is 0. Takes no memory.
     pub fn new(alloc: Global) -> Table
         ensures { result ≡ empty_world 0 }
@@ -59,7 +58,9 @@ impl Table {
     }
 
     /// Each service with a row or a segment, in the order of the hashes' bytes.
-    pub fn list(&self) -> Result<Vec<Entry>, AllocError> {
+    pub fn list(&self) -> Result<Vec<Entry>, AllocError>
+        ensures { IfOk result (λ entries. Lists self.now entries.items) }
+    {
         self.world.list()
     }
 
@@ -72,7 +73,7 @@ impl Table {
 
     /// How many tickets the node has for the service.
     pub fn tickets(&self, node: u64, hash: &ServiceHash) -> u64
-        ensures { result ≡ held self.now.tickets node hash.now }
+        ensures { result ≡ ticket_count self.now.tickets node hash.now }
     {
         self.world.tickets(node, hash)
     }

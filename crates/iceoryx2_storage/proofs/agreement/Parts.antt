@@ -89,11 +89,11 @@ module _ (i : ℕ) (h : ServiceHash) where
   opened_ok n s None None x is = absurd (cc)
   opened_ok n s None (Some y) x is = (refl, y, refl, cc)
 
-  left_ok : (t : ℕ) (k : Tickets) (o : Option Spot) (x : Released × Change) → left i h t k o ≡ Ok x → (s : Spot) × (o ≡ Some s) × (x ≡ (left_as s.phase, moves_with s (map.remove k t)))
+  pub left_ok : (t : ℕ) (k : Tickets) (o : Option Spot) (x : Released × Change) → left i h t k o ≡ Ok x → (s : Spot) × (o ≡ Some s) × (x ≡ (left_as s.phase, moves_with s (map.remove k t)))
   left_ok t k None x is = absurd (cc)
   left_ok t k (Some s) x is = (s, refl, cc)
 
-  fetched_ok : (s : Spot) (r : Option Row) (x : _) → fetch_of i h s r ≡ Ok x → (r ≡ Some (row.Published x.0.0 x.0.1)) × (x.1 ≡ read (tried i h act.Read s))
+  pub fetched_ok : (s : Spot) (r : Option Row) (x : _) → fetch_of i h s r ≡ Ok x → (r ≡ Some (row.Published x.0.0 x.0.1)) × (x.1 ≡ read (tried i h act.Read s))
   fetched_ok s None x is = absurd (cc)
   fetched_ok s (Some (row.Locked n)) x is = absurd (cc)
   fetched_ok s (Some (row.Published n b)) x is = let same : x ≡ ((n, b), read (tried i h act.Read s)) = cc in (λ j. Some (row.Published (sym same j).0.0 (sym same j).0.1), λ j. (same j).1)
@@ -103,7 +103,7 @@ module _ (i : ℕ) (h : ServiceHash) where
   locked_ok s (Some (row.Locked n)) x is = absurd (cc)
   locked_ok s (Some (row.Published n b)) x is = absurd (cc)
 
-  made_ok : (m : ℕ) (s : Spot) (o : Option Segment) (x : Unit {0} × Change) → make_of i h m s o ≡ Ok x → Stepping (tried i h (act.Make m) s) x tt
+  pub made_ok : (m : ℕ) (s : Spot) (o : Option Segment) (x : Unit {0} × Change) → make_of i h m s o ≡ Ok x → Stepping (tried i h (act.Make m) s) x tt
   made_ok m s None x is = stepped_ok _ tt (tried i h (act.Make m) s) x is
   made_ok m s (Some y) x is = absurd (cc)
 
@@ -171,14 +171,14 @@ pub data Part (w : World) (l : Letter) (v : World) : Type 0 where
   releases : (t i : ℕ) (h : ServiceHash) (n : ℕ) (a : Released) → l ≡ letter.Release t i h n (Ok a) → Releasing w t i h n v → Part w l v
 
 -- where nothing changes
-unchanged : (w v : World) (i : ℕ) (h : ServiceHash) (c : Change) → c ≡ nothing → v ≡ write w i h c → v ≡ w
+pub unchanged : (w v : World) (i : ℕ) (h : ServiceHash) (c : Change) → c ≡ nothing → v ≡ write w i h c → v ≡ w
 unchanged w v i h c e is = is ∙ ap (write w i h) e
 
 -- a step, in the world
 pub made_step : (w : World) (i : ℕ) (h : ServiceHash) (a : Act) (s : Spot) → tried i h a (seat w i h).spot ≡ Some s → after w (Node i) h a ≡ Some (put w (Node i) h s)
 made_step w i h a s e = ap (option_map (put w (Node i) h)) e
 
-moved_world : (w v : World) (i : ℕ) (h : ServiceHash) (a : Act) (c : Change) (s : Spot) → tried i h a (seat w i h).spot ≡ Some s → c ≡ moves s → v ≡ write w i h c → after w (Node i) h a ≡ Some v
+pub moved_world : (w v : World) (i : ℕ) (h : ServiceHash) (a : Act) (c : Change) (s : Spot) → tried i h a (seat w i h).spot ≡ Some s → c ≡ moves s → v ≡ write w i h c → after w (Node i) h a ≡ Some v
 moved_world w v i h a c s e m is = made_step w i h a s e ∙ ap Some (sym (is ∙ ap (write w i h) m))
 
 read_part : (w v : World) (i : ℕ) (h : ServiceHash) (l : Letter) (c : Change) (o : Option Spot) → tried i h act.Read (seat w i h).spot ≡ o → c ≡ read o → v ≡ write w i h c → Part w l v

@@ -20,6 +20,7 @@ use Rattle.iceoryx2_storage.specs.Acts as act
 use Rattle.iceoryx2_storage.specs.Steps.{Spot, step, after, fits}
 use Rattle.iceoryx2_storage.specs.Agreement.{AgreesEverywhere, Later, joined_number, locked_number}
 use Rattle.iceoryx2_storage.specs.Across.{ticket_of, Agrees}
+use Rattle.iceoryx2_storage.specs.declared.storage.Release.{Release as Released}
 use Rattle.iceoryx2_storage.specs.Letter.{Letter}
 use Rattle.iceoryx2_storage.specs.Letter as letter
 use Rattle.iceoryx2_storage.specs.Peers.{Peers, none, peer, IsAccess}
@@ -32,7 +33,7 @@ use Rattle.iceoryx2_storage.proofs.agreement.Step.{tested, fits_means}
 use Rattle.iceoryx2_storage.proofs.agreement.Maps.{set_cases}
 use Rattle.iceoryx2_storage.proofs.agreement.Effects.{Stepped, stepped}
 use Rattle.iceoryx2_storage.proofs.agreement.Worlds.{ticket_put, ticket_removed, place_cases, step_tickets}
-use Rattle.iceoryx2_storage.proofs.agreement.Parts.{mine, Part, stays, tagged, calm, removed, publishes, joins, releases, own_part, publishing, joining, fetching, locking}
+use Rattle.iceoryx2_storage.proofs.agreement.Parts.{mine, Part, stays, tagged, calm, removed, publishes, joins, releases, own_part, publishing, joining, releasing, fetching, locking}
 use Rattle.iceoryx2_storage.proofs.agreement.Accesses.{later_refl, later_trans, joined_means, peers_keep, own_keeps, access_keeps, faulty_keeps, run_keeps, granted}
 
 -- A factory stands where its ticket is and its node is registered, with what its service had before.
@@ -123,7 +124,7 @@ publish_spot p h d n (at.Made m) r (Some s) c new is e = let same : m ≡ n = cc
 publish_spot p h d n (at.Made m) r None c new is e = absurd (cc)
 publish_spot p h d n _ r s c new is e = absurd (cc)
 
-own_row : (w v : World) (p : Participant) (h : ServiceHash) (a : Act) → (st : Stepped w v p h a) → row_of v h ≡ st.spot.row
+pub own_row : (w v : World) (p : Participant) (h : ServiceHash) (a : Act) → (st : Stepped w v p h a) → row_of v h ≡ st.spot.row
 own_row w v p h a st = subst (λ u. row_of u h ≡ st.spot.row) st.world (elim (set_cases hash_total hash_exact w.rows h st.spot.row h) [ inl e ↦ e.1 | inr e ↦ absurd (e.0 refl) ])
 
 -- a ticket that was put is there
@@ -154,6 +155,13 @@ opened_stands u w v i h n d t later each was limits hash e old =
     let f : Factory = record { node = i; number = n; ticket = t; description = d } in
     let ticket : ticket_of v t ≡ Some (ticket_for f) = ap (λ z. ticket_of z t) p.is ∙ ticket_there (record p.mid { counter = a.between.counter + 1 }) t (mine i h n) ∙ (λ j. Some (record { node = i; hash = sym hash j; number = n })) in
     (stands_by_ticket u v f (later_trans u w v each later new.1) limits (ap (row_of u) hash ∙ was) new.0 ticket, grind (arith, between.1.counter, p.ticket))
+
+-- a granted release takes its ticket out
+pub released_gone : (w v : World) (t i : ℕ) (h : ServiceHash) (n : ℕ) (a : Released) → IsFaulty w (letter.Release t i h n (Ok a)) v → ticket_of v t ≡ None
+released_gone w v t i h n a e =
+    let b = granted w (letter.Release t i h n (Ok a)) v (λ x. cc) e in
+    let p = releasing b.between v t i h n a b.own in
+    ap (λ z. ticket_of z t) p.is ∙ elim (set_cases nat_cmp_total exact_unsigned (p.mid).tickets t None t) [ inl k ↦ k.1 | inr k ↦ absurd (k.0 refl) ]
 
 -- a fetch that is granted: the row is there, and after it too
 pub fetched_row : (w v : World) (i : ℕ) (h : ServiceHash) (n : ℕ) (b : List ℕ) → IsFaulty w (letter.Fetch i h (Ok (n, b))) v → Agrees w → (u : World) × Agrees u × (row_of u h ≡ Some (row.Published n b)) × Later w u × Later u v

@@ -1,14 +1,15 @@
 //! What stands for the services, and the steps of one participant at one of them.
 
-ghost use Rattle.std.specs.Prelude.{◌≡◌, ◌≢◌, ◌&&◌, is_some, MatchOption, Some, None, IsSome, IsTrue, Ok, true};
+ghost use Rattle.std.specs.Prelude.{◌≡◌, ◌≢◌, ◌&&◌, is_some, MatchOption, Some, None, IsSome, IsTrue, IfOk, Ok, true};
 ghost use Rattle.std.specs.FinMap as map;
+ghost use Rattle.std.specs.Option.{option_copied};
 ghost use Rattle.iceoryx2_storage.specs.Orders.{place_cmp};
 ghost use Rattle.iceoryx2_storage.specs.World.{or_idle, unless_idle, set_to};
 ghost use Rattle.iceoryx2_storage.specs.Acts as act;
 ghost use Rattle.iceoryx2_storage.specs.Steps.{begins as begins_spec, fits as fits_spec, has_room as has_room_spec};
 ghost use Rattle.iceoryx2_data.specs.Description.{IsDescription};
 ghost use Rattle.iceoryx2_storage.specs.Access.{has_made, open_refusal, segment_refusal};
-ghost use Rattle.iceoryx2_storage.specs.Listing.{listed_segment};
+ghost use Rattle.iceoryx2_storage.specs.Listing.{ListsAll, entry_of, listed_row as listed_row_of, listed_segment};
 ghost use Rattle.iceoryx2_storage.specs.Book.{Steps, Tries, Leaves, Admits, Dismisses, TakesSegment, TakesDescription, segment_fits};
 
 use super::listing::{Entry, ListedRow, ListedSegment};
@@ -31,6 +32,7 @@ pub struct StoredSegment {
 
 impl Model for StoredSegment {
     ghost use Rattle.std.specs.FinMap as map;
+    ghost use Rattle.std.specs.Option.{option_copied};
     ghost use Rattle.iceoryx2_storage.specs.Orders.{participant_cmp};
     ghost use Rattle.iceoryx2_storage.specs.World.{Segment};
     ghost use Rattle.iceoryx2_storage.specs.Codes.{coded_segment};
@@ -146,6 +148,7 @@ pub struct Services {
 
 impl Model for Services {
     ghost use Rattle.std.specs.FinMap as map;
+    ghost use Rattle.std.specs.Option.{option_copied};
     ghost use Rattle.iceoryx2_storage.specs.Orders.{hash_cmp, place_cmp};
     ghost use Rattle.iceoryx2_storage.specs.Book.{Book, coded_book};
 
@@ -224,7 +227,9 @@ fn may_remove_description(phase: Phase) -> bool
 }
 
 // The row as it is listed.
-fn listed_row(row: Option<&Row>) -> Result<ListedRow, AllocError> {
+fn listed_row(row: Option<&Row>) -> Result<ListedRow, AllocError>
+    ensures { IfOk result (λ listed. listed ≡ listed_row_of (option_copied row.entry)) }
+{
     match row {
         None => Ok(ListedRow::Absent),
         Some(Row::Locked(number)) => Ok(ListedRow::Locked(*number)),
@@ -260,7 +265,9 @@ impl Services {
     }
 
     // What is listed of a hash.
-    fn entry(&self, hash: &ServiceHash) -> Result<Entry, AllocError> {
+    fn entry(&self, hash: &ServiceHash) -> Result<Entry, AllocError>
+        ensures { IfOk result (λ entry. entry ≡ entry_of hash.now (map.get self.now.rows hash.now) (map.get self.now.segments hash.now)) }
+    {
         let row = listed_row(self.rows.get(hash))?;
         let segment = match self.segments.get(hash) {
             Some(segment) => Some(segment.listed()),
@@ -273,14 +280,18 @@ impl Services {
         })
     }
 
-    pub fn list(&self) -> Result<Vec<Entry>, AllocError> {
+    /// Each hash with a row or a segment, in ascending order.
+    pub fn list(&self) -> Result<Vec<Entry>, AllocError>
+        ensures { IfOk result (λ entries. ListsAll self.now.rows self.now.segments entries.items) }
+    {
         let alloc = self.rows.allocator();
         let mut hashes = SortedVec::new(alloc);
         add_keys(&mut hashes, &self.rows)?;
         add_keys(&mut hashes, &self.segments)?;
         let mut entries = Vec::new(alloc);
         for (hash, _) in hashes.entries.iter() {
-            entries.push(self.entry(hash)?)?;
+            let entry = self.entry(hash)?;
+            entries.push(entry)?;
         }
         Ok(entries)
     }

@@ -1,6 +1,6 @@
 //! A map as a vector in the order of its keys.
 
-ghost use Rattle.std.specs.Prelude.{◌≡◌, ◌≢◌, ◌<◌, ◌≤◌, length, IfOk, IfErr, OnOk, MatchOption, IsSome, vec_len, vec_capacity, true, Some, None};
+ghost use Rattle.std.specs.Prelude.{◌≡◌, ◌≢◌, ◌<◌, ◌≤◌, length, IfOk, IfErr, OnOk, MatchOption, IsSome, ◌||◌, is_some, vec_len, vec_capacity, true, Some, None};
 ghost use Rattle.std.specs.FinMap as map;
 ghost use Rattle.std.specs.FinMap.{is_sorted};
 ghost use Rattle.iceoryx2_storage.specs.Gaps.{Gap, TiesAt};
@@ -64,13 +64,17 @@ impl<K: Ord + Copy, V> SortedVec<K, V> {
     }
 }
 
-// Puts the keys of the other map in, too.
+/// Puts the keys of another map in, too. Where memory runs out, some of them may be in.
 pub fn add_keys<K: Ord + Copy, V>(
     keys: &mut SortedVec<K, ()>,
     other: &SortedVec<K, V>,
-) -> Result<(), AllocError> {
+) -> Result<(), AllocError>
+    ensures { OnOk result ((q : K) → is_some (map.get (map.from_sorted {R = K.cmp} keys.new.entries.items) q) ≡ (is_some (map.get (map.from_sorted {R = K.cmp} keys.old.entries.items) q) || is_some (map.get (map.from_sorted {R = K.cmp} other.now.entries.items) q))) }
+{
     for (key, _) in other.entries.iter() {
-        keys.reserve()?;
+        if keys.reserve().is_err() {
+            return Err(AllocError);
+        }
         keys.insert(*key, ());
     }
     Ok(())

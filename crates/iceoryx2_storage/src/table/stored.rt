@@ -1,7 +1,8 @@
 //! What a table keeps, and the own part of each access of a node.
 
-ghost use Rattle.std.specs.Prelude.{◌≡◌, ◌&&◌, nat_lt, filter, length};
-ghost use Rattle.iceoryx2_storage.specs.Listing.{held, is_held};
+ghost use Rattle.std.specs.Prelude.{◌≡◌, ◌&&◌, IfOk, nat_lt, filter, length};
+ghost use Rattle.iceoryx2_storage.specs.Across.{belongs, empty_world, ticket_count};
+ghost use Rattle.iceoryx2_storage.specs.Listing.{Lists};
 ghost use Rattle.std.specs.FinMap as map;
 ghost use Rattle.std.specs.Ordering.{nat_cmp};
 ghost use Rattle.iceoryx2_storage.specs.Letter as letter;
@@ -45,7 +46,7 @@ impl Model for StoredWorld {
 
 // How many of the tickets are this node's for this service.
 fn count_held(tickets: &[(u64, Ticket)], node: u64, hash: &ServiceHash) -> usize
-    ensures { result ≡ length (filter (is_held node hash.now) tickets.now) }
+    ensures { result ≡ length (filter (belongs node hash.now) tickets.now) }
 {
     tickets
         .iter()
@@ -54,7 +55,7 @@ fn count_held(tickets: &[(u64, Ticket)], node: u64, hash: &ServiceHash) -> usize
 }
 
 // It is this node's ticket for this service and number.
-fn is_held_as(
+fn is_held(
     tickets: &SortedVec<u64, Ticket>,
     ticket: u64,
     node: u64,
@@ -80,8 +81,6 @@ fn may_make(phase: Phase, number: u64, max_nodes: u64) -> bool
 }
 
 impl StoredWorld {
-    ghost use Rattle.iceoryx2_storage.specs.Book.{empty_world};
-
     pub fn starting_at(alloc: Global, counter: u64) -> StoredWorld
         ensures { result ≡ empty_world counter }
     {
@@ -92,7 +91,9 @@ impl StoredWorld {
         }
     }
 
-    pub fn list(&self) -> Result<Vec<Entry>, AllocError> {
+    pub fn list(&self) -> Result<Vec<Entry>, AllocError>
+        ensures { IfOk result (λ entries. Lists self.now entries.items) }
+    {
         self.services.list()
     }
 
@@ -106,7 +107,7 @@ impl StoredWorld {
     }
 
     pub fn tickets(&self, node: u64, hash: &ServiceHash) -> u64
-        ensures { result ≡ held self.now.tickets node hash.now }
+        ensures { result ≡ ticket_count self.now.tickets node hash.now }
     {
         count_held(&self.tickets.entries, node, hash) as u64
     }
@@ -319,7 +320,7 @@ impl StoredWorld {
     ) -> Result<Release, ReleaseError>
         ensures { IsOwnPart self.old (letter.Release ticket node hash.now number result) self.new }
     {
-        if !is_held_as(&self.tickets, ticket, node, hash, number) {
+        if !is_held(&self.tickets, ticket, node, hash, number) {
             return Err(ReleaseError::NoSuchTicket);
         }
         let Some(release) = self.services.leave(Participant::Node(node), hash) else {

@@ -1,4 +1,4 @@
-use Rattle.std.proofs.Common.{◌≡◌, sym, ap, ◌∙◌}
+use Rattle.std.proofs.Common.{sym, ap, ◌∙◌}
 use Rattle.std.specs.FinMap as map
 use Rattle.iceoryx2_storage.specs.declared.table.world.Phase.{Phase}
 use Rattle.iceoryx2_storage.specs.Orders.{place_cmp, place_exact}

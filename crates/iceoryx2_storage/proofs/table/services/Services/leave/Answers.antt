@@ -1,16 +1,15 @@
-use Rattle.std.proofs.Common.{◌≡◌, ℕ, ◌+◌, ◌-◌, Bool, Option, Some, None, true, false, arith, refl, sym, ap, subst, ◌∙◌}
-use Rattle.std.specs.Prelude.{nat_lt, Ok, if◌then◌else◌}
+use Rattle.std.proofs.Common.{◌≡◌, ◌-◌, Bool, Some, None, true, false, arith, refl, sym, ap, subst, ◌∙◌}
+use Rattle.std.specs.Prelude.{nat_lt, if◌then◌else◌}
 use Rattle.std.specs.FinMap as map
 use Rattle.std.proofs.lemmas.Bool.Decides.{nat_tests}
-use Rattle.iceoryx2_storage.specs.declared.table.world.Phase.{Phase}
 use Rattle.iceoryx2_storage.specs.declared.table.world.Phase.TheVariants as at
 use Rattle.iceoryx2_storage.specs.Orders.{hash_cmp, hash_total, hash_exact, place_cmp}
 use Rattle.iceoryx2_storage.specs.World.{Segment}
 use Rattle.iceoryx2_storage.specs.Acts as act
-use Rattle.iceoryx2_storage.specs.Steps.{Spot, now, last_number}
-use Rattle.iceoryx2_storage.specs.Book.{Book, Steps, Tries, Leaves, Admits, Dismisses, tries}
+use Rattle.iceoryx2_storage.specs.Steps.{now}
+use Rattle.iceoryx2_storage.specs.Book.{Dismisses}
 use Rattle.iceoryx2_storage.proofs.Views.{kept, kept_at, there_by}
-use Rattle.iceoryx2_storage.proofs.Spots.{by_phase, by_both, replaced, returned, refused, left}
+use Rattle.iceoryx2_storage.proofs.Spots.{by_both, replaced, refused, left}
 use Rattle.iceoryx2_storage.proofs.table.services.Services.leave.Goals as goal
 
 pub returns-then-count-gt1 : goal.returns-then-count-gt1

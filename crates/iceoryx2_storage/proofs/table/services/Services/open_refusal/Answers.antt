@@ -1,4 +1,4 @@
-use Rattle.std.proofs.Common.{◌≡◌, Option, Some, sym, ap, ◌∙◌}
+use Rattle.std.proofs.Common.{Option, sym, ap, ◌∙◌}
 use Rattle.std.specs.FinMap as map
 use Rattle.iceoryx2_storage.specs.declared.table.world.Phase.{Phase}
 use Rattle.iceoryx2_storage.specs.World.{Segment, or_idle}

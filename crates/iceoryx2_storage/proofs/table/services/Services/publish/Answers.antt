@@ -1,11 +1,7 @@
-use Rattle.std.proofs.Common.{◌≡◌, Bool, Some, None, refl, sym, ap, ◌∙◌}
-use Rattle.std.specs.Prelude.{if◌then◌else◌}
+use Rattle.std.proofs.Common.{refl, sym, ap, ◌∙◌}
 use Rattle.std.specs.FinMap as map
-use Rattle.iceoryx2_data.specs.Form as form
-use Rattle.iceoryx2_storage.specs.declared.table.world.Phase.TheVariants as at
 use Rattle.iceoryx2_storage.specs.Rows as row
 use Rattle.iceoryx2_storage.specs.Orders.{hash_cmp, hash_total, hash_exact, place_cmp}
-use Rattle.iceoryx2_storage.specs.World.{Segment}
 use Rattle.iceoryx2_storage.specs.Acts as act
 use Rattle.iceoryx2_storage.proofs.Views.{kept, there_by}
 use Rattle.iceoryx2_storage.proofs.Spots.{did, starved, publish_tried}

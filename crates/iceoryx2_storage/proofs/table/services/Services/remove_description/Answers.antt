@@ -1,4 +1,4 @@
-use Rattle.std.proofs.Common.{◌≡◌, Bool, None, refl, sym, ap, subst, ◌∙◌}
+use Rattle.std.proofs.Common.{Bool, None, sym, subst, ◌∙◌}
 use Rattle.std.specs.FinMap as map
 use Rattle.iceoryx2_storage.specs.declared.table.world.Phase.TheVariants as at
 use Rattle.iceoryx2_storage.specs.Orders.{hash_cmp, hash_total, hash_exact}

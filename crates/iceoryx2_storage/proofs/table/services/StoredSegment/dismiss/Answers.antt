@@ -1,4 +1,4 @@
-use Rattle.std.proofs.Common.{◌≡◌, refl, sym, ap, ◌∙◌, true, arith}
+use Rattle.std.proofs.Common.{◌≡◌, ap, ◌∙◌, true, arith}
 use Rattle.std.specs.FinMap as map
 use Rattle.std.proofs.lemmas.Bool.Decides.{nat_tests}
 use Rattle.iceoryx2_storage.specs.Orders.{participant_exact}

@@ -1,6 +1,5 @@
-use Rattle.std.proofs.Common.{◌≡◌, refl, sym, ap, ◌∙◌, List, []}
+use Rattle.std.proofs.Common.{ap, ◌∙◌, List}
 use Rattle.std.specs.FinMap as map
-use Rattle.iceoryx2_storage.proofs.Places.{true_T}
 use Rattle.iceoryx2_storage.proofs.Views.{from_nil}
 use Rattle.iceoryx2_storage.proofs.table.sorted.SortedVec.clear.Goals as goal
 

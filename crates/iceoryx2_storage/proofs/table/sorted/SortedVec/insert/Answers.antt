@@ -1,9 +1,9 @@
-use Rattle.std.proofs.Common.{rules, arith, get_or, set, ◌≡◌, true, List, sym, ap, subst, ◌∙◌}
+use Rattle.std.proofs.Common.{rules, arith, get_or, set, ◌≡◌, List, sym, ap, subst, ◌∙◌}
 use Rattle.std.specs.Prelude.{T}
 use Rattle.std.specs.FinMap.{put, is_sorted}
-use Rattle.std.specs.FinMap.Entries.{is_sorted-put, is_sorted-where_key}
-use Rattle.iceoryx2_storage.proofs.Places.{find_at, find_gap, put_at, put_gap, without_at, without_gap, T_true, true_T}
-use Rattle.iceoryx2_storage.proofs.Views.{map_put, map_without}
+use Rattle.std.specs.FinMap.Entries.{is_sorted-put}
+use Rattle.iceoryx2_storage.proofs.Places.{put_at, put_gap, T_true, true_T}
+use Rattle.iceoryx2_storage.proofs.Views.{map_put}
 use Rattle.std.specs.FinMap as map
 use Rattle.iceoryx2_storage.proofs.table.sorted.SortedVec.insert.Goals as goal
 

@@ -1,7 +1,6 @@
-use Rattle.std.proofs.Common.{rules, ◌≡◌, refl, sym, ap, ◌∙◌, length}
+use Rattle.std.proofs.Common.{rules, ◌≡◌, sym, ap, ◌∙◌, length}
 use Rattle.std.specs.FinMap as map
 use Rattle.iceoryx2_storage.proofs.Places.{true_T}
-use Rattle.iceoryx2_storage.proofs.Views.{from_nil}
 use Rattle.iceoryx2_storage.proofs.table.sorted.SortedVec.len.Goals as goal
 
 pub returns : goal.returns

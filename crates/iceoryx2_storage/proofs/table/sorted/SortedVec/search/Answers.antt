@@ -1,4 +1,4 @@
-use Rattle.std.proofs.Common.{rules, ◌≡◌, sym, subst}
+use Rattle.std.proofs.Common.{rules}
 use Rattle.std.proofs.lemmas.List.Sorted.{answers_always}
 use Rattle.iceoryx2_storage.proofs.Places.{searched}
 use Rattle.iceoryx2_storage.proofs.table.sorted.SortedVec.search.Goals as goal

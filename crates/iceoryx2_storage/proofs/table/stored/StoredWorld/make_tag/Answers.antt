@@ -1,5 +1,5 @@
-use Rattle.std.proofs.Common.{◌≡◌, Bool, None, inl, inr, refl, sym, ap, subst, ◌∙◌}
-use Rattle.std.specs.Prelude.{Ok, Err, is_some, true, false}
+use Rattle.std.proofs.Common.{Bool, inl, inr, refl, sym, ap, subst, ◌∙◌}
+use Rattle.std.specs.Prelude.{Ok, Err, is_some, true}
 use Rattle.std.specs.FinMap as map
 use Rattle.iceoryx2_storage.specs.declared.storage.Tag.TheVariants.{Made, Found}
 use Rattle.iceoryx2_storage.specs.declared.storage.TagError.TheVariants as Tagging

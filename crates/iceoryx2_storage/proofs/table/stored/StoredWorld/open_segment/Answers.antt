@@ -1,4 +1,4 @@
-use Rattle.std.proofs.Common.{◌≡◌, ◌+◌, Bool, Option, Some, None, refl, sym, ap, subst, ◌∙◌}
+use Rattle.std.proofs.Common.{◌+◌, Bool, Option, sym, ap, subst, ◌∙◌}
 use Rattle.std.specs.Prelude.{Ok, Err}
 use Rattle.std.specs.FinMap as map
 use Rattle.iceoryx2_storage.specs.declared.storage.OpenSegmentError.{OpenSegmentError}
@@ -9,7 +9,7 @@ use Rattle.iceoryx2_storage.specs.Acts as act
 use Rattle.iceoryx2_storage.specs.Letter as letter
 use Rattle.iceoryx2_storage.specs.Steps.{Spot}
 use Rattle.iceoryx2_storage.specs.Access.{Tickets, nothing, moves_with, with_ticket, opened, seat}
-use Rattle.iceoryx2_storage.specs.Book.{Book, Tries, tries, world, with_spot}
+use Rattle.iceoryx2_storage.specs.Book.{Book, Tries, tries, world}
 use Rattle.iceoryx2_storage.proofs.Spots.{may_join}
 use Rattle.iceoryx2_storage.specs.Sets as set
 use Rattle.iceoryx2_storage.specs.Orders.{tag_cmp}

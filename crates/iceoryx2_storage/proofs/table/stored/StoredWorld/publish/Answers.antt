@@ -1,4 +1,4 @@
-use Rattle.std.proofs.Common.{◌≡◌, Bool, refl, sym, ap, subst, ◌∙◌}
+use Rattle.std.proofs.Common.{Bool, sym, ap, subst, ◌∙◌}
 use Rattle.std.specs.Prelude.{Ok, Err}
 use Rattle.std.specs.FinMap as map
 use Rattle.iceoryx2_storage.specs.declared.storage.PublishError.TheVariants as Publishing
@@ -6,7 +6,7 @@ use Rattle.iceoryx2_storage.specs.declared.table.world.Participant.TheVariants.{
 use Rattle.iceoryx2_storage.specs.declared.table.world.Ticket.{Ticket}
 use Rattle.iceoryx2_storage.specs.Acts as act
 use Rattle.iceoryx2_storage.specs.Letter as letter
-use Rattle.iceoryx2_storage.specs.Access.{Tickets, nothing, moves_with, with_ticket, published}
+use Rattle.iceoryx2_storage.specs.Access.{Tickets, nothing, moves_with, with_ticket}
 use Rattle.iceoryx2_storage.specs.Book.{Book, Tries, world}
 use Rattle.iceoryx2_storage.specs.Sets as set
 use Rattle.iceoryx2_storage.specs.Orders.{tag_cmp}

@@ -1,4 +1,4 @@
-use Rattle.std.proofs.Common.{◌≡◌, Bool, ap, subst}
+use Rattle.std.proofs.Common.{Bool, ap, subst}
 use Rattle.std.specs.Prelude.{Ok, Err}
 use Rattle.iceoryx2_storage.specs.declared.storage.RemoveError.TheVariants as Removing
 use Rattle.iceoryx2_storage.specs.declared.table.world.Participant.TheVariants.{Node}

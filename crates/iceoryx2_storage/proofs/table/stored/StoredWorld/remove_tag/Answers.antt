@@ -1,4 +1,4 @@
-use Rattle.std.proofs.Common.{◌≡◌, refl, ap}
+use Rattle.std.proofs.Common.{refl, ap}
 use Rattle.std.specs.Prelude.{Ok, false}
 use Rattle.iceoryx2_storage.specs.Orders.{tag_exact}
 use Rattle.iceoryx2_storage.specs.Letter as letter

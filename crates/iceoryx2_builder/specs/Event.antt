@@ -1,0 +1,84 @@
+-- What a builder of events asks, and its errors.
+use Rattle.std.specs.Prelude.{ℕ, Bool, true, false, List, [], ◌∷◌, Option, Some, None, nat_eq, is_some, if◌then◌else◌}
+use Rattle.std.specs.Option.{option_map}
+use Rattle.iceoryx2_data.specs.Description.{Description}
+use Rattle.iceoryx2_data.specs.Span.{Span}
+use Rattle.iceoryx2_data.specs.declared.description.MessagingPattern.{MessagingPattern}
+use Rattle.iceoryx2_data.specs.declared.description.MessagingPattern.TheVariants as existing
+use Rattle.iceoryx2_data.specs.declared.event.StaticConfig.{StaticConfig as Settings}
+use Rattle.iceoryx2_data.specs.declared.event.Deadline.{Deadline}
+use Rattle.iceoryx2_rounds.specs.Verdict.{Clause, Row, at_least, marked_clauses}
+use Rattle.iceoryx2_rounds.specs.Meaning.{Meaning}
+use Rattle.iceoryx2_rounds.specs.States.{open_error_of_state, create_error_of_state}
+use Rattle.iceoryx2_rounds.specs.declared.error.ServiceState.{ServiceState}
+use Rattle.iceoryx2_rounds.specs.declared.error.EventOpenError.{EventOpenError}
+use Rattle.iceoryx2_rounds.specs.declared.error.EventOpenError.TheVariants as opening
+use Rattle.iceoryx2_rounds.specs.declared.error.EventCreateError.{EventCreateError}
+use Rattle.iceoryx2_rounds.specs.declared.error.EventCreateError.TheVariants as creating
+use Rattle.iceoryx2_rounds.specs.declared.pattern.OpenRefusal.{OpenRefusal}
+use Rattle.iceoryx2_rounds.specs.declared.pattern.OpenRefusal.TheVariants as open_refusal
+use Rattle.iceoryx2_rounds.specs.declared.pattern.CreateRefusal.{CreateRefusal}
+use Rattle.iceoryx2_rounds.specs.declared.pattern.CreateRefusal.TheVariants as create_refusal
+use Rattle.iceoryx2_builder.specs.declared.event.asked.Asked.{Asked}
+use Rattle.iceoryx2_builder.specs.declared.event.asked.Marks.{Marks}
+
+-- the settings in order, each with its test and its error
+abbrev pub rows : Settings → Marks → Settings → List (Row EventOpenError)
+rows required marks existing =
+    at_least marks.max_notifiers existing.max_notifiers required.max_notifiers opening.DoesNotSupportRequestedAmountOfNotifiers ∷
+    at_least marks.max_listeners existing.max_listeners required.max_listeners opening.DoesNotSupportRequestedAmountOfListeners ∷
+    at_least marks.event_id_max_value existing.event_id_max_value required.event_id_max_value opening.DoesNotSupportRequestedMaxEventId ∷
+    at_least marks.max_nodes existing.max_nodes required.max_nodes opening.DoesNotSupportRequestedAmountOfNodes ∷
+    []
+
+abbrev pub setting_clauses : Asked → MessagingPattern → List (Clause EventOpenError)
+setting_clauses asked (existing.Event settings) = marked_clauses (rows asked.settings asked.marks settings)
+
+-- another pattern than events: so far there is no other
+abbrev pub misfit_of : MessagingPattern → Option ServiceState
+misfit_of (existing.Event settings) = None
+
+abbrev pub open_error_of_refusal : OpenRefusal → EventOpenError
+open_error_of_refusal open_refusal.DoesNotExist = opening.DoesNotExist
+open_error_of_refusal open_refusal.ServiceInCorruptedState = opening.ServiceInCorruptedState
+open_error_of_refusal open_refusal.InternalFailure = opening.InternalFailure
+open_error_of_refusal open_refusal.ExceedsMaxNumberOfNodes = opening.ExceedsMaxNumberOfNodes
+open_error_of_refusal open_refusal.IsMarkedForDestruction = opening.IsMarkedForDestruction
+open_error_of_refusal open_refusal.OutOfMemory = opening.OutOfMemory
+
+abbrev pub create_error_of_refusal : CreateRefusal → EventCreateError
+create_error_of_refusal create_refusal.ServiceInCorruptedState = creating.ServiceInCorruptedState
+create_error_of_refusal create_refusal.InternalFailure = creating.InternalFailure
+create_error_of_refusal create_refusal.IsBeingCreatedByAnotherInstance = creating.IsBeingCreatedByAnotherInstance
+create_error_of_refusal create_refusal.AlreadyExists = creating.AlreadyExists
+create_error_of_refusal create_refusal.InsufficientPermissions = creating.InsufficientPermissions
+create_error_of_refusal create_refusal.OutOfMemory = creating.OutOfMemory
+
+abbrev pub raised_of : ℕ → ℕ
+raised_of n = if nat_eq n 0 then 1 else n
+
+-- zeros become one where a service has to have room for somebody
+abbrev pub event_adjusted : Asked → Asked
+event_adjusted asked = record asked { settings = record asked.settings {
+  max_notifiers = raised_of asked.settings.max_notifiers;
+  max_listeners = raised_of asked.settings.max_listeners;
+  max_nodes = raised_of asked.settings.max_nodes;
+} }
+
+-- a deadline is stamped with the time of the creation
+abbrev pub stamped : Span → Deadline → Deadline
+stamped now deadline = record { value = deadline.value; creation_time = now }
+
+abbrev pub event_meaning : Asked → Meaning ServiceState EventOpenError EventCreateError
+event_meaning asked = record {
+  fault = λ state. state;
+  misfit = λ d. misfit_of d.pattern;
+  requirement = λ d. setting_clauses asked d.pattern;
+  open_error_of = open_error_of_state;
+  open_refusal = open_error_of_refusal;
+  create_error_of = create_error_of_state;
+  create_refusal = create_error_of_refusal;
+  history_refusal = None;
+  needs_clock = is_some asked.settings.deadline;
+  published = λ now. existing.Event (record asked.settings { deadline = option_map (stamped now) asked.settings.deadline });
+}

@@ -1,0 +1,115 @@
+//! Nodes, and where their builders begin.
+
+ghost use Rattle.std.specs.Prelude.{◌≡◌, ◌<◌, ◌^◌};
+ghost use Rattle.iceoryx2_builder.specs.Request.{started};
+
+use crate::event;
+use iceoryx2_data::config::Config;
+use iceoryx2_data::description::ServiceName;
+use iceoryx2_storage::storage::Service;
+use std::marker::{Model, PhantomData};
+
+/// One that creates and opens services: a number, and the settings that its builders start from.
+///
+/// How often it uses a service is counted in the storage, not here.
+pub struct Node<S: Service> {
+    id: u64,
+    config: Config,
+    service: PhantomData<S>,
+}
+
+impl<S: Service> Model for Node<S> {
+    ghost use Rattle.iceoryx2_builder.specs.Request.{NodeFacts};
+
+    ghost Value = { NodeFacts };
+
+    ghost view = { λ node. record { id = node.id; config = node.config } };
+}
+
+impl<S: Service> Drop for Node<S> {
+    fn drop(self) {
+        let Node {
+            id: _,
+            config: _,
+            service: _,
+        } = self;
+    }
+}
+
+impl<S: Service> Node<S> {
+    pub fn new(id: u64, config: Config) -> Self
+        ensures { result ≡ record { id = id; config = config } }
+    {
+        Node {
+            id,
+            config,
+            service: PhantomData,
+        }
+    }
+
+    pub fn id(&self) -> u64
+        ensures { result ≡ self.now.id }
+    {
+        self.id
+    }
+
+    pub fn config(&self) -> &Config
+        ensures { result.now ≡ self.now.config }
+    {
+        &self.config
+    }
+
+    /// Begins a builder for the service of this name.
+    pub fn service_builder(&self, name: ServiceName) -> Builder<S>
+        ensures { result ≡ record { node = self.now.id; config = self.now.config; name = name } }
+    {
+        Builder {
+            node: self.id,
+            config: self.config,
+            name,
+            service: PhantomData,
+        }
+    }
+}
+
+/// A builder whose pattern is still to be chosen.
+pub struct Builder<S: Service> {
+    node: u64,
+    config: Config,
+    name: ServiceName,
+    service: PhantomData<S>,
+}
+
+impl<S: Service> Model for Builder<S> {
+    ghost use Rattle.iceoryx2_builder.specs.Request.{BuilderFacts};
+
+    ghost Value = { BuilderFacts };
+
+    ghost view = { λ builder. record { node = builder.node; config = builder.config; name = builder.name } };
+}
+
+impl<S: Service> Drop for Builder<S> {
+    fn drop(self) {
+        let Builder {
+            node: _,
+            config: _,
+            name: _,
+            service: _,
+        } = self;
+    }
+}
+
+impl<S: Service> Builder<S> {
+    /// A builder of a service of events, with the node's settings, of which none is required.
+    pub fn event(self) -> event::Builder<S>
+        ensures { result ≡ record { node = self.node; name = self.name; asked = started self.config.event } }
+    {
+        let Builder {
+            node,
+            config,
+            name,
+            service: _,
+        } = self;
+        event::Builder::new(node, name, config.event)
+    }
+}

@@ -1,0 +1,201 @@
+//! What a builder of events asks, as the rounds see it.
+
+ghost use Rattle.std.specs.Prelude.{◌≡◌};
+ghost use Rattle.iceoryx2_rounds.specs.Verdict.{verdict, marked_clauses};
+ghost use Rattle.std.specs.Option.{option_map};
+ghost use Rattle.iceoryx2_builder.specs.Event.{rows, raised_of, stamped as stamped_at};
+ghost use Rattle.iceoryx2_builder.specs.Request.{started};
+
+use iceoryx2_data::config;
+use iceoryx2_data::description::{MessagingPattern, StaticConfig};
+use iceoryx2_data::event::{self, Deadline};
+use iceoryx2_data::time::Time;
+use iceoryx2_rounds::error::{EventCreateError, EventOpenError, ServiceState};
+use iceoryx2_rounds::pattern::{CreateRefusal, OpenRefusal, Pattern};
+use iceoryx2_rounds::verdict::need_at_least;
+use std::alloc::AllocError;
+
+/// Which settings a builder of events requires.
+#[derive(Clone, Copy, Debug, PartialEq, Eq)]
+pub struct Marks {
+    pub max_notifiers: bool,
+    pub max_listeners: bool,
+    pub event_id_max_value: bool,
+    pub max_nodes: bool,
+}
+
+/// What a builder of events asks of a service: settings, and which of them it requires.
+#[derive(Clone, Copy, Debug, PartialEq, Eq)]
+pub struct Asked {
+    pub settings: event::StaticConfig,
+    pub marks: Marks,
+}
+
+impl Asked {
+    /// The configured settings, of which none is required.
+    pub(crate) fn start(defaults: config::Event) -> Asked
+        ensures { result ≡ started defaults }
+    {
+        let deadline = match defaults.deadline {
+            None => None,
+            Some(value) => Some(Deadline {
+                value,
+                creation_time: Time::default(),
+            }),
+        };
+        Asked {
+            settings: event::StaticConfig {
+                max_notifiers: defaults.max_notifiers,
+                max_listeners: defaults.max_listeners,
+                event_id_max_value: defaults.event_id_max_value,
+                max_nodes: defaults.max_nodes,
+                notifier_created_event: defaults.notifier_created_event,
+                notifier_dropped_event: defaults.notifier_dropped_event,
+                notifier_dead_event: defaults.notifier_dead_event,
+                deadline,
+            },
+            marks: Marks {
+                max_notifiers: false,
+                max_listeners: false,
+                event_id_max_value: false,
+                max_nodes: false,
+            },
+        }
+    }
+}
+
+/// Zero becomes one.
+fn raised(value: u64) -> u64
+    ensures { result ≡ raised_of value }
+{
+    if value == 0 { 1 } else { value }
+}
+
+/// The deadline of a service that is created at this time.
+fn stamped(deadline: Option<Deadline>, now: Time) -> Option<Deadline>
+    ensures { result ≡ option_map (stamped_at now) deadline }
+{
+    match deadline {
+        None => None,
+        Some(deadline) => Some(Deadline {
+            value: deadline.value,
+            creation_time: now,
+        }),
+    }
+}
+
+/// Whether the existing settings offer what is marked.
+#[tactic(auto, using(iceoryx2_rounds::proofs::Verdicts::row_decides, iceoryx2_rounds::proofs::Verdicts::no_row))]
+fn verify_settings(asked: &Asked, existing: &event::StaticConfig) -> Result<(), EventOpenError>
+    ensures { result ≡ verdict (marked_clauses (rows asked.now.settings asked.now.marks existing.now)) }
+{
+    let marks = &asked.marks;
+    let required = &asked.settings;
+    need_at_least(
+        marks.max_notifiers,
+        existing.max_notifiers,
+        required.max_notifiers,
+        EventOpenError::DoesNotSupportRequestedAmountOfNotifiers,
+    )?;
+    need_at_least(
+        marks.max_listeners,
+        existing.max_listeners,
+        required.max_listeners,
+        EventOpenError::DoesNotSupportRequestedAmountOfListeners,
+    )?;
+    need_at_least(
+        marks.event_id_max_value,
+        existing.event_id_max_value,
+        required.event_id_max_value,
+        EventOpenError::DoesNotSupportRequestedMaxEventId,
+    )?;
+    need_at_least(
+        marks.max_nodes,
+        existing.max_nodes,
+        required.max_nodes,
+        EventOpenError::DoesNotSupportRequestedAmountOfNodes,
+    )?;
+    Ok(())
+}
+
+impl Pattern for Asked {
+    ghost use Rattle.iceoryx2_builder.specs.Event.{event_meaning, event_adjusted};
+
+    type Fault = ServiceState;
+
+    type OpenError = EventOpenError;
+
+    type CreateError = EventCreateError;
+
+    ghost meaning = { event_meaning };
+
+    ghost adjusted = { event_adjusted };
+
+    fn adjust(&mut self) {
+        self.settings.max_notifiers = raised(self.settings.max_notifiers);
+        self.settings.max_listeners = raised(self.settings.max_listeners);
+        self.settings.max_nodes = raised(self.settings.max_nodes);
+    }
+
+    fn fault(&self, state: ServiceState) -> ServiceState {
+        state
+    }
+
+    fn misfit(&self, existing: &StaticConfig) -> Option<ServiceState> {
+        match existing.messaging_pattern() {
+            MessagingPattern::Event(_) => None,
+        }
+    }
+
+    fn verify(&self, existing: &StaticConfig) -> Result<(), EventOpenError> {
+        match existing.messaging_pattern() {
+            MessagingPattern::Event(settings) => verify_settings(self, settings),
+        }
+    }
+
+    fn open_error_of(&self, fault: ServiceState) -> EventOpenError {
+        EventOpenError::from(fault)
+    }
+
+    fn open_refusal(&self, refusal: OpenRefusal) -> EventOpenError {
+        match refusal {
+            OpenRefusal::DoesNotExist => EventOpenError::DoesNotExist,
+            OpenRefusal::ServiceInCorruptedState => EventOpenError::ServiceInCorruptedState,
+            OpenRefusal::InternalFailure => EventOpenError::InternalFailure,
+            OpenRefusal::ExceedsMaxNumberOfNodes => EventOpenError::ExceedsMaxNumberOfNodes,
+            OpenRefusal::IsMarkedForDestruction => EventOpenError::IsMarkedForDestruction,
+            OpenRefusal::OutOfMemory => EventOpenError::OutOfMemory,
+        }
+    }
+
+    fn create_error_of(&self, fault: ServiceState) -> EventCreateError {
+        EventCreateError::from(fault)
+    }
+
+    fn create_refusal(&self, refusal: CreateRefusal) -> EventCreateError {
+        match refusal {
+            CreateRefusal::ServiceInCorruptedState => EventCreateError::ServiceInCorruptedState,
+            CreateRefusal::InternalFailure => EventCreateError::InternalFailure,
+            CreateRefusal::IsBeingCreatedByAnotherInstance => {
+                EventCreateError::IsBeingCreatedByAnotherInstance
+            }
+            CreateRefusal::AlreadyExists => EventCreateError::AlreadyExists,
+            CreateRefusal::InsufficientPermissions => EventCreateError::InsufficientPermissions,
+            CreateRefusal::OutOfMemory => EventCreateError::OutOfMemory,
+        }
+    }
+
+    fn history_refusal(&self) -> Option<EventCreateError> {
+        None
+    }
+
+    fn needs_clock(&self) -> bool {
+        self.settings.deadline.is_some()
+    }
+
+    fn published(&self, now: Time) -> Result<MessagingPattern, AllocError> {
+        let mut settings = self.settings;
+        settings.deadline = stamped(self.settings.deadline, now);
+        Ok(MessagingPattern::Event(settings))
+    }
+}

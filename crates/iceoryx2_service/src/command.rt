@@ -1,0 +1,71 @@
+//! What a session is told, and what it answers.
+
+use iceoryx2_data::description::ServiceName;
+use iceoryx2_data::time::{ClockFault, Time};
+use iceoryx2_rounds::error::{EventCreateError, EventOpenError};
+
+/// How a service is wanted.
+#[derive(Clone, Copy, Debug, PartialEq, Eq)]
+pub enum How {
+    Create,
+    Open,
+}
+
+/// One setter of the builder of events.
+#[derive(Clone, Copy, Debug, PartialEq, Eq)]
+pub enum EventSetting {
+    MaxNotifiers(u64),
+    MaxListeners(u64),
+    EventIdMaxValue(u64),
+    MaxNodes(u64),
+}
+
+/// The setters of one pattern's builder, in the order in which they are called.
+#[derive(Debug, Drop)]
+pub enum Settings {
+    Event(Vec<EventSetting>),
+}
+
+/// A builder call of a node, whose factory goes into a slot.
+#[derive(Debug, Drop)]
+pub struct Call {
+    pub how: How,
+    pub node: u64,
+    pub slot: usize,
+    pub name: ServiceName,
+    pub settings: Settings,
+    /// The time, for what is created with a deadline.
+    pub now: Result<Time, ClockFault>,
+}
+
+/// What a session is told.
+#[derive(Debug, Drop)]
+pub enum Command {
+    Call(Call),
+    /// Closes the factory of a slot.
+    Close { slot: usize },
+}
+
+/// Why a builder call was refused.
+#[derive(Clone, Copy, Debug, PartialEq, Eq)]
+pub enum Refusal {
+    EventOpen(EventOpenError),
+    EventCreate(EventCreateError),
+}
+
+/// What a session answers.
+#[derive(Clone, Copy, Debug, PartialEq, Eq)]
+pub enum Reply {
+    /// The slot holds the factory of the service of this number.
+    Opened { slot: usize, number: u64 },
+    /// The builder call was refused, and the slot is as free as before.
+    Refused(Refusal),
+    /// The slot's factory is closed.
+    Closed { slot: usize },
+    /// Another factory is in the slot, and nothing was called.
+    SlotInUse,
+    /// There is no factory in the slot.
+    SlotEmpty,
+    /// There are only the slots 0 to 63.
+    NoSuchSlot,
+}

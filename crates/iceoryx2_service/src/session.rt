@@ -1,0 +1,161 @@
+//! Commands over a table, with places for what they open.
+
+use crate::command::{Call, Command, EventSetting, How, Refusal, Reply, Settings};
+use crate::slots::{Held, SLOTS, Slots};
+use iceoryx2_builder::builder::Node;
+use iceoryx2_builder::event::Builder;
+use iceoryx2_data::config::Config;
+use iceoryx2_data::description::ServiceName;
+use iceoryx2_data::time::{ClockFault, Time};
+use iceoryx2_rounds::port_factory::CloseError;
+use iceoryx2_rounds::port_factory::event::PortFactory;
+use iceoryx2_storage::local::Local;
+use iceoryx2_storage::table::Table;
+
+/// A table, and 64 slots for the factories that commands open over it. It has to be spent by
+/// `finish`.
+pub struct Session {
+    config: Config,
+    table: Table,
+    slots: Slots,
+}
+
+/// The builder with each setting set, in order.
+fn with_settings(mut builder: Builder<Local>, settings: &[EventSetting]) -> Builder<Local> {
+    for setting in settings {
+        builder = match *setting {
+            EventSetting::MaxNotifiers(value) => builder.max_notifiers(value),
+            EventSetting::MaxListeners(value) => builder.max_listeners(value),
+            EventSetting::EventIdMaxValue(value) => builder.event_id_max_value(value),
+            EventSetting::MaxNodes(value) => builder.max_nodes(value),
+        };
+    }
+    builder
+}
+
+/// The builder call of a command for a service of events.
+fn call_event(
+    builder: Builder<Local>,
+    how: How,
+    now: Result<Time, ClockFault>,
+    table: &mut Table,
+) -> Result<PortFactory<Local>, Refusal> {
+    match how {
+        How::Create => match builder.create(table, now) {
+            Ok(factory) => Ok(factory),
+            Err(error) => Err(Refusal::EventCreate(error)),
+        },
+        How::Open => match builder.open(table) {
+            Ok(factory) => Ok(factory),
+            Err(error) => Err(Refusal::EventOpen(error)),
+        },
+    }
+}
+
+/// Closes what a slot held.
+fn close(held: Held, table: &mut Table) {
+    match held {
+        Held::Event(factory) => match factory.close(table) {
+            Ok(()) => {}
+            Err(error) => match error {
+                CloseError::NotHere(factory) => factory.abandon(),
+                CloseError::TagNotRemoved => {}
+                CloseError::SegmentNotRemoved => {}
+                CloseError::DescriptionNotRemoved => {}
+            },
+        },
+    }
+}
+
+impl Session {
+    /// A session whose nodes have this configuration. All its slots are free.
+    pub fn new(config: Config, table: Table) -> Session {
+        Session {
+            config,
+            table,
+            slots: Slots::new(),
+        }
+    }
+
+    /// Carries out one command. The slot is tested before anything is called.
+    pub fn apply(&mut self, command: Command) -> Reply {
+        match command {
+            Command::Call(call) => self.call(call),
+            Command::Close { slot } => self.close(slot),
+        }
+    }
+
+    fn call(&mut self, call: Call) -> Reply {
+        let slot = call.slot;
+        if slot >= SLOTS {
+            return Reply::NoSuchSlot;
+        }
+        if self.slots.is_taken(slot) {
+            return Reply::SlotInUse;
+        }
+        match self.build(call.how, call.node, call.name, call.settings, call.now) {
+            Ok(factory) => {
+                let number = factory.number();
+                match self.slots.put(slot, Held::Event(factory)) {
+                    None => {}
+                    Some(held) => close(held, &mut self.table),
+                }
+                Reply::Opened { slot, number }
+            }
+            Err(refusal) => Reply::Refused(refusal),
+        }
+    }
+
+    fn build(
+        &mut self,
+        how: How,
+        node: u64,
+        name: ServiceName,
+        settings: Settings,
+        now: Result<Time, ClockFault>,
+    ) -> Result<PortFactory<Local>, Refusal> {
+        let node = Node::<Local>::new(node, self.config);
+        let builder = node.service_builder(name);
+        match settings {
+            Settings::Event(settings) => {
+                let builder = with_settings(builder.event(), &settings);
+                call_event(builder, how, now, &mut self.table)
+            }
+        }
+    }
+
+    fn close(&mut self, slot: usize) -> Reply {
+        if slot >= SLOTS {
+            return Reply::NoSuchSlot;
+        }
+        match self.slots.take(slot) {
+            Some(held) => {
+                close(held, &mut self.table);
+                Reply::Closed { slot }
+            }
+            None => Reply::SlotEmpty,
+        }
+    }
+
+    /// The table, for its readers.
+    pub fn table(&self) -> &Table {
+        &self.table
+    }
+
+    /// Closes the factories of all slots, in ascending order, and gives the table back.
+    pub fn finish(self) -> Table {
+        let Session {
+            config: _,
+            mut table,
+            mut slots,
+        } = self;
+        for slot in 0..SLOTS {
+            match slots.take(slot) {
+                Some(held) => close(held, &mut table),
+                None => {}
+            }
+        }
+        slots.destroy();
+        table
+    }
+}

@@ -1,0 +1,9 @@
+//! Tests that cross the crates, with values from outside the program.
+#![tactic(auto)]
+
+#[cfg(test)]
+mod events;
+#[cfg(test)]
+mod sessions;
+#[cfg(test)]
+mod support;

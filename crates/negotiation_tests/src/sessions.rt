@@ -1,0 +1,101 @@
+//! Commands of a session.
+
+use crate::support::*;
+use iceoryx2_data::config::Config;
+use iceoryx2_data::time::Time;
+use iceoryx2_rounds::error::EventCreateError;
+use iceoryx2_rounds::error::EventOpenError;
+use iceoryx2_service::command::{Call, Command, EventSetting, How, Refusal, Reply, Settings};
+use iceoryx2_service::session::Session;
+use iceoryx2_storage::table::Table;
+use std::alloc::Global;
+use std::process::Abort;
+use std::test::Fail;
+
+fn call(rt: &impl Abort, alloc: Global, how: How, node: u64, slot: usize, text: &str) -> Command {
+    Command::Call(Call {
+        how,
+        node,
+        slot,
+        name: name(rt, alloc, text),
+        settings: Settings::Event(Vec::new(alloc)),
+        now: Ok(Time::default()),
+    })
+}
+
+#[test]
+fn slots_are_tested_before_anything_is_called(rt: HostRuntime) -> Result<(), Fail> {
+    let mut session = Session::new(Config::default(), Table::new(rt.alloc()));
+    let past = session.apply(Command::Close { slot: 64 });
+    let empty = session.apply(Command::Close { slot: 63 });
+    let past_call = session.apply(call(&rt, rt.alloc(), How::Create, 1, 64, "a"));
+    let made = session.apply(call(&rt, rt.alloc(), How::Create, 1, 63, "a"));
+    let taken = session.apply(call(&rt, rt.alloc(), How::Create, 1, 63, "b"));
+    let counter = session.table().counter();
+    let table = session.finish();
+    assert_eq!(rt; past, Reply::NoSuchSlot);
+    assert_eq!(rt; empty, Reply::SlotEmpty);
+    assert_eq!(rt; past_call, Reply::NoSuchSlot);
+    assert_eq!(rt; made, Reply::Opened { slot: 63, number: 0 });
+    assert_eq!(rt; taken, Reply::SlotInUse);
+    assert_eq!(rt; counter, 1);
+    assert_eq!(rt; table.list()?.len(), 0);
+    Ok(())
+}
+
+#[test]
+fn finishing_closes_every_slot(rt: HostRuntime) -> Result<(), Fail> {
+    let mut session = Session::new(Config::default(), Table::new(rt.alloc()));
+    let first = session.apply(call(&rt, rt.alloc(), How::Create, 1, 0, "a"));
+    let second = session.apply(call(&rt, rt.alloc(), How::Open, 2, 1, "a"));
+    let third = session.apply(call(&rt, rt.alloc(), How::Open, 2, 2, "a"));
+    let closed = session.apply(Command::Close { slot: 1 });
+    let again = session.apply(Command::Close { slot: 1 });
+    let table = session.finish();
+    assert_eq!(rt; first, Reply::Opened { slot: 0, number: 0 });
+    assert_eq!(rt; second, Reply::Opened { slot: 1, number: 0 });
+    assert_eq!(rt; third, Reply::Opened { slot: 2, number: 0 });
+    assert_eq!(rt; closed, Reply::Closed { slot: 1 });
+    assert_eq!(rt; again, Reply::SlotEmpty);
+    let hash = hash_of_events(&rt, rt.alloc(), "a");
+    assert_eq!(rt; table.list()?.len(), 0);
+    assert_eq!(rt; table.tickets(1, &hash), 0);
+    assert_eq!(rt; table.tickets(2, &hash), 0);
+    assert!(rt; !table.has_tag(1, &hash));
+    assert!(rt; !table.has_tag(2, &hash));
+    assert_eq!(rt; table.counter(), 3);
+    Ok(())
+}
+
+#[test]
+fn settings_are_set_in_order(rt: HostRuntime) -> Result<(), Fail> {
+    let alloc = rt.alloc();
+    let mut session = Session::new(Config::default(), Table::new(alloc));
+    let settings = vec![in alloc; EventSetting::MaxNodes(9), EventSetting::MaxNotifiers(3), EventSetting::MaxListeners(4), EventSetting::EventIdMaxValue(5), EventSetting::MaxNodes(2)];
+    let Ok(settings) = settings else {
+        let _table = session.finish();
+        panic!(rt; "no memory")
+    };
+    let made = session.apply(Command::Call(Call {
+        how: How::Create,
+        node: 1,
+        slot: 0,
+        name: name(&rt, alloc, "a"),
+        settings: Settings::Event(settings),
+        now: Ok(Time::default()),
+    }));
+    let entries = session.table().list();
+    let refused = session.apply(call(&rt, alloc, How::Create, 1, 1, "a"));
+    let missing = session.apply(call(&rt, alloc, How::Open, 1, 1, "b"));
+    let _table = session.finish();
+    assert_eq!(rt; made, Reply::Opened { slot: 0, number: 0 });
+    assert_eq!(rt; refused, Reply::Refused(Refusal::EventCreate(EventCreateError::AlreadyExists)));
+    assert_eq!(rt; missing, Reply::Refused(Refusal::EventOpen(EventOpenError::DoesNotExist)));
+    let entries = entries?;
+    assert_eq!(rt; entries.len(), 1);
+    let Some(segment) = entries[0].segment else {
+        panic!(rt; "no segment")
+    };
+    assert_eq!(rt; segment.max_nodes, 2);
+    Ok(())
+}
