@@ -1,1 +1,2 @@
 pub mod quiet
+pub mod Places

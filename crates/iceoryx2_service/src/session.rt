@@ -1,16 +1,19 @@
 //! Commands over a table, with places for what they open.
 
+ghost use Rattle.std.specs.Prelude.{◌≡◌, replicate, None};
+ghost use Rattle.iceoryx2_service.specs.Sessions.{Builds, HeldCloses, request, with_settings as set_all};
+
 use crate::command::{Call, Command, EventSetting, How, Refusal, Reply, Settings};
 use crate::slots::{Held, SLOTS, Slots};
 use iceoryx2_builder::builder::Node;
 use iceoryx2_builder::event::Builder;
 use iceoryx2_data::config::Config;
-use iceoryx2_data::description::ServiceName;
 use iceoryx2_data::time::{ClockFault, Time};
 use iceoryx2_rounds::port_factory::CloseError;
 use iceoryx2_rounds::port_factory::event::PortFactory;
 use iceoryx2_storage::local::Local;
 use iceoryx2_storage::table::Table;
+use std::marker::Model;
 
 /// A table, and 64 slots for the factories that commands open over it. It has to be spent by
 /// `finish`.
@@ -20,8 +23,18 @@ pub struct Session {
     slots: Slots,
 }
 
+impl Model for Session {
+    ghost use Rattle.iceoryx2_service.specs.Sessions.{SessionState};
+
+    ghost Value = { SessionState };
+
+    ghost view = { λ session. record { config = session.config; world = session.table; slots = session.slots } };
+}
+
 /// The builder with each setting set, in order.
-fn with_settings(mut builder: Builder<Local>, settings: &[EventSetting]) -> Builder<Local> {
+fn with_settings(mut builder: Builder<Local>, settings: &[EventSetting]) -> Builder<Local>
+    ensures { result ≡ record builder { asked = set_all builder.asked settings.now } }
+{
     for setting in settings {
         builder = match *setting {
             EventSetting::MaxNotifiers(value) => builder.max_notifiers(value),
@@ -39,7 +52,9 @@ fn call_event(
     how: How,
     now: Result<Time, ClockFault>,
     table: &mut Table,
-) -> Result<PortFactory<Local>, Refusal> {
+) -> Result<PortFactory<Local>, Refusal>
+    ensures { Builds builder how now table.old result table.new }
+{
     match how {
         How::Create => match builder.create(table, now) {
             Ok(factory) => Ok(factory),
@@ -52,8 +67,31 @@ fn call_event(
     }
 }
 
+/// The builder call of a command.
+fn build(config: Config, call: Call, table: &mut Table) -> Result<PortFactory<Local>, Refusal>
+    ensures { Builds (request config call) call.how call.now table.old result table.new }
+{
+    let Call {
+        how,
+        node,
+        slot: _,
+        name,
+        settings,
+        now,
+    } = call;
+    let builder = Node::<Local>::new(node, config).service_builder(name);
+    match settings {
+        Settings::Event(settings) => {
+            let builder = with_settings(builder.event(), &settings);
+            call_event(builder, how, now, table)
+        }
+    }
+}
+
 /// Closes what a slot held.
-fn close(held: Held, table: &mut Table) {
+fn close(held: Held, table: &mut Table)
+    ensures { HeldCloses table.old held table.new }
+{
     match held {
         Held::Event(factory) => match factory.close(table) {
             Ok(()) => {}
@@ -68,8 +106,13 @@ fn close(held: Held, table: &mut Table) {
 }
 
 impl Session {
+    ghost use Rattle.iceoryx2_service.specs.Sessions.{Goes, ClosesAll};
+    ghost use Rattle.iceoryx2_service.specs.declared.command.Command.TheVariants as command;
+
     /// A session whose nodes have this configuration. All its slots are free.
-    pub fn new(config: Config, table: Table) -> Session {
+    pub fn new(config: Config, table: Table) -> Session
+        ensures { result ≡ record { config = config; world = table; slots = replicate 64 None } }
+    {
         Session {
             config,
             table,
@@ -78,14 +121,18 @@ impl Session {
     }
 
     /// Carries out one command. The slot is tested before anything is called.
-    pub fn apply(&mut self, command: Command) -> Reply {
+    pub fn apply(&mut self, command: Command) -> Reply
+        ensures { Goes self.old command result self.new }
+    {
         match command {
             Command::Call(call) => self.call(call),
             Command::Close { slot } => self.close(slot),
         }
     }
 
-    fn call(&mut self, call: Call) -> Reply {
+    fn call(&mut self, call: Call) -> Reply
+        ensures { Goes self.old (command.Call call) result self.new }
+    {
         let slot = call.slot;
         if slot >= SLOTS {
             return Reply::NoSuchSlot;
@@ -93,38 +140,19 @@ impl Session {
         if self.slots.is_taken(slot) {
             return Reply::SlotInUse;
         }
-        match self.build(call.how, call.node, call.name, call.settings, call.now) {
+        match build(self.config, call, &mut self.table) {
             Ok(factory) => {
                 let number = factory.number();
-                match self.slots.put(slot, Held::Event(factory)) {
-                    None => {}
-                    Some(held) => close(held, &mut self.table),
-                }
+                self.slots.put(slot, Held::Event(factory));
                 Reply::Opened { slot, number }
             }
             Err(refusal) => Reply::Refused(refusal),
         }
     }
 
-    fn build(
-        &mut self,
-        how: How,
-        node: u64,
-        name: ServiceName,
-        settings: Settings,
-        now: Result<Time, ClockFault>,
-    ) -> Result<PortFactory<Local>, Refusal> {
-        let node = Node::<Local>::new(node, self.config);
-        let builder = node.service_builder(name);
-        match settings {
-            Settings::Event(settings) => {
-                let builder = with_settings(builder.event(), &settings);
-                call_event(builder, how, now, &mut self.table)
-            }
-        }
-    }
-
-    fn close(&mut self, slot: usize) -> Reply {
+    fn close(&mut self, slot: usize) -> Reply
+        ensures { Goes self.old (command.Close slot) result self.new }
+    {
         if slot >= SLOTS {
             return Reply::NoSuchSlot;
         }
@@ -138,12 +166,16 @@ impl Session {
     }
 
     /// The table, for its readers.
-    pub fn table(&self) -> &Table {
+    pub fn table(&self) -> &Table
+        ensures { result.now ≡ self.now.world }
+    {
         &self.table
     }
 
     /// Closes the factories of all slots, in ascending order, and gives the table back.
-    pub fn finish(self) -> Table {
+    pub fn finish(self) -> Table
+        ensures { ClosesAll self.world self.slots result }
+    {
         let Session {
             config: _,
             mut table,
