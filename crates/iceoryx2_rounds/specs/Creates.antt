@@ -62,3 +62,7 @@ module _ {F E C : Type 0} (m : Meaning F E C) (node : ℕ) (hash : ServiceHash) 
   -- The words of create, for a name and the clock's answer.
   abbrev pub IsCreateWord : List ℕ → Result Span ClockFault → List Letter → Result Registered C → Type 0
   IsCreateWord name now word answer = IsCreating (clock_stops m.needs_clock now) (description_of m hash name now) word answer
+
+  -- What a part of the code is said by: the rest of a create's word, once it entered with this tag and nothing stops it.
+  abbrev pub EndsCreate : Description → Tag → List Letter → Result Registered C → Type 0
+  EndsCreate d tag word answer = (u : List Letter) (stops : Bool) → m.history_refusal ≡ None → stops ≡ false → IsEntryWord u (Ok tag) → IsCreating stops d (u ++ word) answer

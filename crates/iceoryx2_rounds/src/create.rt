@@ -4,7 +4,7 @@ ghost use Rattle.std.specs.Prelude.{◌≡◌, IfOk};
 ghost use Rattle.iceoryx2_storage.specs.Run.{Joins};
 ghost use Rattle.iceoryx2_rounds.specs.Answers.{map_ok};
 ghost use Rattle.iceoryx2_rounds.specs.Creates as creates;
-ghost use Rattle.iceoryx2_rounds.specs.Creates.{IsCreateWord, IsEntryWord, description_of};
+ghost use Rattle.iceoryx2_rounds.specs.Creates.{EndsCreate, IsCreateWord, IsEntryWord, description_of};
 ghost use Rattle.iceoryx2_rounds.specs.Refusals.{of_lock, of_make, of_publish, of_remove, of_tag};
 ghost use Rattle.iceoryx2_rounds.specs.Segments.{IsSegmentWord};
 
@@ -201,14 +201,29 @@ fn create_adjusted<P: Pattern, S: Storage>(
         Some(error) => return Err(error),
         None => {}
     }
-    let Entered { tag, description } = match enter(pattern, node, hash, name, now, storage) {
+    let entered = match enter(pattern, node, hash, name, now, storage) {
         Ok(entered) => entered,
         Err(error) => return Err(error),
     };
+    let Entered { tag, description } = entered;
     if clock_stops(pattern.needs_clock(), &now) {
         give_back_tag(node, hash, tag, storage);
         return Err(pattern.create_refusal(CreateRefusal::InternalFailure));
     }
+    make_service(pattern, node, hash, tag, description, storage)
+}
+
+/// Locks the hash, makes the segment, and publishes the description.
+fn make_service<P: Pattern, S: Storage>(
+    pattern: &P,
+    node: u64,
+    hash: &ServiceHash,
+    tag: Tag,
+    description: StaticConfig,
+    storage: &mut S,
+) -> Result<Registration, P::CreateError>
+    ensures { Joins S.step storage.old (λ word. EndsCreate (P.meaning pattern.now) node hash.now description tag word result) storage.new }
+{
     let number = match storage.lock(node, hash) {
         Ok(number) => number,
         Err(error) => {

@@ -51,7 +51,7 @@ pub fn need_duration<E: Copy>(
 ) -> Result<(), E>
     ensures { result ≡ verdict (marked_clauses (span_is is_marked existing required error ∷ [])) }
 {
-    if is_marked && existing != required {
+    if is_marked && required != existing {
         Err(error)
     } else {
         Ok(())

@@ -1,2 +1,3 @@
+pub mod calls
 pub mod quiet
 pub mod Places

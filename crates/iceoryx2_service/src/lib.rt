@@ -2,6 +2,7 @@
 #![tactic(auto)]
 
 pub mod command;
+pub mod laws;
 pub mod quiet_laws;
 pub mod session;
 mod slots;

@@ -1,0 +1,6 @@
+pub mod Words
+pub mod Created
+pub mod Opened
+pub mod Closed
+pub mod Calm
+pub mod Standing
