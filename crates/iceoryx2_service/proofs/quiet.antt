@@ -14,3 +14,4 @@ pub mod Calls
 pub mod Same
 pub mod After
 pub mod Listing
+pub mod Events

@@ -17,13 +17,15 @@ ghost use Rattle.iceoryx2_storage.specs.Across.{Agrees, empty_world, ticket_of, 
 ghost use Rattle.iceoryx2_storage.specs.Standing.{ticket_for};
 ghost use Rattle.iceoryx2_storage.specs.Listing.{Lists};
 ghost use Rattle.iceoryx2_rounds.specs.declared.pattern.OpenRefusal.TheVariants.{OutOfMemory};
-ghost use Rattle.iceoryx2_rounds.specs.declared.port_factory.CloseError.{CloseError as Unclosed};
+ghost use Rattle.iceoryx2_rounds.specs.declared.port_factory.CloseError.{CloseError};
 ghost use Rattle.iceoryx2_rounds.specs.Meaning.{Meaning};
 ghost use Rattle.iceoryx2_rounds.specs.Verdict.{verdict};
 ghost use Rattle.iceoryx2_rounds.specs.Registered.{Registered};
 ghost use Rattle.iceoryx2_rounds.specs.Creates.{IsCreateWord, time_of};
 ghost use Rattle.iceoryx2_rounds.specs.Opens.{IsOpenWord};
 ghost use Rattle.iceoryx2_rounds.specs.Closes.{IsCloseWord};
+ghost use Rattle.iceoryx2_builder.specs.declared.event.asked.Asked.{Asked};
+ghost use Rattle.iceoryx2_builder.specs.Event.{event_meaning, event_adjusted};
 ghost use Rattle.iceoryx2_service.specs.Quiet.{Quiet, Service, Shows, no_service, service_of, count_of};
 ghost use Rattle.iceoryx2_service.specs.QuietCalls.{IsRegular, Creates, Opens, Closes, HasPlace, HasNumber};
 ghost use Rattle.iceoryx2_service.specs.QuietLists.{listing};
@@ -35,7 +37,7 @@ pub fn quiet_laws()
     ensures empty { (c : ℕ) → Shows (empty_world c) (no_service c) }
 
     // To close a factory whose ticket is there is Ok, and it is the machine's close.
-    ensures close { (r : Registered) (w v : World) (q : Quiet) (word : List Letter) (answer : Result (Unit {0}) (Unclosed Registered)) → Shows w q → Agrees w → ticket_of w r.ticket ≡ Some (ticket_for (factory_of r)) → IsCloseWord r word answer → Run IsOwnPart w word v → (answer ≡ Ok tt) × IsClose w q r v }
+    ensures close { (r : Registered) (w v : World) (q : Quiet) (word : List Letter) (answer : Result (Unit {0}) (CloseError Registered)) → Shows w q → Agrees w → ticket_of w r.ticket ≡ Some (ticket_for (factory_of r)) → IsCloseWord r word answer → Run IsOwnPart w word v → (answer ≡ Ok tt) × IsClose w q r v }
 
     // Who has a ticket has opened its service,
     ensures ticket { (w : World) (q : Quiet) (t : ℕ) (x : Ticket) → Shows w q → Agrees w → ticket_of w t ≡ Some x → HasOpened q x.node x.hash x.number }
@@ -57,6 +59,11 @@ pub fn quiet_laws()
 
     // What is listed are the machine's services.
     ensures list { (w : World) (q : Quiet) (entries : List Entry) → Shows w q → Lists w entries → entries ≡ listing q }
+
+    // The meaning of each builder of events is regular, and with its adjusted settings a create
+    // publishes for one node or more.
+    ensures events { (asked : Asked) → IsRegular (event_meaning asked) }
+    ensures events_take_nodes { (asked : Asked) (now : Span) → 0 < max_nodes_of ((event_meaning (event_adjusted asked)).published now) }
 {}
 
 /// What holds of the calls of each pattern over such a table.

@@ -2,6 +2,7 @@ use Rattle.iceoryx2_service.proofs.quiet.Calls.{empty_shows, close_follows}
 use Rattle.iceoryx2_service.proofs.quiet.Tickets.{has_opened}
 use Rattle.iceoryx2_service.proofs.quiet.Same.{holds_the_same, nothing_at, tickets_counted, tags_counted, all_gone}
 use Rattle.iceoryx2_service.proofs.quiet.Listing.{lists_the_machine}
+use Rattle.iceoryx2_service.proofs.quiet.Events.{event_is_regular, event_takes_nodes}
 use Rattle.iceoryx2_service.proofs.quiet_laws.quiet_laws.Goals as goal
 
 pub returns-clause-empty : goal.returns-clause-empty
@@ -30,3 +31,9 @@ returns-clause-unused c = λ w q s old none. all_gone w q s old none
 
 pub returns-clause-list : goal.returns-clause-list
 returns-clause-list c = λ w q entries s lists. lists_the_machine w q entries s lists
+
+pub returns-clause-events : goal.returns-clause-events
+returns-clause-events c = λ asked. event_is_regular asked
+
+pub returns-clause-events_take_nodes : goal.returns-clause-events_take_nodes
+returns-clause-events_take_nodes c = λ asked now. event_takes_nodes asked now
