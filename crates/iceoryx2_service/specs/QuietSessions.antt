@@ -51,13 +51,13 @@ Answers q b how.Open now (Err (refusal.EventCreate e)) p = ⊥
 pub data Moves (config : Config) (q : Quiet) (slots : List (Option Held)) : Command → Reply → Quiet → List (Option Held) → Type 0 where
   call_past : {call : Call} → 64 ≤ call.slot → Moves config q slots (command.Call call) reply.NoSuchSlot q slots
   call_taken : {call : Call} → TakenAt slots call.slot → Moves config q slots (command.Call call) reply.SlotInUse q slots
-  called : {call : Call} {r : Registered} {p : Quiet} → FreeAt slots call.slot → Answers q (request config call) call.how call.now (Ok r) p
+  called : {call : Call} (r : Registered) {p : Quiet} → FreeAt slots call.slot → Answers q (request config call) call.how call.now (Ok r) p
       → Moves config q slots (command.Call call) (reply.Opened call.slot r.number) p (slice_set slots call.slot (Some (held.Event r)))
   refused : {call : Call} {e : Refusal} {p : Quiet} → FreeAt slots call.slot → Answers q (request config call) call.how call.now (Err e) p
       → Moves config q slots (command.Call call) (reply.Refused e) p slots
   close_past : {slot : ℕ} → 64 ≤ slot → Moves config q slots (command.Close slot) reply.NoSuchSlot q slots
   close_empty : {slot : ℕ} → FreeAt slots slot → Moves config q slots (command.Close slot) reply.SlotEmpty q slots
-  closed : {slot : ℕ} {r : Registered} {p : Quiet} → HoldsAt slots slot r → Closes q r.node r.description.hash p
+  closed : {slot : ℕ} (r : Registered) {p : Quiet} → HoldsAt slots slot r → Closes q r.node r.description.hash p
       → Moves config q slots (command.Close slot) (reply.Closed slot) p (slice_set slots slot None)
 
 -- The machine's state after a command, which the session is quiet with again.

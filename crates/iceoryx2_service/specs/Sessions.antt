@@ -78,22 +78,29 @@ Closes w r v = (answer : Result (Unit {0}) (CloseError Registered)) × Joins IsO
 abbrev pub HeldCloses : World → Held → World → Type 0
 HeldCloses w (held.Event r) v = Closes w r v
 
+-- what a slot holds is closed, if it holds something
+abbrev pub PlaceCloses : World → Option Held → World → Type 0
+PlaceCloses w None v = v ≡ w
+PlaceCloses w (Some h) v = HeldCloses w h v
+
+abbrev pub SlotCloses : World → List (Option Held) → ℕ → World → Type 0
+SlotCloses w slots k v = (o : Option Held) × (slice_get slots k ≡ Some o) × PlaceCloses w o v
+
 -- A command leads from one state to another, with this reply. The slot is tested before any access,
 -- and the other slots keep what they hold.
 pub data Goes (old : SessionState) : Command → Reply → SessionState → Type 0 where
   call_past : {call : Call} → 64 ≤ call.slot → Goes old (command.Call call) reply.NoSuchSlot old
   call_taken : {call : Call} {h : Held} → slice_get old.slots call.slot ≡ Some (Some h) → Goes old (command.Call call) reply.SlotInUse old
-  called : {call : Call} {r : Registered} {w : World} → FreeAt old.slots call.slot → Builds (request old.config call) call.how call.now old.world (Ok r) w
+  called : {call : Call} (r : Registered) {w : World} → FreeAt old.slots call.slot → Builds (request old.config call) call.how call.now old.world (Ok r) w
       → Goes old (command.Call call) (reply.Opened call.slot r.number) (record old { world = w; slots = slice_set old.slots call.slot (Some (held.Event r)) })
   refused : {call : Call} {e : Refusal} {w : World} → FreeAt old.slots call.slot → Builds (request old.config call) call.how call.now old.world (Err e) w
       → Goes old (command.Call call) (reply.Refused e) (record old { world = w })
   close_past : {slot : ℕ} → 64 ≤ slot → Goes old (command.Close slot) reply.NoSuchSlot old
   close_empty : {slot : ℕ} → FreeAt old.slots slot → Goes old (command.Close slot) reply.SlotEmpty old
-  closed : {slot : ℕ} {r : Registered} {w : World} → slice_get old.slots slot ≡ Some (Some (held.Event r)) → Closes old.world r w
+  closed : {slot : ℕ} (r : Registered) {w : World} → slice_get old.slots slot ≡ Some (Some (held.Event r)) → Closes old.world r w
       → Goes old (command.Close slot) (reply.Closed slot) (record old { world = w; slots = slice_set old.slots slot None })
 
 -- Slot after slot is closed, in ascending order.
 pub data ClosesAll : World → List (Option Held) → World → Type 0 where
   all_closed : {w : World} → ClosesAll w [] w
-  free_slot : {w v : World} {slots : List (Option Held)} → ClosesAll w slots v → ClosesAll w (None ∷ slots) v
-  taken_slot : {u v w : World} {r : Registered} {slots : List (Option Held)} → Closes u r v → ClosesAll v slots w → ClosesAll u (Some (held.Event r) ∷ slots) w
+  next_slot : {u v w : World} {o : Option Held} {slots : List (Option Held)} → PlaceCloses u o v → ClosesAll v slots w → ClosesAll u (o ∷ slots) w

@@ -1,7 +1,7 @@
 //! Commands over a table, with places for what they open.
 
-ghost use Rattle.std.specs.Prelude.{◌≡◌, replicate, None};
-ghost use Rattle.iceoryx2_service.specs.Sessions.{Builds, HeldCloses, request, with_settings as set_all};
+ghost use Rattle.std.specs.Prelude.{◌≡◌, ◌<◌, replicate, slice_set, None};
+ghost use Rattle.iceoryx2_service.specs.Sessions.{Builds, HeldCloses, SlotCloses, request, with_setting as set_one, with_settings as set_all};
 
 use crate::command::{Call, Command, EventSetting, How, Refusal, Reply, Settings};
 use crate::slots::{Held, SLOTS, Slots};
@@ -13,7 +13,6 @@ use iceoryx2_rounds::port_factory::CloseError;
 use iceoryx2_rounds::port_factory::event::PortFactory;
 use iceoryx2_storage::local::Local;
 use iceoryx2_storage::table::Table;
-use std::marker::Model;
 
 /// A table, and 64 slots for the factories that commands open over it. It has to be spent by
 /// `finish`.
@@ -23,25 +22,25 @@ pub struct Session {
     slots: Slots,
 }
 
-impl Model for Session {
-    ghost use Rattle.iceoryx2_service.specs.Sessions.{SessionState};
-
-    ghost Value = { SessionState };
-
-    ghost view = { λ session. record { config = session.config; world = session.table; slots = session.slots } };
+/// The builder after one setter.
+fn with_setting(builder: Builder<Local>, setting: EventSetting) -> Builder<Local>
+    ensures { result ≡ record builder { asked = set_one builder.asked setting } }
+{
+    match setting {
+        EventSetting::MaxNotifiers(value) => builder.max_notifiers(value),
+        EventSetting::MaxListeners(value) => builder.max_listeners(value),
+        EventSetting::EventIdMaxValue(value) => builder.event_id_max_value(value),
+        EventSetting::MaxNodes(value) => builder.max_nodes(value),
+    }
 }
 
-/// The builder with each setting set, in order.
+/// The builder after each setter, in order.
+#[tactic(auto, using(crate::proofs::Setters::with_settings_push), unfolding(crate::specs::Sessions::with_settings))]
 fn with_settings(mut builder: Builder<Local>, settings: &[EventSetting]) -> Builder<Local>
     ensures { result ≡ record builder { asked = set_all builder.asked settings.now } }
 {
     for setting in settings {
-        builder = match *setting {
-            EventSetting::MaxNotifiers(value) => builder.max_notifiers(value),
-            EventSetting::MaxListeners(value) => builder.max_listeners(value),
-            EventSetting::EventIdMaxValue(value) => builder.event_id_max_value(value),
-            EventSetting::MaxNodes(value) => builder.max_nodes(value),
-        };
+        builder = with_setting(builder, *setting);
     }
     builder
 }
@@ -105,13 +104,28 @@ fn close(held: Held, table: &mut Table)
     }
 }
 
+/// Closes what the slot holds, if it holds something. It is free then.
+fn close_slot(slots: &mut Slots, slot: usize, table: &mut Table)
+    requires { slot < 64 }
+    ensures after { slots.new ≡ slice_set slots.old slot None }
+    ensures closed { SlotCloses table.old slots.old slot table.new }
+{
+    match slots.take(slot) {
+        Some(held) => return close(held, table),
+        None => return,
+    }
+}
+
 impl Session {
+    ghost use Rattle.iceoryx2_service.specs.SessionStates.{state_of};
     ghost use Rattle.iceoryx2_service.specs.Sessions.{Goes, ClosesAll};
+    ghost use Rattle.iceoryx2_service.specs.Quiet.{Quiet};
+    ghost use Rattle.iceoryx2_service.specs.QuietSessions.{IsQuiet, IsMoved};
     ghost use Rattle.iceoryx2_service.specs.declared.command.Command.TheVariants as command;
 
     /// A session whose nodes have this configuration. All its slots are free.
     pub fn new(config: Config, table: Table) -> Session
-        ensures { result ≡ record { config = config; world = table; slots = replicate 64 None } }
+        ensures { state_of result ≡ record { config = config; world = table; slots = replicate 64 None } }
     {
         Session {
             config,
@@ -121,8 +135,14 @@ impl Session {
     }
 
     /// Carries out one command. The slot is tested before anything is called.
+    #[tactic(auto, using(crate::proofs::Sessions::moved))]
     pub fn apply(&mut self, command: Command) -> Reply
-        ensures { Goes self.old command result self.new }
+        // Over any table it is the builder call or the close that it names, along a word of it.
+        ensures goes { Goes (state_of self.old) command result (state_of self.new) }
+
+        // Over a table that nobody else uses it is one step of the quiet machine, and all factories
+        // of the slots stand, each with a ticket of its own.
+        ensures quiet { (q : Quiet) → IsQuiet (state_of self.old) q → IsMoved (state_of self.old).config q (state_of self.old).slots command result (state_of self.new) }
     {
         match command {
             Command::Call(call) => self.call(call),
@@ -131,7 +151,7 @@ impl Session {
     }
 
     fn call(&mut self, call: Call) -> Reply
-        ensures { Goes self.old (command.Call call) result self.new }
+        ensures { Goes (state_of self.old) (command.Call call) result (state_of self.new) }
     {
         let slot = call.slot;
         if slot >= SLOTS {
@@ -151,7 +171,7 @@ impl Session {
     }
 
     fn close(&mut self, slot: usize) -> Reply
-        ensures { Goes self.old (command.Close slot) result self.new }
+        ensures { Goes (state_of self.old) (command.Close slot) result (state_of self.new) }
     {
         if slot >= SLOTS {
             return Reply::NoSuchSlot;
@@ -167,14 +187,14 @@ impl Session {
 
     /// The table, for its readers.
     pub fn table(&self) -> &Table
-        ensures { result.now ≡ self.now.world }
+        ensures { result.now ≡ (state_of self.now).world }
     {
         &self.table
     }
 
     /// Closes the factories of all slots, in ascending order, and gives the table back.
     pub fn finish(self) -> Table
-        ensures { ClosesAll self.world self.slots result }
+        ensures { ClosesAll (state_of self).world (state_of self).slots result }
     {
         let Session {
             config: _,
@@ -182,10 +202,7 @@ impl Session {
             mut slots,
         } = self;
         for slot in 0..SLOTS {
-            match slots.take(slot) {
-                Some(held) => close(held, &mut table),
-                None => {}
-            }
+            close_slot(&mut slots, slot, &mut table);
         }
         slots.destroy();
         table

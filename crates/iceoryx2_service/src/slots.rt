@@ -103,7 +103,9 @@ impl Slots {
     }
 
     /// Lets go of the places.
-    pub fn destroy(self) {
+    pub fn destroy(self)
+        ensures { length self ≡ 64 }
+    {
         let Slots { places } = self;
         abandon_all(places);
     }
