@@ -2,7 +2,7 @@
 
 ghost use Rattle.std.specs.Prelude.{◌≡◌, IfOk};
 ghost use Rattle.iceoryx2_storage.specs.Access.{tag_of};
-ghost use Rattle.iceoryx2_storage.specs.Across.{empty_world, ticket_count};
+ghost use Rattle.iceoryx2_storage.specs.Across.{Agrees, empty_world, ticket_count};
 ghost use Rattle.iceoryx2_storage.specs.Listing.{Lists};
 
 pub mod listing;
@@ -41,8 +41,10 @@ impl Model for Table {
 
 impl Table {
     /// An empty table whose first number is 0. Takes no memory.
+    #[tactic(auto, using(crate::proofs::agreement::Empty::empty_agrees))]
     pub fn new(alloc: Global) -> Table
-        ensures { result ≡ empty_world 0 }
+        ensures world { result ≡ empty_world 0 }
+        ensures agrees { Agrees result }
     {
         Table::starting_at(alloc, 0)
     }
@@ -50,7 +52,8 @@ impl Table {
     /// An empty table with its counter's first value. At `u64::MAX` it hands out no number. Takes
     /// no memory.
     pub fn starting_at(alloc: Global, counter: u64) -> Table
-        ensures { result ≡ empty_world counter }
+        ensures world { result ≡ empty_world counter }
+        ensures agrees { Agrees result }
     {
         Table {
             world: StoredWorld::starting_at(alloc, counter),
@@ -88,77 +91,128 @@ impl Table {
 
 impl Storage for Table {
     ghost use Rattle.iceoryx2_storage.specs.Access.{IsOwnPart};
+    ghost use Rattle.iceoryx2_storage.specs.Across.{Agrees};
+    ghost use Rattle.iceoryx2_storage.specs.Letter.{fetched};
+    ghost use Rattle.iceoryx2_storage.specs.Letter as letter;
 
     ghost step = { λ w letter v. IsOwnPart w letter v };
 
-    fn exists(&mut self, hash: &ServiceHash) -> Existence {
+    #[tactic(auto, using(crate::proofs::agreement::Accesses::own_agrees))]
+    fn exists(&mut self, hash: &ServiceHash) -> Existence
+        ensures part { IsOwnPart self.old (letter.Exists hash.now result) self.new }
+        ensures agrees { Agrees self.old → Agrees self.new }
+    {
         self.world.exists(hash)
     }
 
-    fn fetch(&mut self, node: u64, hash: &ServiceHash) -> Result<(u64, Vec<u8>), FetchError> {
+    #[tactic(auto, using(crate::proofs::agreement::Accesses::own_agrees))]
+    fn fetch(&mut self, node: u64, hash: &ServiceHash) -> Result<(u64, Vec<u8>), FetchError>
+        ensures part { IsOwnPart self.old (letter.Fetch node hash.now (fetched result)) self.new }
+        ensures agrees { Agrees self.old → Agrees self.new }
+    {
         self.world.fetch(node, hash)
     }
 
-    fn counts(&mut self, node: u64, hash: &ServiceHash) -> bool {
+    #[tactic(auto, using(crate::proofs::agreement::Accesses::own_agrees))]
+    fn counts(&mut self, node: u64, hash: &ServiceHash) -> bool
+        ensures part { IsOwnPart self.old (letter.Counts node hash.now result) self.new }
+        ensures agrees { Agrees self.old → Agrees self.new }
+    {
         self.world.counts(node, hash)
     }
 
-    fn make_tag(&mut self, node: u64, hash: &ServiceHash) -> Result<Tag, TagError> {
+    #[tactic(auto, using(crate::proofs::agreement::Accesses::own_agrees))]
+    fn make_tag(&mut self, node: u64, hash: &ServiceHash) -> Result<Tag, TagError>
+        ensures part { IsOwnPart self.old (letter.MakeTag node hash.now result) self.new }
+        ensures agrees { Agrees self.old → Agrees self.new }
+    {
         self.world.make_tag(node, hash)
     }
 
-    fn remove_tag(&mut self, node: u64, hash: &ServiceHash) -> Result<(), RemoveError> {
+    #[tactic(auto, using(crate::proofs::agreement::Accesses::own_agrees))]
+    fn remove_tag(&mut self, node: u64, hash: &ServiceHash) -> Result<(), RemoveError>
+        ensures part { IsOwnPart self.old (letter.RemoveTag node hash.now result) self.new }
+        ensures agrees { Agrees self.old → Agrees self.new }
+    {
         self.world.remove_tag(node, hash)
     }
 
-    fn lock(&mut self, node: u64, hash: &ServiceHash) -> Result<u64, LockError> {
+    #[tactic(auto, using(crate::proofs::agreement::Accesses::own_agrees))]
+    fn lock(&mut self, node: u64, hash: &ServiceHash) -> Result<u64, LockError>
+        ensures part { IsOwnPart self.old (letter.Lock node hash.now result) self.new }
+        ensures agrees { Agrees self.old → Agrees self.new }
+    {
         self.world.lock(node, hash)
     }
 
+    #[tactic(auto, using(crate::proofs::agreement::Accesses::own_agrees))]
     fn make_segment(
         &mut self,
         node: u64,
         hash: &ServiceHash,
         number: u64,
         max_nodes: u64,
-    ) -> Result<(), MakeSegmentError> {
+    ) -> Result<(), MakeSegmentError>
+        ensures part { IsOwnPart self.old (letter.MakeSegment node hash.now number max_nodes result) self.new }
+        ensures agrees { Agrees self.old → Agrees self.new }
+    {
         self.world.make_segment(node, hash, number, max_nodes)
     }
 
-    fn remove_segment(&mut self, node: u64, hash: &ServiceHash) -> Result<(), RemoveError> {
+    #[tactic(auto, using(crate::proofs::agreement::Accesses::own_agrees))]
+    fn remove_segment(&mut self, node: u64, hash: &ServiceHash) -> Result<(), RemoveError>
+        ensures part { IsOwnPart self.old (letter.RemoveSegment node hash.now result) self.new }
+        ensures agrees { Agrees self.old → Agrees self.new }
+    {
         self.world.remove_segment(node, hash)
     }
 
-    fn remove_description(&mut self, node: u64, hash: &ServiceHash) -> Result<(), RemoveError> {
+    #[tactic(auto, using(crate::proofs::agreement::Accesses::own_agrees))]
+    fn remove_description(&mut self, node: u64, hash: &ServiceHash) -> Result<(), RemoveError>
+        ensures part { IsOwnPart self.old (letter.RemoveDescription node hash.now result) self.new }
+        ensures agrees { Agrees self.old → Agrees self.new }
+    {
         self.world.remove_description(node, hash)
     }
 
+    #[tactic(auto, using(crate::proofs::agreement::Accesses::own_agrees))]
     fn publish(
         &mut self,
         node: u64,
         hash: &ServiceHash,
         number: u64,
         description: &StaticConfig,
-    ) -> Result<u64, PublishError> {
+    ) -> Result<u64, PublishError>
+        ensures part { IsOwnPart self.old (letter.Publish node hash.now number description.now result) self.new }
+        ensures agrees { Agrees self.old → Agrees self.new }
+    {
         self.world.publish(node, hash, number, description)
     }
 
+    #[tactic(auto, using(crate::proofs::agreement::Accesses::own_agrees))]
     fn open_segment(
         &mut self,
         node: u64,
         hash: &ServiceHash,
         number: u64,
-    ) -> Result<u64, OpenSegmentError> {
+    ) -> Result<u64, OpenSegmentError>
+        ensures part { IsOwnPart self.old (letter.OpenSegment node hash.now number result) self.new }
+        ensures agrees { Agrees self.old → Agrees self.new }
+    {
         self.world.open_segment(node, hash, number)
     }
 
+    #[tactic(auto, using(crate::proofs::agreement::Accesses::own_agrees))]
     fn release(
         &mut self,
         ticket: u64,
         node: u64,
         hash: &ServiceHash,
         number: u64,
-    ) -> Result<Release, ReleaseError> {
+    ) -> Result<Release, ReleaseError>
+        ensures part { IsOwnPart self.old (letter.Release ticket node hash.now number result) self.new }
+        ensures agrees { Agrees self.old → Agrees self.new }
+    {
         self.world.release(ticket, node, hash, number)
     }
 }
