@@ -1,2 +1,7 @@
 pub mod calls
 pub mod quiet
+pub mod Places
+pub mod Sessions
+pub mod Setters
+pub mod Commands
+pub mod Finishing

@@ -1,11 +1,13 @@
 //! Commands over a table, with places for what they open.
 
+ghost use Rattle.std.specs.Prelude.{◌≡◌, ◌<◌, replicate, slice_set, None};
+ghost use Rattle.iceoryx2_service.specs.Sessions.{Builds, HeldCloses, SlotCloses, request, with_setting as set_one, with_settings as set_all};
+
 use crate::command::{Call, Command, EventSetting, How, Refusal, Reply, Settings};
 use crate::slots::{Held, SLOTS, Slots};
 use iceoryx2_builder::builder::Node;
 use iceoryx2_builder::event::Builder;
 use iceoryx2_data::config::Config;
-use iceoryx2_data::description::ServiceName;
 use iceoryx2_data::time::{ClockFault, Time};
 use iceoryx2_rounds::port_factory::CloseError;
 use iceoryx2_rounds::port_factory::event::PortFactory;
@@ -20,15 +22,25 @@ pub struct Session {
     slots: Slots,
 }
 
-/// The builder with each setting set, in order.
-fn with_settings(mut builder: Builder<Local>, settings: &[EventSetting]) -> Builder<Local> {
+/// The builder after one setter.
+fn with_setting(builder: Builder<Local>, setting: EventSetting) -> Builder<Local>
+    ensures { result ≡ record builder { asked = set_one builder.asked setting } }
+{
+    match setting {
+        EventSetting::MaxNotifiers(value) => builder.max_notifiers(value),
+        EventSetting::MaxListeners(value) => builder.max_listeners(value),
+        EventSetting::EventIdMaxValue(value) => builder.event_id_max_value(value),
+        EventSetting::MaxNodes(value) => builder.max_nodes(value),
+    }
+}
+
+/// The builder after each setter, in order.
+#[tactic(auto, using(crate::proofs::Setters::with_settings_push), unfolding(crate::specs::Sessions::with_settings))]
+fn with_settings(mut builder: Builder<Local>, settings: &[EventSetting]) -> Builder<Local>
+    ensures { result ≡ record builder { asked = set_all builder.asked settings.now } }
+{
     for setting in settings {
-        builder = match *setting {
-            EventSetting::MaxNotifiers(value) => builder.max_notifiers(value),
-            EventSetting::MaxListeners(value) => builder.max_listeners(value),
-            EventSetting::EventIdMaxValue(value) => builder.event_id_max_value(value),
-            EventSetting::MaxNodes(value) => builder.max_nodes(value),
-        };
+        builder = with_setting(builder, *setting);
     }
     builder
 }
@@ -39,7 +51,9 @@ fn call_event(
     how: How,
     now: Result<Time, ClockFault>,
     table: &mut Table,
-) -> Result<PortFactory<Local>, Refusal> {
+) -> Result<PortFactory<Local>, Refusal>
+    ensures { Builds builder how now table.old result table.new }
+{
     match how {
         How::Create => match builder.create(table, now) {
             Ok(factory) => Ok(factory),
@@ -52,8 +66,31 @@ fn call_event(
     }
 }
 
+/// The builder call of a command.
+fn build(config: Config, call: Call, table: &mut Table) -> Result<PortFactory<Local>, Refusal>
+    ensures { Builds (request config call) call.how call.now table.old result table.new }
+{
+    let Call {
+        how,
+        node,
+        slot: _,
+        name,
+        settings,
+        now,
+    } = call;
+    let builder = Node::<Local>::new(node, config).service_builder(name);
+    match settings {
+        Settings::Event(settings) => {
+            let builder = with_settings(builder.event(), &settings);
+            call_event(builder, how, now, table)
+        }
+    }
+}
+
 /// Closes what a slot held.
-fn close(held: Held, table: &mut Table) {
+fn close(held: Held, table: &mut Table)
+    ensures { HeldCloses table.old held table.new }
+{
     match held {
         Held::Event(factory) => match factory.close(table) {
             Ok(()) => {}
@@ -67,9 +104,29 @@ fn close(held: Held, table: &mut Table) {
     }
 }
 
+/// Closes what the slot holds, if it holds something. It is free then.
+fn close_slot(slots: &mut Slots, slot: usize, table: &mut Table)
+    requires { slot < 64 }
+    ensures after { slots.new ≡ slice_set slots.old slot None }
+    ensures closed { SlotCloses table.old slots.old slot table.new }
+{
+    match slots.take(slot) {
+        Some(held) => return close(held, table),
+        None => return,
+    }
+}
+
 impl Session {
+    ghost use Rattle.iceoryx2_service.specs.SessionStates.{state_of};
+    ghost use Rattle.iceoryx2_service.specs.Sessions.{Goes, ClosesAll};
+    ghost use Rattle.iceoryx2_service.specs.Quiet.{Quiet};
+    ghost use Rattle.iceoryx2_service.specs.QuietSessions.{IsQuiet, IsMoved};
+    ghost use Rattle.iceoryx2_service.specs.declared.command.Command.TheVariants as command;
+
     /// A session whose nodes have this configuration. All its slots are free.
-    pub fn new(config: Config, table: Table) -> Session {
+    pub fn new(config: Config, table: Table) -> Session
+        ensures { state_of result ≡ record { config = config; world = table; slots = replicate 64 None } }
+    {
         Session {
             config,
             table,
@@ -78,14 +135,24 @@ impl Session {
     }
 
     /// Carries out one command. The slot is tested before anything is called.
-    pub fn apply(&mut self, command: Command) -> Reply {
+    #[tactic(auto, using(crate::proofs::Sessions::moved))]
+    pub fn apply(&mut self, command: Command) -> Reply
+        // Over any table it is the builder call or the close that it names, along a word of it.
+        ensures goes { Goes (state_of self.old) command result (state_of self.new) }
+
+        // Over a table that nobody else uses it is one step of the quiet machine, and all factories
+        // of the slots stand, each with a ticket of its own.
+        ensures quiet { (q : Quiet) → IsQuiet (state_of self.old) q → IsMoved (state_of self.old).config q (state_of self.old).slots command result (state_of self.new) }
+    {
         match command {
             Command::Call(call) => self.call(call),
             Command::Close { slot } => self.close(slot),
         }
     }
 
-    fn call(&mut self, call: Call) -> Reply {
+    fn call(&mut self, call: Call) -> Reply
+        ensures { Goes (state_of self.old) (command.Call call) result (state_of self.new) }
+    {
         let slot = call.slot;
         if slot >= SLOTS {
             return Reply::NoSuchSlot;
@@ -93,38 +160,19 @@ impl Session {
         if self.slots.is_taken(slot) {
             return Reply::SlotInUse;
         }
-        match self.build(call.how, call.node, call.name, call.settings, call.now) {
+        match build(self.config, call, &mut self.table) {
             Ok(factory) => {
                 let number = factory.number();
-                match self.slots.put(slot, Held::Event(factory)) {
-                    None => {}
-                    Some(held) => close(held, &mut self.table),
-                }
+                self.slots.put(slot, Held::Event(factory));
                 Reply::Opened { slot, number }
             }
             Err(refusal) => Reply::Refused(refusal),
         }
     }
 
-    fn build(
-        &mut self,
-        how: How,
-        node: u64,
-        name: ServiceName,
-        settings: Settings,
-        now: Result<Time, ClockFault>,
-    ) -> Result<PortFactory<Local>, Refusal> {
-        let node = Node::<Local>::new(node, self.config);
-        let builder = node.service_builder(name);
-        match settings {
-            Settings::Event(settings) => {
-                let builder = with_settings(builder.event(), &settings);
-                call_event(builder, how, now, &mut self.table)
-            }
-        }
-    }
-
-    fn close(&mut self, slot: usize) -> Reply {
+    fn close(&mut self, slot: usize) -> Reply
+        ensures { Goes (state_of self.old) (command.Close slot) result (state_of self.new) }
+    {
         if slot >= SLOTS {
             return Reply::NoSuchSlot;
         }
@@ -138,22 +186,23 @@ impl Session {
     }
 
     /// The table, for its readers.
-    pub fn table(&self) -> &Table {
+    pub fn table(&self) -> &Table
+        ensures { result.now ≡ (state_of self.now).world }
+    {
         &self.table
     }
 
     /// Closes the factories of all slots, in ascending order, and gives the table back.
-    pub fn finish(self) -> Table {
+    pub fn finish(self) -> Table
+        ensures { ClosesAll (state_of self).world (state_of self).slots result }
+    {
         let Session {
             config: _,
             mut table,
             mut slots,
         } = self;
         for slot in 0..SLOTS {
-            match slots.take(slot) {
-                Some(held) => close(held, &mut table),
-                None => {}
-            }
+            close_slot(&mut slots, slot, &mut table);
         }
         slots.destroy();
         table

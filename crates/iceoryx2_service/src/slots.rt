@@ -1,6 +1,6 @@
 //! The places for a session's factories.
 
-ghost use Rattle.std.specs.Prelude.{◌≡◌, ◌<◌, slice_set, slice_get, Some, None};
+ghost use Rattle.std.specs.Prelude.{◌≡◌, ◌<◌, slice_set, slice_get, Some, None, MatchBool, replicate, length};
 
 use iceoryx2_rounds::port_factory::event;
 use iceoryx2_storage::local::Local;
@@ -63,7 +63,12 @@ fn abandon_all(places: [Option<Held>; SLOTS]) {
 }
 
 impl Slots {
-    pub fn new() -> Slots {
+    ghost use Rattle.iceoryx2_service.specs.Slots.{FreeAt, TakenAt};
+
+    /// Slots that are all free.
+    pub fn new() -> Slots
+        ensures { result ≡ replicate 64 None }
+    {
         Slots {
             places: Default::default(),
         }
@@ -71,6 +76,7 @@ impl Slots {
 
     pub fn is_taken(&self, slot: usize) -> bool
         requires { slot < 64 }
+        ensures { MatchBool result (TakenAt self.now slot) (FreeAt self.now slot) }
     {
         match &self.places[slot] {
             Some(_) => true,
@@ -81,21 +87,25 @@ impl Slots {
     /// What the slot holds. It is free then.
     pub fn take(&mut self, slot: usize) -> Option<Held>
         requires { slot < 64 }
+        ensures value { slice_get self.old slot ≡ Some result }
         ensures after { self.new ≡ slice_set self.old slot None }
     {
         self.places[slot].take()
     }
 
-    /// Puts a service into the slot, and gives what it held.
-    pub fn put(&mut self, slot: usize, held: Held) -> Option<Held>
-        requires { slot < 64 }
+    /// Puts a service into a free slot.
+    pub fn put(&mut self, slot: usize, held: Held)
+        requires in_range { slot < 64 }
+        requires free { FreeAt self.old slot }
         ensures after { self.new ≡ slice_set self.old slot (Some held) }
     {
-        self.places[slot].replace(held)
+        abandon(self.places[slot].replace(held))
     }
 
     /// Lets go of the places.
-    pub fn destroy(self) {
+    pub fn destroy(self)
+        ensures { length self ≡ 64 }
+    {
         let Slots { places } = self;
         abandon_all(places);
     }

@@ -22,14 +22,19 @@ fn call(rt: &impl Abort, alloc: Global, how: How, node: u64, slot: usize, text: 
     })
 }
 
+/// Carries out one command. What its contract says of the table is not wanted here.
+fn apply(session: &mut Session, command: Command) -> Reply {
+    session.apply(command)
+}
+
 #[test]
 fn slots_are_tested_before_anything_is_called(rt: HostRuntime) -> Result<(), Fail> {
     let mut session = Session::new(Config::default(), Table::new(rt.alloc()));
-    let past = session.apply(Command::Close { slot: 64 });
-    let empty = session.apply(Command::Close { slot: 63 });
-    let past_call = session.apply(call(&rt, rt.alloc(), How::Create, 1, 64, "a"));
-    let made = session.apply(call(&rt, rt.alloc(), How::Create, 1, 63, "a"));
-    let taken = session.apply(call(&rt, rt.alloc(), How::Create, 1, 63, "b"));
+    let past = apply(&mut session, Command::Close { slot: 64 });
+    let empty = apply(&mut session, Command::Close { slot: 63 });
+    let past_call = apply(&mut session, call(&rt, rt.alloc(), How::Create, 1, 64, "a"));
+    let made = apply(&mut session, call(&rt, rt.alloc(), How::Create, 1, 63, "a"));
+    let taken = apply(&mut session, call(&rt, rt.alloc(), How::Create, 1, 63, "b"));
     let counter = session.table().counter();
     let table = session.finish();
     assert_eq!(rt; past, Reply::NoSuchSlot);
@@ -51,11 +56,11 @@ fn slots_are_tested_before_anything_is_called(rt: HostRuntime) -> Result<(), Fai
 #[test]
 fn finishing_closes_every_slot(rt: HostRuntime) -> Result<(), Fail> {
     let mut session = Session::new(Config::default(), Table::new(rt.alloc()));
-    let first = session.apply(call(&rt, rt.alloc(), How::Create, 1, 0, "a"));
-    let second = session.apply(call(&rt, rt.alloc(), How::Open, 2, 1, "a"));
-    let third = session.apply(call(&rt, rt.alloc(), How::Open, 2, 2, "a"));
-    let closed = session.apply(Command::Close { slot: 1 });
-    let again = session.apply(Command::Close { slot: 1 });
+    let first = apply(&mut session, call(&rt, rt.alloc(), How::Create, 1, 0, "a"));
+    let second = apply(&mut session, call(&rt, rt.alloc(), How::Open, 2, 1, "a"));
+    let third = apply(&mut session, call(&rt, rt.alloc(), How::Open, 2, 2, "a"));
+    let closed = apply(&mut session, Command::Close { slot: 1 });
+    let again = apply(&mut session, Command::Close { slot: 1 });
     let table = session.finish();
     assert_eq!(rt; first, Reply::Opened { slot: 0, number: 0 });
     assert_eq!(rt; second, Reply::Opened { slot: 1, number: 0 });
@@ -87,17 +92,20 @@ fn settings_are_set_in_order(rt: HostRuntime) -> Result<(), Fail> {
         let _table = session.finish();
         panic!(rt; "no memory")
     };
-    let made = session.apply(Command::Call(Call {
-        how: How::Create,
-        node: 1,
-        slot: 0,
-        name: name(&rt, alloc, "a"),
-        settings: Settings::Event(settings),
-        now: Ok(Time::default()),
-    }));
+    let made = apply(
+        &mut session,
+        Command::Call(Call {
+            how: How::Create,
+            node: 1,
+            slot: 0,
+            name: name(&rt, alloc, "a"),
+            settings: Settings::Event(settings),
+            now: Ok(Time::default()),
+        }),
+    );
     let entries = session.table().list();
-    let refused = session.apply(call(&rt, alloc, How::Create, 1, 1, "a"));
-    let missing = session.apply(call(&rt, alloc, How::Open, 1, 1, "b"));
+    let refused = apply(&mut session, call(&rt, alloc, How::Create, 1, 1, "a"));
+    let missing = apply(&mut session, call(&rt, alloc, How::Open, 1, 1, "b"));
     let _table = session.finish();
     assert_eq!(rt; made, Reply::Opened { slot: 0, number: 0 });
     assert_eq!(rt;

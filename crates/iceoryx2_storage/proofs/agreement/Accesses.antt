@@ -184,4 +184,3 @@ granted w l v other (inr f) = absurd (other f.0)
 -- the own part keeps the agreement
 pub own_agrees : (w : World) (l : Letter) (v : World) → IsOwnPart w l v → Agrees w → Agrees v
 own_agrees w l v o old = (access_keeps w l v (own_access w l v o) old).0
-
