@@ -5,3 +5,4 @@ pub mod Sessions
 pub mod Setters
 pub mod Commands
 pub mod Finishing
+pub mod Finished

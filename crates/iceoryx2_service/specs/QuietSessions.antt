@@ -1,10 +1,13 @@
 -- A session over a table that nobody else uses, and what a command makes of it: one step of a map.
-use Rattle.std.specs.Prelude.{◌≡◌, ℕ, ◌≤◌, List, Option, Some, None, Result, Ok, Err, slice_get, slice_set, IfOk}
+use Rattle.std.specs.Prelude.{◌≡◌, ℕ, ◌≤◌, List, [], ◌∷◌, Option, Some, None, Result, Ok, Err, slice_get, slice_set, IfOk}
 use Rattle.iceoryx2_data.specs.declared.config.Config.{Config}
 use Rattle.iceoryx2_data.specs.declared.time.ClockFault.{ClockFault}
 use Rattle.iceoryx2_data.specs.Span.{Span}
 use Rattle.iceoryx2_storage.specs.World.{World}
+use Rattle.iceoryx2_storage.specs.Access.{IsOwnPart}
 use Rattle.iceoryx2_storage.specs.Across.{Agrees}
+use Rattle.iceoryx2_storage.specs.Run.{Joins}
+use Rattle.iceoryx2_rounds.specs.Closes.{IsCloseWord}
 use Rattle.iceoryx2_storage.specs.Standing.{Factory, Stands}
 use Rattle.iceoryx2_rounds.specs.Registered.{Registered}
 use Rattle.iceoryx2_builder.specs.Request.{EventRequest}
@@ -66,3 +69,20 @@ pub record IsMoved (config : Config) (q : Quiet) (slots : List (Option Held)) (c
   pub moves : Moves config q slots c a state new.slots
   pub quiet : IsQuiet new state
   pub configured : new.config ≡ config
+
+-- what a slot holds is closed, and that is Ok
+abbrev pub PlaceIsClosed : World → Option Held → World → Type 0
+PlaceIsClosed w None v = v ≡ w
+PlaceIsClosed w (Some (held.Event r)) v = Joins IsOwnPart w (λ word. IsCloseWord r word (Ok tt)) v
+
+-- Slot after slot is closed, in ascending order, and no factory comes back.
+pub data AreClosed : World → List (Option Held) → World → Type 0 where
+  no_slot : {w : World} → AreClosed w [] w
+  slot_after : {u v w : World} {o : Option Held} {slots : List (Option Held)} → PlaceIsClosed u o v → AreClosed v slots w → AreClosed u (o ∷ slots) w
+
+-- A session's end: its slots are closed, and the table shows what the machine has then.
+pub record IsFinished (w : World) (slots : List (Option Held)) (v : World) : Type 0 where
+  pub closed : AreClosed w slots v
+  pub state : Quiet
+  pub shows : Shows v state
+  pub agrees : Agrees v

@@ -120,7 +120,7 @@ impl Session {
     ghost use Rattle.iceoryx2_service.specs.SessionStates.{state_of};
     ghost use Rattle.iceoryx2_service.specs.Sessions.{Goes, ClosesAll};
     ghost use Rattle.iceoryx2_service.specs.Quiet.{Quiet};
-    ghost use Rattle.iceoryx2_service.specs.QuietSessions.{IsQuiet, IsMoved};
+    ghost use Rattle.iceoryx2_service.specs.QuietSessions.{IsFinished, IsMoved, IsQuiet};
     ghost use Rattle.iceoryx2_service.specs.declared.command.Command.TheVariants as command;
 
     /// A session whose nodes have this configuration. All its slots are free.
@@ -194,7 +194,11 @@ impl Session {
 
     /// Closes the factories of all slots, in ascending order, and gives the table back.
     pub fn finish(self) -> Table
-        ensures { ClosesAll (state_of self).world (state_of self).slots result }
+        // Over any table each is closed along a word of close.
+        ensures closes { ClosesAll (state_of self).world (state_of self).slots result }
+
+        // Over a table that nobody else uses each close is Ok, so no factory comes back.
+        ensures quiet { (q : Quiet) → IsQuiet (state_of self) q → IsFinished (state_of self).world (state_of self).slots result }
     {
         let Session {
             config: _,
