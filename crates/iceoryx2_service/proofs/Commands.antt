@@ -1,5 +1,5 @@
 -- What the code of a session does to its state, exit by exit.
-use Rattle.std.proofs.Common.{◌≡◌, ℕ, List, Option, Some, None, Result, Ok, Err, refl, sym, ap, subst, ◌∙◌}
+use Rattle.std.proofs.Common.{◌≡◌, ℕ, List, Option, Some, None, Ok, sym, subst, ◌∙◌}
 use Rattle.std.specs.Prelude.{slice_get, slice_set}
 use Rattle.iceoryx2_storage.specs.World.{World}
 use Rattle.iceoryx2_rounds.specs.Registered.{Registered}

@@ -1,10 +1,10 @@
 -- A session that is finished over a table that nobody else uses.
-use Rattle.std.proofs.Common.{◌≡◌, ◌≢◌, ℕ, zero, suc, List, [], ◌∷◌, Option, Some, None, Result, Ok, refl, sym, ap, subst, arith}
+use Rattle.std.proofs.Common.{◌≡◌, ◌≢◌, ℕ, suc, List, ◌∷◌, Option, Some, None, Ok, refl, sym, ap, subst, arith}
 use Rattle.iceoryx2_data.specs.declared.config.Config.{Config}
 use Rattle.iceoryx2_storage.specs.World.{World}
 use Rattle.iceoryx2_storage.specs.Access.{IsOwnPart}
 use Rattle.iceoryx2_storage.specs.Across.{Agrees}
-use Rattle.iceoryx2_storage.specs.Standing.{Factory, Stands}
+use Rattle.iceoryx2_storage.specs.Standing.{Stands}
 use Rattle.iceoryx2_storage.specs.Run.{Joins}
 use Rattle.iceoryx2_rounds.specs.Closes.{IsCloseWord}
 use Rattle.iceoryx2_rounds.specs.Registered.{Registered}
@@ -13,7 +13,7 @@ use Rattle.iceoryx2_service.specs.declared.slots.Held.TheVariants as held
 use Rattle.iceoryx2_service.specs.Sessions.{SessionState, ClosesAll}
 use Rattle.iceoryx2_service.specs.Sessions as closes
 use Rattle.iceoryx2_service.specs.Quiet.{Quiet, Shows}
-use Rattle.iceoryx2_service.specs.QuietLaws.{factory_of}
+use Rattle.iceoryx2_service.specs.Factories.{factory_of}
 use Rattle.iceoryx2_service.specs.QuietSessions.{IsQuiet, IsFinished, no_slot, slot_after}
 use Rattle.iceoryx2_service.proofs.quiet.Calls.{close_follows}
 

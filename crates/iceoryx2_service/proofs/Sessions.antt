@@ -1,12 +1,10 @@
 -- One command of a session over a table that nobody else uses.
-use Rattle.std.proofs.Common.{◌≡◌, ◌≢◌, ℕ, zero, suc, ◌<◌, ◌≤◌, ◌+◌, List, [], ◌∷◌, Option, Some, None, Result, Ok, Err, ◌⊎◌, inl, inr, refl, sym, ap, subst, ◌∙◌, arith}
+use Rattle.std.proofs.Common.{◌≡◌, ◌≢◌, ℕ, zero, suc, ◌<◌, List, [], ◌∷◌, Option, Some, None, Result, Ok, Err, ◌⊎◌, inl, inr, refl, sym, ap, subst, ◌∙◌, arith}
 use Rattle.std.specs.Prelude.{slice_get, slice_set, IfOk}
-use Rattle.iceoryx2_data.specs.declared.config.Config.{Config}
 use Rattle.iceoryx2_data.specs.declared.time.ClockFault.{ClockFault}
 use Rattle.iceoryx2_data.specs.Span.{Span}
 use Rattle.iceoryx2_storage.specs.World.{World}
-use Rattle.iceoryx2_storage.specs.Access.{IsOwnPart}
-use Rattle.iceoryx2_storage.specs.Across.{Agrees, ticket_of}
+use Rattle.iceoryx2_storage.specs.Across.{Agrees}
 use Rattle.iceoryx2_storage.specs.Standing.{Factory, Stands, ticket_for}
 use Rattle.iceoryx2_rounds.specs.Registered.{Registered}
 use Rattle.iceoryx2_builder.specs.Request.{EventRequest}
@@ -14,17 +12,15 @@ use Rattle.iceoryx2_builder.specs.Event.{event_meaning, event_adjusted}
 use Rattle.iceoryx2_service.specs.declared.command.How.{How}
 use Rattle.iceoryx2_service.specs.declared.command.How.TheVariants as how
 use Rattle.iceoryx2_service.specs.declared.command.Command.{Command}
-use Rattle.iceoryx2_service.specs.declared.command.Command.TheVariants as command
 use Rattle.iceoryx2_service.specs.declared.command.Refusal.{Refusal}
 use Rattle.iceoryx2_service.specs.declared.command.Refusal.TheVariants as refusal
 use Rattle.iceoryx2_service.specs.declared.command.Reply.{Reply}
 use Rattle.iceoryx2_service.specs.declared.slots.Held.{Held}
 use Rattle.iceoryx2_service.specs.declared.slots.Held.TheVariants as held
-use Rattle.iceoryx2_service.specs.Slots.{FreeAt}
 use Rattle.iceoryx2_service.specs.Sessions.{SessionState, request, hash_for, Builds, Goes}
 use Rattle.iceoryx2_service.specs.Sessions as goes
 use Rattle.iceoryx2_service.specs.Quiet.{Quiet, Shows}
-use Rattle.iceoryx2_service.specs.QuietLaws.{factory_of, IsCall, IsClose}
+use Rattle.iceoryx2_service.specs.Factories.{factory_of}
 use Rattle.iceoryx2_service.specs.QuietSessions.{HoldsAt, IsQuiet, Answers, Moves, IsMoved}
 use Rattle.iceoryx2_service.specs.QuietSessions as moves
 use Rattle.iceoryx2_service.proofs.quiet.Calls.{create_follows, open_follows, close_follows}

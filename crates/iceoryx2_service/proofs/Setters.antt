@@ -1,5 +1,5 @@
 -- One setter after the others.
-use Rattle.std.proofs.Common.{◌≡◌, ℕ, suc, ◌+◌, ◌<◌, List, [], ◌∷◌, ◌++◌, length, take, get_or, refl, sym, add-one}
+use Rattle.std.proofs.Common.{◌≡◌, ℕ, ◌+◌, ◌<◌, List, [], ◌∷◌, ◌++◌, length, take, get_or, refl, sym, add-one}
 use Rattle.std.proofs.Math.Seq.{take-suc}
 use Rattle.iceoryx2_builder.specs.declared.event.asked.Asked.{Asked}
 use Rattle.iceoryx2_service.specs.declared.command.EventSetting.{EventSetting}

@@ -6,13 +6,7 @@ use Rattle.iceoryx2_storage.specs.World.{World}
 use Rattle.iceoryx2_storage.specs.Letter.{Letter}
 use Rattle.iceoryx2_storage.specs.Peers.{IsAccess}
 use Rattle.iceoryx2_storage.specs.Faulty.{IsFaulty}
-use Rattle.iceoryx2_storage.specs.Standing.{Factory}
 use Rattle.iceoryx2_storage.specs.Calm.{SameServices, count_of}
-use Rattle.iceoryx2_rounds.specs.Registered.{Registered}
-
--- the factory of a registration
-abbrev pub factory_of : Registered → Factory
-factory_of r = record { node = r.node; number = r.number; ticket = r.ticket; description = r.description }
 
 -- Whatever worlds the accesses of this word lead through, it is true of each: before the first access, between
 -- any two and after the last.

@@ -10,10 +10,7 @@ use Rattle.iceoryx2_storage.specs.Standing.{Factory, Stands, ticket_for}
 use Rattle.iceoryx2_rounds.specs.Registered.{Registered}
 use Rattle.iceoryx2_service.specs.Quiet.{Quiet, Service, Shows, service_of, count_of}
 use Rattle.iceoryx2_service.specs.QuietCalls.{Closes}
-
--- the factory of a registration
-abbrev pub factory_of : Registered → Factory
-factory_of r = record { node = r.node; number = r.number; ticket = r.ticket; description = r.description }
+use Rattle.iceoryx2_service.specs.Factories.{factory_of}
 
 -- the tickets after a create or an open: one more where it gave a factory
 abbrev pub tickets_after : {E : Type 0} → Tickets → Result Registered E → Tickets

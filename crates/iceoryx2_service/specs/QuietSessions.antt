@@ -1,5 +1,5 @@
 -- A session over a table that nobody else uses, and what a command makes of it: one step of a map.
-use Rattle.std.specs.Prelude.{◌≡◌, ℕ, ◌≤◌, List, [], ◌∷◌, Option, Some, None, Result, Ok, Err, slice_get, slice_set, IfOk}
+use Rattle.std.specs.Prelude.{◌≡◌, ℕ, ◌≤◌, List, [], ◌∷◌, Option, Some, None, Result, Ok, Err, slice_get, slice_set}
 use Rattle.iceoryx2_data.specs.declared.config.Config.{Config}
 use Rattle.iceoryx2_data.specs.declared.time.ClockFault.{ClockFault}
 use Rattle.iceoryx2_data.specs.Span.{Span}
@@ -8,7 +8,7 @@ use Rattle.iceoryx2_storage.specs.Access.{IsOwnPart}
 use Rattle.iceoryx2_storage.specs.Across.{Agrees}
 use Rattle.iceoryx2_storage.specs.Run.{Joins}
 use Rattle.iceoryx2_rounds.specs.Closes.{IsCloseWord}
-use Rattle.iceoryx2_storage.specs.Standing.{Factory, Stands}
+use Rattle.iceoryx2_storage.specs.Standing.{Stands}
 use Rattle.iceoryx2_rounds.specs.Registered.{Registered}
 use Rattle.iceoryx2_builder.specs.Request.{EventRequest}
 use Rattle.iceoryx2_builder.specs.Event.{event_meaning, event_adjusted}
@@ -27,7 +27,7 @@ use Rattle.iceoryx2_service.specs.Slots.{FreeAt, TakenAt}
 use Rattle.iceoryx2_service.specs.Sessions.{SessionState, request, hash_for}
 use Rattle.iceoryx2_service.specs.Quiet.{Quiet, Shows}
 use Rattle.iceoryx2_service.specs.QuietCalls.{Creates, Opens, Closes}
-use Rattle.iceoryx2_service.specs.QuietLaws.{factory_of}
+use Rattle.iceoryx2_service.specs.Factories.{factory_of}
 
 -- the slot holds this factory
 abbrev pub HoldsAt : List (Option Held) → ℕ → Registered → Type 0

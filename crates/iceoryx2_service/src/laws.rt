@@ -20,7 +20,8 @@ ghost use Rattle.iceoryx2_rounds.specs.Creates.{IsCreateWord, description_of};
 ghost use Rattle.iceoryx2_rounds.specs.Opens.{IsOpenWord};
 ghost use Rattle.iceoryx2_rounds.specs.Registered.{Registered};
 ghost use Rattle.iceoryx2_rounds.specs.Verdict.{verdict};
-ghost use Rattle.iceoryx2_service.specs.Calls.{factory_of, Throughout, AtEach, ActsCalmly, ChangesLast};
+ghost use Rattle.iceoryx2_service.specs.Calls.{Throughout, AtEach, ActsCalmly, ChangesLast};
+ghost use Rattle.iceoryx2_service.specs.Factories.{factory_of};
 
 use iceoryx2_rounds::pattern::Pattern;
 

@@ -29,7 +29,8 @@ ghost use Rattle.iceoryx2_builder.specs.Event.{event_meaning, event_adjusted};
 ghost use Rattle.iceoryx2_service.specs.Quiet.{Quiet, Service, Shows, no_service, service_of, count_of};
 ghost use Rattle.iceoryx2_service.specs.QuietCalls.{IsRegular, Creates, Opens, Closes, HasPlace, HasNumber};
 ghost use Rattle.iceoryx2_service.specs.QuietLists.{listing};
-ghost use Rattle.iceoryx2_service.specs.QuietLaws.{IsCall, IsClose, HasOpened, HoldsTheSame, HasNothingAt, factory_of, times_opened};
+ghost use Rattle.iceoryx2_service.specs.QuietLaws.{IsCall, IsClose, HasOpened, HoldsTheSame, HasNothingAt, times_opened};
+ghost use Rattle.iceoryx2_service.specs.Factories.{factory_of};
 
 /// What holds of a table that nobody else uses, whatever the patterns of its services.
 pub fn quiet_laws()

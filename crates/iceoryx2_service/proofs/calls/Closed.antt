@@ -26,7 +26,7 @@ use Rattle.iceoryx2_rounds.specs.declared.port_factory.CloseError.{CloseError}
 use Rattle.iceoryx2_rounds.specs.declared.port_factory.CloseError.TheVariants as closing
 use Rattle.iceoryx2_rounds.specs.Registered.{Registered}
 use Rattle.iceoryx2_rounds.specs.Closes.{IsCloseWord, first_refused, not_here, still_counted, left, last as last_left}
-use Rattle.iceoryx2_service.specs.Calls.{factory_of}
+use Rattle.iceoryx2_service.specs.Factories.{factory_of}
 
 -- removals, which change no ticket
 abbrev IsRemoval : Letter → Type 0

@@ -15,7 +15,7 @@ use Rattle.iceoryx2_storage.proofs.agreement.Stands.{created_stands}
 use Rattle.iceoryx2_rounds.specs.Meaning.{Meaning}
 use Rattle.iceoryx2_rounds.specs.Registered.{Registered}
 use Rattle.iceoryx2_rounds.specs.Creates.{IsCreating, published}
-use Rattle.iceoryx2_service.specs.Calls.{factory_of}
+use Rattle.iceoryx2_service.specs.Factories.{factory_of}
 
 module _ {F E C : Type 0} {m : Meaning F E C} {node : ℕ} {hash : ServiceHash} where
   pub create_stands : {stops : Bool} {d : Description} {word : List Letter} {r : Registered} {w v : World} → IsCreating m node hash stops d word (Ok r) → Run IsFaulty w word v → Agrees w → Stands v (factory_of r) × (r.node ≡ node) × (r.description ≡ d) × (w.counter ≤ r.ticket)

@@ -16,7 +16,7 @@ use Rattle.iceoryx2_rounds.specs.Registered.{Registered}
 use Rattle.iceoryx2_rounds.specs.Verdict.{verdict}
 use Rattle.iceoryx2_rounds.specs.Looks.{fetched, fits}
 use Rattle.iceoryx2_rounds.specs.Opens.{ready, IsLastRound, opened, IsOpenWord, ended}
-use Rattle.iceoryx2_service.specs.Calls.{factory_of}
+use Rattle.iceoryx2_service.specs.Factories.{factory_of}
 
 -- the factory of an open over these worlds
 pub record IsOpened {F E C : Type 0} (m : Meaning F E C) (node : ℕ) (hash : ServiceHash) (r : Registered) (w v : World) : Type 0 where

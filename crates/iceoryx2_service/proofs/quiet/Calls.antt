@@ -29,7 +29,8 @@ use Rattle.iceoryx2_rounds.specs.Opens.{IsOpenWord}
 use Rattle.iceoryx2_service.specs.Quiet.{Service, Quiet, ShowsService, Shows, no_service, service_of}
 use Rattle.iceoryx2_service.specs.QuietCalls.{IsRegular, Creates, Opens, created_by, opened_by, with_service, spend}
 use Rattle.iceoryx2_service.specs.QuietCalls as call
-use Rattle.iceoryx2_service.specs.QuietLaws.{factory_of, tickets_after, IsCall, IsClose}
+use Rattle.iceoryx2_service.specs.QuietLaws.{tickets_after, IsCall, IsClose}
+use Rattle.iceoryx2_service.specs.Factories.{factory_of}
 use Rattle.iceoryx2_service.proofs.quiet.Seats.{move_all}
 use Rattle.iceoryx2_service.proofs.quiet.Here.{create_here, open_here, close_here}
 use Rattle.iceoryx2_service.proofs.quiet.Create.{Made, create_absent}

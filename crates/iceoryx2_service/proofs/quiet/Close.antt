@@ -27,7 +27,7 @@ use Rattle.iceoryx2_rounds.specs.Registered.{Registered}
 use Rattle.iceoryx2_rounds.specs.Closes.{IsCloseWord}
 use Rattle.iceoryx2_service.specs.Quiet.{Counts, Service, Quiet, IsThere, ShowsService, Shows, CountIs, service_of, count_of, is_counted}
 use Rattle.iceoryx2_service.specs.QuietCalls.{Closes, closed, fewer_counts, with_counts, closed_by, with_service}
-use Rattle.iceoryx2_service.specs.QuietLaws.{factory_of}
+use Rattle.iceoryx2_service.specs.Factories.{factory_of}
 use Rattle.iceoryx2_service.proofs.quiet.Seats.{Apart, AtSeat}
 use Rattle.iceoryx2_service.proofs.quiet.Absent.{at_seat, from}
 use Rattle.iceoryx2_service.proofs.quiet.Lift.{services_after, phase_beside, tag_beside, equal_or_not, not_same, other_node, no_node}

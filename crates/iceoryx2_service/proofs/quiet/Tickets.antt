@@ -21,7 +21,8 @@ use Rattle.iceoryx2_storage.proofs.agreement.Maps.{set_cases}
 use Rattle.iceoryx2_storage.proofs.agreement.Stands.{stands_by_ticket, older_ticket}
 use Rattle.iceoryx2_rounds.specs.Registered.{Registered}
 use Rattle.iceoryx2_service.specs.Quiet.{Service, Quiet, ShowsService, Shows, CountIs, service_of, count_of}
-use Rattle.iceoryx2_service.specs.QuietLaws.{HasOpened, factory_of, tickets_after}
+use Rattle.iceoryx2_service.specs.QuietLaws.{HasOpened, tickets_after}
+use Rattle.iceoryx2_service.specs.Factories.{factory_of}
 
 not_begun : (x : Phase) (n : ℕ) → begins x ≡ true → joined_number x ≡ Some n → ⊥
 not_begun at.Idle n b e = absurd (cc)

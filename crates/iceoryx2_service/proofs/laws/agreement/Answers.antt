@@ -7,7 +7,7 @@ use Rattle.iceoryx2_service.proofs.calls.Opened.{open_stands}
 use Rattle.iceoryx2_service.proofs.calls.Closed.{close_takes_out, close_ok, no_refusal}
 use Rattle.iceoryx2_service.proofs.calls.Calm.{refused_create_calm, refused_open_calm, created_changes, opened_changes}
 use Rattle.iceoryx2_service.proofs.calls.Standing.{stands_among, one_service}
-use Rattle.iceoryx2_service.specs.Calls.{factory_of}
+use Rattle.iceoryx2_service.specs.Factories.{factory_of}
 use Rattle.iceoryx2_service.proofs.laws.agreement.Goals as goal
 
 pub returns-clause-agrees : goal.returns-clause-agrees

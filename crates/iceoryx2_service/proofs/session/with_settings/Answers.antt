@@ -1,4 +1,4 @@
-use Rattle.std.proofs.Common.{◌≡◌, ap, get_or, refl}
+use Rattle.std.proofs.Common.{ap, get_or, refl}
 use Rattle.iceoryx2_builder.specs.declared.event.asked.Asked.{Asked}
 use Rattle.iceoryx2_builder.specs.Request.{EventRequest}
 use Rattle.iceoryx2_service.specs.declared.command.EventSetting.TheVariants.{MaxNotifiers}
