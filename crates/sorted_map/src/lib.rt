@@ -1,0 +1,186 @@
+//! A map as a vector in the order of its keys.
+#![tactic(auto)]
+
+ghost use Rattle.std.specs.Prelude.{◌≡◌, ◌<◌, ◌≤◌, length, true, vec_len, vec_capacity, nat_lt};
+ghost use Rattle.std.specs.Prelude.{IfOk, IfErr, OnOk, OnErr, IsSome, None, Some};
+ghost use Rattle.std.specs.List.{insert as list_insert};
+ghost use Rattle.std.specs.Option.{option_copied, option_copied_mut};
+ghost use Rattle.std.specs.Borrow.{sem};
+ghost use Rattle.std.specs.FinMap as map;
+ghost use Rattle.std.specs.FinMap.{is_sorted, IsAntisymmetric};
+ghost use Rattle.sorted_map.specs.Gaps.{Gap, TiesAt};
+ghost use Rattle.sorted_map.specs.Sorted.{map_of, HasRoom};
+
+use std::alloc::{AllocError, Global};
+use std::marker::Model;
+use std::mem;
+
+/// The entries in the order of their keys, each key once.
+#[derive(Drop)]
+pub struct SortedVec<K: Ord + Copy, V> {
+    entries: Vec<(K, V)>,
+}
+
+impl<K: Ord + Copy, V> Model for SortedVec<K, V> {
+    ghost use Rattle.std.specs.Prelude.{◌≡◌, true, vec_capacity};
+    ghost use Rattle.std.specs.FinMap.{is_sorted};
+    ghost use Rattle.sorted_map.specs.Sorted.{Sorted, sorted_code};
+
+    ghost Value = { Sorted K V };
+
+    ghost coded = { sorted_code K.code V.code };
+
+    ghost view = { λ s. record { entries = s.entries.items; capacity = vec_capacity s.entries } };
+
+    ghost invariant = { λ s. is_sorted K.cmp s.entries.items ≡ true };
+}
+
+// Where the key is, or where it would go.
+fn search<K: Ord + Copy, V>(entries: &[(K, V)], key: &K) -> Result<usize, usize>
+    requires { is_sorted K.cmp entries.now ≡ true }
+    ensures found { IfOk result (TiesAt K.cmp key.now entries.now) }
+    ensures in_range { IfErr result (λ at. at ≤ length entries.now) }
+    ensures gap { IfErr result (Gap K.cmp key.now entries.now) }
+{
+    entries.binary_search_by_key(key, |entry| entry.0)
+}
+
+// Puts an item in its place, where there is room.
+fn insert_reserved<T: Drop>(items: &mut Vec<T>, at: usize, item: T)
+    requires in_range { at ≤ vec_len items.old }
+    requires room { vec_len items.old < vec_capacity items.old }
+    ensures items { items.new.items ≡ list_insert items.old.items at item }
+    ensures capacity { vec_capacity items.new ≡ vec_capacity items.old }
+{
+    let _ = items.insert(at, item);
+}
+
+impl<K: Ord + Copy, V> SortedVec<K, V> {
+    ghost use Rattle.sorted_map.specs.Lends.{lends_value, lends_get};
+
+    /// No entries, and no memory.
+    pub fn new(alloc: Global) -> Self
+        ensures { map_of K.cmp result ≡ map.empty }
+    {
+        SortedVec {
+            entries: Vec::new(alloc),
+        }
+    }
+
+    /// What its memory comes from.
+    pub fn allocator(&self) -> Global {
+        *self.entries.allocator()
+    }
+
+    /// How many entries there are.
+    pub fn len(&self) -> usize
+        ensures { result ≡ map.len (map_of K.cmp self.now) }
+    {
+        self.entries.len()
+    }
+
+    /// One more fits with no allocation.
+    pub fn has_room(&self) -> bool
+        ensures { result ≡ nat_lt (map.len (map_of K.cmp self.now)) self.now.capacity }
+    {
+        self.entries.len() < self.entries.capacity()
+    }
+
+    /// The keys and values, by rising key.
+    pub fn entries(&self) -> &[(K, V)]
+        ensures { result.now ≡ map.entries (map_of K.cmp self.now) }
+    {
+        self.entries.as_slice()
+    }
+
+    /// The value of a key.
+    pub fn get(&self, key: &K) -> Option<&V>
+        ensures { option_copied result ≡ map.get (map_of K.cmp self.now) key.now }
+    {
+        match search(self.entries.as_slice(), key) {
+            Ok(at) => Some(&self.entries[at].1),
+            Err(_) => None,
+        }
+    }
+
+    // The value at a place, which is that of the key.
+    fn value_mut(&mut self, key: &K, at: usize) -> &mut V
+        requires { TiesAt K.cmp key.now self.old.entries at }
+        ensures* writes_back { sem 𝓛 (lends_value K.row V.row K.Ord self.entry key.now result) }
+        ensures value { map.get (map_of K.cmp self.old) key.now ≡ Some result.now }
+    {
+        &mut self.entries[at].1
+    }
+
+    /// The value of a key, for writing.
+    pub fn get_mut(&mut self, key: &K) -> Option<&mut V>
+        ensures* writes_back { sem 𝓛 (lends_get K.row V.row K.Ord self.entry key.now result) }
+        ensures value { option_copied_mut result ≡ map.get (map_of K.cmp self.old) key.now }
+    {
+        match search(self.entries.as_slice(), key) {
+            Ok(at) => Some(self.value_mut(key, at)),
+            Err(_) => None,
+        }
+    }
+
+    /// Asks for room for one more. It is refused only where there is none.
+    pub fn reserve(&mut self) -> Result<(), AllocError>
+        ensures same { map_of K.cmp self.new ≡ map_of K.cmp self.old }
+        ensures room { OnOk result (HasRoom K.cmp self.new) }
+        ensures full { OnErr result (self.old.capacity ≤ map.len (map_of K.cmp self.old)) }
+        ensures capacity { self.old.capacity ≤ self.new.capacity }
+    {
+        self.entries.reserve(1)
+    }
+}
+
+impl<K: Ord + Copy, V: Drop> SortedVec<K, V> {
+    /// Sets the value of a key. A key that is there needs no room.
+    pub fn insert(&mut self, key: K, value: V)
+        requires { map.get (map_of K.cmp self.old) key ≡ None → HasRoom K.cmp self.old }
+        ensures effect { map_of K.cmp self.new ≡ map.insert (map_of K.cmp self.old) key value }
+        ensures capacity { self.new.capacity ≡ self.old.capacity }
+    {
+        match search(self.entries.as_slice(), &key) {
+            Ok(at) => self.entries[at].1 = value,
+            Err(at) => insert_reserved(&mut self.entries, at, (key, value)),
+        }
+    }
+
+    /// Sets the value of a key that is there, and gives the one that it had. A key that is absent stays so.
+    #[tactic(auto, using(crate::proofs::Maps::map_of_written))]
+    pub fn replace(&mut self, key: &K, value: V) -> Option<V>
+        ensures effect { IsSome result → map_of K.cmp self.new ≡ map.insert (map_of K.cmp self.old) key.now value }
+        ensures absent { result ≡ None → self.new ≡ self.old }
+        ensures value { result ≡ map.get (map_of K.cmp self.old) key.now }
+        ensures capacity { self.new.capacity ≡ self.old.capacity }
+    {
+        match self.get_mut(key) {
+            Some(held) => Some(mem::replace(held, value)),
+            None => None,
+        }
+    }
+
+    /// Takes a key out, and gives its value.
+    pub fn remove(&mut self, key: &K) -> Option<V>
+        ensures effect { IsAntisymmetric K.cmp → map_of K.cmp self.new ≡ map.remove (map_of K.cmp self.old) key.now }
+        ensures value { result ≡ map.get (map_of K.cmp self.old) key.now }
+        ensures capacity { self.new.capacity ≡ self.old.capacity }
+
+        // Its place is free for one more.
+        ensures room { IsSome result → HasRoom K.cmp self.new }
+    {
+        match search(self.entries.as_slice(), key) {
+            Ok(at) => Some(self.entries.remove(at).1),
+            Err(_) => None,
+        }
+    }
+
+    /// Takes all out.
+    pub fn clear(&mut self)
+        ensures effect { map_of K.cmp self.new ≡ map.empty }
+        ensures capacity { self.new.capacity ≡ self.old.capacity }
+    {
+        self.entries.clear();
+    }
+}
