@@ -4,9 +4,9 @@ ghost use Rattle.std.specs.Prelude.{◌≡◌, ◌<◌, ◌^◌};
 ghost use Rattle.iceoryx2_builder.specs.Request.{started};
 
 use crate::event;
+use iceoryx2_access::storage::Service;
 use iceoryx2_data::config::Config;
 use iceoryx2_data::description::ServiceName;
-use iceoryx2_storage::storage::Service;
 use std::marker::{Model, PhantomData};
 
 /// One that creates and opens services: a number, and the settings that its builders start from.

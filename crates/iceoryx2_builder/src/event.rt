@@ -1,7 +1,7 @@
 //! The builder of services of events.
 
 ghost use Rattle.std.specs.Prelude.{◌≡◌, true};
-ghost use Rattle.iceoryx2_storage.specs.Run.{Joins};
+ghost use Rattle.iceoryx2_access.specs.Run.{Joins};
 ghost use Rattle.iceoryx2_rounds.specs.Creates.{IsCreateWord};
 ghost use Rattle.iceoryx2_rounds.specs.Opens.{IsOpenWord};
 ghost use Rattle.iceoryx2_builder.specs.Event.{event_meaning, event_adjusted};
@@ -10,6 +10,7 @@ ghost use Rattle.iceoryx2_builder.specs.Request.{started, letter_of_events};
 pub mod asked;
 
 use crate::event::asked::Asked;
+use iceoryx2_access::storage::{Service, ServiceNameHasher};
 use iceoryx2_data::config;
 use iceoryx2_data::description::ServiceName;
 pub use iceoryx2_data::event::EventId;
@@ -18,7 +19,6 @@ use iceoryx2_rounds::create::create;
 use iceoryx2_rounds::error::{EventCreateError, EventOpenError};
 use iceoryx2_rounds::open::open;
 use iceoryx2_rounds::port_factory::event::PortFactory;
-use iceoryx2_storage::storage::{Service, ServiceNameHasher};
 use std::marker::{Model, PhantomData};
 
 /// The letter that stands before a name in the hash of a service of events.

@@ -2,14 +2,14 @@ use Rattle.std.proofs.Common.{◌≤◌, ◌+◌, ◌*◌, ℕ, zero, suc, Bool,
 use Rattle.std.proofs.lemmas.List.Sums.{sum_by-append}
 use Rattle.iceoryx2_data.specs.declared.description.ServiceHash.{ServiceHash}
 use Rattle.iceoryx2_data.specs.Description.{Description}
-use Rattle.iceoryx2_storage.specs.declared.storage.Tag.{Tag}
-use Rattle.iceoryx2_storage.specs.declared.storage.Tag.TheVariants.{Made, Found}
-use Rattle.iceoryx2_storage.specs.Letter.{Letter}
+use Rattle.iceoryx2_access.specs.declared.storage.Tag.{Tag}
+use Rattle.iceoryx2_access.specs.declared.storage.Tag.TheVariants.{Made, Found}
+use Rattle.iceoryx2_access.specs.Letter.{Letter}
 use Rattle.iceoryx2_rounds.specs.declared.look.Outcome.{Outcome}
 use Rattle.iceoryx2_rounds.specs.declared.pattern.CreateRefusal.{CreateRefusal}
 use Rattle.iceoryx2_rounds.specs.Counts.{IsWithin}
 use Rattle.iceoryx2_rounds.specs.Meaning.{Meaning}
-use Rattle.iceoryx2_rounds.specs.Registered.{Registered}
+use Rattle.iceoryx2_access.specs.Factory.{Factory}
 use Rattle.iceoryx2_rounds.specs.Looks.{IsLookWord, absent, broken, fetched}
 use Rattle.iceoryx2_rounds.specs.GivesBack.{Thing, OwnTag, OwnLock, OwnSegment, own_tag, GivesBack, nothing_left, segment_back, lock_back, tag_back}
 use Rattle.iceoryx2_rounds.specs.Segments.{cleared, IsSegmentWord, made, not_made, not_removed, still_there}
@@ -113,7 +113,7 @@ module _ {F E C : Type 0} (m : Meaning F E C) (node : ℕ) (hash : ServiceHash) 
   entry_within (entered tag l) = within_append (look_within l) (within_append (asks node hash _) (tags node hash _))
 
   -- a create looks once, opens nothing, and makes its segment in at most six attempts
-  pub create_within : {stops : Bool} {d : Description} {w : List Letter} {r : Result Registered C} → IsCreating m node hash stops d w r → IsWithin w 1 0 6 6
+  pub create_within : {stops : Bool} {d : Description} {w : List Letter} {r : Result Factory C} → IsCreating m node hash stops d w r → IsWithin w 1 0 6 6
   create_within (forbidden _) = within_more _ _ _ _ (omega arith) (omega arith) (omega arith) (omega arith) none_within
   create_within (not_entered _ e) = within_more _ _ _ _ (omega arith) (omega arith) (omega arith) (omega arith) (entry_within e)
   create_within (clock_fault {tag} _ _ e b) = within_more _ _ _ _ (omega arith) (omega arith) (omega arith) (omega arith) (within_append (entry_within e) (tag_within node hash tag b))
@@ -128,7 +128,7 @@ module _ {F E C : Type 0} (m : Meaning F E C) (node : ℕ) (hash : ServiceHash) 
   failed_within : {w : List Letter} → IsFailedRound m node hash w → IsWithin w 2 1 0 0
   failed_within (failed {tag} r l b) = within_append (ready_within r) (within_append (opens_segment node hash _ _) (within_append (look_within l) (tag_within node hash tag b)))
 
-  last_within : {w : List Letter} {r : Result Registered E} → IsLastRound m node hash w r → IsWithin w 2 1 0 0
+  last_within : {w : List Letter} {r : Result Factory E} → IsLastRound m node hash w r → IsWithin w 2 1 0 0
   last_within (opens.look_faulty l) = within_more _ _ _ _ (omega arith) (omega arith) (omega arith) (omega arith) (look_within l)
   last_within (opens.look_none l) = within_more _ _ _ _ (omega arith) (omega arith) (omega arith) (omega arith) (look_within l)
   last_within (opens.not_accepted l _) = within_more _ _ _ _ (omega arith) (omega arith) (omega arith) (omega arith) (look_within l)
@@ -143,6 +143,6 @@ module _ {F E C : Type 0} (m : Meaning F E C) (node : ℕ) (hash : ServiceHash) 
   rounds_within (one_more before r) = within_more _ _ _ _ (omega arith) (omega arith) (omega arith) (omega arith) (within_append (rounds_within before) (failed_within r))
 
   -- an open looks at most twice and opens at most once in each of its at most six rounds
-  pub open_within : {w : List Letter} {r : Result Registered E} → IsOpenWord m node hash w r → IsWithin w 12 6 0 0
+  pub open_within : {w : List Letter} {r : Result Factory E} → IsOpenWord m node hash w r → IsWithin w 12 6 0 0
   open_within (ended small before l) = within_more _ _ _ _ (omega arith) (omega arith) (omega arith) (omega arith) (within_append (rounds_within before) (last_within l))
   open_within (six_failed before) = rounds_within before

@@ -1,13 +1,13 @@
 use Rattle.std.proofs.Common.{[], ℕ, zero, suc, Bool, List, ◌∷◌, ◌++◌, Ok, Err}
 use Rattle.iceoryx2_data.specs.declared.description.ServiceHash.{ServiceHash}
 use Rattle.iceoryx2_data.specs.Description.{Description}
-use Rattle.iceoryx2_storage.specs.declared.storage.Tag.{Tag}
-use Rattle.iceoryx2_storage.specs.declared.storage.Tag.TheVariants.{Made, Found}
-use Rattle.iceoryx2_storage.specs.Letter.{Letter}
+use Rattle.iceoryx2_access.specs.declared.storage.Tag.{Tag}
+use Rattle.iceoryx2_access.specs.declared.storage.Tag.TheVariants.{Made, Found}
+use Rattle.iceoryx2_access.specs.Letter.{Letter}
 use Rattle.iceoryx2_rounds.specs.declared.look.Outcome.{Outcome}
 use Rattle.iceoryx2_rounds.specs.declared.pattern.CreateRefusal.{CreateRefusal}
 use Rattle.iceoryx2_rounds.specs.Meaning.{Meaning}
-use Rattle.iceoryx2_rounds.specs.Registered.{Registered}
+use Rattle.iceoryx2_access.specs.Factory.{Factory}
 use Rattle.iceoryx2_rounds.specs.Looks.{IsLookWord, absent, broken, fetched}
 use Rattle.iceoryx2_rounds.specs.GivesBack.{Thing, OwnLock, OwnSegment, own_tag, GivesBack, nothing_left, segment_back, lock_back, tag_back}
 use Rattle.iceoryx2_rounds.specs.Segments.{cleared, IsSegmentWord, made, not_made, not_removed, still_there}
@@ -114,12 +114,12 @@ module _ {F E C : Type 0} {m : Meaning F E C} {node : ℕ} {hash : ServiceHash} 
   refused_open_holds held (six_failed before) = rounds_hold held before
 
   -- a create that succeeds holds what it made
-  pub created_holds : {stops : Bool} {d : Description} {w : List Letter} {r : Registered} (held : List Thing) → IsCreating m node hash stops d w (Ok r) → (tag : Tag) × Holds node hash held w (OwnSegment ∷ OwnLock ∷ own_tag tag ++ held)
+  pub created_holds : {stops : Bool} {d : Description} {w : List Letter} {r : Factory} (held : List Thing) → IsCreating m node hash stops d w (Ok r) → (tag : Tag) × Holds node hash held w (OwnSegment ∷ OwnLock ∷ own_tag tag ++ held)
   created_holds held (published {tag} n t _ _ e s) = (tag, then_holds (entry_held held e) (locks (then_holds (segment_held (OwnLock ∷ own_tag tag ++ held) s) (goes_on holds.publishes ends))))
 
-  last_holds : {w : List Letter} {r : Registered} (held : List Thing) → IsLastRound m node hash w (Ok r) → (tag : Tag) × Holds node hash held w (own_tag tag ++ held)
+  last_holds : {w : List Letter} {r : Factory} (held : List Thing) → IsLastRound m node hash w (Ok r) → (tag : Tag) × Holds node hash held w (own_tag tag ++ held)
   last_holds held (opens.opened {tag} t r) = (tag, then_holds (ready_holds held r) (goes_on holds.opens ends))
 
   -- an open that succeeds holds at most the tag of its last round
-  pub opened_holds : {w : List Letter} {r : Registered} (held : List Thing) → IsOpenWord m node hash w (Ok r) → (tag : Tag) × Holds node hash held w (own_tag tag ++ held)
+  pub opened_holds : {w : List Letter} {r : Factory} (held : List Thing) → IsOpenWord m node hash w (Ok r) → (tag : Tag) × Holds node hash held w (own_tag tag ++ held)
   opened_holds held (ended small before l) = let last = last_holds held l in (last.0, then_holds (rounds_hold held before) last.1)

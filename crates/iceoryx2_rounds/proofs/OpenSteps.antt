@@ -1,10 +1,10 @@
 use Rattle.std.proofs.Common.{◌≡◌, ◌∷◌, ◌++◌, ℕ, List, Err, Some, None, Option, refl}
 use Rattle.iceoryx2_data.specs.declared.description.ServiceHash.{ServiceHash}
 use Rattle.iceoryx2_data.specs.Description.{Description}
-use Rattle.iceoryx2_storage.specs.declared.storage.Tag.{Tag}
-use Rattle.iceoryx2_storage.specs.declared.storage.OpenSegmentError.{OpenSegmentError}
-use Rattle.iceoryx2_storage.specs.declared.storage.OpenSegmentError.TheVariants as segment
-use Rattle.iceoryx2_storage.specs.Letter.{Letter, OpenSegment}
+use Rattle.iceoryx2_access.specs.declared.storage.Tag.{Tag}
+use Rattle.iceoryx2_access.specs.declared.storage.OpenSegmentError.{OpenSegmentError}
+use Rattle.iceoryx2_access.specs.declared.storage.OpenSegmentError.TheVariants as segment
+use Rattle.iceoryx2_access.specs.Letter.{Letter, OpenSegment}
 use Rattle.iceoryx2_rounds.specs.declared.pattern.OpenRefusal.TheVariants as refusal
 use Rattle.iceoryx2_rounds.specs.Meaning.{Meaning}
 use Rattle.iceoryx2_rounds.specs.Refusals.{of_opening}

@@ -1,12 +1,12 @@
 -- The words of close, with their answers.
 use Rattle.std.specs.Prelude.{List, [], ◌∷◌, Result, Ok, Err}
-use Rattle.iceoryx2_storage.specs.declared.storage.RemoveError.{RemoveError}
-use Rattle.iceoryx2_storage.specs.declared.storage.Release.TheVariants as leave
-use Rattle.iceoryx2_storage.specs.declared.storage.ReleaseError.TheVariants as release
-use Rattle.iceoryx2_storage.specs.Letter.{Letter, Release, RemoveTag, RemoveSegment, RemoveDescription}
+use Rattle.iceoryx2_access.specs.declared.storage.RemoveError.{RemoveError}
+use Rattle.iceoryx2_access.specs.declared.storage.Release.TheVariants as leave
+use Rattle.iceoryx2_access.specs.declared.storage.ReleaseError.TheVariants as release
+use Rattle.iceoryx2_access.specs.Letter.{Letter, Release, RemoveTag, RemoveSegment, RemoveDescription}
 use Rattle.iceoryx2_rounds.specs.declared.port_factory.CloseError.{CloseError}
 use Rattle.iceoryx2_rounds.specs.declared.port_factory.CloseError.TheVariants.{NotHere, TagNotRemoved, SegmentNotRemoved, DescriptionNotRemoved}
-use Rattle.iceoryx2_rounds.specs.Registered.{Registered}
+use Rattle.iceoryx2_access.specs.Factory.{Factory}
 
 -- the first removal that is refused
 abbrev pub first_refused : {F : Type 0} → (tag segment description : Result (Unit {0}) RemoveError) → Result (Unit {0}) (CloseError F)
@@ -15,7 +15,7 @@ first_refused (Ok _) (Err e) description = Err SegmentNotRemoved
 first_refused (Ok _) (Ok _) (Err e) = Err DescriptionNotRemoved
 first_refused (Ok _) (Ok _) (Ok _) = Ok tt
 
-pub data IsCloseWord (r : Registered) : List Letter → Result (Unit {0}) (CloseError Registered) → Type 0 where
+pub data IsCloseWord (r : Factory) : List Letter → Result (Unit {0}) (CloseError Factory) → Type 0 where
   not_here : IsCloseWord r (Release r.ticket r.node r.description.hash r.number (Err release.NoSuchTicket) ∷ []) (Err (NotHere r))
   still_counted : IsCloseWord r (Release r.ticket r.node r.description.hash r.number (Ok leave.StillCounted) ∷ []) (Ok tt)
   left : (tag : Result (Unit {0}) RemoveError)

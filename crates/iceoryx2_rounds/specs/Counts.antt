@@ -1,6 +1,6 @@
 -- How often a word has an access of a kind.
 use Rattle.std.specs.Prelude.{◌≤◌, ℕ, Bool, true, false, List, count_by}
-use Rattle.iceoryx2_storage.specs.Letter.{Letter, Exists, OpenSegment, MakeSegment, RemoveSegment}
+use Rattle.iceoryx2_access.specs.Letter.{Letter, Exists, OpenSegment, MakeSegment, RemoveSegment}
 
 abbrev pub is_look : Letter → Bool
 is_look (Exists hash answer) = true

@@ -4,15 +4,15 @@ use Rattle.iceoryx2_data.specs.declared.description.ServiceHash.{ServiceHash}
 use Rattle.iceoryx2_data.specs.declared.time.ClockFault.{ClockFault}
 use Rattle.iceoryx2_data.specs.Description.{Description, max_nodes_of}
 use Rattle.iceoryx2_data.specs.Span.{Span, zero_span}
-use Rattle.iceoryx2_storage.specs.declared.storage.Tag.{Tag}
-use Rattle.iceoryx2_storage.specs.declared.storage.TagError.{TagError}
-use Rattle.iceoryx2_storage.specs.declared.storage.LockError.{LockError}
-use Rattle.iceoryx2_storage.specs.declared.storage.PublishError.{PublishError}
-use Rattle.iceoryx2_storage.specs.Letter.{Letter, Counts, MakeTag, Lock, Publish}
+use Rattle.iceoryx2_access.specs.declared.storage.Tag.{Tag}
+use Rattle.iceoryx2_access.specs.declared.storage.TagError.{TagError}
+use Rattle.iceoryx2_access.specs.declared.storage.LockError.{LockError}
+use Rattle.iceoryx2_access.specs.declared.storage.PublishError.{PublishError}
+use Rattle.iceoryx2_access.specs.Letter.{Letter, Counts, MakeTag, Lock, Publish}
 use Rattle.iceoryx2_rounds.specs.declared.look.Outcome.TheVariants.{Nothing, Found, Faulty}
 use Rattle.iceoryx2_rounds.specs.declared.pattern.CreateRefusal.TheVariants as refusal
 use Rattle.iceoryx2_rounds.specs.Meaning.{Meaning}
-use Rattle.iceoryx2_rounds.specs.Registered.{Registered}
+use Rattle.iceoryx2_access.specs.Factory.{Factory}
 use Rattle.iceoryx2_rounds.specs.Looks.{IsLookWord}
 use Rattle.iceoryx2_rounds.specs.GivesBack.{GivesBack, OwnLock, OwnSegment, own_tag}
 use Rattle.iceoryx2_rounds.specs.Refusals.{of_tag, of_lock, of_publish}
@@ -45,7 +45,7 @@ module _ {F E C : Type 0} (m : Meaning F E C) (node : ℕ) (hash : ServiceHash) 
 
   -- The words of a create that publishes this description.
   module _ (clock_stops : Bool) (d : Description) where
-    pub data IsCreating : List Letter → Result Registered C → Type 0 where
+    pub data IsCreating : List Letter → Result Factory C → Type 0 where
       forbidden : {error : C} → m.history_refusal ≡ Some error → IsCreating [] (Err error)
       not_entered : {u : List Letter} {error : C} → m.history_refusal ≡ None → IsEntryWord u (Err error) → IsCreating u (Err error)
       clock_fault : {tag : Tag} {u v : List Letter} → m.history_refusal ≡ None → clock_stops ≡ true → IsEntryWord u (Ok tag) → GivesBack node hash (own_tag tag) v
@@ -60,9 +60,9 @@ module _ {F E C : Type 0} (m : Meaning F E C) (node : ℕ) (hash : ServiceHash) 
           → IsCreating (u ++ Lock node hash (Ok n) ∷ (v ++ Publish node hash n d (Ok t) ∷ [])) (Ok (record { node = node; number = n; ticket = t; description = d }))
 
   -- The words of create, for a name and the clock's answer.
-  abbrev pub IsCreateWord : List ℕ → Result Span ClockFault → List Letter → Result Registered C → Type 0
+  abbrev pub IsCreateWord : List ℕ → Result Span ClockFault → List Letter → Result Factory C → Type 0
   IsCreateWord name now word answer = IsCreating (clock_stops m.needs_clock now) (description_of m hash name now) word answer
 
   -- What a part of the code is said by: the rest of a create's word, once it entered with this tag and nothing stops it.
-  abbrev pub EndsCreate : Description → Tag → List Letter → Result Registered C → Type 0
+  abbrev pub EndsCreate : Description → Tag → List Letter → Result Factory C → Type 0
   EndsCreate d tag word answer = (u : List Letter) (stops : Bool) → m.history_refusal ≡ None → stops ≡ false → IsEntryWord u (Ok tag) → IsCreating stops d (u ++ word) answer

@@ -1,10 +1,10 @@
 -- What a refused call gives back.
 use Rattle.std.specs.Prelude.{ℕ, List, [], ◌∷◌, Result}
 use Rattle.iceoryx2_data.specs.declared.description.ServiceHash.{ServiceHash}
-use Rattle.iceoryx2_storage.specs.declared.storage.RemoveError.{RemoveError}
-use Rattle.iceoryx2_storage.specs.declared.storage.Tag.{Tag}
-use Rattle.iceoryx2_storage.specs.declared.storage.Tag.TheVariants.{Made, Found}
-use Rattle.iceoryx2_storage.specs.Letter.{Letter, RemoveTag, RemoveSegment, RemoveDescription}
+use Rattle.iceoryx2_access.specs.declared.storage.RemoveError.{RemoveError}
+use Rattle.iceoryx2_access.specs.declared.storage.Tag.{Tag}
+use Rattle.iceoryx2_access.specs.declared.storage.Tag.TheVariants.{Made, Found}
+use Rattle.iceoryx2_access.specs.Letter.{Letter, RemoveTag, RemoveSegment, RemoveDescription}
 
 -- What a call makes on its way.
 pub data Thing : Type 0 where

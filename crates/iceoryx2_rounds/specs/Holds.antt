@@ -2,17 +2,17 @@
 use Rattle.std.specs.Prelude.{ℕ, Bool, List, [], ◌∷◌, Result, Ok, Err}
 use Rattle.iceoryx2_data.specs.declared.description.ServiceHash.{ServiceHash}
 use Rattle.iceoryx2_data.specs.Description.{Description}
-use Rattle.iceoryx2_storage.specs.declared.storage.Existence.{Existence}
-use Rattle.iceoryx2_storage.specs.declared.storage.FetchError.{FetchError}
-use Rattle.iceoryx2_storage.specs.declared.storage.Tag.TheVariants.{Made, Found}
-use Rattle.iceoryx2_storage.specs.declared.storage.TagError.{TagError}
-use Rattle.iceoryx2_storage.specs.declared.storage.LockError.{LockError}
-use Rattle.iceoryx2_storage.specs.declared.storage.MakeSegmentError.{MakeSegmentError}
-use Rattle.iceoryx2_storage.specs.declared.storage.MakeSegmentError.TheVariants as make
-use Rattle.iceoryx2_storage.specs.declared.storage.RemoveError.{RemoveError}
-use Rattle.iceoryx2_storage.specs.declared.storage.PublishError.{PublishError}
-use Rattle.iceoryx2_storage.specs.declared.storage.OpenSegmentError.{OpenSegmentError}
-use Rattle.iceoryx2_storage.specs.Letter.{Letter, Exists, Fetch, Counts, MakeTag, RemoveTag, Lock, MakeSegment, RemoveSegment, RemoveDescription, Publish, OpenSegment}
+use Rattle.iceoryx2_access.specs.declared.storage.Existence.{Existence}
+use Rattle.iceoryx2_access.specs.declared.storage.FetchError.{FetchError}
+use Rattle.iceoryx2_access.specs.declared.storage.Tag.TheVariants.{Made, Found}
+use Rattle.iceoryx2_access.specs.declared.storage.TagError.{TagError}
+use Rattle.iceoryx2_access.specs.declared.storage.LockError.{LockError}
+use Rattle.iceoryx2_access.specs.declared.storage.MakeSegmentError.{MakeSegmentError}
+use Rattle.iceoryx2_access.specs.declared.storage.MakeSegmentError.TheVariants as make
+use Rattle.iceoryx2_access.specs.declared.storage.RemoveError.{RemoveError}
+use Rattle.iceoryx2_access.specs.declared.storage.PublishError.{PublishError}
+use Rattle.iceoryx2_access.specs.declared.storage.OpenSegmentError.{OpenSegmentError}
+use Rattle.iceoryx2_access.specs.Letter.{Letter, Exists, Fetch, Counts, MakeTag, RemoveTag, Lock, MakeSegment, RemoveSegment, RemoveDescription, Publish, OpenSegment}
 use Rattle.iceoryx2_rounds.specs.GivesBack.{Thing, OwnTag, OwnLock, OwnSegment}
 
 module _ (node : ℕ) (hash : ServiceHash) where

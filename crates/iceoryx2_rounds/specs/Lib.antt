@@ -1,6 +1,5 @@
 pub mod Verdict
 pub mod Meaning
-pub mod Registered
 pub mod Looks
 pub mod GivesBack
 pub mod Refusals

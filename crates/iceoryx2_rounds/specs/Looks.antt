@@ -3,11 +3,11 @@ use Rattle.std.specs.Prelude.{◌≡◌, ◌≢◌, ℕ, List, [], ◌∷◌, Re
 use Rattle.iceoryx2_data.specs.declared.description.ServiceHash.{ServiceHash}
 use Rattle.iceoryx2_data.specs.Description.{Description}
 use Rattle.iceoryx2_data.specs.Form.{IsForm}
-use Rattle.iceoryx2_storage.specs.declared.storage.Existence.{Existence}
-use Rattle.iceoryx2_storage.specs.declared.storage.Existence.TheVariants as existence
-use Rattle.iceoryx2_storage.specs.declared.storage.FetchError.{FetchError}
-use Rattle.iceoryx2_storage.specs.declared.storage.FetchError.TheVariants as fetch
-use Rattle.iceoryx2_storage.specs.Letter.{Letter, Exists, Fetch}
+use Rattle.iceoryx2_access.specs.declared.storage.Existence.{Existence}
+use Rattle.iceoryx2_access.specs.declared.storage.Existence.TheVariants as existence
+use Rattle.iceoryx2_access.specs.declared.storage.FetchError.{FetchError}
+use Rattle.iceoryx2_access.specs.declared.storage.FetchError.TheVariants as fetch
+use Rattle.iceoryx2_access.specs.Letter.{Letter, Exists, Fetch}
 use Rattle.iceoryx2_rounds.specs.Meaning.{Meaning}
 use Rattle.iceoryx2_rounds.specs.declared.error.ServiceState.TheVariants as state
 use Rattle.iceoryx2_rounds.specs.declared.look.Outcome.{Outcome}

@@ -2,17 +2,17 @@
 use Rattle.std.specs.Prelude.{◌≡◌, ◌≤◌, ℕ, suc, List, [], ◌∷◌, ◌++◌, Result, Ok, Err, Option, Some, None}
 use Rattle.iceoryx2_data.specs.declared.description.ServiceHash.{ServiceHash}
 use Rattle.iceoryx2_data.specs.Description.{Description}
-use Rattle.iceoryx2_storage.specs.declared.storage.Tag.{Tag}
-use Rattle.iceoryx2_storage.specs.declared.storage.TagError.{TagError}
-use Rattle.iceoryx2_storage.specs.declared.storage.OpenSegmentError.{OpenSegmentError}
-use Rattle.iceoryx2_storage.specs.declared.storage.OpenSegmentError.TheVariants as segment
-use Rattle.iceoryx2_storage.specs.Letter.{Letter, MakeTag, OpenSegment}
+use Rattle.iceoryx2_access.specs.declared.storage.Tag.{Tag}
+use Rattle.iceoryx2_access.specs.declared.storage.TagError.{TagError}
+use Rattle.iceoryx2_access.specs.declared.storage.OpenSegmentError.{OpenSegmentError}
+use Rattle.iceoryx2_access.specs.declared.storage.OpenSegmentError.TheVariants as segment
+use Rattle.iceoryx2_access.specs.Letter.{Letter, MakeTag, OpenSegment}
 use Rattle.iceoryx2_rounds.specs.declared.look.Outcome.TheVariants.{Nothing, Found, Faulty}
 use Rattle.iceoryx2_rounds.specs.declared.pattern.OpenRefusal.{OpenRefusal}
 use Rattle.iceoryx2_rounds.specs.declared.pattern.OpenRefusal.TheVariants as refusal
 use Rattle.iceoryx2_rounds.specs.Meaning.{Meaning}
 use Rattle.iceoryx2_rounds.specs.Verdict.{verdict}
-use Rattle.iceoryx2_rounds.specs.Registered.{Registered}
+use Rattle.iceoryx2_access.specs.Factory.{Factory}
 use Rattle.iceoryx2_rounds.specs.Looks.{IsLookWord}
 use Rattle.iceoryx2_rounds.specs.GivesBack.{GivesBack, own_tag}
 use Rattle.iceoryx2_rounds.specs.Refusals.{of_tag_opening, of_opening}
@@ -28,7 +28,7 @@ module _ {F E C : Type 0} (m : Meaning F E C) (node : ℕ) (hash : ServiceHash) 
         → IsFailedRound (u ++ OpenSegment node hash n (Err segment.Failed) ∷ (v ++ w))
 
   -- The round that gives the answer.
-  pub data IsLastRound : List Letter → Result Registered E → Type 0 where
+  pub data IsLastRound : List Letter → Result Factory E → Type 0 where
     look_faulty : {u : List Letter} {fault : F} → IsLookWord m node hash u (Faulty fault) → IsLastRound u (Err (m.open_error_of fault))
     look_none : {u : List Letter} → IsLookWord m node hash u Nothing → IsLastRound u (Err (m.open_refusal refusal.DoesNotExist))
     not_accepted : {u : List Letter} {n : ℕ} {d : Description} {error : E} → IsLookWord m node hash u (Found n d) → verdict (m.requirement d) ≡ Err error → IsLastRound u (Err error)
@@ -49,8 +49,8 @@ module _ {F E C : Type 0} (m : Meaning F E C) (node : ℕ) (hash : ServiceHash) 
     one_more : {k : ℕ} {u v : List Letter} → AreFailedRounds k u → IsFailedRound v → AreFailedRounds (suc k) (u ++ v)
 
   -- At most five failed rounds and a last one, or six failed ones.
-  pub data IsOpenWord : List Letter → Result Registered E → Type 0 where
-    ended : {k : ℕ} {u v : List Letter} {answer : Result Registered E} → k ≤ 5 → AreFailedRounds k u → IsLastRound v answer → IsOpenWord (u ++ v) answer
+  pub data IsOpenWord : List Letter → Result Factory E → Type 0 where
+    ended : {k : ℕ} {u v : List Letter} {answer : Result Factory E} → k ≤ 5 → AreFailedRounds k u → IsLastRound v answer → IsOpenWord (u ++ v) answer
     six_failed : {u : List Letter} → AreFailedRounds 6 u → IsOpenWord u (Err (m.open_refusal refusal.ServiceInCorruptedState))
 
   -- What the code's parts are said by: a second look with the tag given back, which ends the call with an error or asks for another round;
@@ -60,6 +60,6 @@ module _ {F E C : Type 0} (m : Meaning F E C) (node : ℕ) (hash : ServiceHash) 
     second_found : {v w : List Letter} {k : ℕ} {e : Description} → IsLookWord m node hash v (Found k e) → GivesBack node hash (own_tag tag) w → IsSecondLook tag None (v ++ w)
 
   -- and one round, which may ask for another.
-  abbrev pub IsRound : List Letter → Option (Result Registered E) → Type 0
+  abbrev pub IsRound : List Letter → Option (Result Factory E) → Type 0
   IsRound word None = IsFailedRound word
   IsRound word (Some answer) = IsLastRound word answer

@@ -1,17 +1,17 @@
 -- What an access's refusal makes of a call.
 use Rattle.std.specs.Prelude.{Option, Some, None}
-use Rattle.iceoryx2_storage.specs.declared.storage.TagError.{TagError}
-use Rattle.iceoryx2_storage.specs.declared.storage.TagError.TheVariants as tag
-use Rattle.iceoryx2_storage.specs.declared.storage.LockError.{LockError}
-use Rattle.iceoryx2_storage.specs.declared.storage.LockError.TheVariants as lock
-use Rattle.iceoryx2_storage.specs.declared.storage.MakeSegmentError.{MakeSegmentError}
-use Rattle.iceoryx2_storage.specs.declared.storage.MakeSegmentError.TheVariants as make
-use Rattle.iceoryx2_storage.specs.declared.storage.RemoveError.{RemoveError}
-use Rattle.iceoryx2_storage.specs.declared.storage.RemoveError.TheVariants as remove
-use Rattle.iceoryx2_storage.specs.declared.storage.PublishError.{PublishError}
-use Rattle.iceoryx2_storage.specs.declared.storage.PublishError.TheVariants as publish
-use Rattle.iceoryx2_storage.specs.declared.storage.OpenSegmentError.{OpenSegmentError}
-use Rattle.iceoryx2_storage.specs.declared.storage.OpenSegmentError.TheVariants as segment
+use Rattle.iceoryx2_access.specs.declared.storage.TagError.{TagError}
+use Rattle.iceoryx2_access.specs.declared.storage.TagError.TheVariants as tag
+use Rattle.iceoryx2_access.specs.declared.storage.LockError.{LockError}
+use Rattle.iceoryx2_access.specs.declared.storage.LockError.TheVariants as lock
+use Rattle.iceoryx2_access.specs.declared.storage.MakeSegmentError.{MakeSegmentError}
+use Rattle.iceoryx2_access.specs.declared.storage.MakeSegmentError.TheVariants as make
+use Rattle.iceoryx2_access.specs.declared.storage.RemoveError.{RemoveError}
+use Rattle.iceoryx2_access.specs.declared.storage.RemoveError.TheVariants as remove
+use Rattle.iceoryx2_access.specs.declared.storage.PublishError.{PublishError}
+use Rattle.iceoryx2_access.specs.declared.storage.PublishError.TheVariants as publish
+use Rattle.iceoryx2_access.specs.declared.storage.OpenSegmentError.{OpenSegmentError}
+use Rattle.iceoryx2_access.specs.declared.storage.OpenSegmentError.TheVariants as segment
 use Rattle.iceoryx2_rounds.specs.declared.pattern.OpenRefusal.{OpenRefusal}
 use Rattle.iceoryx2_rounds.specs.declared.pattern.OpenRefusal.TheVariants as open_refusal
 use Rattle.iceoryx2_rounds.specs.declared.pattern.CreateRefusal.{CreateRefusal}

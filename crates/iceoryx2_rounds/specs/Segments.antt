@@ -1,10 +1,10 @@
 -- The words of a create's segment part, with what comes of it.
 use Rattle.std.specs.Prelude.{◌≢◌, ◌<◌, ◌≤◌, ℕ, zero, suc, List, [], ◌∷◌, ◌++◌, Result, Ok, Err}
 use Rattle.iceoryx2_data.specs.declared.description.ServiceHash.{ServiceHash}
-use Rattle.iceoryx2_storage.specs.declared.storage.MakeSegmentError.{MakeSegmentError}
-use Rattle.iceoryx2_storage.specs.declared.storage.MakeSegmentError.TheVariants as make
-use Rattle.iceoryx2_storage.specs.declared.storage.RemoveError.{RemoveError}
-use Rattle.iceoryx2_storage.specs.Letter.{Letter, MakeSegment, RemoveSegment}
+use Rattle.iceoryx2_access.specs.declared.storage.MakeSegmentError.{MakeSegmentError}
+use Rattle.iceoryx2_access.specs.declared.storage.MakeSegmentError.TheVariants as make
+use Rattle.iceoryx2_access.specs.declared.storage.RemoveError.{RemoveError}
+use Rattle.iceoryx2_access.specs.Letter.{Letter, MakeSegment, RemoveSegment}
 use Rattle.iceoryx2_rounds.specs.declared.pattern.CreateRefusal.{CreateRefusal}
 use Rattle.iceoryx2_rounds.specs.declared.pattern.CreateRefusal.TheVariants as create_refusal
 use Rattle.iceoryx2_rounds.specs.Refusals.{of_make, of_remove}

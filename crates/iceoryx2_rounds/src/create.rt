@@ -1,7 +1,7 @@
 //! How a service is created.
 
 ghost use Rattle.std.specs.Prelude.{◌≡◌, IfOk};
-ghost use Rattle.iceoryx2_storage.specs.Run.{Joins};
+ghost use Rattle.iceoryx2_access.specs.Run.{Joins};
 ghost use Rattle.iceoryx2_rounds.specs.Answers.{map_ok};
 ghost use Rattle.iceoryx2_rounds.specs.Creates as creates;
 ghost use Rattle.iceoryx2_rounds.specs.Creates.{EndsCreate, IsCreateWord, IsEntryWord, description_of};
@@ -12,11 +12,11 @@ use crate::give_back::{give_back_lock, give_back_segment, give_back_tag};
 use crate::look::{Outcome, look};
 use crate::pattern::{CreateRefusal, Pattern};
 use crate::port_factory::Registration;
-use iceoryx2_data::description::{ServiceHash, ServiceName, StaticConfig};
-use iceoryx2_data::time::{ClockFault, Time};
-use iceoryx2_storage::storage::{
+use iceoryx2_access::storage::{
     LockError, MakeSegmentError, PublishError, RemoveError, Storage, Tag, TagError,
 };
+use iceoryx2_data::description::{ServiceHash, ServiceName, StaticConfig};
+use iceoryx2_data::time::{ClockFault, Time};
 use std::alloc::AllocError;
 
 fn tag_refusal(error: TagError) -> CreateRefusal

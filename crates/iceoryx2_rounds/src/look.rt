@@ -1,15 +1,15 @@
 //! How a call sees whether there is a service.
 
 ghost use Rattle.std.specs.Prelude.{Ok};
-ghost use Rattle.iceoryx2_storage.specs.Letter.{fetched};
-ghost use Rattle.iceoryx2_storage.specs.Run.{Joins};
+ghost use Rattle.iceoryx2_access.specs.Letter.{fetched};
+ghost use Rattle.iceoryx2_access.specs.Run.{Joins};
 ghost use Rattle.iceoryx2_rounds.specs.Looks.{IsLookWord, LeadsTo};
 
 use crate::error::ServiceState;
 use crate::pattern::Pattern;
+use iceoryx2_access::storage::{Existence, FetchError, Storage};
 use iceoryx2_data::bytes::{DecodeError, decode};
 use iceoryx2_data::description::{ServiceHash, StaticConfig};
-use iceoryx2_storage::storage::{Existence, FetchError, Storage};
 use std::alloc::Global;
 
 /// What a look finds.

@@ -1,7 +1,7 @@
 //! How a service is opened.
 
 ghost use Rattle.std.specs.Prelude.{◌≡◌, Option};
-ghost use Rattle.iceoryx2_storage.specs.Run.{Joins};
+ghost use Rattle.iceoryx2_access.specs.Run.{Joins};
 ghost use Rattle.iceoryx2_rounds.specs.Opens.{IsOpenWord, IsRound, IsSecondLook};
 ghost use Rattle.iceoryx2_rounds.specs.Refusals.{of_opening, of_tag_opening};
 
@@ -9,8 +9,8 @@ use crate::give_back::give_back_tag;
 use crate::look::{Outcome, look};
 use crate::pattern::{OpenRefusal, Pattern};
 use crate::port_factory::Registration;
+use iceoryx2_access::storage::{OpenSegmentError, Storage, Tag, TagError};
 use iceoryx2_data::description::ServiceHash;
-use iceoryx2_storage::storage::{OpenSegmentError, Storage, Tag, TagError};
 
 fn tag_refusal(error: TagError) -> OpenRefusal
     ensures { result ≡ of_tag_opening error }

@@ -1,13 +1,13 @@
 //! What an opened service is held by, and how it is closed.
 
 ghost use Rattle.std.specs.Prelude.{◌≡◌};
-ghost use Rattle.iceoryx2_storage.specs.Run.{Joins};
+ghost use Rattle.iceoryx2_access.specs.Run.{Joins};
 ghost use Rattle.iceoryx2_rounds.specs.Closes.{IsCloseWord, first_refused};
 
 pub mod event;
 
+use iceoryx2_access::storage::{Release, ReleaseError, RemoveError, Storage};
 use iceoryx2_data::description::StaticConfig;
-use iceoryx2_storage::storage::{Release, ReleaseError, RemoveError, Storage};
 use std::marker::Model;
 
 /// A node's registration at a service. It has to be spent, by `close` or `abandon`.
@@ -19,9 +19,9 @@ pub struct Registration {
 }
 
 impl Model for Registration {
-    ghost use Rattle.iceoryx2_rounds.specs.Registered.{Registered};
+    ghost use Rattle.iceoryx2_access.specs.Factory.{Factory};
 
-    ghost Value = { Registered };
+    ghost Value = { Factory };
 
     ghost view = { λ r. record { node = r.node; number = r.number; ticket = r.ticket; description = r.description } };
 }

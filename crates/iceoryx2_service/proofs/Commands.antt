@@ -1,8 +1,8 @@
 -- What the code of a session does to its state, exit by exit.
 use Rattle.std.proofs.Common.{◌≡◌, ℕ, List, Option, Some, None, Ok, sym, subst, ◌∙◌}
 use Rattle.std.specs.Prelude.{slice_get, slice_set}
-use Rattle.iceoryx2_storage.specs.World.{World}
-use Rattle.iceoryx2_rounds.specs.Registered.{Registered}
+use Rattle.iceoryx2_world.specs.World.{World}
+use Rattle.iceoryx2_access.specs.Factory.{Factory}
 use Rattle.iceoryx2_service.specs.declared.command.Call.{Call}
 use Rattle.iceoryx2_service.specs.declared.command.Command.TheVariants as command
 use Rattle.iceoryx2_service.specs.declared.command.Reply.TheVariants as reply
@@ -16,7 +16,7 @@ use Rattle.iceoryx2_service.proofs.Places.{set_same}
 pub taken : (s : SessionState) (call : Call) → TakenAt s.slots call.slot → Goes s (command.Call call) reply.SlotInUse s
 taken s call t = goes.call_taken t.1
 
-pub calling : (s : SessionState) (call : Call) (r : Registered) (n : ℕ) (w : World) (ys : List (Option Held)) → FreeAt s.slots call.slot → Builds (request s.config call) call.how call.now s.world (Ok r) w → n ≡ r.number → ys ≡ slice_set s.slots call.slot (Some (held.Event r))
+pub calling : (s : SessionState) (call : Call) (r : Factory) (n : ℕ) (w : World) (ys : List (Option Held)) → FreeAt s.slots call.slot → Builds (request s.config call) call.how call.now s.world (Ok r) w → n ≡ r.number → ys ≡ slice_set s.slots call.slot (Some (held.Event r))
     → Goes s (command.Call call) (reply.Opened call.slot n) (record s { world = w; slots = ys })
 calling s call r n w ys free is number slots =
     subst (λ (l : List (Option Held)). Goes s (command.Call call) (reply.Opened call.slot n) (record s { world = w; slots = l })) (sym slots)

@@ -1,7 +1,7 @@
 -- Slot after slot is closed.
 use Rattle.std.proofs.Common.{◌≡◌, ℕ, zero, suc, ◌+◌, ◌<◌, ◌≤◌, List, [], ◌∷◌, ◌++◌, Option, Some, None, length, take, refl, sym, ap, subst, ◌∙◌, arith}
 use Rattle.std.specs.Prelude.{slice_get, slice_set}
-use Rattle.iceoryx2_storage.specs.World.{World}
+use Rattle.iceoryx2_world.specs.World.{World}
 use Rattle.iceoryx2_service.specs.declared.slots.Held.{Held}
 use Rattle.iceoryx2_service.specs.Sessions.{PlaceCloses, SlotCloses, ClosesAll, all_closed, next_slot}
 

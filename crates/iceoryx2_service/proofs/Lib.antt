@@ -1,5 +1,3 @@
-pub mod calls
-pub mod quiet
 pub mod Places
 pub mod Sessions
 pub mod Setters

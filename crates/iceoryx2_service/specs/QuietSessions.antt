@@ -3,13 +3,13 @@ use Rattle.std.specs.Prelude.{◌≡◌, ℕ, ◌≤◌, List, [], ◌∷◌, Op
 use Rattle.iceoryx2_data.specs.declared.config.Config.{Config}
 use Rattle.iceoryx2_data.specs.declared.time.ClockFault.{ClockFault}
 use Rattle.iceoryx2_data.specs.Span.{Span}
-use Rattle.iceoryx2_storage.specs.World.{World}
-use Rattle.iceoryx2_storage.specs.Access.{IsOwnPart}
-use Rattle.iceoryx2_storage.specs.Across.{Agrees}
-use Rattle.iceoryx2_storage.specs.Run.{Joins}
+use Rattle.iceoryx2_world.specs.World.{World}
+use Rattle.iceoryx2_world.specs.Access.{IsOwnPart}
+use Rattle.iceoryx2_world.specs.Across.{Agrees}
+use Rattle.iceoryx2_access.specs.Run.{Joins}
 use Rattle.iceoryx2_rounds.specs.Closes.{IsCloseWord}
-use Rattle.iceoryx2_storage.specs.Standing.{Stands}
-use Rattle.iceoryx2_rounds.specs.Registered.{Registered}
+use Rattle.iceoryx2_world.specs.Standing.{Stands}
+use Rattle.iceoryx2_access.specs.Factory.{Factory}
 use Rattle.iceoryx2_builder.specs.Request.{EventRequest}
 use Rattle.iceoryx2_builder.specs.Event.{event_meaning, event_adjusted}
 use Rattle.iceoryx2_service.specs.declared.command.Call.{Call}
@@ -25,12 +25,11 @@ use Rattle.iceoryx2_service.specs.declared.slots.Held.{Held}
 use Rattle.iceoryx2_service.specs.declared.slots.Held.TheVariants as held
 use Rattle.iceoryx2_service.specs.Slots.{FreeAt, TakenAt}
 use Rattle.iceoryx2_service.specs.Sessions.{SessionState, request, hash_for}
-use Rattle.iceoryx2_service.specs.Quiet.{Quiet, Shows}
-use Rattle.iceoryx2_service.specs.QuietCalls.{Creates, Opens, Closes}
-use Rattle.iceoryx2_service.specs.Factories.{factory_of}
+use Rattle.iceoryx2_calls.specs.Quiet.{Quiet, Shows}
+use Rattle.iceoryx2_calls.specs.QuietCalls.{Creates, Opens, Closes}
 
 -- the slot holds this factory
-abbrev pub HoldsAt : List (Option Held) → ℕ → Registered → Type 0
+abbrev pub HoldsAt : List (Option Held) → ℕ → Factory → Type 0
 HoldsAt slots k r = slice_get slots k ≡ Some (Some (held.Event r))
 
 -- The session's table shows the machine's state, and each slot's factory stands there, with a
@@ -38,11 +37,11 @@ HoldsAt slots k r = slice_get slots k ≡ Some (Some (held.Event r))
 pub record IsQuiet (s : SessionState) (q : Quiet) : Type 0 where
   pub shows : Shows s.world q
   pub agrees : Agrees s.world
-  pub stand : (k : ℕ) (r : Registered) → HoldsAt s.slots k r → Stands s.world (factory_of r)
-  pub apart : (j k : ℕ) (r t : Registered) → HoldsAt s.slots j r → HoldsAt s.slots k t → r.ticket ≡ t.ticket → j ≡ k
+  pub stand : (k : ℕ) (r : Factory) → HoldsAt s.slots k r → Stands s.world r
+  pub apart : (j k : ℕ) (r t : Factory) → HoldsAt s.slots j r → HoldsAt s.slots k t → r.ticket ≡ t.ticket → j ≡ k
 
 -- What the machine answers to a builder call, and its state after it.
-abbrev pub Answers : Quiet → EventRequest → How → Result Span ClockFault → Result Registered Refusal → Quiet → Type 0
+abbrev pub Answers : Quiet → EventRequest → How → Result Span ClockFault → Result Factory Refusal → Quiet → Type 0
 Answers q b how.Create now (Ok r) p = Creates (event_meaning (event_adjusted b.asked)) q b.node (hash_for b.name) b.name now (Ok r) p
 Answers q b how.Create now (Err (refusal.EventCreate e)) p = Creates (event_meaning (event_adjusted b.asked)) q b.node (hash_for b.name) b.name now (Err e) p
 Answers q b how.Create now (Err (refusal.EventOpen e)) p = ⊥
@@ -54,13 +53,13 @@ Answers q b how.Open now (Err (refusal.EventCreate e)) p = ⊥
 pub data Moves (config : Config) (q : Quiet) (slots : List (Option Held)) : Command → Reply → Quiet → List (Option Held) → Type 0 where
   call_past : {call : Call} → 64 ≤ call.slot → Moves config q slots (command.Call call) reply.NoSuchSlot q slots
   call_taken : {call : Call} → TakenAt slots call.slot → Moves config q slots (command.Call call) reply.SlotInUse q slots
-  called : {call : Call} (r : Registered) {p : Quiet} → FreeAt slots call.slot → Answers q (request config call) call.how call.now (Ok r) p
+  called : {call : Call} (r : Factory) {p : Quiet} → FreeAt slots call.slot → Answers q (request config call) call.how call.now (Ok r) p
       → Moves config q slots (command.Call call) (reply.Opened call.slot r.number) p (slice_set slots call.slot (Some (held.Event r)))
   refused : {call : Call} {e : Refusal} {p : Quiet} → FreeAt slots call.slot → Answers q (request config call) call.how call.now (Err e) p
       → Moves config q slots (command.Call call) (reply.Refused e) p slots
   close_past : {slot : ℕ} → 64 ≤ slot → Moves config q slots (command.Close slot) reply.NoSuchSlot q slots
   close_empty : {slot : ℕ} → FreeAt slots slot → Moves config q slots (command.Close slot) reply.SlotEmpty q slots
-  closed : {slot : ℕ} (r : Registered) {p : Quiet} → HoldsAt slots slot r → Closes q r.node r.description.hash p
+  closed : {slot : ℕ} (r : Factory) {p : Quiet} → HoldsAt slots slot r → Closes q r.node r.description.hash p
       → Moves config q slots (command.Close slot) (reply.Closed slot) p (slice_set slots slot None)
 
 -- The machine's state after a command, which the session is quiet with again.

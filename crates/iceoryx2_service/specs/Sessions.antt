@@ -5,11 +5,11 @@ use Rattle.iceoryx2_data.specs.declared.description.ServiceHash.{ServiceHash}
 use Rattle.iceoryx2_data.specs.declared.time.ClockFault.{ClockFault}
 use Rattle.iceoryx2_data.specs.Span.{Span}
 use Rattle.sha1.specs.Sha1.{sha1}
-use Rattle.iceoryx2_storage.specs.World.{World}
-use Rattle.iceoryx2_storage.specs.Access.{IsOwnPart}
-use Rattle.iceoryx2_storage.specs.Run.{Joins}
+use Rattle.iceoryx2_world.specs.World.{World}
+use Rattle.iceoryx2_world.specs.Access.{IsOwnPart}
+use Rattle.iceoryx2_access.specs.Run.{Joins}
 use Rattle.iceoryx2_rounds.specs.declared.port_factory.CloseError.{CloseError}
-use Rattle.iceoryx2_rounds.specs.Registered.{Registered}
+use Rattle.iceoryx2_access.specs.Factory.{Factory}
 use Rattle.iceoryx2_rounds.specs.Creates.{IsCreateWord}
 use Rattle.iceoryx2_rounds.specs.Opens.{IsOpenWord}
 use Rattle.iceoryx2_rounds.specs.Closes.{IsCloseWord}
@@ -63,7 +63,7 @@ abbrev pub hash_for : List ℕ → ServiceHash
 hash_for name = record { 0 = sha1 (letter_of_events ∷ name) }
 
 -- A builder call goes along a word of its grammar, with that answer.
-abbrev pub Builds : EventRequest → How → Result Span ClockFault → World → Result Registered Refusal → World → Type 0
+abbrev pub Builds : EventRequest → How → Result Span ClockFault → World → Result Factory Refusal → World → Type 0
 Builds b how.Create now w (Ok r) v = Joins IsOwnPart w (λ word. IsCreateWord (event_meaning (event_adjusted b.asked)) b.node (hash_for b.name) b.name now word (Ok r)) v
 Builds b how.Create now w (Err (refusal.EventCreate e)) v = Joins IsOwnPart w (λ word. IsCreateWord (event_meaning (event_adjusted b.asked)) b.node (hash_for b.name) b.name now word (Err e)) v
 Builds b how.Create now w (Err (refusal.EventOpen e)) v = ⊥
@@ -72,8 +72,8 @@ Builds b how.Open now w (Err (refusal.EventOpen e)) v = Joins IsOwnPart w (λ wo
 Builds b how.Open now w (Err (refusal.EventCreate e)) v = ⊥
 
 -- A factory is closed along a word of close, whatever it answers.
-abbrev pub Closes : World → Registered → World → Type 0
-Closes w r v = (answer : Result (Unit {0}) (CloseError Registered)) × Joins IsOwnPart w (λ word. IsCloseWord r word answer) v
+abbrev pub Closes : World → Factory → World → Type 0
+Closes w r v = (answer : Result (Unit {0}) (CloseError Factory)) × Joins IsOwnPart w (λ word. IsCloseWord r word answer) v
 
 abbrev pub HeldCloses : World → Held → World → Type 0
 HeldCloses w (held.Event r) v = Closes w r v
@@ -91,13 +91,13 @@ SlotCloses w slots k v = (o : Option Held) × (slice_get slots k ≡ Some o) × 
 pub data Goes (old : SessionState) : Command → Reply → SessionState → Type 0 where
   call_past : {call : Call} → 64 ≤ call.slot → Goes old (command.Call call) reply.NoSuchSlot old
   call_taken : {call : Call} {h : Held} → slice_get old.slots call.slot ≡ Some (Some h) → Goes old (command.Call call) reply.SlotInUse old
-  called : {call : Call} (r : Registered) {w : World} → FreeAt old.slots call.slot → Builds (request old.config call) call.how call.now old.world (Ok r) w
+  called : {call : Call} (r : Factory) {w : World} → FreeAt old.slots call.slot → Builds (request old.config call) call.how call.now old.world (Ok r) w
       → Goes old (command.Call call) (reply.Opened call.slot r.number) (record old { world = w; slots = slice_set old.slots call.slot (Some (held.Event r)) })
   refused : {call : Call} {e : Refusal} {w : World} → FreeAt old.slots call.slot → Builds (request old.config call) call.how call.now old.world (Err e) w
       → Goes old (command.Call call) (reply.Refused e) (record old { world = w })
   close_past : {slot : ℕ} → 64 ≤ slot → Goes old (command.Close slot) reply.NoSuchSlot old
   close_empty : {slot : ℕ} → FreeAt old.slots slot → Goes old (command.Close slot) reply.SlotEmpty old
-  closed : {slot : ℕ} (r : Registered) {w : World} → slice_get old.slots slot ≡ Some (Some (held.Event r)) → Closes old.world r w
+  closed : {slot : ℕ} (r : Factory) {w : World} → slice_get old.slots slot ≡ Some (Some (held.Event r)) → Closes old.world r w
       → Goes old (command.Close slot) (reply.Closed slot) (record old { world = w; slots = slice_set old.slots slot None })
 
 -- Slot after slot is closed, in ascending order.

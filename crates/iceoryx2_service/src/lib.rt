@@ -2,12 +2,11 @@
 #![tactic(auto)]
 
 pub mod command;
-pub mod laws;
-pub mod quiet_laws;
 pub mod session;
 mod slots;
 
 pub use iceoryx2_builder as builder;
+pub use iceoryx2_calls::{laws, quiet_laws};
 pub use iceoryx2_data as data;
 pub use iceoryx2_rounds as rounds;
 pub use iceoryx2_storage as storage;

@@ -119,7 +119,7 @@ fn close_slot(slots: &mut Slots, slot: usize, table: &mut Table)
 impl Session {
     ghost use Rattle.iceoryx2_service.specs.SessionStates.{state_of};
     ghost use Rattle.iceoryx2_service.specs.Sessions.{Goes, ClosesAll};
-    ghost use Rattle.iceoryx2_service.specs.Quiet.{Quiet};
+    ghost use Rattle.iceoryx2_calls.specs.Quiet.{Quiet};
     ghost use Rattle.iceoryx2_service.specs.QuietSessions.{IsFinished, IsMoved, IsQuiet};
     ghost use Rattle.iceoryx2_service.specs.declared.command.Command.TheVariants as command;
 

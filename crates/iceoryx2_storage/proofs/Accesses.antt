@@ -5,21 +5,21 @@ use Rattle.std.specs.FinMap as map
 use Rattle.iceoryx2_data.specs.declared.description.ServiceHash.{ServiceHash}
 use Rattle.iceoryx2_data.specs.Description.{Description}
 use Rattle.iceoryx2_data.specs.Form as form
-use Rattle.iceoryx2_storage.specs.Sets as set
-use Rattle.iceoryx2_storage.specs.Rows as row
-use Rattle.iceoryx2_storage.specs.Rows.{Row}
-use Rattle.iceoryx2_storage.specs.declared.table.world.Participant.TheVariants.{Node}
-use Rattle.iceoryx2_storage.specs.declared.table.world.Phase.{Phase}
-use Rattle.iceoryx2_storage.specs.declared.table.world.Phase.TheVariants as at
-use Rattle.iceoryx2_storage.specs.declared.storage.PublishError.{PublishError}
-use Rattle.iceoryx2_storage.specs.declared.storage.PublishError.TheVariants as Publishing
-use Rattle.iceoryx2_storage.specs.Orders.{tag_cmp}
-use Rattle.iceoryx2_storage.specs.World.{World, Segment, or_idle}
-use Rattle.iceoryx2_storage.specs.Acts as act
-use Rattle.iceoryx2_storage.specs.Steps.{Spot, step, now}
-use Rattle.iceoryx2_storage.specs.Letter.{Letter}
-use Rattle.iceoryx2_storage.specs.declared.storage.OpenSegmentError.{OpenSegmentError}
-use Rattle.iceoryx2_storage.specs.Access.{Tickets, Seat, Change, nothing, moves_with, with_ticket, opened, read, published, has_made, Own, IsOwnPart, Gives, Simply, seat, write, node_of, hash_of}
+use Rattle.iceoryx2_world.specs.Sets as set
+use Rattle.iceoryx2_world.specs.declared.world.Row.TheVariants as row
+use Rattle.iceoryx2_world.specs.declared.world.Row.{Row}
+use Rattle.iceoryx2_world.specs.declared.world.Participant.TheVariants.{Node}
+use Rattle.iceoryx2_world.specs.declared.world.Phase.{Phase}
+use Rattle.iceoryx2_world.specs.declared.world.Phase.TheVariants as at
+use Rattle.iceoryx2_access.specs.declared.storage.PublishError.{PublishError}
+use Rattle.iceoryx2_access.specs.declared.storage.PublishError.TheVariants as Publishing
+use Rattle.iceoryx2_world.specs.Orders.{tag_cmp}
+use Rattle.iceoryx2_world.specs.World.{World, Segment, or_idle}
+use Rattle.iceoryx2_world.specs.Acts as act
+use Rattle.iceoryx2_world.specs.Steps.{Spot, step, now}
+use Rattle.iceoryx2_access.specs.Letter.{Letter}
+use Rattle.iceoryx2_access.specs.declared.storage.OpenSegmentError.{OpenSegmentError}
+use Rattle.iceoryx2_world.specs.Access.{Tickets, Seat, Change, nothing, moves_with, with_ticket, opened, read, published, has_made, Own, IsOwnPart, Gives, Simply, seat, write, node_of, hash_of}
 use Rattle.iceoryx2_storage.specs.Book.{Book, Steps, tries, world, segment_fits}
 
 -- what was shown of the fields, of the value

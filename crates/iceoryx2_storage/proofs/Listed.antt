@@ -8,11 +8,11 @@ use Rattle.std.specs.Cmp.{Equal-is}
 use Rattle.std.specs.declared.cmp.Ordering.{Ordering}
 use Rattle.std.proofs.lemmas.List.{take_more}
 use Rattle.iceoryx2_data.specs.declared.description.ServiceHash.{ServiceHash}
-use Rattle.iceoryx2_storage.specs.declared.table.listing.Entry.{Entry}
-use Rattle.iceoryx2_storage.specs.Rows.{Row}
-use Rattle.iceoryx2_storage.specs.Orders.{hash_cmp, hash_exact}
-use Rattle.iceoryx2_storage.specs.World.{Segment}
-use Rattle.iceoryx2_storage.specs.Listing.{entry_of, entry_at, keyed, ListsAll}
+use Rattle.iceoryx2_world.specs.declared.listing.Entry.{Entry}
+use Rattle.iceoryx2_world.specs.declared.world.Row.{Row}
+use Rattle.iceoryx2_world.specs.Orders.{hash_cmp, hash_exact}
+use Rattle.iceoryx2_world.specs.World.{Segment}
+use Rattle.iceoryx2_world.specs.Listing.{entry_of, entry_at, keyed, ListsAll}
 use Rattle.iceoryx2_storage.proofs.Places.{true_T}
 
 pub or_last : (a b e : Bool) → (e || (a || b)) ≡ (a || (b || e))

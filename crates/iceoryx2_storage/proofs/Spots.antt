@@ -1,27 +1,27 @@
 -- Changes of a book, map by map.
 use Rattle.std.specs.Prelude.{nat_lt, ◌==◌, if◌then◌else◌}
 use Rattle.std.proofs.lemmas.Bool.Decides.{nat_tests}
-use Rattle.iceoryx2_storage.specs.declared.table.world.Phase.TheVariants as at
-use Rattle.iceoryx2_storage.specs.declared.table.world.Row.{Row}
+use Rattle.iceoryx2_world.specs.declared.world.Phase.TheVariants as at
+use Rattle.iceoryx2_world.specs.declared.world.Row.{Row}
 use Rattle.std.proofs.Common.{◌≡◌, ℕ, ◌+◌, List, Bool, true, false, arith, Option, Some, None, refl, sym, ap, subst, ◌∙◌}
 use Rattle.std.specs.FinMap as map
 use Rattle.std.specs.FinMap.{IsAntisymmetric}
 use Rattle.std.specs.declared.cmp.Ordering.{Ordering}
 use Rattle.std.specs.Cmp.{IsTotalOrder}
-use Rattle.iceoryx2_storage.specs.declared.table.world.Participant.{Participant}
+use Rattle.iceoryx2_world.specs.declared.world.Participant.{Participant}
 use Rattle.iceoryx2_data.specs.declared.description.ServiceHash.{ServiceHash}
-use Rattle.iceoryx2_storage.specs.declared.table.world.Phase.{Phase}
-use Rattle.iceoryx2_storage.specs.World.{Segment, or_idle}
-use Rattle.iceoryx2_storage.specs.Acts.{Act}
-use Rattle.iceoryx2_storage.specs.Acts as act
-use Rattle.iceoryx2_storage.specs.Rows as row
+use Rattle.iceoryx2_world.specs.declared.world.Phase.{Phase}
+use Rattle.iceoryx2_world.specs.World.{Segment, or_idle}
+use Rattle.iceoryx2_world.specs.Acts.{Act}
+use Rattle.iceoryx2_world.specs.Acts as act
+use Rattle.iceoryx2_world.specs.declared.world.Row.TheVariants as row
 use Rattle.iceoryx2_data.specs.Description.{Description}
 use Rattle.iceoryx2_data.specs.Form as form
-use Rattle.iceoryx2_storage.specs.Steps.{Spot, step, now, begins, fits, has_room, last_number}
+use Rattle.iceoryx2_world.specs.Steps.{Spot, step, now, begins, fits, has_room, last_number}
 use Rattle.iceoryx2_storage.specs.Book.{Book, tries, with_spot, needs_room, Done, Starved, Leaves}
-use Rattle.iceoryx2_storage.specs.declared.storage.OpenSegmentError.TheVariants as Opening
-use Rattle.iceoryx2_storage.specs.declared.storage.Release.{Release as Released}
-use Rattle.iceoryx2_storage.specs.Access.{left_as, open_refusal}
+use Rattle.iceoryx2_access.specs.declared.storage.OpenSegmentError.TheVariants as Opening
+use Rattle.iceoryx2_access.specs.declared.storage.Release.{Release as Released}
+use Rattle.iceoryx2_world.specs.Access.{left_as, open_refusal}
 use Rattle.iceoryx2_storage.proofs.Views.{put_back, put_other}
 
 module _ {K X : Type 0} {R : K → K → Ordering} (o : IsTotalOrder R) (exact : IsAntisymmetric R) where

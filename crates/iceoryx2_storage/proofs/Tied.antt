@@ -1,6 +1,6 @@
 use Rattle.std.proofs.Common.{◌≡◌, refl}
-use Rattle.iceoryx2_storage.specs.Orders.{participant_cmp, hash_cmp}
-use Rattle.iceoryx2_storage.specs.contracts.table.world.ParticipantOrd.TheImpl as derived
+use Rattle.iceoryx2_world.specs.Orders.{participant_cmp, hash_cmp}
+use Rattle.iceoryx2_world.specs.contracts.world.ParticipantOrd.TheImpl as derived
 use Rattle.iceoryx2_data.specs.contracts.description.ServiceHashOrd.TheImpl as derived_hash
 
 same_participants : participant_cmp ≡ (derived.ghosts).cmp

@@ -8,9 +8,9 @@ use Rattle.std.specs.FinMap.Entries.{where_key, is_sorted-put, is_sorted-where_k
 use Rattle.std.specs.Ordering.{eq_by_cmp, is_eq}
 use Rattle.std.specs.declared.cmp.Ordering.{Ordering}
 use Rattle.std.specs.Cmp.{IsTotalOrder, alike_right, eq_by_cmp_equiv, Equal-is}
-use Rattle.iceoryx2_storage.specs.declared.table.world.Phase.{Phase}
-use Rattle.iceoryx2_storage.specs.declared.table.world.Phase.TheVariants as at
-use Rattle.iceoryx2_storage.specs.World.{or_idle, unless_idle, set_to}
+use Rattle.iceoryx2_world.specs.declared.world.Phase.{Phase}
+use Rattle.iceoryx2_world.specs.declared.world.Phase.TheVariants as at
+use Rattle.iceoryx2_world.specs.World.{or_idle, unless_idle, set_to}
 use Rattle.iceoryx2_storage.proofs.Places.{true_T}
 
 pub from_nil : {K X : Type 0} (R : K → K → Ordering) → ◌≡◌ {A = map.FinMap R X} (map.from_sorted []) map.empty

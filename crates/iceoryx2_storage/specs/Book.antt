@@ -6,19 +6,19 @@ use Rattle.std.specs.Coded.{Coded, code_by, coded×, coded_ℕ}
 use Rattle.std.specs.declared.alloc.AllocError.{AllocError}
 use Rattle.iceoryx2_data.specs.declared.description.ServiceHash.{ServiceHash}
 use Rattle.iceoryx2_data.specs.Description.{Description}
-use Rattle.iceoryx2_storage.specs.declared.table.world.Participant.{Participant}
-use Rattle.iceoryx2_storage.specs.declared.table.world.Phase.{Phase}
-use Rattle.iceoryx2_storage.specs.declared.table.world.Phase.TheVariants as at
-use Rattle.iceoryx2_storage.specs.declared.table.world.Row.{Row}
-use Rattle.iceoryx2_storage.specs.declared.storage.Release.{Release as Released}
-use Rattle.iceoryx2_storage.specs.Sets as set
-use Rattle.iceoryx2_storage.specs.Orders.{hash_cmp, place_cmp, tag_cmp}
-use Rattle.iceoryx2_storage.specs.World.{World, Segment, set_to, or_idle, unless_idle}
-use Rattle.iceoryx2_storage.specs.Acts.{Act}
-use Rattle.iceoryx2_storage.specs.Acts as act
-use Rattle.iceoryx2_storage.specs.Steps.{Spot, step, fits, has_room}
-use Rattle.iceoryx2_storage.specs.Codes.{coded_hash, coded_row, coded_segment, coded_participant, coded_phase}
-use Rattle.iceoryx2_storage.specs.Access.{Tickets, left_as}
+use Rattle.iceoryx2_world.specs.declared.world.Participant.{Participant}
+use Rattle.iceoryx2_world.specs.declared.world.Phase.{Phase}
+use Rattle.iceoryx2_world.specs.declared.world.Phase.TheVariants as at
+use Rattle.iceoryx2_world.specs.declared.world.Row.{Row}
+use Rattle.iceoryx2_access.specs.declared.storage.Release.{Release as Released}
+use Rattle.iceoryx2_world.specs.Sets as set
+use Rattle.iceoryx2_world.specs.Orders.{hash_cmp, place_cmp, tag_cmp}
+use Rattle.iceoryx2_world.specs.World.{World, Segment, set_to, or_idle, unless_idle}
+use Rattle.iceoryx2_world.specs.Acts.{Act}
+use Rattle.iceoryx2_world.specs.Acts as act
+use Rattle.iceoryx2_world.specs.Steps.{Spot, step, fits, has_room}
+use Rattle.iceoryx2_world.specs.Codes.{coded_hash, coded_row, coded_segment, coded_participant, coded_phase}
+use Rattle.iceoryx2_world.specs.Access.{Tickets, left_as}
 
 pub record Book : Type 0 where
   pub rows : map.FinMap hash_cmp Row

@@ -1,7 +1,8 @@
-//! Where nodes leave what they agreed on: what a builder calls, and a table that answers.
+//! A table in which nodes leave what they agreed on, and what it stands on.
 #![tactic(auto)]
 
-pub mod laws;
 pub mod local;
-pub mod storage;
 pub mod table;
+
+pub use iceoryx2_access::storage;
+pub use iceoryx2_world::laws;

@@ -1,15 +1,13 @@
 //! A storage within one process.
 
 ghost use Rattle.std.specs.Prelude.{◌≡◌, IfOk};
-ghost use Rattle.iceoryx2_storage.specs.Access.{tag_of};
-ghost use Rattle.iceoryx2_storage.specs.Across.{Agrees, empty_world, ticket_count};
-ghost use Rattle.iceoryx2_storage.specs.Listing.{Lists};
+ghost use Rattle.iceoryx2_world.specs.Access.{tag_of};
+ghost use Rattle.iceoryx2_world.specs.Across.{Agrees, empty_world, ticket_count};
+ghost use Rattle.iceoryx2_world.specs.Listing.{Lists};
 
-pub mod listing;
 mod services;
 mod sorted;
 mod stored;
-pub mod world;
 
 use self::listing::Entry;
 use self::stored::StoredWorld;
@@ -18,6 +16,7 @@ use crate::storage::{
     ReleaseError, RemoveError, Storage, Tag, TagError,
 };
 use iceoryx2_data::description::{ServiceHash, StaticConfig};
+pub use iceoryx2_world::{listing, world};
 use std::alloc::{AllocError, Global};
 use std::marker::Model;
 
@@ -29,8 +28,8 @@ pub struct Table {
 }
 
 impl Model for Table {
-    ghost use Rattle.iceoryx2_storage.specs.World.{World};
-    ghost use Rattle.iceoryx2_storage.specs.Codes.{coded_world};
+    ghost use Rattle.iceoryx2_world.specs.World.{World};
+    ghost use Rattle.iceoryx2_world.specs.Codes.{coded_world};
 
     ghost Value = { World };
 
@@ -41,7 +40,7 @@ impl Model for Table {
 
 impl Table {
     /// An empty table whose first number is 0. Takes no memory.
-    #[tactic(auto, using(crate::proofs::agreement::Empty::empty_agrees))]
+    #[tactic(auto, using(iceoryx2_world::proofs::agreement::Empty::empty_agrees))]
     pub fn new(alloc: Global) -> Table
         ensures world { result ≡ empty_world 0 }
         ensures agrees { Agrees result }
@@ -90,14 +89,14 @@ impl Table {
 }
 
 impl Storage for Table {
-    ghost use Rattle.iceoryx2_storage.specs.Access.{IsOwnPart};
-    ghost use Rattle.iceoryx2_storage.specs.Across.{Agrees};
-    ghost use Rattle.iceoryx2_storage.specs.Letter.{fetched};
-    ghost use Rattle.iceoryx2_storage.specs.Letter as letter;
+    ghost use Rattle.iceoryx2_world.specs.Access.{IsOwnPart};
+    ghost use Rattle.iceoryx2_world.specs.Across.{Agrees};
+    ghost use Rattle.iceoryx2_access.specs.Letter.{fetched};
+    ghost use Rattle.iceoryx2_access.specs.Letter as letter;
 
     ghost step = { λ w letter v. IsOwnPart w letter v };
 
-    #[tactic(auto, using(crate::proofs::agreement::Accesses::own_agrees))]
+    #[tactic(auto, using(iceoryx2_world::proofs::agreement::Accesses::own_agrees))]
     fn exists(&mut self, hash: &ServiceHash) -> Existence
         ensures part { IsOwnPart self.old (letter.Exists hash.now result) self.new }
         ensures agrees { Agrees self.old → Agrees self.new }
@@ -105,7 +104,7 @@ impl Storage for Table {
         self.world.exists(hash)
     }
 
-    #[tactic(auto, using(crate::proofs::agreement::Accesses::own_agrees))]
+    #[tactic(auto, using(iceoryx2_world::proofs::agreement::Accesses::own_agrees))]
     fn fetch(&mut self, node: u64, hash: &ServiceHash) -> Result<(u64, Vec<u8>), FetchError>
         ensures part { IsOwnPart self.old (letter.Fetch node hash.now (fetched result)) self.new }
         ensures agrees { Agrees self.old → Agrees self.new }
@@ -113,7 +112,7 @@ impl Storage for Table {
         self.world.fetch(node, hash)
     }
 
-    #[tactic(auto, using(crate::proofs::agreement::Accesses::own_agrees))]
+    #[tactic(auto, using(iceoryx2_world::proofs::agreement::Accesses::own_agrees))]
     fn counts(&mut self, node: u64, hash: &ServiceHash) -> bool
         ensures part { IsOwnPart self.old (letter.Counts node hash.now result) self.new }
         ensures agrees { Agrees self.old → Agrees self.new }
@@ -121,7 +120,7 @@ impl Storage for Table {
         self.world.counts(node, hash)
     }
 
-    #[tactic(auto, using(crate::proofs::agreement::Accesses::own_agrees))]
+    #[tactic(auto, using(iceoryx2_world::proofs::agreement::Accesses::own_agrees))]
     fn make_tag(&mut self, node: u64, hash: &ServiceHash) -> Result<Tag, TagError>
         ensures part { IsOwnPart self.old (letter.MakeTag node hash.now result) self.new }
         ensures agrees { Agrees self.old → Agrees self.new }
@@ -129,7 +128,7 @@ impl Storage for Table {
         self.world.make_tag(node, hash)
     }
 
-    #[tactic(auto, using(crate::proofs::agreement::Accesses::own_agrees))]
+    #[tactic(auto, using(iceoryx2_world::proofs::agreement::Accesses::own_agrees))]
     fn remove_tag(&mut self, node: u64, hash: &ServiceHash) -> Result<(), RemoveError>
         ensures part { IsOwnPart self.old (letter.RemoveTag node hash.now result) self.new }
         ensures agrees { Agrees self.old → Agrees self.new }
@@ -137,7 +136,7 @@ impl Storage for Table {
         self.world.remove_tag(node, hash)
     }
 
-    #[tactic(auto, using(crate::proofs::agreement::Accesses::own_agrees))]
+    #[tactic(auto, using(iceoryx2_world::proofs::agreement::Accesses::own_agrees))]
     fn lock(&mut self, node: u64, hash: &ServiceHash) -> Result<u64, LockError>
         ensures part { IsOwnPart self.old (letter.Lock node hash.now result) self.new }
         ensures agrees { Agrees self.old → Agrees self.new }
@@ -145,7 +144,7 @@ impl Storage for Table {
         self.world.lock(node, hash)
     }
 
-    #[tactic(auto, using(crate::proofs::agreement::Accesses::own_agrees))]
+    #[tactic(auto, using(iceoryx2_world::proofs::agreement::Accesses::own_agrees))]
     fn make_segment(
         &mut self,
         node: u64,
@@ -159,7 +158,7 @@ impl Storage for Table {
         self.world.make_segment(node, hash, number, max_nodes)
     }
 
-    #[tactic(auto, using(crate::proofs::agreement::Accesses::own_agrees))]
+    #[tactic(auto, using(iceoryx2_world::proofs::agreement::Accesses::own_agrees))]
     fn remove_segment(&mut self, node: u64, hash: &ServiceHash) -> Result<(), RemoveError>
         ensures part { IsOwnPart self.old (letter.RemoveSegment node hash.now result) self.new }
         ensures agrees { Agrees self.old → Agrees self.new }
@@ -167,7 +166,7 @@ impl Storage for Table {
         self.world.remove_segment(node, hash)
     }
 
-    #[tactic(auto, using(crate::proofs::agreement::Accesses::own_agrees))]
+    #[tactic(auto, using(iceoryx2_world::proofs::agreement::Accesses::own_agrees))]
     fn remove_description(&mut self, node: u64, hash: &ServiceHash) -> Result<(), RemoveError>
         ensures part { IsOwnPart self.old (letter.RemoveDescription node hash.now result) self.new }
         ensures agrees { Agrees self.old → Agrees self.new }
@@ -175,7 +174,7 @@ impl Storage for Table {
         self.world.remove_description(node, hash)
     }
 
-    #[tactic(auto, using(crate::proofs::agreement::Accesses::own_agrees))]
+    #[tactic(auto, using(iceoryx2_world::proofs::agreement::Accesses::own_agrees))]
     fn publish(
         &mut self,
         node: u64,
@@ -189,7 +188,7 @@ impl Storage for Table {
         self.world.publish(node, hash, number, description)
     }
 
-    #[tactic(auto, using(crate::proofs::agreement::Accesses::own_agrees))]
+    #[tactic(auto, using(iceoryx2_world::proofs::agreement::Accesses::own_agrees))]
     fn open_segment(
         &mut self,
         node: u64,
@@ -202,7 +201,7 @@ impl Storage for Table {
         self.world.open_segment(node, hash, number)
     }
 
-    #[tactic(auto, using(crate::proofs::agreement::Accesses::own_agrees))]
+    #[tactic(auto, using(iceoryx2_world::proofs::agreement::Accesses::own_agrees))]
     fn release(
         &mut self,
         ticket: u64,

@@ -1,12 +1,12 @@
 //! Services of events over a table that nobody else uses.
 
 use crate::support::*;
+use iceoryx2_access::storage::Storage;
 use iceoryx2_builder::builder::Node;
 use iceoryx2_builder::event::EventId;
 use iceoryx2_data::config::Config;
 use iceoryx2_rounds::error::{EventCreateError, EventOpenError};
 use iceoryx2_storage::local::Local;
-use iceoryx2_storage::storage::Storage;
 use iceoryx2_storage::table::Table;
 use std::test::Fail;
 

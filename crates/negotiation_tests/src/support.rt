@@ -1,5 +1,6 @@
 //! What the tests share.
 
+use iceoryx2_access::storage::{ServiceNameHasher, Sha1Hasher};
 use iceoryx2_builder::builder::Node;
 use iceoryx2_builder::event::Builder;
 use iceoryx2_data::config::Config;
@@ -8,7 +9,6 @@ use iceoryx2_data::time::Time;
 use iceoryx2_rounds::error::{EventCreateError, EventOpenError};
 use iceoryx2_rounds::port_factory::event::PortFactory;
 use iceoryx2_storage::local::Local;
-use iceoryx2_storage::storage::{ServiceNameHasher, Sha1Hasher};
 use iceoryx2_storage::table::Table;
 use std::alloc::Global;
 use std::process::Abort;

@@ -2,13 +2,13 @@
 
 ghost use Rattle.std.specs.Prelude.{◌≡◌};
 ghost use Rattle.iceoryx2_data.specs.declared.description.MessagingPattern.TheVariants as pattern;
-ghost use Rattle.iceoryx2_storage.specs.Run.{Joins};
+ghost use Rattle.iceoryx2_access.specs.Run.{Joins};
 ghost use Rattle.iceoryx2_rounds.specs.Closes.{IsCloseWord};
 
 use crate::port_factory::{CloseError, Registration};
+use iceoryx2_access::storage::Service;
 use iceoryx2_data::description::{MessagingPattern, ServiceHash, ServiceName};
 use iceoryx2_data::event::StaticConfig;
-use iceoryx2_storage::storage::Service;
 use std::marker::{Model, PhantomData};
 
 /// An opened service of events. It has to be spent, by `close` or `abandon`.
@@ -18,9 +18,9 @@ pub struct PortFactory<S: Service> {
 }
 
 impl<S: Service> Model for PortFactory<S> {
-    ghost use Rattle.iceoryx2_rounds.specs.Registered.{Registered};
+    ghost use Rattle.iceoryx2_access.specs.Factory.{Factory};
 
-    ghost Value = { Registered };
+    ghost Value = { Factory };
 
     ghost view = { λ factory. factory.registration };
 }

@@ -3,13 +3,13 @@
 ghost use Rattle.std.specs.Prelude.{◌≡◌, ◌≢◌, ◌&&◌, is_some, MatchOption, Some, None, IsSome, IsTrue, IfOk, Ok, true};
 ghost use Rattle.std.specs.FinMap as map;
 ghost use Rattle.std.specs.Option.{option_copied};
-ghost use Rattle.iceoryx2_storage.specs.Orders.{place_cmp};
-ghost use Rattle.iceoryx2_storage.specs.World.{or_idle, unless_idle, set_to};
-ghost use Rattle.iceoryx2_storage.specs.Acts as act;
-ghost use Rattle.iceoryx2_storage.specs.Steps.{begins as begins_spec, fits as fits_spec, has_room as has_room_spec};
+ghost use Rattle.iceoryx2_world.specs.Orders.{place_cmp};
+ghost use Rattle.iceoryx2_world.specs.World.{or_idle, unless_idle, set_to};
+ghost use Rattle.iceoryx2_world.specs.Acts as act;
+ghost use Rattle.iceoryx2_world.specs.Steps.{begins as begins_spec, fits as fits_spec, has_room as has_room_spec};
 ghost use Rattle.iceoryx2_data.specs.Description.{IsDescription};
-ghost use Rattle.iceoryx2_storage.specs.Access.{has_made, open_refusal, segment_refusal};
-ghost use Rattle.iceoryx2_storage.specs.Listing.{ListsAll, entry_of, listed_row as listed_row_of, listed_segment};
+ghost use Rattle.iceoryx2_world.specs.Access.{has_made, open_refusal, segment_refusal};
+ghost use Rattle.iceoryx2_world.specs.Listing.{ListsAll, entry_of, listed_row as listed_row_of, listed_segment};
 ghost use Rattle.iceoryx2_storage.specs.Book.{Steps, Tries, Leaves, Admits, Dismisses, TakesSegment, TakesDescription, segment_fits};
 
 use super::listing::{Entry, ListedRow, ListedSegment};
@@ -33,9 +33,9 @@ pub struct StoredSegment {
 impl Model for StoredSegment {
     ghost use Rattle.std.specs.FinMap as map;
     ghost use Rattle.std.specs.Option.{option_copied};
-    ghost use Rattle.iceoryx2_storage.specs.Orders.{participant_cmp};
-    ghost use Rattle.iceoryx2_storage.specs.World.{Segment};
-    ghost use Rattle.iceoryx2_storage.specs.Codes.{coded_segment};
+    ghost use Rattle.iceoryx2_world.specs.Orders.{participant_cmp};
+    ghost use Rattle.iceoryx2_world.specs.World.{Segment};
+    ghost use Rattle.iceoryx2_world.specs.Codes.{coded_segment};
 
     ghost Value = { Segment };
 
@@ -149,7 +149,7 @@ pub struct Services {
 impl Model for Services {
     ghost use Rattle.std.specs.FinMap as map;
     ghost use Rattle.std.specs.Option.{option_copied};
-    ghost use Rattle.iceoryx2_storage.specs.Orders.{hash_cmp, place_cmp};
+    ghost use Rattle.iceoryx2_world.specs.Orders.{hash_cmp, place_cmp};
     ghost use Rattle.iceoryx2_storage.specs.Book.{Book, coded_book};
 
     ghost Value = { Book };

@@ -1,13 +1,13 @@
 //! What a table keeps, and the own part of each access of a node.
 
 ghost use Rattle.std.specs.Prelude.{◌≡◌, ◌&&◌, IfOk, nat_lt, filter, length};
-ghost use Rattle.iceoryx2_storage.specs.Across.{belongs, empty_world, ticket_count};
-ghost use Rattle.iceoryx2_storage.specs.Listing.{Lists};
+ghost use Rattle.iceoryx2_world.specs.Across.{belongs, empty_world, ticket_count};
+ghost use Rattle.iceoryx2_world.specs.Listing.{Lists};
 ghost use Rattle.std.specs.FinMap as map;
 ghost use Rattle.std.specs.Ordering.{nat_cmp};
-ghost use Rattle.iceoryx2_storage.specs.Letter as letter;
-ghost use Rattle.iceoryx2_storage.specs.Letter.{fetched};
-ghost use Rattle.iceoryx2_storage.specs.Access.{IsOwnPart, has_lock, is_ticket, tag_of};
+ghost use Rattle.iceoryx2_access.specs.Letter as letter;
+ghost use Rattle.iceoryx2_access.specs.Letter.{fetched};
+ghost use Rattle.iceoryx2_world.specs.Access.{IsOwnPart, has_lock, is_ticket, tag_of};
 
 use super::listing::Entry;
 use super::services::Services;
@@ -32,9 +32,9 @@ pub struct StoredWorld {
 impl Model for StoredWorld {
     ghost use Rattle.std.specs.FinMap as map;
     ghost use Rattle.std.specs.Ordering.{nat_cmp};
-    ghost use Rattle.iceoryx2_storage.specs.Orders.{tag_cmp};
-    ghost use Rattle.iceoryx2_storage.specs.World.{World};
-    ghost use Rattle.iceoryx2_storage.specs.Codes.{coded_world};
+    ghost use Rattle.iceoryx2_world.specs.Orders.{tag_cmp};
+    ghost use Rattle.iceoryx2_world.specs.World.{World};
+    ghost use Rattle.iceoryx2_world.specs.Codes.{coded_world};
     ghost use Rattle.iceoryx2_storage.specs.Book.{world};
 
     ghost Value = { World };

@@ -1,6 +1,6 @@
 use Rattle.std.proofs.Common.{sym, ◌∙◌}
-use Rattle.iceoryx2_storage.proofs.Run.{joins, both}
-use Rattle.iceoryx2_storage.specs.Run.{done}
+use Rattle.iceoryx2_access.proofs.Run.{joins, both}
+use Rattle.iceoryx2_access.specs.Run.{done}
 use Rattle.iceoryx2_rounds.specs.Creates.{forbidden, not_entered, clock_fault}
 use Rattle.iceoryx2_rounds.proofs.create.create_adjusted.Goals as goal
 

@@ -1,5 +1,5 @@
-use Rattle.iceoryx2_storage.proofs.Run.{joins, one, both}
-use Rattle.iceoryx2_storage.specs.Run.{next}
+use Rattle.iceoryx2_access.proofs.Run.{joins, one, both}
+use Rattle.iceoryx2_access.specs.Run.{next}
 use Rattle.iceoryx2_rounds.specs.Creates.{look_faulty, look_found, counted, no_copies, no_tag, entered}
 use Rattle.iceoryx2_rounds.proofs.create.enter.Goals as goal
 

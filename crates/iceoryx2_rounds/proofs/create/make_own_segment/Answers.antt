@@ -1,6 +1,6 @@
 use Rattle.std.proofs.Common.{◌≡◌, add-one, arith}
-use Rattle.iceoryx2_storage.proofs.Run.{joins, one, both}
-use Rattle.iceoryx2_storage.specs.Run.{next, done}
+use Rattle.iceoryx2_access.proofs.Run.{joins, one, both}
+use Rattle.iceoryx2_access.specs.Run.{next, done}
 use Rattle.iceoryx2_rounds.specs.Segments.{made, not_made, not_removed, still_there}
 use Rattle.iceoryx2_rounds.proofs.create.make_own_segment.Goals as goal
 

@@ -1,4 +1,4 @@
-use Rattle.iceoryx2_storage.specs.Run.{Run}
+use Rattle.iceoryx2_access.specs.Run.{Run}
 use Rattle.iceoryx2_rounds.specs.Segments.{cleared}
 use Rattle.iceoryx2_rounds.proofs.create.make_own_segment.Given as goal
 

@@ -1,5 +1,5 @@
-use Rattle.iceoryx2_storage.proofs.Run.{joins, one, both}
-use Rattle.iceoryx2_storage.specs.Run.{next}
+use Rattle.iceoryx2_access.proofs.Run.{joins, one, both}
+use Rattle.iceoryx2_access.specs.Run.{next}
 use Rattle.iceoryx2_rounds.specs.Creates.{not_locked, no_segment, not_published, published}
 use Rattle.iceoryx2_rounds.proofs.create.make_service.Goals as goal
 

@@ -1,5 +1,5 @@
-use Rattle.iceoryx2_storage.proofs.Run.{joins}
-use Rattle.iceoryx2_storage.specs.Run.{next}
+use Rattle.iceoryx2_access.proofs.Run.{joins}
+use Rattle.iceoryx2_access.specs.Run.{next}
 use Rattle.iceoryx2_rounds.specs.GivesBack.{lock_back}
 use Rattle.iceoryx2_rounds.proofs.give_back.give_back_lock.Goals as goal
 

@@ -1,5 +1,5 @@
-use Rattle.iceoryx2_storage.proofs.Run.{joins, one}
-use Rattle.iceoryx2_storage.specs.Run.{done}
+use Rattle.iceoryx2_access.proofs.Run.{joins, one}
+use Rattle.iceoryx2_access.specs.Run.{done}
 use Rattle.iceoryx2_rounds.specs.GivesBack.{nothing_left, tag_back}
 use Rattle.iceoryx2_rounds.proofs.give_back.give_back_tag.Goals as goal
 

@@ -1,5 +1,5 @@
-use Rattle.iceoryx2_storage.proofs.Run.{joins, one}
-use Rattle.iceoryx2_storage.specs.Run.{next}
+use Rattle.iceoryx2_access.proofs.Run.{joins, one}
+use Rattle.iceoryx2_access.specs.Run.{next}
 use Rattle.iceoryx2_rounds.specs.Looks.{absent, broken, fetched}
 use Rattle.iceoryx2_rounds.proofs.LookSteps.{may_be_there}
 use Rattle.iceoryx2_rounds.proofs.look.look.Goals as goal

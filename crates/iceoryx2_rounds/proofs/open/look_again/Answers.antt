@@ -1,4 +1,4 @@
-use Rattle.iceoryx2_storage.proofs.Run.{joins, both}
+use Rattle.iceoryx2_access.proofs.Run.{joins, both}
 use Rattle.iceoryx2_rounds.specs.Opens.{second_faulty, second_none, second_found}
 use Rattle.iceoryx2_rounds.proofs.open.look_again.Goals as goal
 

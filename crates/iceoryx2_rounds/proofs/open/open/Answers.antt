@@ -1,6 +1,6 @@
 use Rattle.std.proofs.Common.{arith, add-one, ◌≡◌}
-use Rattle.iceoryx2_storage.proofs.Run.{joins, both}
-use Rattle.iceoryx2_storage.specs.Run.{done}
+use Rattle.iceoryx2_access.proofs.Run.{joins, both}
+use Rattle.iceoryx2_access.specs.Run.{done}
 use Rattle.iceoryx2_rounds.specs.Opens.{no_round, one_more, ended, six_failed}
 use Rattle.iceoryx2_rounds.proofs.open.open.Goals as goal
 

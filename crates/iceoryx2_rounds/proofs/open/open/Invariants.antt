@@ -1,4 +1,4 @@
-use Rattle.iceoryx2_storage.specs.Run.{Joins}
+use Rattle.iceoryx2_access.specs.Run.{Joins}
 use Rattle.iceoryx2_rounds.specs.Opens.{AreFailedRounds}
 use Rattle.iceoryx2_rounds.proofs.open.open.Given as goal
 

@@ -1,6 +1,6 @@
 use Rattle.std.proofs.Common.{sym}
-use Rattle.iceoryx2_storage.proofs.Run.{joins, one, both}
-use Rattle.iceoryx2_storage.specs.Run.{next}
+use Rattle.iceoryx2_access.proofs.Run.{joins, one, both}
+use Rattle.iceoryx2_access.specs.Run.{next}
 use Rattle.iceoryx2_rounds.specs.Opens.{ready, look_faulty, look_none, not_accepted, no_tag, not_opened, opened}
 use Rattle.iceoryx2_rounds.proofs.OpenSteps.{only_failed, ends, goes_on}
 use Rattle.iceoryx2_rounds.proofs.open.try_open.Goals as goal

@@ -1,8 +1,8 @@
 use Rattle.std.proofs.Common.{◌≡◌, refl}
-use Rattle.iceoryx2_storage.proofs.Run.{joins, one}
-use Rattle.iceoryx2_storage.specs.Run.{next}
-use Rattle.iceoryx2_storage.specs.declared.storage.ReleaseError.{ReleaseError}
-use Rattle.iceoryx2_storage.specs.declared.storage.ReleaseError.TheVariants.{NoSuchTicket}
+use Rattle.iceoryx2_access.proofs.Run.{joins, one}
+use Rattle.iceoryx2_access.specs.Run.{next}
+use Rattle.iceoryx2_access.specs.declared.storage.ReleaseError.{ReleaseError}
+use Rattle.iceoryx2_access.specs.declared.storage.ReleaseError.TheVariants.{NoSuchTicket}
 use Rattle.iceoryx2_rounds.specs.Closes.{not_here, still_counted, left, last}
 use Rattle.iceoryx2_rounds.proofs.port_factory.Registration.close.Goals as goal
 

@@ -1,4 +1,4 @@
-use Rattle.iceoryx2_storage.proofs.agreement.Empty.{empty_agrees}
+use Rattle.iceoryx2_world.proofs.agreement.Empty.{empty_agrees}
 use Rattle.iceoryx2_storage.proofs.table.Table.starting_at.Goals as goal
 
 pub returns-clause-agrees : goal.returns-clause-agrees

@@ -1,4 +1,4 @@
-use Rattle.iceoryx2_storage.proofs.agreement.Accesses.{own_agrees}
+use Rattle.iceoryx2_world.proofs.agreement.Accesses.{own_agrees}
 use Rattle.iceoryx2_storage.proofs.table.TableStorage.remove_tag.Goals as goal
 
 pub returns-clause-agrees : goal.returns-clause-agrees

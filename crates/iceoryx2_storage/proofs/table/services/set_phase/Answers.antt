@@ -1,8 +1,8 @@
 use Rattle.std.proofs.Common.{sym, ap, ◌∙◌}
 use Rattle.std.specs.FinMap as map
-use Rattle.iceoryx2_storage.specs.declared.table.world.Phase.{Phase}
-use Rattle.iceoryx2_storage.specs.Orders.{place_cmp, place_exact}
-use Rattle.iceoryx2_storage.specs.World.{set_to, unless_idle}
+use Rattle.iceoryx2_world.specs.declared.world.Phase.{Phase}
+use Rattle.iceoryx2_world.specs.Orders.{place_cmp, place_exact}
+use Rattle.iceoryx2_world.specs.World.{set_to, unless_idle}
 use Rattle.iceoryx2_storage.proofs.table.services.set_phase.Goals as goal
 
 pub returns-in-Idle : goal.returns-in-Idle

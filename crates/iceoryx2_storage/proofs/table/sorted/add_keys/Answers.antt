@@ -4,7 +4,7 @@ use Rattle.std.specs.FinMap as map
 use Rattle.std.specs.FinMap.Entries.{find}
 use Rattle.std.specs.Ordering.{eq_by_cmp}
 use Rattle.std.proofs.lemmas.List.{take_all}
-use Rattle.iceoryx2_storage.specs.Sets as set
+use Rattle.iceoryx2_world.specs.Sets as set
 use Rattle.iceoryx2_storage.proofs.Places.{true_T}
 use Rattle.iceoryx2_storage.proofs.Listed.{found-more, or_last, or_none}
 use Rattle.iceoryx2_storage.proofs.table.sorted.add_keys.Goals as goal

@@ -2,11 +2,11 @@ use Rattle.std.proofs.Common.{◌≡◌, ◌+◌, Bool, Some, None, true, arith,
 use Rattle.std.specs.Prelude.{nat_lt, Ok, if◌then◌else◌}
 use Rattle.std.specs.FinMap as map
 use Rattle.std.proofs.lemmas.Bool.Decides.{nat_tests}
-use Rattle.iceoryx2_storage.specs.declared.table.world.Phase.TheVariants as at
-use Rattle.iceoryx2_storage.specs.Orders.{hash_cmp, hash_total, hash_exact, place_cmp}
-use Rattle.iceoryx2_storage.specs.World.{Segment}
-use Rattle.iceoryx2_storage.specs.Acts as act
-use Rattle.iceoryx2_storage.specs.Steps.{now, last_number}
+use Rattle.iceoryx2_world.specs.declared.world.Phase.TheVariants as at
+use Rattle.iceoryx2_world.specs.Orders.{hash_cmp, hash_total, hash_exact, place_cmp}
+use Rattle.iceoryx2_world.specs.World.{Segment}
+use Rattle.iceoryx2_world.specs.Acts as act
+use Rattle.iceoryx2_world.specs.Steps.{now, last_number}
 use Rattle.iceoryx2_storage.specs.Book.{Admits, needs_room}
 use Rattle.iceoryx2_storage.proofs.Views.{kept, kept_at, there_by}
 use Rattle.iceoryx2_storage.proofs.Spots.{by_phase, by_both, replaced, returned, did, refused, starved}

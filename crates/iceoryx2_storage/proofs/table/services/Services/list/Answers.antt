@@ -4,10 +4,10 @@ use Rattle.std.specs.FinMap as map
 use Rattle.std.specs.FinMap.Entries.{find, is_sorted}
 use Rattle.std.proofs.lemmas.List.{take_all}
 use Rattle.iceoryx2_data.specs.declared.description.ServiceHash.{ServiceHash}
-use Rattle.iceoryx2_storage.specs.declared.table.listing.Entry.{Entry}
-use Rattle.iceoryx2_storage.specs.Orders.{hash_cmp}
+use Rattle.iceoryx2_world.specs.declared.listing.Entry.{Entry}
+use Rattle.iceoryx2_world.specs.Orders.{hash_cmp}
 use Rattle.iceoryx2_storage.specs.Book.{Book}
-use Rattle.iceoryx2_storage.specs.Listing.{ListsAll}
+use Rattle.iceoryx2_world.specs.Listing.{ListsAll}
 use Rattle.iceoryx2_storage.proofs.Places.{true_T}
 use Rattle.iceoryx2_storage.proofs.Listed.{entry, listing, listing-more, lists}
 use Rattle.iceoryx2_storage.proofs.table.services.Services.list.Goals as goal

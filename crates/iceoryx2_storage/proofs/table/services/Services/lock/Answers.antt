@@ -2,11 +2,11 @@ use Rattle.std.proofs.Common.{◌≡◌, ◌+◌, true, arith, refl, sym, ap, �
 use Rattle.std.specs.Prelude.{nat_lt}
 use Rattle.std.specs.FinMap as map
 use Rattle.std.proofs.lemmas.Bool.Decides.{nat_tests}
-use Rattle.iceoryx2_storage.specs.declared.table.world.Phase.TheVariants as at
-use Rattle.iceoryx2_storage.specs.Rows as row
-use Rattle.iceoryx2_storage.specs.Orders.{hash_cmp, hash_total, hash_exact, place_cmp}
-use Rattle.iceoryx2_storage.specs.Acts as act
-use Rattle.iceoryx2_storage.specs.Steps.{last_number}
+use Rattle.iceoryx2_world.specs.declared.world.Phase.TheVariants as at
+use Rattle.iceoryx2_world.specs.declared.world.Row.TheVariants as row
+use Rattle.iceoryx2_world.specs.Orders.{hash_cmp, hash_total, hash_exact, place_cmp}
+use Rattle.iceoryx2_world.specs.Acts as act
+use Rattle.iceoryx2_world.specs.Steps.{last_number}
 use Rattle.iceoryx2_storage.proofs.Views.{kept}
 use Rattle.iceoryx2_storage.proofs.Spots.{did, starved, lock_tried}
 use Rattle.iceoryx2_storage.proofs.table.services.Services.lock.Goals as goal

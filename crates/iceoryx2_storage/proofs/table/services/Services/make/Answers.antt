@@ -2,14 +2,14 @@ use Rattle.std.proofs.Common.{◌≡◌, Bool, Some, None, true, false, arith, r
 use Rattle.std.specs.Prelude.{nat_lt, if◌then◌else◌}
 use Rattle.std.specs.FinMap as map
 use Rattle.std.proofs.lemmas.Bool.Decides.{nat_tests}
-use Rattle.iceoryx2_storage.specs.declared.table.world.Phase.TheVariants as at
-use Rattle.iceoryx2_storage.specs.Orders.{hash_cmp, hash_total, hash_exact, place_cmp, participant_cmp}
-use Rattle.iceoryx2_storage.specs.Sets as set
-use Rattle.iceoryx2_storage.specs.Acts as act
-use Rattle.iceoryx2_storage.specs.Steps.{now}
+use Rattle.iceoryx2_world.specs.declared.world.Phase.TheVariants as at
+use Rattle.iceoryx2_world.specs.Orders.{hash_cmp, hash_total, hash_exact, place_cmp, participant_cmp}
+use Rattle.iceoryx2_world.specs.Sets as set
+use Rattle.iceoryx2_world.specs.Acts as act
+use Rattle.iceoryx2_world.specs.Steps.{now}
 use Rattle.iceoryx2_storage.proofs.Views.{kept, there_by}
 use Rattle.iceoryx2_storage.proofs.Spots.{by_both, did, starved}
-use Rattle.iceoryx2_storage.specs.Steps.{made}
+use Rattle.iceoryx2_world.specs.Steps.{made}
 use Rattle.iceoryx2_storage.proofs.table.services.Services.make.Goals as goal
 
 pub returns-then-is_err : goal.returns-then-is_err

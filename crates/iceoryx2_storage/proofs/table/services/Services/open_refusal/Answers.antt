@@ -1,9 +1,9 @@
 use Rattle.std.proofs.Common.{Option, sym, ap, ◌∙◌}
 use Rattle.std.specs.FinMap as map
-use Rattle.iceoryx2_storage.specs.declared.table.world.Phase.{Phase}
-use Rattle.iceoryx2_storage.specs.World.{Segment, or_idle}
-use Rattle.iceoryx2_storage.specs.Orders.{place_cmp}
-use Rattle.iceoryx2_storage.specs.Access.{open_refusal, segment_refusal}
+use Rattle.iceoryx2_world.specs.declared.world.Phase.{Phase}
+use Rattle.iceoryx2_world.specs.World.{Segment, or_idle}
+use Rattle.iceoryx2_world.specs.Orders.{place_cmp}
+use Rattle.iceoryx2_world.specs.Access.{open_refusal, segment_refusal}
 use Rattle.iceoryx2_storage.specs.Book.{Book}
 use Rattle.iceoryx2_storage.proofs.table.services.Services.open_refusal.Goals as goal
 

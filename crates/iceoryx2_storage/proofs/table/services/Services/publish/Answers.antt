@@ -1,8 +1,8 @@
 use Rattle.std.proofs.Common.{refl, sym, ap, ◌∙◌}
 use Rattle.std.specs.FinMap as map
-use Rattle.iceoryx2_storage.specs.Rows as row
-use Rattle.iceoryx2_storage.specs.Orders.{hash_cmp, hash_total, hash_exact, place_cmp}
-use Rattle.iceoryx2_storage.specs.Acts as act
+use Rattle.iceoryx2_world.specs.declared.world.Row.TheVariants as row
+use Rattle.iceoryx2_world.specs.Orders.{hash_cmp, hash_total, hash_exact, place_cmp}
+use Rattle.iceoryx2_world.specs.Acts as act
 use Rattle.iceoryx2_storage.proofs.Views.{kept, there_by}
 use Rattle.iceoryx2_storage.proofs.Spots.{did, starved, publish_tried}
 use Rattle.iceoryx2_storage.proofs.table.services.Services.publish.Goals as goal

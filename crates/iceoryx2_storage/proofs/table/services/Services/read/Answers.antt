@@ -1,8 +1,8 @@
 use Rattle.std.proofs.Common.{Some, refl, sym, ap, ◌∙◌}
 use Rattle.std.specs.FinMap as map
-use Rattle.iceoryx2_storage.specs.declared.table.world.Phase.TheVariants as at
-use Rattle.iceoryx2_storage.specs.Orders.{hash_cmp, hash_total, hash_exact}
-use Rattle.iceoryx2_storage.specs.Acts as act
+use Rattle.iceoryx2_world.specs.declared.world.Phase.TheVariants as at
+use Rattle.iceoryx2_world.specs.Orders.{hash_cmp, hash_total, hash_exact}
+use Rattle.iceoryx2_world.specs.Acts as act
 use Rattle.iceoryx2_storage.specs.Book.{needs_room}
 use Rattle.iceoryx2_storage.proofs.Views.{kept, there_by}
 use Rattle.iceoryx2_storage.proofs.Spots.{did, starved, read_tried}

@@ -1,9 +1,9 @@
 use Rattle.std.proofs.Common.{Option, None, refl, sym, ap, subst, ◌∙◌}
 use Rattle.std.specs.Prelude.{IsSome}
 use Rattle.std.specs.FinMap as map
-use Rattle.iceoryx2_storage.specs.declared.table.world.Phase.{Phase}
-use Rattle.iceoryx2_storage.specs.Orders.{hash_cmp, hash_total, hash_exact}
-use Rattle.iceoryx2_storage.specs.Acts as act
+use Rattle.iceoryx2_world.specs.declared.world.Phase.{Phase}
+use Rattle.iceoryx2_world.specs.Orders.{hash_cmp, hash_total, hash_exact}
+use Rattle.iceoryx2_world.specs.Acts as act
 use Rattle.std.specs.Option.{option_map}
 use Rattle.iceoryx2_storage.proofs.Views.{kept, there}
 use Rattle.iceoryx2_storage.proofs.Spots.{by_phase, did, refused}

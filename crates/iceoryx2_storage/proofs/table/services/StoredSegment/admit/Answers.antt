@@ -1,6 +1,6 @@
 use Rattle.std.proofs.Common.{sym, ap, ◌∙◌}
 use Rattle.std.specs.FinMap as map
-use Rattle.iceoryx2_storage.specs.World.{Segment}
+use Rattle.iceoryx2_world.specs.World.{Segment}
 use Rattle.iceoryx2_storage.proofs.table.services.StoredSegment.admit.Goals as goal
 
 pub returns : goal.returns

@@ -1,8 +1,8 @@
 use Rattle.std.proofs.Common.{◌≡◌, ap, ◌∙◌, true, arith}
 use Rattle.std.specs.FinMap as map
 use Rattle.std.proofs.lemmas.Bool.Decides.{nat_tests}
-use Rattle.iceoryx2_storage.specs.Orders.{participant_exact}
-use Rattle.iceoryx2_storage.specs.World.{Segment}
+use Rattle.iceoryx2_world.specs.Orders.{participant_exact}
+use Rattle.iceoryx2_world.specs.World.{Segment}
 use Rattle.iceoryx2_storage.proofs.table.services.StoredSegment.dismiss.Goals as goal
 
 pub returns-then-len-gt1 : goal.returns-then-len-gt1

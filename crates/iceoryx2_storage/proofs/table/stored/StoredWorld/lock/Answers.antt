@@ -1,14 +1,14 @@
 use Rattle.std.proofs.Common.{Bool, Some, sym, ap, subst, ◌∙◌}
 use Rattle.std.specs.Prelude.{Ok, Err}
 use Rattle.std.specs.FinMap as map
-use Rattle.iceoryx2_storage.specs.declared.storage.LockError.TheVariants as Locking
-use Rattle.iceoryx2_storage.specs.declared.table.world.Participant.TheVariants.{Node}
-use Rattle.iceoryx2_storage.specs.Acts as act
-use Rattle.iceoryx2_storage.specs.Letter as letter
-use Rattle.iceoryx2_storage.specs.Access.{Tickets, nothing, moves, stepped, lock_of}
+use Rattle.iceoryx2_access.specs.declared.storage.LockError.TheVariants as Locking
+use Rattle.iceoryx2_world.specs.declared.world.Participant.TheVariants.{Node}
+use Rattle.iceoryx2_world.specs.Acts as act
+use Rattle.iceoryx2_access.specs.Letter as letter
+use Rattle.iceoryx2_world.specs.Access.{Tickets, nothing, moves, stepped, lock_of}
 use Rattle.iceoryx2_storage.specs.Book.{Book, Tries, world}
-use Rattle.iceoryx2_storage.specs.Sets as set
-use Rattle.iceoryx2_storage.specs.Orders.{tag_cmp}
+use Rattle.iceoryx2_world.specs.Sets as set
+use Rattle.iceoryx2_world.specs.Orders.{tag_cmp}
 use Rattle.iceoryx2_storage.proofs.Accesses.{part, spot_at, gives_refusal, gives_done, gives_starved}
 use Rattle.iceoryx2_storage.proofs.table.stored.StoredWorld.lock.Goals as goal
 

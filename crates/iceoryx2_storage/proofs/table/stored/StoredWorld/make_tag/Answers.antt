@@ -1,10 +1,10 @@
 use Rattle.std.proofs.Common.{Bool, inl, inr, refl, sym, ap, subst, ◌∙◌}
 use Rattle.std.specs.Prelude.{Ok, Err, is_some, true}
 use Rattle.std.specs.FinMap as map
-use Rattle.iceoryx2_storage.specs.declared.storage.Tag.TheVariants.{Made, Found}
-use Rattle.iceoryx2_storage.specs.declared.storage.TagError.TheVariants as Tagging
-use Rattle.iceoryx2_storage.specs.Letter as letter
-use Rattle.iceoryx2_storage.specs.Access.{Tickets, nothing, tags, MakesTag}
+use Rattle.iceoryx2_access.specs.declared.storage.Tag.TheVariants.{Made, Found}
+use Rattle.iceoryx2_access.specs.declared.storage.TagError.TheVariants as Tagging
+use Rattle.iceoryx2_access.specs.Letter as letter
+use Rattle.iceoryx2_world.specs.Access.{Tickets, nothing, tags, MakesTag}
 use Rattle.iceoryx2_storage.specs.Book.{world}
 use Rattle.iceoryx2_storage.proofs.Accesses.{part}
 use Rattle.iceoryx2_storage.proofs.table.stored.StoredWorld.make_tag.Goals as goal

@@ -1,18 +1,18 @@
 use Rattle.std.proofs.Common.{◌+◌, Bool, Option, sym, ap, subst, ◌∙◌}
 use Rattle.std.specs.Prelude.{Ok, Err}
 use Rattle.std.specs.FinMap as map
-use Rattle.iceoryx2_storage.specs.declared.storage.OpenSegmentError.{OpenSegmentError}
-use Rattle.iceoryx2_storage.specs.declared.storage.OpenSegmentError.TheVariants as Opening
-use Rattle.iceoryx2_storage.specs.declared.table.world.Participant.TheVariants.{Node}
-use Rattle.iceoryx2_storage.specs.declared.table.world.Ticket.{Ticket}
-use Rattle.iceoryx2_storage.specs.Acts as act
-use Rattle.iceoryx2_storage.specs.Letter as letter
-use Rattle.iceoryx2_storage.specs.Steps.{Spot}
-use Rattle.iceoryx2_storage.specs.Access.{Tickets, nothing, moves_with, with_ticket, opened, seat}
+use Rattle.iceoryx2_access.specs.declared.storage.OpenSegmentError.{OpenSegmentError}
+use Rattle.iceoryx2_access.specs.declared.storage.OpenSegmentError.TheVariants as Opening
+use Rattle.iceoryx2_world.specs.declared.world.Participant.TheVariants.{Node}
+use Rattle.iceoryx2_world.specs.declared.world.Ticket.{Ticket}
+use Rattle.iceoryx2_world.specs.Acts as act
+use Rattle.iceoryx2_access.specs.Letter as letter
+use Rattle.iceoryx2_world.specs.Steps.{Spot}
+use Rattle.iceoryx2_world.specs.Access.{Tickets, nothing, moves_with, with_ticket, opened, seat}
 use Rattle.iceoryx2_storage.specs.Book.{Book, Tries, tries, world}
 use Rattle.iceoryx2_storage.proofs.Spots.{may_join}
-use Rattle.iceoryx2_storage.specs.Sets as set
-use Rattle.iceoryx2_storage.specs.Orders.{tag_cmp}
+use Rattle.iceoryx2_world.specs.Sets as set
+use Rattle.iceoryx2_world.specs.Orders.{tag_cmp}
 use Rattle.iceoryx2_storage.proofs.Accesses.{part, gives_refusal, gives_done, gives_starved, opens_by}
 use Rattle.iceoryx2_storage.proofs.table.stored.StoredWorld.open_segment.Goals as goal
 

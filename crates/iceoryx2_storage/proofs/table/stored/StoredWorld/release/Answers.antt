@@ -2,14 +2,14 @@ use Rattle.std.proofs.Common.{Bool, sym, ap, ◌∙◌}
 use Rattle.std.specs.Prelude.{Ok, Err, if◌then◌else◌}
 use Rattle.std.specs.FinMap as map
 use Rattle.std.specs.FinMap.{nat_cmp-IsAntisymmetric}
-use Rattle.iceoryx2_storage.specs.declared.storage.ReleaseError.TheVariants.{NoSuchTicket}
-use Rattle.iceoryx2_storage.specs.declared.table.world.Participant.TheVariants.{Node}
-use Rattle.iceoryx2_storage.specs.Acts as act
-use Rattle.iceoryx2_storage.specs.Letter as letter
-use Rattle.iceoryx2_storage.specs.Access.{Tickets, nothing, moves_with, left}
+use Rattle.iceoryx2_access.specs.declared.storage.ReleaseError.TheVariants.{NoSuchTicket}
+use Rattle.iceoryx2_world.specs.declared.world.Participant.TheVariants.{Node}
+use Rattle.iceoryx2_world.specs.Acts as act
+use Rattle.iceoryx2_access.specs.Letter as letter
+use Rattle.iceoryx2_world.specs.Access.{Tickets, nothing, moves_with, left}
 use Rattle.iceoryx2_storage.specs.Book.{Book, tries, world}
-use Rattle.iceoryx2_storage.specs.Sets as set
-use Rattle.iceoryx2_storage.specs.Orders.{tag_cmp}
+use Rattle.iceoryx2_world.specs.Sets as set
+use Rattle.iceoryx2_world.specs.Orders.{tag_cmp}
 use Rattle.iceoryx2_storage.proofs.Accesses.{part, simply_refusal, simply_done}
 use Rattle.iceoryx2_storage.proofs.table.stored.StoredWorld.release.Goals as goal
 

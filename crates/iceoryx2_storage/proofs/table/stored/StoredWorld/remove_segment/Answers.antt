@@ -1,13 +1,13 @@
 use Rattle.std.proofs.Common.{Bool, ap, subst}
 use Rattle.std.specs.Prelude.{Ok, Err}
-use Rattle.iceoryx2_storage.specs.declared.storage.RemoveError.TheVariants as Removing
-use Rattle.iceoryx2_storage.specs.declared.table.world.Participant.TheVariants.{Node}
-use Rattle.iceoryx2_storage.specs.Acts as act
-use Rattle.iceoryx2_storage.specs.Letter as letter
-use Rattle.iceoryx2_storage.specs.Access.{Tickets, nothing, moves, stepped}
+use Rattle.iceoryx2_access.specs.declared.storage.RemoveError.TheVariants as Removing
+use Rattle.iceoryx2_world.specs.declared.world.Participant.TheVariants.{Node}
+use Rattle.iceoryx2_world.specs.Acts as act
+use Rattle.iceoryx2_access.specs.Letter as letter
+use Rattle.iceoryx2_world.specs.Access.{Tickets, nothing, moves, stepped}
 use Rattle.iceoryx2_storage.specs.Book.{Book, Steps, world}
-use Rattle.iceoryx2_storage.specs.Sets as set
-use Rattle.iceoryx2_storage.specs.Orders.{tag_cmp}
+use Rattle.iceoryx2_world.specs.Sets as set
+use Rattle.iceoryx2_world.specs.Orders.{tag_cmp}
 use Rattle.std.specs.FinMap as map
 use Rattle.iceoryx2_storage.proofs.Accesses.{part, simply_refusal, simply_done}
 use Rattle.iceoryx2_storage.proofs.table.stored.StoredWorld.remove_segment.Goals as goal

@@ -1,8 +1,8 @@
 use Rattle.std.proofs.Common.{refl, ap}
 use Rattle.std.specs.Prelude.{Ok, false}
-use Rattle.iceoryx2_storage.specs.Orders.{tag_exact}
-use Rattle.iceoryx2_storage.specs.Letter as letter
-use Rattle.iceoryx2_storage.specs.Access.{Tickets, tags}
+use Rattle.iceoryx2_world.specs.Orders.{tag_exact}
+use Rattle.iceoryx2_access.specs.Letter as letter
+use Rattle.iceoryx2_world.specs.Access.{Tickets, tags}
 use Rattle.iceoryx2_storage.specs.Book.{world}
 use Rattle.std.specs.FinMap as map
 use Rattle.iceoryx2_storage.proofs.Accesses.{part}

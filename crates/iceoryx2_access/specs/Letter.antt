@@ -1,0 +1,35 @@
+-- A letter is one access of a storage with its arguments and its answer.
+use Rattle.std.specs.Prelude.{ℕ, Bool, List, Result, Ok, Err}
+use Rattle.std.specs.declared.vec.Vec.{Vec}
+use Rattle.iceoryx2_data.specs.declared.description.ServiceHash.{ServiceHash}
+use Rattle.iceoryx2_data.specs.Description.{Description}
+use Rattle.iceoryx2_access.specs.declared.storage.Existence.{Existence}
+use Rattle.iceoryx2_access.specs.declared.storage.FetchError.{FetchError}
+use Rattle.iceoryx2_access.specs.declared.storage.Tag.{Tag}
+use Rattle.iceoryx2_access.specs.declared.storage.TagError.{TagError}
+use Rattle.iceoryx2_access.specs.declared.storage.RemoveError.{RemoveError}
+use Rattle.iceoryx2_access.specs.declared.storage.LockError.{LockError}
+use Rattle.iceoryx2_access.specs.declared.storage.MakeSegmentError.{MakeSegmentError}
+use Rattle.iceoryx2_access.specs.declared.storage.PublishError.{PublishError}
+use Rattle.iceoryx2_access.specs.declared.storage.OpenSegmentError.{OpenSegmentError}
+use Rattle.iceoryx2_access.specs.declared.storage.Release.{Release as Released}
+use Rattle.iceoryx2_access.specs.declared.storage.ReleaseError.{ReleaseError}
+
+pub data Letter : Type 0 where
+  Exists : ServiceHash → Existence → Letter
+  Fetch : (node : ℕ) → ServiceHash → Result (ℕ × List ℕ) FetchError → Letter
+  Counts : (node : ℕ) → ServiceHash → Bool → Letter
+  MakeTag : (node : ℕ) → ServiceHash → Result Tag TagError → Letter
+  RemoveTag : (node : ℕ) → ServiceHash → Result (Unit {0}) RemoveError → Letter
+  Lock : (node : ℕ) → ServiceHash → Result ℕ LockError → Letter
+  MakeSegment : (node : ℕ) → ServiceHash → (number max_nodes : ℕ) → Result (Unit {0}) MakeSegmentError → Letter
+  RemoveSegment : (node : ℕ) → ServiceHash → Result (Unit {0}) RemoveError → Letter
+  RemoveDescription : (node : ℕ) → ServiceHash → Result (Unit {0}) RemoveError → Letter
+  Publish : (node : ℕ) → ServiceHash → (number : ℕ) → Description → Result ℕ PublishError → Letter
+  OpenSegment : (node : ℕ) → ServiceHash → (number : ℕ) → Result ℕ OpenSegmentError → Letter
+  Release : (ticket node : ℕ) → ServiceHash → (number : ℕ) → Result Released ReleaseError → Letter
+
+-- a fetch's answer, with its bytes as a list
+abbrev pub fetched : {A : Type 0} → Result (ℕ × Vec ℕ A) FetchError → Result (ℕ × List ℕ) FetchError
+fetched (Ok p) = Ok (p.0, p.1.items)
+fetched (Err e) = Err e

@@ -1,0 +1,3 @@
+pub mod Letter
+pub mod Run
+pub mod Factory

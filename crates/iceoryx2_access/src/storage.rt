@@ -1,0 +1,239 @@
+//! What a builder calls of a storage, and what it may answer.
+
+ghost use Rattle.std.specs.Prelude.{◌≡◌, ◌∷◌, ℕ, List};
+ghost use Rattle.iceoryx2_access.specs.Letter.{Letter, fetched};
+ghost use Rattle.iceoryx2_access.specs.Letter as letter;
+ghost use Rattle.sha1.specs.Sha1.{sha1};
+
+use iceoryx2_data::description::{ServiceHash, ServiceName, StaticConfig};
+use sha1::Sha1;
+
+/// Whether there is a service.
+#[derive(Clone, Copy, Debug, PartialEq, Eq)]
+pub enum Existence {
+    No,
+    Yes,
+    /// Somebody is creating it.
+    BeingSetUp,
+    /// The general fault.
+    Fault,
+}
+
+/// Why a description isn't fetched.
+#[derive(Clone, Copy, Debug, PartialEq, Eq)]
+pub enum FetchError {
+    DoesNotExist,
+    /// Somebody is creating the service.
+    NotFinalized,
+    /// The general fault.
+    OpenFault,
+    ReadFault,
+    OutOfMemory,
+}
+
+/// How a node has its tag.
+#[derive(Clone, Copy, Debug, PartialEq, Eq)]
+pub enum Tag {
+    /// This access made it.
+    Made,
+    /// It was there.
+    Found,
+}
+
+/// Why a tag isn't made.
+#[derive(Clone, Copy, Debug, PartialEq, Eq)]
+pub enum TagError {
+    /// The general fault.
+    Fault,
+    OutOfMemory,
+}
+
+/// Why something isn't removed.
+#[derive(Clone, Copy, Debug, PartialEq, Eq)]
+pub enum RemoveError {
+    InsufficientPermissions,
+    /// The general fault.
+    Other,
+}
+
+/// Why a service isn't locked.
+#[derive(Clone, Copy, Debug, PartialEq, Eq)]
+pub enum LockError {
+    /// It has been created.
+    AlreadyExists,
+    /// Somebody is creating it.
+    Creation,
+    InsufficientPermissions,
+    /// The general fault.
+    Other,
+    OutOfMemory,
+}
+
+/// Why a segment isn't made.
+#[derive(Clone, Copy, Debug, PartialEq, Eq)]
+pub enum MakeSegmentError {
+    /// One is there.
+    AlreadyExists,
+    InsufficientPermissions,
+    /// The general fault.
+    Other,
+    OutOfMemory,
+}
+
+/// Why a description isn't published.
+#[derive(Clone, Copy, Debug, PartialEq, Eq)]
+pub enum PublishError {
+    /// The general fault.
+    Other,
+    OutOfMemory,
+}
+
+/// Why a segment isn't opened.
+#[derive(Clone, Copy, Debug, PartialEq, Eq)]
+pub enum OpenSegmentError {
+    DoesNotExist,
+    /// Its last participant has left.
+    Marked,
+    /// It has no room for another node.
+    Full,
+    /// The general fault, as where it has another number.
+    Failed,
+    /// There is no ticket left.
+    OutOfNumbers,
+    OutOfMemory,
+}
+
+/// What a node's release leaves.
+#[derive(Clone, Copy, Debug, PartialEq, Eq)]
+pub enum Release {
+    /// The node still has other tickets for the service.
+    StillCounted,
+    /// Other nodes have the service.
+    Left,
+    /// Nobody has the service: it is for this node to remove.
+    Last,
+}
+
+/// Why a ticket isn't released.
+#[derive(Clone, Copy, Debug, PartialEq, Eq)]
+pub enum ReleaseError {
+    /// The general fault: there is no such ticket of this node for this service and number.
+    NoSuchTicket,
+}
+
+/// Where nodes leave what they agreed on.
+///
+/// Each access is one step of the implementation's own step relation, under the access's letter:
+/// its arguments with its answer. The builders use nothing else of a storage.
+pub trait Storage {
+    /// What an access with its answer makes of a storage.
+    ghost step: { Self → Letter → Self → Type 0 };
+
+    /// Whether there is a service of this hash.
+    fn exists(&mut self, hash: &ServiceHash) -> Existence
+        ensures { step self.old (letter.Exists hash.now result) self.new };
+
+    /// The service's number, and its description's bytes.
+    fn fetch(&mut self, node: u64, hash: &ServiceHash) -> Result<(u64, Vec<u8>), FetchError>
+        ensures { step self.old (letter.Fetch node hash.now (fetched result)) self.new };
+
+    /// Whether the node is registered at the service already.
+    fn counts(&mut self, node: u64, hash: &ServiceHash) -> bool
+        ensures { step self.old (letter.Counts node hash.now result) self.new };
+
+    /// Tags the node as one that uses the service.
+    fn make_tag(&mut self, node: u64, hash: &ServiceHash) -> Result<Tag, TagError>
+        ensures { step self.old (letter.MakeTag node hash.now result) self.new };
+
+    /// Takes the node's tag away.
+    fn remove_tag(&mut self, node: u64, hash: &ServiceHash) -> Result<(), RemoveError>
+        ensures { step self.old (letter.RemoveTag node hash.now result) self.new };
+
+    /// Locks the hash for a new service, and gives that service's number.
+    fn lock(&mut self, node: u64, hash: &ServiceHash) -> Result<u64, LockError>
+        ensures { step self.old (letter.Lock node hash.now result) self.new };
+
+    /// Makes the locked service's segment, with the node in it.
+    fn make_segment(
+        &mut self,
+        node: u64,
+        hash: &ServiceHash,
+        number: u64,
+        max_nodes: u64,
+    ) -> Result<(), MakeSegmentError>
+        ensures { step self.old (letter.MakeSegment node hash.now number max_nodes result) self.new };
+
+    /// Takes the segment away.
+    fn remove_segment(&mut self, node: u64, hash: &ServiceHash) -> Result<(), RemoveError>
+        ensures { step self.old (letter.RemoveSegment node hash.now result) self.new };
+
+    /// Takes the description, or the lock that stands in its place, away.
+    fn remove_description(&mut self, node: u64, hash: &ServiceHash) -> Result<(), RemoveError>
+        ensures { step self.old (letter.RemoveDescription node hash.now result) self.new };
+
+    /// Puts the description in the lock's place, and gives a ticket for the node.
+    fn publish(
+        &mut self,
+        node: u64,
+        hash: &ServiceHash,
+        number: u64,
+        description: &StaticConfig,
+    ) -> Result<u64, PublishError>
+        ensures { step self.old (letter.Publish node hash.now number description.now result) self.new };
+
+    /// Registers the node in the segment of this number, and gives a ticket.
+    fn open_segment(
+        &mut self,
+        node: u64,
+        hash: &ServiceHash,
+        number: u64,
+    ) -> Result<u64, OpenSegmentError>
+        ensures { step self.old (letter.OpenSegment node hash.now number result) self.new };
+
+    /// Spends the ticket.
+    fn release(
+        &mut self,
+        ticket: u64,
+        node: u64,
+        hash: &ServiceHash,
+        number: u64,
+    ) -> Result<Release, ReleaseError>
+        ensures { step self.old (letter.Release ticket node hash.now number result) self.new };
+}
+
+/// What makes a service's hash of its pattern's letter and its name.
+pub trait ServiceNameHasher {
+    ghost use Rattle.iceoryx2_data.specs.declared.description.ServiceHash.{ServiceHash};
+
+    /// The hash of a letter and a name's bytes.
+    ghost hash_of: { ℕ → List ℕ → ServiceHash };
+
+    /// The hash of a service. The letter is `e` for events, `p` for publish-subscribe, `r` for
+    /// request-response and `b` for a blackboard.
+    fn hash(letter: u8, name: &ServiceName) -> ServiceHash
+        ensures { result ≡ hash_of letter name.now };
+}
+
+/// SHA-1 of the letter and the name's bytes.
+#[derive(Clone, Copy, Debug, PartialEq, Eq)]
+pub struct Sha1Hasher;
+
+impl ServiceNameHasher for Sha1Hasher {
+    ghost use Rattle.iceoryx2_data.specs.declared.description.ServiceHash.{ServiceHash};
+
+    ghost hash_of = { λ letter name. record { 0 = sha1 (letter ∷ name) } };
+
+    fn hash(letter: u8, name: &ServiceName) -> ServiceHash {
+        let mut hasher = Sha1::new();
+        hasher.update(&[letter]);
+        hasher.update(name.as_str().as_bytes());
+        ServiceHash(hasher.finalize())
+    }
+}
+
+/// A storage, and what makes the hashes under which services stand in it.
+pub trait Service {
+    type Storage: Storage;
+
+    type ServiceNameHasher: ServiceNameHasher;
+}

@@ -1,0 +1,64 @@
+use Rattle.iceoryx2_world.proofs.agreement.Accesses.{with_refusals}
+use Rattle.iceoryx2_world.proofs.agreement.Stands.{older_ticket}
+use Rattle.iceoryx2_rounds.proofs.Counts.{create_within, open_within}
+use Rattle.iceoryx2_calls.proofs.calls.Words.{agrees_throughout, stands_throughout, create_letters, open_letters, all_spared, close_spares, not_here_means, close_within}
+use Rattle.iceoryx2_calls.proofs.calls.Created.{create_stands}
+use Rattle.iceoryx2_calls.proofs.calls.Opened.{open_stands}
+use Rattle.iceoryx2_calls.proofs.calls.Closed.{close_takes_out, close_ok, no_refusal}
+use Rattle.iceoryx2_calls.proofs.calls.Calm.{refused_create_calm, refused_open_calm, created_changes, opened_changes}
+use Rattle.iceoryx2_calls.proofs.calls.Standing.{stands_among, one_service}
+use Rattle.iceoryx2_calls.proofs.laws.agreement.Goals as goal
+
+pub returns-clause-agrees : goal.returns-clause-agrees
+returns-clause-agrees g c = λ word w old. agrees_throughout w word old
+
+pub returns-clause-among : goal.returns-clause-among
+returns-clause-among g c = λ w f old s. stands_among w f old s
+
+pub returns-clause-one_description : goal.returns-clause-one_description
+returns-clause-one_description g c = λ w f g s t same. one_service w f g s t same
+
+pub returns-clause-created : goal.returns-clause-created
+returns-clause-created g c = λ p node hash name now word r w v is run old. let o = create_stands is run old in (o.0, o.1, o.2, o.3, λ f s. older_ticket w f r.ticket old s o.3)
+
+pub returns-clause-opened : goal.returns-clause-opened
+returns-clause-opened g c = λ p node hash word r w v is run old. let o = open_stands is run old in (o.stands, o.node_is, o.hash_is, o.no_misfit, o.accepted, o.new_ticket, λ f s. older_ticket w f r.ticket old s o.new_ticket)
+
+pub returns-clause-create_spares : goal.returns-clause-create_spares
+returns-clause-create_spares g c = λ p node hash name now word answer w f is old s. stands_throughout w word f (all_spared f word (create_letters is)) old s
+
+pub returns-clause-open_spares : goal.returns-clause-open_spares
+returns-clause-open_spares g c = λ p node hash word answer w f is old s. stands_throughout w word f (all_spared f word (open_letters is)) old s
+
+pub returns-clause-close_spares : goal.returns-clause-close_spares
+returns-clause-close_spares g c = λ r word answer w f is old apart s. stands_throughout w word f (close_spares f apart is) old s
+
+pub returns-clause-not_here : goal.returns-clause-not_here
+returns-clause-not_here g c = λ r s word w is old. let m = not_here_means is in (m.0, λ t. stands_throughout w word r (m.1 r) old t)
+
+pub returns-clause-taken_out : goal.returns-clause-taken_out
+returns-clause-taken_out g c = λ r word answer w v is here run. close_takes_out is here run
+
+pub returns-clause-closed : goal.returns-clause-closed
+returns-clause-closed g c = λ r word answer w v is run old s. let ok = close_ok is run old s in (ok, close_takes_out is (no_refusal ok) (with_refusals run))
+
+pub returns-clause-refused_create : goal.returns-clause-refused_create
+returns-clause-refused_create g c = λ p node hash name now word error w is old. refused_create_calm w is old
+
+pub returns-clause-refused_open : goal.returns-clause-refused_open
+returns-clause-refused_open g c = λ p node hash word error w is old. refused_open_calm w is old
+
+pub returns-clause-granted_create : goal.returns-clause-granted_create
+returns-clause-granted_create g c = λ p node hash name now word r w is old. created_changes w is old
+
+pub returns-clause-granted_open : goal.returns-clause-granted_open
+returns-clause-granted_open g c = λ p node hash word r w is old. opened_changes w is old
+
+pub returns-clause-create_is_short : goal.returns-clause-create_is_short
+returns-clause-create_is_short g c = λ p node hash name now word answer w. create_within (g.P.Pattern.meaning p) node hash w
+
+pub returns-clause-open_is_short : goal.returns-clause-open_is_short
+returns-clause-open_is_short g c = λ p node hash word answer w. open_within (g.P.Pattern.meaning p) node hash w
+
+pub returns-clause-close_is_short : goal.returns-clause-close_is_short
+returns-clause-close_is_short g c = λ r word answer is. close_within is

@@ -1,0 +1,29 @@
+-- The meaning of an event builder is regular, and what it publishes is for one node or more.
+use Rattle.std.proofs.Common.{◌≡◌, ℕ, ◌<◌, true, false, cond, Some, refl, arith}
+use Rattle.std.specs.Prelude.{nat_eq}
+use Rattle.std.proofs.lemmas.Bool.Decides.{nat_tests}
+use Rattle.iceoryx2_data.specs.Description.{max_nodes_of}
+use Rattle.iceoryx2_data.specs.Span.{Span}
+use Rattle.iceoryx2_data.specs.declared.description.MessagingPattern.{MessagingPattern}
+use Rattle.iceoryx2_data.specs.declared.description.MessagingPattern.TheVariants as existing
+use Rattle.iceoryx2_rounds.specs.declared.error.ServiceState.{ServiceState}
+use Rattle.iceoryx2_rounds.specs.States.{create_error_of_state}
+use Rattle.iceoryx2_rounds.specs.declared.error.EventCreateError.TheVariants as creating
+use Rattle.iceoryx2_builder.specs.declared.event.asked.Asked.{Asked}
+use Rattle.iceoryx2_builder.specs.Event.{event_meaning, event_adjusted, misfit_of, raised_of}
+use Rattle.iceoryx2_calls.specs.QuietCalls.{IsRegular}
+
+no_misfit : (pattern : MessagingPattern) (fault : ServiceState) → misfit_of pattern ≡ Some fault → create_error_of_state fault ≡ creating.AlreadyExists
+no_misfit (existing.Event s) fault e = absurd (cc)
+
+pub event_is_regular : (asked : Asked) → IsRegular (event_meaning asked)
+event_is_regular asked = record { create_memory = refl; open_memory = refl; misfit = λ d fault e. no_misfit d.pattern fault e }
+
+raised_above : (n : ℕ) → 0 < raised_of n
+raised_above n = elim (nat_eq n 0) as (λ b. nat_eq n 0 ≡ b → 0 < cond b 1 n) [
+  | true ↦ λ e. omega arith
+  | false ↦ λ e. grind (arith, nat_tests, e)
+] refl
+
+pub event_takes_nodes : (asked : Asked) (now : Span) → 0 < max_nodes_of ((event_meaning (event_adjusted asked)).published now)
+event_takes_nodes asked now = raised_above asked.settings.max_nodes

@@ -1,0 +1,39 @@
+use Rattle.iceoryx2_calls.proofs.quiet.Calls.{empty_shows, close_follows}
+use Rattle.iceoryx2_calls.proofs.quiet.Tickets.{has_opened}
+use Rattle.iceoryx2_calls.proofs.quiet.Same.{holds_the_same, nothing_at, tickets_counted, tags_counted, all_gone}
+use Rattle.iceoryx2_calls.proofs.quiet.Listing.{lists_the_machine}
+use Rattle.iceoryx2_calls.proofs.quiet.Events.{event_is_regular, event_takes_nodes}
+use Rattle.iceoryx2_calls.proofs.quiet_laws.quiet_laws.Goals as goal
+
+pub returns-clause-empty : goal.returns-clause-empty
+returns-clause-empty c = λ n. empty_shows n
+
+pub returns-clause-close : goal.returns-clause-close
+returns-clause-close c = λ r w v q word answer s old here is_word run. close_follows r w v q word answer s old here is_word run
+
+pub returns-clause-ticket : goal.returns-clause-ticket
+returns-clause-ticket c = λ w q t x s old here. has_opened w q t x s old here
+
+pub returns-clause-tickets : goal.returns-clause-tickets
+returns-clause-tickets c = λ w q node hash s old. tickets_counted w q node hash s old
+
+pub returns-clause-tags : goal.returns-clause-tags
+returns-clause-tags c = λ w q node hash s. tags_counted w q node hash s
+
+pub returns-clause-same : goal.returns-clause-same
+returns-clause-same c = λ w v q p s t services. holds_the_same w v q p s t services
+
+pub returns-clause-absent : goal.returns-clause-absent
+returns-clause-absent c = λ w q hash s gone. nothing_at w q hash s gone
+
+pub returns-clause-unused : goal.returns-clause-unused
+returns-clause-unused c = λ w q s old none. all_gone w q s old none
+
+pub returns-clause-list : goal.returns-clause-list
+returns-clause-list c = λ w q entries s lists. lists_the_machine w q entries s lists
+
+pub returns-clause-events : goal.returns-clause-events
+returns-clause-events c = λ asked. event_is_regular asked
+
+pub returns-clause-events_take_nodes : goal.returns-clause-events_take_nodes
+returns-clause-events_take_nodes c = λ asked now. event_takes_nodes asked now

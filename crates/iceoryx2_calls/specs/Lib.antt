@@ -1,0 +1,5 @@
+pub mod Calls
+pub mod Quiet
+pub mod QuietCalls
+pub mod QuietLists
+pub mod QuietLaws

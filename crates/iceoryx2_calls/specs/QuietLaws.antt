@@ -1,0 +1,69 @@
+-- What is told of the calls over a world that shows the quiet machine.
+use Rattle.std.specs.Prelude.{◌≡◌, ◌≢◌, ℕ, false, Option, Some, None, Result, Ok, Err, IfOk, unwrap_or}
+use Rattle.std.specs.FinMap as map
+use Rattle.iceoryx2_data.specs.declared.description.ServiceHash.{ServiceHash}
+use Rattle.iceoryx2_world.specs.declared.world.Participant.TheVariants.{Node}
+use Rattle.iceoryx2_world.specs.World.{World, row_of, segment_of, phase_of}
+use Rattle.iceoryx2_world.specs.Access.{Tickets, tag_of}
+use Rattle.iceoryx2_world.specs.Across.{Agrees, join_count}
+use Rattle.iceoryx2_access.specs.Factory.{Factory}
+use Rattle.iceoryx2_world.specs.Standing.{Stands, ticket_for}
+use Rattle.iceoryx2_calls.specs.Quiet.{Quiet, Service, Shows, service_of, count_of}
+use Rattle.iceoryx2_calls.specs.QuietCalls.{Closes}
+
+-- the tickets after a create or an open: one more where it gave a factory
+abbrev pub tickets_after : {E : Type 0} → Tickets → Result Factory E → Tickets
+tickets_after k (Ok r) = map.insert k r.ticket (ticket_for r)
+tickets_after k (Err e) = k
+
+-- After a create or an open from w to v, which is one of these calls of the machine.
+pub record IsCall {E : Type 0} (w : World) (Calls : Quiet → Type 0) (answer : Result Factory E) (v : World) : Type 0 where
+  pub state : Quiet
+  pub call : Calls state
+  pub shows : Shows v state
+  pub agrees : Agrees v
+  pub tickets : v.tickets ≡ tickets_after w.tickets answer
+  -- the factory that it gave stands, and its ticket is a new one
+  pub given : IfOk answer (λ r. Stands v r × (r.ticket ≡ w.counter))
+  -- what stood before stands
+  pub kept : (f : Factory) → Stands w f → Stands v f
+
+-- After the close of a factory from w to v, where w shows q.
+pub record IsClose (w : World) (q : Quiet) (r : Factory) (v : World) : Type 0 where
+  pub state : Quiet
+  pub call : Closes q r.node r.description.hash state
+  pub shows : Shows v state
+  pub agrees : Agrees v
+  pub tickets : v.tickets ≡ map.remove w.tickets r.ticket
+  -- what stood before stands, but for this factory
+  pub kept : (f : Factory) → f.ticket ≢ r.ticket → Stands w f → Stands v f
+
+-- The node has opened the service of this hash and number.
+pub record HasOpened (q : Quiet) (i : ℕ) (h : ServiceHash) (n : ℕ) : Type 0 where
+  pub service : Service
+  pub there : service_of q h ≡ Some service
+  pub number : service.number ≡ n
+  pub count : ℕ
+  pub counted : count_of service i ≡ Some count
+
+-- how often a node has opened the service under a hash
+abbrev pub times_at : Option Service → ℕ → ℕ
+times_at None i = 0
+times_at (Some x) i = unwrap_or (count_of x i) 0
+
+abbrev pub times_opened : Quiet → ℕ → ServiceHash → ℕ
+times_opened q i h = times_at (service_of q h) i
+
+-- Both worlds have the same descriptions, segments, tags and counts.
+pub record HoldsTheSame (w v : World) : Type 0 where
+  pub rows : (h : ServiceHash) → row_of v h ≡ row_of w h
+  pub segments : (h : ServiceHash) → segment_of v h ≡ segment_of w h
+  pub tags : (i : ℕ) (h : ServiceHash) → tag_of v i h ≡ tag_of w i h
+  pub counts : (i : ℕ) (h : ServiceHash) → join_count (phase_of v (Node i) h) ≡ join_count (phase_of w (Node i) h)
+
+-- Of this service the world has no description, segment, tag or count.
+pub record HasNothingAt (w : World) (h : ServiceHash) : Type 0 where
+  pub row : row_of w h ≡ None
+  pub segment : segment_of w h ≡ None
+  pub tags : (i : ℕ) → tag_of w i h ≡ false
+  pub counts : (i : ℕ) → join_count (phase_of w (Node i) h) ≡ 0

@@ -1,0 +1,143 @@
+//! What is true of whole calls over a table, whatever the pattern and whatever steps peers take.
+
+ghost use Rattle.std.specs.Prelude.{◌≡◌, ◌≢◌, ℕ, ◌≤◌, List, Result, Ok, Err, None};
+ghost use Rattle.iceoryx2_data.specs.Span.{Span};
+ghost use Rattle.iceoryx2_data.specs.declared.description.ServiceHash.{ServiceHash};
+ghost use Rattle.iceoryx2_data.specs.declared.time.ClockFault.{ClockFault};
+ghost use Rattle.iceoryx2_world.specs.World.{World, phase_of};
+ghost use Rattle.iceoryx2_access.specs.Letter.{Letter};
+ghost use Rattle.iceoryx2_access.specs.Run.{Run};
+ghost use Rattle.iceoryx2_world.specs.Agreement.{Later, IsSegmentOf};
+ghost use Rattle.iceoryx2_world.specs.Across.{Agrees, ticket_of};
+ghost use Rattle.iceoryx2_world.specs.Peers.{IsAccess};
+ghost use Rattle.iceoryx2_world.specs.Faulty.{IsFaulty};
+ghost use Rattle.iceoryx2_access.specs.Factory.{Factory};
+ghost use Rattle.iceoryx2_world.specs.Standing.{Stands};
+ghost use Rattle.iceoryx2_rounds.specs.declared.port_factory.CloseError.{CloseError};
+ghost use Rattle.iceoryx2_rounds.specs.declared.port_factory.CloseError.TheVariants.{NotHere};
+ghost use Rattle.iceoryx2_rounds.specs.Closes.{IsCloseWord};
+ghost use Rattle.iceoryx2_rounds.specs.Counts.{IsWithin};
+ghost use Rattle.iceoryx2_rounds.specs.Creates.{IsCreateWord, description_of};
+ghost use Rattle.iceoryx2_rounds.specs.Opens.{IsOpenWord};
+ghost use Rattle.iceoryx2_rounds.specs.Verdict.{verdict};
+ghost use Rattle.iceoryx2_calls.specs.Calls.{Throughout, AtEach, ActsCalmly, ChangesLast};
+
+use iceoryx2_rounds::pattern::Pattern;
+
+/// Whatever a call does and whatever steps peers take within it, the world agrees after each
+/// access, and each open factory carries the one description of its service and stands there with
+/// its node, until its ticket is released.
+///
+/// A call is a word of its accesses. Where nothing else is said, any access of it may be refused
+/// by a fault.
+pub fn agreement<P: Pattern>()
+    // Before, between and after the accesses of any word, so within each call and from call to
+    // call, the world agrees and is later than the first one.
+    ensures agrees { (word : List Letter) (w : World)
+        → Agrees w → Throughout IsFaulty (λ v. Agrees v × Later w v) w word }
+
+    // A standing factory's segment has as many places as its description has nodes, and in it are
+    // at most so many participants, each of them registered under the factory's number.
+    ensures among { (w : World) (f : Factory)
+        → Agrees w → (s : Stands w f)
+        → IsSegmentOf f.description f.number (λ p. phase_of w p f.description.hash) s.segment.segment }
+
+    // Two standing factories of one service carry the same description and number.
+    ensures one_description { (w : World) (f g : Factory)
+        → Stands w f → Stands w g → f.description.hash ≡ g.description.hash
+        → (f.number ≡ g.number) × (f.description ≡ g.description) }
+
+    // A create that answers Ok leaves its factory standing. It carries the published description:
+    // the builder's hash and name, and the settings that this create publishes. Its ticket is not
+    // below the counter that the call found, so no factory that stood has it.
+    ensures created { (p : P) (node : ℕ) (hash : ServiceHash) (name : List ℕ) (now : Result Span ClockFault)
+        (word : List Letter) (r : Factory) (w v : World)
+        → IsCreateWord (P.meaning p) node hash name now word (Ok r) → Run IsFaulty w word v → Agrees w
+        → Stands v r × (r.node ≡ node) × (r.description ≡ description_of (P.meaning p) hash name now)
+        × (w.counter ≤ r.ticket) × ((f : Factory) → Stands w f → f.ticket ≢ r.ticket) }
+
+    // An open that answers Ok leaves its factory standing. It carries the description that is
+    // published for the builder's hash, of the builder's pattern and message types, and the
+    // requirement was accepted on it. Its ticket is new.
+    ensures opened { (p : P) (node : ℕ) (hash : ServiceHash) (word : List Letter) (r : Factory) (w v : World)
+        → IsOpenWord (P.meaning p) node hash word (Ok r) → Run IsFaulty w word v → Agrees w
+        → Stands v r × (r.node ≡ node) × (r.description.hash ≡ hash)
+        × ((P.meaning p).misfit r.description ≡ None)
+        × (verdict ((P.meaning p).requirement r.description) ≡ Ok tt)
+        × (w.counter ≤ r.ticket) × ((f : Factory) → Stands w f → f.ticket ≢ r.ticket) }
+
+    // Each factory that stands before a create stands throughout it, whatever it answers.
+    ensures create_spares { (p : P) (node : ℕ) (hash : ServiceHash) (name : List ℕ) (now : Result Span ClockFault)
+        (word : List Letter) (answer : Result Factory P.CreateError) (w : World) (f : Factory)
+        → IsCreateWord (P.meaning p) node hash name now word answer → Agrees w
+        → Stands w f → Throughout IsFaulty (λ v. Stands v f) w word }
+
+    // So does each that stands before an open.
+    ensures open_spares { (p : P) (node : ℕ) (hash : ServiceHash) (word : List Letter)
+        (answer : Result Factory P.OpenError) (w : World) (f : Factory)
+        → IsOpenWord (P.meaning p) node hash word answer → Agrees w
+        → Stands w f → Throughout IsFaulty (λ v. Stands v f) w word }
+
+    // So does each with another ticket that stands before a close.
+    ensures close_spares { (r : Factory) (word : List Letter) (answer : Result (Unit {0}) (CloseError Factory))
+        (w : World) (f : Factory)
+        → IsCloseWord r word answer → Agrees w → f.ticket ≢ r.ticket
+        → Stands w f → Throughout IsFaulty (λ v. Stands v f) w word }
+
+    // What a close hands back is the factory that it was given. It stands on, if it stood.
+    ensures not_here { (r s : Factory) (word : List Letter) (w : World)
+        → IsCloseWord r word (Err (NotHere s)) → Agrees w
+        → (s ≡ r) × (Stands w r → Throughout IsFaulty (λ v. Stands v r) w word) }
+
+    // Any other close takes its ticket out.
+    ensures taken_out { (r : Factory) (word : List Letter) (answer : Result (Unit {0}) (CloseError Factory))
+        (w v : World)
+        → IsCloseWord r word answer → ((s : Factory) → answer ≢ Err (NotHere s)) → Run IsFaulty w word v
+        → ticket_of v r.ticket ≡ None }
+
+    // Where nothing is refused by a fault, the close of a standing factory answers Ok, and its
+    // ticket is gone.
+    ensures closed { (r : Factory) (word : List Letter) (answer : Result (Unit {0}) (CloseError Factory))
+        (w v : World)
+        → IsCloseWord r word answer → Run IsAccess w word v → Agrees w → Stands w r
+        → (answer ≡ Ok tt) × (ticket_of v r.ticket ≡ None) }
+
+    // Without the steps of peers, a refused create changes no published description and no count
+    // in any of its accesses.
+    ensures refused_create { (p : P) (node : ℕ) (hash : ServiceHash) (name : List ℕ) (now : Result Span ClockFault)
+        (word : List Letter) (error : P.CreateError) (w : World)
+        → IsCreateWord (P.meaning p) node hash name now word (Err error) → Agrees w
+        → AtEach IsFaulty ActsCalmly w word }
+
+    // Nor does a refused open.
+    ensures refused_open { (p : P) (node : ℕ) (hash : ServiceHash) (word : List Letter) (error : P.OpenError) (w : World)
+        → IsOpenWord (P.meaning p) node hash word (Err error) → Agrees w
+        → AtEach IsFaulty ActsCalmly w word }
+
+    // A granted create does so in exactly one access, its last, where it publishes.
+    ensures granted_create { (p : P) (node : ℕ) (hash : ServiceHash) (name : List ℕ) (now : Result Span ClockFault)
+        (word : List Letter) (r : Factory) (w : World)
+        → IsCreateWord (P.meaning p) node hash name now word (Ok r) → Agrees w
+        → ChangesLast node hash w word }
+
+    // So does a granted open, where it opens the segment.
+    ensures granted_open { (p : P) (node : ℕ) (hash : ServiceHash) (word : List Letter) (r : Factory) (w : World)
+        → IsOpenWord (P.meaning p) node hash word (Ok r) → Agrees w
+        → ChangesLast node hash w word }
+
+    // A create looks at most once and opens nothing. It makes a segment in at most six attempts,
+    // with at most six removals of one.
+    ensures create_is_short { (p : P) (node : ℕ) (hash : ServiceHash) (name : List ℕ) (now : Result Span ClockFault)
+        (word : List Letter) (answer : Result Factory P.CreateError)
+        → IsCreateWord (P.meaning p) node hash name now word answer → IsWithin word 1 0 6 6 }
+
+    // An open looks at most twelve times and opens at most six times. It makes and removes no
+    // segment.
+    ensures open_is_short { (p : P) (node : ℕ) (hash : ServiceHash) (word : List Letter)
+        (answer : Result Factory P.OpenError)
+        → IsOpenWord (P.meaning p) node hash word answer → IsWithin word 12 6 0 0 }
+
+    // A close looks nowhere and opens nothing. It removes at most one segment.
+    ensures close_is_short { (r : Factory) (word : List Letter) (answer : Result (Unit {0}) (CloseError Factory))
+        → IsCloseWord r word answer → IsWithin word 0 0 0 1 }
+{}

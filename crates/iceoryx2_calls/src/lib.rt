@@ -1,0 +1,5 @@
+//! What is true of whole calls over a table.
+#![tactic(auto)]
+
+pub mod laws;
+pub mod quiet_laws;

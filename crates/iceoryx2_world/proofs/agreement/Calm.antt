@@ -1,0 +1,221 @@
+-- Accesses that change nothing published and no count, and words of such.
+use Rattle.std.proofs.Common.{◌≡◌, ℕ, ◌+◌, ◌≤◌, Bool, true, false, inl, inr, List, [], ◌∷◌, ◌++◌, Option, Some, None, Result, Ok, refl, sym, ap, subst, ◌∙◌}
+use Rattle.std.specs.Prelude.{nat_lt}
+use Rattle.iceoryx2_data.specs.declared.description.ServiceHash.{ServiceHash}
+use Rattle.iceoryx2_data.specs.Description.{Description}
+use Rattle.iceoryx2_world.specs.declared.world.Participant.{Participant}
+use Rattle.iceoryx2_world.specs.declared.world.Participant.TheVariants.{Node, Peer}
+use Rattle.iceoryx2_world.specs.declared.world.Phase.{Phase}
+use Rattle.iceoryx2_world.specs.declared.world.Phase.TheVariants as at
+use Rattle.iceoryx2_access.specs.declared.storage.RemoveError.{RemoveError}
+use Rattle.iceoryx2_access.specs.declared.storage.Release.{Release as Released}
+use Rattle.iceoryx2_world.specs.declared.world.Row.{Row}
+use Rattle.iceoryx2_world.specs.declared.world.Row.TheVariants as row
+use Rattle.iceoryx2_world.specs.Orders.{hash_total, hash_exact}
+use Rattle.iceoryx2_world.specs.World.{World, Segment, row_of, segment_of, phase_of}
+use Rattle.iceoryx2_world.specs.Acts.{Act}
+use Rattle.iceoryx2_world.specs.Acts as act
+use Rattle.iceoryx2_world.specs.Steps.{Spot, step, after, last_number}
+use Rattle.iceoryx2_world.specs.Agreement.{locked_number}
+use Rattle.iceoryx2_world.specs.Across.{join_count, Agrees}
+use Rattle.iceoryx2_access.specs.Letter.{Letter}
+use Rattle.iceoryx2_access.specs.Letter as letter
+use Rattle.iceoryx2_world.specs.Access.{IsOwnPart}
+use Rattle.iceoryx2_world.specs.Peers.{Peers, none, peer}
+use Rattle.iceoryx2_world.specs.Faulty.{IsFaulty}
+use Rattle.iceoryx2_access.specs.Run.{Run, done, next}
+use Rattle.iceoryx2_world.specs.Calm.{published_of, SameServices, IsCalmLetter, CalmAccess, acts, refused}
+use Rattle.iceoryx2_world.proofs.agreement.Step.{kept, tested}
+use Rattle.iceoryx2_world.proofs.agreement.Maps.{set_cases}
+use Rattle.iceoryx2_world.proofs.agreement.Effects.{Change, Gains, Idles, Stepped, stepped, step_effect}
+use Rattle.iceoryx2_world.proofs.agreement.Worlds.{place_cases, peer_places, step_places}
+use Rattle.iceoryx2_world.proofs.agreement.Parts.{IsCalm, Part, stays, tagged, calm, removed, publishes, joins, releases, own_part, publishing, joining, releasing, locking}
+use Rattle.iceoryx2_world.proofs.agreement.Accesses.{joined_means, peers_keep, faulty_keeps, access_keeps}
+
+record Calmly (x : Phase) (r : Option Row) (new : Spot) : Type 0 where
+  pub row : published_of new.row ≡ published_of r
+  pub lock : (n : ℕ) → locked_number x ≡ Some n → locked_number new.phase ≡ Some n
+
+calm_step : (p : Participant) (h : ServiceHash) (a : Act) (x : Phase) (r : Option Row) (s : Option Segment) (c : ℕ) (new : Spot) → IsCalm a → step p h a x r s c ≡ Some new → Calmly x r new
+calm_step p h act.Read at.Idle (Some (row.Published n b)) s c new ok e = kept (Calmly _ _) _ new e (record { row = refl; lock = λ m l. absurd (cc) })
+calm_step p h act.Read (at.Read m) (Some (row.Published n b)) s c new ok e = kept (Calmly _ _) _ new e (record { row = refl; lock = λ m l. absurd (cc) })
+calm_step p h act.Lock at.Idle None s c new ok e = tested (Calmly _ _) _ new (nat_lt c last_number) e (λ _. record { row = refl; lock = λ m l. absurd (cc) })
+calm_step p h act.Lock (at.Read m) None s c new ok e = tested (Calmly _ _) _ new (nat_lt c last_number) e (λ _. record { row = refl; lock = λ m l. absurd (cc) })
+calm_step p h act.RemoveSegment (at.Locked n) r s c new ok e = kept (Calmly _ _) _ new e (record { row = refl; lock = λ m l. l })
+calm_step p h (act.Make m) (at.Locked n) r None c new ok e = tested (Calmly _ _) _ new (nat_lt 0 m) e (λ _. record { row = refl; lock = λ m l. l })
+calm_step p h act.RemoveSegment (at.Made n) r s c new ok e = kept (Calmly _ _) _ new e (record { row = refl; lock = λ m l. l })
+calm_step p h act.RemoveSegment (at.Leaving n) r s c new ok e = kept (Calmly _ _) _ new e (record { row = refl; lock = λ m l. absurd (cc) })
+calm_step p h act.RemoveDescription x r s c new ok e = absurd ok
+calm_step p h (act.Publish d) x r s c new ok e = absurd ok
+calm_step p h act.Join x r s c new ok e = absurd ok
+calm_step p h act.Leave x r s c new ok e = absurd ok
+calm_step p h _ _ _ _ _ new ok e = absurd (cc)
+
+calm_idles : (a : Act) (x y : Phase) → IsCalm a → Change a x y → Idles x y
+calm_idles act.Read x y ok i = i
+calm_idles act.Lock x y ok i = i
+calm_idles act.RemoveSegment x y ok i = i
+calm_idles (act.Make m) x y ok i = i
+calm_idles act.RemoveDescription x y ok i = i
+calm_idles (act.Publish d) x y ok i = absurd ok
+calm_idles act.Join x y ok i = absurd ok
+calm_idles act.Leave x y ok i = absurd ok
+
+unlock_row : (p : Participant) (h : ServiceHash) (x : Phase) (r : Option Row) (s : Option Segment) (c : ℕ) (new : Spot) → step p h act.RemoveDescription x r s c ≡ Some new → new.row ≡ None
+unlock_row p h (at.Locked n) r s c new e = kept (λ new. new.row ≡ None) _ new e refl
+unlock_row p h (at.Made n) r s c new e = kept (λ new. new.row ≡ None) _ new e refl
+unlock_row p h (at.Leaving n) r s c new e = kept (λ new. new.row ≡ None) _ new e refl
+unlock_row p h (at.Cleared n) r s c new e = kept (λ new. new.row ≡ None) _ new e refl
+unlock_row p h _ _ _ _ new e = absurd (cc)
+
+step_same : (w v : World) (p : Participant) (g : ServiceHash) (a : Act) → (st : Stepped w v p g a) → published_of st.spot.row ≡ published_of (row_of w g) → join_count st.spot.phase ≡ join_count (phase_of w p g) → SameServices w v
+step_same w v p g a st row count = subst (λ u. SameServices w u) st.world (record {
+  published = λ h. elim (set_cases hash_total hash_exact w.rows g st.spot.row h) [
+    | inl e ↦ ap published_of e.1 ∙ row ∙ ap (λ k. published_of (row_of w k)) (sym e.0)
+    | inr e ↦ ap published_of e.1
+  ];
+  counts = λ q h. elim (place_cases w p g st.spot q h) [
+    | inl e ↦ ap join_count e.2 ∙ count ∙ (λ i. join_count (phase_of w (sym e.0 i) (sym e.1 i)))
+    | inr e ↦ ap join_count e.1
+  ];
+})
+
+-- nothing published or counted changes, and who has a lock keeps it
+pub record Calmed (w v : World) : Type 0 where
+  pub same : SameServices w v
+  pub locks : (q : Participant) (h : ServiceHash) (n : ℕ) → locked_number (phase_of w q h) ≡ Some n → locked_number (phase_of v q h) ≡ Some n
+
+calmed_same : (w v : World) → v ≡ w → Calmed w v
+calmed_same w v e = subst (λ u. Calmed w u) (sym e) (record { same = record { published = λ h. refl; counts = λ p h. refl }; locks = λ q h n l. l })
+
+calmed : (w v : World) (id : ℕ) (g : ServiceHash) (a : Act) → IsCalm a → after w (Node id) g a ≡ Some v → Calmed w v
+calmed w v id g a ok e =
+    let st = stepped w v (Node id) g a e in
+    let c = calm_step (Node id) g a (phase_of w (Node id) g) (row_of w g) (segment_of w g) w.counter st.spot ok st.is in
+    let i = calm_idles a _ _ ok (step_effect (Node id) g a (phase_of w (Node id) g) (row_of w g) (segment_of w g) w.counter st.spot st.is).change in
+    record {
+      same = step_same w v (Node id) g a st c.row (i.now ∙ sym i.before);
+      locks = λ q h n l. subst (λ u. locked_number (phase_of u q h) ≡ Some n) st.world (elim (place_cases w (Node id) g st.spot q h) [
+        | inl k ↦ ap locked_number k.2 ∙ c.lock n ((λ j. locked_number (phase_of w (sym k.0 j) (sym k.1 j))) ∙ l)
+        | inr k ↦ ap locked_number k.1 ∙ l
+      ]);
+    }
+
+part_calmed : (w : World) (l : Letter) (v : World) → IsCalmLetter l → Part w l v → Calmed w v
+part_calmed w l v ok (stays e) = calmed_same w v e
+part_calmed w l v ok (tagged t e) = subst (λ u. Calmed w u) (sym e) (record { same = record { published = λ h. refl; counts = λ p h. refl }; locks = λ q h n l. l })
+part_calmed w l v ok (calm i h a is e) = calmed w v i h a is e
+part_calmed w l v ok (removed i h is e) = absurd (subst IsCalmLetter is ok)
+part_calmed w l v ok (publishes i h n d t is p) = absurd (subst IsCalmLetter is ok)
+part_calmed w l v ok (joins i h n t is p) = absurd (subst IsCalmLetter is ok)
+part_calmed w l v ok (releases t i h n a is p) = absurd (subst IsCalmLetter is ok)
+
+pub own_calmed : (w : World) (l : Letter) (v : World) → IsCalmLetter l → IsOwnPart w l v → Calmed w v
+own_calmed w l v ok o = part_calmed w l v ok (own_part w l v o)
+
+part_unlocks : (w v : World) (i : ℕ) (h : ServiceHash) (n : ℕ) (a : Result (Unit {0}) RemoveError) → locked_number (phase_of w (Node i) h) ≡ Some n → Agrees w → Part w (letter.RemoveDescription i h a) v → SameServices w v
+part_unlocks w v i h n a lock old (stays e) = (calmed_same w v e).same
+part_unlocks w v i h n a lock old (tagged t e) = subst (λ u. SameServices w u) (sym e) (record { published = λ h. refl; counts = λ p h. refl })
+part_unlocks w v i h n a lock old (calm j g b is e) = (calmed w v j g b is e).same
+part_unlocks w v i h n a lock old (removed j g is e) =
+    let node : i ≡ j = cc in
+    let hash : h ≡ g = cc in
+    let here : after w (Node i) h act.RemoveDescription ≡ Some v = (λ k. after w (Node (node k)) (hash k) act.RemoveDescription) ∙ e in
+    let st = stepped w v (Node i) h act.RemoveDescription here in
+    let row = unlock_row (Node i) h (phase_of w (Node i) h) (row_of w h) (segment_of w h) w.counter st.spot st.is in
+    let was = (old.everywhere h).locked (Node i) n lock in
+    let c = (step_effect (Node i) h act.RemoveDescription (phase_of w (Node i) h) (row_of w h) (segment_of w h) w.counter st.spot st.is).change in
+    step_same w v (Node i) h act.RemoveDescription st (ap published_of row ∙ ap published_of (sym was)) (c.now ∙ sym c.before)
+part_unlocks w v i h n a lock old (publishes j g m d t is p) = absurd (cc)
+part_unlocks w v i h n a lock old (joins j g m t is p) = absurd (cc)
+part_unlocks w v i h n a lock old (releases t j g m b is p) = absurd (cc)
+
+-- who holds the lock takes away no description but its own lock
+pub own_unlocks : (w v : World) (i : ℕ) (h : ServiceHash) (n : ℕ) (a : Result (Unit {0}) RemoveError) → locked_number (phase_of w (Node i) h) ≡ Some n → Agrees w → IsOwnPart w (letter.RemoveDescription i h a) v → SameServices w v
+own_unlocks w v i h n a lock old o = part_unlocks w v i h n a lock old (own_part w (letter.RemoveDescription i h a) v o)
+
+-- the count at a step's place, in a world with the same phases
+gained : (w u : World) (i : ℕ) (h : ServiceHash) (a : Act) → ((x y : Phase) → Change a x y → Gains x y) → after w (Node i) h a ≡ Some u → join_count (phase_of u (Node i) h) ≡ join_count (phase_of w (Node i) h) + 1
+gained w u i h a gain e = elim (step_places w u i h a (stepped w u (Node i) h a e) i h) [ inl k ↦ (gain _ _ k.2).count | inr k ↦ absurd (k.0 refl refl) ]
+
+-- A publishing and an opening raise the count of their node by one.
+pub publishing_counts : (w v : World) (i : ℕ) (h : ServiceHash) (n : ℕ) (d : Description) (t : ℕ) → IsOwnPart w (letter.Publish i h n d (Ok t)) v → join_count (phase_of v (Node i) h) ≡ join_count (phase_of w (Node i) h) + 1
+publishing_counts w v i h n d t o = let p = publishing w v i h n d t o in ap (λ z. join_count (phase_of z (Node i) h)) p.is ∙ gained w p.mid i h (act.Publish d) (λ x y g. g) p.step
+
+pub joining_counts : (w v : World) (i : ℕ) (h : ServiceHash) (n t : ℕ) → IsOwnPart w (letter.OpenSegment i h n (Ok t)) v → join_count (phase_of v (Node i) h) ≡ join_count (phase_of w (Node i) h) + 1
+joining_counts w v i h n t o = let p = joining w v i h n t o in ap (λ z. join_count (phase_of z (Node i) h)) p.is ∙ gained w p.mid i h act.Join (λ x y g. g) p.step
+
+-- A release lowers it by one.
+pub releasing_counts : (w v : World) (t i : ℕ) (h : ServiceHash) (n : ℕ) (a : Released) → IsOwnPart w (letter.Release t i h n (Ok a)) v → Agrees w → join_count (phase_of w (Node i) h) ≡ join_count (phase_of v (Node i) h) + 1
+releasing_counts w v t i h n a o old =
+    let p = releasing w v t i h n a o in
+    let j = joined_means _ n (old.held.number t _ p.ticket) in
+    let some : 1 ≤ join_count (phase_of w (Node i) h) = subst (λ x. 1 ≤ join_count x) (sym j.1) ((old.everywhere h).joined (Node i) n j.0 j.1).0 in
+    elim (step_places w p.mid i h act.Leave (stepped w p.mid (Node i) h act.Leave p.step) i h) [
+      | inl k ↦ k.2.count some ∙ ap (λ z. join_count (phase_of z (Node i) h) + 1) (sym p.is)
+      | inr k ↦ absurd (k.0 refl refl)
+    ]
+
+-- Words in which a description is only removed while the node holds the lock: the flags say whether it does.
+module _ (node : ℕ) (hash : ServiceHash) where
+  pub data Tame : Bool → List Letter → Bool → Type 0 where
+    ends : {b : Bool} → Tame b [] b
+    goes : {b c : Bool} {l : Letter} {word : List Letter} → IsCalmLetter l → Tame b word c → Tame b (l ∷ word) c
+    locks : {b c : Bool} {n : ℕ} {word : List Letter} → Tame true word c → Tame b (letter.Lock node hash (Ok n) ∷ word) c
+    unlocks : {c : Bool} {word : List Letter} (a : Result (Unit {0}) RemoveError) → Tame false word c → Tame true (letter.RemoveDescription node hash a ∷ word) c
+
+  abbrev pub HasLock : Bool → World → Type 0
+  HasLock true w = (n : ℕ) × (locked_number (phase_of w (Node node) hash) ≡ Some n)
+  HasLock false w = Unit {0}
+
+pub tame_both : {node : ℕ} {hash : ServiceHash} {b c d : Bool} {u v : List Letter} → Tame node hash b u c → Tame node hash c v d → Tame node hash b (u ++ v) d
+tame_both ends t = t
+tame_both (goes k r) t = goes k (tame_both r t)
+tame_both (locks r) t = locks (tame_both r t)
+tame_both (unlocks a r) t = unlocks a (tame_both r t)
+
+module _ (node : ℕ) (hash : ServiceHash) where
+  lock_calmed : (b : Bool) (w v : World) → Calmed w v → HasLock node hash b w → HasLock node hash b v
+  lock_calmed true w v c h = (h.0, c.locks (Node node) hash h.0 h.1)
+  lock_calmed false w v c h = tt
+
+  lock_phase : (b : Bool) (w v : World) → phase_of v (Node node) hash ≡ phase_of w (Node node) hash → HasLock node hash b w → HasLock node hash b v
+  lock_phase true w v e h = (h.0, ap locked_number e ∙ h.1)
+  lock_phase false w v e h = tt
+
+  lock_peers : {w v : World} (b : Bool) → Peers w v → HasLock node hash b w → HasLock node hash b v
+  lock_peers b none h = h
+  lock_peers {w = u} {v = w} b (peer {v = v} id g a ok e rest) h = lock_peers b rest (lock_phase b u v (peer_places u v id g a (stepped u v (Peer id) g a e) node hash) h)
+
+lock_spot : (p : Participant) (h : ServiceHash) (x : Phase) (r : Option Row) (s : Option Segment) (c : ℕ) (new : Spot) → step p h act.Lock x r s c ≡ Some new → locked_number new.phase ≡ Some c
+lock_spot p h at.Idle None s c new e = tested (λ new. locked_number new.phase ≡ Some c) _ new (nat_lt c last_number) e (λ _. refl)
+lock_spot p h (at.Read n) None s c new e = tested (λ new. locked_number new.phase ≡ Some c) _ new (nat_lt c last_number) e (λ _. refl)
+lock_spot p h _ _ _ _ new e = absurd (cc)
+
+-- who locks has the lock, and its number
+pub locked_now : (w v : World) (id : ℕ) (h : ServiceHash) → after w (Node id) h act.Lock ≡ Some v → locked_number (phase_of v (Node id) h) ≡ Some w.counter
+locked_now w v id h e = let st = stepped w v (Node id) h act.Lock e in
+    subst (λ u. locked_number (phase_of u (Node id) h) ≡ Some w.counter) st.world (elim (place_cases w (Node id) h st.spot (Node id) h) [
+      | inl k ↦ ap locked_number k.2 ∙ lock_spot (Node id) h (phase_of w (Node id) h) (row_of w h) (segment_of w h) w.counter st.spot st.is
+      | inr k ↦ absurd (k.0 refl refl)
+    ])
+
+-- Each access of such a word is calm.
+pub calm_run : {node : ℕ} {hash : ServiceHash} {b c : Bool} {word : List Letter} {w v : World} → Tame node hash b word c → Run IsFaulty w word v → HasLock node hash b w → Agrees w → Run CalmAccess w word v
+calm_run ends done has old = done
+calm_run {node} {hash} {b = b} {w = w} (goes {l = l} k t) (next {mid = mid} (inl a) rest) has old =
+    let at_own = lock_peers node hash b a.peers has in
+    let c = own_calmed a.between l mid k a.own in
+    next (acts a c.same) (calm_run t rest (lock_calmed node hash b a.between mid c at_own) (access_keeps w l mid a old).0)
+calm_run {node} {hash} {b = b} {w = w} (goes {l = l} k t) (next {mid = mid} (inr a) rest) has old =
+    next (refused a.0 a.1) (calm_run t rest (lock_calmed node hash b w mid (calmed_same w mid a.1) has) (faulty_keeps w l mid (inr a) old).0)
+calm_run {node} {hash} {w = w} (locks {n = n} t) (next {mid = mid} (inl a) rest) has old =
+    let k = locking a.between mid node hash n a.own in
+    let c = calmed a.between mid node hash act.Lock tt k.1 in
+    next (acts a c.same) (calm_run t rest (a.between.counter, locked_now a.between mid node hash k.1) (access_keeps w (letter.Lock node hash (Ok n)) mid a old).0)
+calm_run {node} {hash} {w = w} (locks {n = n} t) (next {mid = mid} (inr a) rest) has old = let wrong = a.0 in absurd (cc)
+calm_run {node} {hash} {w = w} (unlocks x t) (next {mid = mid} (inl a) rest) has old =
+    let at_own = lock_peers node hash true a.peers has in
+    next (acts a (own_unlocks a.between mid node hash at_own.0 x at_own.1 (peers_keep a.peers old).0 a.own)) (calm_run t rest tt (access_keeps w (letter.RemoveDescription node hash x) mid a old).0)
+calm_run {node} {hash} {w = w} (unlocks x t) (next {mid = mid} (inr a) rest) has old =
+    next (refused a.0 a.1) (calm_run t rest tt (faulty_keeps w (letter.RemoveDescription node hash x) mid (inr a) old).0)

@@ -1,0 +1,107 @@
+-- What the table grants.
+use Rattle.std.proofs.Common.{◌≡◌, ℕ, Bool, true, false, cond, Option, Some, None, Err, refl, sym, ap, subst, ◌∙◌, arith}
+use Rattle.std.specs.Prelude.{nat_lt}
+use Rattle.std.proofs.lemmas.Bool.Decides.{nat_tests}
+use Rattle.iceoryx2_data.specs.declared.description.ServiceHash.{ServiceHash}
+use Rattle.iceoryx2_world.specs.Sets as set
+use Rattle.iceoryx2_world.specs.declared.world.Participant.{Participant}
+use Rattle.iceoryx2_world.specs.declared.world.Participant.TheVariants.{Node, Peer}
+use Rattle.iceoryx2_world.specs.declared.world.Phase.{Phase}
+use Rattle.iceoryx2_world.specs.declared.world.Phase.TheVariants as at
+use Rattle.iceoryx2_access.specs.declared.storage.ReleaseError.{ReleaseError}
+use Rattle.iceoryx2_access.specs.declared.storage.RemoveError.{RemoveError}
+use Rattle.iceoryx2_world.specs.declared.world.Row.{Row}
+use Rattle.iceoryx2_world.specs.Orders.{hash_total, hash_exact}
+use Rattle.iceoryx2_world.specs.World.{World, Segment, row_of, segment_of, phase_of}
+use Rattle.iceoryx2_world.specs.Acts.{Act}
+use Rattle.iceoryx2_world.specs.Acts as act
+use Rattle.iceoryx2_world.specs.Steps.{Spot, step}
+use Rattle.iceoryx2_world.specs.Across.{ticket_of, Agrees}
+use Rattle.iceoryx2_access.specs.Letter.{Letter}
+use Rattle.iceoryx2_access.specs.Letter as letter
+use Rattle.iceoryx2_world.specs.Access.{Tickets, Change, seat, tried, stepped, Simply, left, is_ticket}
+use Rattle.iceoryx2_world.specs.Peers.{Peers, none, peer, IsAccess}
+use Rattle.iceoryx2_access.specs.Factory.{Factory}
+use Rattle.iceoryx2_world.specs.Standing.{ticket_for, Stands}
+use Rattle.iceoryx2_world.proofs.agreement.Maps.{self}
+use Rattle.iceoryx2_world.proofs.agreement.Effects.{stepped as stepped_world}
+use Rattle.iceoryx2_world.proofs.agreement.Worlds.{peer_places}
+use Rattle.iceoryx2_world.proofs.agreement.Accesses.{joined_means, peers_keep}
+use Rattle.iceoryx2_world.proofs.agreement.Stands.{peers_ticket}
+
+-- peers leave a node where it is
+pub peers_phase : {w v : World} → Peers w v → (i : ℕ) (h : ServiceHash) → phase_of v (Node i) h ≡ phase_of w (Node i) h
+peers_phase none i h = refl
+peers_phase {w = u} {v = w} (peer {v = v} id g a ok e rest) i h = peers_phase rest i h ∙ peer_places u v id g a (stepped_world u v (Peer id) g a e) i h
+
+own_ticket : (i : ℕ) (h : ServiceHash) (n : ℕ) → is_ticket i h n (Some (record { node = i; hash = h; number = n })) ≡ true
+own_ticket i h n = rw (self hash_total hash_exact h) (grind (arith, nat_tests))
+
+leave_three : (a b : Bool) (u v w : Spot) → cond a (Some u) (cond b (Some v) (Some w)) ≡ None → ⊥
+leave_three true b u v w e = cc
+leave_three false true u v w e = cc
+leave_three false false u v w e = cc
+
+leave_granted : (p : Participant) (h : ServiceHash) (x : Phase) (r : Option Row) (s : Option Segment) (c n k : ℕ) (y : Segment) → x ≡ at.Joined n k → s ≡ Some y → step p h act.Leave x r s c ≡ None → ⊥
+leave_granted p h (at.Joined m j) r (Some y) c n k z is there e = leave_three (nat_lt 1 j) (nat_lt 1 (set.len y.participants)) _ _ _ e
+leave_granted p h _ r s c n k y is there e = absurd (cc)
+
+left_refused : (i : ℕ) (h : ServiceHash) (t : ℕ) (k : Tickets) (o : Option Spot) (e : ReleaseError) (c : Change) → Simply (left i h t k o) (Err e) c → o ≡ None
+left_refused i h t k None e c s = refl
+left_refused i h t k (Some x) e c s = absurd (cc (s.0))
+
+release_refused : (i : ℕ) (h : ServiceHash) (t : ℕ) (k : Tickets) (b : Bool) (other : ReleaseError) (o : Option Spot) (e : ReleaseError) (c : Change) → b ≡ true → Simply (cond b (left i h t k o) (Err other)) (Err e) c → o ≡ None
+release_refused i h t k true other o e c is s = left_refused i h t k o e c s
+release_refused i h t k false other o e c is s = absurd (cc)
+
+-- A standing factory's ticket is released.
+pub release_granted : (w v : World) (f : Factory) (e : ReleaseError) → Agrees w → Stands w f → IsAccess w (letter.Release f.ticket f.node f.description.hash f.number (Err e)) v → ⊥
+release_granted w v f e old s a =
+    let u = a.between in
+    let i = f.node in
+    let h = f.description.hash in
+    let mid = (peers_keep a.peers old).0 in
+    let there : ticket_of u f.ticket ≡ Some (ticket_for f) = peers_ticket a.peers f.ticket _ s.ticket in
+    let test : is_ticket i h f.number (ticket_of u f.ticket) ≡ true = ap (is_ticket i h f.number) there ∙ own_ticket i h f.number in
+    let j = joined_means _ f.number (mid.held.number f.ticket (ticket_for f) there) in
+    let c = (mid.everywhere h).joined (Node i) f.number j.0 j.1 in
+    leave_granted (Node i) h (phase_of u (Node i) h) (row_of u h) (segment_of u h) u.counter f.number j.0 c.2.segment j.1 c.2.there (release_refused i h f.ticket u.tickets _ _ (tried i h act.Leave (seat u i h).spot) e (a.own).change test (a.own).own)
+
+-- A tag is always removed.
+pub tag_granted : (w v : World) (i : ℕ) (h : ServiceHash) (e : RemoveError) → IsAccess w (letter.RemoveTag i h (Err e)) v → ⊥
+tag_granted w v i h e a = let is = (a.own).own.0 in cc
+
+step_refused : (e f : RemoveError) (o : Option Spot) (c : Change) → Simply (stepped {A = Unit {0}} f tt o) (Err e) c → o ≡ None
+step_refused e f None c s = refl
+step_refused e f (Some x) c s = absurd (cc (s.0))
+
+-- where a phase lets its node remove the segment, and the description
+abbrev pub MayClear : Phase → Type 0
+MayClear (at.Locked n) = Unit {0}
+MayClear (at.Made n) = Unit {0}
+MayClear (at.Leaving n) = Unit {0}
+MayClear _ = ⊥
+
+abbrev pub MayEnd : Phase → Type 0
+MayEnd (at.Cleared n) = Unit {0}
+MayEnd x = MayClear x
+
+clear_step : (p : Participant) (h : ServiceHash) (x : Phase) (r : Option Row) (s : Option Segment) (c : ℕ) → MayClear x → step p h act.RemoveSegment x r s c ≡ None → ⊥
+clear_step p h (at.Locked n) r s c ok e = cc
+clear_step p h (at.Made n) r s c ok e = cc
+clear_step p h (at.Leaving n) r s c ok e = cc
+clear_step p h _ r s c ok e = absurd ok
+
+end_step : (p : Participant) (h : ServiceHash) (x : Phase) (r : Option Row) (s : Option Segment) (c : ℕ) → MayEnd x → step p h act.RemoveDescription x r s c ≡ None → ⊥
+end_step p h (at.Locked n) r s c ok e = cc
+end_step p h (at.Made n) r s c ok e = cc
+end_step p h (at.Leaving n) r s c ok e = cc
+end_step p h (at.Cleared n) r s c ok e = cc
+end_step p h _ r s c ok e = absurd ok
+
+-- Who made a lock or a segment, or left as the last, is granted what it has to remove.
+pub segment_granted : (w v : World) (i : ℕ) (h : ServiceHash) (e : RemoveError) → MayClear (phase_of w (Node i) h) → IsAccess w (letter.RemoveSegment i h (Err e)) v → ⊥
+segment_granted w v i h e ok a = clear_step (Node i) h (phase_of a.between (Node i) h) (row_of a.between h) (segment_of a.between h) (a.between).counter (subst MayClear (sym (peers_phase a.peers i h)) ok) (step_refused e _ (tried i h act.RemoveSegment (seat a.between i h).spot) (a.own).change (a.own).own)
+
+pub description_granted : (w v : World) (i : ℕ) (h : ServiceHash) (e : RemoveError) → MayEnd (phase_of w (Node i) h) → IsAccess w (letter.RemoveDescription i h (Err e)) v → ⊥
+description_granted w v i h e ok a = end_step (Node i) h (phase_of a.between (Node i) h) (row_of a.between h) (segment_of a.between h) (a.between).counter (subst MayEnd (sym (peers_phase a.peers i h)) ok) (step_refused e _ (tried i h act.RemoveDescription (seat a.between i h).spot) (a.own).change (a.own).own)

@@ -1,0 +1,126 @@
+-- A number that is spent at a service never comes back there.
+use Rattle.std.proofs.Common.{◌≡◌, ℕ, true, ◌⊎◌, inl, inr, List, Option, Some, None, refl, sym, ap, subst, ◌∙◌, arith}
+use Rattle.std.specs.Prelude.{nat_lt}
+use Rattle.iceoryx2_data.specs.declared.description.ServiceHash.{ServiceHash}
+use Rattle.iceoryx2_world.specs.Sets as set
+use Rattle.iceoryx2_world.specs.declared.world.Participant.{Participant}
+use Rattle.iceoryx2_world.specs.declared.world.Participant.TheVariants.{Node, Peer}
+use Rattle.iceoryx2_world.specs.declared.world.Phase.{Phase}
+use Rattle.iceoryx2_world.specs.declared.world.Phase.TheVariants as at
+use Rattle.iceoryx2_world.specs.declared.world.Row.{Row}
+use Rattle.iceoryx2_world.specs.declared.world.Row.TheVariants as row
+use Rattle.iceoryx2_world.specs.Orders.{hash_total, hash_exact}
+use Rattle.iceoryx2_world.specs.World.{World, Segment, row_of, segment_of, phase_of}
+use Rattle.iceoryx2_world.specs.Acts.{Act, IsAct, Read, Lock, RemoveSegment, RemoveDescription, Make, Publish, Join, Leave}
+use Rattle.iceoryx2_world.specs.Acts as act
+use Rattle.iceoryx2_world.specs.Steps.{Spot, step, put, after, has_room, fits, last_number}
+use Rattle.iceoryx2_world.specs.Agreement.{AgreesEverywhere, Spent, locked_number}
+use Rattle.iceoryx2_world.specs.Across.{Agrees}
+use Rattle.iceoryx2_access.specs.Letter.{Letter}
+use Rattle.iceoryx2_world.specs.Access.{IsOwnPart}
+use Rattle.iceoryx2_world.specs.Peers.{Peers, none, peer}
+use Rattle.iceoryx2_world.specs.Faulty.{IsFaulty}
+use Rattle.iceoryx2_access.specs.Run.{Run, done, next}
+use Rattle.iceoryx2_world.proofs.agreement.Whole.{after_keeps}
+use Rattle.iceoryx2_world.proofs.agreement.Step.{kept, tested, left_means}
+use Rattle.iceoryx2_world.proofs.agreement.Maps.{set_cases}
+use Rattle.iceoryx2_world.proofs.agreement.Effects.{stepped}
+use Rattle.iceoryx2_world.proofs.agreement.Worlds.{peer_keeps}
+use Rattle.iceoryx2_world.proofs.agreement.Parts.{IsCalm, Part, stays, tagged, calm, removed, publishes, joins, releases, own_part}
+use Rattle.iceoryx2_world.proofs.agreement.Accesses.{peers_keep, faulty_keeps}
+
+-- a segment after a step has its number from the one before, or from the lock of who acts
+abbrev pub Origin : Option ℕ → Option Segment → Option Segment → Type 0
+Origin lock s t = (y : Segment) → t ≡ Some y → ((z : Segment) × (s ≡ Some z) × (z.number ≡ y.number)) ⊎ (lock ≡ Some y.number)
+
+same_origin : (x : Option ℕ) (s : Option Segment) → Origin x s s
+same_origin x s y e = inl (y, e, refl)
+
+no_origin : (x : Option ℕ) (s : Option Segment) → Origin x s None
+no_origin x s y e = absurd (cc)
+
+some_origin : (x : Option ℕ) (z t : Segment) → z.number ≡ t.number → Origin x (Some z) (Some t)
+some_origin x z t e y is = let same : t ≡ y = cc in inl (z, refl, e ∙ ap (λ (k : Segment). k.number) same)
+
+pub step_segment : (p : Participant) (h : ServiceHash) (a : Act) (x : Phase) (r : Option Row) (s : Option Segment) (c : ℕ) (new : Spot) → step p h a x r s c ≡ Some new → Origin (locked_number x) s new.segment
+step_segment p h Read at.Idle (Some (row.Published n b)) s c new e = kept (λ new. Origin (locked_number at.Idle) s new.segment) _ new e (same_origin _ s)
+step_segment p h Read (at.Read m) (Some (row.Published n b)) s c new e = kept (λ new. Origin (locked_number (at.Read m)) s new.segment) _ new e (same_origin _ s)
+step_segment p h Lock at.Idle None s c new e = tested (λ new. Origin (locked_number at.Idle) s new.segment) _ new (nat_lt c last_number) e (λ _. same_origin _ s)
+step_segment p h Lock (at.Read m) None s c new e = tested (λ new. Origin (locked_number (at.Read m)) s new.segment) _ new (nat_lt c last_number) e (λ _. same_origin _ s)
+step_segment p h RemoveSegment (at.Locked n) r s c new e = kept (λ new. Origin (locked_number (at.Locked n)) s new.segment) _ new e (no_origin _ s)
+step_segment p h (Make m) (at.Locked n) r None c new e = tested (λ new. Origin (locked_number (at.Locked n)) None new.segment) _ new (nat_lt 0 m) e (λ _. λ y is. inr (cc))
+step_segment p h RemoveSegment (at.Made n) r s c new e = kept (λ new. Origin (locked_number (at.Made n)) s new.segment) _ new e (no_origin _ s)
+step_segment p h RemoveDescription (at.Locked n) r s c new e = kept (λ new. Origin (locked_number (at.Locked n)) s new.segment) _ new e (same_origin _ s)
+step_segment p h RemoveDescription (at.Made n) r s c new e = kept (λ new. Origin (locked_number (at.Made n)) s new.segment) _ new e (same_origin _ s)
+step_segment p h (Publish d) (at.Made n) r (Some s) c new e = tested (λ new. Origin (locked_number (at.Made n)) (Some s) new.segment) _ new (fits h s d) e (λ _. same_origin _ (Some s))
+step_segment p h Join (at.Read n) r (Some s) c new e = tested (λ new. Origin (locked_number (at.Read n)) (Some s) new.segment) _ new (has_room n s) e (λ _. some_origin _ s (record s { participants = set.insert s.participants p }) refl)
+step_segment p h Join (at.Joined n k) r s c new e = tested (λ new. Origin (locked_number (at.Joined n k)) s new.segment) _ new (nat_lt k last_number) e (λ _. same_origin _ s)
+step_segment p h Leave (at.Joined n k) r (Some s) c new e = left_means (λ new. Origin (locked_number (at.Joined n k)) (Some s) new.segment) _ _ _ new (nat_lt 1 k) (nat_lt 1 (set.len s.participants)) e (λ _. same_origin _ (Some s)) (λ _. some_origin _ s (record s { participants = set.remove s.participants p }) refl) (λ _. some_origin _ s (record s { participants = set.empty; marked = true }) refl)
+step_segment p h RemoveSegment (at.Leaving n) r s c new e = kept (λ new. Origin (locked_number (at.Leaving n)) s new.segment) _ new e (no_origin _ s)
+step_segment p h RemoveDescription (at.Leaving n) r s c new e = kept (λ new. Origin (locked_number (at.Leaving n)) s new.segment) _ new e (same_origin _ s)
+step_segment p h RemoveDescription (at.Cleared n) r s c new e = kept (λ new. Origin (locked_number (at.Cleared n)) s new.segment) _ new e (same_origin _ s)
+step_segment p h _ _ _ _ _ new e = absurd (cc)
+
+-- the same in worlds, at each service
+pub world_segment : (w v : World) (p : Participant) (g : ServiceHash) (a : Act) → after w p g a ≡ Some v → (h : ServiceHash) (y : Segment) → segment_of v h ≡ Some y → ((z : Segment) × (segment_of w h ≡ Some z) × (z.number ≡ y.number)) ⊎ (locked_number (phase_of w p h) ≡ Some y.number)
+world_segment w v p g a e h y is =
+    let st = stepped w v p g a e in
+    let there : segment_of (put w p g st.spot) h ≡ Some y = ap (λ u. segment_of u h) st.world ∙ is in
+    elim (set_cases hash_total hash_exact w.segments g st.spot.segment h) [
+      | inl k ↦ elim (step_segment p g a (phase_of w p g) (row_of w g) (segment_of w g) w.counter st.spot st.is y (sym k.1 ∙ there)) [
+        | inl z ↦ inl (z.0, ap (segment_of w) k.0 ∙ z.1, z.2)
+        | inr l ↦ inr (ap (λ f. locked_number (phase_of w p f)) k.0 ∙ l)
+      ]
+      | inr k ↦ inl (y, sym k.1 ∙ there, refl)
+    ]
+
+-- No step brings a spent number back.
+pub spent_step : (w v : World) (p : Participant) (g : ServiceHash) (a : Act) (h : ServiceHash) (n : ℕ) → IsAct a → after w p g a ≡ Some v → AgreesEverywhere w → Spent w h n → Spent v h n
+spent_step w v p g a h n ok e each s =
+    let later = (after_keeps w v p g a ok e each).1 in
+    record {
+      below = grind (arith, s.below, later.counter);
+      row = λ x is same. let old = (later.rows h).no_new x is (grind (arith, s.below, same)) in s.row old.0 old.1 (old.2 ∙ same);
+      segment = λ y is same. elim (world_segment w v p g a e h y is) [
+        | inl z ↦ s.segment z.0 z.1 (z.2 ∙ same)
+        | inr l ↦ s.row (row.Locked y.number) ((each h).locked p y.number l) same
+      ];
+    }
+
+spent_same : (w v : World) (h : ServiceHash) (n : ℕ) → v ≡ w → Spent w h n → Spent v h n
+spent_same w v h n e s = subst (λ u. Spent u h n) (sym e) s
+
+pub spent_peers : {w v : World} (h : ServiceHash) (n : ℕ) → Peers w v → Agrees w → Spent w h n → Spent v h n
+spent_peers h n none old s = s
+spent_peers {w = u} {v = w} h n (peer {v = v} id g a ok e rest) old s = spent_peers h n rest (peer_keeps u v id g a ok e old).0 (spent_step u v (Peer id) g a h n ok e old.everywhere s)
+
+calm_is : (a : Act) → IsCalm a → IsAct a
+calm_is act.Read ok = tt
+calm_is act.Lock ok = tt
+calm_is act.RemoveSegment ok = tt
+calm_is (act.Make m) ok = tt
+calm_is act.RemoveDescription ok = absurd ok
+calm_is (act.Publish d) ok = absurd ok
+calm_is act.Join ok = absurd ok
+calm_is act.Leave ok = absurd ok
+
+part_spent : (w : World) (l : Letter) (v : World) (h : ServiceHash) (n : ℕ) → Part w l v → Agrees w → Spent w h n → Spent v h n
+part_spent w l v h n (stays e) old s = spent_same w v h n e s
+part_spent w l v h n (tagged t e) old s = subst (λ u. Spent u h n) (sym e) (record { below = s.below; row = s.row; segment = s.segment })
+part_spent w l v h n (calm i g a ok e) old s = spent_step w v (Node i) g a h n (calm_is a ok) e old.everywhere s
+part_spent w l v h n (removed i g is e) old s = spent_step w v (Node i) g act.RemoveDescription h n tt e old.everywhere s
+part_spent w l v h n (publishes i g m d t is p) old s = let new = spent_step w p.mid (Node i) g (act.Publish d) h n p.limits p.step old.everywhere s in subst (λ u. Spent u h n) (sym p.is) (record { below = new.below; row = new.row; segment = new.segment })
+part_spent w l v h n (joins i g m t is p) old s = let new = spent_step w p.mid (Node i) g act.Join h n tt p.step old.everywhere s in subst (λ u. Spent u h n) (sym p.is) (record { below = grind (arith, s.below); row = new.row; segment = new.segment })
+part_spent w l v h n (releases t i g m a is p) old s = let new = spent_step w p.mid (Node i) g act.Leave h n tt p.step old.everywhere s in subst (λ u. Spent u h n) (sym p.is) (record { below = new.below; row = new.row; segment = new.segment })
+
+pub spent_own : (w : World) (l : Letter) (v : World) (h : ServiceHash) (n : ℕ) → IsOwnPart w l v → Agrees w → Spent w h n → Spent v h n
+spent_own w l v h n o old s = part_spent w l v h n (own_part w l v o) old s
+
+pub spent_access : (w : World) (l : Letter) (v : World) (h : ServiceHash) (n : ℕ) → IsFaulty w l v → Agrees w → Spent w h n → Spent v h n
+spent_access w l v h n (inl a) old s = spent_own a.between l v h n a.own (peers_keep a.peers old).0 (spent_peers h n a.peers old s)
+spent_access w l v h n (inr f) old s = spent_same w v h n f.1 s
+
+-- nor does a run of accesses
+pub spent_run : {w v : World} {word : List Letter} (h : ServiceHash) (n : ℕ) → Run IsFaulty w word v → Agrees w → Spent w h n → Spent v h n
+spent_run h n done old s = s
+spent_run {w = u} {v = w} h n (next {mid = v} {letter = l} a rest) old s = spent_run h n rest (faulty_keeps u l v a old).0 (spent_access u l v h n a old s)

@@ -1,0 +1,14 @@
+pub mod Orders
+pub mod Sets
+pub mod World
+pub mod Acts
+pub mod Steps
+pub mod Codes
+pub mod Access
+pub mod Agreement
+pub mod Across
+pub mod Peers
+pub mod Faulty
+pub mod Standing
+pub mod Listing
+pub mod Calm

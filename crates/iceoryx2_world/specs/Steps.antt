@@ -1,0 +1,81 @@
+-- The fourteen steps, by what the participant is at and what it does.
+use Rattle.std.specs.Prelude.{ℕ, ◌+◌, ◌-◌, ◌^◌, Bool, true, false, not, ◌&&◌, nat_lt, ◌==◌, Option, Some, None, if◌then◌else◌}
+use Rattle.std.specs.Option.{option_map}
+use Rattle.iceoryx2_world.specs.Sets as set
+use Rattle.std.specs.Ordering.{eq_by_cmp}
+use Rattle.iceoryx2_world.specs.declared.world.Participant.{Participant}
+use Rattle.iceoryx2_data.specs.declared.description.ServiceHash.{ServiceHash}
+use Rattle.iceoryx2_world.specs.declared.world.Phase.{Phase}
+use Rattle.iceoryx2_world.specs.declared.world.Phase.TheVariants as at
+use Rattle.iceoryx2_world.specs.Orders.{hash_cmp, participant_cmp}
+use Rattle.iceoryx2_world.specs.declared.world.Row.{Row}
+use Rattle.iceoryx2_world.specs.declared.world.Row.TheVariants as row
+use Rattle.iceoryx2_world.specs.World.{World, Segment, row_of, segment_of, phase_of, set_to, unless_idle}
+use Rattle.iceoryx2_data.specs.Description.{Description, max_nodes_of}
+use Rattle.iceoryx2_data.specs.Form as form
+use Rattle.iceoryx2_world.specs.Acts.{Act, Read, Lock, RemoveSegment, RemoveDescription, Make, Publish, Join, Leave}
+
+-- what a step of one participant at one hash reads and changes
+pub record Spot : Type 0 where
+  pub phase : Phase
+  pub row : Option Row
+  pub segment : Option Segment
+  pub counter : ℕ
+
+-- the participant holds nothing
+abbrev pub begins : Phase → Bool
+begins at.Idle = true
+begins (at.Read n) = true
+begins _ = false
+
+abbrev pub now : Phase → Option Row → Option Segment → ℕ → Option Spot
+now x r s c = Some (record { phase = x; row = r; segment = s; counter = c })
+
+abbrev pub alone : Participant → set.FinSet participant_cmp
+alone p = set.insert set.empty p
+
+abbrev pub last_number : ℕ
+last_number = 2 ^ 64 - 1
+
+-- a segment that p alone made
+abbrev pub made : Participant → ℕ → ℕ → Segment
+made p n m = record { number = n; capacity = m; participants = alone p; marked = false }
+
+-- the segment takes one more with this number
+abbrev pub has_room : ℕ → Segment → Bool
+has_room n s = s.number == n && not s.marked && nat_lt (set.len s.participants) s.capacity
+
+-- it describes this service, for as many nodes as the segment takes
+abbrev pub fits : ServiceHash → Segment → Description → Bool
+fits h s d = eq_by_cmp hash_cmp d.hash h && max_nodes_of d.pattern == s.capacity
+
+-- What a step of p at h changes, of its phase, the row, the segment and the counter there; none where it is forbidden.
+abbrev pub step : Participant → ServiceHash → Act → Phase → Option Row → Option Segment → ℕ → Option Spot
+step p h Read at.Idle (Some (row.Published n b)) s c = now (at.Read n) (Some (row.Published n b)) s c
+step p h Read (at.Read m) (Some (row.Published n b)) s c = now (at.Read n) (Some (row.Published n b)) s c
+step p h Lock at.Idle None s c = if nat_lt c last_number then now (at.Locked c) (Some (row.Locked c)) s (c + 1) else None
+step p h Lock (at.Read m) None s c = if nat_lt c last_number then now (at.Locked c) (Some (row.Locked c)) s (c + 1) else None
+step p h RemoveSegment (at.Locked n) r s c = now (at.Locked n) r None c
+step p h (Make m) (at.Locked n) r None c = if nat_lt 0 m then now (at.Made n) r (Some (made p n m)) c else None
+step p h RemoveSegment (at.Made n) r s c = now (at.Locked n) r None c
+step p h RemoveDescription (at.Locked n) r s c = now at.Idle None s c
+step p h RemoveDescription (at.Made n) r s c = now at.Idle None s c
+step p h (Publish d) (at.Made n) r (Some s) c = if fits h s d then now (at.Joined n 1) (Some (row.Published n (form.description d))) (Some s) c else None
+step p h Join (at.Read n) r (Some s) c = if has_room n s then now (at.Joined n 1) r (Some (record s { participants = set.insert s.participants p })) c else None
+step p h Join (at.Joined n k) r s c = if nat_lt k last_number then now (at.Joined n (k + 1)) r s c else None
+step p h Leave (at.Joined n k) r (Some s) c =
+    if nat_lt 1 k then now (at.Joined n (k - 1)) r (Some s) c
+    else if nat_lt 1 (set.len s.participants) then now at.Idle r (Some (record s { participants = set.remove s.participants p })) c
+    else now (at.Leaving n) r (Some (record s { participants = set.empty; marked = true })) c
+step p h RemoveSegment (at.Leaving n) r s c = now (at.Cleared n) r None c
+step p h RemoveDescription (at.Leaving n) r s c = now at.Idle None s c
+step p h RemoveDescription (at.Cleared n) r s c = now at.Idle None s c
+step p h _ _ _ _ _ = None
+
+-- the world with this at the spot
+abbrev pub put : World → Participant → ServiceHash → Spot → World
+put w p h s = record w { rows = set_to w.rows h s.row; segments = set_to w.segments h s.segment; phases = set_to w.phases (p, h) (unless_idle s.phase); counter = s.counter }
+
+-- the world after a step; none where it is forbidden
+abbrev pub after : World → Participant → ServiceHash → Act → Option World
+after w p h act = option_map (put w p h) (step p h act (phase_of w p h) (row_of w h) (segment_of w h) w.counter)

@@ -1,0 +1,124 @@
+//! What is true of every world of a table, whatever its nodes do and whatever steps peers take.
+
+ghost use Rattle.std.specs.Prelude.{◌≡◌, ◌≢◌, ℕ, ◌+◌, ◌≤◌, List, [], ◌∷◌, ◌++◌, Some, None, Result, Ok, Err};
+ghost use Rattle.iceoryx2_data.specs.declared.description.ServiceHash.{ServiceHash};
+ghost use Rattle.iceoryx2_data.specs.Description.{Description};
+ghost use Rattle.iceoryx2_data.specs.Form.{IsForm};
+ghost use Rattle.iceoryx2_world.specs.declared.world.Participant.{Participant};
+ghost use Rattle.iceoryx2_world.specs.declared.world.Participant.TheVariants.{Node, Peer};
+ghost use Rattle.iceoryx2_world.specs.declared.world.Ticket.{Ticket};
+ghost use Rattle.iceoryx2_world.specs.World.{World, phase_of};
+ghost use Rattle.iceoryx2_world.specs.Acts.{Act, IsAct};
+ghost use Rattle.iceoryx2_world.specs.Steps.{after};
+ghost use Rattle.iceoryx2_access.specs.declared.storage.RemoveError.{RemoveError};
+ghost use Rattle.iceoryx2_access.specs.declared.storage.Release.{Release as Released};
+ghost use Rattle.iceoryx2_access.specs.declared.storage.ReleaseError.{ReleaseError};
+ghost use Rattle.iceoryx2_world.specs.Access.{IsOwnPart};
+ghost use Rattle.iceoryx2_access.specs.Letter.{Letter, Lock, Publish, Fetch, OpenSegment, RemoveDescription, Release};
+ghost use Rattle.iceoryx2_access.specs.Run.{Run};
+ghost use Rattle.iceoryx2_world.specs.Agreement.{AgreesEverywhere, Later, Spent, locked_number};
+ghost use Rattle.iceoryx2_world.specs.Across.{Numbered, Agrees, empty_world, ticket_of};
+ghost use Rattle.iceoryx2_world.specs.Peers.{IsAccess};
+ghost use Rattle.iceoryx2_world.specs.Faulty.{IsFaulty};
+ghost use Rattle.iceoryx2_world.specs.Calm.{SameServices, IsCalmLetter, count_of};
+ghost use Rattle.iceoryx2_access.specs.Factory.{Factory};
+ghost use Rattle.iceoryx2_world.specs.Standing.{ticket_for, Stands, Spares, Each};
+
+/// A world agrees: at each service its row, its segment and the phases fit one another, and each
+/// node has as many tickets as its phases count. Whatever accesses and steps of peers make of such
+/// a world agrees again and is later, and what stands for an open factory stays.
+pub fn agreement()
+    // A world in which nothing is there agrees, wherever its counter begins.
+    ensures empty { (c : ℕ) → Agrees (empty_world c) }
+
+    // A step of anyone keeps everything but the tickets of nodes, and gives a later world.
+    ensures step { (w v : World) (p : Participant) (h : ServiceHash) (act : Act)
+        → IsAct act → after w p h act ≡ Some v
+        → AgreesEverywhere w → Numbered w → AgreesEverywhere v × Numbered v × Later w v }
+
+    // A peer's step keeps these tickets too.
+    ensures peer { (w v : World) (id : ℕ) (h : ServiceHash) (act : Act)
+        → IsAct act → after w (Peer id) h act ≡ Some v → Agrees w → Agrees v × Later w v }
+
+    // An access of a node, after any steps of peers, keeps the agreement and gives a later world.
+    ensures access { (w v : World) (l : Letter) → IsAccess w l v → Agrees w → Agrees v × Later w v }
+
+    // So does one that may be refused.
+    ensures refusable { (w v : World) (l : Letter) → IsFaulty w l v → Agrees w → Agrees v × Later w v }
+
+    // And so does any run of these.
+    ensures run { (w v : World) (word : List Letter)
+        → Run IsFaulty w word v → Agrees w → Agrees v × Later w v }
+
+    // What is later than a later world is later, where the first one agrees.
+    ensures later { (u v w : World) → Agrees u → Later u v → Later v w → Later u w }
+
+    // A number that is spent at a service never comes back there.
+    ensures spent { (w v : World) (l : Letter) (h : ServiceHash) (n : ℕ)
+        → IsFaulty w l v → Agrees w → Spent w h n → Spent v h n }
+
+    // Each ticket is one of a factory that stands.
+    ensures ticket { (w : World) (t : ℕ) (x : Ticket)
+        → Agrees w → ticket_of w t ≡ Some x
+        → (f : Factory) × (f.ticket ≡ t) × (ticket_for f ≡ x) × Stands w f }
+
+    // A step of anyone but its node leaves a standing factory standing.
+    ensures other { (w v : World) (p : Participant) (h : ServiceHash) (act : Act) (f : Factory)
+        → Node f.node ≢ p → IsAct act → after w p h act ≡ Some v
+        → Agrees w → Stands w f → Stands v f }
+
+    // So does every access of any node, but a release of its ticket that is granted.
+    ensures stands { (w v : World) (l : Letter) (f : Factory)
+        → IsAccess w l v → Spares f l → Agrees w → Stands w f → Stands v f }
+
+    // The same along a run of accesses of which any may be refused.
+    ensures stands_along { (w v : World) (word : List Letter) (f : Factory)
+        → Run IsFaulty w word v → Each (Spares f) word → Agrees w → Stands w f → Stands v f }
+
+    // The table grants the release of a standing factory's ticket.
+    ensures released { (w v : World) (f : Factory) (e : ReleaseError)
+        → Agrees w → Stands w f
+        → IsAccess w (Release f.ticket f.node f.description.hash f.number (Err e)) v → ⊥ }
+
+    // A granted release takes the ticket out.
+    ensures taken_out { (w v : World) (node number ticket : ℕ) (h : ServiceHash) (left : Released)
+        → IsFaulty w (Release ticket node h number (Ok left)) v → ticket_of v ticket ≡ None }
+
+    // Who locks a service and publishes a description under the lock's number has a factory that
+    // stands with it. Its ticket is not below the counter at the beginning: no factory had it.
+    ensures created { (w v : World) (node number ticket : ℕ) (h : ServiceHash) (d : Description) (word : List Letter)
+        → Run IsFaulty w (Lock node h (Ok number) ∷ (word ++ Publish node h number d (Ok ticket) ∷ [])) v
+        → Agrees w
+        → Stands v (record { node = node; number = number; ticket = ticket; description = d })
+        × (d.hash ≡ h) × (w.counter ≤ ticket) }
+
+    // Who fetches a description and opens the segment of its number has a factory that stands with
+    // that very description, and a new ticket.
+    ensures opened { (w v : World) (node number ticket : ℕ) (h : ServiceHash) (d : Description) (bytes : List ℕ)
+        (word : List Letter)
+        → Run IsFaulty w (Fetch node h (Ok (number, bytes)) ∷ (word ++ OpenSegment node h number (Ok ticket) ∷ [])) v
+        → IsForm d bytes → d.hash ≡ h → Agrees w
+        → Stands v (record { node = node; number = number; ticket = ticket; description = d })
+        × (w.counter ≤ ticket) }
+
+    // The own part of an access changes a published description or a count only where it is a
+    // granted publishing, opening, release or removal of a description.
+    ensures calm { (w v : World) (l : Letter) → IsCalmLetter l → IsOwnPart w l v → SameServices w v }
+
+    // A node that holds the lock removes nothing that is published.
+    ensures unlock { (w v : World) (node number : ℕ) (h : ServiceHash) (answer : Result (Unit {0}) RemoveError)
+        → locked_number (phase_of w (Node node) h) ≡ Some number
+        → Agrees w → IsOwnPart w (RemoveDescription node h answer) v → SameServices w v }
+
+    // A granted publishing and a granted opening raise their node's count by one, and a granted
+    // release lowers it by one.
+    ensures publishing { (w v : World) (node number ticket : ℕ) (h : ServiceHash) (d : Description)
+        → IsOwnPart w (Publish node h number d (Ok ticket)) v
+        → count_of v (Node node) h ≡ count_of w (Node node) h + 1 }
+    ensures opening { (w v : World) (node number ticket : ℕ) (h : ServiceHash)
+        → IsOwnPart w (OpenSegment node h number (Ok ticket)) v
+        → count_of v (Node node) h ≡ count_of w (Node node) h + 1 }
+    ensures releasing { (w v : World) (node number ticket : ℕ) (h : ServiceHash) (left : Released)
+        → IsOwnPart w (Release ticket node h number (Ok left)) v → Agrees w
+        → count_of w (Node node) h ≡ count_of v (Node node) h + 1 }
+{}

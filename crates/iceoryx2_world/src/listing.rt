@@ -1,0 +1,34 @@
+//! What a table lists.
+
+use crate::world::Bytes;
+use iceoryx2_data::description::ServiceHash;
+
+/// What is written under a hash, as it is listed.
+#[derive(Drop)]
+pub enum ListedRow {
+    Absent,
+    /// Somebody is creating the service of this number.
+    Locked(u64),
+    /// The service of this number, and its description's bytes.
+    Published(u64, Bytes),
+}
+
+/// A segment, as it is listed.
+#[derive(Clone, Copy, Debug, PartialEq, Eq)]
+pub struct ListedSegment {
+    pub number: u64,
+    /// How many participants it takes.
+    pub max_nodes: u64,
+    /// How many it has.
+    pub participants: u64,
+    /// Whether its last participant has left.
+    pub marked: bool,
+}
+
+/// What there is of one service.
+#[derive(Drop)]
+pub struct Entry {
+    pub hash: ServiceHash,
+    pub row: ListedRow,
+    pub segment: Option<ListedSegment>,
+}
