@@ -12,3 +12,4 @@ pub mod Faulty
 pub mod Standing
 pub mod Listing
 pub mod Calm
+pub mod Tables
