@@ -15,7 +15,7 @@ use Rattle.iceoryx2_data.specs.declared.event.StaticConfig.{StaticConfig as Even
 use Rattle.iceoryx2_data.specs.declared.event.Deadline.{Deadline}
 use Rattle.iceoryx2_data.specs.Span.{Span}
 use Rattle.iceoryx2_data.specs.Description.{Description}
-use Rattle.iceoryx2_data.specs.Form.{text, number, option, span, deadline, event, pattern, magic, no_attributes, description, IsForm}
+use Rattle.iceoryx2_data.specs.Form.{text, number, option, span, deadline, event, pattern, magic, version, no_attributes, description, IsForm}
 
 record AreBytes (bytes : List ℕ) : Type 0 where
   each : AllByRecursion (λ b. b < 256) bytes
@@ -98,7 +98,10 @@ pattern_bytes : (p : MessagingPattern) → AreBytes (pattern p)
 pattern_bytes (Event s) = more (omega arith) (event_bytes s)
 
 magic_bytes : AreBytes magic
-magic_bytes = more (omega arith) (more (omega arith) (more (omega arith) (more (omega arith) (more (omega arith) none))))
+magic_bytes = more (omega arith) (more (omega arith) (more (omega arith) (more (omega arith) none)))
+
+version_bytes : AreBytes version
+version_bytes = more (omega arith) none
 
 no_attributes_bytes : AreBytes no_attributes
 no_attributes_bytes = more (omega arith) (more (omega arith) none)
@@ -106,6 +109,6 @@ no_attributes_bytes = more (omega arith) (more (omega arith) none)
 pub form_bytes : (d : Description) (bytes : List ℕ) → IsForm d bytes → All (λ b. b < 256) bytes
 form_bytes d bytes form =
     let hash : AreBytes d.hash.0 = record { each = recursion_from_All (λ b. b < 256) d.hash.0 form.0.hash.bytes } in
-    let whole : AreBytes (description d) = both (both (both (both magic_bytes hash) (text_bytes d.name form.0.name.utf8)) no_attributes_bytes) (pattern_bytes d.pattern) in
+    let whole : AreBytes (description d) = both (both (both (both (both magic_bytes version_bytes) hash) (text_bytes d.name form.0.name.utf8)) no_attributes_bytes) (pattern_bytes d.pattern) in
     let all : All (λ b. b < 256) (description d) = All-from_recursion (λ b. b < 256) (description d) whole.each in
     subst (λ (bs : List ℕ). All (λ b. b < 256) bs) (sym form.1) all

@@ -1,5 +1,5 @@
 -- Each part of a description, and the whole.
-use Rattle.std.proofs.Common.{◌≡◌, ℕ, zero, suc, ◌^◌, ◌<◌, cond, ltb, eqb, List, [], ◌∷◌, ◌++◌, length, Some, None, refl, sym, ap, subst, ◌∙◌, append_assoc, arith}
+use Rattle.std.proofs.Common.{◌≡◌, ℕ, ◌^◌, ◌<◌, cond, ltb, eqb, List, [], ◌∷◌, ◌++◌, length, Some, None, refl, sym, ap, subst, ◌∙◌, append_assoc, arith}
 use Rattle.std.specs.Prelude.{IfSome, IsTrue, Result, Ok, Err, IfOk, MatchResult}
 use Rattle.std.specs.Int.{w32, w64, to_be_bytes}
 use Rattle.std.proofs.lemmas.Bool.{ltb-true, lt-ltb, eqb-true}
@@ -9,10 +9,13 @@ use Rattle.iceoryx2_data.specs.declared.bytes.DecodeError.{DecodeError}
 use Rattle.iceoryx2_data.specs.declared.bytes.DecodeError.TheVariants.{Malformed, OutOfMemory}
 use Rattle.iceoryx2_data.specs.declared.description.MessagingPattern.{MessagingPattern}
 use Rattle.iceoryx2_data.specs.declared.description.MessagingPattern.TheVariants.{Event}
+use Rattle.iceoryx2_data.specs.declared.bytes.TheConstants.{EVENT_BYTE}
+use Rattle.iceoryx2_data.specs.declared.description.TheConstants.{HASH_LENGTH, MIN_NAME_LENGTH, MAX_NAME_LENGTH}
+use Rattle.iceoryx2_data.specs.declared.time.TheConstants.{NANOSECONDS_PER_SECOND}
 use Rattle.iceoryx2_data.specs.Span.{IsSpan}
 use Rattle.iceoryx2_data.specs.Description.{Description, IsDeadline, IsEvent, IsPattern, IsDescription}
-use Rattle.iceoryx2_data.specs.Form.{text, number, option, span, deadline, event, pattern, magic, no_attributes, description, IsForm}
-use Rattle.iceoryx2_data.specs.Reading.{then_at, where_at, number_at, option_at, span_from, span_at, deadline_from, deadline_at, event_from, event_at, pattern_at, description_from, description_at, all_of, Gives}
+use Rattle.iceoryx2_data.specs.Form.{text, number, option, span, deadline, event, pattern, magic, version, no_attributes, description, IsForm}
+use Rattle.iceoryx2_data.specs.Reading.{◌>>=◌, then_at, where_at, number_at, option_at, span_from, span_at, deadline_from, deadline_at, event_from, event_at, pattern_at, description_from, description_at, all_of, IsReadBy}
 use Rattle.iceoryx2_data.proofs.Parts.{IsBytes, IsBytes-rest, bind_some, guard_is, some_is, Takes, Reads, Reads-then, Reads-as, Reads-where, Reads-form, Reads-each_byte, Reads-literal, Reads-number32, Reads-number64, Reads-text, Reads-option}
 
 abbrev Below64 : ℕ → Type 0
@@ -22,10 +25,10 @@ Below64 n = n < 2 ^ 64
 
 pub Reads-span : Reads span_at span IsSpan
 unfolding span_at
-Reads-span = Reads-as span_from (λ s. (s.seconds, s.nanoseconds)) (where_at (λ p. ltb p.1 1_000_000_000) (then_at (number_at w64) (number_at w32)))
-    (λ p. number p.0 ++ to_be_bytes w32 p.1) (λ p. (Below64 p.0 × (p.1 < 2 ^ 32)) × IsTrue (ltb p.1 1_000_000_000)) IsSpan
+Reads-span = Reads-as span_from (λ s. (s.seconds, s.nanoseconds)) (where_at (λ p. ltb p.1 NANOSECONDS_PER_SECOND) (then_at (number_at w64) (number_at w32)))
+    (λ p. number p.0 ++ to_be_bytes w32 p.1) (λ p. (Below64 p.0 × (p.1 < 2 ^ 32)) × IsTrue (ltb p.1 NANOSECONDS_PER_SECOND)) IsSpan
     (λ b. refl) (λ a. refl) (λ a h. (h.0.0, ltb-true _ _ h.1)) (λ b h. ((h.0, omega (arith, h.1)), lt-ltb _ _ h.1))
-    (Reads-where (λ p. ltb p.1 1_000_000_000) (then_at (number_at w64) (number_at w32)) (λ p. number p.0 ++ to_be_bytes w32 p.1) (λ p. Below64 p.0 × (p.1 < 2 ^ 32))
+    (Reads-where (λ p. ltb p.1 NANOSECONDS_PER_SECOND) (then_at (number_at w64) (number_at w32)) (λ p. number p.0 ++ to_be_bytes w32 p.1) (λ p. Below64 p.0 × (p.1 < 2 ^ 32))
     (Reads-then (number_at w64) number Below64 (number_at w32) (to_be_bytes w32) (λ n. n < 2 ^ 32) Reads-number64 Reads-number32))
 
 pub Reads-deadline : Reads deadline_at deadline IsDeadline
@@ -51,12 +54,13 @@ Reads-event = Reads-form _ _ event IsEvent (Reads-as event_from (λ s. (s.max_no
 pattern_takes : (bytes : List ℕ) (x : MessagingPattern × List ℕ) → IsBytes bytes → pattern_at bytes ≡ Some x → Takes bytes (pattern x.0) x.1 × IsPattern x.0
 unfolding pattern_at
 pattern_takes [] x fits e = absurd cc
-pattern_takes (zero ∷ bytes) x fits e = absurd cc
-pattern_takes (suc zero ∷ bytes) x fits e =
-    let b = bind_some (event_at bytes) (λ s. Some (Event s.0, s.1)) x e in
-    let t = Reads-event.takes bytes b.0 (IsBytes-rest 1 bytes fits) b.1 in
-    subst (λ (y : MessagingPattern × List ℕ). Takes (1 ∷ bytes) (pattern y.0) y.1 × IsPattern y.0) (some_is (Event b.0.0, b.0.1) x b.2) (record { parts = ap (λ (w : List ℕ). 1 ∷ w) t.0.parts; rest_fits = t.0.rest_fits }, t.1)
-pattern_takes (suc (suc b) ∷ bytes) x fits e = absurd cc
+pattern_takes (flag ∷ bytes) x fits e =
+    let g = guard_is (eqb flag EVENT_BYTE) (event_at bytes >>= λ s. Some (Event s.0, s.1)) x e in
+    let b = bind_some (event_at bytes) (λ s. Some (Event s.0, s.1)) x g.1 in
+    let t = Reads-event.takes bytes b.0 (IsBytes-rest flag bytes fits) b.1 in
+    let is_event : flag ≡ EVENT_BYTE = eqb-true _ _ g.0 in
+    let front : flag ∷ bytes ≡ (EVENT_BYTE ∷ event b.0.0) ++ b.0.1 = ap (λ (w : List ℕ). flag ∷ w) t.0.parts ∙ ap (λ (w : ℕ). w ∷ event b.0.0 ++ b.0.1) is_event in
+    subst (λ (y : MessagingPattern × List ℕ). Takes (flag ∷ bytes) (pattern y.0) y.1 × IsPattern y.0) (some_is (Event b.0.0, b.0.1) x b.2) (record { parts = front; rest_fits = t.0.rest_fits }, t.1)
 
 pattern_again : (p : MessagingPattern) (rest : List ℕ) → IsPattern p → pattern_at (pattern p ++ rest) ≡ Some (p, rest)
 unfolding pattern_at
@@ -67,16 +71,16 @@ Reads-pattern = record { takes = pattern_takes; again = pattern_again }
 
 -- ---- the whole
 
-regroup : (a b c d e : List ℕ) → a ++ (b ++ (c ++ (d ++ e))) ≡ a ++ b ++ c ++ d ++ e
-regroup a b c d e = simp append_assoc
+regroup : (a b c d e f : List ℕ) → a ++ (b ++ (c ++ (d ++ (e ++ f)))) ≡ a ++ b ++ c ++ d ++ e ++ f
+regroup a b c d e f = simp append_assoc
 
 pub Reads-description : Reads description_at description IsDescription
 unfolding description_at
-Reads-description = Reads-form _ _ description IsDescription (Reads-as description_from (λ d. (tt, (d.hash.0, (d.name, (tt, d.pattern))))) _ _ _ IsDescription (λ b. refl) (λ a. refl)
-    (λ a h. record { hash = record { twenty = h.1.0.0; bytes = h.1.0.1 }; name = h.1.1.0; pattern = h.1.1.1.1 })
-    (λ d h. (tt, ((h.hash.twenty, h.hash.bytes), (h.name, (tt, h.pattern)))))
-    (Reads-then _ _ _ _ _ _ (Reads-literal magic) (Reads-then _ _ _ _ _ _ (Reads-each_byte 20) (Reads-then _ _ _ _ _ _ (Reads-text 1 255 (omega arith)) (Reads-then _ _ _ _ _ _ (Reads-literal no_attributes) Reads-pattern)))))
-    (λ d. regroup magic d.hash.0 (text d.name) no_attributes (pattern d.pattern))
+Reads-description = Reads-form _ _ description IsDescription (Reads-as description_from (λ d. (tt, (tt, (d.hash.0, (d.name, (tt, d.pattern)))))) _ _ _ IsDescription (λ b. refl) (λ a. refl)
+    (λ a h. record { hash = record { length = h.1.1.0.0; bytes = h.1.1.0.1 }; name = h.1.1.1.0; pattern = h.1.1.1.1.1 })
+    (λ d h. (tt, (tt, ((h.hash.length, h.hash.bytes), (h.name, (tt, h.pattern))))))
+    (Reads-then _ _ _ _ _ _ (Reads-literal magic) (Reads-then _ _ _ _ _ _ (Reads-literal version) (Reads-then _ _ _ _ _ _ (Reads-each_byte HASH_LENGTH) (Reads-then _ _ _ _ _ _ (Reads-text MIN_NAME_LENGTH MAX_NAME_LENGTH (omega arith)) (Reads-then _ _ _ _ _ _ (Reads-literal no_attributes) Reads-pattern))))))
+    (λ d. regroup magic version d.hash.0 (text d.name) no_attributes (pattern d.pattern))
 
 pub all_takes : (bytes : List ℕ) (d : Description) → IsBytes bytes → all_of bytes ≡ Some d → IsForm d bytes
 unfolding all_of
@@ -96,11 +100,11 @@ all_again d fits =
 
 -- ---- what decode returns
 
-pub is_found : (bytes : List ℕ) (r : Result Description DecodeError) → IsBytes bytes → Gives (λ d. d) r (all_of bytes) → IfOk r (λ d. IsForm d bytes)
+pub is_found : (bytes : List ℕ) (r : Result Description DecodeError) → IsBytes bytes → IsReadBy (λ d. d) r (all_of bytes) → IfOk r (λ d. IsForm d bytes)
 is_found bytes (Ok d) fits given = all_takes bytes d fits given
 is_found bytes (Err e) fits given = tt
 
-pub is_only : (bytes : List ℕ) (r : Result Description DecodeError) → Gives (λ d. d) r (all_of bytes) → (d : Description) → IsForm d bytes → MatchResult r (λ found. found ≡ d) (λ e. e ≡ OutOfMemory)
+pub is_only : (bytes : List ℕ) (r : Result Description DecodeError) → IsReadBy (λ d. d) r (all_of bytes) → (d : Description) → IsForm d bytes → MatchResult r (λ found. found ≡ d) (λ e. e ≡ OutOfMemory)
 is_only bytes (Ok found) given d form = some_is found d (sym given ∙ ap all_of form.1 ∙ all_again d form.0)
 is_only bytes (Err OutOfMemory) given d form = refl
 is_only bytes (Err Malformed) given d form = absurd (none-some d (sym given ∙ ap all_of form.1 ∙ all_again d form.0))

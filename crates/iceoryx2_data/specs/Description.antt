@@ -1,12 +1,13 @@
 -- What a description is.
 use Rattle.std.specs.Prelude.{ℕ, ◌≡◌, ◌<◌, ◌^◌, List, length, All, IfSome}
+use Rattle.iceoryx2_data.specs.declared.description.TheConstants.{HASH_LENGTH}
 use Rattle.iceoryx2_data.specs.declared.description.ServiceHash.{ServiceHash}
 use Rattle.iceoryx2_data.specs.declared.description.MessagingPattern.{MessagingPattern}
 use Rattle.iceoryx2_data.specs.declared.description.MessagingPattern.TheVariants.{Event}
 use Rattle.iceoryx2_data.specs.declared.event.StaticConfig.{StaticConfig as EventConfig}
 use Rattle.iceoryx2_data.specs.declared.event.Deadline.{Deadline}
 use Rattle.iceoryx2_data.specs.Span.{IsSpan}
-use Rattle.iceoryx2_data.specs.Texts.{IsText}
+use Rattle.iceoryx2_data.specs.Texts.{IsName}
 
 -- What nodes that share a service agree on.
 pub record Description : Type 0 where
@@ -36,13 +37,13 @@ pub record IsEvent (s : EventConfig) : Type 0 where
 abbrev pub IsPattern : MessagingPattern → Type 0
 IsPattern (Event s) = IsEvent s
 
--- twenty bytes
+-- as many bytes as a hash has
 pub record IsHash (h : ServiceHash) : Type 0 where
-  pub twenty : length h.0 ≡ 20
+  pub length : length h.0 ≡ HASH_LENGTH
   pub bytes : All (λ b. b < 256) h.0
 
 -- The limits of a description.
 pub record IsDescription (d : Description) : Type 0 where
   pub hash : IsHash d.hash
-  pub name : IsText 1 255 d.name
+  pub name : IsName d.name
   pub pattern : IsPattern d.pattern

@@ -1,6 +1,7 @@
 -- The byte form of a description, part by part. All numbers are big-endian.
-use Rattle.std.specs.Prelude.{ℕ, ◌≡◌, List, [], ◌∷◌, ◌++◌, length, Option, Some, None}
+use Rattle.std.specs.Prelude.{ℕ, ◌≡◌, List, [], ◌∷◌, ◌++◌, length, codes, Option, Some, None}
 use Rattle.std.specs.Int.{w16, w32, w64, to_be_bytes}
+use Rattle.iceoryx2_data.specs.declared.bytes.TheConstants.{EVENT_BYTE}
 use Rattle.iceoryx2_data.specs.declared.description.MessagingPattern.{MessagingPattern}
 use Rattle.iceoryx2_data.specs.declared.description.MessagingPattern.TheVariants.{Event}
 use Rattle.iceoryx2_data.specs.declared.event.StaticConfig.{StaticConfig as EventConfig}
@@ -31,22 +32,27 @@ deadline d = span d.value ++ span d.creation_time
 -- the settings in the order in which they are verified
 abbrev pub event : EventConfig → List ℕ
 event s = number s.max_notifiers ++ number s.max_listeners ++ number s.event_id_max_value ++ number s.max_nodes
-    ++ option number s.notifier_created_event ++ option number s.notifier_dropped_event ++ option number s.notifier_dead_event ++ option deadline s.deadline
+    ++ option number s.notifier_created_event ++ option number s.notifier_dropped_event
+    ++ option number s.notifier_dead_event ++ option deadline s.deadline
 
 -- the pattern's byte, and its settings
 abbrev pub pattern : MessagingPattern → List ℕ
-pattern (Event s) = 1 ∷ event s
+pattern (Event s) = EVENT_BYTE ∷ event s
 
--- IOX2, and the version
+-- the letters by which the form is known
 abbrev pub magic : List ℕ
-magic = 0x49 ∷ 0x4f ∷ 0x58 ∷ 0x32 ∷ 0x01 ∷ []
+magic = codes "IOX2"
+
+-- the version of the form, so far the only one
+abbrev pub version : List ℕ
+version = 1 ∷ []
 
 -- so far no service has attributes: their count alone is written
 abbrev pub no_attributes : List ℕ
 no_attributes = to_be_bytes w16 0
 
 abbrev pub description : Description → List ℕ
-description d = magic ++ d.hash.0 ++ text d.name ++ no_attributes ++ pattern d.pattern
+description d = magic ++ version ++ d.hash.0 ++ text d.name ++ no_attributes ++ pattern d.pattern
 
 -- The bytes are the byte form of the description, nothing before them or behind.
 abbrev pub IsForm : Description → List ℕ → Type 0

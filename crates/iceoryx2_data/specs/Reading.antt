@@ -1,16 +1,20 @@
 -- Reading the byte form from left to right, part by part.
-use Rattle.std.specs.Prelude.{◌≡◌, ℕ, zero, suc, Bool, List, [], ◌∷◌, length, take, drop, Option, Some, None, Result, Ok, Err, nat_lt, ◌==◌, if◌then◌else◌, bytes_eq}
+use Rattle.std.specs.Prelude.{◌≡◌, ℕ, zero, suc, Bool, List, [], ◌∷◌, length, take, drop, bytes_eq}
+use Rattle.std.specs.Prelude.{Option, Some, None, Result, Ok, Err, nat_lt, ◌==◌, if◌then◌else◌}
 use Rattle.std.specs.Int.{Width, w16, w32, w64, byte_len, from_be_bytes}
 use Rattle.std.specs.Str.{is_utf8}
 use Rattle.iceoryx2_data.specs.declared.bytes.DecodeError.{DecodeError}
 use Rattle.iceoryx2_data.specs.declared.bytes.DecodeError.TheVariants.{Malformed, OutOfMemory}
+use Rattle.iceoryx2_data.specs.declared.bytes.TheConstants.{EVENT_BYTE}
+use Rattle.iceoryx2_data.specs.declared.description.TheConstants.{HASH_LENGTH, MIN_NAME_LENGTH, MAX_NAME_LENGTH}
+use Rattle.iceoryx2_data.specs.declared.time.TheConstants.{NANOSECONDS_PER_SECOND}
 use Rattle.iceoryx2_data.specs.declared.description.MessagingPattern.{MessagingPattern}
 use Rattle.iceoryx2_data.specs.declared.description.MessagingPattern.TheVariants.{Event}
 use Rattle.iceoryx2_data.specs.declared.event.StaticConfig.{StaticConfig as EventConfig}
 use Rattle.iceoryx2_data.specs.declared.event.Deadline.{Deadline}
 use Rattle.iceoryx2_data.specs.Span.{Span}
 use Rattle.iceoryx2_data.specs.Description.{Description}
-use Rattle.iceoryx2_data.specs.Form.{magic, no_attributes}
+use Rattle.iceoryx2_data.specs.Form.{magic, version, no_attributes}
 
 infixl 10 ◌>>=◌
 abbrev pub ◌>>=◌ : {A B : Type 0} → Option A → (A → Option B) → Option B
@@ -35,7 +39,8 @@ where_at test part bytes = part bytes >>= λ a. if test a.0 then Some a else Non
 -- ---- numbers, bytes, texts and options
 
 abbrev pub number_at : Width → Part ℕ
-number_at w bytes = if nat_lt (length bytes) (byte_len w) then None else Some (from_be_bytes w (take (byte_len w) bytes), drop (byte_len w) bytes)
+number_at w bytes = if nat_lt (length bytes) (byte_len w) then None
+    else Some (from_be_bytes w (take (byte_len w) bytes), drop (byte_len w) bytes)
 
 -- n bytes
 abbrev pub bytes_at : ℕ → Part (List ℕ)
@@ -47,7 +52,8 @@ literal_at bytes input = bytes_at (length bytes) input >>= λ t. if bytes_eq t.0
 
 -- a text of lo to hi bytes
 unfoldable pub text_at : ℕ → ℕ → Part (List ℕ)
-text_at lo hi bytes = number_at w16 bytes >>= λ n. if nat_lt n.0 lo then None else if nat_lt hi n.0 then None else bytes_at n.0 n.1 >>= λ t. if is_utf8 t.0 then Some t else None
+text_at lo hi bytes = number_at w16 bytes >>= λ n. if nat_lt n.0 lo then None else if nat_lt hi n.0 then None
+    else bytes_at n.0 n.1 >>= λ t. if is_utf8 t.0 then Some t else None
 
 unfoldable pub option_at : {A : Type 0} → Part A → Part (Option A)
 option_at part [] = None
@@ -61,7 +67,7 @@ abbrev pub span_from : ℕ × ℕ → Span
 span_from p = record { seconds = p.0; nanoseconds = p.1 }
 
 unfoldable pub span_at : Part Span
-span_at = as_at span_from (where_at (λ p. nat_lt p.1 1_000_000_000) (then_at (number_at w64) (number_at w32)))
+span_at = as_at span_from (where_at (λ p. nat_lt p.1 NANOSECONDS_PER_SECOND) (then_at (number_at w64) (number_at w32)))
 
 abbrev pub deadline_from : Span × Span → Deadline
 deadline_from p = record { value = p.0; creation_time = p.1 }
@@ -85,21 +91,26 @@ event_from p = record {
 }
 
 unfoldable pub event_at : Part EventConfig
-event_at = as_at event_from (then_at (number_at w64) (then_at (number_at w64) (then_at (number_at w64) (then_at (number_at w64) (then_at (option_at (number_at w64)) (then_at (option_at (number_at w64)) (then_at (option_at (number_at w64)) (option_at deadline_at))))))))
+event_at = as_at event_from (then_at (number_at w64) (then_at (number_at w64) (then_at (number_at w64)
+    (then_at (number_at w64) (then_at (option_at (number_at w64)) (then_at (option_at (number_at w64))
+    (then_at (option_at (number_at w64)) (option_at deadline_at))))))))
 
 -- ---- the whole
 
 unfoldable pub pattern_at : Part MessagingPattern
 pattern_at [] = None
-pattern_at (zero ∷ rest) = None
-pattern_at (suc zero ∷ rest) = event_at rest >>= λ x. Some (Event x.0, x.1)
-pattern_at (suc (suc b) ∷ rest) = None
+pattern_at (b ∷ rest) = if b == EVENT_BYTE then (event_at rest >>= λ x. Some (Event x.0, x.1)) else None
 
-abbrev pub description_from : Unit {0} × (List ℕ × (List ℕ × (Unit {0} × MessagingPattern))) → Description
-description_from p = record { hash = record { 0 = p.1.0 }; name = p.1.1.0; pattern = p.1.1.1.1 }
+abbrev pub Parts : Type 0
+Parts = Unit {0} × (Unit {0} × (List ℕ × (List ℕ × (Unit {0} × MessagingPattern))))
+
+abbrev pub description_from : Parts → Description
+description_from p = record { hash = record { 0 = p.1.1.0 }; name = p.1.1.1.0; pattern = p.1.1.1.1.1 }
 
 unfoldable pub description_at : Part Description
-description_at = as_at description_from (then_at (literal_at magic) (then_at (bytes_at 20) (then_at (text_at 1 255) (then_at (literal_at no_attributes) pattern_at))))
+description_at = as_at description_from (then_at (literal_at magic) (then_at (literal_at version)
+    (then_at (bytes_at HASH_LENGTH) (then_at (text_at MIN_NAME_LENGTH MAX_NAME_LENGTH)
+    (then_at (literal_at no_attributes) pattern_at)))))
 
 -- all of the bytes
 unfoldable pub all_of : List ℕ → Option Description
@@ -107,11 +118,12 @@ all_of bytes = description_at bytes >>= λ x. if length x.1 == 0 then Some x.0 e
 
 -- ---- what the code returns
 
--- What a function returned, seen by view, is what reading gives, unless memory ran out.
+-- Nothing is read, or memory ran out.
 abbrev pub Fails : {Y : Type 0} → DecodeError → Option Y → Type 0
 Fails Malformed read = read ≡ None
 Fails OutOfMemory read = Unit {0}
 
-abbrev pub Gives : {X Y : Type 0} → (X → Y) → Result X DecodeError → Option Y → Type 0
-Gives view (Ok x) read = read ≡ Some (view x)
-Gives view (Err e) read = Fails e read
+-- What a function returned, seen by view, is what is read, unless memory ran out.
+abbrev pub IsReadBy : {X Y : Type 0} → (X → Y) → Result X DecodeError → Option Y → Type 0
+IsReadBy view (Ok x) read = read ≡ Some (view x)
+IsReadBy view (Err e) read = Fails e read

@@ -1,5 +1,6 @@
 -- A length of time, or a point of it.
 use Rattle.std.specs.Prelude.{ℕ, ◌<◌, ◌^◌}
+use Rattle.iceoryx2_data.specs.declared.time.TheConstants.{NANOSECONDS_PER_SECOND}
 
 pub record Span : Type 0 where
   pub seconds : ℕ
@@ -10,4 +11,4 @@ zero_span = record { seconds = 0; nanoseconds = 0 }
 
 -- within the limits of both numbers
 abbrev pub IsSpan : Span → Type 0
-IsSpan s = (s.seconds < 2 ^ 64) × (s.nanoseconds < 1_000_000_000)
+IsSpan s = (s.seconds < 2 ^ 64) × (s.nanoseconds < NANOSECONDS_PER_SECOND)

@@ -6,14 +6,24 @@ ghost use Rattle.iceoryx2_data.specs.Form.{IsForm};
 ghost use Rattle.iceoryx2_data.specs.declared.bytes.DecodeError.TheVariants.{OutOfMemory};
 
 mod reading;
-#[cfg(test)]
-mod tests;
 mod writing;
 
 use crate::description::StaticConfig;
 use std::alloc::{AllocError, Global};
 use std::error::Error;
 use std::fmt;
+
+/// The four letters with which each form begins.
+pub const MAGIC: [u8; 4] = *b"IOX2";
+
+/// The version of the form, the byte behind the magic.
+pub const VERSION: u8 = 1;
+
+/// The byte that says that a service is one of events.
+pub const EVENT_BYTE: u8 = 1;
+
+/// The count of attributes. So far no service has any.
+const NO_ATTRIBUTES: [u8; 2] = [0, 0];
 
 /// Why bytes give no description.
 #[derive(Clone, Copy, Debug, PartialEq, Eq)]
@@ -64,7 +74,8 @@ pub fn decode(alloc: Global, bytes: &[u8]) -> Result<StaticConfig, DecodeError>
     ensures found { IfOk result (λ d. IsForm d bytes.now) }
 
     // The description of the bytes is found, unless memory runs out.
-    ensures only { (d : Description) → IsForm d bytes.now → MatchResult result (λ found. found ≡ d) (λ e. e ≡ OutOfMemory) }
+    ensures only { (d : Description)
+        → IsForm d bytes.now → MatchResult result (λ found. found ≡ d) (λ e. e ≡ OutOfMemory) }
 {
     reading::all(alloc, bytes)
 }
@@ -78,11 +89,14 @@ pub fn laws()
     ensures bytes { (d : Description) (bytes : List ℕ) → IsForm d bytes → All (λ b. b < 256) bytes }
 
     // and the only one.
-    ensures only_form { (d : Description) (bytes other : List ℕ) → IsForm d bytes → IsForm d other → bytes ≡ other }
+    ensures only_form { (d : Description) (bytes other : List ℕ)
+        → IsForm d bytes → IsForm d other → bytes ≡ other }
 
     // Bytes are the form of one description at most,
-    ensures only_description { (bytes : List ℕ) (c d : Description) → IsForm c bytes → IsForm d bytes → c ≡ d }
+    ensures only_description { (bytes : List ℕ) (c d : Description)
+        → IsForm c bytes → IsForm d bytes → c ≡ d }
 
     // and none of them is the front of a longer form.
-    ensures no_front { (bytes rest : List ℕ) (c d : Description) → IsForm c bytes → IsForm d (bytes ++ rest) → rest ≡ [] }
+    ensures no_front { (bytes rest : List ℕ) (c d : Description)
+        → IsForm c bytes → IsForm d (bytes ++ rest) → rest ≡ [] }
 {}

@@ -1,14 +1,24 @@
 //! What nodes that share a service agree on.
 
-ghost use Rattle.std.specs.Prelude.{◌≡◌, ◌<◌, ◌≤◌, ◌↔◌, ◌⊎◌, IfOk, OnOk, IsTrue, All, length, string_bytes};
-ghost use Rattle.iceoryx2_data.specs.Texts.{IsText};
+ghost use Rattle.std.specs.Prelude.{◌≡◌, ◌<◌, ◌≤◌, ◌↔◌, ◌⊎◌, Err, IfOk, OnOk, IsTrue, All, length, string_bytes};
 ghost use Rattle.hex.specs.Hex.{encode_lower};
-ghost use Rattle.std.specs.Prelude.{Err};
+ghost use Rattle.iceoryx2_data.specs.Texts.{IsName};
 ghost use Rattle.iceoryx2_data.specs.Description.{IsHash, IsPattern};
 
 use crate::event;
 use std::alloc::{AllocError, Global};
+use std::error::Error;
+use std::fmt;
 use std::marker::Model;
+
+/// The length of a hash, in bytes.
+pub const HASH_LENGTH: usize = 20;
+
+/// The length of the shortest name, in bytes.
+pub const MIN_NAME_LENGTH: usize = 1;
+
+/// The length of the longest name, in bytes.
+pub const MAX_NAME_LENGTH: usize = 255;
 
 /// A service's name: 1 to 255 bytes of UTF-8.
 #[derive(Debug, Drop)]
@@ -18,13 +28,13 @@ pub struct ServiceName {
 
 impl Model for ServiceName {
     ghost use Rattle.std.specs.Prelude.{List, ℕ, string_bytes};
-    ghost use Rattle.iceoryx2_data.specs.Texts.{IsText};
+    ghost use Rattle.iceoryx2_data.specs.Texts.{IsName};
 
     ghost Value = { List ℕ };
 
     ghost view = { λ name. string_bytes name.text };
 
-    ghost invariant = { λ name. IsText 1 255 (string_bytes name.text) };
+    ghost invariant = { λ name. IsName (string_bytes name.text) };
 }
 
 /// Why a text is no service's name.
@@ -36,15 +46,32 @@ pub enum ServiceNameError {
     OutOfMemory,
 }
 
+impl fmt::Display for ServiceNameError {
+    ghost use Rattle.std.specs.Prelude.{Some};
+    ghost use Rattle.iceoryx2_data.specs.Errors.{service_name_error_text};
+
+    ghost output = { λ error. Some (service_name_error_text error) };
+
+    fn fmt<W: fmt::Write>(&self, f: &mut fmt::Formatter<W>) -> fmt::Result {
+        match self {
+            ServiceNameError::Length => write!(f, "a service's name has 1 to 255 bytes"),
+            ServiceNameError::OutOfMemory => write!(f, "out of memory"),
+        }
+    }
+}
+
+impl Error for ServiceNameError {}
+
 impl ServiceName {
     /// A copy of the text as a name. `Length` where it has no byte or more than 255, which is
     /// tested first, and `OutOfMemory` where the copy found no memory.
     #[tactic(auto, using(crate::proofs::Utf8::is_text))]
     pub fn new(alloc: Global, text: &str) -> Result<ServiceName, ServiceNameError>
         ensures name { IfOk result (λ name. name ≡ text.now) }
-        ensures length { (result ≡ Err ServiceNameError.Length) ↔ ((length text.now ≡ 0) ⊎ (255 < length text.now)) }
+        ensures length { (result ≡ Err ServiceNameError.Length)
+            ↔ ((length text.now < MIN_NAME_LENGTH) ⊎ (MAX_NAME_LENGTH < length text.now)) }
     {
-        if text.is_empty() || text.len() > 255 {
+        if text.len() < MIN_NAME_LENGTH || text.len() > MAX_NAME_LENGTH {
             return Err(ServiceNameError::Length);
         }
         match String::from_str(alloc, text) {
@@ -55,17 +82,49 @@ impl ServiceName {
 
     /// A name of a text that has its length already.
     pub(crate) fn from_text(text: String) -> ServiceName
-        requires { IsText 1 255 (string_bytes text) }
+        requires { IsName (string_bytes text) }
         ensures { result ≡ string_bytes text }
     {
         ServiceName { text }
     }
 
+    /// The name as a text.
     pub fn as_str(&self) -> &str
         ensures value { result.now ≡ self.now }
-        ensures text { IsText 1 255 self.now }
+        ensures text { IsName self.now }
     {
         &self.text
+    }
+}
+
+impl PartialEq for ServiceName {
+    ghost use Rattle.std.specs.Prelude.{bytes_eq};
+    ghost use Rattle.std.proofs.Common.{rules};
+    ghost use Rattle.std.specs.Cmp.Rules.{comparing};
+
+    ghost eq = { bytes_eq };
+
+    ghost laws = { Prim.search (comparing, rules) };
+
+    fn eq(&self, other: &ServiceName) -> bool {
+        self.as_str() == other.as_str()
+    }
+}
+
+impl Eq for ServiceName {
+    ghost use Rattle.std.proofs.Common.{rules};
+    ghost use Rattle.std.specs.Cmp.Rules.{comparing};
+
+    ghost laws = { Prim.search (comparing, rules) };
+}
+
+impl fmt::Display for ServiceName {
+    ghost use Rattle.std.specs.Prelude.{Some};
+
+    ghost output = { λ name. Some name };
+
+    fn fmt<W: fmt::Write>(&self, f: &mut fmt::Formatter<W>) -> fmt::Result {
+        write!(f, "{}", self.as_str())
     }
 }
 
@@ -81,7 +140,7 @@ impl Clone for ServiceName {
 
 /// The hash by which a service is found.
 #[derive(Clone, Copy, Debug, PartialEq, Eq, PartialOrd, Ord)]
-pub struct ServiceHash(pub [u8; 20]);
+pub struct ServiceHash(pub [u8; HASH_LENGTH]);
 
 impl ServiceHash {
     /// The hash in 40 hexadecimal digits, in lower case.
@@ -104,6 +163,7 @@ impl ServiceHash {
 /// A service's pattern with its settings.
 #[derive(Clone, Copy, Debug, PartialEq, Eq)]
 pub enum MessagingPattern {
+    /// A service of events.
     Event(event::StaticConfig),
 }
 
@@ -138,7 +198,7 @@ fn pattern_fits(pattern: &MessagingPattern)
 
 /// What nodes that share a service agree on: its hash, its name, and its pattern with the
 /// settings.
-#[derive(Debug, Drop)]
+#[derive(Debug, Drop, PartialEq, Eq)]
 pub struct StaticConfig {
     hash: ServiceHash,
     name: ServiceName,
@@ -155,11 +215,14 @@ impl Model for StaticConfig {
     ghost use Rattle.iceoryx2_data.specs.Description.{IsDescription};
 
     ghost invariant = { λ d. IsDescription (record { hash = d.hash; name = d.name; pattern = d.pattern }) };
+
+    ghost inverse = { λ d. record { hash = d.hash; name = d.name; pattern = d.pattern } };
 }
 
 impl StaticConfig {
     ghost use Rattle.iceoryx2_data.specs.Description.{IsDescription, max_nodes_of};
 
+    /// The description of these parts.
     pub fn new(hash: ServiceHash, name: ServiceName, pattern: MessagingPattern) -> StaticConfig
         ensures value { result ≡ (record { hash = hash; name = name; pattern = pattern }) }
         ensures limits { IsDescription result }
@@ -174,6 +237,7 @@ impl StaticConfig {
         }
     }
 
+    /// The hash by which the service is found.
     pub fn service_hash(&self) -> &ServiceHash
         ensures value { result.now ≡ self.now.hash }
         ensures limits { IsDescription self.now }
@@ -181,6 +245,7 @@ impl StaticConfig {
         &self.hash
     }
 
+    /// The service's name.
     pub fn name(&self) -> &ServiceName
         ensures value { result.now ≡ self.now.name }
         ensures limits { IsDescription self.now }
@@ -188,6 +253,7 @@ impl StaticConfig {
         &self.name
     }
 
+    /// The service's pattern with its settings.
     pub fn messaging_pattern(&self) -> &MessagingPattern
         ensures value { result.now ≡ self.now.pattern }
         ensures limits { IsDescription self.now }

@@ -7,7 +7,7 @@ use crate::time::{Duration, Time};
 use std::marker::Model;
 
 /// The number of an event.
-#[derive(Clone, Copy, Debug, PartialEq, Eq)]
+#[derive(Clone, Copy, Debug, PartialEq, Eq, PartialOrd, Ord)]
 pub struct EventId {
     value: u64,
 }
@@ -23,12 +23,14 @@ impl Model for EventId {
 }
 
 impl EventId {
+    /// The event of this number.
     pub fn new(value: u64) -> EventId
         ensures { result ≡ value }
     {
         EventId { value }
     }
 
+    /// The event's number.
     pub fn as_value(&self) -> u64
         ensures value { result ≡ self.now }
         ensures below { result < 2 ^ 64 }
@@ -40,17 +42,22 @@ impl EventId {
 /// Within what time a notifier has to notify again, and when the service was created.
 #[derive(Clone, Copy, Debug, PartialEq, Eq)]
 pub struct Deadline {
+    /// Within what time a notifier has to notify again.
     pub value: Duration,
+    /// When the service was created.
     pub creation_time: Time,
 }
 
 /// The settings of a service of events, in the order in which they are verified and written.
 #[derive(Clone, Copy, Debug, PartialEq, Eq)]
 pub struct StaticConfig {
+    /// For how many notifiers the service is.
     pub max_notifiers: u64,
+    /// For how many listeners the service is.
     pub max_listeners: u64,
     /// The greatest number that an event may have.
     pub event_id_max_value: u64,
+    /// For how many nodes the service is.
     pub max_nodes: u64,
     /// What is sent when a notifier is created, where something is.
     pub notifier_created_event: Option<EventId>,
@@ -58,6 +65,7 @@ pub struct StaticConfig {
     pub notifier_dropped_event: Option<EventId>,
     /// What is sent for a notifier whose process died, where something is.
     pub notifier_dead_event: Option<EventId>,
+    /// Within what time a notifier has to notify again, where it has to.
     pub deadline: Option<Deadline>,
 }
 

@@ -5,6 +5,4 @@ pub mod bytes;
 pub mod config;
 pub mod description;
 pub mod event;
-#[cfg(test)]
-mod tests;
 pub mod time;

@@ -1,12 +1,15 @@
 //! Lengths of time and points of it.
 
-ghost use Rattle.std.specs.Prelude.{◌≡◌, ◌<◌, ◌≤◌, ◌^◌, MatchOption};
+ghost use Rattle.std.specs.Prelude.{◌≡◌, ◌<◌, ◌≤◌, ◌^◌, IfSome, MatchOption};
 ghost use Rattle.iceoryx2_data.specs.Span.{Span, zero_span};
 
 use std::marker::Model;
 
+/// How many nanoseconds a second has.
+pub const NANOSECONDS_PER_SECOND: u32 = 1_000_000_000;
+
 /// A length of time: seconds, and fewer than 1,000,000,000 nanoseconds.
-#[derive(Clone, Copy, Debug, PartialEq, Eq)]
+#[derive(Clone, Copy, Debug, PartialEq, Eq, PartialOrd, Ord)]
 pub struct Duration {
     seconds: u64,
     nanoseconds: u32,
@@ -15,12 +18,13 @@ pub struct Duration {
 impl Model for Duration {
     ghost use Rattle.std.specs.Prelude.{◌<◌};
     ghost use Rattle.iceoryx2_data.specs.Span.{Span};
+    ghost use Rattle.iceoryx2_data.specs.declared.time.TheConstants.{NANOSECONDS_PER_SECOND};
 
     ghost Value = { Span };
 
     ghost view = { λ d. record { seconds = d.seconds; nanoseconds = d.nanoseconds } };
 
-    ghost invariant = { λ d. d.nanoseconds < 1_000_000_000 };
+    ghost invariant = { λ d. d.nanoseconds < NANOSECONDS_PER_SECOND };
 
     ghost inverse = { λ s. record { seconds = s.seconds; nanoseconds = s.nanoseconds } };
 }
@@ -28,9 +32,11 @@ impl Model for Duration {
 impl Duration {
     /// A length of time, or `None` from 1,000,000,000 nanoseconds on.
     pub fn new(seconds: u64, nanoseconds: u32) -> Option<Duration>
-        ensures { MatchOption result (1_000_000_000 ≤ nanoseconds) (λ d. (d.seconds ≡ seconds) × (d.nanoseconds ≡ nanoseconds) × (nanoseconds < 1_000_000_000)) }
+        ensures value { IfSome result (λ d. (d.seconds ≡ seconds) × (d.nanoseconds ≡ nanoseconds)) }
+        ensures limit { MatchOption result (NANOSECONDS_PER_SECOND ≤ nanoseconds)
+            (λ _. nanoseconds < NANOSECONDS_PER_SECOND) }
     {
-        if nanoseconds < 1_000_000_000 {
+        if nanoseconds < NANOSECONDS_PER_SECOND {
             Some(Duration {
                 seconds,
                 nanoseconds,
@@ -51,14 +57,14 @@ impl Duration {
     /// The nanoseconds beside the seconds, below 1,000,000,000.
     pub fn nanoseconds(&self) -> u32
         ensures value { result ≡ self.now.nanoseconds }
-        ensures below { result < 1_000_000_000 }
+        ensures below { result < NANOSECONDS_PER_SECOND }
     {
         self.nanoseconds
     }
 }
 
 /// A point of time: seconds, and fewer than 1,000,000,000 nanoseconds.
-#[derive(Clone, Copy, Debug, PartialEq, Eq)]
+#[derive(Clone, Copy, Debug, PartialEq, Eq, PartialOrd, Ord)]
 pub struct Time {
     seconds: u64,
     nanoseconds: u32,
@@ -67,12 +73,13 @@ pub struct Time {
 impl Model for Time {
     ghost use Rattle.std.specs.Prelude.{◌<◌};
     ghost use Rattle.iceoryx2_data.specs.Span.{Span};
+    ghost use Rattle.iceoryx2_data.specs.declared.time.TheConstants.{NANOSECONDS_PER_SECOND};
 
     ghost Value = { Span };
 
     ghost view = { λ d. record { seconds = d.seconds; nanoseconds = d.nanoseconds } };
 
-    ghost invariant = { λ d. d.nanoseconds < 1_000_000_000 };
+    ghost invariant = { λ d. d.nanoseconds < NANOSECONDS_PER_SECOND };
 
     ghost inverse = { λ s. record { seconds = s.seconds; nanoseconds = s.nanoseconds } };
 }
@@ -80,7 +87,9 @@ impl Model for Time {
 impl Time {
     /// A point of time, or `None` from 1,000,000,000 nanoseconds on.
     pub fn new(seconds: u64, nanoseconds: u32) -> Option<Time>
-        ensures { MatchOption result (1_000_000_000 ≤ nanoseconds) (λ d. (d.seconds ≡ seconds) × (d.nanoseconds ≡ nanoseconds) × (nanoseconds < 1_000_000_000)) }
+        ensures value { IfSome result (λ t. (t.seconds ≡ seconds) × (t.nanoseconds ≡ nanoseconds)) }
+        ensures limit { MatchOption result (NANOSECONDS_PER_SECOND ≤ nanoseconds)
+            (λ _. nanoseconds < NANOSECONDS_PER_SECOND) }
     {
         let since_zero = Duration::new(seconds, nanoseconds)?;
         Some(Time {
@@ -100,7 +109,7 @@ impl Time {
     /// The nanoseconds beside the seconds, below 1,000,000,000.
     pub fn nanoseconds(&self) -> u32
         ensures value { result ≡ self.now.nanoseconds }
-        ensures below { result < 1_000_000_000 }
+        ensures below { result < NANOSECONDS_PER_SECOND }
     {
         self.nanoseconds
     }

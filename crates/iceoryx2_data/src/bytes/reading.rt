@@ -5,17 +5,21 @@ ghost use Rattle.std.specs.Int.{w16, w32, w64};
 ghost use Rattle.std.specs.Str.{is_utf8};
 ghost use Rattle.iceoryx2_data.specs.declared.bytes.DecodeError.TheVariants.{Malformed};
 ghost use Rattle.iceoryx2_data.specs.Texts.{IsText};
-ghost use Rattle.iceoryx2_data.specs.Reading.{Gives, number_at, bytes_at, literal_at, text_at, option_at, span_at, deadline_at, event_at, pattern_at, description_at, all_of};
+ghost use Rattle.iceoryx2_data.specs.Reading.{IsReadBy, number_at, bytes_at, literal_at, text_at, option_at, span_at};
+ghost use Rattle.iceoryx2_data.specs.Reading.{deadline_at, event_at, pattern_at, description_at, all_of};
 
-use super::DecodeError;
-use crate::description::{MessagingPattern, ServiceHash, ServiceName, StaticConfig};
+use super::{DecodeError, EVENT_BYTE, MAGIC, NO_ATTRIBUTES, VERSION};
+use crate::description::{
+    HASH_LENGTH, MAX_NAME_LENGTH, MIN_NAME_LENGTH, MessagingPattern, ServiceHash, ServiceName,
+    StaticConfig,
+};
 use crate::event;
 use crate::event::{Deadline, EventId};
 use crate::time::{Duration, Time};
 use std::alloc::Global;
 
 fn u16_at(bytes: &[u8]) -> Result<(u16, &[u8]), DecodeError>
-    ensures { Gives (λ x. (x.0, x.1.now)) result (number_at w16 bytes.now) }
+    ensures { IsReadBy (λ x. (x.0, x.1.now)) result (number_at w16 bytes.now) }
 {
     if bytes.len() < 2 {
         return Err(DecodeError::Malformed);
@@ -26,7 +30,7 @@ fn u16_at(bytes: &[u8]) -> Result<(u16, &[u8]), DecodeError>
 }
 
 fn u32_at(bytes: &[u8]) -> Result<(u32, &[u8]), DecodeError>
-    ensures { Gives (λ x. (x.0, x.1.now)) result (number_at w32 bytes.now) }
+    ensures { IsReadBy (λ x. (x.0, x.1.now)) result (number_at w32 bytes.now) }
 {
     if bytes.len() < 4 {
         return Err(DecodeError::Malformed);
@@ -37,7 +41,7 @@ fn u32_at(bytes: &[u8]) -> Result<(u32, &[u8]), DecodeError>
 }
 
 fn u64_at(bytes: &[u8]) -> Result<(u64, &[u8]), DecodeError>
-    ensures { Gives (λ x. (x.0, x.1.now)) result (number_at w64 bytes.now) }
+    ensures { IsReadBy (λ x. (x.0, x.1.now)) result (number_at w64 bytes.now) }
 {
     if bytes.len() < 8 {
         return Err(DecodeError::Malformed);
@@ -50,7 +54,7 @@ fn u64_at(bytes: &[u8]) -> Result<(u64, &[u8]), DecodeError>
 }
 
 fn bytes_of(len: usize, bytes: &[u8]) -> Result<(&[u8], &[u8]), DecodeError>
-    ensures parts { Gives (λ x. (x.0.now, x.1.now)) result (bytes_at len bytes.now) }
+    ensures parts { IsReadBy (λ x. (x.0.now, x.1.now)) result (bytes_at len bytes.now) }
     ensures front { IfOk result (λ x. length x.0.now ≡ len) }
 {
     if bytes.len() < len {
@@ -61,7 +65,7 @@ fn bytes_of(len: usize, bytes: &[u8]) -> Result<(&[u8], &[u8]), DecodeError>
 
 #[tactic(auto, unfolding(crate::specs::Reading::literal_at))]
 fn literal_of<'a>(literal: &[u8], bytes: &'a [u8]) -> Result<&'a [u8], DecodeError>
-    ensures { Gives (λ x. (tt, x.now)) result (literal_at literal.now bytes.now) }
+    ensures { IsReadBy (λ x. (tt, x.now)) result (literal_at literal.now bytes.now) }
 {
     let (front, rest) = bytes_of(literal.len(), bytes)?;
     if front != literal {
@@ -73,7 +77,9 @@ fn literal_of<'a>(literal: &[u8], bytes: &'a [u8]) -> Result<&'a [u8], DecodeErr
 /// The bytes as a text, if they are UTF-8.
 #[tactic(auto, using(crate::proofs::Utf8::is_text, crate::proofs::Utf8::not_utf8))]
 fn utf8_of(bytes: &[u8]) -> Result<&str, DecodeError>
-    ensures { MatchResult result (λ s. (s.now ≡ bytes.now) × (is_utf8 bytes.now ≡ true)) (λ e. (e ≡ Malformed) × (is_utf8 bytes.now ≡ false)) }
+    ensures { MatchResult result
+        (λ s. (s.now ≡ bytes.now) × (is_utf8 bytes.now ≡ true))
+        (λ e. (e ≡ Malformed) × (is_utf8 bytes.now ≡ false)) }
 {
     match std::str::from_utf8(bytes) {
         Ok(text) => Ok(text),
@@ -82,25 +88,31 @@ fn utf8_of(bytes: &[u8]) -> Result<&str, DecodeError>
 }
 
 #[tactic(auto, unfolding(crate::specs::Reading::text_at))]
-fn text_of(alloc: Global, lo: u16, hi: u16, bytes: &[u8]) -> Result<(String, &[u8]), DecodeError>
-    ensures text { Gives (λ x. (string_bytes x.0, x.1.now)) result (text_at lo hi bytes.now) }
+fn text_of(
+    alloc: Global,
+    lo: usize,
+    hi: usize,
+    bytes: &[u8],
+) -> Result<(String, &[u8]), DecodeError>
+    ensures text { IsReadBy (λ x. (string_bytes x.0, x.1.now)) result (text_at lo hi bytes.now) }
     ensures limits { IfOk result (λ x. IsText lo hi (string_bytes x.0)) }
 {
     let (len, rest) = u16_at(bytes)?;
+    let len = len as usize;
     if len < lo {
         return Err(DecodeError::Malformed);
     }
     if hi < len {
         return Err(DecodeError::Malformed);
     }
-    let (front, rest) = bytes_of(len as usize, rest)?;
+    let (front, rest) = bytes_of(len, rest)?;
     let text = utf8_of(front)?;
     Ok((String::from_str(alloc, text)?, rest))
 }
 
 #[tactic(auto, unfolding(crate::specs::Reading::option_at))]
 fn id_of(bytes: &[u8]) -> Result<(Option<EventId>, &[u8]), DecodeError>
-    ensures { Gives (λ x. (x.0, x.1.now)) result (option_at (number_at w64) bytes.now) }
+    ensures { IsReadBy (λ x. (x.0, x.1.now)) result (option_at (number_at w64) bytes.now) }
 {
     match bytes {
         [] => Err(DecodeError::Malformed),
@@ -115,7 +127,7 @@ fn id_of(bytes: &[u8]) -> Result<(Option<EventId>, &[u8]), DecodeError>
 
 #[tactic(auto, unfolding(crate::specs::Reading::span_at))]
 fn duration_of(bytes: &[u8]) -> Result<(Duration, &[u8]), DecodeError>
-    ensures { Gives (λ x. (x.0, x.1.now)) result (span_at bytes.now) }
+    ensures { IsReadBy (λ x. (x.0, x.1.now)) result (span_at bytes.now) }
 {
     let (seconds, rest) = u64_at(bytes)?;
     let (nanoseconds, rest) = u32_at(rest)?;
@@ -127,7 +139,7 @@ fn duration_of(bytes: &[u8]) -> Result<(Duration, &[u8]), DecodeError>
 
 #[tactic(auto, unfolding(crate::specs::Reading::span_at))]
 fn time_of(bytes: &[u8]) -> Result<(Time, &[u8]), DecodeError>
-    ensures { Gives (λ x. (x.0, x.1.now)) result (span_at bytes.now) }
+    ensures { IsReadBy (λ x. (x.0, x.1.now)) result (span_at bytes.now) }
 {
     let (seconds, rest) = u64_at(bytes)?;
     let (nanoseconds, rest) = u32_at(rest)?;
@@ -139,7 +151,7 @@ fn time_of(bytes: &[u8]) -> Result<(Time, &[u8]), DecodeError>
 
 #[tactic(auto, unfolding(crate::specs::Reading::deadline_at))]
 fn deadline_of(bytes: &[u8]) -> Result<(Deadline, &[u8]), DecodeError>
-    ensures { Gives (λ x. (x.0, x.1.now)) result (deadline_at bytes.now) }
+    ensures { IsReadBy (λ x. (x.0, x.1.now)) result (deadline_at bytes.now) }
 {
     let (value, rest) = match duration_of(bytes) {
         Err(error) => return Err(error),
@@ -160,7 +172,7 @@ fn deadline_of(bytes: &[u8]) -> Result<(Deadline, &[u8]), DecodeError>
 
 #[tactic(auto, unfolding(crate::specs::Reading::option_at))]
 fn optional_deadline_of(bytes: &[u8]) -> Result<(Option<Deadline>, &[u8]), DecodeError>
-    ensures { Gives (λ x. (x.0, x.1.now)) result (option_at deadline_at bytes.now) }
+    ensures { IsReadBy (λ x. (x.0, x.1.now)) result (option_at deadline_at bytes.now) }
 {
     match bytes {
         [] => Err(DecodeError::Malformed),
@@ -175,7 +187,7 @@ fn optional_deadline_of(bytes: &[u8]) -> Result<(Option<Deadline>, &[u8]), Decod
 
 #[tactic(auto, unfolding(crate::specs::Reading::event_at))]
 fn event_of(bytes: &[u8]) -> Result<(event::StaticConfig, &[u8]), DecodeError>
-    ensures { Gives (λ x. (x.0, x.1.now)) result (event_at bytes.now) }
+    ensures { IsReadBy (λ x. (x.0, x.1.now)) result (event_at bytes.now) }
 {
     let (max_notifiers, rest) = u64_at(bytes)?;
     let (max_listeners, rest) = u64_at(rest)?;
@@ -214,11 +226,11 @@ fn event_of(bytes: &[u8]) -> Result<(event::StaticConfig, &[u8]), DecodeError>
 
 #[tactic(auto, unfolding(crate::specs::Reading::pattern_at))]
 fn pattern_of(bytes: &[u8]) -> Result<(MessagingPattern, &[u8]), DecodeError>
-    ensures { Gives (λ x. (x.0, x.1.now)) result (pattern_at bytes.now) }
+    ensures { IsReadBy (λ x. (x.0, x.1.now)) result (pattern_at bytes.now) }
 {
     match bytes {
         [] => Err(DecodeError::Malformed),
-        [1, rest @ ..] => match event_of(rest) {
+        [EVENT_BYTE, rest @ ..] => match event_of(rest) {
             Err(error) => Err(error),
             Ok((settings, rest)) => Ok((MessagingPattern::Event(settings), rest)),
         },
@@ -227,32 +239,33 @@ fn pattern_of(bytes: &[u8]) -> Result<(MessagingPattern, &[u8]), DecodeError>
 }
 
 fn hash_of(bytes: &[u8]) -> Result<(ServiceHash, &[u8]), DecodeError>
-    ensures { Gives (λ x. (x.0.0, x.1.now)) result (bytes_at 20 bytes.now) }
+    ensures { IsReadBy (λ x. (x.0.0, x.1.now)) result (bytes_at HASH_LENGTH bytes.now) }
 {
-    let (front, rest) = bytes_of(20, bytes)?;
-    let mut hash = [0; 20];
+    let (front, rest) = bytes_of(HASH_LENGTH, bytes)?;
+    let mut hash = [0; HASH_LENGTH];
     hash.copy_from_slice(front);
     Ok((ServiceHash(hash), rest))
 }
 
 fn name_of(alloc: Global, bytes: &[u8]) -> Result<(ServiceName, &[u8]), DecodeError>
-    ensures { Gives (λ x. (x.0, x.1.now)) result (text_at 1 255 bytes.now) }
+    ensures { IsReadBy (λ x. (x.0, x.1.now)) result (text_at MIN_NAME_LENGTH MAX_NAME_LENGTH bytes.now) }
 {
-    let (text, rest) = text_of(alloc, 1, 255, bytes)?;
+    let (text, rest) = text_of(alloc, MIN_NAME_LENGTH, MAX_NAME_LENGTH, bytes)?;
     Ok((ServiceName::from_text(text), rest))
 }
 
 #[tactic(auto, unfolding(crate::specs::Reading::description_at))]
 fn description_of(alloc: Global, bytes: &[u8]) -> Result<(StaticConfig, &[u8]), DecodeError>
-    ensures { Gives (λ x. (x.0, x.1.now)) result (description_at bytes.now) }
+    ensures { IsReadBy (λ x. (x.0, x.1.now)) result (description_at bytes.now) }
 {
-    let rest = literal_of(&[0x49, 0x4f, 0x58, 0x32, 0x01], bytes)?;
+    let rest = literal_of(&MAGIC, bytes)?;
+    let rest = literal_of(&[VERSION], rest)?;
     let (hash, rest) = hash_of(rest)?;
     let (name, rest) = match name_of(alloc, rest) {
         Err(error) => return Err(error),
         Ok(found) => found,
     };
-    let rest = match literal_of(&[0, 0], rest) {
+    let rest = match literal_of(&NO_ATTRIBUTES, rest) {
         Err(error) => return Err(error),
         Ok(found) => found,
     };
@@ -266,7 +279,7 @@ fn description_of(alloc: Global, bytes: &[u8]) -> Result<(StaticConfig, &[u8]), 
 /// The description that all of the bytes are.
 #[tactic(auto, unfolding(crate::specs::Reading::all_of))]
 pub fn all(alloc: Global, bytes: &[u8]) -> Result<StaticConfig, DecodeError>
-    ensures { Gives (λ d. d) result (all_of bytes.now) }
+    ensures { IsReadBy (λ d. d) result (all_of bytes.now) }
 {
     match description_of(alloc, bytes) {
         Err(error) => Err(error),

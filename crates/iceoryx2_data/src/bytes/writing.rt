@@ -4,6 +4,7 @@ ghost use Rattle.std.specs.Prelude.{◌≡◌, ◌<◌, ◌^◌, ◌++◌, lengt
 ghost use Rattle.iceoryx2_data.specs.Description.{IsDescription};
 ghost use Rattle.iceoryx2_data.specs.Form as form;
 
+use super::{EVENT_BYTE, MAGIC, NO_ATTRIBUTES, VERSION};
 use crate::description::{MessagingPattern, StaticConfig};
 use crate::event;
 use crate::event::{Deadline, EventId};
@@ -79,7 +80,7 @@ fn put_optional_deadline(out: &mut Vec<u8>, deadline: Option<Deadline>) -> Resul
 fn put_event(out: &mut Vec<u8>, settings: &event::StaticConfig) -> Result<(), AllocError>
     ensures { OnOk result (out.new.items ≡ out.old.items ++ form.pattern (MessagingPattern.Event settings.now)) }
 {
-    out.push(1)?;
+    out.push(EVENT_BYTE)?;
     put_number(out, settings.max_notifiers)?;
     put_number(out, settings.max_listeners)?;
     put_number(out, settings.event_id_max_value)?;
@@ -104,10 +105,11 @@ pub fn put_description(out: &mut Vec<u8>, description: &StaticConfig) -> Result<
     ensures form { OnOk result (out.new.items ≡ out.old.items ++ form.description description.now) }
     ensures limits { OnOk result (IsDescription description.now) }
 {
-    out.extend_from_slice(&[0x49, 0x4f, 0x58, 0x32, 0x01])?;
+    out.extend_from_slice(&MAGIC)?;
+    out.push(VERSION)?;
     out.extend_from_slice(description.service_hash().as_bytes())?;
     put_text(out, description.name().as_str())?;
-    out.extend_from_slice(&[0, 0])?;
+    out.extend_from_slice(&NO_ATTRIBUTES)?;
     put_pattern(out, description.messaging_pattern())?;
     Ok(())
 }

@@ -1,0 +1,7 @@
+//! Tests of names, settings and the byte form, with values from outside the program.
+#![tactic(auto)]
+
+#[cfg(test)]
+mod descriptions;
+#[cfg(test)]
+mod forms;
