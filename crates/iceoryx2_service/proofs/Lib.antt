@@ -4,3 +4,4 @@ pub mod Setters
 pub mod Commands
 pub mod Finishing
 pub mod Finished
+pub mod Words

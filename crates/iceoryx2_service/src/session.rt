@@ -46,13 +46,14 @@ fn with_settings(mut builder: Builder<Local>, settings: &[EventSetting]) -> Buil
 }
 
 /// The builder call of a command for a service of events.
+#[tactic(auto, using(crate::proofs::Words::joins_of_worlds))]
 fn call_event(
     builder: Builder<Local>,
     how: How,
     now: Result<Time, ClockFault>,
     table: &mut Table,
 ) -> Result<PortFactory<Local>, Refusal>
-    ensures { Builds builder how now table.old result table.new }
+    ensures { Builds builder how now table.old.world result table.new.world }
 {
     match how {
         How::Create => match builder.create(table, now) {
@@ -68,7 +69,7 @@ fn call_event(
 
 /// The builder call of a command.
 fn build(config: Config, call: Call, table: &mut Table) -> Result<PortFactory<Local>, Refusal>
-    ensures { Builds (request config call) call.how call.now table.old result table.new }
+    ensures { Builds (request config call) call.how call.now table.old.world result table.new.world }
 {
     let Call {
         how,
@@ -88,8 +89,9 @@ fn build(config: Config, call: Call, table: &mut Table) -> Result<PortFactory<Lo
 }
 
 /// Closes what a slot held.
+#[tactic(auto, using(crate::proofs::Words::joins_of_worlds))]
 fn close(held: Held, table: &mut Table)
-    ensures { HeldCloses table.old held table.new }
+    ensures { HeldCloses table.old.world held table.new.world }
 {
     match held {
         Held::Event(factory) => match factory.close(table) {
@@ -108,7 +110,7 @@ fn close(held: Held, table: &mut Table)
 fn close_slot(slots: &mut Slots, slot: usize, table: &mut Table)
     requires { slot < 64 }
     ensures after { slots.new ≡ slice_set slots.old slot None }
-    ensures closed { SlotCloses table.old slots.old slot table.new }
+    ensures closed { SlotCloses table.old.world slots.old slot table.new.world }
 {
     match slots.take(slot) {
         Some(held) => return close(held, table),
@@ -125,7 +127,7 @@ impl Session {
 
     /// A session whose nodes have this configuration. All its slots are free.
     pub fn new(config: Config, table: Table) -> Session
-        ensures { state_of result ≡ record { config = config; world = table; slots = replicate 64 None } }
+        ensures { state_of result ≡ record { config = config; world = table.world; slots = replicate 64 None } }
     {
         Session {
             config,
@@ -187,7 +189,7 @@ impl Session {
 
     /// The table, for its readers.
     pub fn table(&self) -> &Table
-        ensures { result.now ≡ (state_of self.now).world }
+        ensures { result.now.world ≡ (state_of self.now).world }
     {
         &self.table
     }
@@ -195,10 +197,10 @@ impl Session {
     /// Closes the factories of all slots, in ascending order, and gives the table back.
     pub fn finish(self) -> Table
         // Over any table each is closed along a word of close.
-        ensures closes { ClosesAll (state_of self).world (state_of self).slots result }
+        ensures closes { ClosesAll (state_of self).world (state_of self).slots result.world }
 
         // Over a table that nobody else uses each close is Ok, so no factory comes back.
-        ensures quiet { (q : Quiet) → IsQuiet (state_of self) q → IsFinished (state_of self).world (state_of self).slots result }
+        ensures quiet { (q : Quiet) → IsQuiet (state_of self) q → IsFinished (state_of self).world (state_of self).slots result.world }
     {
         let Session {
             config: _,

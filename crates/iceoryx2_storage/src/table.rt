@@ -28,22 +28,21 @@ pub struct Table {
 }
 
 impl Model for Table {
-    ghost use Rattle.iceoryx2_world.specs.World.{World};
-    ghost use Rattle.iceoryx2_world.specs.Codes.{coded_world};
+    ghost use Rattle.iceoryx2_world.specs.Tables.{TableState, coded_table};
 
-    ghost Value = { World };
+    ghost Value = { TableState };
 
-    ghost coded = { coded_world };
+    ghost coded = { coded_table };
 
-    ghost view = { λ t. t.world };
+    ghost view = { λ t. record { world = t.world } };
 }
 
 impl Table {
     /// An empty table whose first number is 0. Takes no memory.
     #[tactic(auto, using(iceoryx2_world::proofs::agreement::Empty::empty_agrees))]
     pub fn new(alloc: Global) -> Table
-        ensures world { result ≡ empty_world 0 }
-        ensures agrees { Agrees result }
+        ensures state { result ≡ record { world = empty_world 0 } }
+        ensures agrees { Agrees result.world }
     {
         Table::starting_at(alloc, 0)
     }
@@ -51,8 +50,8 @@ impl Table {
     /// An empty table with its counter's first value. At `u64::MAX` it hands out no number. Takes
     /// no memory.
     pub fn starting_at(alloc: Global, counter: u64) -> Table
-        ensures world { result ≡ empty_world counter }
-        ensures agrees { Agrees result }
+        ensures state { result ≡ record { world = empty_world counter } }
+        ensures agrees { Agrees result.world }
     {
         Table {
             world: StoredWorld::starting_at(alloc, counter),
@@ -61,90 +60,97 @@ impl Table {
 
     /// Each service with a row or a segment, in the order of the hashes' bytes.
     pub fn list(&self) -> Result<Vec<Entry>, AllocError>
-        ensures { IfOk result (λ entries. Lists self.now entries.items) }
+        ensures { IfOk result (λ entries. Lists self.now.world entries.items) }
     {
         self.world.list()
     }
 
     /// Whether the node has a tag for the service.
     pub fn has_tag(&self, node: u64, hash: &ServiceHash) -> bool
-        ensures { result ≡ tag_of self.now node hash.now }
+        ensures { result ≡ tag_of self.now.world node hash.now }
     {
         self.world.has_tag(node, hash)
     }
 
     /// How many tickets the node has for the service.
     pub fn tickets(&self, node: u64, hash: &ServiceHash) -> u64
-        ensures { result ≡ ticket_count self.now.tickets node hash.now }
+        ensures { result ≡ ticket_count self.now.world.tickets node hash.now }
     {
         self.world.tickets(node, hash)
     }
 
     /// The next number or ticket.
     pub fn counter(&self) -> u64
-        ensures { result ≡ self.now.counter }
+        ensures { result ≡ self.now.world.counter }
     {
         self.world.counter()
     }
 }
 
 impl Storage for Table {
-    ghost use Rattle.iceoryx2_world.specs.Access.{IsOwnPart};
     ghost use Rattle.iceoryx2_world.specs.Across.{Agrees};
+    ghost use Rattle.iceoryx2_world.specs.Agreement.{Later};
+    ghost use Rattle.iceoryx2_world.specs.Tables.{IsTableAccess};
     ghost use Rattle.iceoryx2_access.specs.Letter.{fetched};
     ghost use Rattle.iceoryx2_access.specs.Letter as letter;
 
-    ghost step = { λ w letter v. IsOwnPart w letter v };
+    ghost step = { λ old letter new. IsTableAccess old letter new };
 
-    #[tactic(auto, using(iceoryx2_world::proofs::agreement::Accesses::own_agrees))]
+    #[tactic(auto, using(crate::proofs::States::agrees_after, crate::proofs::States::later_after))]
     fn exists(&mut self, hash: &ServiceHash) -> Existence
-        ensures part { IsOwnPart self.old (letter.Exists hash.now result) self.new }
-        ensures agrees { Agrees self.old → Agrees self.new }
+        ensures part { IsTableAccess self.old (letter.Exists hash.now result) self.new }
+        ensures agrees { Agrees self.old.world → Agrees self.new.world }
+        ensures later { Agrees self.old.world → Later self.old.world self.new.world }
     {
         self.world.exists(hash)
     }
 
-    #[tactic(auto, using(iceoryx2_world::proofs::agreement::Accesses::own_agrees))]
+    #[tactic(auto, using(crate::proofs::States::agrees_after, crate::proofs::States::later_after))]
     fn fetch(&mut self, node: u64, hash: &ServiceHash) -> Result<(u64, Vec<u8>), FetchError>
-        ensures part { IsOwnPart self.old (letter.Fetch node hash.now (fetched result)) self.new }
-        ensures agrees { Agrees self.old → Agrees self.new }
+        ensures part { IsTableAccess self.old (letter.Fetch node hash.now (fetched result)) self.new }
+        ensures agrees { Agrees self.old.world → Agrees self.new.world }
+        ensures later { Agrees self.old.world → Later self.old.world self.new.world }
     {
         self.world.fetch(node, hash)
     }
 
-    #[tactic(auto, using(iceoryx2_world::proofs::agreement::Accesses::own_agrees))]
+    #[tactic(auto, using(crate::proofs::States::agrees_after, crate::proofs::States::later_after))]
     fn counts(&mut self, node: u64, hash: &ServiceHash) -> bool
-        ensures part { IsOwnPart self.old (letter.Counts node hash.now result) self.new }
-        ensures agrees { Agrees self.old → Agrees self.new }
+        ensures part { IsTableAccess self.old (letter.Counts node hash.now result) self.new }
+        ensures agrees { Agrees self.old.world → Agrees self.new.world }
+        ensures later { Agrees self.old.world → Later self.old.world self.new.world }
     {
         self.world.counts(node, hash)
     }
 
-    #[tactic(auto, using(iceoryx2_world::proofs::agreement::Accesses::own_agrees))]
+    #[tactic(auto, using(crate::proofs::States::agrees_after, crate::proofs::States::later_after))]
     fn make_tag(&mut self, node: u64, hash: &ServiceHash) -> Result<Tag, TagError>
-        ensures part { IsOwnPart self.old (letter.MakeTag node hash.now result) self.new }
-        ensures agrees { Agrees self.old → Agrees self.new }
+        ensures part { IsTableAccess self.old (letter.MakeTag node hash.now result) self.new }
+        ensures agrees { Agrees self.old.world → Agrees self.new.world }
+        ensures later { Agrees self.old.world → Later self.old.world self.new.world }
     {
         self.world.make_tag(node, hash)
     }
 
-    #[tactic(auto, using(iceoryx2_world::proofs::agreement::Accesses::own_agrees))]
+    #[tactic(auto, using(crate::proofs::States::agrees_after, crate::proofs::States::later_after))]
     fn remove_tag(&mut self, node: u64, hash: &ServiceHash) -> Result<(), RemoveError>
-        ensures part { IsOwnPart self.old (letter.RemoveTag node hash.now result) self.new }
-        ensures agrees { Agrees self.old → Agrees self.new }
+        ensures part { IsTableAccess self.old (letter.RemoveTag node hash.now result) self.new }
+        ensures agrees { Agrees self.old.world → Agrees self.new.world }
+        ensures later { Agrees self.old.world → Later self.old.world self.new.world }
     {
         self.world.remove_tag(node, hash)
     }
 
-    #[tactic(auto, using(iceoryx2_world::proofs::agreement::Accesses::own_agrees))]
+    #[tactic(auto, using(crate::proofs::States::agrees_after, crate::proofs::States::later_after))]
     fn lock(&mut self, node: u64, hash: &ServiceHash) -> Result<u64, LockError>
-        ensures part { IsOwnPart self.old (letter.Lock node hash.now result) self.new }
-        ensures agrees { Agrees self.old → Agrees self.new }
+        ensures part { IsTableAccess self.old (letter.Lock node hash.now result) self.new }
+        ensures agrees { Agrees self.old.world → Agrees self.new.world }
+        ensures later { Agrees self.old.world → Later self.old.world self.new.world }
     {
         self.world.lock(node, hash)
     }
 
-    #[tactic(auto, using(iceoryx2_world::proofs::agreement::Accesses::own_agrees))]
+    #[tactic(auto, using(crate::proofs::States::agrees_after, crate::proofs::States::later_after))]
     fn make_segment(
         &mut self,
         node: u64,
@@ -152,29 +158,32 @@ impl Storage for Table {
         number: u64,
         max_nodes: u64,
     ) -> Result<(), MakeSegmentError>
-        ensures part { IsOwnPart self.old (letter.MakeSegment node hash.now number max_nodes result) self.new }
-        ensures agrees { Agrees self.old → Agrees self.new }
+        ensures part { IsTableAccess self.old (letter.MakeSegment node hash.now number max_nodes result) self.new }
+        ensures agrees { Agrees self.old.world → Agrees self.new.world }
+        ensures later { Agrees self.old.world → Later self.old.world self.new.world }
     {
         self.world.make_segment(node, hash, number, max_nodes)
     }
 
-    #[tactic(auto, using(iceoryx2_world::proofs::agreement::Accesses::own_agrees))]
+    #[tactic(auto, using(crate::proofs::States::agrees_after, crate::proofs::States::later_after))]
     fn remove_segment(&mut self, node: u64, hash: &ServiceHash) -> Result<(), RemoveError>
-        ensures part { IsOwnPart self.old (letter.RemoveSegment node hash.now result) self.new }
-        ensures agrees { Agrees self.old → Agrees self.new }
+        ensures part { IsTableAccess self.old (letter.RemoveSegment node hash.now result) self.new }
+        ensures agrees { Agrees self.old.world → Agrees self.new.world }
+        ensures later { Agrees self.old.world → Later self.old.world self.new.world }
     {
         self.world.remove_segment(node, hash)
     }
 
-    #[tactic(auto, using(iceoryx2_world::proofs::agreement::Accesses::own_agrees))]
+    #[tactic(auto, using(crate::proofs::States::agrees_after, crate::proofs::States::later_after))]
     fn remove_description(&mut self, node: u64, hash: &ServiceHash) -> Result<(), RemoveError>
-        ensures part { IsOwnPart self.old (letter.RemoveDescription node hash.now result) self.new }
-        ensures agrees { Agrees self.old → Agrees self.new }
+        ensures part { IsTableAccess self.old (letter.RemoveDescription node hash.now result) self.new }
+        ensures agrees { Agrees self.old.world → Agrees self.new.world }
+        ensures later { Agrees self.old.world → Later self.old.world self.new.world }
     {
         self.world.remove_description(node, hash)
     }
 
-    #[tactic(auto, using(iceoryx2_world::proofs::agreement::Accesses::own_agrees))]
+    #[tactic(auto, using(crate::proofs::States::agrees_after, crate::proofs::States::later_after))]
     fn publish(
         &mut self,
         node: u64,
@@ -182,26 +191,28 @@ impl Storage for Table {
         number: u64,
         description: &StaticConfig,
     ) -> Result<u64, PublishError>
-        ensures part { IsOwnPart self.old (letter.Publish node hash.now number description.now result) self.new }
-        ensures agrees { Agrees self.old → Agrees self.new }
+        ensures part { IsTableAccess self.old (letter.Publish node hash.now number description.now result) self.new }
+        ensures agrees { Agrees self.old.world → Agrees self.new.world }
+        ensures later { Agrees self.old.world → Later self.old.world self.new.world }
     {
         self.world.publish(node, hash, number, description)
     }
 
-    #[tactic(auto, using(iceoryx2_world::proofs::agreement::Accesses::own_agrees))]
+    #[tactic(auto, using(crate::proofs::States::agrees_after, crate::proofs::States::later_after))]
     fn open_segment(
         &mut self,
         node: u64,
         hash: &ServiceHash,
         number: u64,
     ) -> Result<u64, OpenSegmentError>
-        ensures part { IsOwnPart self.old (letter.OpenSegment node hash.now number result) self.new }
-        ensures agrees { Agrees self.old → Agrees self.new }
+        ensures part { IsTableAccess self.old (letter.OpenSegment node hash.now number result) self.new }
+        ensures agrees { Agrees self.old.world → Agrees self.new.world }
+        ensures later { Agrees self.old.world → Later self.old.world self.new.world }
     {
         self.world.open_segment(node, hash, number)
     }
 
-    #[tactic(auto, using(iceoryx2_world::proofs::agreement::Accesses::own_agrees))]
+    #[tactic(auto, using(crate::proofs::States::agrees_after, crate::proofs::States::later_after))]
     fn release(
         &mut self,
         ticket: u64,
@@ -209,8 +220,9 @@ impl Storage for Table {
         hash: &ServiceHash,
         number: u64,
     ) -> Result<Release, ReleaseError>
-        ensures part { IsOwnPart self.old (letter.Release ticket node hash.now number result) self.new }
-        ensures agrees { Agrees self.old → Agrees self.new }
+        ensures part { IsTableAccess self.old (letter.Release ticket node hash.now number result) self.new }
+        ensures agrees { Agrees self.old.world → Agrees self.new.world }
+        ensures later { Agrees self.old.world → Later self.old.world self.new.world }
     {
         self.world.release(ticket, node, hash, number)
     }

@@ -12,7 +12,7 @@ pub returns-then-is_taken : goal.returns-then-is_taken
 returns-then-is_taken c = taken (state_of c.args.self.now) c.args.call (when_true _ c.is_taken.result c.is_taken.ensures c.if-is_taken.true)
 
 pub returns-in-Ok : goal.returns-in-Ok
-returns-in-Ok c = calling (state_of c.args.self.now) c.args.call c.in-Ok.factory c.number-number.result c.build.new.table c.put.new.self (when_false _ c.is_taken.result c.is_taken.ensures c.if-is_taken.false) c.in-Ok.ensures c.number-number.ensures c.put.ensures.after
+returns-in-Ok c = calling (state_of c.args.self.now) c.args.call c.in-Ok.factory c.number-number.result c.build.new.table.world c.put.new.self (when_false _ c.is_taken.result c.is_taken.ensures c.if-is_taken.false) c.in-Ok.ensures c.number-number.ensures c.put.ensures.after
 
 pub returns-in-Err : goal.returns-in-Err
 returns-in-Err c = goes.refused (when_false _ c.is_taken.result c.is_taken.ensures c.if-is_taken.false) c.in-Err.ensures

@@ -1,5 +1,8 @@
-use Rattle.iceoryx2_world.proofs.agreement.Accesses.{own_agrees}
+use Rattle.iceoryx2_storage.proofs.States.{agrees_after, later_after}
 use Rattle.iceoryx2_storage.proofs.table.TableStorage.remove_tag.Goals as goal
 
 pub returns-clause-agrees : goal.returns-clause-agrees
-returns-clause-agrees c = λ old. own_agrees _ _ _ c.remove_tag.ensures (rw c.self.view_is old)
+returns-clause-agrees c = agrees_after _ _ c.self.view_is c.remove_tag.ensures
+
+pub returns-clause-later : goal.returns-clause-later
+returns-clause-later c = later_after _ _ c.self.view_is c.remove_tag.ensures
