@@ -1,4 +1,5 @@
 pub mod Moved
+pub mod Rows
 pub mod Keeps
 pub mod Step
 pub mod Whole

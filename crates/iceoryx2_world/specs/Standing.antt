@@ -1,5 +1,5 @@
 -- When a factory stands.
-use Rattle.std.specs.Prelude.{◌≡◌, ℕ, List, [], ◌∷◌, Some, Ok}
+use Rattle.std.specs.Prelude.{◌≡◌, List, [], ◌∷◌, Some, Ok}
 use Rattle.iceoryx2_data.specs.Description.{IsDescription}
 use Rattle.iceoryx2_data.specs.Form as form
 use Rattle.iceoryx2_world.specs.declared.world.Participant.TheVariants.{Node}

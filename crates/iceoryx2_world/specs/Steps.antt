@@ -41,32 +41,58 @@ last_number = 2 ^ 64 - 1
 abbrev pub made : Participant → ℕ → ℕ → Segment
 made p n m = record { number = n; capacity = m; participants = alone p; marked = false }
 
+-- the segment with one more participant, with one less, and as the last one leaves it
+abbrev pub with_one : Participant → Segment → Segment
+with_one p s = record s { participants = set.insert s.participants p }
+
+abbrev pub without_one : Participant → Segment → Segment
+without_one p s = record s { participants = set.remove s.participants p }
+
+abbrev pub deserted : Segment → Segment
+deserted s = record s { participants = set.empty; marked = true }
+
 -- the segment takes one more with this number
 abbrev pub has_room : ℕ → Segment → Bool
 has_room n s = s.number == n && not s.marked && nat_lt (set.len s.participants) s.capacity
+
+-- somebody would stay in it
+abbrev pub has_others : Segment → Bool
+has_others s = nat_lt 1 (set.len s.participants)
 
 -- it describes this service, for as many nodes as the segment takes
 abbrev pub fits : ServiceHash → Segment → Description → Bool
 fits h s d = eq_by_cmp hash_cmp d.hash h && max_nodes_of d.pattern == s.capacity
 
+-- what is published of a description
+abbrev pub row_for : ℕ → Description → Row
+row_for n d = row.Published n (form.description d)
+
+-- who has joined once leaves: others stay in the segment, or it is marked
+abbrev pub leave_of : Participant → ℕ → Option Row → Option Segment → ℕ → Option Spot
+leave_of p n r None c = None
+leave_of p n r (Some s) c =
+    if has_others s then now at.Idle r (Some (without_one p s)) c else now (at.Leaving n) r (Some (deserted s)) c
+
 -- What a step of p at h changes, of its phase, the row, the segment and the counter there; none where it is forbidden.
 abbrev pub step : Participant → ServiceHash → Act → Phase → Option Row → Option Segment → ℕ → Option Spot
 step p h Read at.Idle (Some (row.Published n b)) s c = now (at.Read n) (Some (row.Published n b)) s c
 step p h Read (at.Read m) (Some (row.Published n b)) s c = now (at.Read n) (Some (row.Published n b)) s c
-step p h Lock at.Idle None s c = if nat_lt c last_number then now (at.Locked c) (Some (row.Locked c)) s (c + 1) else None
-step p h Lock (at.Read m) None s c = if nat_lt c last_number then now (at.Locked c) (Some (row.Locked c)) s (c + 1) else None
+step p h Lock at.Idle None s c =
+    if nat_lt c last_number then now (at.Locked c) (Some (row.Locked c)) s (c + 1) else None
+step p h Lock (at.Read m) None s c =
+    if nat_lt c last_number then now (at.Locked c) (Some (row.Locked c)) s (c + 1) else None
 step p h RemoveSegment (at.Locked n) r s c = now (at.Locked n) r None c
 step p h (Make m) (at.Locked n) r None c = if nat_lt 0 m then now (at.Made n) r (Some (made p n m)) c else None
 step p h RemoveSegment (at.Made n) r s c = now (at.Locked n) r None c
 step p h RemoveDescription (at.Locked n) r s c = now at.Idle None s c
 step p h RemoveDescription (at.Made n) r s c = now at.Idle None s c
-step p h (Publish d) (at.Made n) r (Some s) c = if fits h s d then now (at.Joined n 1) (Some (row.Published n (form.description d))) (Some s) c else None
-step p h Join (at.Read n) r (Some s) c = if has_room n s then now (at.Joined n 1) r (Some (record s { participants = set.insert s.participants p })) c else None
+step p h (Publish d) (at.Made n) r (Some s) c =
+    if fits h s d then now (at.Joined n 1) (Some (row_for n d)) (Some s) c else None
+step p h Join (at.Read n) r (Some s) c =
+    if has_room n s then now (at.Joined n 1) r (Some (with_one p s)) c else None
 step p h Join (at.Joined n k) r s c = if nat_lt k last_number then now (at.Joined n (k + 1)) r s c else None
-step p h Leave (at.Joined n k) r (Some s) c =
-    if nat_lt 1 k then now (at.Joined n (k - 1)) r (Some s) c
-    else if nat_lt 1 (set.len s.participants) then now at.Idle r (Some (record s { participants = set.remove s.participants p })) c
-    else now (at.Leaving n) r (Some (record s { participants = set.empty; marked = true })) c
+step p h Leave (at.Joined n k) r s c =
+    if nat_lt 1 k then now (at.Joined n (k - 1)) r s c else if k == 1 then leave_of p n r s c else None
 step p h RemoveSegment (at.Leaving n) r s c = now (at.Cleared n) r None c
 step p h RemoveDescription (at.Leaving n) r s c = now at.Idle None s c
 step p h RemoveDescription (at.Cleared n) r s c = now at.Idle None s c
@@ -74,7 +100,12 @@ step p h _ _ _ _ _ = None
 
 -- the world with this at the spot
 abbrev pub put : World → Participant → ServiceHash → Spot → World
-put w p h s = record w { rows = set_to w.rows h s.row; segments = set_to w.segments h s.segment; phases = set_to w.phases (p, h) (unless_idle s.phase); counter = s.counter }
+put w p h s = record w {
+  rows = set_to w.rows h s.row;
+  segments = set_to w.segments h s.segment;
+  phases = set_to w.phases (p, h) (unless_idle s.phase);
+  counter = s.counter;
+}
 
 -- the world after a step; none where it is forbidden
 abbrev pub after : World → Participant → ServiceHash → Act → Option World

@@ -150,6 +150,6 @@ module _ (f : Factory) (w v : World) (q : Quiet) (a : Apart f.node f.description
 
   pub close_counted : (word : List Letter) (r : Result (Unit {0}) (CloseError Factory)) → IsCloseWord f word r → Run (AtSeat i h) (seat w i h) word (seat v i h) → (r ≡ Ok tt) × Made (Closes q i h) rest v
   close_counted word r is_word run =
-      let done_ = closing f k (form.description x.description) here_segment w.counter (tag_of w i h) w.tickets has_ticket is_word (from begin run) in
+      let done_ = closing f k (form.description x.description) here_segment w.counter (tag_of w i h) w.tickets joined_here.1 has_ticket is_word (from begin run) in
       let shown = by_case _ (subst (λ n. Closed i h n f.ticket k (form.description x.description) here_segment w.counter (tag_of w i h) w.tickets (seat v i h)) (sym number) done_.1) refl in
       (done_.0, record { state = p; call = closed x k is_there counted; shows = shown.0; tickets = shown.1 })

@@ -1,6 +1,7 @@
 -- Close at one seat.
-use Rattle.std.proofs.Common.{◌≡◌, ℕ, ◌-◌, Bool, true, false, cond, List, [], ◌∷◌, Some, None, Result, Ok, Err, refl, sym, ap, subst, ◌∙◌}
-use Rattle.std.specs.Prelude.{nat_lt}
+use Rattle.std.proofs.Common.{◌≡◌, ℕ, ◌≤◌, ◌-◌, Bool, true, false, cond, List, [], ◌∷◌, Some, None, Result, Ok, Err, refl, sym, ap, subst, ◌∙◌, arith}
+use Rattle.std.specs.Prelude.{nat_lt, ◌==◌}
+use Rattle.std.proofs.lemmas.Bool.Decides.{nat_tests}
 use Rattle.std.specs.FinMap as map
 use Rattle.iceoryx2_data.specs.declared.description.ServiceHash.{ServiceHash}
 use Rattle.iceoryx2_world.specs.Sets as set
@@ -48,14 +49,15 @@ module _ (i : ℕ) (h : ServiceHash) (n t k : ℕ) (b : List ℕ) (sg : Segment)
     leaves : nat_lt 1 k ≡ false → nat_lt 1 (set.len sg.participants) ≡ true → Leaves (Ok leave.Left) (gone_out g)
     ends : nat_lt 1 k ≡ false → nat_lt 1 (set.len sg.participants) ≡ false → Leaves (Ok leave.Last) (last_out g)
 
-  leave_by : (y z : Bool) (a : Result Released ReleaseError) (o : Change) (s : Seat) → nat_lt 1 k ≡ y → nat_lt 1 (set.len sg.participants) ≡ z
-      → Simply (left i h t tk (cond y (Some counted_less.spot) (cond z (Some (gone_out g).spot) (Some (last_out g).spot)))) a o → s ≡ changed joins_here o → Leaves a s
-  leave_by true z a o s e f x is = into Leaves x.0 (is ∙ ap (changed joins_here) x.1) (still e)
-  leave_by false true a o s e f x is = into Leaves x.0 (is ∙ ap (changed joins_here) x.1) (leaves e f)
-  leave_by false false a o s e f x is = into Leaves x.0 (is ∙ ap (changed joins_here) x.1) (ends e f)
+  leave_by : (y o z : Bool) (a : Result Released ReleaseError) (d : Change) (s : Seat) → nat_lt 1 k ≡ y → (k == 1) ≡ o → nat_lt 1 (set.len sg.participants) ≡ z → 1 ≤ k
+      → Simply (left i h t tk (cond y (Some counted_less.spot) (cond o (cond z (Some (gone_out g).spot) (Some (last_out g).spot)) None))) a d → s ≡ changed joins_here d → Leaves a s
+  leave_by true o z a d s e u f some x is = into Leaves x.0 (is ∙ ap (changed joins_here) x.1) (still e)
+  leave_by false true true a d s e u f some x is = into Leaves x.0 (is ∙ ap (changed joins_here) x.1) (leaves e f)
+  leave_by false true false a d s e u f some x is = into Leaves x.0 (is ∙ ap (changed joins_here) x.1) (ends e f)
+  leave_by false false z a d s e u f some x is = absurd (grind (arith, nat_tests, e, u, some))
 
-  release_at : (a : Result Released ReleaseError) (s : Seat) → is_ticket i h n (map.get tk t) ≡ true → AtSeat i h joins_here (letter.Release t i h n a) s → Leaves a s
-  release_at a s has r = leave_by _ _ a r.change s refl refl (rw has at r.own) r.is
+  release_at : (a : Result Released ReleaseError) (s : Seat) → 1 ≤ k → is_ticket i h n (map.get tk t) ≡ true → AtSeat i h joins_here (letter.Release t i h n a) s → Leaves a s
+  release_at a s some has r = leave_by _ _ _ a r.change s refl refl refl some (rw has at r.own) r.is
 
   -- What close does at a seat that joined.
   pub data Closed : Seat → Type 0 where
@@ -104,18 +106,18 @@ module _ (f : Factory) (k : ℕ) (b : List ℕ) (sg : Segment) (c : ℕ) (g : Bo
   abbrev h : ServiceHash
   h = f.description.hash
 
-  pub closing : {w : List Letter} {r : Result (Unit {0}) (CloseError Factory)} {s : Seat} → is_ticket f.node f.description.hash f.number (map.get tk f.ticket) ≡ true → IsCloseWord f w r
+  pub closing : {w : List Letter} {r : Result (Unit {0}) (CloseError Factory)} {s : Seat} → 1 ≤ k → is_ticket f.node f.description.hash f.number (map.get tk f.ticket) ≡ true → IsCloseWord f w r
       → Run (AtSeat f.node f.description.hash) (joins_here f.node f.description.hash f.number f.ticket k b sg c g tk) w s → (r ≡ Ok tt) × Closed f.node f.description.hash f.number f.ticket k b sg c g tk s
-  closing has close.not_here run = absurd (refused_not i h f.number f.ticket k b sg c g tk (release_at i h f.number f.ticket k b sg c g tk _ _ has (last run)))
-  closing has close.still_counted run = let l = is_still i h f.number f.ticket k b sg c g tk (release_at i h f.number f.ticket k b sg c g tk _ _ has (last run)) in (refl, subst (λ u. Closed i h f.number f.ticket k b sg c g tk u) (sym l.1) (counts l.0))
-  closing has (close.left tag) run =
+  closing some has close.not_here run = absurd (refused_not i h f.number f.ticket k b sg c g tk (release_at i h f.number f.ticket k b sg c g tk _ _ some has (last run)))
+  closing some has close.still_counted run = let l = is_still i h f.number f.ticket k b sg c g tk (release_at i h f.number f.ticket k b sg c g tk _ _ some has (last run)) in (refl, subst (λ u. Closed i h f.number f.ticket k b sg c g tk u) (sym l.1) (counts l.0))
+  closing some has (close.left tag) run =
       let first = head run in
-      let l = is_left i h f.number f.ticket k b sg c g tk (release_at i h f.number f.ticket k b sg c g tk _ first.mid has first.first) in
+      let l = is_left i h f.number f.ticket k b sg c g tk (release_at i h f.number f.ticket k b sg c g tk _ first.mid some has first.first) in
       let gone = untag_gone i h f.number f.ticket k b sg c g tk (last (from l.2 first.rest)) in
       (ap (λ x. first_refused x (Ok tt) (Ok tt)) gone.0, subst (λ u. Closed i h f.number f.ticket k b sg c g tk u) (sym gone.1) (goes l.0 l.1))
-  closing has (close.last tag segment description) run =
+  closing some has (close.last tag segment description) run =
       let first = head run in
-      let l = is_end i h f.number f.ticket k b sg c g tk (release_at i h f.number f.ticket k b sg c g tk _ first.mid has first.first) in
+      let l = is_end i h f.number f.ticket k b sg c g tk (release_at i h f.number f.ticket k b sg c g tk _ first.mid some has first.first) in
       let all = all_last i h f.number f.ticket k b sg c g tk (from l.2 first.rest) in
       let answers : first_refused {F = Factory} tag segment description ≡ Ok tt = λ q. first_refused (all.0 q) (all.1 q) (all.2 q) in
       (answers, subst (λ u. Closed i h f.number f.ticket k b sg c g tk u) (sym all.3) (clears l.0 l.1))

@@ -545,11 +545,11 @@ impl Services {
             return None;
         };
         if count > 1 {
-            let Some(_) = self.segments.get(hash) else {
-                return None;
-            };
             set_phase(&mut self.phases, place, Phase::Joined(number, count - 1));
             return Some(Release::StillCounted);
+        }
+        if count == 0 {
+            return None;
         }
         let Some(mut segment) = self.segments.remove(hash) else {
             return None;

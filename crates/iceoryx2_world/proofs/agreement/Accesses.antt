@@ -1,6 +1,5 @@
 -- Each access keeps the agreement, and so does each run of accesses.
 use Rattle.std.proofs.Common.{◌≡◌, ◌≢◌, ℕ, ◌+◌, ◌<◌, ◌≤◌, true, false, ◌⊎◌, inl, inr, List, Option, Some, None, refl, sym, ap, subst, ◌∙◌, arith}
-use Rattle.std.specs.Prelude.{nat_lt}
 use Rattle.iceoryx2_data.specs.declared.description.ServiceHash.{ServiceHash}
 use Rattle.iceoryx2_world.specs.Sets as set
 use Rattle.iceoryx2_world.specs.declared.world.Participant.{Participant}
@@ -13,7 +12,7 @@ use Rattle.iceoryx2_world.specs.Orders.{tag_cmp}
 use Rattle.iceoryx2_world.specs.World.{World, Segment, row_of, segment_of, phase_of}
 use Rattle.iceoryx2_world.specs.Acts.{Act, IsAct}
 use Rattle.iceoryx2_world.specs.Acts as act
-use Rattle.iceoryx2_world.specs.Steps.{Spot, step, after, has_room, last_number}
+use Rattle.iceoryx2_world.specs.Steps.{Spot, after}
 use Rattle.iceoryx2_world.specs.Agreement.{AgreesAt, AgreesEverywhere, Later, joined_number, locked_number, phase_number, row_number, IsPublished}
 use Rattle.iceoryx2_world.specs.Across.{ticket_of, join_count, belongs, ticket_count, Agrees}
 use Rattle.iceoryx2_access.specs.Letter.{Letter}
@@ -22,7 +21,8 @@ use Rattle.iceoryx2_world.specs.Peers.{Peers, none, peer, IsAccess}
 use Rattle.iceoryx2_world.specs.Faulty.{IsFault, IsFaulty}
 use Rattle.iceoryx2_access.specs.Run.{Run, done, next}
 use Rattle.iceoryx2_world.proofs.agreement.Whole.{after_keeps}
-use Rattle.iceoryx2_world.proofs.agreement.Step.{later_same, tested}
+use Rattle.iceoryx2_world.proofs.agreement.Rows.{IsRow, joins as row_joins, joins_again, row_of_step}
+use Rattle.iceoryx2_world.proofs.agreement.Step.{later_same}
 use Rattle.iceoryx2_world.proofs.agreement.Effects.{stepped}
 use Rattle.iceoryx2_world.proofs.agreement.Tickets.{one_if, belongs_means}
 use Rattle.iceoryx2_world.proofs.agreement.Worlds.{ticket_put, is_none, peer_keeps, idle_keeps, gain_keeps, lose_keeps, step_locks, step_places}
@@ -74,10 +74,9 @@ tags_keep : (w : World) (t : set.FinSet tag_cmp) → Agrees w → Agrees (record
 tags_keep w t old = (record { everywhere = old.everywhere; numbered = record { below = old.numbered.below; apart = old.numbered.apart; free = old.numbered.free; few = old.numbered.few }; held = record { number = old.held.number; count = old.held.count } }, record { counter = omega arith; rows = λ h. later_same _ _ })
 
 -- a Join changes neither row nor counter
-join_counter : (p : Participant) (h : ServiceHash) (x : Phase) (r : Option Row) (s : Option Segment) (c : ℕ) (new : Spot) → step p h act.Join x r s c ≡ Some new → new.counter ≡ c
-join_counter p h (at.Read n) r (Some s) c new e = tested (λ new. new.counter ≡ c) _ new (has_room n s) e (λ _. refl)
-join_counter p h (at.Joined n k) r s c new e = tested (λ new. new.counter ≡ c) _ new (nat_lt k last_number) e (λ _. refl)
-join_counter p h _ _ _ _ new e = absurd (cc)
+join_counter : {p : Participant} {h : ServiceHash} {x : Phase} {r : Option Row} {s : Option Segment} {c : ℕ} {new : Spot} → IsRow p h act.Join x r s c new → new.counter ≡ c
+join_counter (row_joins number unmarked room) = refl
+join_counter (joins_again below) = refl
 
 pub joined_means : (x : Phase) (n : ℕ) → joined_number x ≡ Some n → (k : ℕ) × (x ≡ at.Joined n k)
 joined_means (at.Joined m k) n e = let is : m ≡ n = cc in (k, ap (λ i. at.Joined i k) is)
@@ -122,7 +121,7 @@ opened_keeps w v id h n t p old =
     let u = p.mid in
     let st = stepped w u (Node id) h act.Join p.step in
     let kept = after_keeps w u (Node id) h act.Join tt p.step old.everywhere in
-    let still : u.counter ≡ w.counter = subst (λ (z : World). z.counter ≡ w.counter) st.world (join_counter (Node id) h (phase_of w (Node id) h) (row_of w h) (segment_of w h) w.counter st.spot st.is) in
+    let still : u.counter ≡ w.counter = subst (λ (z : World). z.counter ≡ w.counter) st.world (join_counter (row_of_step (Node id) h act.Join (phase_of w (Node id) h) (row_of w h) (segment_of w h) w.counter st.spot st.is)) in
     let free : (g : ServiceHash) → row_of u g ≢ Some (row.Locked w.counter) = λ g l. absurd (grind (arith, (kept.0 g).row_below (row.Locked w.counter) l, still)) in
     let fresh : ticket_of w w.counter ≡ None = is_none _ (λ x i. grind (arith, old.numbered.below w.counter x i)) in
     subst (λ z. Agrees z × Later w z) (sym (p.is ∙ ap (λ s. ticket_put (record u { counter = w.counter + 1 }) s (mine id h n)) p.ticket)) (gain_keeps w u id h act.Join n w.counter (w.counter + 1) tt (λ x y g. g) p.step p.number fresh (omega arith) (omega (arith, still)) free (few_more w id h n w.counter old) old)

@@ -1,6 +1,5 @@
 -- Accesses that change nothing published and no count, and words of such.
 use Rattle.std.proofs.Common.{◌≡◌, ℕ, ◌+◌, ◌≤◌, Bool, true, false, inl, inr, List, [], ◌∷◌, ◌++◌, Option, Some, None, Result, Ok, refl, sym, ap, subst, ◌∙◌}
-use Rattle.std.specs.Prelude.{nat_lt}
 use Rattle.iceoryx2_data.specs.declared.description.ServiceHash.{ServiceHash}
 use Rattle.iceoryx2_data.specs.Description.{Description}
 use Rattle.iceoryx2_world.specs.declared.world.Participant.{Participant}
@@ -10,12 +9,11 @@ use Rattle.iceoryx2_world.specs.declared.world.Phase.TheVariants as at
 use Rattle.iceoryx2_access.specs.declared.storage.RemoveError.{RemoveError}
 use Rattle.iceoryx2_access.specs.declared.storage.Release.{Release as Released}
 use Rattle.iceoryx2_world.specs.declared.world.Row.{Row}
-use Rattle.iceoryx2_world.specs.declared.world.Row.TheVariants as row
 use Rattle.iceoryx2_world.specs.Orders.{hash_total, hash_exact}
 use Rattle.iceoryx2_world.specs.World.{World, Segment, row_of, segment_of, phase_of}
 use Rattle.iceoryx2_world.specs.Acts.{Act}
 use Rattle.iceoryx2_world.specs.Acts as act
-use Rattle.iceoryx2_world.specs.Steps.{Spot, step, after, last_number}
+use Rattle.iceoryx2_world.specs.Steps.{Spot, after, begins}
 use Rattle.iceoryx2_world.specs.Agreement.{locked_number}
 use Rattle.iceoryx2_world.specs.Across.{join_count, Agrees}
 use Rattle.iceoryx2_access.specs.Letter.{Letter}
@@ -25,7 +23,7 @@ use Rattle.iceoryx2_world.specs.Peers.{Peers, none, peer}
 use Rattle.iceoryx2_world.specs.Faulty.{IsFaulty}
 use Rattle.iceoryx2_access.specs.Run.{Run, done, next}
 use Rattle.iceoryx2_world.specs.Calm.{published_of, SameServices, IsCalmLetter, CalmAccess, acts, refused}
-use Rattle.iceoryx2_world.proofs.agreement.Step.{kept, tested}
+use Rattle.iceoryx2_world.proofs.agreement.Rows.{IsRow, reads, locks as row_locks, clears, makes, unmakes, unlocks as row_unlocks, publishes as row_publishes, joins as row_joins, joins_again, leaves_once, leaves, leaves_last, clears_last, ends as row_ends, row_of_step}
 use Rattle.iceoryx2_world.proofs.agreement.Maps.{set_cases}
 use Rattle.iceoryx2_world.proofs.agreement.Effects.{Change, Gains, Idles, Stepped, stepped, step_effect}
 use Rattle.iceoryx2_world.proofs.agreement.Worlds.{place_cases, peer_places, step_places}
@@ -36,20 +34,27 @@ record Calmly (x : Phase) (r : Option Row) (new : Spot) : Type 0 where
   pub row : published_of new.row ≡ published_of r
   pub lock : (n : ℕ) → locked_number x ≡ Some n → locked_number new.phase ≡ Some n
 
-calm_step : (p : Participant) (h : ServiceHash) (a : Act) (x : Phase) (r : Option Row) (s : Option Segment) (c : ℕ) (new : Spot) → IsCalm a → step p h a x r s c ≡ Some new → Calmly x r new
-calm_step p h act.Read at.Idle (Some (row.Published n b)) s c new ok e = kept (Calmly _ _) _ new e (record { row = refl; lock = λ m l. absurd (cc) })
-calm_step p h act.Read (at.Read m) (Some (row.Published n b)) s c new ok e = kept (Calmly _ _) _ new e (record { row = refl; lock = λ m l. absurd (cc) })
-calm_step p h act.Lock at.Idle None s c new ok e = tested (Calmly _ _) _ new (nat_lt c last_number) e (λ _. record { row = refl; lock = λ m l. absurd (cc) })
-calm_step p h act.Lock (at.Read m) None s c new ok e = tested (Calmly _ _) _ new (nat_lt c last_number) e (λ _. record { row = refl; lock = λ m l. absurd (cc) })
-calm_step p h act.RemoveSegment (at.Locked n) r s c new ok e = kept (Calmly _ _) _ new e (record { row = refl; lock = λ m l. l })
-calm_step p h (act.Make m) (at.Locked n) r None c new ok e = tested (Calmly _ _) _ new (nat_lt 0 m) e (λ _. record { row = refl; lock = λ m l. l })
-calm_step p h act.RemoveSegment (at.Made n) r s c new ok e = kept (Calmly _ _) _ new e (record { row = refl; lock = λ m l. l })
-calm_step p h act.RemoveSegment (at.Leaving n) r s c new ok e = kept (Calmly _ _) _ new e (record { row = refl; lock = λ m l. absurd (cc) })
-calm_step p h act.RemoveDescription x r s c new ok e = absurd ok
-calm_step p h (act.Publish d) x r s c new ok e = absurd ok
-calm_step p h act.Join x r s c new ok e = absurd ok
-calm_step p h act.Leave x r s c new ok e = absurd ok
-calm_step p h _ _ _ _ _ new ok e = absurd (cc)
+pub begins_unlocked : (x : Phase) → begins x ≡ true → locked_number x ≡ None
+begins_unlocked at.Idle e = refl
+begins_unlocked (at.Read m) e = refl
+begins_unlocked _ e = absurd (cc)
+
+calm_row : {p : Participant} {h : ServiceHash} {act : Act} {x : Phase} {r : Option Row} {s : Option Segment} {c : ℕ} {new : Spot} → IsRow p h act x r s c new
+    → IsCalm act → Calmly x r new
+calm_row (reads {x = x} free) ok = record { row = refl; lock = λ m l. let none = begins_unlocked x free in absurd (cc) }
+calm_row (row_locks {x = x} free below) ok = record { row = refl; lock = λ m l. let none = begins_unlocked x free in absurd (cc) }
+calm_row clears ok = record { row = refl; lock = λ m l. l }
+calm_row (makes some) ok = record { row = refl; lock = λ m l. l }
+calm_row unmakes ok = record { row = refl; lock = λ m l. l }
+calm_row clears_last ok = record { row = refl; lock = λ m l. absurd (cc) }
+calm_row (row_unlocks lock) ok = absurd ok
+calm_row (row_publishes hash nodes) ok = absurd ok
+calm_row (row_joins number unmarked room) ok = absurd ok
+calm_row (joins_again below) ok = absurd ok
+calm_row (leaves_once more) ok = absurd ok
+calm_row (leaves one others) ok = absurd ok
+calm_row (leaves_last one alone) ok = absurd ok
+calm_row (row_ends last) ok = absurd ok
 
 calm_idles : (a : Act) (x y : Phase) → IsCalm a → Change a x y → Idles x y
 calm_idles act.Read x y ok i = i
@@ -61,12 +66,9 @@ calm_idles (act.Publish d) x y ok i = absurd ok
 calm_idles act.Join x y ok i = absurd ok
 calm_idles act.Leave x y ok i = absurd ok
 
-unlock_row : (p : Participant) (h : ServiceHash) (x : Phase) (r : Option Row) (s : Option Segment) (c : ℕ) (new : Spot) → step p h act.RemoveDescription x r s c ≡ Some new → new.row ≡ None
-unlock_row p h (at.Locked n) r s c new e = kept (λ new. new.row ≡ None) _ new e refl
-unlock_row p h (at.Made n) r s c new e = kept (λ new. new.row ≡ None) _ new e refl
-unlock_row p h (at.Leaving n) r s c new e = kept (λ new. new.row ≡ None) _ new e refl
-unlock_row p h (at.Cleared n) r s c new e = kept (λ new. new.row ≡ None) _ new e refl
-unlock_row p h _ _ _ _ new e = absurd (cc)
+unlock_row : {p : Participant} {h : ServiceHash} {x : Phase} {r : Option Row} {s : Option Segment} {c : ℕ} {new : Spot} → IsRow p h act.RemoveDescription x r s c new → new.row ≡ None
+unlock_row (row_unlocks lock) = refl
+unlock_row (row_ends last) = refl
 
 step_same : (w v : World) (p : Participant) (g : ServiceHash) (a : Act) → (st : Stepped w v p g a) → published_of st.spot.row ≡ published_of (row_of w g) → join_count st.spot.phase ≡ join_count (phase_of w p g) → SameServices w v
 step_same w v p g a st row count = subst (λ u. SameServices w u) st.world (record {
@@ -91,7 +93,7 @@ calmed_same w v e = subst (λ u. Calmed w u) (sym e) (record { same = record { p
 calmed : (w v : World) (id : ℕ) (g : ServiceHash) (a : Act) → IsCalm a → after w (Node id) g a ≡ Some v → Calmed w v
 calmed w v id g a ok e =
     let st = stepped w v (Node id) g a e in
-    let c = calm_step (Node id) g a (phase_of w (Node id) g) (row_of w g) (segment_of w g) w.counter st.spot ok st.is in
+    let c = calm_row (row_of_step (Node id) g a (phase_of w (Node id) g) (row_of w g) (segment_of w g) w.counter st.spot st.is) ok in
     let i = calm_idles a _ _ ok (step_effect (Node id) g a (phase_of w (Node id) g) (row_of w g) (segment_of w g) w.counter st.spot st.is).change in
     record {
       same = step_same w v (Node id) g a st c.row (i.now ∙ sym i.before);
@@ -122,7 +124,7 @@ part_unlocks w v i h n a lock old (removed j g is e) =
     let hash : h ≡ g = cc in
     let here : after w (Node i) h act.RemoveDescription ≡ Some v = (λ k. after w (Node (node k)) (hash k) act.RemoveDescription) ∙ e in
     let st = stepped w v (Node i) h act.RemoveDescription here in
-    let row = unlock_row (Node i) h (phase_of w (Node i) h) (row_of w h) (segment_of w h) w.counter st.spot st.is in
+    let row = unlock_row (row_of_step (Node i) h act.RemoveDescription (phase_of w (Node i) h) (row_of w h) (segment_of w h) w.counter st.spot st.is) in
     let was = (old.everywhere h).locked (Node i) n lock in
     let c = (step_effect (Node i) h act.RemoveDescription (phase_of w (Node i) h) (row_of w h) (segment_of w h) w.counter st.spot st.is).change in
     step_same w v (Node i) h act.RemoveDescription st (ap published_of row ∙ ap published_of (sym was)) (c.now ∙ sym c.before)
@@ -187,16 +189,14 @@ module _ (node : ℕ) (hash : ServiceHash) where
   lock_peers b none h = h
   lock_peers {w = u} {v = w} b (peer {v = v} id g a ok e rest) h = lock_peers b rest (lock_phase b u v (peer_places u v id g a (stepped u v (Peer id) g a e) node hash) h)
 
-lock_spot : (p : Participant) (h : ServiceHash) (x : Phase) (r : Option Row) (s : Option Segment) (c : ℕ) (new : Spot) → step p h act.Lock x r s c ≡ Some new → locked_number new.phase ≡ Some c
-lock_spot p h at.Idle None s c new e = tested (λ new. locked_number new.phase ≡ Some c) _ new (nat_lt c last_number) e (λ _. refl)
-lock_spot p h (at.Read n) None s c new e = tested (λ new. locked_number new.phase ≡ Some c) _ new (nat_lt c last_number) e (λ _. refl)
-lock_spot p h _ _ _ _ new e = absurd (cc)
+lock_spot : {p : Participant} {h : ServiceHash} {x : Phase} {r : Option Row} {s : Option Segment} {c : ℕ} {new : Spot} → IsRow p h act.Lock x r s c new → locked_number new.phase ≡ Some c
+lock_spot (row_locks free below) = refl
 
 -- who locks has the lock, and its number
 pub locked_now : (w v : World) (id : ℕ) (h : ServiceHash) → after w (Node id) h act.Lock ≡ Some v → locked_number (phase_of v (Node id) h) ≡ Some w.counter
 locked_now w v id h e = let st = stepped w v (Node id) h act.Lock e in
     subst (λ u. locked_number (phase_of u (Node id) h) ≡ Some w.counter) st.world (elim (place_cases w (Node id) h st.spot (Node id) h) [
-      | inl k ↦ ap locked_number k.2 ∙ lock_spot (Node id) h (phase_of w (Node id) h) (row_of w h) (segment_of w h) w.counter st.spot st.is
+      | inl k ↦ ap locked_number k.2 ∙ lock_spot (row_of_step (Node id) h act.Lock (phase_of w (Node id) h) (row_of w h) (segment_of w h) w.counter st.spot st.is)
       | inr k ↦ absurd (k.0 refl refl)
     ])
 

@@ -1,8 +1,6 @@
 -- What an allowed step does to locks and join_count.
-use Rattle.std.proofs.Common.{◌≡◌, ℕ, ◌+◌, ◌<◌, ◌≤◌, Bool, true, false, cond, Option, Some, None, ◌⊎◌, inl, inr, refl, arith}
-use Rattle.iceoryx2_world.specs.Sets as set
-use Rattle.std.specs.Prelude.{nat_lt, option_map}
-use Rattle.std.proofs.lemmas.Bool.Decides.{nat_tests}
+use Rattle.std.proofs.Common.{◌≡◌, ℕ, ◌+◌, ◌<◌, ◌≤◌, true, Option, Some, None, ◌⊎◌, inl, inr, refl, arith}
+use Rattle.std.specs.Prelude.{option_map}
 use Rattle.iceoryx2_world.specs.declared.world.Participant.{Participant}
 use Rattle.iceoryx2_data.specs.declared.description.ServiceHash.{ServiceHash}
 use Rattle.iceoryx2_world.specs.declared.world.Phase.{Phase}
@@ -10,10 +8,10 @@ use Rattle.iceoryx2_world.specs.declared.world.Phase.TheVariants as at
 use Rattle.iceoryx2_world.specs.declared.world.Row.{Row}
 use Rattle.iceoryx2_world.specs.declared.world.Row.TheVariants as row
 use Rattle.iceoryx2_world.specs.World.{World, Segment, row_of, segment_of, phase_of}
-use Rattle.iceoryx2_world.specs.Acts.{Act, Read, Lock, RemoveSegment, RemoveDescription, Make, Publish, Join, Leave}
-use Rattle.iceoryx2_world.specs.Steps.{Spot, step, put, after, has_room, fits, last_number}
-use Rattle.iceoryx2_world.specs.Agreement.{joined_number, phase_number}
-use Rattle.iceoryx2_world.proofs.agreement.Step.{kept, tested}
+use Rattle.iceoryx2_world.specs.Acts.{Act, Publish, Join, Leave}
+use Rattle.iceoryx2_world.specs.Steps.{Spot, step, put, after, begins}
+use Rattle.iceoryx2_world.specs.Agreement.{joined_number, phase_number, locked_number, is_last}
+use Rattle.iceoryx2_world.proofs.agreement.Rows.{IsRow, reads, locks, clears, makes, unmakes, unlocks, publishes, joins, joins_again, leaves_once, leaves, leaves_last, clears_last, ends, row_of_step}
 use Rattle.iceoryx2_world.specs.Across.{join_count}
 
 -- one use more, of the number that the phase had
@@ -48,33 +46,50 @@ pub record Effect (act : Act) (x : Phase) (r : Option Row) (c : ℕ) (new : Spot
 idles : {x y : Phase} → join_count x ≡ 0 → join_count y ≡ 0 → joined_number x ≡ None → joined_number y ≡ None → Idles x y
 idles a b c d = record { before = a; now = b; unjoined = c; still = d }
 
--- where two tests decide, with both outcomes
-pub left_cases : (P : Spot → Type 0) (u v w new : Spot) (a b : Bool) → cond a (Some u) (cond b (Some v) (Some w)) ≡ Some new → (a ≡ true → P u) → (a ≡ false → P v) → (a ≡ false → P w) → P new
-left_cases P u v w new true b e x y z = kept P u new e (x refl)
-left_cases P u v w new false true e x y z = kept P v new e (y refl)
-left_cases P u v w new false false e x y z = kept P w new e (z refl)
+-- who begins, holds a lock or was the last one to leave, has not joined
+begins_idle : (x : Phase) → begins x ≡ true → (join_count x ≡ 0) × (joined_number x ≡ None)
+begins_idle at.Idle e = (refl, refl)
+begins_idle (at.Read n) e = (refl, refl)
+begins_idle _ e = absurd (cc)
 
-pub step_effect : (p : Participant) (h : ServiceHash) (act : Act) (x : Phase) (r : Option Row) (s : Option Segment) (c : ℕ) (new : Spot) → step p h act x r s c ≡ Some new → Effect act x r c new
-step_effect p h Read at.Idle (Some (row.Published n b)) s c new e = kept (Effect Read _ _ c) _ new e (record { rises = omega arith; locks = λ n l. inl l; change = idles refl refl refl refl })
-step_effect p h Read (at.Read m) (Some (row.Published n b)) s c new e = kept (Effect Read _ _ c) _ new e (record { rises = omega arith; locks = λ n l. inl l; change = idles refl refl refl refl })
-step_effect p h Lock at.Idle None s c new e = tested (Effect Lock _ _ c) _ new (nat_lt c last_number) e (λ _. record { rises = omega arith; locks = λ n l. inr (grind arith, omega arith); change = idles refl refl refl refl })
-step_effect p h Lock (at.Read m) None s c new e = tested (Effect Lock _ _ c) _ new (nat_lt c last_number) e (λ _. record { rises = omega arith; locks = λ n l. inr (grind arith, omega arith); change = idles refl refl refl refl })
-step_effect p h RemoveSegment (at.Locked n) r s c new e = kept (Effect RemoveSegment _ _ c) _ new e (record { rises = omega arith; locks = λ n l. inl l; change = idles refl refl refl refl })
-step_effect p h (Make m) (at.Locked n) r None c new e = tested (Effect (Make m) _ _ c) _ new (nat_lt 0 m) e (λ _. record { rises = omega arith; locks = λ n l. inl l; change = idles refl refl refl refl })
-step_effect p h RemoveSegment (at.Made n) r s c new e = kept (Effect RemoveSegment _ _ c) _ new e (record { rises = omega arith; locks = λ n l. inl l; change = idles refl refl refl refl })
-step_effect p h RemoveDescription (at.Locked n) r s c new e = kept (Effect RemoveDescription _ _ c) _ new e (record { rises = omega arith; locks = λ n l. absurd (cc); change = idles refl refl refl refl })
-step_effect p h RemoveDescription (at.Made n) r s c new e = kept (Effect RemoveDescription _ _ c) _ new e (record { rises = omega arith; locks = λ n l. absurd (cc); change = idles refl refl refl refl })
-step_effect p h (Publish d) (at.Made n) r (Some s) c new e = tested (Effect (Publish d) _ _ c) _ new (fits h s d) e (λ _. record { rises = omega arith; locks = λ n l. absurd (cc); change = record { count = refl; number = refl; same = λ m e. absurd (cc) } })
-step_effect p h Join (at.Read n) r (Some s) c new e = tested (Effect Join _ _ c) _ new (has_room n s) e (λ _. record { rises = omega arith; locks = λ n l. inl l; change = record { count = refl; number = refl; same = λ m e. absurd (cc) } })
-step_effect p h Join (at.Joined n k) r s c new e = tested (Effect Join _ _ c) _ new (nat_lt k last_number) e (λ _. record { rises = omega arith; locks = λ n l. inl l; change = record { count = refl; number = refl; same = λ m e. e } })
-step_effect p h Leave (at.Joined n k) r (Some s) c new e = left_cases (Effect Leave _ _ c) _ _ _ new (nat_lt 1 k) (nat_lt 1 (set.len s.participants)) e
-    (λ t. record { rises = omega arith; locks = λ n l. inl l; change = record { count = λ _. grind (arith, nat_tests); same = inr refl } })
-    (λ t. record { rises = omega arith; locks = λ n l. inl l; change = record { count = λ o. grind (arith, nat_tests); same = inl refl } })
-    (λ t. record { rises = omega arith; locks = λ n l. inl l; change = record { count = λ o. grind (arith, nat_tests); same = inl refl } })
-step_effect p h RemoveSegment (at.Leaving n) r s c new e = kept (Effect RemoveSegment _ _ c) _ new e (record { rises = omega arith; locks = λ n l. inl l; change = idles refl refl refl refl })
-step_effect p h RemoveDescription (at.Leaving n) r s c new e = kept (Effect RemoveDescription _ _ c) _ new e (record { rises = omega arith; locks = λ n l. absurd (cc); change = idles refl refl refl refl })
-step_effect p h RemoveDescription (at.Cleared n) r s c new e = kept (Effect RemoveDescription _ _ c) _ new e (record { rises = omega arith; locks = λ n l. absurd (cc); change = idles refl refl refl refl })
-step_effect p h _ _ _ _ _ new e = absurd (cc)
+locked_idle : (x : Phase) (n : ℕ) → locked_number x ≡ Some n → (join_count x ≡ 0) × (joined_number x ≡ None)
+locked_idle (at.Locked m) n e = (refl, refl)
+locked_idle (at.Made m) n e = (refl, refl)
+locked_idle _ n e = absurd (cc)
+
+last_idle : (x : Phase) → is_last x ≡ true → (join_count x ≡ 0) × (joined_number x ≡ None)
+last_idle (at.Leaving n) e = (refl, refl)
+last_idle (at.Cleared n) e = (refl, refl)
+last_idle _ e = absurd (cc)
+
+calms : {act : Act} {x : Phase} {r : Option Row} {c : ℕ} {y : Phase} {s : Option Segment} → Change act x y
+    → Effect act x r c (record { phase = y; row = r; segment = s; counter = c })
+calms change = record { rises = omega arith; locks = λ n l. inl l; change = change }
+
+row_effect : {p : Participant} {h : ServiceHash} {act : Act} {x : Phase} {r : Option Row} {s : Option Segment} {c : ℕ} {new : Spot} → IsRow p h act x r s c new
+    → Effect act x r c new
+row_effect (reads {x = x} free) = let i = begins_idle x free in calms (idles i.0 refl i.1 refl)
+row_effect (locks {x = x} free below) = let i = begins_idle x free in
+    record { rises = omega arith; locks = λ n l. inr (grind arith, omega arith); change = idles i.0 refl i.1 refl }
+row_effect clears = calms (idles refl refl refl refl)
+row_effect (makes some) = calms (idles refl refl refl refl)
+row_effect unmakes = calms (idles refl refl refl refl)
+row_effect (unlocks {x = x} {n = n} lock) = let i = locked_idle x n lock in
+    record { rises = omega arith; locks = λ n l. absurd (cc); change = idles i.0 refl i.1 refl }
+row_effect (publishes hash nodes) =
+    record { rises = omega arith; locks = λ n l. absurd (cc); change = record { count = refl; number = refl; same = λ m e. absurd (cc) } }
+row_effect (joins number unmarked room) = calms (record { count = refl; number = refl; same = λ m e. absurd (cc) })
+row_effect (joins_again below) = calms (record { count = refl; number = refl; same = λ m e. e })
+row_effect (leaves_once more) = calms (record { count = λ _. omega arith; same = inr refl })
+row_effect (leaves one others) = calms (record { count = λ _. omega arith; same = inl refl })
+row_effect (leaves_last one alone) = calms (record { count = λ _. omega arith; same = inl refl })
+row_effect clears_last = calms (idles refl refl refl refl)
+row_effect (ends {x = x} last) = let i = last_idle x last in
+    record { rises = omega arith; locks = λ n l. absurd (cc); change = idles i.0 refl i.1 refl }
+
+pub step_effect : (p : Participant) (h : ServiceHash) (act : Act) (x : Phase) (r : Option Row) (s : Option Segment) (c : ℕ) (new : Spot)
+    → step p h act x r s c ≡ Some new → Effect act x r c new
+step_effect p h act x r s c new e = row_effect (row_of_step p h act x r s c new e)
 
 -- an allowed step of a world
 pub record Stepped (w v : World) (p : Participant) (h : ServiceHash) (act : Act) : Type 0 where

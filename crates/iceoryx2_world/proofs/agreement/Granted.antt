@@ -1,9 +1,8 @@
 -- What the table grants.
-use Rattle.std.proofs.Common.{◌≡◌, ℕ, Bool, true, false, cond, Option, Some, None, Err, refl, sym, ap, subst, ◌∙◌, arith}
-use Rattle.std.specs.Prelude.{nat_lt}
+use Rattle.std.proofs.Common.{◌≡◌, ℕ, ◌≤◌, Bool, true, false, cond, Option, Some, None, Err, refl, sym, ap, subst, ◌∙◌, arith}
+use Rattle.std.specs.Prelude.{nat_lt, ◌==◌}
 use Rattle.std.proofs.lemmas.Bool.Decides.{nat_tests}
 use Rattle.iceoryx2_data.specs.declared.description.ServiceHash.{ServiceHash}
-use Rattle.iceoryx2_world.specs.Sets as set
 use Rattle.iceoryx2_world.specs.declared.world.Participant.{Participant}
 use Rattle.iceoryx2_world.specs.declared.world.Participant.TheVariants.{Node, Peer}
 use Rattle.iceoryx2_world.specs.declared.world.Phase.{Phase}
@@ -15,7 +14,7 @@ use Rattle.iceoryx2_world.specs.Orders.{hash_total, hash_exact}
 use Rattle.iceoryx2_world.specs.World.{World, Segment, row_of, segment_of, phase_of}
 use Rattle.iceoryx2_world.specs.Acts.{Act}
 use Rattle.iceoryx2_world.specs.Acts as act
-use Rattle.iceoryx2_world.specs.Steps.{Spot, step}
+use Rattle.iceoryx2_world.specs.Steps.{Spot, step, now, leave_of, has_others, without_one, deserted}
 use Rattle.iceoryx2_world.specs.Across.{ticket_of, Agrees}
 use Rattle.iceoryx2_access.specs.Letter.{Letter}
 use Rattle.iceoryx2_access.specs.Letter as letter
@@ -37,14 +36,17 @@ peers_phase {w = u} {v = w} (peer {v = v} id g a ok e rest) i h = peers_phase re
 own_ticket : (i : ℕ) (h : ServiceHash) (n : ℕ) → is_ticket i h n (Some (record { node = i; hash = h; number = n })) ≡ true
 own_ticket i h n = rw (self hash_total hash_exact h) (grind (arith, nat_tests))
 
-leave_three : (a b : Bool) (u v w : Spot) → cond a (Some u) (cond b (Some v) (Some w)) ≡ None → ⊥
-leave_three true b u v w e = cc
-leave_three false true u v w e = cc
-leave_three false false u v w e = cc
+last_granted : (p : Participant) (n : ℕ) (r : Option Row) (c : ℕ) (y : Segment) → leave_of p n r (Some y) c ≡ None → ⊥
+last_granted p n r c y e = elim (has_others y) as (λ b. cond b (now at.Idle r (Some (without_one p y)) c) (now (at.Leaving n) r (Some (deserted y)) c) ≡ None → ⊥) [ true ↦ λ f. cc | false ↦ λ f. cc ] e
 
-leave_granted : (p : Participant) (h : ServiceHash) (x : Phase) (r : Option Row) (s : Option Segment) (c n k : ℕ) (y : Segment) → x ≡ at.Joined n k → s ≡ Some y → step p h act.Leave x r s c ≡ None → ⊥
-leave_granted p h (at.Joined m j) r (Some y) c n k z is there e = leave_three (nat_lt 1 j) (nat_lt 1 (set.len y.participants)) _ _ _ e
-leave_granted p h _ r s c n k y is there e = absurd (cc)
+leave_tests : (v : Spot) (o : Option Spot) (k : ℕ) (a b : Bool) → nat_lt 1 k ≡ a → (k == 1) ≡ b → 1 ≤ k → (o ≡ None → ⊥) → cond a (Some v) (cond b o None) ≡ None → ⊥
+leave_tests v o k true b x y some never e = cc
+leave_tests v o k false true x y some never e = never e
+leave_tests v o k false false x y some never e = grind (arith, nat_tests)
+
+leave_granted : (p : Participant) (h : ServiceHash) (x : Phase) (r : Option Row) (s : Option Segment) (c n k : ℕ) (y : Segment) → x ≡ at.Joined n k → 1 ≤ k → s ≡ Some y → step p h act.Leave x r s c ≡ None → ⊥
+leave_granted p h (at.Joined m j) r (Some y) c n k z is some there e = let same : j ≡ k = cc in leave_tests _ (leave_of p m r (Some y) c) j _ _ refl refl (omega (arith, some, same)) (last_granted p m r c y) e
+leave_granted p h _ r s c n k y is some there e = absurd (cc)
 
 left_refused : (i : ℕ) (h : ServiceHash) (t : ℕ) (k : Tickets) (o : Option Spot) (e : ReleaseError) (c : Change) → Simply (left i h t k o) (Err e) c → o ≡ None
 left_refused i h t k None e c s = refl
@@ -65,7 +67,7 @@ release_granted w v f e old s a =
     let test : is_ticket i h f.number (ticket_of u f.ticket) ≡ true = ap (is_ticket i h f.number) there ∙ own_ticket i h f.number in
     let j = joined_means _ f.number (mid.held.number f.ticket (ticket_for f) there) in
     let c = (mid.everywhere h).joined (Node i) f.number j.0 j.1 in
-    leave_granted (Node i) h (phase_of u (Node i) h) (row_of u h) (segment_of u h) u.counter f.number j.0 c.2.segment j.1 c.2.there (release_refused i h f.ticket u.tickets _ _ (tried i h act.Leave (seat u i h).spot) e (a.own).change test (a.own).own)
+    leave_granted (Node i) h (phase_of u (Node i) h) (row_of u h) (segment_of u h) u.counter f.number j.0 c.2.segment j.1 c.0 c.2.there (release_refused i h f.ticket u.tickets _ _ (tried i h act.Leave (seat u i h).spot) e (a.own).change test (a.own).own)
 
 -- A tag is always removed.
 pub tag_granted : (w v : World) (i : ℕ) (h : ServiceHash) (e : RemoveError) → IsAccess w (letter.RemoveTag i h (Err e)) v → ⊥

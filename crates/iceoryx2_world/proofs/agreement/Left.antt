@@ -6,7 +6,6 @@ use Rattle.std.specs.FinMap as map
 use Rattle.iceoryx2_world.specs.declared.world.Participant.{Participant}
 use Rattle.iceoryx2_world.specs.declared.world.Participant.TheVariants.{Node, Peer}
 use Rattle.iceoryx2_world.specs.declared.world.Phase.{Phase}
-use Rattle.iceoryx2_world.specs.declared.world.Phase.TheVariants as at
 use Rattle.iceoryx2_access.specs.declared.storage.Tag.TheVariants.{Made, Found}
 use Rattle.iceoryx2_world.specs.declared.world.Row.{Row}
 use Rattle.iceoryx2_world.specs.declared.world.Row.TheVariants as row
@@ -14,8 +13,8 @@ use Rattle.iceoryx2_world.specs.Orders.{hash_total, hash_exact, tag_cmp, tag_tot
 use Rattle.iceoryx2_world.specs.World.{World, Segment, row_of, segment_of, phase_of}
 use Rattle.iceoryx2_world.specs.Acts.{Act}
 use Rattle.iceoryx2_world.specs.Acts as act
-use Rattle.iceoryx2_world.specs.Steps.{Spot, step, after}
-use Rattle.std.specs.Prelude.{nat_lt, is_some}
+use Rattle.iceoryx2_world.specs.Steps.{Spot, after}
+use Rattle.std.specs.Prelude.{is_some}
 use Rattle.std.specs.Ordering.{eq_by_cmp}
 use Rattle.iceoryx2_world.specs.Agreement.{Spent, locked_number}
 use Rattle.iceoryx2_world.specs.Across.{Agrees}
@@ -25,13 +24,13 @@ use Rattle.iceoryx2_world.specs.Access.{Change, seat, write, tag_of, tried, read
 use Rattle.iceoryx2_world.specs.Peers.{Peers, none, peer}
 use Rattle.iceoryx2_world.specs.Faulty.{IsFaulty}
 use Rattle.iceoryx2_access.specs.Run.{Run, done, next}
-use Rattle.iceoryx2_world.proofs.agreement.Step.{kept, tested}
+use Rattle.iceoryx2_world.proofs.agreement.Rows.{IsRow, reads, locks as row_locks, clears as row_clears, makes as row_makes, unmakes, unlocks as row_unlocks, publishes as row_publishes, joins as row_joins, joins_again, leaves_once, leaves as row_leaves, leaves_last, clears_last, ends as row_ends, row_of_step}
 use Rattle.iceoryx2_world.proofs.agreement.Maps.{set_cases, either, self}
 use Rattle.iceoryx2_world.proofs.agreement.Effects.{Stepped, stepped as stepped_world}
 use Rattle.iceoryx2_world.proofs.agreement.Worlds.{place_cases, peer_places, peer_keeps, not_peer, step_counter}
 use Rattle.iceoryx2_world.proofs.agreement.Parts.{gives, simply, passed, locking, moved_world, unchanged, fetched_ok, stepped_ok, made_ok}
 use Rattle.iceoryx2_world.proofs.agreement.Accesses.{peers_keep, access_keeps, faulty_keeps, granted}
-use Rattle.iceoryx2_world.proofs.agreement.Calm.{locked_now}
+use Rattle.iceoryx2_world.proofs.agreement.Calm.{locked_now, begins_unlocked}
 use Rattle.iceoryx2_world.proofs.agreement.Spent.{world_segment, spent_own, spent_peers}
 use Rattle.iceoryx2_world.proofs.agreement.Stands.{own_row}
 
@@ -106,19 +105,22 @@ IsStill act.RemoveSegment = Unit {0}
 IsStill (act.Make m) = Unit {0}
 IsStill _ = ⊥
 
-still_step : (p : Participant) (h : ServiceHash) (a : Act) (x : Phase) (r : Option Row) (s : Option Segment) (c : ℕ) (new : Spot) → IsStill a → step p h a x r s c ≡ Some new → locked_number new.phase ≡ locked_number x
-still_step p h act.Read at.Idle (Some (row.Published n b)) s c new ok e = kept (λ new. locked_number new.phase ≡ None) _ new e refl
-still_step p h act.Read (at.Read m) (Some (row.Published n b)) s c new ok e = kept (λ new. locked_number new.phase ≡ None) _ new e refl
-still_step p h act.RemoveSegment (at.Locked n) r s c new ok e = kept (λ new. locked_number new.phase ≡ Some n) _ new e refl
-still_step p h (act.Make m) (at.Locked n) r None c new ok e = tested (λ new. locked_number new.phase ≡ Some n) _ new (nat_lt 0 m) e (λ _. refl)
-still_step p h act.RemoveSegment (at.Made n) r s c new ok e = kept (λ new. locked_number new.phase ≡ Some n) _ new e refl
-still_step p h act.RemoveSegment (at.Leaving n) r s c new ok e = kept (λ new. locked_number new.phase ≡ None) _ new e refl
-still_step p h act.Lock x r s c new ok e = absurd ok
-still_step p h act.RemoveDescription x r s c new ok e = absurd ok
-still_step p h (act.Publish d) x r s c new ok e = absurd ok
-still_step p h act.Join x r s c new ok e = absurd ok
-still_step p h act.Leave x r s c new ok e = absurd ok
-still_step p h _ _ _ _ _ new ok e = absurd (cc)
+still_row : {p : Participant} {h : ServiceHash} {act : Act} {x : Phase} {r : Option Row} {s : Option Segment} {c : ℕ} {new : Spot} → IsRow p h act x r s c new
+    → IsStill act → locked_number new.phase ≡ locked_number x
+still_row (reads {x = x} free) ok = sym (begins_unlocked x free)
+still_row row_clears ok = refl
+still_row (row_makes some) ok = refl
+still_row unmakes ok = refl
+still_row clears_last ok = refl
+still_row (row_locks free below) ok = absurd ok
+still_row (row_unlocks lock) ok = absurd ok
+still_row (row_publishes hash nodes) ok = absurd ok
+still_row (row_joins number unmarked room) ok = absurd ok
+still_row (joins_again below) ok = absurd ok
+still_row (leaves_once more) ok = absurd ok
+still_row (row_leaves one others) ok = absurd ok
+still_row (leaves_last one alone) ok = absurd ok
+still_row (row_ends last) ok = absurd ok
 
 untouched : (w v : World) (id : ℕ) (g : ServiceHash) (a : Act) → IsStill a → after w (Node id) g a ≡ Some v → Untouched w v
 untouched w v id g a ok e =
@@ -126,7 +128,7 @@ untouched w v id g a ok e =
     subst (λ u. Untouched w u) st.world (record {
       tags = refl;
       locks = λ i h. elim (place_cases w (Node id) g st.spot (Node i) h) [
-        | inl k ↦ ap locked_number k.2 ∙ still_step (Node id) g a (phase_of w (Node id) g) (row_of w g) (segment_of w g) w.counter st.spot ok st.is ∙ (λ j. locked_number (phase_of w (sym k.0 j) (sym k.1 j)))
+        | inl k ↦ ap locked_number k.2 ∙ still_row (row_of_step (Node id) g a (phase_of w (Node id) g) (row_of w g) (segment_of w g) w.counter st.spot st.is) ok ∙ (λ j. locked_number (phase_of w (sym k.0 j) (sym k.1 j)))
         | inr k ↦ ap locked_number k.1
       ];
     })
@@ -154,10 +156,8 @@ lacks_segment : (w v : World) (h : ServiceHash) (n : ℕ) → segment_of v h ≡
 lacks_segment w v h n e lacks x is = lacks x (sym e ∙ is)
 
 -- acts that leave segments
-segment_spot : (p : Participant) (h : ServiceHash) (x : Phase) (r : Option Row) (s : Option Segment) (c : ℕ) (new : Spot) → step p h act.Read x r s c ≡ Some new → new.segment ≡ s
-segment_spot p h at.Idle (Some (row.Published n b)) s c new e = kept (λ new. new.segment ≡ s) _ new e refl
-segment_spot p h (at.Read m) (Some (row.Published n b)) s c new e = kept (λ new. new.segment ≡ s) _ new e refl
-segment_spot p h _ _ _ _ new e = absurd (cc)
+segment_spot : {p : Participant} {h : ServiceHash} {x : Phase} {r : Option Row} {s : Option Segment} {c : ℕ} {new : Spot} → IsRow p h act.Read x r s c new → new.segment ≡ s
+segment_spot (reads free) = refl
 
 segment_stays : (w v : World) (p : Participant) (g : ServiceHash) (a : Act) → (st : Stepped w v p g a) → st.spot.segment ≡ segment_of w g → (h : ServiceHash) → segment_of v h ≡ segment_of w h
 segment_stays w v p g a st same h = subst (λ u. segment_of u h ≡ segment_of w h) st.world (elim (set_cases hash_total hash_exact w.segments g st.spot.segment h) [
@@ -168,7 +168,7 @@ segment_stays w v p g a st same h = subst (λ u. segment_of u h ≡ segment_of w
 plain_segment : (w : World) (l : Letter) (v : World) → IsPlain l → IsOwnPart w l v → (h : ServiceHash) → segment_of v h ≡ segment_of w h
 plain_segment w l v ok o h = elim (plain_part w l v ok o) [
   | inl e ↦ ap (λ u. segment_of u h) e
-  | inr k ↦ let st = stepped_world w v (Node k.0) k.1 act.Read k.2 in segment_stays w v (Node k.0) k.1 act.Read st (segment_spot (Node k.0) k.1 (phase_of w (Node k.0) k.1) (row_of w k.1) (segment_of w k.1) w.counter st.spot st.is) h
+  | inr k ↦ let st = stepped_world w v (Node k.0) k.1 act.Read k.2 in segment_stays w v (Node k.0) k.1 act.Read st (segment_spot (row_of_step (Node k.0) k.1 act.Read (phase_of w (Node k.0) k.1) (row_of w k.1) (segment_of w k.1) w.counter st.spot st.is)) h
 ]
 
 -- while a node has the lock no peer makes a segment
@@ -287,11 +287,10 @@ unlocking w v i h a p = elim (simply _ (Ok a) p.change p.own) [
 ]
 
 -- what a removal of the segment leaves
-cleared_spot : (p : Participant) (h : ServiceHash) (x : Phase) (r : Option Row) (s : Option Segment) (c : ℕ) (new : Spot) → step p h act.RemoveSegment x r s c ≡ Some new → new.segment ≡ None
-cleared_spot p h (at.Locked n) r s c new e = kept (λ new. new.segment ≡ None) _ new e refl
-cleared_spot p h (at.Made n) r s c new e = kept (λ new. new.segment ≡ None) _ new e refl
-cleared_spot p h (at.Leaving n) r s c new e = kept (λ new. new.segment ≡ None) _ new e refl
-cleared_spot p h _ _ _ _ new e = absurd (cc)
+cleared_spot : {p : Participant} {h : ServiceHash} {x : Phase} {r : Option Row} {s : Option Segment} {c : ℕ} {new : Spot} → IsRow p h act.RemoveSegment x r s c new → new.segment ≡ None
+cleared_spot row_clears = refl
+cleared_spot unmakes = refl
+cleared_spot clears_last = refl
 
 -- and one of the description
 record Unlocked (s : Option Segment) (new : Spot) : Type 0 where
@@ -299,12 +298,9 @@ record Unlocked (s : Option Segment) (new : Spot) : Type 0 where
   pub segment : new.segment ≡ s
   pub lock : locked_number new.phase ≡ None
 
-unlocked_spot : (p : Participant) (h : ServiceHash) (x : Phase) (r : Option Row) (s : Option Segment) (c : ℕ) (new : Spot) → step p h act.RemoveDescription x r s c ≡ Some new → Unlocked s new
-unlocked_spot p h (at.Locked n) r s c new e = kept (Unlocked s) _ new e (record { row = refl; segment = refl; lock = refl })
-unlocked_spot p h (at.Made n) r s c new e = kept (Unlocked s) _ new e (record { row = refl; segment = refl; lock = refl })
-unlocked_spot p h (at.Leaving n) r s c new e = kept (Unlocked s) _ new e (record { row = refl; segment = refl; lock = refl })
-unlocked_spot p h (at.Cleared n) r s c new e = kept (Unlocked s) _ new e (record { row = refl; segment = refl; lock = refl })
-unlocked_spot p h _ _ _ _ new e = absurd (cc)
+unlocked_spot : {p : Participant} {h : ServiceHash} {x : Phase} {r : Option Row} {s : Option Segment} {c : ℕ} {new : Spot} → IsRow p h act.RemoveDescription x r s c new → Unlocked s new
+unlocked_spot (row_unlocks lock) = record { row = refl; segment = refl; lock = refl }
+unlocked_spot (row_ends last) = record { row = refl; segment = refl; lock = refl }
 
 pub own_phase : (w v : World) (i : ℕ) (h : ServiceHash) (a : Act) → (st : Stepped w v (Node i) h a) → phase_of v (Node i) h ≡ st.spot.phase
 own_phase w v i h a st = subst (λ u. phase_of u (Node i) h ≡ st.spot.phase) st.world (elim (place_cases w (Node i) h st.spot (Node i) h) [ inl k ↦ k.2 | inr k ↦ absurd (k.0 refl refl) ])
@@ -337,7 +333,7 @@ module _ (node : ℕ) (hash : ServiceHash) where
   unlock_holds w v n a o old h =
       let e = unlocking w v node hash a o in
       let st = stepped_world w v (Node node) hash act.RemoveDescription e in
-      let u = unlocked_spot (Node node) hash (phase_of w (Node node) hash) (row_of w hash) (segment_of w hash) w.counter st.spot st.is in (
+      let u = unlocked_spot (row_of_step (Node node) hash act.RemoveDescription (phase_of w (Node node) hash) (row_of w hash) (segment_of w hash) w.counter st.spot st.is) in (
         ap locked_number (own_phase w v node hash act.RemoveDescription st) ∙ u.lock,
         record {
           below = grind (arith, step_counter w v (Node node) hash act.RemoveDescription st, (old.everywhere hash).row_below (row.Locked n) ((old.everywhere hash).locked (Node node) n h.0));
@@ -350,13 +346,13 @@ module _ (node : ℕ) (hash : ServiceHash) where
   leave_holds w v a o =
       let e = unlocking w v node hash a o in
       let st = stepped_world w v (Node node) hash act.RemoveDescription e in
-      ap locked_number (own_phase w v node hash act.RemoveDescription st) ∙ (unlocked_spot (Node node) hash (phase_of w (Node node) hash) (row_of w hash) (segment_of w hash) w.counter st.spot st.is).lock
+      ap locked_number (own_phase w v node hash act.RemoveDescription st) ∙ (unlocked_spot (row_of_step (Node node) hash act.RemoveDescription (phase_of w (Node node) hash) (row_of w hash) (segment_of w hash) w.counter st.spot st.is)).lock
 
   clear_holds : (w v : World) (n : ℕ) (a : Unit {0}) → IsOwnPart w (letter.RemoveSegment node hash (Ok a)) v → locked_number (phase_of w (Node node) hash) ≡ Some n → HoldIs node hash (clear n) v
   clear_holds w v n a o lock =
       let e = clearing w v node hash a o in
       let st = stepped_world w v (Node node) hash act.RemoveSegment e in
-      let gone : segment_of v hash ≡ None = own_segment w v (Node node) hash act.RemoveSegment st ∙ cleared_spot (Node node) hash (phase_of w (Node node) hash) (row_of w hash) (segment_of w hash) w.counter st.spot st.is in
+      let gone : segment_of v hash ≡ None = own_segment w v (Node node) hash act.RemoveSegment st ∙ cleared_spot (row_of_step (Node node) hash act.RemoveSegment (phase_of w (Node node) hash) (row_of w hash) (segment_of w hash) w.counter st.spot st.is) in
       ((untouched w v node hash act.RemoveSegment tt e).locks node hash ∙ lock, λ x is. absurd (cc))
 
 -- What the node has after such a word, whatever peers did between and whatever was refused.

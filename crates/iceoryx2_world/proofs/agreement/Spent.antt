@@ -1,19 +1,16 @@
 -- A number that is spent at a service never comes back there.
-use Rattle.std.proofs.Common.{◌≡◌, ℕ, true, ◌⊎◌, inl, inr, List, Option, Some, None, refl, sym, ap, subst, ◌∙◌, arith}
-use Rattle.std.specs.Prelude.{nat_lt}
+use Rattle.std.proofs.Common.{◌≡◌, ℕ, ◌⊎◌, inl, inr, List, Option, Some, None, refl, sym, ap, subst, ◌∙◌, arith}
 use Rattle.iceoryx2_data.specs.declared.description.ServiceHash.{ServiceHash}
-use Rattle.iceoryx2_world.specs.Sets as set
 use Rattle.iceoryx2_world.specs.declared.world.Participant.{Participant}
 use Rattle.iceoryx2_world.specs.declared.world.Participant.TheVariants.{Node, Peer}
 use Rattle.iceoryx2_world.specs.declared.world.Phase.{Phase}
-use Rattle.iceoryx2_world.specs.declared.world.Phase.TheVariants as at
 use Rattle.iceoryx2_world.specs.declared.world.Row.{Row}
 use Rattle.iceoryx2_world.specs.declared.world.Row.TheVariants as row
 use Rattle.iceoryx2_world.specs.Orders.{hash_total, hash_exact}
 use Rattle.iceoryx2_world.specs.World.{World, Segment, row_of, segment_of, phase_of}
 use Rattle.iceoryx2_world.specs.Acts.{Act, IsAct, Read, Lock, RemoveSegment, RemoveDescription, Make, Publish, Join, Leave}
 use Rattle.iceoryx2_world.specs.Acts as act
-use Rattle.iceoryx2_world.specs.Steps.{Spot, step, put, after, has_room, fits, last_number}
+use Rattle.iceoryx2_world.specs.Steps.{Spot, put, after, with_one, without_one, deserted}
 use Rattle.iceoryx2_world.specs.Agreement.{AgreesEverywhere, Spent, locked_number}
 use Rattle.iceoryx2_world.specs.Across.{Agrees}
 use Rattle.iceoryx2_access.specs.Letter.{Letter}
@@ -22,7 +19,7 @@ use Rattle.iceoryx2_world.specs.Peers.{Peers, none, peer}
 use Rattle.iceoryx2_world.specs.Faulty.{IsFaulty}
 use Rattle.iceoryx2_access.specs.Run.{Run, done, next}
 use Rattle.iceoryx2_world.proofs.agreement.Whole.{after_keeps}
-use Rattle.iceoryx2_world.proofs.agreement.Step.{kept, tested, left_means}
+use Rattle.iceoryx2_world.proofs.agreement.Rows.{IsRow, reads, locks, clears, makes, unmakes, unlocks, publishes, joins as adds, joins_again, leaves_once, leaves, leaves_last, clears_last, ends, row_of_step}
 use Rattle.iceoryx2_world.proofs.agreement.Maps.{set_cases}
 use Rattle.iceoryx2_world.proofs.agreement.Effects.{stepped}
 use Rattle.iceoryx2_world.proofs.agreement.Worlds.{peer_keeps}
@@ -42,24 +39,22 @@ no_origin x s y e = absurd (cc)
 some_origin : (x : Option ℕ) (z t : Segment) → z.number ≡ t.number → Origin x (Some z) (Some t)
 some_origin x z t e y is = let same : t ≡ y = cc in inl (z, refl, e ∙ ap (λ (k : Segment). k.number) same)
 
-pub step_segment : (p : Participant) (h : ServiceHash) (a : Act) (x : Phase) (r : Option Row) (s : Option Segment) (c : ℕ) (new : Spot) → step p h a x r s c ≡ Some new → Origin (locked_number x) s new.segment
-step_segment p h Read at.Idle (Some (row.Published n b)) s c new e = kept (λ new. Origin (locked_number at.Idle) s new.segment) _ new e (same_origin _ s)
-step_segment p h Read (at.Read m) (Some (row.Published n b)) s c new e = kept (λ new. Origin (locked_number (at.Read m)) s new.segment) _ new e (same_origin _ s)
-step_segment p h Lock at.Idle None s c new e = tested (λ new. Origin (locked_number at.Idle) s new.segment) _ new (nat_lt c last_number) e (λ _. same_origin _ s)
-step_segment p h Lock (at.Read m) None s c new e = tested (λ new. Origin (locked_number (at.Read m)) s new.segment) _ new (nat_lt c last_number) e (λ _. same_origin _ s)
-step_segment p h RemoveSegment (at.Locked n) r s c new e = kept (λ new. Origin (locked_number (at.Locked n)) s new.segment) _ new e (no_origin _ s)
-step_segment p h (Make m) (at.Locked n) r None c new e = tested (λ new. Origin (locked_number (at.Locked n)) None new.segment) _ new (nat_lt 0 m) e (λ _. λ y is. inr (cc))
-step_segment p h RemoveSegment (at.Made n) r s c new e = kept (λ new. Origin (locked_number (at.Made n)) s new.segment) _ new e (no_origin _ s)
-step_segment p h RemoveDescription (at.Locked n) r s c new e = kept (λ new. Origin (locked_number (at.Locked n)) s new.segment) _ new e (same_origin _ s)
-step_segment p h RemoveDescription (at.Made n) r s c new e = kept (λ new. Origin (locked_number (at.Made n)) s new.segment) _ new e (same_origin _ s)
-step_segment p h (Publish d) (at.Made n) r (Some s) c new e = tested (λ new. Origin (locked_number (at.Made n)) (Some s) new.segment) _ new (fits h s d) e (λ _. same_origin _ (Some s))
-step_segment p h Join (at.Read n) r (Some s) c new e = tested (λ new. Origin (locked_number (at.Read n)) (Some s) new.segment) _ new (has_room n s) e (λ _. some_origin _ s (record s { participants = set.insert s.participants p }) refl)
-step_segment p h Join (at.Joined n k) r s c new e = tested (λ new. Origin (locked_number (at.Joined n k)) s new.segment) _ new (nat_lt k last_number) e (λ _. same_origin _ s)
-step_segment p h Leave (at.Joined n k) r (Some s) c new e = left_means (λ new. Origin (locked_number (at.Joined n k)) (Some s) new.segment) _ _ _ new (nat_lt 1 k) (nat_lt 1 (set.len s.participants)) e (λ _. same_origin _ (Some s)) (λ _. some_origin _ s (record s { participants = set.remove s.participants p }) refl) (λ _. some_origin _ s (record s { participants = set.empty; marked = true }) refl)
-step_segment p h RemoveSegment (at.Leaving n) r s c new e = kept (λ new. Origin (locked_number (at.Leaving n)) s new.segment) _ new e (no_origin _ s)
-step_segment p h RemoveDescription (at.Leaving n) r s c new e = kept (λ new. Origin (locked_number (at.Leaving n)) s new.segment) _ new e (same_origin _ s)
-step_segment p h RemoveDescription (at.Cleared n) r s c new e = kept (λ new. Origin (locked_number (at.Cleared n)) s new.segment) _ new e (same_origin _ s)
-step_segment p h _ _ _ _ _ new e = absurd (cc)
+row_segment : {p : Participant} {h : ServiceHash} {act : Act} {x : Phase} {r : Option Row} {s : Option Segment} {c : ℕ} {new : Spot} → IsRow p h act x r s c new
+    → Origin (locked_number x) s new.segment
+row_segment (reads free) = same_origin _ _
+row_segment (locks free below) = same_origin _ _
+row_segment clears = no_origin _ _
+row_segment (makes some) = λ y is. inr (cc)
+row_segment unmakes = no_origin _ _
+row_segment (unlocks lock) = same_origin _ _
+row_segment (publishes hash nodes) = same_origin _ _
+row_segment {p} (adds {s = s} number unmarked room) = some_origin _ s (with_one p s) refl
+row_segment (joins_again below) = same_origin _ _
+row_segment (leaves_once more) = same_origin _ _
+row_segment {p} (leaves {s = s} one others) = some_origin _ s (without_one p s) refl
+row_segment (leaves_last {s = s} one alone) = some_origin _ s (deserted s) refl
+row_segment clears_last = no_origin _ _
+row_segment (ends last) = same_origin _ _
 
 -- the same in worlds, at each service
 pub world_segment : (w v : World) (p : Participant) (g : ServiceHash) (a : Act) → after w p g a ≡ Some v → (h : ServiceHash) (y : Segment) → segment_of v h ≡ Some y → ((z : Segment) × (segment_of w h ≡ Some z) × (z.number ≡ y.number)) ⊎ (locked_number (phase_of w p h) ≡ Some y.number)
@@ -67,7 +62,7 @@ world_segment w v p g a e h y is =
     let st = stepped w v p g a e in
     let there : segment_of (put w p g st.spot) h ≡ Some y = ap (λ u. segment_of u h) st.world ∙ is in
     elim (set_cases hash_total hash_exact w.segments g st.spot.segment h) [
-      | inl k ↦ elim (step_segment p g a (phase_of w p g) (row_of w g) (segment_of w g) w.counter st.spot st.is y (sym k.1 ∙ there)) [
+      | inl k ↦ elim (row_segment (row_of_step p g a (phase_of w p g) (row_of w g) (segment_of w g) w.counter st.spot st.is) y (sym k.1 ∙ there)) [
         | inl z ↦ inl (z.0, ap (segment_of w) k.0 ∙ z.1, z.2)
         | inr l ↦ inr (ap (λ f. locked_number (phase_of w p f)) k.0 ∙ l)
       ]

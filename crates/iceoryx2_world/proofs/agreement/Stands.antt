@@ -17,7 +17,7 @@ use Rattle.iceoryx2_world.specs.Orders.{hash_total, hash_exact}
 use Rattle.iceoryx2_world.specs.World.{World, Segment, row_of, segment_of, phase_of}
 use Rattle.iceoryx2_world.specs.Acts.{Act, IsAct}
 use Rattle.iceoryx2_world.specs.Acts as act
-use Rattle.iceoryx2_world.specs.Steps.{Spot, step, after, fits}
+use Rattle.iceoryx2_world.specs.Steps.{Spot, after}
 use Rattle.iceoryx2_world.specs.Agreement.{AgreesEverywhere, Later, joined_number, locked_number}
 use Rattle.iceoryx2_world.specs.Across.{ticket_of, Agrees}
 use Rattle.iceoryx2_access.specs.declared.storage.Release.{Release as Released}
@@ -30,7 +30,7 @@ use Rattle.iceoryx2_world.specs.Standing.{ticket_for, Stands, Spares, Each}
 use Rattle.iceoryx2_access.specs.Run.{Run, done, next}
 use Rattle.iceoryx2_access.proofs.Run.{split, head, last}
 use Rattle.iceoryx2_world.proofs.agreement.Whole.{after_keeps}
-use Rattle.iceoryx2_world.proofs.agreement.Step.{tested, fits_means}
+use Rattle.iceoryx2_world.proofs.agreement.Rows.{IsRow, publishes as row_publishes, row_of_step}
 use Rattle.iceoryx2_world.proofs.agreement.Maps.{set_cases}
 use Rattle.iceoryx2_world.proofs.agreement.Effects.{Stepped, stepped}
 use Rattle.iceoryx2_world.proofs.agreement.Worlds.{ticket_put, ticket_removed, place_cases, step_tickets}
@@ -120,10 +120,9 @@ run_stands f done spares old s = s
 run_stands {w = u} {v = w} f (next {mid = v} {letter = l} a rest) spares old s = run_stands f rest spares.1 (faulty_keeps u l v a old).0 (faulty_stands u l v f a spares.0 old s)
 
 -- the row that a publishing leaves
-publish_spot : (p : Participant) (h : ServiceHash) (d : Description) (n : ℕ) (x : Phase) (r : Option Row) (s : Option Segment) (c : ℕ) (new : Spot) → x ≡ at.Made n → step p h (act.Publish d) x r s c ≡ Some new → (new.row ≡ Some (row.Published n (form.description d))) × (d.hash ≡ h)
-publish_spot p h d n (at.Made m) r (Some s) c new is e = let same : m ≡ n = cc in tested (λ new. (new.row ≡ Some (row.Published n (form.description d))) × (d.hash ≡ h)) _ new (fits h s d) e (λ t. (ap (λ k. Some (row.Published k (form.description d))) same, (fits_means d h s t).0))
-publish_spot p h d n (at.Made m) r None c new is e = absurd (cc)
-publish_spot p h d n _ r s c new is e = absurd (cc)
+publish_spot : {p : Participant} {h : ServiceHash} {d : Description} {n : ℕ} {x : Phase} {r : Option Row} {s : Option Segment} {c : ℕ} {new : Spot} → x ≡ at.Made n
+    → IsRow p h (act.Publish d) x r s c new → (new.row ≡ Some (row.Published n (form.description d))) × (d.hash ≡ h)
+publish_spot {d = d} {n = n} is (row_publishes {n = m} hash nodes) = let same : m ≡ n = cc in (ap (λ k. Some (row.Published k (form.description d))) same, hash)
 
 pub own_row : (w v : World) (p : Participant) (h : ServiceHash) (a : Act) → (st : Stepped w v p h a) → row_of v h ≡ st.spot.row
 own_row w v p h a st = subst (λ u. row_of u h ≡ st.spot.row) st.world (elim (set_cases hash_total hash_exact w.rows h st.spot.row h) [ inl e ↦ e.1 | inr e ↦ absurd (e.0 refl) ])
@@ -139,7 +138,7 @@ published_stands w v i h n d t e old =
     let p = publishing a.between v i h n d t a.own in
     let st = stepped a.between p.mid (Node i) h (act.Publish d) p.step in
     let new = (access_keeps w (letter.Publish i h n d (Ok t)) v a old).0 in
-    let is = publish_spot (Node i) h d n (phase_of a.between (Node i) h) (row_of a.between h) (segment_of a.between h) a.between.counter st.spot p.phase st.is in
+    let is = publish_spot p.phase (row_of_step (Node i) h (act.Publish d) (phase_of a.between (Node i) h) (row_of a.between h) (segment_of a.between h) a.between.counter st.spot st.is) in
     let f : Factory = record { node = i; number = n; ticket = t; description = d } in
     let row : row_of v d.hash ≡ Some (row.Published n (form.description d)) = ap (row_of v) is.1 ∙ ap (λ z. row_of z h) p.is ∙ own_row a.between p.mid (Node i) h (act.Publish d) st ∙ is.0 in
     let ticket : ticket_of v t ≡ Some (ticket_for f) = ap (λ z. ticket_of z t) p.is ∙ ticket_there p.mid t (mine i h n) ∙ (λ j. Some (record { node = i; hash = sym is.1 j; number = n })) in
