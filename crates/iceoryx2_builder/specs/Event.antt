@@ -9,12 +9,12 @@ use Rattle.iceoryx2_data.specs.declared.event.StaticConfig.{StaticConfig as Sett
 use Rattle.iceoryx2_data.specs.declared.event.Deadline.{Deadline}
 use Rattle.iceoryx2_rounds.specs.Verdict.{Clause, Row, at_least, marked_clauses}
 use Rattle.iceoryx2_rounds.specs.Meaning.{Meaning}
-use Rattle.iceoryx2_rounds.specs.States.{open_error_of_state, create_error_of_state}
-use Rattle.iceoryx2_rounds.specs.declared.error.ServiceState.{ServiceState}
-use Rattle.iceoryx2_rounds.specs.declared.error.EventOpenError.{EventOpenError}
-use Rattle.iceoryx2_rounds.specs.declared.error.EventOpenError.TheVariants as opening
-use Rattle.iceoryx2_rounds.specs.declared.error.EventCreateError.{EventCreateError}
-use Rattle.iceoryx2_rounds.specs.declared.error.EventCreateError.TheVariants as creating
+use Rattle.iceoryx2_errors.specs.States.{open_error_of_state, create_error_of_state}
+use Rattle.iceoryx2_errors.specs.declared.error.ServiceState.{ServiceState}
+use Rattle.iceoryx2_errors.specs.declared.error.EventOpenError.{EventOpenError}
+use Rattle.iceoryx2_errors.specs.declared.error.EventOpenError.TheVariants as opening
+use Rattle.iceoryx2_errors.specs.declared.error.EventCreateError.{EventCreateError}
+use Rattle.iceoryx2_errors.specs.declared.error.EventCreateError.TheVariants as creating
 use Rattle.iceoryx2_rounds.specs.declared.pattern.OpenRefusal.{OpenRefusal}
 use Rattle.iceoryx2_rounds.specs.declared.pattern.OpenRefusal.TheVariants as open_refusal
 use Rattle.iceoryx2_rounds.specs.declared.pattern.CreateRefusal.{CreateRefusal}

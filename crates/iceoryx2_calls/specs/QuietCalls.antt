@@ -7,7 +7,7 @@ use Rattle.iceoryx2_data.specs.Description.{Description, max_nodes_of}
 use Rattle.iceoryx2_data.specs.Span.{Span}
 use Rattle.iceoryx2_world.specs.World.{set_to}
 use Rattle.iceoryx2_world.specs.Steps.{last_number}
-use Rattle.iceoryx2_rounds.specs.declared.error.ServiceState.TheVariants as state
+use Rattle.iceoryx2_errors.specs.declared.error.ServiceState.TheVariants as state
 use Rattle.iceoryx2_rounds.specs.declared.pattern.CreateRefusal.TheVariants as create_refusal
 use Rattle.iceoryx2_rounds.specs.declared.pattern.OpenRefusal.TheVariants as open_refusal
 use Rattle.iceoryx2_rounds.specs.Meaning.{Meaning}

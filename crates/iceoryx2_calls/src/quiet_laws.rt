@@ -17,7 +17,7 @@ ghost use Rattle.iceoryx2_world.specs.Across.{Agrees, empty_world, ticket_of, ti
 ghost use Rattle.iceoryx2_world.specs.Standing.{ticket_for};
 ghost use Rattle.iceoryx2_world.specs.Listing.{Lists};
 ghost use Rattle.iceoryx2_rounds.specs.declared.pattern.OpenRefusal.TheVariants.{OutOfMemory};
-ghost use Rattle.iceoryx2_rounds.specs.declared.port_factory.CloseError.{CloseError};
+ghost use Rattle.iceoryx2_errors.specs.declared.error.CloseError.{CloseError};
 ghost use Rattle.iceoryx2_rounds.specs.Meaning.{Meaning};
 ghost use Rattle.iceoryx2_rounds.specs.Verdict.{verdict};
 ghost use Rattle.iceoryx2_access.specs.Factory.{Factory};

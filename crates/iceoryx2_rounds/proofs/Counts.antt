@@ -14,9 +14,9 @@ use Rattle.iceoryx2_rounds.specs.Looks.{IsLookWord, absent, broken, fetched}
 use Rattle.iceoryx2_rounds.specs.GivesBack.{Thing, OwnTag, OwnLock, OwnSegment, own_tag, GivesBack, nothing_left, segment_back, lock_back, tag_back}
 use Rattle.iceoryx2_rounds.specs.Segments.{cleared, IsSegmentWord, made, not_made, not_removed, still_there}
 use Rattle.iceoryx2_rounds.specs.Creates as creates
-use Rattle.iceoryx2_rounds.specs.Creates.{IsEntryWord, IsCreating, forbidden, not_entered, clock_fault, not_locked, no_segment, not_published, published, counted, no_copies, entered}
+use Rattle.iceoryx2_rounds.specs.Creates.{IsEntryWord, IsServiceWord, IsCreating, forbidden, not_entered, clock_fault, not_locked, no_segment, not_published, published, counted, no_copies, entered}
 use Rattle.iceoryx2_rounds.specs.Opens as opens
-use Rattle.iceoryx2_rounds.specs.Opens.{IsReady, ready, IsFailedRound, failed, IsLastRound, AreFailedRounds, no_round, one_more, IsOpenWord, ended, six_failed}
+use Rattle.iceoryx2_rounds.specs.Opens.{IsReady, ready, IsFailedRound, failed, IsLastRound, AreFailedRounds, no_round, one_more, IsOpenWord, ended, all_failed}
 
 within_append : {v w : List Letter} {a b c d e f g h : ℕ} → IsWithin v a b c d → IsWithin w e f g h → IsWithin (v ++ w) (a + e) (b + f) (c + g) (d + h)
 within_append p q = record {
@@ -112,15 +112,18 @@ module _ {F E C : Type 0} (m : Meaning F E C) (node : ℕ) (hash : ServiceHash) 
   entry_within (creates.no_tag e l) = within_append (look_within l) (within_append (asks node hash _) (tags node hash _))
   entry_within (entered tag l) = within_append (look_within l) (within_append (asks node hash _) (tags node hash _))
 
+  service_within : {d : Description} {tag : Tag} {w : List Letter} {r : Result Factory C} → IsServiceWord m node hash d tag w r → IsWithin w 0 0 6 6
+  service_within {tag = tag} (not_locked x b) = within_more _ _ _ _ (omega arith) (omega arith) (omega arith) (omega arith) (within_append (locks node hash _) (tag_within node hash tag b))
+  service_within {tag = tag} (no_segment s b) = within_more _ _ _ _ (omega arith) (omega arith) (omega arith) (omega arith) (within_append (locks node hash _) (within_append (segment_within node hash _ _ s) (lock_within node hash tag b)))
+  service_within {tag = tag} (not_published x s b) = within_append (locks node hash _) (within_append (segment_within node hash _ _ s) (within_append (publishes node hash _ _ _) (all_within node hash tag b)))
+  service_within (published n t s) = within_more _ _ _ _ (omega arith) (omega arith) (omega arith) (omega arith) (within_append (locks node hash _) (within_append (segment_within node hash _ _ s) (publishes node hash _ _ _)))
+
   -- a create looks once, opens nothing, and makes its segment in at most six attempts
   pub create_within : {stops : Bool} {d : Description} {w : List Letter} {r : Result Factory C} → IsCreating m node hash stops d w r → IsWithin w 1 0 6 6
   create_within (forbidden _) = within_more _ _ _ _ (omega arith) (omega arith) (omega arith) (omega arith) none_within
   create_within (not_entered _ e) = within_more _ _ _ _ (omega arith) (omega arith) (omega arith) (omega arith) (entry_within e)
   create_within (clock_fault {tag} _ _ e b) = within_more _ _ _ _ (omega arith) (omega arith) (omega arith) (omega arith) (within_append (entry_within e) (tag_within node hash tag b))
-  create_within (not_locked {tag} x _ _ e b) = within_more _ _ _ _ (omega arith) (omega arith) (omega arith) (omega arith) (within_append (entry_within e) (within_append (locks node hash _) (tag_within node hash tag b)))
-  create_within (no_segment {tag} _ _ e s b) = within_more _ _ _ _ (omega arith) (omega arith) (omega arith) (omega arith) (within_append (entry_within e) (within_append (locks node hash _) (within_append (segment_within node hash _ _ s) (lock_within node hash tag b))))
-  create_within (not_published {tag} x _ _ e s b) = within_append (entry_within e) (within_append (locks node hash _) (within_append (segment_within node hash _ _ s) (within_append (publishes node hash _ _ _) (all_within node hash tag b))))
-  create_within (published n t _ _ e s) = within_more _ _ _ _ (omega arith) (omega arith) (omega arith) (omega arith) (within_append (entry_within e) (within_append (locks node hash _) (within_append (segment_within node hash _ _ s) (publishes node hash _ _ _))))
+  create_within (creates.made _ _ e s) = within_append (entry_within e) (service_within s)
 
   ready_within : {n : ℕ} {d : Description} {tag : Tag} {w : List Letter} → IsReady m node hash n d tag w → IsWithin w 1 0 0 0
   ready_within (ready tag l _) = within_append (look_within l) (tags node hash _)
@@ -145,4 +148,4 @@ module _ {F E C : Type 0} (m : Meaning F E C) (node : ℕ) (hash : ServiceHash) 
   -- an open looks at most twice and opens at most once in each of its at most six rounds
   pub open_within : {w : List Letter} {r : Result Factory E} → IsOpenWord m node hash w r → IsWithin w 12 6 0 0
   open_within (ended small before l) = within_more _ _ _ _ (omega arith) (omega arith) (omega arith) (omega arith) (within_append (rounds_within before) (last_within l))
-  open_within (six_failed before) = rounds_within before
+  open_within (all_failed before) = rounds_within before

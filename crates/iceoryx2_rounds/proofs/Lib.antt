@@ -2,4 +2,5 @@ pub mod Verdicts
 pub mod LookSteps
 pub mod OpenSteps
 pub mod Counts
-pub mod Held
+pub mod Kept
+pub mod Carried

@@ -10,6 +10,7 @@ use Rattle.iceoryx2_access.specs.declared.storage.LockError.{LockError}
 use Rattle.iceoryx2_access.specs.declared.storage.PublishError.{PublishError}
 use Rattle.iceoryx2_access.specs.Letter.{Letter, Counts, MakeTag, Lock, Publish}
 use Rattle.iceoryx2_rounds.specs.declared.look.Outcome.TheVariants.{Nothing, Found, Faulty}
+use Rattle.iceoryx2_rounds.specs.declared.pattern.CreateRefusal.{CreateRefusal}
 use Rattle.iceoryx2_rounds.specs.declared.pattern.CreateRefusal.TheVariants as refusal
 use Rattle.iceoryx2_rounds.specs.Meaning.{Meaning}
 use Rattle.iceoryx2_access.specs.Factory.{Factory}
@@ -30,39 +31,57 @@ time_of (Ok time) = time
 time_of (Err fault) = zero_span
 
 -- what a create publishes, and carries
-abbrev pub description_of : {F E C : Type 0} → Meaning F E C → ServiceHash → List ℕ → Result Span ClockFault → Description
+abbrev pub description_of : {F E C : Type 0} → Meaning F E C → ServiceHash → List ℕ → Result Span ClockFault
+    → Description
 description_of m hash name now = record { hash = hash; name = name; pattern = m.published (time_of now) }
 
 module _ {F E C : Type 0} (m : Meaning F E C) (node : ℕ) (hash : ServiceHash) where
   -- The words up to the tag: nothing is found, the node isn't counted, and it has its tag; or what is in the way.
   pub data IsEntryWord : List Letter → Result Tag C → Type 0 where
-    look_faulty : {u : List Letter} {fault : F} → IsLookWord m node hash u (Faulty fault) → IsEntryWord u (Err (m.create_error_of fault))
-    look_found : {u : List Letter} {n : ℕ} {d : Description} → IsLookWord m node hash u (Found n d) → IsEntryWord u (Err (m.create_refusal refusal.AlreadyExists))
-    counted : {u : List Letter} → IsLookWord m node hash u Nothing → IsEntryWord (u ++ Counts node hash true ∷ []) (Err (m.create_refusal refusal.ServiceInCorruptedState))
-    no_copies : {u : List Letter} → IsLookWord m node hash u Nothing → IsEntryWord (u ++ Counts node hash false ∷ []) (Err (m.create_refusal refusal.OutOfMemory))
-    no_tag : {u : List Letter} (e : TagError) → IsLookWord m node hash u Nothing → IsEntryWord (u ++ Counts node hash false ∷ MakeTag node hash (Err e) ∷ []) (Err (m.create_refusal (of_tag e)))
-    entered : {u : List Letter} (tag : Tag) → IsLookWord m node hash u Nothing → IsEntryWord (u ++ Counts node hash false ∷ MakeTag node hash (Ok tag) ∷ []) (Ok tag)
+    look_faulty : {u : List Letter} {fault : F} → IsLookWord m node hash u (Faulty fault)
+        → IsEntryWord u (Err (m.create_error_of fault))
+    look_found : {u : List Letter} {n : ℕ} {d : Description} → IsLookWord m node hash u (Found n d)
+        → IsEntryWord u (Err (m.create_refusal refusal.AlreadyExists))
+    counted : {u : List Letter} → IsLookWord m node hash u Nothing
+        → IsEntryWord (u ++ Counts node hash true ∷ []) (Err (m.create_refusal refusal.ServiceInCorruptedState))
+    no_copies : {u : List Letter} → IsLookWord m node hash u Nothing
+        → IsEntryWord (u ++ Counts node hash false ∷ []) (Err (m.create_refusal refusal.OutOfMemory))
+    no_tag : {u : List Letter} (e : TagError) → IsLookWord m node hash u Nothing
+        → IsEntryWord (u ++ Counts node hash false ∷ MakeTag node hash (Err e) ∷ []) (Err (m.create_refusal (of_tag e)))
+    entered : {u : List Letter} (tag : Tag) → IsLookWord m node hash u Nothing
+        → IsEntryWord (u ++ Counts node hash false ∷ MakeTag node hash (Ok tag) ∷ []) (Ok tag)
+
+  -- The words from the lock on, of a create that has this tag: it publishes this description, or gives back what it
+  -- made.
+  pub data IsServiceWord (d : Description) (tag : Tag) : List Letter → Result Factory C → Type 0 where
+    not_locked : {v : List Letter} (e : LockError) → GivesBack node hash (own_tag tag) v
+        → IsServiceWord d tag (Lock node hash (Err e) ∷ v) (Err (m.create_refusal (of_lock e)))
+    no_segment : {v w : List Letter} {n : ℕ} {why : CreateRefusal}
+        → IsSegmentWord node hash n (max_nodes_of d.pattern) v (Err why)
+        → GivesBack node hash (OwnLock ∷ own_tag tag) w
+        → IsServiceWord d tag (Lock node hash (Ok n) ∷ (v ++ w)) (Err (m.create_refusal why))
+    not_published : {v w : List Letter} {n : ℕ} (e : PublishError)
+        → IsSegmentWord node hash n (max_nodes_of d.pattern) v (Ok tt)
+        → GivesBack node hash (OwnSegment ∷ OwnLock ∷ own_tag tag) w
+        → IsServiceWord d tag (Lock node hash (Ok n) ∷ (v ++ Publish node hash n d (Err e) ∷ w))
+        (Err (m.create_refusal (of_publish e)))
+    published : {v : List Letter} (n t : ℕ) → IsSegmentWord node hash n (max_nodes_of d.pattern) v (Ok tt)
+        → IsServiceWord d tag (Lock node hash (Ok n) ∷ (v ++ Publish node hash n d (Ok t) ∷ []))
+        (Ok (record { node = node; number = n; ticket = t; description = d }))
 
   -- The words of a create that publishes this description.
-  module _ (clock_stops : Bool) (d : Description) where
-    pub data IsCreating : List Letter → Result Factory C → Type 0 where
-      forbidden : {error : C} → m.history_refusal ≡ Some error → IsCreating [] (Err error)
-      not_entered : {u : List Letter} {error : C} → m.history_refusal ≡ None → IsEntryWord u (Err error) → IsCreating u (Err error)
-      clock_fault : {tag : Tag} {u v : List Letter} → m.history_refusal ≡ None → clock_stops ≡ true → IsEntryWord u (Ok tag) → GivesBack node hash (own_tag tag) v
-          → IsCreating (u ++ v) (Err (m.create_refusal refusal.InternalFailure))
-      not_locked : {tag : Tag} {u v : List Letter} (e : LockError) → m.history_refusal ≡ None → clock_stops ≡ false → IsEntryWord u (Ok tag) → GivesBack node hash (own_tag tag) v
-          → IsCreating (u ++ Lock node hash (Err e) ∷ v) (Err (m.create_refusal (of_lock e)))
-      no_segment : {tag : Tag} {u v w : List Letter} {n : ℕ} {why : _} → m.history_refusal ≡ None → clock_stops ≡ false → IsEntryWord u (Ok tag) → IsSegmentWord node hash n (max_nodes_of d.pattern) v (Err why) → GivesBack node hash (OwnLock ∷ own_tag tag) w
-          → IsCreating (u ++ Lock node hash (Ok n) ∷ (v ++ w)) (Err (m.create_refusal why))
-      not_published : {tag : Tag} {u v w : List Letter} {n : ℕ} (e : PublishError) → m.history_refusal ≡ None → clock_stops ≡ false → IsEntryWord u (Ok tag) → IsSegmentWord node hash n (max_nodes_of d.pattern) v (Ok tt) → GivesBack node hash (OwnSegment ∷ OwnLock ∷ own_tag tag) w
-          → IsCreating (u ++ Lock node hash (Ok n) ∷ (v ++ Publish node hash n d (Err e) ∷ w)) (Err (m.create_refusal (of_publish e)))
-      published : {tag : Tag} {u v : List Letter} (n t : ℕ) → m.history_refusal ≡ None → clock_stops ≡ false → IsEntryWord u (Ok tag) → IsSegmentWord node hash n (max_nodes_of d.pattern) v (Ok tt)
-          → IsCreating (u ++ Lock node hash (Ok n) ∷ (v ++ Publish node hash n d (Ok t) ∷ [])) (Ok (record { node = node; number = n; ticket = t; description = d }))
+  pub data IsCreating (clock_stops : Bool) (d : Description) : List Letter → Result Factory C → Type 0 where
+    forbidden : {error : C} → m.history_refusal ≡ Some error → IsCreating clock_stops d [] (Err error)
+    not_entered : {u : List Letter} {error : C} → m.history_refusal ≡ None → IsEntryWord u (Err error)
+        → IsCreating clock_stops d u (Err error)
+    clock_fault : {tag : Tag} {u v : List Letter} → m.history_refusal ≡ None → clock_stops ≡ true
+        → IsEntryWord u (Ok tag) → GivesBack node hash (own_tag tag) v
+        → IsCreating clock_stops d (u ++ v) (Err (m.create_refusal refusal.InternalFailure))
+    made : {tag : Tag} {u v : List Letter} {answer : Result Factory C}
+        → m.history_refusal ≡ None → clock_stops ≡ false
+        → IsEntryWord u (Ok tag) → IsServiceWord d tag v answer → IsCreating clock_stops d (u ++ v) answer
 
   -- The words of create, for a name and the clock's answer.
   abbrev pub IsCreateWord : List ℕ → Result Span ClockFault → List Letter → Result Factory C → Type 0
-  IsCreateWord name now word answer = IsCreating (clock_stops m.needs_clock now) (description_of m hash name now) word answer
-
-  -- What a part of the code is said by: the rest of a create's word, once it entered with this tag and nothing stops it.
-  abbrev pub EndsCreate : Description → Tag → List Letter → Result Factory C → Type 0
-  EndsCreate d tag word answer = (u : List Letter) (stops : Bool) → m.history_refusal ≡ None → stops ≡ false → IsEntryWord u (Ok tag) → IsCreating stops d (u ++ word) answer
+  IsCreateWord name now word answer =
+      IsCreating (clock_stops m.needs_clock now) (description_of m hash name now) word answer

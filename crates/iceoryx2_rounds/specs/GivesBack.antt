@@ -21,6 +21,9 @@ own_tag Found = []
 module _ (node : ℕ) (hash : ServiceHash) where
   pub data GivesBack : List Thing → List Letter → Type 0 where
     nothing_left : GivesBack [] []
-    segment_back : {things : List Thing} {w : List Letter} (answer : Result (Unit {0}) RemoveError) → GivesBack things w → GivesBack (OwnSegment ∷ things) (RemoveSegment node hash answer ∷ w)
-    lock_back : {things : List Thing} {w : List Letter} (answer : Result (Unit {0}) RemoveError) → GivesBack things w → GivesBack (OwnLock ∷ things) (RemoveDescription node hash answer ∷ w)
-    tag_back : {things : List Thing} {w : List Letter} (answer : Result (Unit {0}) RemoveError) → GivesBack things w → GivesBack (OwnTag ∷ things) (RemoveTag node hash answer ∷ w)
+    segment_back : {things : List Thing} {w : List Letter} (answer : Result (Unit {0}) RemoveError)
+        → GivesBack things w → GivesBack (OwnSegment ∷ things) (RemoveSegment node hash answer ∷ w)
+    lock_back : {things : List Thing} {w : List Letter} (answer : Result (Unit {0}) RemoveError)
+        → GivesBack things w → GivesBack (OwnLock ∷ things) (RemoveDescription node hash answer ∷ w)
+    tag_back : {things : List Thing} {w : List Letter} (answer : Result (Unit {0}) RemoveError)
+        → GivesBack things w → GivesBack (OwnTag ∷ things) (RemoveTag node hash answer ∷ w)

@@ -8,7 +8,6 @@ pub mod Creates
 pub mod Opens
 pub mod Closes
 pub mod Answers
-pub mod Texts
-pub mod States
 pub mod Counts
-pub mod Holds
+pub mod Keeps
+pub mod Patterns

@@ -9,7 +9,7 @@ use Rattle.iceoryx2_access.specs.declared.storage.FetchError.{FetchError}
 use Rattle.iceoryx2_access.specs.declared.storage.FetchError.TheVariants as fetch
 use Rattle.iceoryx2_access.specs.Letter.{Letter, Exists, Fetch}
 use Rattle.iceoryx2_rounds.specs.Meaning.{Meaning}
-use Rattle.iceoryx2_rounds.specs.declared.error.ServiceState.TheVariants as state
+use Rattle.iceoryx2_errors.specs.declared.error.ServiceState.TheVariants as state
 use Rattle.iceoryx2_rounds.specs.declared.look.Outcome.{Outcome}
 use Rattle.iceoryx2_rounds.specs.declared.look.Outcome.TheVariants.{Nothing, Found, Faulty}
 
@@ -27,14 +27,20 @@ module _ {F E C : Type 0} (m : Meaning F E C) (hash : ServiceHash) where
     not_read : LeadsTo (Err fetch.ReadFault) (Faulty (m.fault state.InsufficientPermissions))
     not_fetched : LeadsTo (Err fetch.OutOfMemory) (Faulty (m.fault state.OutOfMemory))
     not_decoded : {n : ℕ} {bytes : List ℕ} → LeadsTo (Ok (n, bytes)) (Faulty (m.fault state.OutOfMemory))
-    malformed : {n : ℕ} {bytes : List ℕ} → ((d : Description) → IsForm d bytes → ⊥) → LeadsTo (Ok (n, bytes)) (Faulty (m.fault state.Corrupted))
-    other_hash : {n : ℕ} {bytes : List ℕ} {d : Description} → IsForm d bytes → d.hash ≢ hash → LeadsTo (Ok (n, bytes)) (Faulty (m.fault state.Corrupted))
-    misfit : {n : ℕ} {bytes : List ℕ} {d : Description} {fault : F} → IsForm d bytes → d.hash ≡ hash → m.misfit d ≡ Some fault → LeadsTo (Ok (n, bytes)) (Faulty fault)
-    fits : {n : ℕ} {bytes : List ℕ} {d : Description} → IsForm d bytes → d.hash ≡ hash → m.misfit d ≡ None → LeadsTo (Ok (n, bytes)) (Found n d)
+    malformed : {n : ℕ} {bytes : List ℕ} → ((d : Description) → IsForm d bytes → ⊥)
+        → LeadsTo (Ok (n, bytes)) (Faulty (m.fault state.Corrupted))
+    other_hash : {n : ℕ} {bytes : List ℕ} {d : Description} → IsForm d bytes → d.hash ≢ hash
+        → LeadsTo (Ok (n, bytes)) (Faulty (m.fault state.Corrupted))
+    misfit : {n : ℕ} {bytes : List ℕ} {d : Description} {fault : F} → IsForm d bytes → d.hash ≡ hash
+        → m.misfit d ≡ Some fault → LeadsTo (Ok (n, bytes)) (Faulty fault)
+    fits : {n : ℕ} {bytes : List ℕ} {d : Description} → IsForm d bytes → d.hash ≡ hash
+        → m.misfit d ≡ None → LeadsTo (Ok (n, bytes)) (Found n d)
 
 -- One `exists`, and a `fetch` where something may be there.
 module _ {F E C : Type 0} (m : Meaning F E C) (node : ℕ) (hash : ServiceHash) where
   pub data IsLookWord : List Letter → Outcome F → Type 0 where
     absent : IsLookWord (Exists hash existence.No ∷ []) Nothing
     broken : IsLookWord (Exists hash existence.Fault ∷ []) (Faulty (m.fault state.Corrupted))
-    fetched : {there : Existence} {answer : Result (ℕ × List ℕ) FetchError} {outcome : Outcome F} → MayBeThere there → LeadsTo m hash answer outcome → IsLookWord (Exists hash there ∷ Fetch node hash answer ∷ []) outcome
+    fetched : {there : Existence} {answer : Result (ℕ × List ℕ) FetchError} {outcome : Outcome F}
+        → MayBeThere there → LeadsTo m hash answer outcome
+        → IsLookWord (Exists hash there ∷ Fetch node hash answer ∷ []) outcome

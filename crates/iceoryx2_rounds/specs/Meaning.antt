@@ -4,7 +4,7 @@ use Rattle.iceoryx2_data.specs.Description.{Description}
 use Rattle.iceoryx2_data.specs.Span.{Span}
 use Rattle.iceoryx2_data.specs.declared.description.MessagingPattern.{MessagingPattern}
 use Rattle.iceoryx2_rounds.specs.Verdict.{Clause}
-use Rattle.iceoryx2_rounds.specs.declared.error.ServiceState.{ServiceState}
+use Rattle.iceoryx2_errors.specs.declared.error.ServiceState.{ServiceState}
 use Rattle.iceoryx2_rounds.specs.declared.pattern.OpenRefusal.{OpenRefusal}
 use Rattle.iceoryx2_rounds.specs.declared.pattern.CreateRefusal.{CreateRefusal}
 

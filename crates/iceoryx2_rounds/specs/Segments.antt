@@ -5,18 +5,26 @@ use Rattle.iceoryx2_access.specs.declared.storage.MakeSegmentError.{MakeSegmentE
 use Rattle.iceoryx2_access.specs.declared.storage.MakeSegmentError.TheVariants as make
 use Rattle.iceoryx2_access.specs.declared.storage.RemoveError.{RemoveError}
 use Rattle.iceoryx2_access.specs.Letter.{Letter, MakeSegment, RemoveSegment}
+use Rattle.iceoryx2_rounds.specs.declared.create.TheConstants.{CLEARING_LIMIT}
 use Rattle.iceoryx2_rounds.specs.declared.pattern.CreateRefusal.{CreateRefusal}
 use Rattle.iceoryx2_rounds.specs.declared.pattern.CreateRefusal.TheVariants as create_refusal
 use Rattle.iceoryx2_rounds.specs.Refusals.{of_make, of_remove}
 
 module _ (node : ℕ) (hash : ServiceHash) (number max_nodes : ℕ) where
+  -- a segment that was left is found
+  abbrev pub finds : Letter
+  finds = MakeSegment node hash number max_nodes (Err make.AlreadyExists)
+
   -- so many times a segment that was left is found and removed
   abbrev pub cleared : ℕ → List Letter
   cleared zero = []
-  cleared (suc k) = cleared k ++ MakeSegment node hash number max_nodes (Err make.AlreadyExists) ∷ RemoveSegment node hash (Ok tt) ∷ []
+  cleared (suc k) = cleared k ++ finds ∷ RemoveSegment node hash (Ok tt) ∷ []
 
   pub data IsSegmentWord : List Letter → Result (Unit {0}) CreateRefusal → Type 0 where
-    made : (k : ℕ) → k ≤ 5 → IsSegmentWord (cleared k ++ MakeSegment node hash number max_nodes (Ok tt) ∷ []) (Ok tt)
-    not_made : (k : ℕ) (e : MakeSegmentError) → k ≤ 5 → e ≢ make.AlreadyExists → IsSegmentWord (cleared k ++ MakeSegment node hash number max_nodes (Err e) ∷ []) (Err (of_make e))
-    not_removed : (k : ℕ) (e : RemoveError) → k < 5 → IsSegmentWord (cleared k ++ MakeSegment node hash number max_nodes (Err make.AlreadyExists) ∷ RemoveSegment node hash (Err e) ∷ []) (Err (of_remove e))
-    still_there : IsSegmentWord (cleared 5 ++ MakeSegment node hash number max_nodes (Err make.AlreadyExists) ∷ []) (Err create_refusal.ServiceInCorruptedState)
+    made : (k : ℕ) → k ≤ CLEARING_LIMIT
+        → IsSegmentWord (cleared k ++ MakeSegment node hash number max_nodes (Ok tt) ∷ []) (Ok tt)
+    not_made : (k : ℕ) (e : MakeSegmentError) → k ≤ CLEARING_LIMIT → e ≢ make.AlreadyExists
+        → IsSegmentWord (cleared k ++ MakeSegment node hash number max_nodes (Err e) ∷ []) (Err (of_make e))
+    not_removed : (k : ℕ) (e : RemoveError) → k < CLEARING_LIMIT
+        → IsSegmentWord (cleared k ++ finds ∷ RemoveSegment node hash (Err e) ∷ []) (Err (of_remove e))
+    still_there : IsSegmentWord (cleared CLEARING_LIMIT ++ finds ∷ []) (Err create_refusal.ServiceInCorruptedState)

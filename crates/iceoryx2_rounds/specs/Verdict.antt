@@ -1,5 +1,6 @@
 -- A requirement is an ordered list of clauses, and its verdict.
-use Rattle.std.specs.Prelude.{ℕ, Bool, true, false, List, [], ◌∷◌, ◌++◌, ◌≡◌, ◌&&◌, All, Result, Ok, Err, Option, Some, None, nat_le, nat_eq, if◌then◌else◌}
+use Rattle.std.specs.Prelude.{ℕ, Bool, true, false, List, [], ◌∷◌, ◌++◌, ◌≡◌, ◌&&◌, All, Result, Ok, Err}
+use Rattle.std.specs.Prelude.{Option, Some, None, nat_le, nat_eq, if◌then◌else◌}
 use Rattle.iceoryx2_data.specs.Span.{Span}
 
 -- One condition on what exists, with the error of a call for which it isn't met.
@@ -24,7 +25,8 @@ verdict (clause ∷ clauses) = if clause.is_met then verdict clauses else Err cl
 
 -- the existing number must not be less than the required one
 unfoldable pub at_least : {E : Type 0} → (marked : Bool) → (existing required : ℕ) → E → Row E
-at_least marked existing required error = record { is_marked = marked; clause = record { is_met = nat_le required existing; error = error } }
+at_least marked existing required error =
+    record { is_marked = marked; clause = record { is_met = nat_le required existing; error = error } }
 
 abbrev pub is_same_number : Option ℕ → Option ℕ → Bool
 is_same_number None None = true
@@ -40,11 +42,13 @@ is_same_span (Some a) (Some b) = nat_eq a.seconds b.seconds && nat_eq a.nanoseco
 
 -- the existing number, or none, must be the required one
 unfoldable pub number_is : {E : Type 0} → (marked : Bool) → (existing required : Option ℕ) → E → Row E
-number_is marked existing required error = record { is_marked = marked; clause = record { is_met = is_same_number existing required; error = error } }
+number_is marked existing required error =
+    record { is_marked = marked; clause = record { is_met = is_same_number existing required; error = error } }
 
 -- the existing length of time, or none, must be the required one
 unfoldable pub span_is : {E : Type 0} → (marked : Bool) → (existing required : Option Span) → E → Row E
-span_is marked existing required error = record { is_marked = marked; clause = record { is_met = is_same_span existing required; error = error } }
+span_is marked existing required error =
+    record { is_marked = marked; clause = record { is_met = is_same_span existing required; error = error } }
 
 -- the first of two verdicts, and the second where the first accepts
 abbrev pub and_then : {E : Type 0} → Result (Unit {0}) E → Result (Unit {0}) E → Result (Unit {0}) E

@@ -4,7 +4,7 @@ ghost use Rattle.std.specs.Prelude.{◌≡◌, IfOk};
 ghost use Rattle.iceoryx2_access.specs.Run.{Joins};
 ghost use Rattle.iceoryx2_rounds.specs.Answers.{map_ok};
 ghost use Rattle.iceoryx2_rounds.specs.Creates as creates;
-ghost use Rattle.iceoryx2_rounds.specs.Creates.{EndsCreate, IsCreateWord, IsEntryWord, description_of};
+ghost use Rattle.iceoryx2_rounds.specs.Creates.{IsCreateWord, IsEntryWord, IsServiceWord, description_of};
 ghost use Rattle.iceoryx2_rounds.specs.Refusals.{of_lock, of_make, of_publish, of_remove, of_tag};
 ghost use Rattle.iceoryx2_rounds.specs.Segments.{IsSegmentWord};
 
@@ -18,6 +18,9 @@ use iceoryx2_access::storage::{
 use iceoryx2_data::description::{ServiceHash, ServiceName, StaticConfig};
 use iceoryx2_data::time::{ClockFault, Time};
 use std::alloc::AllocError;
+
+/// How many segments of others a create removes before it gives up on making its own.
+pub const CLEARING_LIMIT: u64 = 5;
 
 fn tag_refusal(error: TagError) -> CreateRefusal
     ensures { result ≡ of_tag error }
@@ -97,7 +100,7 @@ fn describe<P: Pattern>(
     Ok(StaticConfig::new(*hash, name, published))
 }
 
-/// Makes the segment in up to six attempts, and removes in between what was left of another.
+/// Makes the segment, and before each further attempt removes what was left of another.
 fn make_own_segment<S: Storage>(
     node: u64,
     hash: &ServiceHash,
@@ -105,9 +108,10 @@ fn make_own_segment<S: Storage>(
     max_nodes: u64,
     storage: &mut S,
 ) -> Result<(), CreateRefusal>
-    ensures { Joins S.step storage.old (λ word. IsSegmentWord node hash.now number max_nodes word result) storage.new }
+    ensures { Joins S.step storage.old
+        (λ word. IsSegmentWord node hash.now number max_nodes word result) storage.new }
 {
-    for _removed in 0..5u64 {
+    for _removed in 0..CLEARING_LIMIT {
         match storage.make_segment(node, hash, number, max_nodes) {
             Ok(()) => return Ok(()),
             Err(error) => match error {
@@ -145,8 +149,10 @@ fn enter<P: Pattern, S: Storage>(
     now: Result<Time, ClockFault>,
     storage: &mut S,
 ) -> Result<Entered, P::CreateError>
-    ensures word { Joins S.step storage.old (λ word. IsEntryWord (P.meaning pattern.now) node hash.now word (map_ok (λ entered. entered.tag) result)) storage.new }
-    ensures copies { IfOk result (λ entered. entered.description ≡ description_of (P.meaning pattern.now) hash.now name.now now) }
+    ensures word { let tag = map_ok (λ entered. entered.tag) result in
+        Joins S.step storage.old (λ word. IsEntryWord (P.meaning pattern.now) node hash.now word tag) storage.new }
+    ensures copies { IfOk result (λ entered.
+        entered.description ≡ description_of (P.meaning pattern.now) hash.now name.now now) }
 {
     match look(pattern, node, hash, storage) {
         Outcome::Faulty(fault) => return Err(pattern.create_error_of(fault)),
@@ -180,7 +186,8 @@ pub fn create<P: Pattern, S: Storage>(
     storage: &mut S,
 ) -> Result<Registration, P::CreateError>
     ensures adjusted { pattern.new ≡ P.adjusted pattern.old }
-    ensures word { Joins S.step storage.old (λ word. IsCreateWord (P.meaning (P.adjusted pattern.old)) node hash.now name.now now word result) storage.new }
+    ensures word { let meaning = P.meaning (P.adjusted pattern.old) in
+        Joins S.step storage.old (λ word. IsCreateWord meaning node hash.now name.now now word result) storage.new }
 {
     pattern.adjust();
     create_adjusted(pattern, node, hash, name, now, storage)
@@ -195,7 +202,8 @@ fn create_adjusted<P: Pattern, S: Storage>(
     now: Result<Time, ClockFault>,
     storage: &mut S,
 ) -> Result<Registration, P::CreateError>
-    ensures { Joins S.step storage.old (λ word. IsCreateWord (P.meaning pattern.now) node hash.now name.now now word result) storage.new }
+    ensures { Joins S.step storage.old
+        (λ word. IsCreateWord (P.meaning pattern.now) node hash.now name.now now word result) storage.new }
 {
     match pattern.history_refusal() {
         Some(error) => return Err(error),
@@ -222,7 +230,8 @@ fn make_service<P: Pattern, S: Storage>(
     description: StaticConfig,
     storage: &mut S,
 ) -> Result<Registration, P::CreateError>
-    ensures { Joins S.step storage.old (λ word. EndsCreate (P.meaning pattern.now) node hash.now description tag word result) storage.new }
+    ensures { Joins S.step storage.old
+        (λ word. IsServiceWord (P.meaning pattern.now) node hash.now description tag word result) storage.new }
 {
     let number = match storage.lock(node, hash) {
         Ok(number) => number,

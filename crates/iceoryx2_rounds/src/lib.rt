@@ -1,8 +1,9 @@
 //! How a service is created, opened and closed: once, for any pattern and over any storage.
 #![tactic(auto)]
 
+pub use iceoryx2_errors::error;
+
 pub mod create;
-pub mod error;
 mod give_back;
 pub mod laws;
 pub mod look;

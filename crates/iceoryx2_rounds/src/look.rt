@@ -28,7 +28,8 @@ pub(crate) fn look<P: Pattern, S: Storage>(
     hash: &ServiceHash,
     storage: &mut S,
 ) -> Outcome<P::Fault>
-    ensures { Joins S.step storage.old (λ word. IsLookWord (P.meaning pattern.now) node hash.now word result) storage.new }
+    ensures { Joins S.step storage.old
+        (λ word. IsLookWord (P.meaning pattern.now) node hash.now word result) storage.new }
 {
     match storage.exists(hash) {
         Existence::No => Outcome::Nothing,

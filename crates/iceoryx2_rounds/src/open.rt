@@ -12,6 +12,9 @@ use crate::port_factory::Registration;
 use iceoryx2_access::storage::{OpenSegmentError, Storage, Tag, TagError};
 use iceoryx2_data::description::ServiceHash;
 
+/// How often an open tries again after a round that failed.
+pub const RETRY_LIMIT: u64 = 5;
+
 fn tag_refusal(error: TagError) -> OpenRefusal
     ensures { result ≡ of_tag_opening error }
 {
@@ -43,7 +46,8 @@ fn look_again<P: Pattern, S: Storage>(
     tag: Tag,
     storage: &mut S,
 ) -> Option<P::OpenError>
-    ensures { Joins S.step storage.old (λ word. IsSecondLook (P.meaning pattern.now) node hash.now tag result word) storage.new }
+    ensures { Joins S.step storage.old
+        (λ word. IsSecondLook (P.meaning pattern.now) node hash.now tag result word) storage.new }
 {
     let seen = look(pattern, node, hash, storage);
     give_back_tag(node, hash, tag, storage);
@@ -61,7 +65,8 @@ fn try_open<P: Pattern, S: Storage>(
     hash: &ServiceHash,
     storage: &mut S,
 ) -> Option<Result<Registration, P::OpenError>>
-    ensures { Joins S.step storage.old (λ word. IsRound (P.meaning pattern.now) node hash.now word result) storage.new }
+    ensures { Joins S.step storage.old
+        (λ word. IsRound (P.meaning pattern.now) node hash.now word result) storage.new }
 {
     let (number, description) = match look(pattern, node, hash, storage) {
         Outcome::Faulty(fault) => return Some(Err(pattern.open_error_of(fault))),
@@ -101,9 +106,10 @@ pub fn open<P: Pattern, S: Storage>(
     hash: &ServiceHash,
     storage: &mut S,
 ) -> Result<Registration, P::OpenError>
-    ensures { Joins S.step storage.old (λ word. IsOpenWord (P.meaning pattern.now) node hash.now word result) storage.new }
+    ensures { Joins S.step storage.old
+        (λ word. IsOpenWord (P.meaning pattern.now) node hash.now word result) storage.new }
 {
-    for _round in 0..6u64 {
+    for _round in 0..RETRY_LIMIT + 1 {
         match try_open(pattern, node, hash, storage) {
             Some(answer) => return answer,
             None => {}

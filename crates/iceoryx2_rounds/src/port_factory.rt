@@ -8,6 +8,7 @@ pub mod event;
 
 use iceoryx2_access::storage::{Release, ReleaseError, RemoveError, Storage};
 use iceoryx2_data::description::StaticConfig;
+pub use iceoryx2_errors::error::CloseError;
 use std::marker::Model;
 
 /// A node's registration at a service. It has to be spent, by `close` or `abandon`.
@@ -24,18 +25,6 @@ impl Model for Registration {
     ghost Value = { Factory };
 
     ghost view = { λ r. record { node = r.node; number = r.number; ticket = r.ticket; description = r.description } };
-}
-
-/// Why something isn't closed, or not wholly.
-pub enum CloseError<F> {
-    /// The ticket isn't at this storage. Nothing changed, and here is what was to be closed.
-    NotHere(F),
-    /// The node's tag is left.
-    TagNotRemoved,
-    /// The service's segment is left.
-    SegmentNotRemoved,
-    /// The service's description is left: the service may stay unusable.
-    DescriptionNotRemoved,
 }
 
 /// Names the first removal that was refused.

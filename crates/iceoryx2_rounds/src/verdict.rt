@@ -1,7 +1,8 @@
 //! The tests that verdicts are made of.
 
 ghost use Rattle.std.specs.Prelude.{◌≡◌, ◌∷◌, [], List};
-ghost use Rattle.iceoryx2_rounds.specs.Verdict.{Clause, IsVerdict, at_least, marked_clauses, number_is, span_is, verdict};
+ghost use Rattle.iceoryx2_rounds.specs.Verdict.{Clause, IsVerdict, at_least, marked_clauses};
+ghost use Rattle.iceoryx2_rounds.specs.Verdict.{number_is, span_is, verdict};
 
 use iceoryx2_data::event::EventId;
 use iceoryx2_data::time::Duration;

@@ -8,7 +8,7 @@ use Rattle.sha1.specs.Sha1.{sha1}
 use Rattle.iceoryx2_world.specs.World.{World}
 use Rattle.iceoryx2_world.specs.Access.{IsOwnPart}
 use Rattle.iceoryx2_access.specs.Run.{Joins}
-use Rattle.iceoryx2_rounds.specs.declared.port_factory.CloseError.{CloseError}
+use Rattle.iceoryx2_errors.specs.declared.error.CloseError.{CloseError}
 use Rattle.iceoryx2_access.specs.Factory.{Factory}
 use Rattle.iceoryx2_rounds.specs.Creates.{IsCreateWord}
 use Rattle.iceoryx2_rounds.specs.Opens.{IsOpenWord}

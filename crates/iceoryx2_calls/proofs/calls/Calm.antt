@@ -24,9 +24,9 @@ use Rattle.iceoryx2_rounds.specs.Looks.{IsLookWord, absent, broken, fetched}
 use Rattle.iceoryx2_rounds.specs.GivesBack.{OwnLock, OwnSegment, own_tag, GivesBack, nothing_left, segment_back, lock_back, tag_back}
 use Rattle.iceoryx2_rounds.specs.Segments.{cleared, IsSegmentWord, made, not_made, not_removed, still_there}
 use Rattle.iceoryx2_rounds.specs.Creates as creates
-use Rattle.iceoryx2_rounds.specs.Creates.{IsEntryWord, IsCreating, forbidden, not_entered, clock_fault, not_locked, no_segment, not_published, published, counted, no_copies, entered}
+use Rattle.iceoryx2_rounds.specs.Creates.{IsEntryWord, IsServiceWord, IsCreating, forbidden, not_entered, clock_fault, not_locked, no_segment, not_published, published, counted, no_copies, entered}
 use Rattle.iceoryx2_rounds.specs.Opens as opens
-use Rattle.iceoryx2_rounds.specs.Opens.{IsReady, ready, IsFailedRound, failed, IsLastRound, AreFailedRounds, no_round, one_more, IsOpenWord, ended, six_failed}
+use Rattle.iceoryx2_rounds.specs.Opens.{IsReady, ready, IsFailedRound, failed, IsLastRound, AreFailedRounds, no_round, one_more, IsOpenWord, ended, all_failed}
 use Rattle.iceoryx2_calls.specs.Calls.{AtEach, ActsCalmly, ChangesLast}
 
 -- the lock stays with its node
@@ -87,13 +87,16 @@ module _ {F E C : Type 0} {m : Meaning F E C} {node : ℕ} {hash : ServiceHash} 
   entry_tame (creates.no_tag e l) = tame_both (look_tame l) (goes tt (goes tt ends))
   entry_tame (entered tag l) = tame_both (look_tame l) (goes tt (goes tt ends))
 
+  service_tame : {d : Description} {tag : Tag} {w : List Letter} {error : C} → IsServiceWord m node hash d tag w (Err error) → Tame node hash false w false
+  service_tame {tag = tag} (not_locked x b) = goes tt (tag_tame tag b)
+  service_tame {tag = tag} (no_segment s b) = locks (tame_both (making_tame s) (lock_tame tag b))
+  service_tame {tag = tag} (not_published x s b) = locks (tame_both (making_tame s) (goes tt (segment_tame tag b)))
+
   create_tame : {stops : Bool} {d : Description} {w : List Letter} {error : C} → IsCreating m node hash stops d w (Err error) → Tame node hash false w false
   create_tame (forbidden _) = ends
   create_tame (not_entered _ e) = entry_tame e
   create_tame (clock_fault {tag} _ _ e b) = tame_both (entry_tame e) (tag_tame tag b)
-  create_tame (not_locked {tag} x _ _ e b) = tame_both (entry_tame e) (goes tt (tag_tame tag b))
-  create_tame (no_segment {tag} _ _ e s b) = tame_both (entry_tame e) (locks (tame_both (making_tame s) (lock_tame tag b)))
-  create_tame (not_published {tag} x _ _ e s b) = tame_both (entry_tame e) (locks (tame_both (making_tame s) (goes tt (segment_tame tag b))))
+  create_tame (creates.made _ _ e s) = tame_both (entry_tame e) (service_tame s)
 
   ready_tame : {n : ℕ} {d : Description} {tag : Tag} {w : List Letter} → IsReady m node hash n d tag w → Tame node hash false w false
   ready_tame (ready tag l _) = tame_both (look_tame l) (goes tt ends)
@@ -116,7 +119,7 @@ module _ {F E C : Type 0} {m : Meaning F E C} {node : ℕ} {hash : ServiceHash} 
 
   open_tame : {w : List Letter} {error : E} → IsOpenWord m node hash w (Err error) → Tame node hash false w false
   open_tame (ended small before l) = tame_both (rounds_tame before) (last_tame l)
-  open_tame (six_failed before) = rounds_tame before
+  open_tame (all_failed before) = rounds_tame before
 
   -- A refused call changes nothing.
   pub refused_create_calm : {stops : Bool} {d : Description} {word : List Letter} {error : C} (w : World) → IsCreating m node hash stops d word (Err error) → Agrees w → AtEach IsFaulty ActsCalmly w word
@@ -126,14 +129,17 @@ module _ {F E C : Type 0} {m : Meaning F E C} {node : ℕ} {hash : ServiceHash} 
   refused_open_calm w is old = calm_at_each w (open_tame is) tt old
 
   -- A granted create changes something where it publishes.
-  pub created_changes : {stops : Bool} {d : Description} {word : List Letter} {r : Factory} (w : World) → IsCreating m node hash stops d word (Ok r) → Agrees w → ChangesLast node hash w word
-  created_changes {d} w (published {u = x} {v = y} n t _ _ entry segment) old = record {
+  service_changes : {d : Description} {tag : Tag} {x z : List Letter} {r : Factory} (w : World) → Tame node hash false x false → IsServiceWord m node hash d tag z (Ok r) → Agrees w → ChangesLast node hash w (x ++ z)
+  service_changes {d} {x = x} w before (published {v = y} n t segment) old = record {
     front = x ++ letter.Lock node hash (Ok n) ∷ y;
     final = letter.Publish node hash n d (Ok t);
     in_order = sym (append_assoc x (letter.Lock node hash (Ok n) ∷ y) (letter.Publish node hash n d (Ok t) ∷ []));
-    calm = calm_at_each {b = false} w (tame_both (entry_tame entry) (locks (making_tame segment))) tt old;
+    calm = calm_at_each {b = false} w (tame_both before (locks (making_tame segment))) tt old;
     change = λ u v a. publishing_counts a.between v node hash n d t a.own;
   }
+
+  pub created_changes : {stops : Bool} {d : Description} {word : List Letter} {r : Factory} (w : World) → IsCreating m node hash stops d word (Ok r) → Agrees w → ChangesLast node hash w word
+  created_changes w (creates.made _ _ entry service) old = service_changes w (entry_tame entry) service old
 
   round_changes : {x y : List Letter} {r : Factory} (w : World) → Tame node hash false x false → IsLastRound m node hash y (Ok r) → Agrees w → ChangesLast node hash w (x ++ y)
   round_changes {x = x} w before (opens.opened {u = y} {n = n} t r) old = record {

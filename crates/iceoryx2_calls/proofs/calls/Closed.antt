@@ -22,8 +22,8 @@ use Rattle.iceoryx2_world.proofs.agreement.Parts.{Part, stays, tagged, calm, rem
 use Rattle.iceoryx2_world.proofs.agreement.Stands.{released_gone}
 use Rattle.iceoryx2_world.proofs.agreement.Granted.{release_granted, tag_granted, segment_granted, description_granted, MayClear, MayEnd}
 use Rattle.iceoryx2_world.proofs.agreement.Closing.{released_last, tag_removed_phase, segment_removed_phase}
-use Rattle.iceoryx2_rounds.specs.declared.port_factory.CloseError.{CloseError}
-use Rattle.iceoryx2_rounds.specs.declared.port_factory.CloseError.TheVariants as closing
+use Rattle.iceoryx2_errors.specs.declared.error.CloseError.{CloseError}
+use Rattle.iceoryx2_errors.specs.declared.error.CloseError.TheVariants as closing
 use Rattle.iceoryx2_access.specs.Factory.{Factory}
 use Rattle.iceoryx2_rounds.specs.Closes.{IsCloseWord, first_refused, not_here, still_counted, left, last as last_left}
 

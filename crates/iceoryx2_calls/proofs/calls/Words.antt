@@ -17,17 +17,17 @@ use Rattle.iceoryx2_world.proofs.agreement.Accesses.{later_refl, later_trans, fa
 use Rattle.iceoryx2_world.proofs.agreement.Stands.{faulty_stands, each_append, each_map}
 use Rattle.iceoryx2_rounds.specs.declared.look.Outcome.{Outcome}
 use Rattle.iceoryx2_rounds.specs.declared.pattern.CreateRefusal.{CreateRefusal}
-use Rattle.iceoryx2_rounds.specs.declared.port_factory.CloseError.{CloseError}
-use Rattle.iceoryx2_rounds.specs.declared.port_factory.CloseError.TheVariants.{NotHere}
+use Rattle.iceoryx2_errors.specs.declared.error.CloseError.{CloseError}
+use Rattle.iceoryx2_errors.specs.declared.error.CloseError.TheVariants.{NotHere}
 use Rattle.iceoryx2_rounds.specs.Counts.{IsWithin}
 use Rattle.iceoryx2_rounds.specs.Meaning.{Meaning}
 use Rattle.iceoryx2_rounds.specs.Looks.{IsLookWord, absent, broken, fetched}
 use Rattle.iceoryx2_rounds.specs.GivesBack.{Thing, GivesBack, nothing_left, segment_back, lock_back, tag_back}
 use Rattle.iceoryx2_rounds.specs.Segments.{cleared, IsSegmentWord, made, not_made, not_removed, still_there}
 use Rattle.iceoryx2_rounds.specs.Creates as creates
-use Rattle.iceoryx2_rounds.specs.Creates.{IsEntryWord, IsCreating, forbidden, not_entered, clock_fault, not_locked, no_segment, not_published, published, counted, no_copies, entered}
+use Rattle.iceoryx2_rounds.specs.Creates.{IsEntryWord, IsServiceWord, IsCreating, forbidden, not_entered, clock_fault, not_locked, no_segment, not_published, published, counted, no_copies, entered}
 use Rattle.iceoryx2_rounds.specs.Opens as opens
-use Rattle.iceoryx2_rounds.specs.Opens.{IsReady, ready, IsFailedRound, failed, IsLastRound, AreFailedRounds, no_round, one_more, IsOpenWord, ended, six_failed}
+use Rattle.iceoryx2_rounds.specs.Opens.{IsReady, ready, IsFailedRound, failed, IsLastRound, AreFailedRounds, no_round, one_more, IsOpenWord, ended, all_failed}
 use Rattle.iceoryx2_rounds.specs.Closes.{IsCloseWord, first_refused, not_here, still_counted, left, last}
 use Rattle.iceoryx2_calls.specs.Calls.{Throughout}
 
@@ -98,14 +98,17 @@ module _ {F E C : Type 0} {m : Meaning F E C} {node : ℕ} {hash : ServiceHash} 
   entry_letters (creates.no_tag {u} e l) = each_append IsNoRelease u _ (look_letters l) (tt, (tt, tt))
   entry_letters (entered {u} tag l) = each_append IsNoRelease u _ (look_letters l) (tt, (tt, tt))
 
+  service_letters : {d : Description} {tag : Tag} {w : List Letter} {r : Result Factory C} → IsServiceWord m node hash d tag w r → Each IsNoRelease w
+  service_letters (not_locked x b) = (tt, back_letters b)
+  service_letters (no_segment {v} s b) = (tt, each_append IsNoRelease v _ (segment_letters s) (back_letters b))
+  service_letters (not_published {v} x s b) = (tt, each_append IsNoRelease v _ (segment_letters s) (tt, back_letters b))
+  service_letters (published {v} n t s) = (tt, each_append IsNoRelease v _ (segment_letters s) (tt, tt))
+
   pub create_letters : {stops : Bool} {d : Description} {w : List Letter} {r : Result Factory C} → IsCreating m node hash stops d w r → Each IsNoRelease w
   create_letters (forbidden _) = tt
   create_letters (not_entered _ e) = entry_letters e
   create_letters (clock_fault {u} _ _ e b) = each_append IsNoRelease u _ (entry_letters e) (back_letters b)
-  create_letters (not_locked {u} x _ _ e b) = each_append IsNoRelease u _ (entry_letters e) (tt, back_letters b)
-  create_letters (no_segment {u} {v} _ _ e s b) = each_append IsNoRelease u _ (entry_letters e) (tt, each_append IsNoRelease v _ (segment_letters s) (back_letters b))
-  create_letters (not_published {u} {v} x _ _ e s b) = each_append IsNoRelease u _ (entry_letters e) (tt, each_append IsNoRelease v _ (segment_letters s) (tt, back_letters b))
-  create_letters (published {u} {v} n t _ _ e s) = each_append IsNoRelease u _ (entry_letters e) (tt, each_append IsNoRelease v _ (segment_letters s) (tt, tt))
+  create_letters (creates.made {u} _ _ e s) = each_append IsNoRelease u _ (entry_letters e) (service_letters s)
 
   ready_letters : {n : ℕ} {d : Description} {tag : Tag} {w : List Letter} → IsReady m node hash n d tag w → Each IsNoRelease w
   ready_letters (ready {u} tag l _) = each_append IsNoRelease u _ (look_letters l) (tt, tt)
@@ -129,7 +132,7 @@ module _ {F E C : Type 0} {m : Meaning F E C} {node : ℕ} {hash : ServiceHash} 
 
   pub open_letters : {w : List Letter} {r : Result Factory E} → IsOpenWord m node hash w r → Each IsNoRelease w
   open_letters (ended {u} small before l) = each_append IsNoRelease u _ (rounds_letters before) (last_letters l)
-  open_letters (six_failed before) = rounds_letters before
+  open_letters (all_failed before) = rounds_letters before
 
 pub all_spared : (f : Factory) (word : List Letter) → Each IsNoRelease word → Each (Spares f) word
 all_spared f word each = each_map IsNoRelease (Spares f) (spared f) word each

@@ -45,7 +45,7 @@ use Rattle.iceoryx2_rounds.specs.GivesBack.{GivesBack, OwnTag, OwnLock, OwnSegme
 use Rattle.iceoryx2_rounds.specs.GivesBack as back
 use Rattle.iceoryx2_rounds.specs.Segments.{IsSegmentWord, cleared}
 use Rattle.iceoryx2_rounds.specs.Segments as segment
-use Rattle.iceoryx2_rounds.specs.Creates.{IsEntryWord, IsCreating}
+use Rattle.iceoryx2_rounds.specs.Creates.{IsEntryWord, IsServiceWord, IsCreating}
 use Rattle.iceoryx2_rounds.specs.Creates as create
 use Rattle.iceoryx2_calls.proofs.quiet.Seats.{AtSeat}
 
@@ -238,13 +238,40 @@ module _ {F E C : Type 0} (m : Meaning F E C) (i : ℕ) (h : ServiceHash) where
         counter : nat_lt c last_number ≡ true
         rest : Run (AtSeat i h) (locked n (c + 1) k) w t
 
-      entered_locked : {tag : Tag} {u w : List Letter} {n : ℕ} {t : Seat} → IsEntryWord m i h u (Ok tag) → Run (AtSeat i h) (bare x c false k) (u ++ letter.Lock i h (Ok n) ∷ w) t → Begun tag n w t
-      entered_locked {u = u} {n = n} e r =
-          let s = split u _ r in
-          let en = entry_made (entry x c k b e s.first) in
-          let f = head (from en.1 s.second) in
+      locked_first : {tag : Tag} {w : List Letter} {n : ℕ} {t : Seat} → tag ≡ Made → Run (AtSeat i h) (bare x c true k) (letter.Lock i h (Ok n) ∷ w) t → Begun tag n w t
+      locked_first {n = n} own r =
+          let f = head r in
           let y = lock_given i h (lock_bare i h x c k (Ok n) f.mid b f.first) in
-          record { own = en.0; number = y.0; counter = y.2; rest = from y.1 f.rest }
+          record { own = own; number = y.0; counter = y.2; rest = from y.1 f.rest }
+
+      serving : {tag : Tag} {a : Result Factory C} {w : List Letter} {t : Seat} → m.history_refusal ≡ None → stops ≡ false → tag ≡ Made → IsServiceWord m i h d tag w a → Run (AtSeat i h) (bare x c true k) w t → Founds c k a t
+      serving fits runs own (create.not_locked z g) r =
+          let f = head r in
+          elim (lock_refused i h (lock_bare i h x c k _ _ b f.first)) [
+            | inl y ↦ into FoundsHere (ap (λ q. Err (m.create_refusal (of_lock q))) y.0) (back_tag i h x c k (own_tag_back i h own g) (from y.1 f.rest)) (forgets b fits)
+            | inr y ↦ into FoundsHere (ap (λ q. Err (m.create_refusal (of_lock q))) y.0) (back_tag i h x c k (own_tag_back i h own g) (from y.1 f.rest)) (no_number b fits runs y.2)
+          ]
+      serving fits runs own (create.no_segment {v = v} {n = n} s g) r =
+          let f = locked_first own r in
+          let p = split v _ f.rest in
+          let made_none = segment_refused i h (segment_part i h n (max_nodes_of d.pattern) (c + 1) k positive s p.first) in
+          into FoundsHere (ap (λ q. Err (m.create_refusal q)) made_none.0) (back_lock i h n (c + 1) k (own_lock_back i h f.own g) (from made_none.1 p.second)) (forgets_locked refl fits runs f.counter)
+      serving fits runs own (create.not_published {v = v} {n = n} z s g) r =
+          let f = locked_first own r in
+          let p = split v _ f.rest in
+          let q = head (from (segment_there i h (segment_part i h n (max_nodes_of d.pattern) (c + 1) k positive s p.first)) p.second) in
+          elim (publish_made i h d n (c + 1) k _ _ own_hash q.first) [
+            | inl y ↦ absurd (grind (arith, y.0))
+            | inr y ↦ let is : z ≡ Publishing.OutOfMemory = cc in into FoundsHere (ap (λ e. Err (m.create_refusal (of_publish e))) is) (back_segment i h n (max_nodes_of d.pattern) (c + 1) k (own_segment_back i h f.own g) (from y.1 q.rest)) (forgets_locked refl fits runs f.counter)
+          ]
+      serving fits runs own (create.published {v = v} n j s) r =
+          let f = locked_first own r in
+          let p = split v _ f.rest in
+          let q = last (from (segment_there i h (segment_part i h n (max_nodes_of d.pattern) (c + 1) k positive s p.first)) p.second) in
+          elim (publish_made i h d n (c + 1) k _ _ own_hash q) [
+            | inl y ↦ let is : j ≡ n = cc in into FoundsHere (λ z. Ok (record { node = i; number = f.number z; ticket = (is ∙ f.number) z; description = d })) (y.1 ∙ ap (λ z. joined i h z (max_nodes_of d.pattern) (form.description d) (c + 1) k) f.number) (founds q.own.0 fits runs f.counter)
+            | inr y ↦ absurd (grind (arith, y.0))
+          ]
 
       pub founding : {a : Result Factory C} {w : List Letter} {t : Seat} → IsCreating m i h stops d w a → Run (AtSeat i h) (bare x c false k) w t → Founds c k a t
       founding (create.forbidden bad) r = into FoundsHere refl (ended r) (forbids b bad)
@@ -253,32 +280,7 @@ module _ {F E C : Type 0} (m : Meaning F E C) (i : ℕ) (h : ServiceHash) where
           let s = split u _ r in
           let en = entry_made (entry x c k b e s.first) in
           into FoundsHere refl (back_tag i h x c k (own_tag_back i h en.0 g) (from en.1 s.second)) (no_time b fits stopped)
-      founding (create.not_locked {u = u} z fits runs e g) r =
+      founding (create.made {u = u} fits runs e made) r =
           let s = split u _ r in
           let en = entry_made (entry x c k b e s.first) in
-          let f = head (from en.1 s.second) in
-          elim (lock_refused i h (lock_bare i h x c k _ _ b f.first)) [
-            | inl y ↦ into FoundsHere (ap (λ q. Err (m.create_refusal (of_lock q))) y.0) (back_tag i h x c k (own_tag_back i h en.0 g) (from y.1 f.rest)) (forgets b fits)
-            | inr y ↦ into FoundsHere (ap (λ q. Err (m.create_refusal (of_lock q))) y.0) (back_tag i h x c k (own_tag_back i h en.0 g) (from y.1 f.rest)) (no_number b fits runs y.2)
-          ]
-      founding (create.no_segment {u = u} {v = v} {n = n} fits runs e s g) r =
-          let f = entered_locked e r in
-          let p = split v _ f.rest in
-          let made_none = segment_refused i h (segment_part i h n (max_nodes_of d.pattern) (c + 1) k positive s p.first) in
-          into FoundsHere (ap (λ q. Err (m.create_refusal q)) made_none.0) (back_lock i h n (c + 1) k (own_lock_back i h f.own g) (from made_none.1 p.second)) (forgets_locked refl fits runs f.counter)
-      founding (create.not_published {u = u} {v = v} {n = n} z fits runs e s g) r =
-          let f = entered_locked e r in
-          let p = split v _ f.rest in
-          let q = head (from (segment_there i h (segment_part i h n (max_nodes_of d.pattern) (c + 1) k positive s p.first)) p.second) in
-          elim (publish_made i h d n (c + 1) k _ _ own_hash q.first) [
-            | inl y ↦ absurd (grind (arith, y.0))
-            | inr y ↦ let is : z ≡ Publishing.OutOfMemory = cc in into FoundsHere (ap (λ e. Err (m.create_refusal (of_publish e))) is) (back_segment i h n (max_nodes_of d.pattern) (c + 1) k (own_segment_back i h f.own g) (from y.1 q.rest)) (forgets_locked refl fits runs f.counter)
-          ]
-      founding (create.published {u = u} {v = v} n j fits runs e s) r =
-          let f = entered_locked e r in
-          let p = split v _ f.rest in
-          let q = last (from (segment_there i h (segment_part i h n (max_nodes_of d.pattern) (c + 1) k positive s p.first)) p.second) in
-          elim (publish_made i h d n (c + 1) k _ _ own_hash q) [
-            | inl y ↦ let is : j ≡ n = cc in into FoundsHere (λ z. Ok (record { node = i; number = f.number z; ticket = (is ∙ f.number) z; description = d })) (y.1 ∙ ap (λ z. joined i h z (max_nodes_of d.pattern) (form.description d) (c + 1) k) f.number) (founds q.own.0 fits runs f.counter)
-            | inr y ↦ absurd (grind (arith, y.0))
-          ]
+          serving fits runs en.0 made (from en.1 s.second)

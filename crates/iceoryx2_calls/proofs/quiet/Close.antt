@@ -22,7 +22,7 @@ use Rattle.iceoryx2_world.specs.Across.{ticket_of}
 use Rattle.iceoryx2_world.specs.Standing.{ticket_for}
 use Rattle.iceoryx2_world.proofs.agreement.Moved.{same_self}
 use Rattle.iceoryx2_world.proofs.agreement.Whole.{own_hash, get-set_to}
-use Rattle.iceoryx2_rounds.specs.declared.port_factory.CloseError.{CloseError}
+use Rattle.iceoryx2_errors.specs.declared.error.CloseError.{CloseError}
 use Rattle.iceoryx2_access.specs.Factory.{Factory}
 use Rattle.iceoryx2_rounds.specs.Closes.{IsCloseWord}
 use Rattle.iceoryx2_calls.specs.Quiet.{Counts, Service, Quiet, IsThere, ShowsService, Shows, CountIs, service_of, count_of, is_counted}

@@ -6,9 +6,9 @@ use Rattle.iceoryx2_data.specs.Description.{max_nodes_of}
 use Rattle.iceoryx2_data.specs.Span.{Span}
 use Rattle.iceoryx2_data.specs.declared.description.MessagingPattern.{MessagingPattern}
 use Rattle.iceoryx2_data.specs.declared.description.MessagingPattern.TheVariants as existing
-use Rattle.iceoryx2_rounds.specs.declared.error.ServiceState.{ServiceState}
-use Rattle.iceoryx2_rounds.specs.States.{create_error_of_state}
-use Rattle.iceoryx2_rounds.specs.declared.error.EventCreateError.TheVariants as creating
+use Rattle.iceoryx2_errors.specs.declared.error.ServiceState.{ServiceState}
+use Rattle.iceoryx2_errors.specs.States.{create_error_of_state}
+use Rattle.iceoryx2_errors.specs.declared.error.EventCreateError.TheVariants as creating
 use Rattle.iceoryx2_builder.specs.declared.event.asked.Asked.{Asked}
 use Rattle.iceoryx2_builder.specs.Event.{event_meaning, event_adjusted, misfit_of, raised_of}
 use Rattle.iceoryx2_calls.specs.QuietCalls.{IsRegular}

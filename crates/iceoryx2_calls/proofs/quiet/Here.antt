@@ -6,7 +6,7 @@ use Rattle.iceoryx2_access.specs.declared.storage.Tag.{Tag}
 use Rattle.iceoryx2_access.specs.Letter.{Letter}
 use Rattle.iceoryx2_rounds.specs.declared.look.Outcome.{Outcome}
 use Rattle.iceoryx2_rounds.specs.declared.pattern.CreateRefusal.{CreateRefusal}
-use Rattle.iceoryx2_rounds.specs.declared.port_factory.CloseError.{CloseError}
+use Rattle.iceoryx2_errors.specs.declared.error.CloseError.{CloseError}
 use Rattle.iceoryx2_rounds.specs.Meaning.{Meaning}
 use Rattle.iceoryx2_access.specs.Factory.{Factory}
 use Rattle.iceoryx2_rounds.specs.Looks.{IsLookWord}
@@ -15,7 +15,7 @@ use Rattle.iceoryx2_rounds.specs.GivesBack.{GivesBack, Thing}
 use Rattle.iceoryx2_rounds.specs.GivesBack as back
 use Rattle.iceoryx2_rounds.specs.Segments.{IsSegmentWord, cleared}
 use Rattle.iceoryx2_rounds.specs.Segments as segment
-use Rattle.iceoryx2_rounds.specs.Creates.{IsEntryWord, IsCreating}
+use Rattle.iceoryx2_rounds.specs.Creates.{IsEntryWord, IsServiceWord, IsCreating}
 use Rattle.iceoryx2_rounds.specs.Creates as create
 use Rattle.iceoryx2_rounds.specs.Opens.{IsReady, IsFailedRound, IsLastRound, AreFailedRounds, IsOpenWord}
 use Rattle.iceoryx2_rounds.specs.Opens as opening
@@ -54,14 +54,17 @@ module _ {F E C : Type 0} {m : Meaning F E C} {i : ℕ} {h : ServiceHash} where
   entry_here (create.no_tag e l) = all_both (look_here l) (more (refl, refl) (more (refl, refl) none))
   entry_here (create.entered t l) = all_both (look_here l) (more (refl, refl) (more (refl, refl) none))
 
+  service_here : {d : Description} {tag : Tag} {w : List Letter} {r : Result Factory C} → IsServiceWord m i h d tag w r → AllHere i h w
+  service_here (create.not_locked z g) = more (refl, refl) (back_here g)
+  service_here (create.no_segment s g) = more (refl, refl) (all_both (segment_here s) (back_here g))
+  service_here (create.not_published z s g) = more (refl, refl) (all_both (segment_here s) (more (refl, refl) (back_here g)))
+  service_here (create.published n t s) = more (refl, refl) (all_both (segment_here s) (more (refl, refl) none))
+
   pub create_here : {stops : Bool} {d : Description} {w : List Letter} {r : Result Factory C} → IsCreating m i h stops d w r → AllHere i h w
   create_here (create.forbidden _) = none
   create_here (create.not_entered _ e) = entry_here e
   create_here (create.clock_fault _ _ e g) = all_both (entry_here e) (back_here g)
-  create_here (create.not_locked z _ _ e g) = all_both (entry_here e) (more (refl, refl) (back_here g))
-  create_here (create.no_segment _ _ e s g) = all_both (entry_here e) (more (refl, refl) (all_both (segment_here s) (back_here g)))
-  create_here (create.not_published z _ _ e s g) = all_both (entry_here e) (more (refl, refl) (all_both (segment_here s) (more (refl, refl) (back_here g))))
-  create_here (create.published n t _ _ e s) = all_both (entry_here e) (more (refl, refl) (all_both (segment_here s) (more (refl, refl) none)))
+  create_here (create.made _ _ e s) = all_both (entry_here e) (service_here s)
 
   ready_here : {n : ℕ} {d : Description} {tag : Tag} {w : List Letter} → IsReady m i h n d tag w → AllHere i h w
   ready_here (opening.ready tag l fits) = all_both (look_here l) (more (refl, refl) none)
@@ -85,7 +88,7 @@ module _ {F E C : Type 0} {m : Meaning F E C} {i : ℕ} {h : ServiceHash} where
 
   pub open_here : {w : List Letter} {r : Result Factory E} → IsOpenWord m i h w r → AllHere i h w
   open_here (opening.ended _ rs r) = all_both (rounds_here rs) (last_here r)
-  open_here (opening.six_failed rs) = rounds_here rs
+  open_here (opening.all_failed rs) = rounds_here rs
 
 pub close_here : {f : Factory} {w : List Letter} {r : Result (Unit {0}) (CloseError Factory)} → IsCloseWord f w r → AllHere f.node f.description.hash w
 close_here closing.not_here = more (refl, refl) none

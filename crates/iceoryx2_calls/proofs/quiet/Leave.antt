@@ -18,7 +18,7 @@ use Rattle.iceoryx2_access.specs.Letter as letter
 use Rattle.iceoryx2_access.specs.Run.{Run}
 use Rattle.iceoryx2_world.specs.Access.{Tickets, Seat, Change, changed, Simply, left, is_ticket}
 use Rattle.iceoryx2_access.proofs.Run.{head, last}
-use Rattle.iceoryx2_rounds.specs.declared.port_factory.CloseError.{CloseError}
+use Rattle.iceoryx2_errors.specs.declared.error.CloseError.{CloseError}
 use Rattle.iceoryx2_access.specs.Factory.{Factory}
 use Rattle.iceoryx2_rounds.specs.Closes.{IsCloseWord, first_refused}
 use Rattle.iceoryx2_rounds.specs.Closes as close

@@ -68,7 +68,7 @@ module _ {F E C : Type 0} (m : Meaning F E C) (i : ℕ) (h : ServiceHash) (x : P
 
   pub opening_absent : {u : List Letter} {a : Result Factory E} {t : Seat} → IsOpenWord m i h u a → Run (AtSeat i h) (bare x c false k) u t → (a ≡ Err (m.open_refusal refusal.DoesNotExist)) × (t ≡ bare x c false k)
   opening_absent (word.ended {u = u} le rs l) r = let s = split u _ r in last_round l (from (no_rounds rs s.first).1 s.second)
-  opening_absent (word.six_failed rs) r = absurd (omega (arith, (no_rounds rs r).0))
+  opening_absent (word.all_failed rs) r = absurd (omega (arith, (no_rounds rs r).0))
 
 -- Where it stands.
 module _ (i : ℕ) (h : ServiceHash) (n cap : ℕ) (b : List ℕ) (nodes : set.FinSet participant_cmp) (c : ℕ) (k : Tickets) where
@@ -245,4 +245,4 @@ module _ (i : ℕ) (h : ServiceHash) (n cap : ℕ) (b : List ℕ) (nodes : set.F
 
     pub opening_there : {u : List Letter} {a : Result Factory E} {t : Seat} → IsOpenWord m i h u a → Run (AtSeat i h) start u t → OpensHere a t
     opening_there (word.ended {u = u} le rs l) r = let s = split u _ r in last_there l (from (no_rounds_there rs s.first).1 s.second)
-    opening_there (word.six_failed rs) r = absurd (omega (arith, (no_rounds_there rs r).0))
+    opening_there (word.all_failed rs) r = absurd (omega (arith, (no_rounds_there rs r).0))

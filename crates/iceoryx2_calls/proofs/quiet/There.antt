@@ -20,7 +20,7 @@ use Rattle.iceoryx2_access.specs.Letter as letter
 use Rattle.iceoryx2_access.specs.Run.{Run}
 use Rattle.iceoryx2_world.specs.Access.{Tickets, Seat, seat, tag_of, changed}
 use Rattle.iceoryx2_access.proofs.Run.{head, split, last}
-use Rattle.iceoryx2_rounds.specs.declared.error.ServiceState.TheVariants as state
+use Rattle.iceoryx2_errors.specs.declared.error.ServiceState.TheVariants as state
 use Rattle.iceoryx2_rounds.specs.declared.look.Outcome.{Outcome}
 use Rattle.iceoryx2_rounds.specs.declared.look.Outcome.TheVariants as outcome
 use Rattle.iceoryx2_rounds.specs.declared.pattern.CreateRefusal.TheVariants as refusal
@@ -192,7 +192,4 @@ module _ {F E C : Type 0} (m : Meaning F E C) (regular : IsRegular m) (i : ℕ) 
     create_there r word (create.not_entered fits (create.no_copies l)) run = absurd (never _ l run)
     create_there r word (create.not_entered fits (create.no_tag e l)) run = absurd (never _ l run)
     create_there r word (create.clock_fault {u = u} fits _ e g) run = absurd (never_enters e (split u _ run).first)
-    create_there r word (create.not_locked {u = u} z fits _ e g) run = absurd (never_enters e (split u _ run).first)
-    create_there r word (create.no_segment {u = u} fits _ e _ g) run = absurd (never_enters e (split u _ run).first)
-    create_there r word (create.not_published {u = u} z fits _ e _ g) run = absurd (never_enters e (split u _ run).first)
-    create_there r word (create.published {u = u} n t fits _ e _) run = absurd (never_enters e (split u _ run).first)
+    create_there r word (create.made {u = u} fits _ e _) run = absurd (never_enters e (split u _ run).first)

@@ -1,9 +1,10 @@
 //! The factory of a service of events.
 
-ghost use Rattle.std.specs.Prelude.{◌≡◌};
+ghost use Rattle.std.specs.Prelude.{◌≡◌, true};
 ghost use Rattle.iceoryx2_data.specs.declared.description.MessagingPattern.TheVariants as pattern;
 ghost use Rattle.iceoryx2_access.specs.Run.{Joins};
 ghost use Rattle.iceoryx2_rounds.specs.Closes.{IsCloseWord};
+ghost use Rattle.iceoryx2_rounds.specs.Patterns.{is_events};
 
 use crate::port_factory::{CloseError, Registration};
 use iceoryx2_access::storage::Service;
@@ -18,15 +19,21 @@ pub struct PortFactory<S: Service> {
 }
 
 impl<S: Service> Model for PortFactory<S> {
+    ghost use Rattle.std.specs.Prelude.{◌≡◌, true};
+    ghost use Rattle.iceoryx2_rounds.specs.Patterns.{is_events};
     ghost use Rattle.iceoryx2_access.specs.Factory.{Factory};
 
     ghost Value = { Factory };
 
     ghost view = { λ factory. factory.registration };
+
+    ghost invariant = { λ factory. is_events factory.registration.description.pattern ≡ true };
 }
 
 impl<S: Service> PortFactory<S> {
+    /// The factory of a registration at a service of events.
     pub fn new(registration: Registration) -> PortFactory<S>
+        requires { is_events registration.description.pattern ≡ true }
         ensures { result ≡ registration }
     {
         PortFactory {
@@ -76,11 +83,7 @@ impl<S: Service> PortFactory<S> {
     pub fn close(self, storage: &mut S::Storage) -> Result<(), CloseError<PortFactory<S>>>
         ensures { Joins S.Storage.step storage.old (λ word. IsCloseWord self word result) storage.new }
     {
-        let PortFactory {
-            registration,
-            service: _,
-        } = self;
-        match registration.close(storage) {
+        match self.into_registration().close(storage) {
             Ok(()) => Ok(()),
             Err(error) => Err(match error {
                 CloseError::NotHere(registration) => {
@@ -93,12 +96,20 @@ impl<S: Service> PortFactory<S> {
         }
     }
 
-    /// Spends it without any access: its ticket and its registration stay.
-    pub fn abandon(self) {
+    /// Its registration alone, which knows no pattern.
+    pub fn into_registration(self) -> Registration
+        ensures value { result ≡ self }
+        ensures pattern { is_events self.description.pattern ≡ true }
+    {
         let PortFactory {
             registration,
             service: _,
         } = self;
-        registration.abandon();
+        registration
+    }
+
+    /// Spends it without any access: its ticket and its registration stay.
+    pub fn abandon(self) {
+        self.into_registration().abandon();
     }
 }

@@ -2,6 +2,7 @@ use Rattle.std.proofs.Common.{◌≡◌, add-one, arith}
 use Rattle.iceoryx2_access.proofs.Run.{joins, one, both}
 use Rattle.iceoryx2_access.specs.Run.{next, done}
 use Rattle.iceoryx2_rounds.specs.Segments.{made, not_made, not_removed, still_there}
+use Rattle.iceoryx2_rounds.specs.declared.create.TheConstants.{CLEARING_LIMIT}
 use Rattle.iceoryx2_rounds.proofs.create.make_own_segment.Goals as goal
 
 pub loop-removed-init : goal.loop-removed-init
@@ -24,7 +25,7 @@ returns-in-Err-remove_segment g c = rw c.remove_refusal.ensures (joins (not_remo
 
 pub returns-in-AlreadyExists-error : goal.returns-in-AlreadyExists-error
 returns-in-AlreadyExists-error g c =
-    let all : c.loop-removed._removed ≡ 5 = omega arith in
+    let all : c.loop-removed._removed ≡ CLEARING_LIMIT = omega arith in
     joins still_there (both (rw all at c.loop-removed.invariant) (one (rw c.in-AlreadyExists-error.is at c.in-Err-make_segment.ensures)))
 
 pub returns-in_default-error : goal.returns-in_default-error

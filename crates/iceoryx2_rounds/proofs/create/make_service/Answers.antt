@@ -6,21 +6,21 @@ use Rattle.iceoryx2_rounds.proofs.create.make_service.Goals as goal
 pub returns-in-Err : goal.returns-in-Err
 returns-in-Err g c =
     let back = c.give_back_tag.ensures in
-    rw (c.create_refusal.ensures, c.lock_refusal.ensures) (joins (λ u stops history clock first. not_locked c.in-Err.error history clock first back.is_word) (next c.in-Err.ensures back.run))
+    rw (c.create_refusal.ensures, c.lock_refusal.ensures) (joins (not_locked c.in-Err.error back.is_word) (next c.in-Err.ensures back.run))
 
 pub returns-in-Err-make_own_segment : goal.returns-in-Err-make_own_segment
 returns-in-Err-make_own_segment g c =
     let segment = rw c.max_nodes-max_nodes.ensures.value at c.in-Err-make_own_segment.ensures in
     let back = c.give_back_lock.ensures in
-    rw c.create_refusal-in-Err-make_own_segment.ensures (joins (λ u stops history clock first. no_segment history clock first segment.is_word back.is_word) (next c.in-Ok.ensures (both segment.run back.run)))
+    rw c.create_refusal-in-Err-make_own_segment.ensures (joins (no_segment segment.is_word back.is_word) (next c.in-Ok.ensures (both segment.run back.run)))
 
 pub returns-in-Ok-answer : goal.returns-in-Ok-answer
 returns-in-Ok-answer g c =
     let segment = rw c.max_nodes-max_nodes.ensures.value at c.in-Ok-make_own_segment.ensures in
-    rw c.new.ensures (joins (λ u stops history clock first. published c.in-Ok.number c.in-Ok-answer.ticket history clock first segment.is_word) (next c.in-Ok.ensures (both segment.run (one c.in-Ok-answer.ensures))))
+    rw c.new.ensures (joins (published c.in-Ok.number c.in-Ok-answer.ticket segment.is_word) (next c.in-Ok.ensures (both segment.run (one c.in-Ok-answer.ensures))))
 
 pub returns-in-Err-answer : goal.returns-in-Err-answer
 returns-in-Err-answer g c =
     let segment = rw c.max_nodes-max_nodes.ensures.value at c.in-Ok-make_own_segment.ensures in
     let back = c.give_back_segment.ensures in
-    rw (c.create_refusal-in-Err-answer.ensures, c.publish_refusal.ensures) (joins (λ u stops history clock first. not_published c.in-Err-answer.error history clock first segment.is_word back.is_word) (next c.in-Ok.ensures (both segment.run (next c.in-Err-answer.ensures back.run))))
+    rw (c.create_refusal-in-Err-answer.ensures, c.publish_refusal.ensures) (joins (not_published c.in-Err-answer.error segment.is_word back.is_word) (next c.in-Ok.ensures (both segment.run (next c.in-Err-answer.ensures back.run))))

@@ -1,7 +1,8 @@
-use Rattle.std.proofs.Common.{arith, add-one, ◌≡◌}
+use Rattle.std.proofs.Common.{arith, add-one, ◌≡◌, ◌+◌}
 use Rattle.iceoryx2_access.proofs.Run.{joins, both}
 use Rattle.iceoryx2_access.specs.Run.{done}
-use Rattle.iceoryx2_rounds.specs.Opens.{no_round, one_more, ended, six_failed}
+use Rattle.iceoryx2_rounds.specs.Opens.{no_round, one_more, ended, all_failed}
+use Rattle.iceoryx2_rounds.specs.declared.open.TheConstants.{RETRY_LIMIT}
 use Rattle.iceoryx2_rounds.proofs.open.open.Goals as goal
 
 pub loop-round-init : goal.loop-round-init
@@ -14,4 +15,4 @@ pub returns-in-Some : goal.returns-in-Some
 returns-in-Some g c = let before = c.loop-round.invariant in let last = c.in-Some.ensures in joins (ended (omega arith) before.is_word last.is_word) (both before.run last.run)
 
 pub returns : goal.returns
-returns g c = let before = c.loop-round.invariant in let all : c.loop-round._round ≡ 6 = omega arith in rw c.open_refusal.ensures (joins (six_failed (rw all at before.is_word)) before.run)
+returns g c = let before = c.loop-round.invariant in let all : c.loop-round._round ≡ RETRY_LIMIT + 1 = omega arith in rw c.open_refusal.ensures (joins (all_failed (rw all at before.is_word)) before.run)

@@ -1,8 +1,8 @@
 //! Why calls are refused, and what their texts are.
 
 ghost use Rattle.std.specs.Prelude.{◌≡◌, ◌++◌, codes, Some};
-ghost use Rattle.iceoryx2_rounds.specs.Texts.{event_create_error_name, event_open_error_name};
-ghost use Rattle.iceoryx2_rounds.specs.States.{create_error_of_state, open_error_of_state};
+ghost use Rattle.iceoryx2_errors.specs.Texts.{close_error_name, event_create_error_name, event_open_error_name};
+ghost use Rattle.iceoryx2_errors.specs.States.{create_error_of_state, open_error_of_state};
 
 use std::error::Error;
 use std::fmt;
@@ -184,3 +184,51 @@ impl From<ServiceState> for EventCreateError {
         }
     }
 }
+
+/// Why something isn't closed, or not wholly.
+#[derive(Drop)]
+pub enum CloseError<F> {
+    /// The ticket isn't at this storage. Nothing changed, and here is what was to be closed.
+    NotHere(F),
+    /// The node's tag is left.
+    TagNotRemoved,
+    /// The service's segment is left.
+    SegmentNotRemoved,
+    /// The service's description is left: the service may stay unusable.
+    DescriptionNotRemoved,
+}
+
+impl<F> CloseError<F> {
+    /// The variant's name.
+    pub fn name(&self) -> &'static str
+        ensures { result.now ≡ close_error_name self.now }
+    {
+        match self {
+            CloseError::NotHere(_) => "NotHere",
+            CloseError::TagNotRemoved => "TagNotRemoved",
+            CloseError::SegmentNotRemoved => "SegmentNotRemoved",
+            CloseError::DescriptionNotRemoved => "DescriptionNotRemoved",
+        }
+    }
+}
+
+impl<F> fmt::Display for CloseError<F> {
+    ghost output = { λ error. Some (codes "CloseError::" ++ close_error_name error) };
+
+    fn fmt<W: fmt::Write>(&self, f: &mut fmt::Formatter<W>) -> fmt::Result {
+        let name = self.name();
+        write!(f, "CloseError::{name}")
+    }
+}
+
+/// Its text, whatever it hands back.
+impl<F> fmt::Debug for CloseError<F> {
+    ghost debug_output = { λ error. Some (codes "CloseError::" ++ close_error_name error) };
+
+    fn fmt<W: fmt::Write>(&self, f: &mut fmt::Formatter<W>) -> fmt::Result {
+        let name = self.name();
+        write!(f, "CloseError::{name}")
+    }
+}
+
+impl<F: Drop> Error for CloseError<F> {}

@@ -1,10 +1,10 @@
 -- The errors of an event builder's calls whose look finds such a state.
-use Rattle.iceoryx2_rounds.specs.declared.error.ServiceState.{ServiceState}
-use Rattle.iceoryx2_rounds.specs.declared.error.ServiceState.TheVariants as state
-use Rattle.iceoryx2_rounds.specs.declared.error.EventOpenError.{EventOpenError}
-use Rattle.iceoryx2_rounds.specs.declared.error.EventOpenError.TheVariants as opening
-use Rattle.iceoryx2_rounds.specs.declared.error.EventCreateError.{EventCreateError}
-use Rattle.iceoryx2_rounds.specs.declared.error.EventCreateError.TheVariants as creating
+use Rattle.iceoryx2_errors.specs.declared.error.ServiceState.{ServiceState}
+use Rattle.iceoryx2_errors.specs.declared.error.ServiceState.TheVariants as state
+use Rattle.iceoryx2_errors.specs.declared.error.EventOpenError.{EventOpenError}
+use Rattle.iceoryx2_errors.specs.declared.error.EventOpenError.TheVariants as opening
+use Rattle.iceoryx2_errors.specs.declared.error.EventCreateError.{EventCreateError}
+use Rattle.iceoryx2_errors.specs.declared.error.EventCreateError.TheVariants as creating
 
 abbrev pub open_error_of_state : ServiceState → EventOpenError
 open_error_of_state state.IncompatibleMessagingPattern = opening.IncompatibleMessagingPattern
