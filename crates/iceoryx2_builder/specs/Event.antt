@@ -19,16 +19,20 @@ use Rattle.iceoryx2_rounds.specs.declared.pattern.OpenRefusal.{OpenRefusal}
 use Rattle.iceoryx2_rounds.specs.declared.pattern.OpenRefusal.TheVariants as open_refusal
 use Rattle.iceoryx2_rounds.specs.declared.pattern.CreateRefusal.{CreateRefusal}
 use Rattle.iceoryx2_rounds.specs.declared.pattern.CreateRefusal.TheVariants as create_refusal
-use Rattle.iceoryx2_builder.specs.declared.event.asked.Asked.{Asked}
-use Rattle.iceoryx2_builder.specs.declared.event.asked.Marks.{Marks}
+use Rattle.iceoryx2_builder.specs.declared.builder.event.asked.Asked.{Asked}
+use Rattle.iceoryx2_builder.specs.declared.builder.event.asked.Marks.{Marks}
 
 -- the settings in order, each with its test and its error
 abbrev pub rows : Settings → Marks → Settings → List (Row EventOpenError)
 rows required marks existing =
-    at_least marks.max_notifiers existing.max_notifiers required.max_notifiers opening.DoesNotSupportRequestedAmountOfNotifiers ∷
-    at_least marks.max_listeners existing.max_listeners required.max_listeners opening.DoesNotSupportRequestedAmountOfListeners ∷
-    at_least marks.event_id_max_value existing.event_id_max_value required.event_id_max_value opening.DoesNotSupportRequestedMaxEventId ∷
-    at_least marks.max_nodes existing.max_nodes required.max_nodes opening.DoesNotSupportRequestedAmountOfNodes ∷
+    at_least marks.max_notifiers existing.max_notifiers required.max_notifiers
+        opening.DoesNotSupportRequestedAmountOfNotifiers ∷
+    at_least marks.max_listeners existing.max_listeners required.max_listeners
+        opening.DoesNotSupportRequestedAmountOfListeners ∷
+    at_least marks.event_id_max_value existing.event_id_max_value required.event_id_max_value
+        opening.DoesNotSupportRequestedMaxEventId ∷
+    at_least marks.max_nodes existing.max_nodes required.max_nodes
+        opening.DoesNotSupportRequestedAmountOfNodes ∷
     []
 
 abbrev pub setting_clauses : Asked → MessagingPattern → List (Clause EventOpenError)
@@ -54,22 +58,22 @@ create_error_of_refusal create_refusal.AlreadyExists = creating.AlreadyExists
 create_error_of_refusal create_refusal.InsufficientPermissions = creating.InsufficientPermissions
 create_error_of_refusal create_refusal.OutOfMemory = creating.OutOfMemory
 
-abbrev pub raised_of : ℕ → ℕ
-raised_of n = if nat_eq n 0 then 1 else n
+abbrev pub at_least_one : ℕ → ℕ
+at_least_one n = if nat_eq n 0 then 1 else n
 
 -- zeros become one where a service has to have room for somebody
 abbrev pub event_adjusted : Asked → Asked
 event_adjusted asked = record asked {
   settings = record asked.settings {
-    max_notifiers = raised_of asked.settings.max_notifiers;
-    max_listeners = raised_of asked.settings.max_listeners;
-    max_nodes = raised_of asked.settings.max_nodes;
+    max_notifiers = at_least_one asked.settings.max_notifiers;
+    max_listeners = at_least_one asked.settings.max_listeners;
+    max_nodes = at_least_one asked.settings.max_nodes;
   };
 }
 
--- a deadline is stamped with the time of the creation
-abbrev pub stamped : Span → Deadline → Deadline
-stamped now deadline = record { value = deadline.value; creation_time = now }
+-- the deadline of a service that is created at this time
+abbrev pub deadline_at : Span → Deadline → Deadline
+deadline_at now deadline = record { value = deadline.value; creation_time = now }
 
 abbrev pub event_meaning : Asked → Meaning ServiceState EventOpenError EventCreateError
 event_meaning asked = record {
@@ -82,5 +86,6 @@ event_meaning asked = record {
   create_refusal = create_error_of_refusal;
   history_refusal = None;
   needs_clock = is_some asked.settings.deadline;
-  published = λ now. existing.Event (record asked.settings { deadline = option_map (stamped now) asked.settings.deadline });
+  published = λ now.
+    existing.Event (record asked.settings { deadline = option_map (deadline_at now) asked.settings.deadline });
 }

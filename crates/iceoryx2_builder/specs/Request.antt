@@ -1,11 +1,13 @@
 -- What a node and its builders hold.
-use Rattle.std.specs.Prelude.{ℕ, List, Option, Some, None, false}
+use Rattle.std.specs.Prelude.{ℕ, List, Option, Some, None, false, true}
 use Rattle.std.specs.Option.{option_map}
 use Rattle.iceoryx2_data.specs.declared.config.Config.{Config}
 use Rattle.iceoryx2_data.specs.declared.config.Event.{Event as EventDefaults}
 use Rattle.iceoryx2_data.specs.declared.event.Deadline.{Deadline}
 use Rattle.iceoryx2_data.specs.Span.{Span, zero_span}
-use Rattle.iceoryx2_builder.specs.declared.event.asked.Asked.{Asked}
+use Rattle.iceoryx2_builder.specs.declared.builder.event.asked.Asked.{Asked}
+use Rattle.iceoryx2_builder.specs.declared.builder.event.setting.EventSetting.{EventSetting}
+use Rattle.iceoryx2_builder.specs.declared.builder.event.setting.EventSetting.TheVariants as set
 
 pub record NodeFacts : Type 0 where
   pub id : ℕ
@@ -16,6 +18,12 @@ pub record BuilderFacts : Type 0 where
   pub config : Config
   pub name : List ℕ
 
+-- a builder whose pattern is chosen
+pub record ServiceFacts : Type 0 where
+  pub node : ℕ
+  pub name : List ℕ
+
+-- a builder of events
 pub record EventRequest : Type 0 where
   pub node : ℕ
   pub name : List ℕ
@@ -30,8 +38,8 @@ abbrev pub deadline_from : Span → Deadline
 deadline_from value = record { value = value; creation_time = zero_span }
 
 -- the configured settings with nothing marked
-abbrev pub started : EventDefaults → Asked
-started defaults = record {
+abbrev pub fresh_asked : EventDefaults → Asked
+fresh_asked defaults = record {
   settings = record {
     max_notifiers = defaults.max_notifiers;
     max_listeners = defaults.max_listeners;
@@ -49,3 +57,30 @@ started defaults = record {
     max_nodes = false;
   };
 }
+
+-- what a builder asks that no setter has changed
+abbrev pub fresh_request : ℕ → List ℕ → EventDefaults → EventRequest
+fresh_request node name defaults = record { node = node; name = name; asked = fresh_asked defaults }
+
+-- The settings after one setter: its value is set, and the setting is marked.
+abbrev pub asked_with : Asked → EventSetting → Asked
+asked_with a (set.MaxNotifiers n) = record {
+  settings = record a.settings { max_notifiers = n };
+  marks = record a.marks { max_notifiers = true };
+}
+asked_with a (set.MaxListeners n) = record {
+  settings = record a.settings { max_listeners = n };
+  marks = record a.marks { max_listeners = true };
+}
+asked_with a (set.EventIdMaxValue n) = record {
+  settings = record a.settings { event_id_max_value = n };
+  marks = record a.marks { event_id_max_value = true };
+}
+asked_with a (set.MaxNodes n) = record {
+  settings = record a.settings { max_nodes = n };
+  marks = record a.marks { max_nodes = true };
+}
+
+-- a builder after one setter
+abbrev pub with_setting : EventRequest → EventSetting → EventRequest
+with_setting request setting = record request { asked = asked_with request.asked setting }

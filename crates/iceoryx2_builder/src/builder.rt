@@ -1,12 +1,19 @@
 //! Nodes, and where their builders begin.
 
-ghost use Rattle.std.specs.Prelude.{◌≡◌, ◌<◌, ◌^◌};
-ghost use Rattle.iceoryx2_builder.specs.Request.{started};
+ghost use Rattle.std.specs.Prelude.{◌≡◌, ◌<◌, ◌^◌, ℕ, List, Result};
+ghost use Rattle.iceoryx2_data.specs.Span.{Span};
+ghost use Rattle.iceoryx2_data.specs.declared.description.ServiceHash.{ServiceHash};
+ghost use Rattle.iceoryx2_data.specs.declared.time.ClockFault.{ClockFault};
+ghost use Rattle.iceoryx2_builder.specs.Event.{event_meaning, event_adjusted};
+ghost use Rattle.iceoryx2_builder.specs.OwnSettings.{AcceptsOwn};
+ghost use Rattle.iceoryx2_builder.specs.Request.{fresh_request};
+ghost use Rattle.iceoryx2_builder.specs.declared.builder.event.asked.Asked.{Asked};
 
-use crate::event;
-use iceoryx2_access::storage::Service;
+pub mod event;
+
 use iceoryx2_data::config::Config;
-use iceoryx2_data::description::ServiceName;
+use iceoryx2_data::description::{ServiceHash, ServiceName};
+use iceoryx2_access::storage::{Service, ServiceNameHasher};
 use std::marker::{Model, PhantomData};
 
 /// One that creates and opens services: a number, and the settings that its builders start from.
@@ -37,6 +44,7 @@ impl<S: Service> Drop for Node<S> {
 }
 
 impl<S: Service> Node<S> {
+    /// A node of this number. Nodes of one storage are told apart by their numbers alone.
     pub fn new(id: u64, config: Config) -> Self
         ensures { result ≡ record { id = id; config = config } }
     {
@@ -47,12 +55,14 @@ impl<S: Service> Node<S> {
         }
     }
 
+    /// Its number.
     pub fn id(&self) -> u64
         ensures { result ≡ self.now.id }
     {
         self.id
     }
 
+    /// The settings that its builders start from.
     pub fn config(&self) -> &Config
         ensures { result.now ≡ self.now.config }
     {
@@ -102,14 +112,76 @@ impl<S: Service> Drop for Builder<S> {
 impl<S: Service> Builder<S> {
     /// A builder of a service of events, with the node's settings, of which none is required.
     pub fn event(self) -> event::Builder<S>
-        ensures { result ≡ record { node = self.node; name = self.name; asked = started self.config.event } }
+        ensures { result ≡ fresh_request self.node self.name self.config.event }
     {
         let Builder {
             node,
             config,
             name,
-            service: _,
+            service,
         } = self;
-        event::Builder::new(node, name, config.event)
+        let base = BuilderWithServiceType {
+            node,
+            name,
+            service,
+        };
+        event::Builder::new(base, config.event)
     }
 }
+
+/// What a builder has once its pattern is chosen, whatever the pattern is: the node and the name.
+pub struct BuilderWithServiceType<S: Service> {
+    node: u64,
+    name: ServiceName,
+    service: PhantomData<S>,
+}
+
+impl<S: Service> Model for BuilderWithServiceType<S> {
+    ghost use Rattle.iceoryx2_builder.specs.Request.{ServiceFacts};
+
+    ghost Value = { ServiceFacts };
+
+    ghost view = { λ base. record { node = base.node; name = base.name } };
+}
+
+impl<S: Service> Drop for BuilderWithServiceType<S> {
+    fn drop(self) {
+        let BuilderWithServiceType {
+            node: _,
+            name: _,
+            service: _,
+        } = self;
+    }
+}
+
+impl<S: Service> BuilderWithServiceType<S> {
+    /// The node that creates or opens the service.
+    pub(crate) fn node(&self) -> u64
+        ensures { result ≡ self.now.node }
+    {
+        self.node
+    }
+
+    /// The service's name.
+    pub(crate) fn name(&self) -> &ServiceName
+        ensures { result.now ≡ self.now.name }
+    {
+        &self.name
+    }
+
+    /// The hash of the service of this name, of the pattern with this letter.
+    pub(crate) fn hash(&self, letter: u8) -> ServiceHash
+        ensures { result ≡ S.ServiceNameHasher.hash_of letter self.now.name }
+    {
+        S::ServiceNameHasher::hash(letter, &self.name)
+    }
+}
+
+/// What holds of the builders of each pattern.
+///
+/// A builder opens what the same builder creates: with its adjusted settings a create publishes
+/// what fits it and meets each setting that it requires, whatever the clock says.
+pub fn laws()
+    ensures { (asked : Asked) (hash : ServiceHash) (name : List ℕ) (now : Result Span ClockFault)
+        → AcceptsOwn (event_meaning (event_adjusted asked)) (event_meaning asked) hash name now }
+{}

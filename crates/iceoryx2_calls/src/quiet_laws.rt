@@ -24,7 +24,7 @@ ghost use Rattle.iceoryx2_access.specs.Factory.{Factory};
 ghost use Rattle.iceoryx2_rounds.specs.Creates.{IsCreateWord, time_of};
 ghost use Rattle.iceoryx2_rounds.specs.Opens.{IsOpenWord};
 ghost use Rattle.iceoryx2_rounds.specs.Closes.{IsCloseWord};
-ghost use Rattle.iceoryx2_builder.specs.declared.event.asked.Asked.{Asked};
+ghost use Rattle.iceoryx2_builder.specs.declared.builder.event.asked.Asked.{Asked};
 ghost use Rattle.iceoryx2_builder.specs.Event.{event_meaning, event_adjusted};
 ghost use Rattle.iceoryx2_calls.specs.Quiet.{Quiet, Service, Shows, no_service, service_of, count_of};
 ghost use Rattle.iceoryx2_calls.specs.QuietCalls.{IsRegular, Creates, Opens, Closes, HasPlace, HasNumber};

@@ -1,22 +1,21 @@
--- Slot after slot is closed.
+-- Slot after slot is closed, over any table.
 use Rattle.std.proofs.Common.{◌≡◌, ℕ, zero, suc, ◌+◌, ◌<◌, ◌≤◌, List, [], ◌∷◌, ◌++◌, Option, Some, None, length, take, refl, sym, ap, subst, ◌∙◌, arith}
 use Rattle.std.specs.Prelude.{slice_get, slice_set}
-use Rattle.iceoryx2_world.specs.World.{World}
-use Rattle.iceoryx2_service.specs.declared.slots.Held.{Held}
-use Rattle.iceoryx2_service.specs.Sessions.{PlaceCloses, SlotCloses, ClosesAll, all_closed, next_slot}
+use Rattle.iceoryx2_world.specs.Tables.{TableState}
+use Rattle.iceoryx2_access.specs.Run.{done}
+use Rattle.iceoryx2_access.proofs.Run.{one, both}
+use Rattle.iceoryx2_access.specs.Factory.{Factory}
+use Rattle.iceoryx2_service.specs.Slots.{slot_count}
+use Rattle.iceoryx2_service.specs.Sessions.{ClosesSlot, ClosesSlots}
 
 -- the first k slots are closed, the others are as they were
-pub record Finishing (from : World) (slots : List (Option Held)) (k : ℕ) (w : World) (now : List (Option Held)) : Type 0 where
-  pub so_far : ClosesAll from (take k slots) w
+pub record Finishing (from : TableState) (slots : List (Option Factory)) (k : ℕ) (w : TableState) (now : List (Option Factory)) : Type 0 where
+  pub so_far : ClosesSlots from (take k slots) w
   pub others : (j : ℕ) → k ≤ j → slice_get now j ≡ slice_get slots j
   pub long : length now ≡ length slots
 
-pub begins : (w : World) (slots : List (Option Held)) → Finishing w slots 0 w slots
-begins w slots = record { so_far = all_closed; others = λ j h. refl; long = refl }
-
-one_more : {u v w : World} {xs : List (Option Held)} (o : Option Held) → ClosesAll u xs v → PlaceCloses v o w → ClosesAll u (xs ++ o ∷ []) w
-one_more o all_closed p = next_slot p all_closed
-one_more o (next_slot q r) p = next_slot q (one_more o r p)
+pub begins : (w : TableState) (slots : List (Option Factory)) → Finishing w slots 0 w slots
+begins w slots = record { so_far = done; others = λ j h. refl; long = refl }
 
 take_next : {X : Type 0} (xs : List X) (k : ℕ) (x : X) → slice_get xs k ≡ Some x → take (suc k) xs ≡ take k xs ++ x ∷ []
 take_next [] k x e = absurd cc
@@ -41,15 +40,17 @@ take_all [] (suc n) e = refl
 take_all (y ∷ xs) zero e = absurd (omega (arith, e))
 take_all {X} (y ∷ xs) (suc n) e = ap (λ (l : List X). y ∷ l) (take_all xs n (omega (arith, e)))
 
-pub goes_on : (u v w : World) (slots now after : List (Option Held)) (k : ℕ) → Finishing u slots k v now → SlotCloses v now k w → after ≡ slice_set now k None → Finishing u slots (k + 1) w after
+pub goes_on : (u v w : TableState) (slots now after : List (Option Factory)) (k : ℕ) → Finishing u slots k v now
+    → ClosesSlot v now k w → after ≡ slice_set now k None → Finishing u slots (k + 1) w after
 goes_on u v w slots now after k f closed is =
     let here : slice_get slots k ≡ Some closed.0 = sym (f.others k (omega arith)) ∙ closed.1 in
     let n : k + 1 ≡ suc k = omega arith in
     record {
-      so_far = subst (λ m. ClosesAll u (take m slots) w) (sym n) (subst (λ (l : List (Option Held)). ClosesAll u l w) (sym (take_next slots k closed.0 here)) (one_more closed.0 f.so_far closed.2));
-      others = λ j h. ap (λ (l : List (Option Held)). slice_get l j) is ∙ elsewhere now k j None (omega (arith, h)) ∙ f.others j (omega (arith, h));
-      long = ap (λ (l : List (Option Held)). length l) is ∙ length_set now k None ∙ f.long;
+      so_far = subst (λ m. ClosesSlots u (take m slots) w) (sym n) (subst (λ (l : List (Option Factory)). ClosesSlots u l w) (sym (take_next slots k closed.0 here)) (both f.so_far (one closed.2)));
+      others = λ j h. ap (λ (l : List (Option Factory)). slice_get l j) is ∙ elsewhere now k j None (omega (arith, h)) ∙ f.others j (omega (arith, h));
+      long = ap (λ (l : List (Option Factory)). length l) is ∙ length_set now k None ∙ f.long;
     }
 
-pub finished : (u w : World) (slots now : List (Option Held)) (k : ℕ) → Finishing u slots k w now → k ≡ 64 → length now ≡ 64 → ClosesAll u slots w
-finished u w slots now k f all long = subst (λ (l : List (Option Held)). ClosesAll u l w) (ap (λ m. take m slots) all ∙ take_all slots 64 (sym f.long ∙ long)) f.so_far
+pub finished : (u w : TableState) (slots now : List (Option Factory)) (k : ℕ) → Finishing u slots k w now → k ≡ slot_count
+    → length now ≡ slot_count → ClosesSlots u slots w
+finished u w slots now k f all long = subst (λ (l : List (Option Factory)). ClosesSlots u l w) (ap (λ m. take m slots) all ∙ take_all slots slot_count (sym f.long ∙ long)) f.so_far

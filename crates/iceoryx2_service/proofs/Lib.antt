@@ -1,7 +1,9 @@
 pub mod Places
-pub mod Sessions
+pub mod SlotLists
+pub mod Patterns
 pub mod Setters
 pub mod Commands
+pub mod StandingSlots
+pub mod QuietSessions
 pub mod Finishing
 pub mod Finished
-pub mod Words

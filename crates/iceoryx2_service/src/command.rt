@@ -1,5 +1,6 @@
 //! What a session is told, and what it answers.
 
+pub use iceoryx2_builder::builder::event::EventSetting;
 use iceoryx2_data::description::ServiceName;
 use iceoryx2_data::time::{ClockFault, Time};
 use iceoryx2_rounds::error::{EventCreateError, EventOpenError};
@@ -9,15 +10,6 @@ use iceoryx2_rounds::error::{EventCreateError, EventOpenError};
 pub enum How {
     Create,
     Open,
-}
-
-/// One setter of the builder of events.
-#[derive(Clone, Copy, Debug, PartialEq, Eq)]
-pub enum EventSetting {
-    MaxNotifiers(u64),
-    MaxListeners(u64),
-    EventIdMaxValue(u64),
-    MaxNodes(u64),
 }
 
 /// The setters of one pattern's builder, in the order in which they are called.

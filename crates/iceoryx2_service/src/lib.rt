@@ -2,10 +2,12 @@
 #![tactic(auto)]
 
 pub mod command;
+mod events;
+mod open_service;
 pub mod session;
 mod slots;
 
-pub use iceoryx2_builder as builder;
+pub use iceoryx2_builder::builder;
 pub use iceoryx2_calls::{laws, quiet_laws};
 pub use iceoryx2_data as data;
 pub use iceoryx2_rounds as rounds;

@@ -2,47 +2,33 @@
 
 ghost use Rattle.std.specs.Prelude.{◌≡◌, ◌<◌, slice_set, slice_get, Some, None, MatchBool, replicate, length};
 
-use iceoryx2_rounds::port_factory::event;
-use iceoryx2_storage::local::Local;
+use crate::open_service::OpenService;
 use std::marker::Model;
 
 /// How many slots a session has.
 pub const SLOTS: usize = 64;
 
-/// A service that a slot holds. It has to be spent.
-pub enum Held {
-    Event(event::PortFactory<Local>),
-}
-
-impl Held {
-    /// Lets it go without an access.
-    fn abandon(self) {
-        match self {
-            Held::Event(factory) => factory.abandon(),
-        }
-    }
-}
-
-/// 64 places, each of which may hold a service. They have to be spent.
+/// A place for each slot, which may hold a service. They have to be spent.
 pub struct Slots {
-    places: [Option<Held>; SLOTS],
+    places: [Option<OpenService>; SLOTS],
 }
 
 impl Model for Slots {
     ghost use Rattle.std.specs.Prelude.{◌≡◌, List, length, Option};
-    ghost use Rattle.iceoryx2_service.specs.declared.slots.Held.{Held};
+    ghost use Rattle.iceoryx2_access.specs.Factory.{Factory};
+    ghost use Rattle.iceoryx2_service.specs.Slots.{slot_count};
 
-    ghost Value = { List (Option Held) };
+    ghost Value = { List (Option Factory) };
 
     ghost view = { λ slots. slots.places };
 
-    ghost invariant = { λ slots. length slots.places ≡ 64 };
+    ghost invariant = { λ slots. length slots.places ≡ slot_count };
 }
 
-fn abandon(place: Option<Held>) {
+fn abandon(place: Option<OpenService>) {
     match place {
         None => {}
-        Some(held) => held.abandon(),
+        Some(service) => service.abandon(),
     }
 }
 
@@ -54,7 +40,7 @@ macro_rules! let_go {
     };
 }
 
-fn abandon_all(places: [Option<Held>; SLOTS]) {
+fn abandon_all(places: [Option<OpenService>; SLOTS]) {
     let_go!(places;
         p0 p1 p2 p3 p4 p5 p6 p7 p8 p9 p10 p11 p12 p13 p14 p15
         p16 p17 p18 p19 p20 p21 p22 p23 p24 p25 p26 p27 p28 p29 p30 p31
@@ -63,11 +49,11 @@ fn abandon_all(places: [Option<Held>; SLOTS]) {
 }
 
 impl Slots {
-    ghost use Rattle.iceoryx2_service.specs.Slots.{FreeAt, TakenAt};
+    ghost use Rattle.iceoryx2_service.specs.Slots.{FreeAt, TakenAt, slot_count};
 
     /// Slots that are all free.
     pub fn new() -> Slots
-        ensures { result ≡ replicate 64 None }
+        ensures { result ≡ replicate slot_count None }
     {
         Slots {
             places: Default::default(),
@@ -75,7 +61,7 @@ impl Slots {
     }
 
     pub fn is_taken(&self, slot: usize) -> bool
-        requires { slot < 64 }
+        requires { slot < slot_count }
         ensures { MatchBool result (TakenAt self.now slot) (FreeAt self.now slot) }
     {
         match &self.places[slot] {
@@ -85,8 +71,8 @@ impl Slots {
     }
 
     /// What the slot holds. It is free then.
-    pub fn take(&mut self, slot: usize) -> Option<Held>
-        requires { slot < 64 }
+    pub fn take(&mut self, slot: usize) -> Option<OpenService>
+        requires { slot < slot_count }
         ensures value { slice_get self.old slot ≡ Some result }
         ensures after { self.new ≡ slice_set self.old slot None }
     {
@@ -94,17 +80,17 @@ impl Slots {
     }
 
     /// Puts a service into a free slot.
-    pub fn put(&mut self, slot: usize, held: Held)
-        requires in_range { slot < 64 }
+    pub fn put(&mut self, slot: usize, service: OpenService)
+        requires in_range { slot < slot_count }
         requires free { FreeAt self.old slot }
-        ensures after { self.new ≡ slice_set self.old slot (Some held) }
+        ensures after { self.new ≡ slice_set self.old slot (Some service) }
     {
-        abandon(self.places[slot].replace(held))
+        abandon(self.places[slot].replace(service))
     }
 
     /// Lets go of the places.
     pub fn destroy(self)
-        ensures { length self ≡ 64 }
+        ensures { length self ≡ slot_count }
     {
         let Slots { places } = self;
         abandon_all(places);

@@ -3,7 +3,7 @@
 use crate::support::*;
 use iceoryx2_access::storage::Storage;
 use iceoryx2_builder::builder::Node;
-use iceoryx2_builder::event::EventId;
+use iceoryx2_builder::builder::event::EventId;
 use iceoryx2_data::config::Config;
 use iceoryx2_rounds::error::{EventCreateError, EventOpenError};
 use iceoryx2_storage::local::Local;

@@ -2,7 +2,7 @@
 
 use iceoryx2_access::storage::{ServiceNameHasher, Sha1Hasher};
 use iceoryx2_builder::builder::Node;
-use iceoryx2_builder::event::Builder;
+use iceoryx2_builder::builder::event::Builder;
 use iceoryx2_data::config::Config;
 use iceoryx2_data::description::{ServiceHash, ServiceName};
 use iceoryx2_data::time::Time;

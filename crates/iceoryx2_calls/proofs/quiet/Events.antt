@@ -9,8 +9,8 @@ use Rattle.iceoryx2_data.specs.declared.description.MessagingPattern.TheVariants
 use Rattle.iceoryx2_errors.specs.declared.error.ServiceState.{ServiceState}
 use Rattle.iceoryx2_errors.specs.States.{create_error_of_state}
 use Rattle.iceoryx2_errors.specs.declared.error.EventCreateError.TheVariants as creating
-use Rattle.iceoryx2_builder.specs.declared.event.asked.Asked.{Asked}
-use Rattle.iceoryx2_builder.specs.Event.{event_meaning, event_adjusted, misfit_of, raised_of}
+use Rattle.iceoryx2_builder.specs.declared.builder.event.asked.Asked.{Asked}
+use Rattle.iceoryx2_builder.specs.Event.{event_meaning, event_adjusted, misfit_of, at_least_one}
 use Rattle.iceoryx2_calls.specs.QuietCalls.{IsRegular}
 
 no_misfit : (pattern : MessagingPattern) (fault : ServiceState) → misfit_of pattern ≡ Some fault → create_error_of_state fault ≡ creating.AlreadyExists
@@ -19,7 +19,7 @@ no_misfit (existing.Event s) fault e = absurd (cc)
 pub event_is_regular : (asked : Asked) → IsRegular (event_meaning asked)
 event_is_regular asked = record { create_memory = refl; open_memory = refl; misfit = λ d fault e. no_misfit d.pattern fault e }
 
-raised_above : (n : ℕ) → 0 < raised_of n
+raised_above : (n : ℕ) → 0 < at_least_one n
 raised_above n = elim (nat_eq n 0) as (λ b. nat_eq n 0 ≡ b → 0 < cond b 1 n) [
   | true ↦ λ e. omega arith
   | false ↦ λ e. grind (arith, nat_tests, e)

@@ -2,4 +2,4 @@ use Rattle.iceoryx2_service.proofs.Finishing.{Finishing}
 use Rattle.iceoryx2_service.proofs.session.Session.finish.Given as goal
 
 abbrev pub invariant-loop-slot : goal.invariant-loop-slot
-invariant-loop-slot l = Finishing l.fn.self.table.world l.fn.self.slots l.slot l.table.world l.slots
+invariant-loop-slot l = Finishing l.fn.self.table l.fn.self.slots l.slot l.table l.slots

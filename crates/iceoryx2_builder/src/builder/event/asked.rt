@@ -3,9 +3,10 @@
 ghost use Rattle.std.specs.Prelude.{◌≡◌};
 ghost use Rattle.iceoryx2_rounds.specs.Verdict.{verdict, marked_clauses};
 ghost use Rattle.std.specs.Option.{option_map};
-ghost use Rattle.iceoryx2_builder.specs.Event.{rows, raised_of, stamped as stamped_at};
-ghost use Rattle.iceoryx2_builder.specs.Request.{started};
+ghost use Rattle.iceoryx2_builder.specs.Event.{rows, at_least_one, deadline_at};
+ghost use Rattle.iceoryx2_builder.specs.Request.{fresh_asked, asked_with};
 
+use crate::builder::event::setting::EventSetting;
 use iceoryx2_data::config;
 use iceoryx2_data::description::{MessagingPattern, StaticConfig};
 use iceoryx2_data::event::{self, Deadline};
@@ -34,7 +35,7 @@ pub struct Asked {
 impl Asked {
     /// The configured settings, of which none is required.
     pub(crate) fn start(defaults: config::Event) -> Asked
-        ensures { result ≡ started defaults }
+        ensures { result ≡ fresh_asked defaults }
     {
         let deadline = match defaults.deadline {
             None => None,
@@ -62,18 +63,44 @@ impl Asked {
             },
         }
     }
+
+    /// Carries out one setter: sets the value, and marks the setting.
+    pub(crate) fn set(&mut self, setting: EventSetting)
+        ensures { self.new ≡ asked_with self.old setting }
+    {
+        let settings = &mut self.settings;
+        let marks = &mut self.marks;
+        match setting {
+            EventSetting::MaxNotifiers(value) => {
+                settings.max_notifiers = value;
+                marks.max_notifiers = true;
+            }
+            EventSetting::MaxListeners(value) => {
+                settings.max_listeners = value;
+                marks.max_listeners = true;
+            }
+            EventSetting::EventIdMaxValue(value) => {
+                settings.event_id_max_value = value;
+                marks.event_id_max_value = true;
+            }
+            EventSetting::MaxNodes(value) => {
+                settings.max_nodes = value;
+                marks.max_nodes = true;
+            }
+        }
+    }
 }
 
 /// Zero becomes one.
 fn raised(value: u64) -> u64
-    ensures { result ≡ raised_of value }
+    ensures { result ≡ at_least_one value }
 {
     if value == 0 { 1 } else { value }
 }
 
 /// The deadline of a service that is created at this time.
-fn stamped(deadline: Option<Deadline>, now: Time) -> Option<Deadline>
-    ensures { result ≡ option_map (stamped_at now) deadline }
+fn deadline_at_creation(deadline: Option<Deadline>, now: Time) -> Option<Deadline>
+    ensures { result ≡ option_map (deadline_at now) deadline }
 {
     match deadline {
         None => None,
@@ -195,7 +222,7 @@ impl Pattern for Asked {
 
     fn published(&self, now: Time) -> Result<MessagingPattern, AllocError> {
         let mut settings = self.settings;
-        settings.deadline = stamped(self.settings.deadline, now);
+        settings.deadline = deadline_at_creation(self.settings.deadline, now);
         Ok(MessagingPattern::Event(settings))
     }
 }

@@ -1,0 +1,39 @@
+-- What a builder's adjusted settings publish is accepted by the same builder.
+use Rattle.std.proofs.Common.{◌≡◌, ℕ, Bool, true, false, cond, List, [], ◌∷◌, Ok, refl, ap, ◌∙◌, arith}
+use Rattle.std.specs.Prelude.{Result, nat_eq, nat_le}
+use Rattle.std.proofs.lemmas.Bool.Decides.{nat_tests}
+use Rattle.iceoryx2_data.specs.declared.description.ServiceHash.{ServiceHash}
+use Rattle.iceoryx2_data.specs.declared.time.ClockFault.{ClockFault}
+use Rattle.iceoryx2_data.specs.Span.{Span}
+use Rattle.iceoryx2_rounds.specs.Verdict.{Row, verdict, marked_clauses, at_least, and_then}
+use Rattle.iceoryx2_rounds.specs.Creates.{description_of}
+use Rattle.iceoryx2_rounds.proofs.Verdicts.{row_decides, no_row}
+use Rattle.iceoryx2_builder.specs.declared.builder.event.asked.Asked.{Asked}
+use Rattle.iceoryx2_builder.specs.Event.{event_meaning, event_adjusted, at_least_one}
+
+offers : {E : Type 0} (marked : Bool) (existing required : ℕ) (e : E) → nat_le required existing ≡ true
+    → verdict (marked_clauses (at_least marked existing required e ∷ [])) ≡ Ok tt
+unfolding verdict marked_clauses at_least
+offers true x r e h = rw h refl
+offers false x r e h = refl
+
+then_more : {E : Type 0} (row : Row E) (rows : List (Row E)) → verdict (marked_clauses (row ∷ [])) ≡ Ok tt
+    → verdict (marked_clauses rows) ≡ Ok tt → verdict (marked_clauses (row ∷ rows)) ≡ Ok tt
+then_more row rows h k = row_decides row rows ∙ ap (λ v. and_then v (verdict (marked_clauses rows))) h ∙ k
+
+same : (n : ℕ) → nat_le n n ≡ true
+same n = grind (arith, nat_tests)
+
+not_below : (n : ℕ) → nat_le n (at_least_one n) ≡ true
+not_below n = elim (nat_eq n 0) as (λ b. nat_eq n 0 ≡ b → nat_le n (cond b 1 n) ≡ true) [
+  | true ↦ λ e. grind (arith, nat_tests, e)
+  | false ↦ λ e. same n
+] refl
+
+pub own_settings : (asked : Asked) (hash : ServiceHash) (name : List ℕ) (now : Result Span ClockFault)
+    → verdict ((event_meaning asked).requirement (description_of (event_meaning (event_adjusted asked)) hash name now)) ≡ Ok tt
+own_settings asked hash name now =
+    then_more _ _ (offers _ _ _ _ (not_below asked.settings.max_notifiers))
+    (then_more _ _ (offers _ _ _ _ (not_below asked.settings.max_listeners))
+    (then_more _ _ (offers _ _ _ _ (same asked.settings.event_id_max_value))
+    (then_more _ [] (offers _ _ _ _ (not_below asked.settings.max_nodes)) no_row)))

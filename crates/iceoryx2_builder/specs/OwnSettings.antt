@@ -1,0 +1,14 @@
+-- Builders that take what they would create.
+use Rattle.std.specs.Prelude.{◌≡◌, ℕ, List, None, Result, Ok}
+use Rattle.iceoryx2_data.specs.declared.description.ServiceHash.{ServiceHash}
+use Rattle.iceoryx2_data.specs.declared.time.ClockFault.{ClockFault}
+use Rattle.iceoryx2_data.specs.Span.{Span}
+use Rattle.iceoryx2_rounds.specs.Meaning.{Meaning}
+use Rattle.iceoryx2_rounds.specs.Verdict.{verdict}
+use Rattle.iceoryx2_rounds.specs.Creates.{description_of}
+
+-- What a create of the one meaning publishes fits the other one, and its requirement is met.
+pub record AcceptsOwn {F E C : Type 0} (creating opening : Meaning F E C) (hash : ServiceHash) (name : List ℕ)
+    (now : Result Span ClockFault) : Type 0 where
+  pub fits : opening.misfit (description_of creating hash name now) ≡ None
+  pub accepted : verdict (opening.requirement (description_of creating hash name now)) ≡ Ok tt

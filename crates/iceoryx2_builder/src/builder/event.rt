@@ -1,0 +1,146 @@
+//! The builder of services of events.
+
+ghost use Rattle.std.specs.Prelude.{◌≡◌};
+ghost use Rattle.iceoryx2_access.specs.Run.{Joins};
+ghost use Rattle.iceoryx2_rounds.specs.Creates.{IsCreateWord};
+ghost use Rattle.iceoryx2_rounds.specs.Opens.{IsOpenWord};
+ghost use Rattle.iceoryx2_builder.specs.Event.{event_meaning, event_adjusted};
+ghost use Rattle.iceoryx2_builder.specs.Request.{fresh_request, letter_of_events, with_setting};
+
+pub mod asked;
+pub mod setting;
+
+use crate::builder::BuilderWithServiceType;
+use crate::builder::event::asked::Asked;
+pub use crate::builder::event::setting::EventSetting;
+use iceoryx2_data::config;
+pub use iceoryx2_data::event::EventId;
+use iceoryx2_data::time::{ClockFault, Time};
+use iceoryx2_rounds::create::create;
+use iceoryx2_rounds::error::{EventCreateError, EventOpenError};
+use iceoryx2_rounds::open::open;
+use iceoryx2_rounds::port_factory::event::PortFactory;
+use iceoryx2_access::storage::Service;
+use std::marker::Model;
+
+/// The letter that stands before a name in the hash of a service of events.
+pub const LETTER: u8 = b'e';
+
+/// A builder of a service of events.
+///
+/// A setter sets the value with which a service is created, and marks the setting, so that an
+/// existing service has to offer as much to be opened. The last value that is set stands.
+pub struct Builder<S: Service> {
+    base: BuilderWithServiceType<S>,
+    asked: Asked,
+}
+
+impl<S: Service> Model for Builder<S> {
+    ghost use Rattle.iceoryx2_builder.specs.Request.{EventRequest};
+
+    ghost Value = { EventRequest };
+
+    ghost view = { λ builder. record { node = builder.base.node; name = builder.base.name; asked = builder.asked } };
+}
+
+impl<S: Service> Drop for Builder<S> {
+    fn drop(self) {
+        let Builder { base: _, asked: _ } = self;
+    }
+}
+
+impl<S: Service> Builder<S> {
+    pub(crate) fn new(base: BuilderWithServiceType<S>, defaults: config::Event) -> Self
+        ensures { result ≡ fresh_request base.node base.name defaults }
+    {
+        Builder {
+            base,
+            asked: Asked::start(defaults),
+        }
+    }
+
+    /// Carries out one setter, by its name.
+    pub fn with(mut self, setting: EventSetting) -> Self
+        ensures { result ≡ with_setting self setting }
+    {
+        self.asked.set(setting);
+        self
+    }
+
+    /// How many notifiers the service has room for. Zero is one in a create.
+    pub fn max_notifiers(self, value: u64) -> Self
+        ensures { result ≡ with_setting self (EventSetting.MaxNotifiers value) }
+    {
+        self.with(EventSetting::MaxNotifiers(value))
+    }
+
+    /// How many listeners the service has room for. Zero is one in a create.
+    pub fn max_listeners(self, value: u64) -> Self
+        ensures { result ≡ with_setting self (EventSetting.MaxListeners value) }
+    {
+        self.with(EventSetting::MaxListeners(value))
+    }
+
+    /// The greatest number that an event may have.
+    pub fn event_id_max_value(self, value: u64) -> Self
+        ensures { result ≡ with_setting self (EventSetting.EventIdMaxValue value) }
+    {
+        self.with(EventSetting::EventIdMaxValue(value))
+    }
+
+    /// For how many nodes the service is. Zero is one in a create.
+    pub fn max_nodes(self, value: u64) -> Self
+        ensures { result ≡ with_setting self (EventSetting.MaxNodes value) }
+    {
+        self.with(EventSetting::MaxNodes(value))
+    }
+
+    /// Creates the service, with the settings as they are but for zeros, which become one, and at
+    /// the time `now` where it has a deadline.
+    ///
+    /// Refused with `AlreadyExists` where the service exists, with `HangsInCreation` or
+    /// `IsBeingCreatedByAnotherInstance` while somebody else creates it, with
+    /// `ServiceInCorruptedState` where the storage contradicts itself, with `InternalFailure`
+    /// where the storage fails or there is no time, and with `InsufficientPermissions` or
+    /// `OutOfMemory` as they say. What a refused call made is given back.
+    pub fn create(
+        self,
+        storage: &mut S::Storage,
+        now: Result<Time, ClockFault>,
+    ) -> Result<PortFactory<S>, EventCreateError>
+        ensures { Joins S.Storage.step storage.old
+            (λ word. IsCreateWord (event_meaning (event_adjusted self.asked)) self.node
+            (S.ServiceNameHasher.hash_of letter_of_events self.name) self.name now word result)
+            storage.new }
+    {
+        let Builder { base, mut asked } = self;
+        let hash = base.hash(LETTER);
+        match create(&mut asked, base.node(), &hash, base.name(), now, storage) {
+            Ok(registration) => Ok(PortFactory::new(registration)),
+            Err(error) => Err(error),
+        }
+    }
+
+    /// Opens the service, if it offers each marked setting. The factory carries the settings with
+    /// which the service was created.
+    ///
+    /// Refused with `DoesNotExist` where there is no service, with the setting's error where it
+    /// offers less than is required, with `ExceedsMaxNumberOfNodes` where no further node has room,
+    /// with `IsMarkedForDestruction` where the last node has left, with `HangsInCreation` while it is
+    /// created, with `ServiceInCorruptedState` where its description can't be read or the service
+    /// is replaced again and again, with `InternalFailure` where the storage fails, and with
+    /// `IncompatibleMessagingPattern`, `InsufficientPermissions` or `OutOfMemory` as they say.
+    pub fn open(self, storage: &mut S::Storage) -> Result<PortFactory<S>, EventOpenError>
+        ensures { Joins S.Storage.step storage.old
+            (λ word. IsOpenWord (event_meaning self.asked) self.node
+            (S.ServiceNameHasher.hash_of letter_of_events self.name) word result)
+            storage.new }
+    {
+        let Builder { base, asked } = self;
+        let hash = base.hash(LETTER);
+        match open(&asked, base.node(), &hash, storage) {
+            Ok(registration) => Ok(PortFactory::new(registration)),
+            Err(error) => Err(error),
+        }
+    }
+}

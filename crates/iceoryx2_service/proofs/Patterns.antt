@@ -1,0 +1,31 @@
+-- What the builder calls of all patterns have in common.
+use Rattle.std.proofs.Common.{ℕ, ◌<◌, List}
+use Rattle.iceoryx2_data.specs.declared.config.Config.{Config}
+use Rattle.iceoryx2_data.specs.Description.{max_nodes_of}
+use Rattle.iceoryx2_data.specs.Span.{Span}
+use Rattle.iceoryx2_builder.specs.Request.{EventRequest, fresh_request}
+use Rattle.iceoryx2_builder.specs.Event.{event_adjusted}
+use Rattle.iceoryx2_calls.specs.QuietCalls.{IsRegular}
+use Rattle.iceoryx2_calls.proofs.quiet.Events.{event_is_regular, event_takes_nodes}
+use Rattle.iceoryx2_service.specs.declared.command.Settings.{Settings}
+use Rattle.iceoryx2_service.specs.declared.command.Settings.TheVariants as settings
+use Rattle.iceoryx2_service.specs.BuilderCalls.{BuilderCall}
+use Rattle.iceoryx2_service.specs.Events.{with_settings, event_call}
+use Rattle.iceoryx2_service.specs.Patterns.{call_by}
+
+-- The meanings are regular, and a create publishes for one node or more.
+pub record IsRegularCall (b : BuilderCall) : Type 0 where
+  pub creating : IsRegular b.creating
+  pub opening : IsRegular b.opening
+  pub takes_nodes : (now : Span) → 0 < max_nodes_of (b.creating.published now)
+
+event_call_is_regular : (b : EventRequest) → IsRegularCall (event_call b)
+event_call_is_regular b = record {
+  creating = event_is_regular (event_adjusted b.asked);
+  opening = event_is_regular b.asked;
+  takes_nodes = event_takes_nodes b.asked;
+}
+
+-- one row a pattern
+pub call_is_regular : (config : Config) (node : ℕ) (name : List ℕ) (settings : Settings) → IsRegularCall (call_by config node name settings)
+call_is_regular config node name (settings.Event xs) = event_call_is_regular (with_settings (fresh_request node name config.event) xs.items)

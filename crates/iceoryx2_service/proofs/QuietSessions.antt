@@ -1,0 +1,139 @@
+-- One command of a session over a table that nobody else uses.
+use Rattle.std.proofs.Common.{◌≡◌, ℕ, List, Option, Some, None, Result, Ok, Err, inl, inr, refl, sym, ap, subst, ◌∙◌}
+use Rattle.std.specs.FinMap as map
+use Rattle.std.specs.Ordering.{nat_cmp}
+use Rattle.std.proofs.lemmas.Cmp.{nat_cmp_total}
+use Rattle.std.proofs.lemmas.Map.Lookups.{exact_unsigned}
+use Rattle.iceoryx2_data.specs.declared.time.ClockFault.{ClockFault}
+use Rattle.iceoryx2_data.specs.Span.{Span}
+use Rattle.iceoryx2_world.specs.declared.world.Ticket.{Ticket}
+use Rattle.iceoryx2_world.specs.World.{World}
+use Rattle.iceoryx2_world.specs.Across.{Agrees, ticket_of, empty_world}
+use Rattle.iceoryx2_world.specs.Tables.{TableState}
+use Rattle.iceoryx2_world.proofs.Tables.{run_of_worlds}
+use Rattle.iceoryx2_world.specs.Standing.{ticket_for}
+use Rattle.iceoryx2_world.proofs.agreement.Empty.{empty_agrees}
+use Rattle.iceoryx2_world.proofs.agreement.Maps.{set_cases}
+use Rattle.iceoryx2_rounds.specs.Creates.{time_of}
+use Rattle.iceoryx2_access.specs.Factory.{Factory}
+use Rattle.iceoryx2_calls.specs.Quiet.{Quiet, Shows, no_service}
+use Rattle.iceoryx2_calls.specs.QuietLaws.{tickets_after}
+use Rattle.iceoryx2_calls.proofs.quiet.Calls.{create_follows, open_follows, close_follows, empty_shows}
+use Rattle.iceoryx2_service.specs.declared.command.How.{How}
+use Rattle.iceoryx2_service.specs.declared.command.How.TheVariants as how
+use Rattle.iceoryx2_service.specs.declared.command.Command.{Command}
+use Rattle.iceoryx2_service.specs.declared.command.Refusal.{Refusal}
+use Rattle.iceoryx2_service.specs.declared.command.Reply.{Reply}
+use Rattle.iceoryx2_service.specs.BuilderCalls.{BuilderCall, with_refusal}
+use Rattle.iceoryx2_service.specs.Patterns.{builder_call}
+use Rattle.iceoryx2_service.specs.Sessions.{SessionState, Builds, Goes}
+use Rattle.iceoryx2_service.specs.Sessions as goes
+use Rattle.iceoryx2_service.specs.StandingSlots.{SlotsStand, HasTicket, OwnsTickets}
+use Rattle.iceoryx2_service.specs.QuietSessions.{IsQuiet, Answers, Moves, IsMoved}
+use Rattle.iceoryx2_service.specs.QuietSessions as moves
+use Rattle.iceoryx2_service.proofs.Patterns.{IsRegularCall, call_is_regular}
+use Rattle.iceoryx2_service.proofs.SlotLists.{set_here, set_there, not_free, same_slot}
+
+-- what a builder call makes of the machine
+record IsBuilt (q : Quiet) (b : BuilderCall) (h : How) (now : Result Span ClockFault) (w : World) (answer : Result Factory Refusal) (v : World) : Type 0 where
+  state : Quiet
+  call : Answers q b h now answer state
+  shows : Shows v state
+  agrees : Agrees v
+  tickets : v.tickets ≡ tickets_after w.tickets answer
+
+-- the tickets are the same however an error is carried
+same_tickets : {E : Type 0} (w v : World) (carry : E → Refusal) (a : Result Factory E) → v.tickets ≡ tickets_after w.tickets a
+    → v.tickets ≡ tickets_after w.tickets (with_refusal carry a)
+same_tickets w v carry (Ok f) e = e
+same_tickets w v carry (Err x) e = e
+
+built : (h : How) (b : BuilderCall) (now : Result Span ClockFault) (answer : Result Factory Refusal) (s t : TableState) (q : Quiet)
+    → IsRegularCall b → Shows s.world q → Agrees s.world → Builds b h now s answer t → IsBuilt q b h now s.world answer t.world
+built how.Create b now answer s t q regular shows agrees is =
+    let c = create_follows b.creating b.node b.hash b.name now s.world t.world q is.2.word is.0 regular.creating (regular.takes_nodes (time_of now)) shows agrees is.2.is_word (run_of_worlds is.2.run) in
+    record {
+      state = c.state;
+      call = (is.0, is.1, c.call);
+      shows = c.shows;
+      agrees = c.agrees;
+      tickets = rw is.1 (same_tickets s.world t.world b.refusal_of_create is.0 c.tickets);
+    }
+built how.Open b now answer s t q regular shows agrees is =
+    let c = open_follows b.opening b.node b.hash s.world t.world q is.2.word is.0 regular.opening shows agrees is.2.is_word (run_of_worlds is.2.run) in
+    record {
+      state = c.state;
+      call = (is.0, is.1, c.call);
+      shows = c.shows;
+      agrees = c.agrees;
+      tickets = rw is.1 (same_tickets s.world t.world b.refusal_of_open is.0 c.tickets);
+    }
+
+-- ---- commands
+
+quiet_after : (n : SessionState) (q : Quiet) → Shows n.table.world q → Agrees n.table.world → IsQuiet n q
+quiet_after n q shows agrees = record { shows = shows; agrees = agrees }
+
+pub moved : {s : SessionState} {c : Command} {a : Reply} {n : SessionState} (q : Quiet) → IsQuiet s q → SlotsStand s → Goes s c a n
+    → IsMoved s q c a n
+moved q old slots (goes.call_past le) = record { state = q; moves = moves.call_past le; quiet = old; configured = refl }
+moved q old slots (goes.call_taken t) = record { state = q; moves = moves.call_taken t; quiet = old; configured = refl }
+moved {s = s} q old slots (goes.called {call = call} f {t = t} free is) =
+    let c = built call.how (builder_call s.config call) call.now (Ok f) s.table t q (call_is_regular s.config call.node call.name call.settings) old.shows old.agrees is in
+    record { state = c.state; moves = moves.called f free c.call; quiet = quiet_after _ c.state c.shows c.agrees; configured = refl }
+moved {s = s} q old slots (goes.refused {call = call} {e = e} {t = t} free is) =
+    let c = built call.how (builder_call s.config call) call.now (Err e) s.table t q (call_is_regular s.config call.node call.name call.settings) old.shows old.agrees is in
+    record { state = c.state; moves = moves.refused free c.call; quiet = quiet_after _ c.state c.shows c.agrees; configured = refl }
+moved q old slots (goes.close_past le) = record { state = q; moves = moves.close_past le; quiet = old; configured = refl }
+moved q old slots (goes.close_empty free) = record { state = q; moves = moves.close_empty free; quiet = old; configured = refl }
+moved {s = s} q old slots (goes.closed {slot = k} f {t = t} at is) =
+    let c = close_follows f s.table.world t.world q is.1.word is.0 old.shows old.agrees (slots.stand k f at).ticket is.1.is_word (run_of_worlds is.1.run) in
+    record { state = c.1.state; moves = moves.closed f at c.1.call; quiet = quiet_after _ c.1.state c.1.shows c.1.agrees; configured = refl }
+
+-- ---- the tickets are those of the slots
+
+pub owns_after : {s : SessionState} {c : Command} {a : Reply} {n : SessionState} (q : Quiet) → IsQuiet s q → SlotsStand s → Goes s c a n
+    → OwnsTickets s → OwnsTickets n
+owns_after q old slots (goes.call_past le) owned = owned
+owns_after q old slots (goes.call_taken t) owned = owned
+owns_after {s = s} q old slots (goes.called {call = call} f {t = t} free is) owned =
+    let c = built call.how (builder_call s.config call) call.now (Ok f) s.table t q (call_is_regular s.config call.node call.name call.settings) old.shows old.agrees is in
+    λ i x e. elim (set_cases nat_cmp_total exact_unsigned s.table.world.tickets f.ticket (Some (ticket_for f)) i) [
+      | inl k ↦ record { slot = call.slot; factory = f; holds = set_here s.slots call.slot (Some f) None free; ticket = sym k.0 }
+      | inr k ↦
+          let o = owned i x (sym k.1 ∙ sym (ap (λ m. map.get m i) c.tickets) ∙ e) in
+          record {
+            slot = o.slot;
+            factory = o.factory;
+            holds = set_there s.slots call.slot o.slot (Some f) (not_free s.slots call.slot o.slot o.factory free o.holds) ∙ o.holds;
+            ticket = o.ticket;
+          }
+    ]
+owns_after {s = s} q old slots (goes.refused {call = call} {e = err} {t = t} free is) owned =
+    let c = built call.how (builder_call s.config call) call.now (Err err) s.table t q (call_is_regular s.config call.node call.name call.settings) old.shows old.agrees is in
+    λ i x e. owned i x (sym (ap (λ m. map.get m i) c.tickets) ∙ e)
+owns_after q old slots (goes.close_past le) owned = owned
+owns_after q old slots (goes.close_empty free) owned = owned
+owns_after {s = s} q old slots (goes.closed {slot = slot} f {t = t} at is) owned =
+    let c = close_follows f s.table.world t.world q is.1.word is.0 old.shows old.agrees (slots.stand slot f at).ticket is.1.is_word (run_of_worlds is.1.run) in
+    λ i x e. elim (set_cases nat_cmp_total exact_unsigned s.table.world.tickets f.ticket None i) [
+      | inl k ↦ let here = sym e ∙ ap (λ m. map.get m i) c.1.tickets ∙ k.1 in absurd cc
+      | inr k ↦
+          let o = owned i x (sym k.1 ∙ sym (ap (λ m. map.get m i) c.1.tickets) ∙ e) in
+          let elsewhere : (o.slot ≡ slot) → ⊥ = λ same. k.0 (sym o.ticket ∙ ap (λ u. u.ticket) (same_slot s.slots o.slot slot o.factory f o.holds at same)) in
+          record { slot = o.slot; factory = o.factory; holds = set_there s.slots slot o.slot None elsewhere ∙ o.holds; ticket = o.ticket }
+    ]
+
+-- ---- a session over a new table
+
+no_ticket : (t : ℕ) (x : Ticket) → Some x ≡ None → ⊥
+no_ticket t x e = absurd cc
+
+pub is_fresh : (s : SessionState) (n : ℕ) → s.table.world ≡ empty_world n → IsQuiet s (no_service n) × OwnsTickets s
+is_fresh s n e = (
+  record {
+    shows = subst (λ w. Shows w (no_service n)) (sym e) (empty_shows n);
+    agrees = subst (λ w. Agrees w) (sym e) (empty_agrees n);
+  },
+  λ t x at. absurd (no_ticket t x (sym at ∙ ap (λ w. ticket_of w t) e ∙ map.get-empty nat_cmp t)),
+)

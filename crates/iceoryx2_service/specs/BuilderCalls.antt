@@ -1,0 +1,30 @@
+-- What a builder call asks, whatever its pattern.
+use Rattle.std.specs.Prelude.{ℕ, List, ◌∷◌, Result, Ok, Err}
+use Rattle.sha1.specs.Sha1.{sha1}
+use Rattle.iceoryx2_data.specs.declared.description.ServiceHash.{ServiceHash}
+use Rattle.iceoryx2_rounds.specs.Meaning.{Meaning}
+use Rattle.iceoryx2_access.specs.Factory.{Factory}
+use Rattle.iceoryx2_service.specs.declared.command.Refusal.{Refusal}
+
+-- A node's call of some pattern's builder: what its create and its open mean, and how a refusal
+-- carries their errors.
+pub record BuilderCall : Type 1 where
+  pub fault : Type 0
+  pub open_error : Type 0
+  pub create_error : Type 0
+  pub node : ℕ
+  pub hash : ServiceHash
+  pub name : List ℕ
+  pub creating : Meaning fault open_error create_error
+  pub opening : Meaning fault open_error create_error
+  pub refusal_of_create : create_error → Refusal
+  pub refusal_of_open : open_error → Refusal
+
+-- an answer whose error is carried by a refusal
+abbrev pub with_refusal : {E : Type 0} → (E → Refusal) → Result Factory E → Result Factory Refusal
+with_refusal carry (Ok f) = Ok f
+with_refusal carry (Err e) = Err (carry e)
+
+-- the hash of a service, by its pattern's letter and its name
+abbrev pub hash_for : ℕ → List ℕ → ServiceHash
+hash_for letter name = record { 0 = sha1 (letter ∷ name) }

@@ -1,0 +1,30 @@
+-- Builder calls for services of events.
+use Rattle.std.specs.Prelude.{List, [], ◌∷◌}
+use Rattle.iceoryx2_errors.specs.declared.error.ServiceState.{ServiceState}
+use Rattle.iceoryx2_errors.specs.declared.error.EventOpenError.{EventOpenError}
+use Rattle.iceoryx2_errors.specs.declared.error.EventCreateError.{EventCreateError}
+use Rattle.iceoryx2_builder.specs.declared.builder.event.setting.EventSetting.{EventSetting}
+use Rattle.iceoryx2_builder.specs.Request.{EventRequest, letter_of_events, with_setting}
+use Rattle.iceoryx2_builder.specs.Event.{event_meaning, event_adjusted}
+use Rattle.iceoryx2_service.specs.declared.command.Refusal.TheVariants as refusal
+use Rattle.iceoryx2_service.specs.BuilderCalls.{BuilderCall, hash_for}
+
+-- a builder after each setter, in order
+unfoldable pub with_settings : EventRequest → List EventSetting → EventRequest
+with_settings b [] = b
+with_settings b (x ∷ xs) = with_settings (with_setting b x) xs
+
+-- what the calls of this builder ask
+abbrev pub event_call : EventRequest → BuilderCall
+event_call b = record {
+  fault = ServiceState;
+  open_error = EventOpenError;
+  create_error = EventCreateError;
+  node = b.node;
+  hash = hash_for letter_of_events b.name;
+  name = b.name;
+  creating = event_meaning (event_adjusted b.asked);
+  opening = event_meaning b.asked;
+  refusal_of_create = refusal.EventCreate;
+  refusal_of_open = refusal.EventOpen;
+}

@@ -1,0 +1,18 @@
+-- Which builder a command calls: the one place where the settings choose the pattern.
+use Rattle.std.specs.Prelude.{ℕ, List}
+use Rattle.iceoryx2_data.specs.declared.config.Config.{Config}
+use Rattle.iceoryx2_builder.specs.Request.{fresh_request}
+use Rattle.iceoryx2_service.specs.declared.command.Settings.{Settings}
+use Rattle.iceoryx2_service.specs.declared.command.Settings.TheVariants as settings
+use Rattle.iceoryx2_service.specs.declared.command.Call.{Call}
+use Rattle.iceoryx2_service.specs.BuilderCalls.{BuilderCall}
+use Rattle.iceoryx2_service.specs.Events.{event_call, with_settings}
+
+-- by the pattern of the settings, one row each
+abbrev pub call_by : Config → ℕ → List ℕ → Settings → BuilderCall
+call_by config node name (settings.Event xs) =
+    event_call (with_settings (fresh_request node name config.event) xs.items)
+
+-- what a command's call asks
+abbrev pub builder_call : Config → Call → BuilderCall
+builder_call config call = call_by config call.node call.name call.settings

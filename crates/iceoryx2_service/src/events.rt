@@ -1,0 +1,46 @@
+//! Builder calls for services of events.
+
+ghost use Rattle.std.specs.Prelude.{◌≡◌};
+ghost use Rattle.iceoryx2_service.specs.Events.{event_call, with_settings as set_all};
+ghost use Rattle.iceoryx2_service.specs.Sessions.{Builds};
+
+use crate::command::{EventSetting, How, Refusal};
+use crate::open_service::OpenService;
+use iceoryx2_builder::builder::event::Builder;
+use iceoryx2_data::time::{ClockFault, Time};
+use iceoryx2_storage::local::Local;
+use iceoryx2_storage::table::Table;
+
+/// The builder after each setter, in order.
+#[tactic(auto, using(crate::proofs::Setters::with_settings_push), unfolding(crate::specs::Events::with_settings))]
+fn with_settings(mut builder: Builder<Local>, settings: &[EventSetting]) -> Builder<Local>
+    ensures { result ≡ set_all builder settings.now }
+{
+    for setting in settings {
+        builder = builder.with(*setting);
+    }
+    builder
+}
+
+/// The builder call, after each setter.
+pub fn call(
+    builder: Builder<Local>,
+    settings: &[EventSetting],
+    how: How,
+    now: Result<Time, ClockFault>,
+    table: &mut Table,
+) -> Result<OpenService, Refusal>
+    ensures { Builds (event_call (set_all builder settings.now)) how now table.old result table.new }
+{
+    let builder = with_settings(builder, settings);
+    match how {
+        How::Create => match builder.create(table, now) {
+            Ok(factory) => Ok(OpenService::event(factory)),
+            Err(error) => Err(Refusal::EventCreate(error)),
+        },
+        How::Open => match builder.open(table) {
+            Ok(factory) => Ok(OpenService::event(factory)),
+            Err(error) => Err(Refusal::EventOpen(error)),
+        },
+    }
+}

@@ -1,0 +1,80 @@
+//! A service that is open, whatever its pattern.
+
+ghost use Rattle.std.specs.Prelude.{◌≡◌};
+ghost use Rattle.iceoryx2_service.specs.Sessions.{ClosesFactory};
+
+use iceoryx2_rounds::port_factory::{CloseError, Registration, event};
+use iceoryx2_storage::local::Local;
+use iceoryx2_storage::table::Table;
+use std::marker::Model;
+
+/// The factory, by its pattern.
+enum PatternFactory {
+    Event(event::PortFactory<Local>),
+}
+
+/// A service that a session has open, seen as what its factory holds. It has to be spent, by `close` or
+/// `abandon`.
+pub struct OpenService {
+    factory: PatternFactory,
+}
+
+impl Model for OpenService {
+    ghost use Rattle.iceoryx2_access.specs.Factory.{Factory};
+
+    ghost Value = { Factory };
+
+    ghost use Rattle.iceoryx2_service.specs.Untyped.{untyped};
+
+    ghost view = { λ service. untyped service.factory };
+}
+
+impl OpenService {
+    /// A service of events.
+    pub fn event(factory: event::PortFactory<Local>) -> OpenService
+        ensures { result ≡ factory }
+    {
+        OpenService {
+            factory: PatternFactory::Event(factory),
+        }
+    }
+
+    /// The service's number.
+    pub fn number(&self) -> u64
+        ensures { result ≡ self.now.number }
+    {
+        match &self.factory {
+            PatternFactory::Event(factory) => factory.number(),
+        }
+    }
+
+    /// Its registration alone.
+    fn into_registration(self) -> Registration
+        ensures { result ≡ self }
+    {
+        let OpenService { factory } = self;
+        match factory {
+            PatternFactory::Event(factory) => factory.into_registration(),
+        }
+    }
+
+    /// Closes it. What isn't at this table is let go.
+    pub fn close(self, table: &mut Table)
+        ensures { ClosesFactory table.old self table.new }
+    {
+        match self.into_registration().close(table) {
+            Ok(()) => {}
+            Err(error) => match error {
+                CloseError::NotHere(registration) => registration.abandon(),
+                CloseError::TagNotRemoved => {}
+                CloseError::SegmentNotRemoved => {}
+                CloseError::DescriptionNotRemoved => {}
+            },
+        }
+    }
+
+    /// Lets it go without an access.
+    pub fn abandon(self) {
+        self.into_registration().abandon();
+    }
+}
