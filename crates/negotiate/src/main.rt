@@ -1,11 +1,7 @@
 //! The program `negotiate`: commands by line, over a table of its own.
 #![tactic(auto)]
 
-pub mod line;
-pub mod serve;
-#[cfg(test)]
-mod tests;
-
+use negotiate_lines::serve;
 use std::process::ExitCode;
 use std::{env, io};
 
@@ -27,6 +23,6 @@ fn main(rt: HostRuntime) -> ExitCode {
             let _ = eprintln!(rt; "usage: negotiate < LINES");
             ExitCode::from(serve::NOT_A_COMMAND)
         }
-        Err(_) => ExitCode::from(serve::FAULT),
+        Err(error) => ExitCode::from(serve::end_by_fault(&error, &mut io::writer(&rt))),
     }
 }

@@ -1,19 +1,24 @@
 //! What a line says.
 
-use iceoryx2_data::description::{ServiceName, ServiceNameError};
-use iceoryx2_data::time::Time;
 use iceoryx2_service::command::{Call, Command, How, Settings};
+use iceoryx2_service::data::description::{ServiceName, ServiceNameError};
+use iceoryx2_service::data::time::Time;
 use std::alloc::{AllocError, Global};
 
 /// The last slot that a line may name.
-const LAST_SLOT: u64 = 63;
+pub const LAST_SLOT: u64 = 63;
+
+/// The number of words of the longest command.
+const MOST_WORDS: usize = 5;
 
 /// What a line says.
 #[derive(Debug, Drop)]
 pub enum Line {
     /// It has no word.
     Blank,
+    /// It is a command.
     Command(Command),
+    /// It has words, and they are no command.
     NotACommand,
 }
 
@@ -30,6 +35,9 @@ pub fn without_end(line: &[u8]) -> &[u8] {
 }
 
 /// Reads a line of words that are separated by one or more spaces.
+///
+/// No more words are kept than the longest command has, and one that tells that there are more.
+/// Where there is no memory for them, or for a service's name, nothing is read.
 pub fn parse(alloc: Global, line: &[u8]) -> Result<Line, AllocError> {
     let Ok(text) = std::str::from_utf8(line) else {
         return Ok(Line::NotACommand);
@@ -37,6 +45,7 @@ pub fn parse(alloc: Global, line: &[u8]) -> Result<Line, AllocError> {
     let words: Vec<&str> = text
         .split(' ')
         .filter(|word| !word.is_empty())
+        .take(MOST_WORDS + 1)
         .collect(alloc)?;
     match words.as_slice() {
         [] => Ok(Line::Blank),

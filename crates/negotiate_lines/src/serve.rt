@@ -1,10 +1,10 @@
 //! Lines in, replies out.
 
 use crate::line::{self, Line};
-use iceoryx2_data::config::Config;
 use iceoryx2_service::command::{Command, Refusal, Reply};
+use iceoryx2_service::data::config::Config;
 use iceoryx2_service::session::Session;
-use iceoryx2_storage::table::Table;
+use iceoryx2_service::storage::table::Table;
 use std::alloc::{AllocError, Global};
 use std::io::{self, BufRead, BufReader, ErrorKind, Read, Write};
 
@@ -27,18 +27,23 @@ pub fn serve<R: Read + Drop, W: Write + Drop>(alloc: Global, input: R, mut outpu
     let mut session = Session::new(Config::default(), Table::new(alloc));
     let status = match answer_lines(alloc, input, &mut output, &mut session) {
         Ok(status) => status,
-        Err(error) => {
-            if error.kind() == ErrorKind::OutOfMemory {
-                let _ = output.write_all(b"out of memory\n");
-                let _ = output.flush();
-            }
-            FAULT
-        }
+        Err(error) => end_by_fault(&error, &mut output),
     };
     let _table = session.finish();
     status
 }
 
+/// Writes `out of memory` where that is the fault, and gives the status after a fault, whether it
+/// could be written or not.
+pub fn end_by_fault<W: Write>(error: &io::Error, output: &mut W) -> u8 {
+    if error.kind() == ErrorKind::OutOfMemory {
+        let _ = output.write_all(b"out of memory\n");
+        let _ = output.flush();
+    }
+    FAULT
+}
+
+/// Answers each line by one write, and gives the status where nothing is at fault.
 fn answer_lines<R: Read + Drop, W: Write>(
     alloc: Global,
     input: R,
@@ -93,8 +98,8 @@ fn slot_of(command: &Command) -> usize {
     }
 }
 
-/// Writes a reply to a command for this slot.
-fn describe(reply: Reply, slot: usize, text: &mut String) -> Result<(), AllocError> {
+/// Writes the line for a reply to a command for this slot.
+pub fn describe(reply: Reply, slot: usize, text: &mut String) -> Result<(), AllocError> {
     match reply {
         Reply::Opened { slot, number } => writeln!(text, "ok {slot} number={number}"),
         Reply::Refused(Refusal::EventOpen(error)) => writeln!(text, "{error}"),

@@ -1,0 +1,5 @@
+//! What the program `negotiate` does: a line is a command, and a reply is a line.
+#![tactic(auto)]
+
+pub mod line;
+pub mod serve;

@@ -1,0 +1,87 @@
+//! Readers and writers that fail, and want of memory.
+
+use crate::support::{Page, Pieces};
+use negotiate_lines::serve::{end_by_fault, serve};
+use std::alloc::Global;
+use std::io::{self, ErrorKind};
+
+/// Faults of a reader behind a whole line, and what is printed in all.
+const READING: [(ErrorKind, &[u8]); 3] = [
+    (ErrorKind::IsADirectory, b"ok 0 number=0\n"),
+    (ErrorKind::UnexpectedEof, b"ok 0 number=0\n"),
+    (ErrorKind::OutOfMemory, b"ok 0 number=0\nout of memory\n"),
+];
+
+/// What is printed where the reader fails in the middle of the second line, and the status.
+fn read_until_fault(alloc: Global, fault: ErrorKind) -> (Vec<u8>, u8) {
+    let mut page = Page::new(alloc);
+    let input = Pieces {
+        bytes: b"event create 1 0 a\nclose 0",
+        piece: 4,
+        fault: Some(fault),
+    };
+    let status = serve(alloc, input, &mut page);
+    (page.text, status)
+}
+
+#[test]
+fn a_reader_that_fails_ends_the_program(rt: HostRuntime) {
+    for (fault, wanted) in READING {
+        let (text, status) = read_until_fault(rt.alloc(), fault);
+        assert_eq!(rt; text.as_slice(), wanted);
+        assert_eq!(rt; status, 3);
+    }
+}
+
+/// How many bytes are printed, and the status, where the writer has so much room and may be
+/// flushed so often.
+fn written(alloc: Global, room: usize, flushes: u64) -> (usize, u8) {
+    let mut page = Page {
+        text: Vec::new(alloc),
+        room,
+        flushes,
+    };
+    let input = Pieces {
+        bytes: b"event create 1 0 a\nclose 0\nclose 0\n",
+        piece: 9,
+        fault: None,
+    };
+    let status = serve(alloc, input, &mut page);
+    (page.text.len(), status)
+}
+
+#[test]
+fn a_writer_that_fails_ends_the_program(rt: HostRuntime) {
+    for room in [0, 1, 13, 14, 22, 23, 35] {
+        assert_eq!(rt; written(rt.alloc(), room, 10), (room, 3));
+    }
+    assert_eq!(rt; written(rt.alloc(), 36, 10), (36, 0));
+}
+
+#[test]
+fn a_flush_that_fails_ends_the_program(rt: HostRuntime) {
+    for (flushes, wanted) in [(0, (14, 3)), (1, (23, 3)), (2, (36, 3)), (3, (36, 0))] {
+        assert_eq!(rt; written(rt.alloc(), 1000, flushes), wanted);
+    }
+}
+
+/// What is printed for a fault outside the lines, and the status.
+fn ended(alloc: Global, fault: ErrorKind, room: usize) -> (Vec<u8>, u8) {
+    let mut page = Page::new(alloc);
+    page.room = room;
+    let status = end_by_fault(&io::Error::from(fault), &mut page);
+    (page.text, status)
+}
+
+#[test]
+fn want_of_memory_is_printed(rt: HostRuntime) {
+    for (fault, room, wanted) in [
+        (ErrorKind::OutOfMemory, 100, b"out of memory\n".as_slice()),
+        (ErrorKind::OutOfMemory, 3, b"out".as_slice()),
+        (ErrorKind::StorageFull, 100, b"".as_slice()),
+    ] {
+        let (text, status) = ended(rt.alloc(), fault, room);
+        assert_eq!(rt; text.as_slice(), wanted);
+        assert_eq!(rt; status, 3);
+    }
+}

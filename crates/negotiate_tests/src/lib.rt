@@ -1,0 +1,13 @@
+//! Tests of what the program `negotiate` prints, and of its status.
+#![tactic(auto)]
+
+#[cfg(test)]
+mod faults;
+#[cfg(test)]
+mod lines;
+#[cfg(test)]
+mod replies;
+#[cfg(test)]
+mod scripts;
+#[cfg(test)]
+mod support;

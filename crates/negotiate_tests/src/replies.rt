@@ -1,0 +1,52 @@
+//! The lines that are printed for replies.
+
+use iceoryx2_service::command::{Refusal, Reply};
+use iceoryx2_service::rounds::error::{EventCreateError, EventOpenError};
+use negotiate_lines::serve::describe;
+use std::test::Fail;
+
+/// Replies to a command for slot 9, and the lines for them.
+const REPLIES: [(Reply, &str); 11] = [
+    (Reply::Opened { slot: 9, number: 0 }, "ok 9 number=0\n"),
+    (
+        Reply::Opened {
+            slot: 9,
+            number: u64::MAX,
+        },
+        "ok 9 number=18446744073709551615\n",
+    ),
+    (
+        Reply::Refused(Refusal::EventOpen(EventOpenError::IsMarkedForDestruction)),
+        "EventOpenError::IsMarkedForDestruction\n",
+    ),
+    (
+        Reply::Refused(Refusal::EventOpen(EventOpenError::OutOfMemory)),
+        "EventOpenError::OutOfMemory\n",
+    ),
+    (
+        Reply::Refused(Refusal::EventOpen(EventOpenError::InternalFailure)),
+        "EventOpenError::InternalFailure\n",
+    ),
+    (
+        Reply::Refused(Refusal::EventCreate(EventCreateError::InternalFailure)),
+        "EventCreateError::InternalFailure\n",
+    ),
+    (
+        Reply::Refused(Refusal::EventCreate(EventCreateError::HangsInCreation)),
+        "EventCreateError::HangsInCreation\n",
+    ),
+    (Reply::Closed { slot: 9 }, "closed 9\n"),
+    (Reply::SlotInUse, "slot 9 in use\n"),
+    (Reply::SlotEmpty, "slot 9 empty\n"),
+    (Reply::NoSuchSlot, "no slot 9\n"),
+];
+
+#[test]
+fn each_reply_is_one_line(rt: HostRuntime) -> Result<(), Fail> {
+    for (reply, wanted) in REPLIES {
+        let mut text = String::new(rt.alloc());
+        describe(reply, 9, &mut text)?;
+        assert_eq!(rt; text.as_str(), wanted);
+    }
+    Ok(())
+}

@@ -1,0 +1,90 @@
+//! A reader and a writer that tests hand to the program.
+
+use negotiate_lines::serve::serve;
+use std::alloc::Global;
+use std::io::{self, ErrorKind, Read, Write};
+
+/// A reader that gives bytes piece by piece, and then ends, or fails where it has a fault.
+#[derive(Drop)]
+pub struct Pieces<'a> {
+    pub bytes: &'a [u8],
+    pub piece: usize,
+    pub fault: Option<ErrorKind>,
+}
+
+impl Read for Pieces<'_> {
+    fn read(&mut self, buf: &mut [u8]) -> io::Result<usize> {
+        if self.bytes.is_empty() {
+            return match self.fault {
+                Some(kind) => Err(io::Error::from(kind)),
+                None => Ok(0),
+            };
+        }
+        let count = self.piece.min(self.bytes.len()).min(buf.len());
+        let (front, rest) = self.bytes.split_at(count);
+        buf[..count].copy_from_slice(front);
+        self.bytes = rest;
+        Ok(count)
+    }
+}
+
+/// A writer that keeps its bytes. It fails once it has taken as many bytes as it has room for, and
+/// it fails to flush once it was flushed as often as it may be.
+#[derive(Drop)]
+pub struct Page {
+    pub text: Vec<u8>,
+    pub room: usize,
+    pub flushes: u64,
+}
+
+impl Page {
+    /// A page that never fails.
+    pub fn new(alloc: Global) -> Page {
+        Page {
+            text: Vec::new(alloc),
+            room: usize::MAX,
+            flushes: u64::MAX,
+        }
+    }
+}
+
+impl Write for Page {
+    fn write(&mut self, buf: &[u8]) -> io::Result<usize> {
+        if buf.is_empty() {
+            return Ok(0);
+        }
+        if self.room == 0 {
+            return Err(io::Error::from(ErrorKind::StorageFull));
+        }
+        let count = self.room.min(buf.len());
+        self.text.extend_from_slice(&buf[..count])?;
+        self.room -= count;
+        Ok(count)
+    }
+
+    fn flush(&mut self) -> io::Result<()> {
+        if self.flushes == 0 {
+            return Err(io::Error::from(ErrorKind::StorageFull));
+        }
+        self.flushes -= 1;
+        Ok(())
+    }
+}
+
+/// What is printed for an input that comes in pieces of this length, and the status.
+pub fn answered(alloc: Global, input: &[u8], piece: usize) -> (Vec<u8>, u8) {
+    let mut page = Page::new(alloc);
+    let pieces = Pieces {
+        bytes: input,
+        piece,
+        fault: None,
+    };
+    let status = serve(alloc, pieces, &mut page);
+    (page.text, status)
+}
+
+/// Whether an input is answered by this text and ends with this status.
+pub fn answers(alloc: Global, input: &[u8], wanted: &[u8], status: u8) -> bool {
+    let (text, ended) = answered(alloc, input, 1000);
+    text.as_slice() == wanted && ended == status
+}
