@@ -4,3 +4,5 @@ pub mod Opened
 pub mod Closed
 pub mod Calm
 pub mod Standing
+pub mod Plain
+pub mod Left

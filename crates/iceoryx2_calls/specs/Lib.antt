@@ -3,3 +3,4 @@ pub mod Quiet
 pub mod QuietCalls
 pub mod QuietLists
 pub mod QuietLaws
+pub mod Leaves

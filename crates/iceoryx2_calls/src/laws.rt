@@ -1,6 +1,6 @@
 //! What is true of whole calls over a table, whatever the pattern and whatever steps peers take.
 
-ghost use Rattle.std.specs.Prelude.{◌≡◌, ◌≢◌, ℕ, ◌≤◌, List, Result, Ok, Err, None};
+ghost use Rattle.std.specs.Prelude.{◌≡◌, ◌≢◌, ℕ, ◌≤◌, Bool, List, Result, Ok, Err, None};
 ghost use Rattle.iceoryx2_data.specs.Span.{Span};
 ghost use Rattle.iceoryx2_data.specs.declared.description.ServiceHash.{ServiceHash};
 ghost use Rattle.iceoryx2_data.specs.declared.time.ClockFault.{ClockFault};
@@ -12,15 +12,17 @@ ghost use Rattle.iceoryx2_world.specs.Across.{Agrees, ticket_of};
 ghost use Rattle.iceoryx2_world.specs.Peers.{IsAccess};
 ghost use Rattle.iceoryx2_world.specs.Faulty.{IsFaulty};
 ghost use Rattle.iceoryx2_access.specs.Factory.{Factory};
-ghost use Rattle.iceoryx2_world.specs.Standing.{Stands};
+ghost use Rattle.iceoryx2_world.specs.Standing.{Each, Stands};
 ghost use Rattle.iceoryx2_errors.specs.declared.error.CloseError.{CloseError};
 ghost use Rattle.iceoryx2_errors.specs.declared.error.CloseError.TheVariants.{NotHere};
 ghost use Rattle.iceoryx2_rounds.specs.Closes.{IsCloseWord};
 ghost use Rattle.iceoryx2_rounds.specs.Counts.{IsWithin};
 ghost use Rattle.iceoryx2_rounds.specs.Creates.{IsCreateWord, description_of};
+ghost use Rattle.iceoryx2_rounds.specs.Keeps.{GivesAllBack, Keeps, NoLock, NoTag, no_tag};
 ghost use Rattle.iceoryx2_rounds.specs.Opens.{IsOpenWord};
 ghost use Rattle.iceoryx2_rounds.specs.Verdict.{verdict};
 ghost use Rattle.iceoryx2_calls.specs.Calls.{Throughout, AtEach, ActsCalmly, ChangesLast};
+ghost use Rattle.iceoryx2_calls.specs.Leaves.{IsGranted, Leaves, LeavesNothing};
 
 use iceoryx2_rounds::pattern::Pattern;
 
@@ -124,6 +126,34 @@ pub fn agreement<P: Pattern>()
     ensures granted_open { (p : P) (node : ℕ) (hash : ServiceHash) (word : List Letter) (r : Factory) (w : World)
         → IsOpenWord (P.meaning p) node hash word (Ok r) → Agrees w
         → ChangesLast node hash w word }
+
+    // A refused create leaves nothing of its own but that for which a removal was refused. What its
+    // removals left is read off its word; beside that every tag and ticket is as it was, its node has
+    // read at most, and its lock and the segment of the lock's number are gone.
+    ensures refused_create_leaves { (p : P) (node : ℕ) (hash : ServiceHash) (name : List ℕ)
+        (now : Result Span ClockFault) (word : List Letter) (error : P.CreateError) (w v : World)
+        → IsCreateWord (P.meaning p) node hash name now word (Err error) → Run IsFaulty w word v → Agrees w
+        → (g : GivesAllBack node hash word) × Leaves node hash g.is_tag_left g.lock w v }
+
+    // A refused open leaves at most a tag, where its removal was refused.
+    ensures refused_open_leaves { (p : P) (node : ℕ) (hash : ServiceHash) (word : List Letter) (error : P.OpenError)
+        (w v : World)
+        → IsOpenWord (P.meaning p) node hash word (Err error) → Run IsFaulty w word v → Agrees w
+        → (is_left : Bool) × Keeps node hash no_tag NoLock word (NoTag is_left) NoLock
+        × Leaves node hash is_left NoLock w v }
+
+    // Where nothing is refused by a fault, each removal of a refused create answers Ok, whatever peers
+    // do, and nothing of its own stays but the phase Read and spent numbers.
+    ensures refused_create_gives_back { (p : P) (node : ℕ) (hash : ServiceHash) (name : List ℕ)
+        (now : Result Span ClockFault) (word : List Letter) (error : P.CreateError) (w v : World)
+        → IsCreateWord (P.meaning p) node hash name now word (Err error) → Run IsAccess w word v → Agrees w
+        → Each IsGranted word × LeavesNothing node hash word w v }
+
+    // And so it is with a refused open.
+    ensures refused_open_gives_back { (p : P) (node : ℕ) (hash : ServiceHash) (word : List Letter)
+        (error : P.OpenError) (w v : World)
+        → IsOpenWord (P.meaning p) node hash word (Err error) → Run IsAccess w word v → Agrees w
+        → Each IsGranted word × LeavesNothing node hash word w v }
 
     // A create looks at most once and opens nothing. It makes a segment in at most six attempts,
     // with at most six removals of one.

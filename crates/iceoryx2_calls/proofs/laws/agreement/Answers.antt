@@ -7,6 +7,8 @@ use Rattle.iceoryx2_calls.proofs.calls.Opened.{open_stands}
 use Rattle.iceoryx2_calls.proofs.calls.Closed.{close_takes_out, close_ok, no_refusal}
 use Rattle.iceoryx2_calls.proofs.calls.Calm.{refused_create_calm, refused_open_calm, created_changes, opened_changes}
 use Rattle.iceoryx2_calls.proofs.calls.Standing.{stands_among, one_service}
+use Rattle.iceoryx2_rounds.proofs.Kept.{refused_create_keeps, refused_open_keeps}
+use Rattle.iceoryx2_calls.proofs.calls.Left.{only_tag, leaves_tag, gives_back, gives_all_back}
 use Rattle.iceoryx2_calls.proofs.laws.agreement.Goals as goal
 
 pub returns-clause-agrees : goal.returns-clause-agrees
@@ -53,6 +55,18 @@ returns-clause-granted_create g c = λ p node hash name now word r w is old. cre
 
 pub returns-clause-granted_open : goal.returns-clause-granted_open
 returns-clause-granted_open g c = λ p node hash word r w is old. opened_changes w is old
+
+pub returns-clause-refused_create_leaves : goal.returns-clause-refused_create_leaves
+returns-clause-refused_create_leaves g c = λ p node hash name now word error w v is run old. let back = refused_create_keeps is in (back, gives_back node hash back run old)
+
+pub returns-clause-refused_open_leaves : goal.returns-clause-refused_open_leaves
+returns-clause-refused_open_leaves g c = λ p node hash word error w v is run old. let back = refused_open_keeps is in leaves_tag node hash back.0 back.1 run old
+
+pub returns-clause-refused_create_gives_back : goal.returns-clause-refused_create_gives_back
+returns-clause-refused_create_gives_back g c = λ p node hash name now word error w v is run old. gives_all_back node hash (refused_create_keeps is) run old
+
+pub returns-clause-refused_open_gives_back : goal.returns-clause-refused_open_gives_back
+returns-clause-refused_open_gives_back g c = λ p node hash word error w v is run old. let back = refused_open_keeps is in gives_all_back node hash (only_tag back.0 back.1) run old
 
 pub returns-clause-create_is_short : goal.returns-clause-create_is_short
 returns-clause-create_is_short g c = λ p node hash name now word answer w. create_within (g.P.Pattern.meaning p) node hash w

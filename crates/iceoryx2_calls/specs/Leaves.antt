@@ -1,0 +1,69 @@
+-- What a refused call leaves in the world.
+use Rattle.std.specs.Prelude.{◌≡◌, ◌≢◌, ◌⊎◌, ℕ, Bool, true, false, List, Some, Ok}
+use Rattle.iceoryx2_data.specs.declared.description.ServiceHash.{ServiceHash}
+use Rattle.iceoryx2_access.specs.Letter.{Letter}
+use Rattle.iceoryx2_access.specs.Letter as letter
+use Rattle.iceoryx2_world.specs.Sets as set
+use Rattle.iceoryx2_world.specs.declared.world.Participant.TheVariants.{Node}
+use Rattle.iceoryx2_world.specs.declared.world.Phase.{Phase}
+use Rattle.iceoryx2_world.specs.declared.world.Row.{Row}
+use Rattle.iceoryx2_world.specs.Orders.{tag_cmp}
+use Rattle.iceoryx2_world.specs.World.{World, Segment, row_of, segment_of, phase_of}
+use Rattle.iceoryx2_world.specs.Steps.{begins}
+use Rattle.iceoryx2_world.specs.Agreement.{Spent, row_number}
+use Rattle.iceoryx2_world.specs.Standing.{Each}
+use Rattle.iceoryx2_rounds.specs.Keeps.{KeptLock, NoLock, GivenBack}
+
+-- A removal is granted.
+abbrev pub IsGranted : Letter → Type 0
+IsGranted (letter.RemoveTag i h a) = a ≡ Ok tt
+IsGranted (letter.RemoveSegment i h a) = a ≡ Ok tt
+IsGranted (letter.RemoveDescription i h a) = a ≡ Ok tt
+IsGranted _ = Unit {0}
+
+-- Who was at this phase is there still, or holds nothing before and after: at most it has read.
+abbrev pub HasAtMostRead : (old new : Phase) → Type 0
+HasAtMostRead old new = (new ≡ old) ⊎ ((begins old ≡ true) × (begins new ≡ true))
+
+-- No row has this number, and no segment.
+abbrev pub LacksRow : World → ServiceHash → ℕ → Type 0
+LacksRow w h n = (x : Row) → row_of w h ≡ Some x → row_number x ≢ n
+
+abbrev pub LacksSegment : World → ServiceHash → ℕ → Type 0
+LacksSegment w h n = (x : Segment) → segment_of w h ≡ Some x → x.number ≢ n
+
+-- the tags, with the call's own where that is left
+abbrev pub tags_after : Bool → set.FinSet tag_cmp → ℕ × ServiceHash → set.FinSet tag_cmp
+tags_after false tags own = tags
+tags_after true tags own = set.insert tags own
+
+-- the number of a lock that this letter got is spent
+abbrev pub SpendsNumber : ServiceHash → World → Letter → Type 0
+SpendsNumber hash v (letter.Lock i h (Ok n)) = Spent v hash n
+SpendsNumber hash v _ = Unit {0}
+
+module _ (node : ℕ) (hash : ServiceHash) where
+  -- of a call from w to v: the node is where it was, or has read
+  abbrev pub NodeHasRead : (w v : World) → Type 0
+  NodeHasRead w v = HasAtMostRead (phase_of w (Node node) hash) (phase_of v (Node node) hash)
+
+  -- A call that locked nothing has read at most. Of one that locked, the node's lock is gone unless its removal was
+  -- refused, and the segment of the lock's number unless the removal of that was.
+  abbrev pub LeavesOfLock : KeptLock → (w v : World) → Type 0
+  LeavesOfLock NoLock w v = NodeHasRead w v
+  LeavesOfLock (GivenBack n is_lock_left is_segment_left) w v =
+      (is_lock_left ≡ false → NodeHasRead w v × LacksRow v hash n) × (is_segment_left ≡ false → LacksSegment v hash n)
+  LeavesOfLock _ w v = ⊥
+
+  -- All that stays, where the call's removals left this of its tag and its lock.
+  pub record Leaves (is_tag_left : Bool) (lock : KeptLock) (w v : World) : Type 0 where
+    pub tickets : v.tickets ≡ w.tickets
+    pub tags : v.tags ≡ tags_after is_tag_left w.tags (node, hash)
+    pub of_lock : LeavesOfLock lock w v
+
+  -- Nothing of the call's own stays: the node has read at most, and the number of each lock that it got is spent.
+  pub record LeavesNothing (word : List Letter) (w v : World) : Type 0 where
+    pub tickets : v.tickets ≡ w.tickets
+    pub tags : v.tags ≡ w.tags
+    pub phase : NodeHasRead w v
+    pub numbers : Each (SpendsNumber hash v) word
