@@ -29,6 +29,35 @@ pub data Letter : Type 0 where
   OpenSegment : (node : ℕ) → ServiceHash → (number : ℕ) → Result ℕ OpenSegmentError → Letter
   Release : (ticket node : ℕ) → ServiceHash → (number : ℕ) → Result Released ReleaseError → Letter
 
+-- who calls, and for which service; `exists` is nobody's
+abbrev pub caller_of : Letter → ℕ
+caller_of (Exists h a) = 0
+caller_of (Fetch i h a) = i
+caller_of (Counts i h a) = i
+caller_of (MakeTag i h a) = i
+caller_of (RemoveTag i h a) = i
+caller_of (Lock i h a) = i
+caller_of (MakeSegment i h n m a) = i
+caller_of (RemoveSegment i h a) = i
+caller_of (RemoveDescription i h a) = i
+caller_of (Publish i h n d a) = i
+caller_of (OpenSegment i h n a) = i
+caller_of (Release t i h n a) = i
+
+abbrev pub service_of : Letter → ServiceHash
+service_of (Exists h a) = h
+service_of (Fetch i h a) = h
+service_of (Counts i h a) = h
+service_of (MakeTag i h a) = h
+service_of (RemoveTag i h a) = h
+service_of (Lock i h a) = h
+service_of (MakeSegment i h n m a) = h
+service_of (RemoveSegment i h a) = h
+service_of (RemoveDescription i h a) = h
+service_of (Publish i h n d a) = h
+service_of (OpenSegment i h n a) = h
+service_of (Release t i h n a) = h
+
 -- a fetch's answer, with its bytes as a list
 abbrev pub fetched : {A : Type 0} → Result (ℕ × Vec ℕ A) FetchError → Result (ℕ × List ℕ) FetchError
 fetched (Ok p) = Ok (p.0, p.1.items)

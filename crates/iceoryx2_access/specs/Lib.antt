@@ -1,3 +1,4 @@
 pub mod Letter
 pub mod Run
 pub mod Factory
+pub mod MayRefuse

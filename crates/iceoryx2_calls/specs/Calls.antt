@@ -2,11 +2,11 @@
 use Rattle.std.specs.Prelude.{◌≡◌, ◌+◌, ℕ, List, [], ◌∷◌, ◌++◌}
 use Rattle.iceoryx2_data.specs.declared.description.ServiceHash.{ServiceHash}
 use Rattle.iceoryx2_world.specs.declared.world.Participant.TheVariants.{Node}
-use Rattle.iceoryx2_world.specs.World.{World}
+use Rattle.iceoryx2_world.specs.World.{World, count_of}
 use Rattle.iceoryx2_access.specs.Letter.{Letter}
 use Rattle.iceoryx2_world.specs.Peers.{IsAccess}
 use Rattle.iceoryx2_world.specs.Faulty.{IsFaulty}
-use Rattle.iceoryx2_world.specs.Calm.{SameServices, count_of}
+use Rattle.iceoryx2_world.specs.Calm.{SameServices}
 
 -- Whatever worlds the accesses of this word lead through, it is true of each: before the first access, between
 -- any two and after the last.

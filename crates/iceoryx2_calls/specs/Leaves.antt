@@ -8,10 +8,9 @@ use Rattle.iceoryx2_world.specs.declared.world.Participant.TheVariants.{Node}
 use Rattle.iceoryx2_world.specs.declared.world.Phase.{Phase}
 use Rattle.iceoryx2_world.specs.declared.world.Row.{Row}
 use Rattle.iceoryx2_world.specs.Orders.{tag_cmp}
-use Rattle.iceoryx2_world.specs.World.{World, Segment, row_of, segment_of, phase_of}
-use Rattle.iceoryx2_world.specs.Steps.{begins}
-use Rattle.iceoryx2_world.specs.Agreement.{Spent, row_number}
-use Rattle.iceoryx2_world.specs.Standing.{Each}
+use Rattle.iceoryx2_world.specs.World.{World, Segment, row_of, segment_of, phase_of, begins, row_number}
+use Rattle.iceoryx2_world.specs.Agreement.{IsSpent}
+use Rattle.iceoryx2_access.specs.Run.{Each}
 use Rattle.iceoryx2_rounds.specs.Keeps.{KeptLock, NoLock, GivenBack}
 
 -- A removal is granted.
@@ -39,7 +38,7 @@ tags_after true tags own = set.insert tags own
 
 -- the number of a lock that this letter got is spent
 abbrev pub SpendsNumber : ServiceHash → World → Letter → Type 0
-SpendsNumber hash v (letter.Lock i h (Ok n)) = Spent v hash n
+SpendsNumber hash v (letter.Lock i h (Ok n)) = IsSpent v hash n
 SpendsNumber hash v _ = Unit {0}
 
 module _ (node : ℕ) (hash : ServiceHash) where

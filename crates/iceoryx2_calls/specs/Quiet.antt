@@ -13,9 +13,7 @@ use Rattle.iceoryx2_world.specs.declared.world.Phase.TheVariants as at
 use Rattle.iceoryx2_world.specs.declared.world.Row.{Row}
 use Rattle.iceoryx2_world.specs.declared.world.Row.TheVariants as row
 use Rattle.iceoryx2_world.specs.Orders.{hash_cmp, participant_cmp}
-use Rattle.iceoryx2_world.specs.World.{World, Segment, row_of, segment_of, phase_of}
-use Rattle.iceoryx2_world.specs.Steps.{begins}
-use Rattle.iceoryx2_world.specs.Access.{tag_of}
+use Rattle.iceoryx2_world.specs.World.{World, Segment, row_of, segment_of, phase_of, begins, tag_of}
 
 -- how often each node has opened a service
 abbrev pub Counts : Type 0

@@ -3,9 +3,8 @@ use Rattle.std.specs.Prelude.{◌≡◌, ◌≢◌, ℕ, false, Option, Some, No
 use Rattle.std.specs.FinMap as map
 use Rattle.iceoryx2_data.specs.declared.description.ServiceHash.{ServiceHash}
 use Rattle.iceoryx2_world.specs.declared.world.Participant.TheVariants.{Node}
-use Rattle.iceoryx2_world.specs.World.{World, row_of, segment_of, phase_of}
-use Rattle.iceoryx2_world.specs.Access.{Tickets, tag_of}
-use Rattle.iceoryx2_world.specs.Across.{Agrees, join_count}
+use Rattle.iceoryx2_world.specs.World.{World, row_of, segment_of, phase_of, Tickets, tag_of, join_count}
+use Rattle.iceoryx2_world.specs.Across.{Agrees}
 use Rattle.iceoryx2_access.specs.Factory.{Factory}
 use Rattle.iceoryx2_world.specs.Standing.{Stands, ticket_for}
 use Rattle.iceoryx2_calls.specs.Quiet.{Quiet, Service, Shows, service_of, count_of}

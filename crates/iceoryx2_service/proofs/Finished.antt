@@ -8,7 +8,8 @@ use Rattle.iceoryx2_data.specs.declared.description.ServiceHash.{ServiceHash}
 use Rattle.iceoryx2_world.specs.declared.world.Ticket.{Ticket}
 use Rattle.iceoryx2_world.specs.Tables.{TableState, IsTableAccess}
 use Rattle.iceoryx2_world.proofs.Tables.{run_of_worlds}
-use Rattle.iceoryx2_world.specs.Across.{Agrees, ticket_of}
+use Rattle.iceoryx2_world.specs.Across.{Agrees}
+use Rattle.iceoryx2_world.specs.World.{ticket_of}
 use Rattle.iceoryx2_access.specs.Run.{Joins, done, next}
 use Rattle.iceoryx2_access.specs.Factory.{Factory}
 use Rattle.iceoryx2_world.specs.Standing.{Stands}

@@ -7,8 +7,8 @@ use Rattle.std.proofs.lemmas.Map.Lookups.{exact_unsigned}
 use Rattle.iceoryx2_data.specs.declared.time.ClockFault.{ClockFault}
 use Rattle.iceoryx2_data.specs.Span.{Span}
 use Rattle.iceoryx2_world.specs.declared.world.Ticket.{Ticket}
-use Rattle.iceoryx2_world.specs.World.{World}
-use Rattle.iceoryx2_world.specs.Across.{Agrees, ticket_of, empty_world}
+use Rattle.iceoryx2_world.specs.World.{World, ticket_of, empty_world}
+use Rattle.iceoryx2_world.specs.Across.{Agrees}
 use Rattle.iceoryx2_world.specs.Tables.{TableState}
 use Rattle.iceoryx2_world.proofs.Tables.{run_of_worlds}
 use Rattle.iceoryx2_world.specs.Standing.{ticket_for}

@@ -1,7 +1,7 @@
 -- The factories of a session's slots, over any table whose world agrees.
 use Rattle.std.specs.Prelude.{◌≡◌, ℕ, List, Option, Some}
 use Rattle.iceoryx2_world.specs.declared.world.Ticket.{Ticket}
-use Rattle.iceoryx2_world.specs.Across.{ticket_of}
+use Rattle.iceoryx2_world.specs.World.{ticket_of}
 use Rattle.iceoryx2_world.specs.Standing.{Stands}
 use Rattle.iceoryx2_access.specs.Factory.{Factory}
 use Rattle.iceoryx2_service.specs.Slots.{HoldsAt}

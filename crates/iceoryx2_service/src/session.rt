@@ -54,7 +54,8 @@ fn close_slot(slots: &mut Slots, slot: usize, table: &mut Table)
 
 impl Session {
     ghost use Rattle.iceoryx2_data.specs.declared.description.ServiceHash.{ServiceHash};
-    ghost use Rattle.iceoryx2_world.specs.Across.{Agrees, empty_world};
+    ghost use Rattle.iceoryx2_world.specs.Across.{Agrees};
+    ghost use Rattle.iceoryx2_world.specs.World.{empty_world};
     ghost use Rattle.iceoryx2_service.specs.SessionStates.{state_of};
     ghost use Rattle.iceoryx2_service.specs.Sessions.{AreClosed, ClosesSlots, Goes};
     ghost use Rattle.iceoryx2_service.specs.StandingSlots.{OwnsTickets, SlotsStand};

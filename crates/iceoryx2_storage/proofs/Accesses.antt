@@ -14,16 +14,16 @@ use Rattle.iceoryx2_world.specs.declared.world.Phase.TheVariants as at
 use Rattle.iceoryx2_access.specs.declared.storage.PublishError.{PublishError}
 use Rattle.iceoryx2_access.specs.declared.storage.PublishError.TheVariants as Publishing
 use Rattle.iceoryx2_world.specs.Orders.{tag_cmp}
-use Rattle.iceoryx2_world.specs.World.{World, Segment, or_idle}
+use Rattle.iceoryx2_world.specs.World.{World, Segment, or_idle, Tickets}
 use Rattle.iceoryx2_world.specs.Acts as act
-use Rattle.iceoryx2_world.specs.Steps.{Spot, step, now}
-use Rattle.iceoryx2_access.specs.Letter.{Letter}
+use Rattle.iceoryx2_world.specs.Steps.{Spot, spot_after, to_spot}
+use Rattle.iceoryx2_access.specs.Letter.{Letter, caller_of, service_of}
 use Rattle.iceoryx2_access.specs.declared.storage.OpenSegmentError.{OpenSegmentError}
-use Rattle.iceoryx2_world.specs.Access.{Tickets, Seat, Change, nothing, moves_with, with_ticket, opened, read, published, has_made, Own, IsOwnPart, Gives, Simply, seat, write, node_of, hash_of}
+use Rattle.iceoryx2_world.specs.Access.{Seat, Change, nothing, moves_with, with_ticket, opening_of, read_change, publishing_of, has_made, IsSeatAnswer, IsOwnPart, IsAnswer, IsSureAnswer, seat, write}
 use Rattle.iceoryx2_storage.specs.Book.{Book, Steps, tries, world, segment_fits}
 
 -- what was shown of the fields, of the value
-pub part : {a w v : World} (l : Letter) (c : Change) → a ≡ w → Own (node_of l) (hash_of l) (seat a (node_of l) (hash_of l)) l c → v ≡ write a (node_of l) (hash_of l) c → IsOwnPart w l v
+pub part : {a w v : World} (l : Letter) (c : Change) → a ≡ w → IsSeatAnswer (caller_of l) (service_of l) (seat a (caller_of l) (service_of l)) l c → v ≡ write a (caller_of l) (service_of l) c → IsOwnPart w l v
 part {a} {w} {v} l c e own is = subst (λ (x : World). IsOwnPart x l v) e (record { change = c; own = own; is = is })
 
 -- what a node sees of a service
@@ -31,20 +31,20 @@ abbrev pub spot_at : Book → ℕ → ServiceHash → Spot
 spot_at b i h = record { phase = or_idle (map.get b.phases (Node i, h)); row = map.get b.rows h; segment = map.get b.segments h; counter = b.counter }
 
 module _ {A E : Type 0} where
-  pub gives_refusal : (m e : E) (x : Result (A × Change) E) → x ≡ Err e → Gives m x (Err e) nothing
-  gives_refusal m e x q = subst (λ (y : Result (A × Change) E). Gives m y (Err e) nothing) (sym q) (refl, refl)
+  pub gives_refusal : (m e : E) (x : Result (A × Change) E) → x ≡ Err e → IsAnswer m x (Err e) nothing
+  gives_refusal m e x q = subst (λ (y : Result (A × Change) E). IsAnswer m y (Err e) nothing) (sym q) (refl, refl)
 
-  pub gives_done : (m : E) (x : Result (A × Change) E) (a : A) (c : Change) → x ≡ Ok (a, c) → Gives m x (Ok a) c
-  gives_done m x a c q = subst (λ (y : Result (A × Change) E). Gives m y (Ok a) c) (sym q) (inl (refl, refl))
+  pub gives_done : (m : E) (x : Result (A × Change) E) (a : A) (c : Change) → x ≡ Ok (a, c) → IsAnswer m x (Ok a) c
+  gives_done m x a c q = subst (λ (y : Result (A × Change) E). IsAnswer m y (Ok a) c) (sym q) (inl (refl, refl))
 
-  pub gives_starved : (m : E) (x : Result (A × Change) E) (y : A × Change) → x ≡ Ok y → Gives m x (Err m) nothing
-  gives_starved m x y q = subst (λ (z : Result (A × Change) E). Gives m z (Err m) nothing) (sym q) (inr (refl, refl))
+  pub gives_starved : (m : E) (x : Result (A × Change) E) (y : A × Change) → x ≡ Ok y → IsAnswer m x (Err m) nothing
+  gives_starved m x y q = subst (λ (z : Result (A × Change) E). IsAnswer m z (Err m) nothing) (sym q) (inr (refl, refl))
 
-  pub simply_refusal : (e : E) (x : Result (A × Change) E) → x ≡ Err e → Simply x (Err e) nothing
-  simply_refusal e x q = subst (λ (y : Result (A × Change) E). Simply y (Err e) nothing) (sym q) (refl, refl)
+  pub simply_refusal : (e : E) (x : Result (A × Change) E) → x ≡ Err e → IsSureAnswer x (Err e) nothing
+  simply_refusal e x q = subst (λ (y : Result (A × Change) E). IsSureAnswer y (Err e) nothing) (sym q) (refl, refl)
 
-  pub simply_done : (x : Result (A × Change) E) (a : A) (c : Change) → x ≡ Ok (a, c) → Simply x (Ok a) c
-  simply_done x a c q = subst (λ (y : Result (A × Change) E). Simply y (Ok a) c) (sym q) (refl, refl)
+  pub simply_done : (x : Result (A × Change) E) (a : A) (c : Change) → x ≡ Ok (a, c) → IsSureAnswer x (Ok a) c
+  simply_done x a c q = subst (λ (y : Result (A × Change) E). IsSureAnswer y (Ok a) c) (sym q) (refl, refl)
 
 pub none_of : {A : Type 0} (o : Option A) → is_some o ≡ false → o ≡ None
 none_of None e = refl
@@ -59,9 +59,9 @@ some_of None e = absurd (cc)
 some_of (Some x) e = record { it = x; is = refl }
 
 -- who may not read what is published has read it before
-pub read_or_not : (i : ℕ) (h : ServiceHash) (b c : Book) (t : set.FinSet tag_cmp) (k : Tickets) (done : Bool) → Steps b (Node i) h act.Read done c → world c t k ≡ write (world b t k) i h (read (tries b (Node i) h act.Read))
-read_or_not i h b c t k true s = ap (λ x. world x t k) s.2 ∙ ap (λ o. write (world b t k) i h (read o)) (sym s.1)
-read_or_not i h b c t k false s = ap (λ x. world x t k) s.1 ∙ ap (λ o. write (world b t k) i h (read o)) (sym s.0)
+pub read_or_not : (i : ℕ) (h : ServiceHash) (b c : Book) (t : set.FinSet tag_cmp) (k : Tickets) (done : Bool) → Steps b (Node i) h act.Read done c → world c t k ≡ write (world b t k) i h (read_change (tries b (Node i) h act.Read))
+read_or_not i h b c t k true s = ap (λ x. world x t k) s.2 ∙ ap (λ o. write (world b t k) i h (read_change o)) (sym s.1)
+read_or_not i h b c t k false s = ap (λ x. world x t k) s.1 ∙ ap (λ o. write (world b t k) i h (read_change o)) (sym s.0)
 
 both_true : (a b : Bool) → (a && b) ≡ true → (a ≡ true) × (b ≡ true)
 both_true true b e = (refl, e)
@@ -70,18 +70,18 @@ both_true false b e = absurd (cc)
 module _ (i : ℕ) (h : ServiceHash) (n : ℕ) (d : Description) (k : Tickets) (r : Option Row) (c : ℕ) where
   -- what a node publishes that made the segment, or why it doesn't
   abbrev pub publishes : Phase → Option Segment → Result (ℕ × Change) PublishError
-  publishes x s = if has_made n x then published i h n k (step (Node i) h (act.Publish d) x r s c) else Err Publishing.Other
+  publishes x s = if has_made n x then publishing_of i h n k (spot_after (Node i) h (act.Publish d) x r s c) else Err Publishing.Other
 
-  unfit : (m : ℕ) (s : Option Segment) → segment_fits h s d ≡ false → step (Node i) h (act.Publish d) (at.Made m) r s c ≡ None
+  unfit : (m : ℕ) (s : Option Segment) → segment_fits h s d ≡ false → spot_after (Node i) h (act.Publish d) (at.Made m) r s c ≡ None
   unfit m None e = refl
-  unfit m (Some s) e = ap (λ (b : Bool). if b then now (at.Joined m 1) (Some (row.Published m (form.description d))) (Some s) c else None) e
+  unfit m (Some s) e = ap (λ (b : Bool). if b then to_spot (at.Joined m 1) (Some (row.Published m (form.description d))) (Some s) c else None) e
 
-  fit : (m : ℕ) (s : Option Segment) → segment_fits h s d ≡ true → There (step (Node i) h (act.Publish d) (at.Made m) r s c)
+  fit : (m : ℕ) (s : Option Segment) → segment_fits h s d ≡ true → There (spot_after (Node i) h (act.Publish d) (at.Made m) r s c)
   fit m None e = absurd (cc)
-  fit m (Some s) e = record { it = _; is = ap (λ (b : Bool). if b then now (at.Joined m 1) (Some (row.Published m (form.description d))) (Some s) c else None) e }
+  fit m (Some s) e = record { it = _; is = ap (λ (b : Bool). if b then to_spot (at.Joined m 1) (Some (row.Published m (form.description d))) (Some s) c else None) e }
 
-  unmade : (b : Bool) (m : ℕ) (s : Option Segment) → (b && segment_fits h s d) ≡ false → (if b then published i h n k (step (Node i) h (act.Publish d) (at.Made m) r s c) else Err Publishing.Other) ≡ Err Publishing.Other
-  unmade true m s e = ap (published i h n k) (unfit m s e)
+  unmade : (b : Bool) (m : ℕ) (s : Option Segment) → (b && segment_fits h s d) ≡ false → (if b then publishing_of i h n k (spot_after (Node i) h (act.Publish d) (at.Made m) r s c) else Err Publishing.Other) ≡ Err Publishing.Other
+  unmade true m s e = ap (publishing_of i h n k) (unfit m s e)
   unmade false m s e = refl
 
   pub no_publish : (x : Phase) (s : Option Segment) → (has_made n x && segment_fits h s d) ≡ false → publishes x s ≡ Err Publishing.Other
@@ -93,7 +93,7 @@ module _ (i : ℕ) (h : ServiceHash) (n : ℕ) (d : Description) (k : Tickets) (
   no_publish (at.Leaving m) s e = refl
   no_publish (at.Cleared m) s e = refl
 
-  pub may_publish : (x : Phase) (s : Option Segment) → (has_made n x && segment_fits h s d) ≡ true → (has_made n x ≡ true) × There (step (Node i) h (act.Publish d) x r s c)
+  pub may_publish : (x : Phase) (s : Option Segment) → (has_made n x && segment_fits h s d) ≡ true → (has_made n x ≡ true) × There (spot_after (Node i) h (act.Publish d) x r s c)
   may_publish at.Idle s e = absurd (cc)
   may_publish (at.Read m) s e = absurd (cc)
   may_publish (at.Locked m) s e = absurd (cc)
@@ -102,10 +102,10 @@ module _ (i : ℕ) (h : ServiceHash) (n : ℕ) (d : Description) (k : Tickets) (
   may_publish (at.Leaving m) s e = absurd (cc)
   may_publish (at.Cleared m) s e = absurd (cc)
 
-  pub publishes_by : (x : Phase) (s : Option Segment) (o : Option Spot) → has_made n x ≡ true → step (Node i) h (act.Publish d) x r s c ≡ o → publishes x s ≡ published i h n k o
-  publishes_by x s o made e = ap (λ (b : Bool). if b then published i h n k (step (Node i) h (act.Publish d) x r s c) else Err Publishing.Other) made ∙ ap (published i h n k) e
+  pub publishes_by : (x : Phase) (s : Option Segment) (o : Option Spot) → has_made n x ≡ true → spot_after (Node i) h (act.Publish d) x r s c ≡ o → publishes x s ≡ publishing_of i h n k o
+  publishes_by x s o made e = ap (λ (b : Bool). if b then publishing_of i h n k (spot_after (Node i) h (act.Publish d) x r s c) else Err Publishing.Other) made ∙ ap (publishing_of i h n k) e
 
 -- an opening that isn't refused
 pub opens_by : (i : ℕ) (h : ServiceHash) (n : ℕ) (s : Seat) (r : Option OpenSegmentError) (o : Option Spot) (x : Spot) → r ≡ None → o ≡ Some x
-    → opened i h n s r o ≡ Ok (s.spot.counter, moves_with (record x { counter = s.spot.counter + 1 }) (with_ticket i h s.tickets s.spot.counter n))
-opens_by i h n s r o x e f = ap (λ (q : Option OpenSegmentError). opened i h n s q o) e ∙ ap (opened i h n s None) f
+    → opening_of i h n s r o ≡ Ok (s.spot.counter, moves_with (record x { counter = s.spot.counter + 1 }) (with_ticket i h s.tickets s.spot.counter n))
+opens_by i h n s r o x e f = ap (λ (q : Option OpenSegmentError). opening_of i h n s q o) e ∙ ap (opening_of i h n s None) f

@@ -11,17 +11,17 @@ use Rattle.std.specs.Cmp.{IsTotalOrder}
 use Rattle.iceoryx2_world.specs.declared.world.Participant.{Participant}
 use Rattle.iceoryx2_data.specs.declared.description.ServiceHash.{ServiceHash}
 use Rattle.iceoryx2_world.specs.declared.world.Phase.{Phase}
-use Rattle.iceoryx2_world.specs.World.{Segment, or_idle}
+use Rattle.iceoryx2_world.specs.World.{Segment, or_idle, begins}
 use Rattle.iceoryx2_world.specs.Acts.{Act}
 use Rattle.iceoryx2_world.specs.Acts as act
 use Rattle.iceoryx2_world.specs.declared.world.Row.TheVariants as row
 use Rattle.iceoryx2_data.specs.Description.{Description}
 use Rattle.iceoryx2_data.specs.Form as form
-use Rattle.iceoryx2_world.specs.Steps.{Spot, step, now, begins, fits, has_room, last_number}
+use Rattle.iceoryx2_world.specs.Steps.{Spot, spot_after, to_spot, fits, has_room, last_number}
 use Rattle.iceoryx2_storage.specs.Book.{Book, tries, with_spot, needs_room, Done, Starved, Leaves}
 use Rattle.iceoryx2_access.specs.declared.storage.OpenSegmentError.TheVariants as Opening
 use Rattle.iceoryx2_access.specs.declared.storage.Release.{Release as Released}
-use Rattle.iceoryx2_world.specs.Access.{left_as, open_refusal}
+use Rattle.iceoryx2_world.specs.Access.{release_answer, open_refusal}
 use Rattle.iceoryx2_storage.proofs.Views.{put_back, put_other}
 
 module _ {K X : Type 0} {R : K → K → Ordering} (o : IsTotalOrder R) (exact : IsAntisymmetric R) where
@@ -33,11 +33,11 @@ module _ {K X : Type 0} {R : K → K → Ordering} (o : IsTotalOrder R) (exact :
   returned m a z k v e f there = f ∙ ap (λ x. map.insert x k v) e ∙ put_back R o exact m k v there
 
 -- by the phase that was read
-pub by_phase : (b : Book) (p : Participant) (h : ServiceHash) (a : Act) (x : Phase) → or_idle (map.get b.phases (p, h)) ≡ x → tries b p h a ≡ step p h a x (map.get b.rows h) (map.get b.segments h) b.counter
-by_phase b p h a x e = ap (λ y. step p h a y (map.get b.rows h) (map.get b.segments h) b.counter) e
+pub by_phase : (b : Book) (p : Participant) (h : ServiceHash) (a : Act) (x : Phase) → or_idle (map.get b.phases (p, h)) ≡ x → tries b p h a ≡ spot_after p h a x (map.get b.rows h) (map.get b.segments h) b.counter
+by_phase b p h a x e = ap (λ y. spot_after p h a y (map.get b.rows h) (map.get b.segments h) b.counter) e
 
-pub by_both : (b : Book) (p : Participant) (h : ServiceHash) (a : Act) (x : Phase) (s : Option Segment) → or_idle (map.get b.phases (p, h)) ≡ x → map.get b.segments h ≡ s → tries b p h a ≡ step p h a x (map.get b.rows h) s b.counter
-by_both b p h a x s e f = by_phase b p h a x e ∙ ap (λ t. step p h a x (map.get b.rows h) t b.counter) f
+pub by_both : (b : Book) (p : Participant) (h : ServiceHash) (a : Act) (x : Phase) (s : Option Segment) → or_idle (map.get b.phases (p, h)) ≡ x → map.get b.segments h ≡ s → tries b p h a ≡ spot_after p h a x (map.get b.rows h) s b.counter
+by_both b p h a x s e f = by_phase b p h a x e ∙ ap (λ t. spot_after p h a x (map.get b.rows h) t b.counter) f
 
 -- what was shown of the fields, of the value
 pub did : {a b new : Book} (p : Participant) (h : ServiceHash) (t : Act) (s : Spot) → a ≡ b → tries a p h t ≡ Some s → new ≡ with_spot a p h s → Done b p h t new
@@ -49,7 +49,7 @@ refused p h t is e f = (ap (λ (x : Book). tries x p h t) (sym is) ∙ e, f ∙ 
 pub starved : {a b new : Book} (p : Participant) (h : ServiceHash) (t : Act) (s : Spot) → a ≡ b → tries a p h t ≡ Some s → needs_room t (or_idle (map.get a.phases (p, h))) ≡ true → new ≡ a → Starved b p h t new
 starved {a} {b} {new} p h t s is e room f = subst (λ (x : Book). Starved x p h t new) is (s, e, room, f)
 
-pub left : {a b new : Book} (p : Participant) (h : ServiceHash) (r : Released) (s : Spot) → a ≡ b → tries a p h act.Leave ≡ Some s → r ≡ left_as s.phase → new ≡ with_spot a p h s → Leaves b p h (Some r) new
+pub left : {a b new : Book} (p : Participant) (h : ServiceHash) (r : Released) (s : Spot) → a ≡ b → tries a p h act.Leave ≡ Some s → r ≡ release_answer s.phase → new ≡ with_spot a p h s → Leaves b p h (Some r) new
 left {a} {b} {new} p h r s is e l f = subst (λ (x : Book). Leaves x p h (Some r) new) is (s, e, l, f)
 
 if_none : {E : Type 0} (b : Bool) (e : E) (o : Option E) → (if b then o else Some e) ≡ None → (b ≡ true) × (o ≡ None)
@@ -67,7 +67,7 @@ failed : (s : Segment) (n : ℕ) → (if s.number == n then if s.marked then Som
 failed s n e = let a = if_none (s.number == n) _ _ e in let b = if_some s.marked _ _ a.1 in absurd (cc)
 
 -- who isn't refused may join, and a number is left
-pub may_join : (p : Participant) (h : ServiceHash) (n c : ℕ) (r : Option Row) (s : Option Segment) (x : Phase) → open_refusal n s c x ≡ None → (nat_lt c last_number ≡ true) × ((t : Spot) × (step p h act.Join x r s c ≡ Some t))
+pub may_join : (p : Participant) (h : ServiceHash) (n c : ℕ) (r : Option Row) (s : Option Segment) (x : Phase) → open_refusal n s c x ≡ None → (nat_lt c last_number ≡ true) × ((t : Spot) × (spot_after p h act.Join x r s c ≡ Some t))
 may_join p h n c r None x e = absurd (cc)
 may_join p h n c r (Some s) (at.Read m) e =
     let a = if_none (s.number == n) _ _ e in
@@ -76,14 +76,14 @@ may_join p h n c r (Some s) (at.Read m) e =
     let f = if_none (has_room n s) _ _ d.1 in
     let g = if_none (nat_lt c last_number) _ _ f.1 in
     let room : has_room m s ≡ true = subst (λ (k : ℕ). has_room k s ≡ true) (sym (same_number m n d.0)) f.0 in
-    (g.0, (_, ap (λ (y : Bool). if y then now (at.Joined m 1) r (Some (record s { participants = map.insert s.participants p tt })) c else None) room))
+    (g.0, (_, ap (λ (y : Bool). if y then to_spot (at.Joined m 1) r (Some (record s { participants = map.insert s.participants p tt })) c else None) room))
 may_join p h n c r (Some s) (at.Joined m k) e =
     let a = if_none (s.number == n) _ _ e in
     let b = if_some s.marked _ _ a.1 in
     let d = if_none (m == n) _ _ b.1 in
     let g = if_none (nat_lt c last_number) _ _ d.1 in
     let f = if_none (nat_lt k last_number) _ _ g.1 in
-    (g.0, (_, ap (λ (y : Bool). if y then now (at.Joined m (k + 1)) r (Some s) c else None) f.0))
+    (g.0, (_, ap (λ (y : Bool). if y then to_spot (at.Joined m (k + 1)) r (Some s) c else None) f.0))
 may_join p h n c r (Some s) at.Idle e = absurd (failed s n e)
 may_join p h n c r (Some s) (at.Locked m) e = absurd (failed s n e)
 may_join p h n c r (Some s) (at.Made m) e = absurd (failed s n e)
@@ -91,7 +91,7 @@ may_join p h n c r (Some s) (at.Leaving m) e = absurd (failed s n e)
 may_join p h n c r (Some s) (at.Cleared m) e = absurd (failed s n e)
 
 -- who holds nothing locks what is absent, while a number is left
-locks : (p : Participant) (h : ServiceHash) (x : Phase) (s : Option Segment) (c : ℕ) → begins x ≡ true → step p h act.Lock x None s c ≡ (if nat_lt c last_number then now (at.Locked c) (Some (row.Locked c)) s (c + 1) else None)
+locks : (p : Participant) (h : ServiceHash) (x : Phase) (s : Option Segment) (c : ℕ) → begins x ≡ true → spot_after p h act.Lock x None s c ≡ (if nat_lt c last_number then to_spot (at.Locked c) (Some (row.Locked c)) s (c + 1) else None)
 locks p h at.Idle s c e = refl
 locks p h (at.Read n) s c e = refl
 locks p h (at.Locked n) s c e = absurd (cc)
@@ -101,23 +101,23 @@ locks p h (at.Leaving n) s c e = absurd (cc)
 locks p h (at.Cleared n) s c e = absurd (cc)
 
 pub lock_tried : (b : Book) (p : Participant) (h : ServiceHash) (x : Phase) → or_idle (map.get b.phases (p, h)) ≡ x → begins x ≡ true → map.get b.rows h ≡ None → nat_lt b.counter last_number ≡ true
-    → tries b p h act.Lock ≡ now (at.Locked b.counter) (Some (row.Locked b.counter)) (map.get b.segments h) (b.counter + 1)
+    → tries b p h act.Lock ≡ to_spot (at.Locked b.counter) (Some (row.Locked b.counter)) (map.get b.segments h) (b.counter + 1)
 lock_tried b p h x e free none left =
     by_phase b p h act.Lock x e
-    ∙ ap (λ r. step p h act.Lock x r (map.get b.segments h) b.counter) none
+    ∙ ap (λ r. spot_after p h act.Lock x r (map.get b.segments h) b.counter) none
     ∙ locks p h x (map.get b.segments h) b.counter free
-    ∙ ap (λ (t : Bool). if t then now (at.Locked b.counter) (Some (row.Locked b.counter)) (map.get b.segments h) (b.counter + 1) else None) left
+    ∙ ap (λ (t : Bool). if t then to_spot (at.Locked b.counter) (Some (row.Locked b.counter)) (map.get b.segments h) (b.counter + 1) else None) left
 
 -- who holds nothing reads what is published
 pub read_tried : (b : Book) (p : Participant) (h : ServiceHash) (x : Phase) (n : ℕ) (d : List ℕ) → or_idle (map.get b.phases (p, h)) ≡ x → begins x ≡ true → map.get b.rows h ≡ Some (row.Published n d)
-    → tries b p h act.Read ≡ now (at.Read n) (map.get b.rows h) (map.get b.segments h) b.counter
+    → tries b p h act.Read ≡ to_spot (at.Read n) (map.get b.rows h) (map.get b.segments h) b.counter
 read_tried b p h x n d e free there =
     by_phase b p h act.Read x e
-    ∙ ap (λ r. step p h act.Read x r (map.get b.segments h) b.counter) there
+    ∙ ap (λ r. spot_after p h act.Read x r (map.get b.segments h) b.counter) there
     ∙ reads x free
-    ∙ ap (λ r. now (at.Read n) r (map.get b.segments h) b.counter) (sym there)
+    ∙ ap (λ r. to_spot (at.Read n) r (map.get b.segments h) b.counter) (sym there)
   where
-    reads : (x : Phase) → begins x ≡ true → step p h act.Read x (Some (row.Published n d)) (map.get b.segments h) b.counter ≡ now (at.Read n) (Some (row.Published n d)) (map.get b.segments h) b.counter
+    reads : (x : Phase) → begins x ≡ true → spot_after p h act.Read x (Some (row.Published n d)) (map.get b.segments h) b.counter ≡ to_spot (at.Read n) (Some (row.Published n d)) (map.get b.segments h) b.counter
     reads at.Idle f = refl
     reads (at.Read m) f = refl
     reads (at.Locked m) f = absurd (cc)
@@ -128,8 +128,8 @@ read_tried b p h x n d e free there =
 
 -- who made a segment publishes what fits it
 pub publish_tried : (b : Book) (p : Participant) (h : ServiceHash) (d : Description) (n : ℕ) (s : Segment) → or_idle (map.get b.phases (p, h)) ≡ at.Made n → map.get b.segments h ≡ Some s → fits h s d ≡ true
-    → tries b p h (act.Publish d) ≡ now (at.Joined n 1) (Some (row.Published n (form.description d))) (map.get b.segments h) b.counter
+    → tries b p h (act.Publish d) ≡ to_spot (at.Joined n 1) (Some (row.Published n (form.description d))) (map.get b.segments h) b.counter
 publish_tried b p h d n s e there fit =
     by_both b p h (act.Publish d) (at.Made n) (Some s) e there
-    ∙ ap (λ (t : Bool). if t then now (at.Joined n 1) (Some (row.Published n (form.description d))) (Some s) b.counter else None) fit
-    ∙ ap (λ x. now (at.Joined n 1) (Some (row.Published n (form.description d))) x b.counter) (sym there)
+    ∙ ap (λ (t : Bool). if t then to_spot (at.Joined n 1) (Some (row.Published n (form.description d))) (Some s) b.counter else None) fit
+    ∙ ap (λ x. to_spot (at.Joined n 1) (Some (row.Published n (form.description d))) x b.counter) (sym there)

@@ -13,12 +13,12 @@ use Rattle.iceoryx2_world.specs.declared.world.Row.{Row}
 use Rattle.iceoryx2_access.specs.declared.storage.Release.{Release as Released}
 use Rattle.iceoryx2_world.specs.Sets as set
 use Rattle.iceoryx2_world.specs.Orders.{hash_cmp, place_cmp, tag_cmp}
-use Rattle.iceoryx2_world.specs.World.{World, Segment, set_to, or_idle, unless_idle}
+use Rattle.iceoryx2_world.specs.World.{World, Segment, set_to, or_idle, unless_idle, Tickets}
 use Rattle.iceoryx2_world.specs.Acts.{Act}
 use Rattle.iceoryx2_world.specs.Acts as act
-use Rattle.iceoryx2_world.specs.Steps.{Spot, step, fits, has_room}
+use Rattle.iceoryx2_world.specs.Steps.{Spot, spot_after, fits, has_room}
 use Rattle.iceoryx2_world.specs.Codes.{coded_hash, coded_row, coded_segment, coded_participant, coded_phase}
-use Rattle.iceoryx2_world.specs.Access.{Tickets, left_as}
+use Rattle.iceoryx2_world.specs.Access.{release_answer}
 
 pub record Book : Type 0 where
   pub rows : map.FinMap hash_cmp Row
@@ -39,7 +39,7 @@ phase_at b p h = or_idle (map.get b.phases (p, h))
 
 -- what a step of p at h changes, where it is allowed
 abbrev pub tries : Book → Participant → ServiceHash → Act → Option Spot
-tries b p h a = step p h a (or_idle (map.get b.phases (p, h))) (map.get b.rows h) (map.get b.segments h) b.counter
+tries b p h a = spot_after p h a (or_idle (map.get b.phases (p, h))) (map.get b.rows h) (map.get b.segments h) b.counter
 
 abbrev pub with_spot : Book → Participant → ServiceHash → Spot → Book
 with_spot b p h s = record { rows = set_to b.rows h s.row; segments = set_to b.segments h s.segment; phases = set_to b.phases (p, h) (unless_idle s.phase); counter = s.counter }
@@ -73,7 +73,7 @@ Tries b p h a (Err e) c = Starved b p h a c
 
 -- a leave, with what it leaves
 abbrev pub Leaves : Book → Participant → ServiceHash → Option Released → Book → Type 0
-Leaves b p h (Some r) c = (s : Spot) × (tries b p h act.Leave ≡ Some s) × (r ≡ left_as s.phase) × (c ≡ with_spot b p h s)
+Leaves b p h (Some r) c = (s : Spot) × (tries b p h act.Leave ≡ Some s) × (r ≡ release_answer s.phase) × (c ≡ with_spot b p h s)
 Leaves b p h None c = (tries b p h act.Leave ≡ None) × (c ≡ b)
 
 -- there is a segment that the description fits
@@ -94,12 +94,12 @@ Dismisses p s false t = (nat_lt 1 (set.len s.participants) ≡ false) × (t ≡ 
 
 -- the phase of who takes the segment away, where it may
 abbrev pub TakesSegment : Phase → Option Phase → Type 0
-TakesSegment x o = (p : Participant) (h : ServiceHash) (r : Option Row) (s : Option Segment) (c : ℕ) → step p h act.RemoveSegment x r s c ≡ option_map (λ y. record { phase = y; row = r; segment = None; counter = c }) o
+TakesSegment x o = (p : Participant) (h : ServiceHash) (r : Option Row) (s : Option Segment) (c : ℕ) → spot_after p h act.RemoveSegment x r s c ≡ option_map (λ y. record { phase = y; row = r; segment = None; counter = c }) o
 
 -- who takes the description away, where it may, holds nothing
 abbrev pub TakesDescription : Phase → Bool → Type 0
-TakesDescription x true = (p : Participant) (h : ServiceHash) (r : Option Row) (s : Option Segment) (c : ℕ) → step p h act.RemoveDescription x r s c ≡ Some (record { phase = at.Idle; row = None; segment = s; counter = c })
-TakesDescription x false = (p : Participant) (h : ServiceHash) (r : Option Row) (s : Option Segment) (c : ℕ) → step p h act.RemoveDescription x r s c ≡ None
+TakesDescription x true = (p : Participant) (h : ServiceHash) (r : Option Row) (s : Option Segment) (c : ℕ) → spot_after p h act.RemoveDescription x r s c ≡ Some (record { phase = at.Idle; row = None; segment = s; counter = c })
+TakesDescription x false = (p : Participant) (h : ServiceHash) (r : Option Row) (s : Option Segment) (c : ℕ) → spot_after p h act.RemoveDescription x r s c ≡ None
 
 -- the world of the services, the tags and the tickets
 abbrev pub world : Book → set.FinSet tag_cmp → Tickets → World

@@ -1,8 +1,8 @@
 //! A storage within one process.
 
 ghost use Rattle.std.specs.Prelude.{◌≡◌, IfOk};
-ghost use Rattle.iceoryx2_world.specs.Access.{tag_of};
-ghost use Rattle.iceoryx2_world.specs.Across.{Agrees, empty_world, ticket_count};
+ghost use Rattle.iceoryx2_world.specs.World.{tag_of, empty_world, ticket_count};
+ghost use Rattle.iceoryx2_world.specs.Across.{Agrees};
 ghost use Rattle.iceoryx2_world.specs.Listing.{Lists};
 
 mod services;

@@ -2,7 +2,7 @@
 -- tests in their order, and then at most one step.
 use Rattle.std.specs.Prelude.{◌≡◌, ℕ, ◌+◌, Bool, true, false, ◌&&◌, nat_lt, ◌==◌, List, Option, Some, None, Result, Ok, Err, ◌⊎◌, OnOk, unwrap_or, if◌then◌else◌}
 use Rattle.std.specs.FinMap as map
-use Rattle.std.specs.Ordering.{nat_cmp, eq_by_cmp}
+use Rattle.std.specs.Ordering.{eq_by_cmp}
 use Rattle.iceoryx2_data.specs.declared.description.ServiceHash.{ServiceHash}
 use Rattle.iceoryx2_data.specs.Description.{IsDescription}
 use Rattle.iceoryx2_world.specs.Sets as set
@@ -13,10 +13,10 @@ use Rattle.iceoryx2_world.specs.declared.world.Phase.TheVariants as at
 use Rattle.iceoryx2_world.specs.declared.world.Row.{Row}
 use Rattle.iceoryx2_world.specs.declared.world.Row.TheVariants as row
 use Rattle.iceoryx2_world.specs.Orders.{hash_cmp, tag_cmp}
-use Rattle.iceoryx2_world.specs.World.{World, Segment, row_of, segment_of, phase_of}
+use Rattle.iceoryx2_world.specs.World.{World, Segment, Tickets, row_of, segment_of, phase_of, tag_of}
 use Rattle.iceoryx2_world.specs.Acts.{Act}
 use Rattle.iceoryx2_world.specs.Acts as act
-use Rattle.iceoryx2_world.specs.Steps.{Spot, step, put, has_room, last_number}
+use Rattle.iceoryx2_world.specs.Steps.{Spot, spot_after, put, has_room, last_number}
 use Rattle.iceoryx2_access.specs.declared.storage.Existence.{Existence}
 use Rattle.iceoryx2_access.specs.declared.storage.Existence.TheVariants.{No, Yes, BeingSetUp}
 use Rattle.iceoryx2_access.specs.declared.storage.FetchError.{FetchError}
@@ -38,11 +38,8 @@ use Rattle.iceoryx2_access.specs.declared.storage.Release.{Release as Released}
 use Rattle.iceoryx2_access.specs.declared.storage.Release.TheVariants as Leaving
 use Rattle.iceoryx2_access.specs.declared.storage.ReleaseError.{ReleaseError}
 use Rattle.iceoryx2_access.specs.declared.storage.ReleaseError.TheVariants.{NoSuchTicket}
-use Rattle.iceoryx2_access.specs.Letter.{Letter}
+use Rattle.iceoryx2_access.specs.Letter.{Letter, caller_of, service_of}
 use Rattle.iceoryx2_access.specs.Letter as letter
-
-abbrev pub Tickets : Type 0
-Tickets = map.FinMap nat_cmp Ticket
 
 -- What a node's access to a service reads.
 pub record Seat : Type 0 where
@@ -55,9 +52,6 @@ pub record Change : Type 0 where
   pub spot : Option Spot
   pub tag : Option Bool
   pub tickets : Option Tickets
-
-abbrev pub tag_of : World → ℕ → ServiceHash → Bool
-tag_of w i h = set.contains w.tags (i, h)
 
 abbrev pub seat : World → ℕ → ServiceHash → Seat
 seat w i h = record { spot = record { phase = phase_of w (Node i) h; row = row_of w h; segment = segment_of w h; counter = w.counter }; tag = tag_of w i h; tickets = w.tickets }
@@ -76,8 +70,8 @@ abbrev pub write : World → ℕ → ServiceHash → Change → World
 write w i h c = record (put_spot w i h c.spot) { tags = set_tag w.tags (i, h) c.tag; tickets = unwrap_or c.tickets w.tickets }
 
 -- the seat with the change
-abbrev pub changed : Seat → Change → Seat
-changed s c = record { spot = unwrap_or c.spot s.spot; tag = unwrap_or c.tag s.tag; tickets = unwrap_or c.tickets s.tickets }
+abbrev pub seat_after : Seat → Change → Seat
+seat_after s c = record { spot = unwrap_or c.spot s.spot; tag = unwrap_or c.tag s.tag; tickets = unwrap_or c.tickets s.tickets }
 
 abbrev pub nothing : Change
 nothing = record { spot = None; tag = None; tickets = None }
@@ -85,26 +79,26 @@ nothing = record { spot = None; tag = None; tickets = None }
 abbrev pub moves : Spot → Change
 moves x = record { spot = Some x; tag = None; tickets = None }
 
-abbrev pub tags : Bool → Change
-tags b = record { spot = None; tag = Some b; tickets = None }
+abbrev pub tag_becomes : Bool → Change
+tag_becomes b = record { spot = None; tag = Some b; tickets = None }
 
 abbrev pub moves_with : Spot → Tickets → Change
 moves_with x k = record { spot = Some x; tag = None; tickets = Some k }
 
 -- An answer with its change, or want of memory in a success's place, which changes nothing.
-abbrev pub Gives : {A E : Type 0} → E → Result (A × Change) E → Result A E → Change → Type 0
-Gives no_memory (Ok x) r c = ((r ≡ Ok x.0) × (c ≡ x.1)) ⊎ ((r ≡ Err no_memory) × (c ≡ nothing))
-Gives no_memory (Err e) r c = (r ≡ Err e) × (c ≡ nothing)
+abbrev pub IsAnswer : {A E : Type 0} → E → Result (A × Change) E → Result A E → Change → Type 0
+IsAnswer no_memory (Ok x) r c = ((r ≡ Ok x.0) × (c ≡ x.1)) ⊎ ((r ≡ Err no_memory) × (c ≡ nothing))
+IsAnswer no_memory (Err e) r c = (r ≡ Err e) × (c ≡ nothing)
 
 -- An answer with its change, whatever memory there is.
-abbrev pub Simply : {A E : Type 0} → Result (A × Change) E → Result A E → Change → Type 0
-Simply (Ok x) r c = (r ≡ Ok x.0) × (c ≡ x.1)
-Simply (Err e) r c = (r ≡ Err e) × (c ≡ nothing)
+abbrev pub IsSureAnswer : {A E : Type 0} → Result (A × Change) E → Result A E → Change → Type 0
+IsSureAnswer (Ok x) r c = (r ≡ Ok x.0) × (c ≡ x.1)
+IsSureAnswer (Err e) r c = (r ≡ Err e) × (c ≡ nothing)
 
 -- the step, or the refusal where it is forbidden
-abbrev pub stepped : {A E : Type 0} → E → A → Option Spot → Result (A × Change) E
-stepped e a None = Err e
-stepped e a (Some x) = Ok (a, moves x)
+abbrev pub or_refused : {A E : Type 0} → E → A → Option Spot → Result (A × Change) E
+or_refused e a None = Err e
+or_refused e a (Some x) = Ok (a, moves x)
 
 abbrev pub existence : Option Row → Existence
 existence None = No
@@ -116,9 +110,9 @@ is_joined (at.Joined n k) = true
 is_joined _ = false
 
 -- who may not read what is published has read it before
-abbrev pub read : Option Spot → Change
-read None = nothing
-read (Some x) = moves x
+abbrev pub read_change : Option Spot → Change
+read_change None = nothing
+read_change (Some x) = moves x
 
 abbrev pub has_lock : ℕ → Phase → Bool
 has_lock n (at.Locked m) = m == n
@@ -142,14 +136,14 @@ open_refusal n None c f = Some Opening.DoesNotExist
 open_refusal n (Some x) c f = segment_refusal n x c f
 
 -- by the phase that a leaving node comes to
-abbrev pub left_as : Phase → Released
-left_as (at.Joined n k) = Leaving.StillCounted
-left_as (at.Leaving n) = Leaving.Last
-left_as _ = Leaving.Left
+abbrev pub release_answer : Phase → Released
+release_answer (at.Joined n k) = Leaving.StillCounted
+release_answer (at.Leaving n) = Leaving.Last
+release_answer _ = Leaving.Left
 
 module _ (i : ℕ) (h : ServiceHash) where
-  abbrev pub tried : Act → Spot → Option Spot
-  tried a x = step (Node i) h a x.phase x.row x.segment x.counter
+  abbrev pub own_step : Act → Spot → Option Spot
+  own_step a x = spot_after (Node i) h a x.phase x.row x.segment x.counter
 
   abbrev pub with_ticket : Tickets → ℕ → ℕ → Tickets
   with_ticket k t n = map.insert k t (record { node = i; hash = h; number = n })
@@ -162,82 +156,53 @@ module _ (i : ℕ) (h : ServiceHash) where
   abbrev pub fetch_of : Spot → Option Row → Result ((ℕ × List ℕ) × Change) FetchError
   fetch_of x None = Err Fetching.DoesNotExist
   fetch_of x (Some (row.Locked n)) = Err Fetching.NotFinalized
-  fetch_of x (Some (row.Published n b)) = Ok ((n, b), read (tried act.Read x))
+  fetch_of x (Some (row.Published n b)) = Ok ((n, b), read_change (own_step act.Read x))
 
   -- want of memory only where the tag wasn't there
   abbrev pub MakesTag : Bool → Result Tag TagError → Change → Type 0
   MakesTag true r c = (r ≡ Ok Found) × (c ≡ nothing)
-  MakesTag false r c = Gives Tagging.OutOfMemory (Ok (Made, tags true)) r c
+  MakesTag false r c = IsAnswer Tagging.OutOfMemory (Ok (Made, tag_becomes true)) r c
 
   abbrev pub lock_of : Spot → Option Row → Result (ℕ × Change) LockError
   lock_of x (Some (row.Locked n)) = Err Locking.Creation
   lock_of x (Some (row.Published n b)) = Err Locking.AlreadyExists
-  lock_of x None = stepped Locking.Other x.counter (tried act.Lock x)
+  lock_of x None = or_refused Locking.Other x.counter (own_step act.Lock x)
 
   abbrev pub make_of : ℕ → Spot → Option Segment → Result (Unit {0} × Change) MakeSegmentError
   make_of m x (Some s) = Err Making.AlreadyExists
-  make_of m x None = stepped Making.Other tt (tried (act.Make m) x)
+  make_of m x None = or_refused Making.Other tt (own_step (act.Make m) x)
 
   -- the ticket is the number
-  abbrev pub published : ℕ → Tickets → Option Spot → Result (ℕ × Change) PublishError
-  published n k None = Err Publishing.Other
-  published n k (Some x) = Ok (n, moves_with x (with_ticket k n n))
+  abbrev pub publishing_of : ℕ → Tickets → Option Spot → Result (ℕ × Change) PublishError
+  publishing_of n k None = Err Publishing.Other
+  publishing_of n k (Some x) = Ok (n, moves_with x (with_ticket k n n))
 
-  abbrev pub opened : ℕ → Seat → Option OpenSegmentError → Option Spot → Result (ℕ × Change) OpenSegmentError
-  opened n s (Some e) x = Err e
-  opened n s None None = Err Opening.Failed
-  opened n s None (Some x) = Ok (s.spot.counter, moves_with (record x { counter = s.spot.counter + 1 }) (with_ticket s.tickets s.spot.counter n))
+  abbrev pub opening_of : ℕ → Seat → Option OpenSegmentError → Option Spot → Result (ℕ × Change) OpenSegmentError
+  opening_of n s (Some e) x = Err e
+  opening_of n s None None = Err Opening.Failed
+  opening_of n s None (Some x) = Ok (s.spot.counter, moves_with (record x { counter = s.spot.counter + 1 }) (with_ticket s.tickets s.spot.counter n))
 
-  abbrev pub left : ℕ → Tickets → Option Spot → Result (Released × Change) ReleaseError
-  left t k None = Err NoSuchTicket
-  left t k (Some x) = Ok (left_as x.phase, moves_with x (map.remove k t))
+  abbrev pub release_of : ℕ → Tickets → Option Spot → Result (Released × Change) ReleaseError
+  release_of t k None = Err NoSuchTicket
+  release_of t k (Some x) = Ok (release_answer x.phase, moves_with x (map.remove k t))
 
   -- The answer of a letter, and its change.
-  abbrev pub Own : Seat → Letter → Change → Type 0
-  Own s (letter.Exists g a) c = (a ≡ existence s.spot.row) × (c ≡ nothing)
-  Own s (letter.Fetch j g a) c = Gives Fetching.OutOfMemory (fetch_of s.spot s.spot.row) a c
-  Own s (letter.Counts j g a) c = (a ≡ is_joined s.spot.phase) × (c ≡ nothing)
-  Own s (letter.MakeTag j g a) c = MakesTag s.tag a c
-  Own s (letter.RemoveTag j g a) c = (a ≡ Ok tt) × (c ≡ tags false)
-  Own s (letter.Lock j g a) c = Gives Locking.OutOfMemory (lock_of s.spot s.spot.row) a c
-  Own s (letter.MakeSegment j g n m a) c = Gives Making.OutOfMemory (if has_lock n s.spot.phase && nat_lt 0 m then make_of m s.spot s.spot.segment else Err Making.Other) a c
-  Own s (letter.RemoveSegment j g a) c = Simply (stepped Removing.Other tt (tried act.RemoveSegment s.spot)) a c
-  Own s (letter.RemoveDescription j g a) c = Simply (stepped Removing.Other tt (tried act.RemoveDescription s.spot)) a c
-  Own s (letter.Publish j g n d a) c = OnOk a (IsDescription d) × Gives Publishing.OutOfMemory (if has_made n s.spot.phase then published n s.tickets (tried (act.Publish d) s.spot) else Err Publishing.Other) a c
-  Own s (letter.OpenSegment j g n a) c = Gives Opening.OutOfMemory (opened n s (open_refusal n s.spot.segment s.spot.counter s.spot.phase) (tried act.Join s.spot)) a c
-  Own s (letter.Release t j g n a) c = Simply (if is_ticket n (map.get s.tickets t) then left t s.tickets (tried act.Leave s.spot) else Err NoSuchTicket) a c
-
--- who calls, and for which service; `exists` is nobody's
-abbrev pub node_of : Letter → ℕ
-node_of (letter.Exists h a) = 0
-node_of (letter.Fetch i h a) = i
-node_of (letter.Counts i h a) = i
-node_of (letter.MakeTag i h a) = i
-node_of (letter.RemoveTag i h a) = i
-node_of (letter.Lock i h a) = i
-node_of (letter.MakeSegment i h n m a) = i
-node_of (letter.RemoveSegment i h a) = i
-node_of (letter.RemoveDescription i h a) = i
-node_of (letter.Publish i h n d a) = i
-node_of (letter.OpenSegment i h n a) = i
-node_of (letter.Release t i h n a) = i
-
-abbrev pub hash_of : Letter → ServiceHash
-hash_of (letter.Exists h a) = h
-hash_of (letter.Fetch i h a) = h
-hash_of (letter.Counts i h a) = h
-hash_of (letter.MakeTag i h a) = h
-hash_of (letter.RemoveTag i h a) = h
-hash_of (letter.Lock i h a) = h
-hash_of (letter.MakeSegment i h n m a) = h
-hash_of (letter.RemoveSegment i h a) = h
-hash_of (letter.RemoveDescription i h a) = h
-hash_of (letter.Publish i h n d a) = h
-hash_of (letter.OpenSegment i h n a) = h
-hash_of (letter.Release t i h n a) = h
+  abbrev pub IsSeatAnswer : Seat → Letter → Change → Type 0
+  IsSeatAnswer s (letter.Exists g a) c = (a ≡ existence s.spot.row) × (c ≡ nothing)
+  IsSeatAnswer s (letter.Fetch j g a) c = IsAnswer Fetching.OutOfMemory (fetch_of s.spot s.spot.row) a c
+  IsSeatAnswer s (letter.Counts j g a) c = (a ≡ is_joined s.spot.phase) × (c ≡ nothing)
+  IsSeatAnswer s (letter.MakeTag j g a) c = MakesTag s.tag a c
+  IsSeatAnswer s (letter.RemoveTag j g a) c = (a ≡ Ok tt) × (c ≡ tag_becomes false)
+  IsSeatAnswer s (letter.Lock j g a) c = IsAnswer Locking.OutOfMemory (lock_of s.spot s.spot.row) a c
+  IsSeatAnswer s (letter.MakeSegment j g n m a) c = IsAnswer Making.OutOfMemory (if has_lock n s.spot.phase && nat_lt 0 m then make_of m s.spot s.spot.segment else Err Making.Other) a c
+  IsSeatAnswer s (letter.RemoveSegment j g a) c = IsSureAnswer (or_refused Removing.Other tt (own_step act.RemoveSegment s.spot)) a c
+  IsSeatAnswer s (letter.RemoveDescription j g a) c = IsSureAnswer (or_refused Removing.Other tt (own_step act.RemoveDescription s.spot)) a c
+  IsSeatAnswer s (letter.Publish j g n d a) c = OnOk a (IsDescription d) × IsAnswer Publishing.OutOfMemory (if has_made n s.spot.phase then publishing_of n s.tickets (own_step (act.Publish d) s.spot) else Err Publishing.Other) a c
+  IsSeatAnswer s (letter.OpenSegment j g n a) c = IsAnswer Opening.OutOfMemory (opening_of n s (open_refusal n s.spot.segment s.spot.counter s.spot.phase) (own_step act.Join s.spot)) a c
+  IsSeatAnswer s (letter.Release t j g n a) c = IsSureAnswer (if is_ticket n (map.get s.tickets t) then release_of t s.tickets (own_step act.Leave s.spot) else Err NoSuchTicket) a c
 
 -- The node's own part of an access, in the world.
 pub record IsOwnPart (w : World) (l : Letter) (v : World) : Type 0 where
   pub change : Change
-  pub own : Own (node_of l) (hash_of l) (seat w (node_of l) (hash_of l)) l change
-  pub is : v ≡ write w (node_of l) (hash_of l) change
+  pub own : IsSeatAnswer (caller_of l) (service_of l) (seat w (caller_of l) (service_of l)) l change
+  pub is : v ≡ write w (caller_of l) (service_of l) change

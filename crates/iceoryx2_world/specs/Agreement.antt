@@ -1,5 +1,5 @@
 -- What is always true of a world at each service, and when a world is later than another.
-use Rattle.std.specs.Prelude.{◌≡◌, ◌≢◌, ℕ, ◌<◌, ◌≤◌, Bool, true, false, List, Option, Some, None}
+use Rattle.std.specs.Prelude.{◌≡◌, ◌≢◌, ℕ, ◌<◌, ◌≤◌, true, false, List, Option, Some, None}
 use Rattle.iceoryx2_data.specs.declared.description.ServiceHash.{ServiceHash}
 use Rattle.iceoryx2_data.specs.Description.{Description, max_nodes_of}
 use Rattle.iceoryx2_data.specs.Form.{IsForm}
@@ -9,45 +9,14 @@ use Rattle.iceoryx2_world.specs.declared.world.Phase.{Phase}
 use Rattle.iceoryx2_world.specs.declared.world.Phase.TheVariants as at
 use Rattle.iceoryx2_world.specs.declared.world.Row.{Row}
 use Rattle.iceoryx2_world.specs.declared.world.Row.TheVariants as row
-use Rattle.iceoryx2_world.specs.World.{World, Segment, row_of, segment_of, phase_of}
-use Rattle.iceoryx2_world.specs.Steps.{made}
-
--- the number whose lock the participant holds
-abbrev pub locked_number : Phase → Option ℕ
-locked_number (at.Locked n) = Some n
-locked_number (at.Made n) = Some n
-locked_number _ = None
-
--- the number at which it is registered
-abbrev pub joined_number : Phase → Option ℕ
-joined_number (at.Joined n k) = Some n
-joined_number _ = None
-
--- it was the last one to leave, and has to remove what is left
-abbrev pub is_last : Phase → Bool
-is_last (at.Leaving n) = true
-is_last (at.Cleared n) = true
-is_last _ = false
-
--- the number that a phase speaks of
-abbrev pub phase_number : Phase → Option ℕ
-phase_number at.Idle = None
-phase_number (at.Read n) = Some n
-phase_number (at.Locked n) = Some n
-phase_number (at.Made n) = Some n
-phase_number (at.Joined n k) = Some n
-phase_number (at.Leaving n) = Some n
-phase_number (at.Cleared n) = Some n
-
-abbrev pub row_number : Row → ℕ
-row_number (row.Locked n) = n
-row_number (row.Published n b) = n
+use Rattle.iceoryx2_world.specs.World.{World, Segment, row_of, segment_of, phase_of, locked_number, phase_number, row_number, is_last}
+use Rattle.iceoryx2_world.specs.Steps.{new_segment}
 
 abbrev pub IsPublished : ℕ → Option Row → Type 0
 IsPublished n r = (b : List ℕ) × (r ≡ Some (row.Published n b))
 
 -- An unmarked segment of this number is there, and the participant in it.
-pub record Holds (s : Option Segment) (n : ℕ) (p : Participant) : Type 0 where
+pub record HasMember (s : Option Segment) (n : ℕ) (p : Participant) : Type 0 where
   pub segment : Segment
   pub there : s ≡ Some segment
   pub number : segment.number ≡ n
@@ -88,9 +57,9 @@ pub record AgreesAt (c : ℕ) (h : ServiceHash) (r : Option Row) (s : Option Seg
   pub holder : (n : ℕ) → r ≡ Some (row.Locked n) → (p : Participant) × (locked_number (phase p) ≡ Some n)
   pub one_holder : (p q : Participant) (m n : ℕ) → locked_number (phase p) ≡ Some m → locked_number (phase q) ≡ Some n → p ≡ q
   -- who is Made n has an unmarked segment of that number with room for one or more, alone in it
-  pub made : (p : Participant) (n : ℕ) → phase p ≡ at.Made n → (m : ℕ) × (1 ≤ m) × (s ≡ Some (made p n m))
+  pub made : (p : Participant) (n : ℕ) → phase p ≡ at.Made n → (m : ℕ) × (1 ≤ m) × (s ≡ Some (new_segment p n m))
   -- who is Joined n has joined once or more, and its service stands
-  pub joined : (p : Participant) (n k : ℕ) → phase p ≡ at.Joined n k → (1 ≤ k) × IsPublished n r × Holds s n p
+  pub joined : (p : Participant) (n k : ℕ) → phase p ≡ at.Joined n k → (1 ≤ k) × IsPublished n r × HasMember s n p
   -- who was the last to leave finds what it has to remove, and nobody else has
   pub leaving : (p : Participant) (n : ℕ) → phase p ≡ at.Leaving n → IsPublished n r × IsDeserted s n
   pub cleared : (p : Participant) (n : ℕ) → phase p ≡ at.Cleared n → IsPublished n r × (s ≡ None)
@@ -117,7 +86,7 @@ pub record Later (old new : World) : Type 0 where
   pub rows : (h : ServiceHash) → LaterAt old.counter (row_of old h) (row_of new h)
 
 -- A number that is spent at a service: it is below the counter, and neither the row's nor the segment's.
-pub record Spent (w : World) (h : ServiceHash) (n : ℕ) : Type 0 where
+pub record IsSpent (w : World) (h : ServiceHash) (n : ℕ) : Type 0 where
   pub below : n < w.counter
   pub row : (x : Row) → row_of w h ≡ Some x → row_number x ≢ n
   pub segment : (x : Segment) → segment_of w h ≡ Some x → x.number ≢ n

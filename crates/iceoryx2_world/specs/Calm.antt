@@ -4,21 +4,16 @@ use Rattle.iceoryx2_data.specs.declared.description.ServiceHash.{ServiceHash}
 use Rattle.iceoryx2_world.specs.declared.world.Participant.{Participant}
 use Rattle.iceoryx2_world.specs.declared.world.Row.{Row}
 use Rattle.iceoryx2_world.specs.declared.world.Row.TheVariants as row
-use Rattle.iceoryx2_world.specs.World.{World, row_of, phase_of}
-use Rattle.iceoryx2_world.specs.Across.{join_count}
+use Rattle.iceoryx2_world.specs.World.{World, row_of, count_of}
 use Rattle.iceoryx2_access.specs.Letter.{Letter}
 use Rattle.iceoryx2_access.specs.Letter as letter
 use Rattle.iceoryx2_world.specs.Peers.{IsAccess}
-use Rattle.iceoryx2_world.specs.Faulty.{IsFault}
+use Rattle.iceoryx2_access.specs.MayRefuse.{IsFault}
 
 -- the number and the bytes of what is published
 abbrev pub published_of : Option Row → Option (ℕ × List ℕ)
 published_of (Some (row.Published n b)) = Some (n, b)
 published_of _ = None
-
--- how often a participant has joined a service
-abbrev pub count_of : World → Participant → ServiceHash → ℕ
-count_of w p h = join_count (phase_of w p h)
 
 -- Nothing that is published changes, and nobody's count.
 pub record SameServices (old new : World) : Type 0 where
@@ -33,7 +28,8 @@ IsCalmLetter (letter.OpenSegment i h n (Ok t)) = ⊥
 IsCalmLetter (letter.Release t i h n (Ok a)) = ⊥
 IsCalmLetter _ = Unit {0}
 
--- An access that is calm: its own part, without the steps of peers before it, changes none of these. A refused one has no part.
+-- An access that is calm: its own part, without the steps of peers before it, changes none of these. A refused
+-- one has no part.
 pub data CalmAccess (w : World) (l : Letter) (v : World) : Type 0 where
   acts : (a : IsAccess w l v) → SameServices a.between v → CalmAccess w l v
   refused : IsFault l → v ≡ w → CalmAccess w l v

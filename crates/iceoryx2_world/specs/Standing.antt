@@ -1,13 +1,12 @@
 -- When a factory stands.
-use Rattle.std.specs.Prelude.{◌≡◌, List, [], ◌∷◌, Some, Ok}
+use Rattle.std.specs.Prelude.{◌≡◌, Some, Ok}
 use Rattle.iceoryx2_data.specs.Description.{IsDescription}
 use Rattle.iceoryx2_data.specs.Form as form
 use Rattle.iceoryx2_world.specs.declared.world.Participant.TheVariants.{Node}
 use Rattle.iceoryx2_world.specs.declared.world.Ticket.{Ticket}
 use Rattle.iceoryx2_world.specs.declared.world.Row.TheVariants as row
-use Rattle.iceoryx2_world.specs.World.{World, row_of, segment_of}
-use Rattle.iceoryx2_world.specs.Agreement.{Holds}
-use Rattle.iceoryx2_world.specs.Across.{ticket_of}
+use Rattle.iceoryx2_world.specs.World.{World, row_of, segment_of, ticket_of}
+use Rattle.iceoryx2_world.specs.Agreement.{HasMember}
 use Rattle.iceoryx2_access.specs.Factory.{Factory}
 use Rattle.iceoryx2_access.specs.Letter.{Letter}
 use Rattle.iceoryx2_access.specs.Letter as letter
@@ -23,14 +22,10 @@ pub record Stands (w : World) (f : Factory) : Type 0 where
   pub limits : IsDescription f.description
   pub row : row_of w f.description.hash ≡ Some (row.Published f.number (form.description f.description))
   -- the segment has its number, is unmarked, and its node is in it
-  pub segment : Holds (segment_of w f.description.hash) f.number (Node f.node)
+  pub segment : HasMember (segment_of w f.description.hash) f.number (Node f.node)
 
 -- The letter isn't a release of this factory's ticket that was granted.
 abbrev pub Spares : Factory → Letter → Type 0
-Spares f (letter.Release t i h n (Ok a)) = (t ≡ f.ticket) → (i ≡ f.node) → (h ≡ f.description.hash) → (n ≡ f.number) → ⊥
+Spares f (letter.Release t i h n (Ok a)) =
+    (t ≡ f.ticket) → (i ≡ f.node) → (h ≡ f.description.hash) → (n ≡ f.number) → ⊥
 Spares f _ = Unit {0}
-
--- each letter of the word is such
-abbrev pub Each : (Letter → Type 0) → List Letter → Type 0
-Each P [] = Unit {0}
-Each P (l ∷ word) = P l × Each P word

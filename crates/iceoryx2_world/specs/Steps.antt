@@ -22,14 +22,8 @@ pub record Spot : Type 0 where
   pub segment : Option Segment
   pub counter : ℕ
 
--- the participant holds nothing
-abbrev pub begins : Phase → Bool
-begins at.Idle = true
-begins (at.Read n) = true
-begins _ = false
-
-abbrev pub now : Phase → Option Row → Option Segment → ℕ → Option Spot
-now x r s c = Some (record { phase = x; row = r; segment = s; counter = c })
+abbrev pub to_spot : Phase → Option Row → Option Segment → ℕ → Option Spot
+to_spot x r s c = Some (record { phase = x; row = r; segment = s; counter = c })
 
 abbrev pub alone : Participant → set.FinSet participant_cmp
 alone p = set.insert set.empty p
@@ -38,8 +32,8 @@ abbrev pub last_number : ℕ
 last_number = 2 ^ 64 - 1
 
 -- a segment that p alone made
-abbrev pub made : Participant → ℕ → ℕ → Segment
-made p n m = record { number = n; capacity = m; participants = alone p; marked = false }
+abbrev pub new_segment : Participant → ℕ → ℕ → Segment
+new_segment p n m = record { number = n; capacity = m; participants = alone p; marked = false }
 
 -- the segment with one more participant, with one less, and as the last one leaves it
 abbrev pub with_one : Participant → Segment → Segment
@@ -71,32 +65,32 @@ row_for n d = row.Published n (form.description d)
 abbrev pub leave_of : Participant → ℕ → Option Row → Option Segment → ℕ → Option Spot
 leave_of p n r None c = None
 leave_of p n r (Some s) c =
-    if has_others s then now at.Idle r (Some (without_one p s)) c else now (at.Leaving n) r (Some (deserted s)) c
+    if has_others s then to_spot at.Idle r (Some (without_one p s)) c else to_spot (at.Leaving n) r (Some (deserted s)) c
 
 -- What a step of p at h changes, of its phase, the row, the segment and the counter there; none where it is forbidden.
-abbrev pub step : Participant → ServiceHash → Act → Phase → Option Row → Option Segment → ℕ → Option Spot
-step p h Read at.Idle (Some (row.Published n b)) s c = now (at.Read n) (Some (row.Published n b)) s c
-step p h Read (at.Read m) (Some (row.Published n b)) s c = now (at.Read n) (Some (row.Published n b)) s c
-step p h Lock at.Idle None s c =
-    if nat_lt c last_number then now (at.Locked c) (Some (row.Locked c)) s (c + 1) else None
-step p h Lock (at.Read m) None s c =
-    if nat_lt c last_number then now (at.Locked c) (Some (row.Locked c)) s (c + 1) else None
-step p h RemoveSegment (at.Locked n) r s c = now (at.Locked n) r None c
-step p h (Make m) (at.Locked n) r None c = if nat_lt 0 m then now (at.Made n) r (Some (made p n m)) c else None
-step p h RemoveSegment (at.Made n) r s c = now (at.Locked n) r None c
-step p h RemoveDescription (at.Locked n) r s c = now at.Idle None s c
-step p h RemoveDescription (at.Made n) r s c = now at.Idle None s c
-step p h (Publish d) (at.Made n) r (Some s) c =
-    if fits h s d then now (at.Joined n 1) (Some (row_for n d)) (Some s) c else None
-step p h Join (at.Read n) r (Some s) c =
-    if has_room n s then now (at.Joined n 1) r (Some (with_one p s)) c else None
-step p h Join (at.Joined n k) r s c = if nat_lt k last_number then now (at.Joined n (k + 1)) r s c else None
-step p h Leave (at.Joined n k) r s c =
-    if nat_lt 1 k then now (at.Joined n (k - 1)) r s c else if k == 1 then leave_of p n r s c else None
-step p h RemoveSegment (at.Leaving n) r s c = now (at.Cleared n) r None c
-step p h RemoveDescription (at.Leaving n) r s c = now at.Idle None s c
-step p h RemoveDescription (at.Cleared n) r s c = now at.Idle None s c
-step p h _ _ _ _ _ = None
+abbrev pub spot_after : Participant → ServiceHash → Act → Phase → Option Row → Option Segment → ℕ → Option Spot
+spot_after p h Read at.Idle (Some (row.Published n b)) s c = to_spot (at.Read n) (Some (row.Published n b)) s c
+spot_after p h Read (at.Read m) (Some (row.Published n b)) s c = to_spot (at.Read n) (Some (row.Published n b)) s c
+spot_after p h Lock at.Idle None s c =
+    if nat_lt c last_number then to_spot (at.Locked c) (Some (row.Locked c)) s (c + 1) else None
+spot_after p h Lock (at.Read m) None s c =
+    if nat_lt c last_number then to_spot (at.Locked c) (Some (row.Locked c)) s (c + 1) else None
+spot_after p h RemoveSegment (at.Locked n) r s c = to_spot (at.Locked n) r None c
+spot_after p h (Make m) (at.Locked n) r None c = if nat_lt 0 m then to_spot (at.Made n) r (Some (new_segment p n m)) c else None
+spot_after p h RemoveSegment (at.Made n) r s c = to_spot (at.Locked n) r None c
+spot_after p h RemoveDescription (at.Locked n) r s c = to_spot at.Idle None s c
+spot_after p h RemoveDescription (at.Made n) r s c = to_spot at.Idle None s c
+spot_after p h (Publish d) (at.Made n) r (Some s) c =
+    if fits h s d then to_spot (at.Joined n 1) (Some (row_for n d)) (Some s) c else None
+spot_after p h Join (at.Read n) r (Some s) c =
+    if has_room n s then to_spot (at.Joined n 1) r (Some (with_one p s)) c else None
+spot_after p h Join (at.Joined n k) r s c = if nat_lt k last_number then to_spot (at.Joined n (k + 1)) r s c else None
+spot_after p h Leave (at.Joined n k) r s c =
+    if nat_lt 1 k then to_spot (at.Joined n (k - 1)) r s c else if k == 1 then leave_of p n r s c else None
+spot_after p h RemoveSegment (at.Leaving n) r s c = to_spot (at.Cleared n) r None c
+spot_after p h RemoveDescription (at.Leaving n) r s c = to_spot at.Idle None s c
+spot_after p h RemoveDescription (at.Cleared n) r s c = to_spot at.Idle None s c
+spot_after p h _ _ _ _ _ = None
 
 -- the world with this at the spot
 abbrev pub put : World → Participant → ServiceHash → Spot → World
@@ -108,5 +102,5 @@ put w p h s = record w {
 }
 
 -- the world after a step; none where it is forbidden
-abbrev pub after : World → Participant → ServiceHash → Act → Option World
-after w p h act = option_map (put w p h) (step p h act (phase_of w p h) (row_of w h) (segment_of w h) w.counter)
+abbrev pub world_after : World → Participant → ServiceHash → Act → Option World
+world_after w p h act = option_map (put w p h) (spot_after p h act (phase_of w p h) (row_of w h) (segment_of w h) w.counter)

@@ -7,38 +7,38 @@ ghost use Rattle.iceoryx2_data.specs.Form.{IsForm};
 ghost use Rattle.iceoryx2_world.specs.declared.world.Participant.{Participant};
 ghost use Rattle.iceoryx2_world.specs.declared.world.Participant.TheVariants.{Node, Peer};
 ghost use Rattle.iceoryx2_world.specs.declared.world.Ticket.{Ticket};
-ghost use Rattle.iceoryx2_world.specs.World.{World, phase_of};
+ghost use Rattle.iceoryx2_world.specs.World.{World, phase_of, locked_number, empty_world, ticket_of, count_of};
 ghost use Rattle.iceoryx2_world.specs.Acts.{Act, IsAct};
-ghost use Rattle.iceoryx2_world.specs.Steps.{after};
+ghost use Rattle.iceoryx2_world.specs.Steps.{world_after};
 ghost use Rattle.iceoryx2_access.specs.declared.storage.RemoveError.{RemoveError};
 ghost use Rattle.iceoryx2_access.specs.declared.storage.Release.{Release as Released};
 ghost use Rattle.iceoryx2_access.specs.declared.storage.ReleaseError.{ReleaseError};
 ghost use Rattle.iceoryx2_world.specs.Access.{IsOwnPart};
 ghost use Rattle.iceoryx2_access.specs.Letter.{Letter, Lock, Publish, Fetch, OpenSegment, RemoveDescription, Release};
-ghost use Rattle.iceoryx2_access.specs.Run.{Run};
-ghost use Rattle.iceoryx2_world.specs.Agreement.{AgreesEverywhere, Later, Spent, locked_number};
-ghost use Rattle.iceoryx2_world.specs.Across.{Numbered, Agrees, empty_world, ticket_of};
+ghost use Rattle.iceoryx2_access.specs.Run.{Run, Each};
+ghost use Rattle.iceoryx2_world.specs.Agreement.{AgreesEverywhere, Later, IsSpent};
+ghost use Rattle.iceoryx2_world.specs.Across.{AgreesOnNumbers, Agrees};
 ghost use Rattle.iceoryx2_world.specs.Peers.{IsAccess};
 ghost use Rattle.iceoryx2_world.specs.Faulty.{IsFaulty};
-ghost use Rattle.iceoryx2_world.specs.Calm.{SameServices, IsCalmLetter, count_of};
+ghost use Rattle.iceoryx2_world.specs.Calm.{SameServices, IsCalmLetter};
 ghost use Rattle.iceoryx2_access.specs.Factory.{Factory};
-ghost use Rattle.iceoryx2_world.specs.Standing.{ticket_for, Stands, Spares, Each};
+ghost use Rattle.iceoryx2_world.specs.Standing.{ticket_for, Stands, Spares};
 
 /// A world agrees: at each service its row, its segment and the phases fit one another, and each
 /// node has as many tickets as its phases count. Whatever accesses and steps of peers make of such
 /// a world agrees again and is later, and what stands for an open factory stays.
-pub fn agreement()
+pub fn agreement_of_worlds()
     // A world in which nothing is there agrees, wherever its counter begins.
     ensures empty { (c : ℕ) → Agrees (empty_world c) }
 
     // A step of anyone keeps everything but the tickets of nodes, and gives a later world.
     ensures step { (w v : World) (p : Participant) (h : ServiceHash) (act : Act)
-        → IsAct act → after w p h act ≡ Some v
-        → AgreesEverywhere w → Numbered w → AgreesEverywhere v × Numbered v × Later w v }
+        → IsAct act → world_after w p h act ≡ Some v
+        → AgreesEverywhere w → AgreesOnNumbers w → AgreesEverywhere v × AgreesOnNumbers v × Later w v }
 
     // A peer's step keeps these tickets too.
     ensures peer { (w v : World) (id : ℕ) (h : ServiceHash) (act : Act)
-        → IsAct act → after w (Peer id) h act ≡ Some v → Agrees w → Agrees v × Later w v }
+        → IsAct act → world_after w (Peer id) h act ≡ Some v → Agrees w → Agrees v × Later w v }
 
     // An access of a node, after any steps of peers, keeps the agreement and gives a later world.
     ensures access { (w v : World) (l : Letter) → IsAccess w l v → Agrees w → Agrees v × Later w v }
@@ -55,7 +55,7 @@ pub fn agreement()
 
     // A number that is spent at a service never comes back there.
     ensures spent { (w v : World) (l : Letter) (h : ServiceHash) (n : ℕ)
-        → IsFaulty w l v → Agrees w → Spent w h n → Spent v h n }
+        → IsFaulty w l v → Agrees w → IsSpent w h n → IsSpent v h n }
 
     // Each ticket is one of a factory that stands.
     ensures ticket { (w : World) (t : ℕ) (x : Ticket)
@@ -64,7 +64,7 @@ pub fn agreement()
 
     // A step of anyone but its node leaves a standing factory standing.
     ensures other { (w v : World) (p : Participant) (h : ServiceHash) (act : Act) (f : Factory)
-        → Node f.node ≢ p → IsAct act → after w p h act ≡ Some v
+        → Node f.node ≢ p → IsAct act → world_after w p h act ≡ Some v
         → Agrees w → Stands w f → Stands v f }
 
     // So does every access of any node, but a release of its ticket that is granted.

@@ -5,17 +5,16 @@ use Rattle.iceoryx2_data.specs.Description.{Description}
 use Rattle.iceoryx2_world.specs.declared.world.Participant.TheVariants.{Node}
 use Rattle.iceoryx2_access.specs.declared.storage.Tag.{Tag}
 use Rattle.iceoryx2_access.specs.declared.storage.Tag.TheVariants.{Made, Found}
-use Rattle.iceoryx2_world.specs.World.{World, phase_of}
+use Rattle.iceoryx2_world.specs.World.{World, phase_of, locked_number}
 use Rattle.iceoryx2_access.specs.Letter.{Letter}
 use Rattle.iceoryx2_access.specs.Letter as letter
-use Rattle.iceoryx2_world.specs.Agreement.{locked_number}
 use Rattle.iceoryx2_world.specs.Across.{Agrees}
 use Rattle.iceoryx2_world.specs.Faulty.{IsFaulty}
 use Rattle.iceoryx2_world.specs.Calm.{IsCalmLetter}
 use Rattle.iceoryx2_world.proofs.agreement.Parts.{locking}
 use Rattle.iceoryx2_world.proofs.agreement.Accesses.{peers_keep, faulty_keeps, granted}
 use Rattle.iceoryx2_world.proofs.agreement.Granted.{peers_phase}
-use Rattle.iceoryx2_world.proofs.agreement.Calm.{own_calmed, own_unlocks, publishing_counts, joining_counts, Tame, ends, goes, locks, unlocks, HasLock, locked_now, tame_both}
+use Rattle.iceoryx2_world.proofs.agreement.Calm.{own_calmed, own_unlocks, publishing_counts, joining_counts, Tame, ends, goes, locks, unlocks, WhileLocked, locked_now, tame_both}
 use Rattle.iceoryx2_rounds.specs.declared.look.Outcome.{Outcome}
 use Rattle.iceoryx2_rounds.specs.declared.pattern.CreateRefusal.{CreateRefusal}
 use Rattle.iceoryx2_rounds.specs.Meaning.{Meaning}
@@ -30,13 +29,13 @@ use Rattle.iceoryx2_rounds.specs.Opens.{IsReady, ready, IsFailedRound, failed, I
 use Rattle.iceoryx2_calls.specs.Calls.{AtEach, ActsCalmly, ChangesLast}
 
 -- the lock stays with its node
-lock_stays : (node : ℕ) (hash : ServiceHash) (b : Bool) (w : World) (l : Letter) (v : World) → IsCalmLetter l → IsFaulty w l v → HasLock node hash b w → HasLock node hash b v
+lock_stays : (node : ℕ) (hash : ServiceHash) (b : Bool) (w : World) (l : Letter) (v : World) → IsCalmLetter l → IsFaulty w l v → WhileLocked node hash b w → WhileLocked node hash b v
 lock_stays node hash false w l v ok s has = tt
 lock_stays node hash true w l v ok (inl a) has = (has.0, (own_calmed a.between l v ok a.own).locks (Node node) hash has.0 (ap locked_number (peers_phase a.peers node hash) ∙ has.1))
 lock_stays node hash true w l v ok (inr f) has = (has.0, ap (λ u. locked_number (phase_of u (Node node) hash)) f.1 ∙ has.1)
 
 -- Each access of such a word is calm.
-pub calm_at_each : {node : ℕ} {hash : ServiceHash} {b c : Bool} {word : List Letter} (w : World) → Tame node hash b word c → HasLock node hash b w → Agrees w → AtEach IsFaulty ActsCalmly w word
+pub calm_at_each : {node : ℕ} {hash : ServiceHash} {b c : Bool} {word : List Letter} (w : World) → Tame node hash b word c → WhileLocked node hash b w → Agrees w → AtEach IsFaulty ActsCalmly w word
 calm_at_each w ends has old = tt
 calm_at_each {node} {hash} {b = b} w (goes {l = l} ok more) has old = λ v s. (
   λ a. (own_calmed a.between l v ok a.own).same,

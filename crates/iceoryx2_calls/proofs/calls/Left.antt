@@ -9,7 +9,7 @@ use Rattle.iceoryx2_access.specs.declared.storage.RemoveError.{RemoveError}
 use Rattle.iceoryx2_access.specs.declared.storage.Tag.TheVariants.{Made, Found}
 use Rattle.iceoryx2_access.specs.Letter.{Letter}
 use Rattle.iceoryx2_access.specs.Letter as letter
-use Rattle.iceoryx2_access.specs.Run.{Run, done, next}
+use Rattle.iceoryx2_access.specs.Run.{Run, done, next, Each}
 use Rattle.iceoryx2_world.specs.Sets as set
 use Rattle.iceoryx2_world.specs.declared.world.Participant.{Participant}
 use Rattle.iceoryx2_world.specs.declared.world.Participant.TheVariants.{Node, Peer}
@@ -18,21 +18,20 @@ use Rattle.iceoryx2_world.specs.declared.world.Phase.TheVariants as at
 use Rattle.iceoryx2_world.specs.declared.world.Row.{Row}
 use Rattle.iceoryx2_world.specs.declared.world.Row.TheVariants as row
 use Rattle.iceoryx2_world.specs.Orders.{hash_total, hash_exact, tag_cmp, tag_total, tag_exact}
-use Rattle.iceoryx2_world.specs.World.{World, Segment, row_of, segment_of, phase_of}
+use Rattle.iceoryx2_world.specs.World.{World, Segment, row_of, segment_of, phase_of, begins, locked_number, tag_of}
 use Rattle.iceoryx2_world.specs.Acts.{Act}
 use Rattle.iceoryx2_world.specs.Acts as act
-use Rattle.iceoryx2_world.specs.Steps.{Spot, after, begins}
-use Rattle.iceoryx2_world.specs.Agreement.{Spent, locked_number}
+use Rattle.iceoryx2_world.specs.Steps.{Spot, world_after}
+use Rattle.iceoryx2_world.specs.Agreement.{IsSpent}
 use Rattle.iceoryx2_world.specs.Across.{Agrees}
-use Rattle.iceoryx2_world.specs.Access.{Change, seat, write, tag_of, tried, MakesTag, IsOwnPart}
+use Rattle.iceoryx2_world.specs.Access.{Change, seat, write, own_step, MakesTag, IsOwnPart}
 use Rattle.iceoryx2_world.specs.Peers.{Peers, none, peer, IsAccess}
 use Rattle.iceoryx2_world.specs.Faulty.{IsFaulty}
-use Rattle.iceoryx2_world.specs.Standing.{Each}
 use Rattle.iceoryx2_world.proofs.agreement.Rows.{IsRow, locks as row_locks, clears as row_clears, unmakes, unlocks as row_unlocks, clears_last, ends as row_ends, makes as row_makes, row_of_step}
 use Rattle.iceoryx2_world.proofs.agreement.Maps.{set_cases, set_has, either, self}
 use Rattle.iceoryx2_world.proofs.agreement.Effects.{Stepped, stepped as stepped_world}
 use Rattle.iceoryx2_world.proofs.agreement.Worlds.{place_cases, peer_places, peer_keeps, not_peer, step_counter, step_tickets}
-use Rattle.iceoryx2_world.proofs.agreement.Parts.{gives, simply, passed, locking, moved_world, stepped_ok, made_ok}
+use Rattle.iceoryx2_world.proofs.agreement.Parts.{answer_cases, sure_answer_cases, passed, locking, moved_world, step_ok, made_ok}
 use Rattle.iceoryx2_world.proofs.agreement.Accesses.{peers_keep, own_keeps, access_keeps, faulty_keeps, granted, with_refusals}
 use Rattle.iceoryx2_world.proofs.agreement.Granted.{peers_phase, tag_granted, segment_granted, description_granted, MayClear, MayEnd}
 use Rattle.iceoryx2_world.proofs.agreement.Spent.{world_segment, spent_own, spent_peers}
@@ -101,7 +100,7 @@ module _ (node : ℕ) (hash : ServiceHash) where
 
   -- The lock of n is gone for good, and its segment unless that was left.
   abbrev IsGone : ℕ → Bool → World → Type 0
-  IsGone n false w = Spent w hash n
+  IsGone n false w = IsSpent w hash n
   IsGone n true w = (n < w.counter) × LacksRow w hash n
 
   abbrev HoldsLock : KeptLock → World → Type 0
@@ -200,21 +199,21 @@ tag_put w v i h true c e o is = absurd (cc (o.0))
 tag_put w v i h false c e (inl o) is = (sym e, is ∙ ap (write w i h) o.1)
 tag_put w v i h false c e (inr o) is = absurd (cc (o.0))
 
-making : (w v : World) (i : ℕ) (h : ServiceHash) (n m : ℕ) (a : Unit {0}) → IsOwnPart w (letter.MakeSegment i h n m (Ok a)) v → after w (Node i) h (act.Make m) ≡ Some v
-making w v i h n m a p = elim (gives _ _ (Ok a) p.change p.own) [
+making : (w v : World) (i : ℕ) (h : ServiceHash) (n m : ℕ) (a : Unit {0}) → IsOwnPart w (letter.MakeSegment i h n m (Ok a)) v → world_after w (Node i) h (act.Make m) ≡ Some v
+making w v i h n m a p = elim (answer_cases _ _ (Ok a) p.change p.own) [
   | inl k ↦ let s = made_ok i h m (seat w i h).spot (segment_of w h) k.given (passed _ _ _ k.given k.from).1 in moved_world w v i h (act.Make m) p.change s.spot s.from (k.change ∙ (λ j. (s.is j).1)) p.is
   | inr k ↦ absurd (cc (k.answer))
 ]
 
-clearing : (w v : World) (i : ℕ) (h : ServiceHash) (a : Unit {0}) → IsOwnPart w (letter.RemoveSegment i h (Ok a)) v → after w (Node i) h act.RemoveSegment ≡ Some v
-clearing w v i h a p = elim (simply _ (Ok a) p.change p.own) [
-  | inl k ↦ let s = stepped_ok _ _ (tried i h act.RemoveSegment (seat w i h).spot) k.given k.from in moved_world w v i h act.RemoveSegment p.change s.spot s.from (k.change ∙ (λ j. (s.is j).1)) p.is
+clearing : (w v : World) (i : ℕ) (h : ServiceHash) (a : Unit {0}) → IsOwnPart w (letter.RemoveSegment i h (Ok a)) v → world_after w (Node i) h act.RemoveSegment ≡ Some v
+clearing w v i h a p = elim (sure_answer_cases _ (Ok a) p.change p.own) [
+  | inl k ↦ let s = step_ok _ _ (own_step i h act.RemoveSegment (seat w i h).spot) k.given k.from in moved_world w v i h act.RemoveSegment p.change s.spot s.from (k.change ∙ (λ j. (s.is j).1)) p.is
   | inr k ↦ absurd (cc (k.answer))
 ]
 
-unlocking : (w v : World) (i : ℕ) (h : ServiceHash) (a : Unit {0}) → IsOwnPart w (letter.RemoveDescription i h (Ok a)) v → after w (Node i) h act.RemoveDescription ≡ Some v
-unlocking w v i h a p = elim (simply _ (Ok a) p.change p.own) [
-  | inl k ↦ let s = stepped_ok _ _ (tried i h act.RemoveDescription (seat w i h).spot) k.given k.from in moved_world w v i h act.RemoveDescription p.change s.spot s.from (k.change ∙ (λ j. (s.is j).1)) p.is
+unlocking : (w v : World) (i : ℕ) (h : ServiceHash) (a : Unit {0}) → IsOwnPart w (letter.RemoveDescription i h (Ok a)) v → world_after w (Node i) h act.RemoveDescription ≡ Some v
+unlocking w v i h a p = elim (sure_answer_cases _ (Ok a) p.change p.own) [
+  | inl k ↦ let s = step_ok _ _ (own_step i h act.RemoveDescription (seat w i h).spot) k.given k.from in moved_world w v i h act.RemoveDescription p.change s.spot s.from (k.change ∙ (λ j. (s.is j).1)) p.is
   | inr k ↦ absurd (cc (k.answer))
 ]
 
@@ -282,7 +281,7 @@ module _ (node : ℕ) (hash : ServiceHash) where
   tag_of_kept true old now h lacks = let has = ap (λ s. set.contains s (node, hash)) h.0 ∙ has_own old in absurd (cc)
 
   -- a step of the node under its lock
-  kept_step : {start : World} (t : KeptTag) (j k : KeptLock) (w v : World) (a : Act) → after w (Node node) hash a ≡ Some v
+  kept_step : {start : World} (t : KeptTag) (j k : KeptLock) (w v : World) (a : Act) → world_after w (Node node) hash a ≡ Some v
       → IsAt node hash k (phase_of start (Node node) hash) (phase_of v (Node node) hash) → HoldsLock node hash k v → Kept node hash start t j w → Kept node hash start t k v
   kept_step {start} t j k w v a e phase holds h = record {
     tickets = step_tickets w v (Node node) hash a (stepped_world w v (Node node) hash a e) ∙ h.tickets;
@@ -586,7 +585,7 @@ spends_nothing h v keeps.gets_no_segment = tt
 spends_nothing h v keeps.publishes_nothing = tt
 spends_nothing h v keeps.opens_nothing = tt
 
-spends : {node : ℕ} {hash : ServiceHash} {s t : KeptTag} {j k : KeptLock} {word : List Letter} (v : World) → Keeps node hash s j word t k → ((n : ℕ) → number_of k ≡ Some n → Spent v hash n) → Each (SpendsNumber hash v) word
+spends : {node : ℕ} {hash : ServiceHash} {s t : KeptTag} {j k : KeptLock} {word : List Letter} (v : World) → Keeps node hash s j word t k → ((n : ℕ) → number_of k ≡ Some n → IsSpent v hash n) → Each (SpendsNumber hash v) word
 spends v keeps.ends f = tt
 spends v (keeps.makes_tag p) f = (tt, spends v p f)
 spends v (keeps.locks {number = n} p) f = (f n (same_number n p refl), spends v p f)
@@ -607,11 +606,11 @@ module _ (node : ℕ) (hash : ServiceHash) where
   -- what is known of the lock
   record Over (k : KeptLock) (w v : World) : Type 0 where
     pub phase : NodeHasRead node hash w v
-    pub spent : (n : ℕ) → number_of k ≡ Some n → Spent v hash n
+    pub spent : (n : ℕ) → number_of k ≡ Some n → IsSpent v hash n
 
   over : (k : KeptLock) (w v : World) → IsUnlocked k → LeftNoLock k → IsAt node hash k (phase_of w (Node node) hash) (phase_of v (Node node) hash) → HoldsLock node hash k v → Over k w v
   over NoLock w v free clean phase holds = record { phase = phase; spent = λ n e. absurd (cc) }
-  over (GivenBack m false false) w v free clean phase holds = record { phase = inr phase; spent = λ n e. let same : m ≡ n = cc in subst (Spent v hash) same holds }
+  over (GivenBack m false false) w v free clean phase holds = record { phase = inr phase; spent = λ n e. let same : m ≡ n = cc in subst (IsSpent v hash) same holds }
   over (GivenBack m false true) w v free clean phase holds = let no = clean.1 in absurd (cc)
   over (GivenBack m true l) w v free clean phase holds = let no = clean.0 in absurd (cc)
   over (Locked n l) w v free clean phase holds = absurd free

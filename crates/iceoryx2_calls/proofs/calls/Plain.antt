@@ -7,19 +7,19 @@ use Rattle.iceoryx2_world.specs.declared.world.Phase.{Phase}
 use Rattle.iceoryx2_access.specs.declared.storage.Tag.TheVariants.{Made, Found}
 use Rattle.iceoryx2_world.specs.declared.world.Row.{Row}
 use Rattle.iceoryx2_world.specs.Orders.{hash_total, hash_exact}
-use Rattle.iceoryx2_world.specs.World.{World, Segment, row_of, segment_of, phase_of}
+use Rattle.iceoryx2_world.specs.World.{World, Segment, row_of, segment_of, phase_of, begins, row_number}
 use Rattle.iceoryx2_world.specs.Acts.{Act}
 use Rattle.iceoryx2_world.specs.Acts as act
-use Rattle.iceoryx2_world.specs.Steps.{Spot, after, begins}
-use Rattle.iceoryx2_world.specs.Agreement.{Later, row_number}
+use Rattle.iceoryx2_world.specs.Steps.{Spot, world_after}
+use Rattle.iceoryx2_world.specs.Agreement.{Later}
 use Rattle.iceoryx2_access.specs.Letter.{Letter}
 use Rattle.iceoryx2_access.specs.Letter as letter
-use Rattle.iceoryx2_world.specs.Access.{Change, seat, write, tried, read, MakesTag, IsOwnPart}
+use Rattle.iceoryx2_world.specs.Access.{Change, seat, write, own_step, read_change, MakesTag, IsOwnPart}
 use Rattle.iceoryx2_world.proofs.agreement.Rows.{IsRow, reads, row_of_step}
 use Rattle.iceoryx2_world.proofs.agreement.Maps.{set_cases}
 use Rattle.iceoryx2_world.proofs.agreement.Effects.{Stepped, stepped as stepped_world}
 use Rattle.iceoryx2_world.proofs.agreement.Worlds.{place_cases, step_tickets}
-use Rattle.iceoryx2_world.proofs.agreement.Parts.{gives, simply, moved_world, unchanged, fetched_ok}
+use Rattle.iceoryx2_world.proofs.agreement.Parts.{answer_cases, sure_answer_cases, moved_world, unchanged, fetched_ok}
 use Rattle.iceoryx2_calls.specs.Leaves.{HasAtMostRead, LacksRow, LacksSegment}
 
 abbrev pub IsPlain : Letter → Type 0
@@ -35,9 +35,9 @@ IsPlain (letter.Release t i h n (Ok a)) = ⊥
 IsPlain _ = Unit {0}
 
 abbrev Reads : World → World → Type 0
-Reads w v = (v ≡ w) ⊎ ((i : ℕ) × (h : ServiceHash) × (after w (Node i) h act.Read ≡ Some v))
+Reads w v = (v ≡ w) ⊎ ((i : ℕ) × (h : ServiceHash) × (world_after w (Node i) h act.Read ≡ Some v))
 
-read_reads : (w v : World) (i : ℕ) (h : ServiceHash) (c : Change) (o : Option Spot) → tried i h act.Read (seat w i h).spot ≡ o → c ≡ read o → v ≡ write w i h c → Reads w v
+read_reads : (w v : World) (i : ℕ) (h : ServiceHash) (c : Change) (o : Option Spot) → own_step i h act.Read (seat w i h).spot ≡ o → c ≡ read_change o → v ≡ write w i h c → Reads w v
 read_reads w v i h c None e m is = inl (unchanged w v i h c m is)
 read_reads w v i h c (Some s) e m is = inr (i, h, moved_world w v i h act.Read c s e m is)
 
@@ -48,8 +48,8 @@ tag_plain w v i h false r c other (inr o) is = inl (unchanged w v i h c o.1 is)
 
 plain_part : (w : World) (l : Letter) (v : World) → IsPlain l → IsOwnPart w l v → Reads w v
 plain_part w (letter.Exists h a) v ok p = inl (unchanged w v 0 h p.change p.own.1 p.is)
-plain_part w (letter.Fetch i h a) v ok p = elim (gives _ _ a p.change p.own) [
-  | inl k ↦ read_reads w v i h p.change (tried i h act.Read (seat w i h).spot) refl (k.change ∙ (fetched_ok i h (seat w i h).spot (row_of w h) k.given k.from).1) p.is
+plain_part w (letter.Fetch i h a) v ok p = elim (answer_cases _ _ a p.change p.own) [
+  | inl k ↦ read_reads w v i h p.change (own_step i h act.Read (seat w i h).spot) refl (k.change ∙ (fetched_ok i h (seat w i h).spot (row_of w h) k.given k.from).1) p.is
   | inr k ↦ inl (unchanged w v i h p.change k.change p.is)
 ]
 plain_part w (letter.Counts i h a) v ok p = inl (unchanged w v i h p.change p.own.1 p.is)
@@ -59,19 +59,19 @@ plain_part w (letter.MakeTag i h (Err e)) v ok p = tag_plain w v i h (seat w i h
 plain_part w (letter.RemoveTag i h (Ok x)) v ok p = absurd ok
 plain_part w (letter.RemoveTag i h (Err e)) v ok p = let is = p.own.0 in absurd (cc)
 plain_part w (letter.Lock i h (Ok n)) v ok p = absurd ok
-plain_part w (letter.Lock i h (Err e)) v ok p = elim (gives _ _ (Err e) p.change p.own) [ inl k ↦ absurd (cc (k.answer)) | inr k ↦ inl (unchanged w v i h p.change k.change p.is) ]
+plain_part w (letter.Lock i h (Err e)) v ok p = elim (answer_cases _ _ (Err e) p.change p.own) [ inl k ↦ absurd (cc (k.answer)) | inr k ↦ inl (unchanged w v i h p.change k.change p.is) ]
 plain_part w (letter.MakeSegment i h n m (Ok x)) v ok p = absurd ok
-plain_part w (letter.MakeSegment i h n m (Err e)) v ok p = elim (gives _ _ (Err e) p.change p.own) [ inl k ↦ absurd (cc (k.answer)) | inr k ↦ inl (unchanged w v i h p.change k.change p.is) ]
+plain_part w (letter.MakeSegment i h n m (Err e)) v ok p = elim (answer_cases _ _ (Err e) p.change p.own) [ inl k ↦ absurd (cc (k.answer)) | inr k ↦ inl (unchanged w v i h p.change k.change p.is) ]
 plain_part w (letter.RemoveSegment i h (Ok x)) v ok p = absurd ok
-plain_part w (letter.RemoveSegment i h (Err e)) v ok p = elim (simply _ (Err e) p.change p.own) [ inl k ↦ absurd (cc (k.answer)) | inr k ↦ inl (unchanged w v i h p.change k.change p.is) ]
+plain_part w (letter.RemoveSegment i h (Err e)) v ok p = elim (sure_answer_cases _ (Err e) p.change p.own) [ inl k ↦ absurd (cc (k.answer)) | inr k ↦ inl (unchanged w v i h p.change k.change p.is) ]
 plain_part w (letter.RemoveDescription i h (Ok x)) v ok p = absurd ok
-plain_part w (letter.RemoveDescription i h (Err e)) v ok p = elim (simply _ (Err e) p.change p.own) [ inl k ↦ absurd (cc (k.answer)) | inr k ↦ inl (unchanged w v i h p.change k.change p.is) ]
+plain_part w (letter.RemoveDescription i h (Err e)) v ok p = elim (sure_answer_cases _ (Err e) p.change p.own) [ inl k ↦ absurd (cc (k.answer)) | inr k ↦ inl (unchanged w v i h p.change k.change p.is) ]
 plain_part w (letter.Publish i h n d (Ok t)) v ok p = absurd ok
-plain_part w (letter.Publish i h n d (Err e)) v ok p = elim (gives _ _ (Err e) p.change p.own.1) [ inl k ↦ absurd (cc (k.answer)) | inr k ↦ inl (unchanged w v i h p.change k.change p.is) ]
+plain_part w (letter.Publish i h n d (Err e)) v ok p = elim (answer_cases _ _ (Err e) p.change p.own.1) [ inl k ↦ absurd (cc (k.answer)) | inr k ↦ inl (unchanged w v i h p.change k.change p.is) ]
 plain_part w (letter.OpenSegment i h n (Ok t)) v ok p = absurd ok
-plain_part w (letter.OpenSegment i h n (Err e)) v ok p = elim (gives _ _ (Err e) p.change p.own) [ inl k ↦ absurd (cc (k.answer)) | inr k ↦ inl (unchanged w v i h p.change k.change p.is) ]
+plain_part w (letter.OpenSegment i h n (Err e)) v ok p = elim (answer_cases _ _ (Err e) p.change p.own) [ inl k ↦ absurd (cc (k.answer)) | inr k ↦ inl (unchanged w v i h p.change k.change p.is) ]
 plain_part w (letter.Release t i h n (Ok a)) v ok p = absurd ok
-plain_part w (letter.Release t i h n (Err e)) v ok p = elim (simply _ (Err e) p.change p.own) [ inl k ↦ absurd (cc (k.answer)) | inr k ↦ inl (unchanged w v i h p.change k.change p.is) ]
+plain_part w (letter.Release t i h n (Err e)) v ok p = elim (sure_answer_cases _ (Err e) p.change p.own) [ inl k ↦ absurd (cc (k.answer)) | inr k ↦ inl (unchanged w v i h p.change k.change p.is) ]
 
 -- What such an access leaves as it is.
 pub record Untouched (w v : World) : Type 0 where
@@ -90,7 +90,7 @@ read_both (inr e) (inl f) = inr (e.0, ap begins f ∙ e.1)
 read_both (inr e) (inr f) = inr (e.0, f.1)
 
 -- a step changes no tag
-pub step_tags : (w v : World) (p : Participant) (g : ServiceHash) (a : Act) → after w p g a ≡ Some v → v.tags ≡ w.tags
+pub step_tags : (w v : World) (p : Participant) (g : ServiceHash) (a : Act) → world_after w p g a ≡ Some v → v.tags ≡ w.tags
 step_tags w v p g a e = subst (λ (z : World). z.tags ≡ w.tags) (stepped_world w v p g a e).world refl
 
 -- what a reading finds and leaves
@@ -102,7 +102,7 @@ record Read (x : Phase) (s : Option Segment) (new : Spot) : Type 0 where
 read_row : {p : Participant} {h : ServiceHash} {x : Phase} {r : Option Row} {s : Option Segment} {c : ℕ} {new : Spot} → IsRow p h act.Read x r s c new → Read x s new
 read_row (reads free) = record { before = free; now = refl; segment = refl }
 
-read_untouched : (w v : World) (i : ℕ) (g : ServiceHash) → after w (Node i) g act.Read ≡ Some v → Untouched w v
+read_untouched : (w v : World) (i : ℕ) (g : ServiceHash) → world_after w (Node i) g act.Read ≡ Some v → Untouched w v
 read_untouched w v i g e =
     let st = stepped_world w v (Node i) g act.Read e in
     let r = read_row (row_of_step (Node i) g act.Read (phase_of w (Node i) g) (row_of w g) (segment_of w g) w.counter st.spot st.is) in

@@ -9,7 +9,8 @@ use Rattle.iceoryx2_world.specs.Agreement.{Later}
 use Rattle.iceoryx2_world.specs.Across.{Agrees}
 use Rattle.iceoryx2_world.specs.Faulty.{IsFaulty}
 use Rattle.iceoryx2_access.specs.Factory.{Factory}
-use Rattle.iceoryx2_world.specs.Standing.{Stands, Spares, Each}
+use Rattle.iceoryx2_world.specs.Standing.{Stands, Spares}
+use Rattle.iceoryx2_access.specs.Run.{Each}
 use Rattle.iceoryx2_access.specs.declared.storage.MakeSegmentError.TheVariants as make
 use Rattle.iceoryx2_access.specs.declared.storage.RemoveError.{RemoveError}
 use Rattle.iceoryx2_access.specs.declared.storage.Tag.{Tag}

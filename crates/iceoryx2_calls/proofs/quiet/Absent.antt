@@ -25,12 +25,12 @@ use Rattle.iceoryx2_access.specs.declared.storage.PublishError.TheVariants as Pu
 use Rattle.iceoryx2_world.specs.Orders.{hash_cmp}
 use Rattle.iceoryx2_world.specs.declared.world.Row.{Row}
 use Rattle.iceoryx2_world.specs.declared.world.Row.TheVariants as row
-use Rattle.iceoryx2_world.specs.World.{Segment}
-use Rattle.iceoryx2_world.specs.Steps.{made, last_number, begins}
+use Rattle.iceoryx2_world.specs.World.{Segment, begins, Tickets}
+use Rattle.iceoryx2_world.specs.Steps.{new_segment, last_number}
 use Rattle.iceoryx2_access.specs.Letter.{Letter}
 use Rattle.iceoryx2_access.specs.Letter as letter
 use Rattle.iceoryx2_access.specs.Run.{Run, done}
-use Rattle.iceoryx2_world.specs.Access.{Tickets, Seat, Change, changed, stepped, Gives}
+use Rattle.iceoryx2_world.specs.Access.{Seat, Change, seat_after, or_refused, IsAnswer}
 use Rattle.iceoryx2_access.proofs.Run.{head, split, last}
 use Rattle.iceoryx2_rounds.specs.declared.look.Outcome.{Outcome}
 use Rattle.iceoryx2_rounds.specs.declared.look.Outcome.TheVariants as outcome
@@ -74,28 +74,28 @@ locked n c k = at_seat (at.Locked n) (Some (row.Locked n)) None c true k
 
 module _ (i : ℕ) (h : ServiceHash) where
   abbrev pub with_segment : ℕ → ℕ → ℕ → Tickets → Seat
-  with_segment n m c k = at_seat (at.Made n) (Some (row.Locked n)) (Some (made (Node i) n m)) c true k
+  with_segment n m c k = at_seat (at.Made n) (Some (row.Locked n)) (Some (new_segment (Node i) n m)) c true k
 
   abbrev pub joined : ℕ → ℕ → List ℕ → ℕ → Tickets → Seat
-  joined n m b c k = at_seat (at.Joined n 1) (Some (row.Published n b)) (Some (made (Node i) n m)) c true (map.insert k n (record { node = i; hash = h; number = n }))
+  joined n m b c k = at_seat (at.Joined n 1) (Some (row.Published n b)) (Some (new_segment (Node i) n m)) c true (map.insert k n (record { node = i; hash = h; number = n }))
 
   counts_bare : (x : Phase) (c : ℕ) (g : Bool) (k : Tickets) {a : Bool} {t : Seat} → begins x ≡ true → AtSeat i h (bare x c g k) (letter.Counts i h a) t → (a ≡ false) × (t ≡ bare x c g k)
-  counts_bare at.Idle c g k b r = (r.own.0, r.is ∙ ap (changed _) r.own.1)
-  counts_bare (at.Read n) c g k b r = (r.own.0, r.is ∙ ap (changed _) r.own.1)
+  counts_bare at.Idle c g k b r = (r.own.0, r.is ∙ ap (seat_after _) r.own.1)
+  counts_bare (at.Read n) c g k b r = (r.own.0, r.is ∙ ap (seat_after _) r.own.1)
   counts_bare _ c g k b r = absurd (cc)
 
   tag_bare : (x : Phase) (c : ℕ) (k : Tickets) {a : Result Tag TagError} {t : Seat} → AtSeat i h (bare x c false k) (letter.MakeTag i h a) t → ((a ≡ Ok Made) × (t ≡ bare x c true k)) ⊎ ((a ≡ Err Tagging.OutOfMemory) × (t ≡ bare x c false k))
-  tag_bare x c k r = elim (r.own) [ inl y ↦ inl (y.0, r.is ∙ ap (changed _) y.1) | inr y ↦ inr (y.0, r.is ∙ ap (changed _) y.1) ]
+  tag_bare x c k r = elim (r.own) [ inl y ↦ inl (y.0, r.is ∙ ap (seat_after _) y.1) | inr y ↦ inr (y.0, r.is ∙ ap (seat_after _) y.1) ]
 
   pub data Locks (x : Phase) (c : ℕ) (k : Tickets) : Result ℕ LockError → Seat → Type 0 where
     locks : nat_lt c last_number ≡ true → Locks x c k (Ok c) (locked c (c + 1) k)
     starved : nat_lt c last_number ≡ true → Locks x c k (Err Locking.OutOfMemory) (bare x c true k)
     at_end : nat_lt c last_number ≡ false → Locks x c k (Err Locking.Other) (bare x c true k)
 
-  lock_by : (x : Phase) (c : ℕ) (k : Tickets) (b : Bool) (a : Result ℕ LockError) (o : Change) (t : Seat) → nat_lt c last_number ≡ b → Gives Locking.OutOfMemory (stepped Locking.Other c (cond b (Some (record { phase = at.Locked c; row = Some (row.Locked c); segment = None; counter = c + 1 })) None)) a o → t ≡ changed (bare x c true k) o → Locks x c k a t
-  lock_by x c k true a o t e (inl y) is = into (Locks x c k) y.0 (is ∙ ap (changed _) y.1) (locks e)
-  lock_by x c k true a o t e (inr y) is = into (Locks x c k) y.0 (is ∙ ap (changed _) y.1) (starved e)
-  lock_by x c k false a o t e y is = into (Locks x c k) y.0 (is ∙ ap (changed _) y.1) (at_end e)
+  lock_by : (x : Phase) (c : ℕ) (k : Tickets) (b : Bool) (a : Result ℕ LockError) (o : Change) (t : Seat) → nat_lt c last_number ≡ b → IsAnswer Locking.OutOfMemory (or_refused Locking.Other c (cond b (Some (record { phase = at.Locked c; row = Some (row.Locked c); segment = None; counter = c + 1 })) None)) a o → t ≡ seat_after (bare x c true k) o → Locks x c k a t
+  lock_by x c k true a o t e (inl y) is = into (Locks x c k) y.0 (is ∙ ap (seat_after _) y.1) (locks e)
+  lock_by x c k true a o t e (inr y) is = into (Locks x c k) y.0 (is ∙ ap (seat_after _) y.1) (starved e)
+  lock_by x c k false a o t e y is = into (Locks x c k) y.0 (is ∙ ap (seat_after _) y.1) (at_end e)
 
   lock_bare : (x : Phase) (c : ℕ) (k : Tickets) (a : Result ℕ LockError) (t : Seat) → begins x ≡ true → AtSeat i h (bare x c true k) (letter.Lock i h a) t → Locks x c k a t
   lock_bare at.Idle c k a t b r = lock_by at.Idle c k _ a r.change t refl r.own r.is
@@ -103,21 +103,21 @@ module _ (i : ℕ) (h : ServiceHash) where
   lock_bare _ c k a t b r = absurd (cc)
 
   make_locked : (n m c : ℕ) (k : Tickets) (a : Result (Unit {0}) MakeSegmentError) (t : Seat) → nat_lt 0 m ≡ true → AtSeat i h (locked n c k) (letter.MakeSegment i h n m a) t → ((a ≡ Ok tt) × (t ≡ with_segment n m c k)) ⊎ ((a ≡ Err Making.OutOfMemory) × (t ≡ locked n c k))
-  make_locked n m c k a t positive r = elim (rw (same_number n, positive) at r.own) [ inl y ↦ inl (y.0, r.is ∙ ap (changed _) y.1) | inr y ↦ inr (y.0, r.is ∙ ap (changed _) y.1) ]
+  make_locked n m c k a t positive r = elim (rw (same_number n, positive) at r.own) [ inl y ↦ inl (y.0, r.is ∙ ap (seat_after _) y.1) | inr y ↦ inr (y.0, r.is ∙ ap (seat_after _) y.1) ]
 
   publish_made : (d : Description) (n c : ℕ) (k : Tickets) (a : Result ℕ PublishError) (t : Seat) → eq_by_cmp hash_cmp d.hash h ≡ true → AtSeat i h (with_segment n (max_nodes_of d.pattern) c k) (letter.Publish i h n d a) t
       → ((a ≡ Ok n) × (t ≡ joined n (max_nodes_of d.pattern) (form.description d) c k)) ⊎ ((a ≡ Err Publishing.OutOfMemory) × (t ≡ with_segment n (max_nodes_of d.pattern) c k))
-  publish_made d n c k a t own r = elim (rw (same_number n, own, same_number (max_nodes_of d.pattern)) at r.own.1) [ inl y ↦ inl (y.0, r.is ∙ ap (changed _) y.1) | inr y ↦ inr (y.0, r.is ∙ ap (changed _) y.1) ]
+  publish_made d n c k a t own r = elim (rw (same_number n, own, same_number (max_nodes_of d.pattern)) at r.own.1) [ inl y ↦ inl (y.0, r.is ∙ ap (seat_after _) y.1) | inr y ↦ inr (y.0, r.is ∙ ap (seat_after _) y.1) ]
 
   -- the removals of a give-back
   untag : (x : Phase) (c : ℕ) (k : Tickets) {a : Result (Unit {0}) RemoveError} {t : Seat} → AtSeat i h (bare x c true k) (letter.RemoveTag i h a) t → t ≡ bare x c false k
-  untag x c k r = r.is ∙ ap (changed _) r.own.1
+  untag x c k r = r.is ∙ ap (seat_after _) r.own.1
 
   unlock : (n c : ℕ) (k : Tickets) {a : Result (Unit {0}) RemoveError} {t : Seat} → AtSeat i h (locked n c k) (letter.RemoveDescription i h a) t → t ≡ bare at.Idle c true k
-  unlock n c k r = r.is ∙ ap (changed _) r.own.1
+  unlock n c k r = r.is ∙ ap (seat_after _) r.own.1
 
   unmake : (n m c : ℕ) (k : Tickets) {a : Result (Unit {0}) RemoveError} {t : Seat} → AtSeat i h (with_segment n m c k) (letter.RemoveSegment i h a) t → t ≡ locked n c k
-  unmake n m c k r = r.is ∙ ap (changed _) r.own.1
+  unmake n m c k r = r.is ∙ ap (seat_after _) r.own.1
 
   back_tag : (x : Phase) (c : ℕ) (k : Tickets) {w : List Letter} {t : Seat} → GivesBack i h (OwnTag ∷ []) w → Run (AtSeat i h) (bare x c true k) w t → t ≡ bare x c false k
   back_tag x c k (back.tag_back a back.nothing_left) r = untag x c k (last r)
@@ -175,7 +175,7 @@ module _ (i : ℕ) (h : ServiceHash) where
 
 module _ {F E C : Type 0} (m : Meaning F E C) (i : ℕ) (h : ServiceHash) where
   pub look_bare : (x : Phase) (c : ℕ) (g : Bool) (k : Tickets) {o : Outcome F} {w : List Letter} {t : Seat} → IsLookWord m i h w o → Run (AtSeat i h) (bare x c g k) w t → (o ≡ outcome.Nothing) × (t ≡ bare x c g k)
-  look_bare x c g k look.absent r = let l = last r in (refl, l.is ∙ ap (changed _) l.own.1)
+  look_bare x c g k look.absent r = let l = last r in (refl, l.is ∙ ap (seat_after _) l.own.1)
   look_bare x c g k look.broken r = let l = last r in absurd (grind (arith, l.own.0))
   look_bare x c g k (look.fetched look.yes leads) r = let l = (head r).first in absurd (grind (arith, l.own.0))
   look_bare x c g k (look.fetched look.being_set_up leads) r = let l = (head r).first in absurd (grind (arith, l.own.0))

@@ -12,8 +12,7 @@ use Rattle.iceoryx2_data.specs.Span.{Span}
 use Rattle.iceoryx2_world.specs.declared.world.Participant.{Participant}
 use Rattle.iceoryx2_world.specs.declared.world.Participant.TheVariants.{Node, Peer}
 use Rattle.iceoryx2_world.specs.Orders.{hash_cmp, hash_total, hash_exact}
-use Rattle.iceoryx2_world.specs.World.{World, segment_of, phase_of}
-use Rattle.iceoryx2_world.specs.Across.{join_count}
+use Rattle.iceoryx2_world.specs.World.{World, segment_of, phase_of, join_count}
 use Rattle.iceoryx2_world.proofs.agreement.Whole.{same_hash}
 use Rattle.iceoryx2_rounds.specs.declared.pattern.OpenRefusal.TheVariants as refusal
 use Rattle.iceoryx2_rounds.specs.Meaning.{Meaning}

@@ -9,14 +9,13 @@ use Rattle.iceoryx2_data.specs.Description.{max_nodes_of}
 use Rattle.iceoryx2_data.specs.Span.{Span}
 use Rattle.iceoryx2_world.specs.Orders.{hash_cmp, hash_total, place_cmp, tag_cmp}
 use Rattle.iceoryx2_world.specs.Sets as set
-use Rattle.iceoryx2_world.specs.World.{World, or_idle}
+use Rattle.iceoryx2_world.specs.World.{World, or_idle, begins, empty_world, ticket_of}
 use Rattle.iceoryx2_world.specs.declared.world.Participant.TheVariants.{Node}
 use Rattle.iceoryx2_access.specs.Letter.{Letter}
 use Rattle.iceoryx2_access.specs.Run.{Run, done, next}
-use Rattle.iceoryx2_world.specs.Steps.{begins}
 use Rattle.iceoryx2_world.specs.Access.{IsOwnPart}
 use Rattle.iceoryx2_world.specs.Agreement.{Later}
-use Rattle.iceoryx2_world.specs.Across.{Agrees, empty_world, ticket_of}
+use Rattle.iceoryx2_world.specs.Across.{Agrees}
 use Rattle.iceoryx2_world.specs.Standing.{ticket_for}
 use Rattle.iceoryx2_world.proofs.agreement.Whole.{own_hash}
 use Rattle.iceoryx2_world.proofs.agreement.Accesses.{own_keeps, later_refl, later_trans}

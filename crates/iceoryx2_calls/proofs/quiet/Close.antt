@@ -14,11 +14,10 @@ use Rattle.iceoryx2_world.specs.declared.world.Phase.{Phase}
 use Rattle.iceoryx2_world.specs.declared.world.Phase.TheVariants as at
 use Rattle.iceoryx2_world.specs.declared.world.Row.TheVariants as row
 use Rattle.iceoryx2_world.specs.Orders.{hash_total, participant_cmp, participant_total}
-use Rattle.iceoryx2_world.specs.World.{World, Segment, row_of, segment_of, phase_of}
+use Rattle.iceoryx2_world.specs.World.{World, Segment, row_of, segment_of, phase_of, Tickets, tag_of, ticket_of}
 use Rattle.iceoryx2_access.specs.Letter.{Letter}
 use Rattle.iceoryx2_access.specs.Run.{Run}
-use Rattle.iceoryx2_world.specs.Access.{Tickets, Seat, seat, tag_of, is_ticket}
-use Rattle.iceoryx2_world.specs.Across.{ticket_of}
+use Rattle.iceoryx2_world.specs.Access.{Seat, seat, is_ticket}
 use Rattle.iceoryx2_world.specs.Standing.{ticket_for}
 use Rattle.iceoryx2_world.proofs.agreement.Moved.{same_self}
 use Rattle.iceoryx2_world.proofs.agreement.Whole.{own_hash, get-set_to}

@@ -12,11 +12,11 @@ use Rattle.iceoryx2_world.specs.declared.world.Participant.{Participant}
 use Rattle.iceoryx2_world.specs.declared.world.Participant.TheVariants.{Node, Peer}
 use Rattle.iceoryx2_world.specs.declared.world.Phase.{Phase}
 use Rattle.iceoryx2_world.specs.Orders.{hash_total}
-use Rattle.iceoryx2_world.specs.World.{World, row_of, segment_of, phase_of}
-use Rattle.iceoryx2_world.specs.Steps.{alone, begins, last_number}
+use Rattle.iceoryx2_world.specs.World.{World, row_of, segment_of, phase_of, begins, Tickets, tag_of}
+use Rattle.iceoryx2_world.specs.Steps.{alone, last_number}
 use Rattle.iceoryx2_access.specs.Letter.{Letter}
 use Rattle.iceoryx2_access.specs.Run.{Run}
-use Rattle.iceoryx2_world.specs.Access.{Tickets, Seat, seat, tag_of}
+use Rattle.iceoryx2_world.specs.Access.{Seat, seat}
 use Rattle.iceoryx2_world.proofs.agreement.Moved.{same_self, contains_alone, len_alone}
 use Rattle.iceoryx2_world.proofs.agreement.Whole.{own_hash}
 use Rattle.iceoryx2_rounds.specs.Meaning.{Meaning}

@@ -12,11 +12,11 @@ use Rattle.iceoryx2_access.specs.declared.storage.Release.{Release as Released}
 use Rattle.iceoryx2_access.specs.declared.storage.Release.TheVariants as leave
 use Rattle.iceoryx2_access.specs.declared.storage.ReleaseError.{ReleaseError}
 use Rattle.iceoryx2_access.specs.declared.storage.RemoveError.{RemoveError}
-use Rattle.iceoryx2_world.specs.World.{Segment}
+use Rattle.iceoryx2_world.specs.World.{Segment, Tickets}
 use Rattle.iceoryx2_access.specs.Letter.{Letter}
 use Rattle.iceoryx2_access.specs.Letter as letter
 use Rattle.iceoryx2_access.specs.Run.{Run}
-use Rattle.iceoryx2_world.specs.Access.{Tickets, Seat, Change, changed, Simply, left, is_ticket}
+use Rattle.iceoryx2_world.specs.Access.{Seat, Change, seat_after, IsSureAnswer, release_of, is_ticket}
 use Rattle.iceoryx2_access.proofs.Run.{head, last}
 use Rattle.iceoryx2_errors.specs.declared.error.CloseError.{CloseError}
 use Rattle.iceoryx2_access.specs.Factory.{Factory}
@@ -50,10 +50,10 @@ module _ (i : ℕ) (h : ServiceHash) (n t k : ℕ) (b : List ℕ) (sg : Segment)
     ends : nat_lt 1 k ≡ false → nat_lt 1 (set.len sg.participants) ≡ false → Leaves (Ok leave.Last) (last_out g)
 
   leave_by : (y o z : Bool) (a : Result Released ReleaseError) (d : Change) (s : Seat) → nat_lt 1 k ≡ y → (k == 1) ≡ o → nat_lt 1 (set.len sg.participants) ≡ z → 1 ≤ k
-      → Simply (left i h t tk (cond y (Some counted_less.spot) (cond o (cond z (Some (gone_out g).spot) (Some (last_out g).spot)) None))) a d → s ≡ changed joins_here d → Leaves a s
-  leave_by true o z a d s e u f some x is = into Leaves x.0 (is ∙ ap (changed joins_here) x.1) (still e)
-  leave_by false true true a d s e u f some x is = into Leaves x.0 (is ∙ ap (changed joins_here) x.1) (leaves e f)
-  leave_by false true false a d s e u f some x is = into Leaves x.0 (is ∙ ap (changed joins_here) x.1) (ends e f)
+      → IsSureAnswer (release_of i h t tk (cond y (Some counted_less.spot) (cond o (cond z (Some (gone_out g).spot) (Some (last_out g).spot)) None))) a d → s ≡ seat_after joins_here d → Leaves a s
+  leave_by true o z a d s e u f some x is = into Leaves x.0 (is ∙ ap (seat_after joins_here) x.1) (still e)
+  leave_by false true true a d s e u f some x is = into Leaves x.0 (is ∙ ap (seat_after joins_here) x.1) (leaves e f)
+  leave_by false true false a d s e u f some x is = into Leaves x.0 (is ∙ ap (seat_after joins_here) x.1) (ends e f)
   leave_by false false z a d s e u f some x is = absurd (grind (arith, nat_tests, e, u, some))
 
   release_at : (a : Result Released ReleaseError) (s : Seat) → 1 ≤ k → is_ticket i h n (map.get tk t) ≡ true → AtSeat i h joins_here (letter.Release t i h n a) s → Leaves a s
@@ -76,16 +76,16 @@ module _ (i : ℕ) (h : ServiceHash) (n t k : ℕ) (b : List ℕ) (sg : Segment)
 
   -- the removals after it
   untag_gone : {a : Result (Unit {0}) RemoveError} {u : Seat} → AtSeat i h (gone_out g) (letter.RemoveTag i h a) u → (a ≡ Ok tt) × (u ≡ gone_out false)
-  untag_gone r = (r.own.0, r.is ∙ ap (changed (gone_out g)) r.own.1)
+  untag_gone r = (r.own.0, r.is ∙ ap (seat_after (gone_out g)) r.own.1)
 
   untag_last : {a : Result (Unit {0}) RemoveError} {u : Seat} → AtSeat i h (last_out g) (letter.RemoveTag i h a) u → (a ≡ Ok tt) × (u ≡ last_out false)
-  untag_last r = (r.own.0, r.is ∙ ap (changed (last_out g)) r.own.1)
+  untag_last r = (r.own.0, r.is ∙ ap (seat_after (last_out g)) r.own.1)
 
   clear_last : {a : Result (Unit {0}) RemoveError} {u : Seat} → AtSeat i h (last_out false) (letter.RemoveSegment i h a) u → (a ≡ Ok tt) × (u ≡ cleared_out)
-  clear_last r = (r.own.0, r.is ∙ ap (changed (last_out false)) r.own.1)
+  clear_last r = (r.own.0, r.is ∙ ap (seat_after (last_out false)) r.own.1)
 
   end_last : {a : Result (Unit {0}) RemoveError} {u : Seat} → AtSeat i h cleared_out (letter.RemoveDescription i h a) u → (a ≡ Ok tt) × (u ≡ all_gone)
-  end_last r = (r.own.0, r.is ∙ ap (changed cleared_out) r.own.1)
+  end_last r = (r.own.0, r.is ∙ ap (seat_after cleared_out) r.own.1)
 
   all_last : {tag segment description : Result (Unit {0}) RemoveError} {u : Seat} → Run (AtSeat i h) (last_out g) (letter.RemoveTag i h tag ∷ letter.RemoveSegment i h segment ∷ letter.RemoveDescription i h description ∷ []) u → (tag ≡ Ok tt) × (segment ≡ Ok tt) × (description ≡ Ok tt) × (u ≡ all_gone)
   all_last run =

@@ -11,8 +11,7 @@ use Rattle.iceoryx2_data.specs.declared.description.ServiceHash.{ServiceHash}
 use Rattle.iceoryx2_world.specs.declared.world.Participant.{Participant}
 use Rattle.iceoryx2_world.specs.declared.world.Participant.TheVariants.{Node, Peer}
 use Rattle.iceoryx2_world.specs.Orders.{hash_cmp, tag_cmp, tag_exact}
-use Rattle.iceoryx2_world.specs.World.{World, phase_of}
-use Rattle.iceoryx2_world.specs.Access.{tag_of}
+use Rattle.iceoryx2_world.specs.World.{World, phase_of, tag_of}
 use Rattle.iceoryx2_world.proofs.agreement.Moved.{same, same_is}
 use Rattle.iceoryx2_world.proofs.agreement.Whole.{own_hash, same_hash}
 use Rattle.iceoryx2_calls.specs.Quiet.{Service, Quiet, service_of, ShowsAt, ShowsService, Shows}

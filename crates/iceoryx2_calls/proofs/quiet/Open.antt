@@ -18,12 +18,12 @@ use Rattle.iceoryx2_access.specs.declared.storage.TagError.TheVariants as Taggin
 use Rattle.iceoryx2_access.specs.declared.storage.OpenSegmentError.{OpenSegmentError}
 use Rattle.iceoryx2_access.specs.declared.storage.OpenSegmentError.TheVariants as Opening
 use Rattle.iceoryx2_world.specs.Orders.{participant_cmp}
-use Rattle.iceoryx2_world.specs.World.{Segment}
+use Rattle.iceoryx2_world.specs.World.{Segment, Tickets}
 use Rattle.iceoryx2_world.specs.Steps.{last_number}
 use Rattle.iceoryx2_access.specs.Letter.{Letter}
 use Rattle.iceoryx2_access.specs.Letter as letter
 use Rattle.iceoryx2_access.specs.Run.{Run}
-use Rattle.iceoryx2_world.specs.Access.{Tickets, Seat, Change, changed, opened, Gives}
+use Rattle.iceoryx2_world.specs.Access.{Seat, Change, seat_after, opening_of, IsAnswer}
 use Rattle.iceoryx2_access.proofs.Run.{head, split, last}
 use Rattle.iceoryx2_rounds.specs.declared.look.Outcome.{Outcome}
 use Rattle.iceoryx2_rounds.specs.declared.look.Outcome.TheVariants as outcome
@@ -99,20 +99,20 @@ module _ (i : ℕ) (h : ServiceHash) (n cap : ℕ) (b : List ℕ) (nodes : set.F
 
   -- what the tests leave, by their outcomes
   read_by : (y z : Bool) (a : Result ℕ OpenSegmentError) (o : Change) (t : Seat) → nat_lt (set.len nodes) cap ≡ y → nat_lt c last_number ≡ z
-      → Gives Opening.OutOfMemory (opened i h n (stood true (at.Read n)) (cond y (cond z None (Some Opening.OutOfNumbers)) (Some Opening.Full)) (cond y (Some (record { phase = at.Joined n 1; row = Some (row.Published n b); segment = Some (seg (set.insert nodes (Node i))); counter = c })) None)) a o
-      → t ≡ changed (stood true (at.Read n)) o → Joins None a t
-  read_by true true a o t e f (inl x) is = into (Joins None) x.0 (is ∙ ap (changed _) x.1) (joins (inr e) f)
-  read_by true true a o t e f (inr x) is = into (Joins None) x.0 (is ∙ ap (changed _) x.1) wants
-  read_by true false a o t e f x is = into (Joins None) x.0 (is ∙ ap (changed _) x.1) (at_end (inr e) f)
-  read_by false z a o t e f x is = into (Joins None) x.0 (is ∙ ap (changed _) x.1) (full refl e)
+      → IsAnswer Opening.OutOfMemory (opening_of i h n (stood true (at.Read n)) (cond y (cond z None (Some Opening.OutOfNumbers)) (Some Opening.Full)) (cond y (Some (record { phase = at.Joined n 1; row = Some (row.Published n b); segment = Some (seg (set.insert nodes (Node i))); counter = c })) None)) a o
+      → t ≡ seat_after (stood true (at.Read n)) o → Joins None a t
+  read_by true true a o t e f (inl x) is = into (Joins None) x.0 (is ∙ ap (seat_after _) x.1) (joins (inr e) f)
+  read_by true true a o t e f (inr x) is = into (Joins None) x.0 (is ∙ ap (seat_after _) x.1) wants
+  read_by true false a o t e f x is = into (Joins None) x.0 (is ∙ ap (seat_after _) x.1) (at_end (inr e) f)
+  read_by false z a o t e f x is = into (Joins None) x.0 (is ∙ ap (seat_after _) x.1) (full refl e)
 
   joined_by : (j : ℕ) (y z : Bool) (a : Result ℕ OpenSegmentError) (o : Change) (t : Seat) → nat_lt c last_number ≡ z → (z ≡ true → y ≡ true)
-      → Gives Opening.OutOfMemory (opened i h n (stood true (at.Joined n j)) (cond z (cond y None (Some Opening.Failed)) (Some Opening.OutOfNumbers)) (cond y (Some (record { phase = at.Joined n (j + 1); row = Some (row.Published n b); segment = Some (seg nodes); counter = c })) None)) a o
-      → t ≡ changed (stood true (at.Joined n j)) o → Joins (Some j) a t
-  joined_by j true true a o t f low (inl x) is = into (Joins (Some j)) x.0 (is ∙ ap (changed _) x.1) (joins (inl refl) f)
-  joined_by j true true a o t f low (inr x) is = into (Joins (Some j)) x.0 (is ∙ ap (changed _) x.1) wants
+      → IsAnswer Opening.OutOfMemory (opening_of i h n (stood true (at.Joined n j)) (cond z (cond y None (Some Opening.Failed)) (Some Opening.OutOfNumbers)) (cond y (Some (record { phase = at.Joined n (j + 1); row = Some (row.Published n b); segment = Some (seg nodes); counter = c })) None)) a o
+      → t ≡ seat_after (stood true (at.Joined n j)) o → Joins (Some j) a t
+  joined_by j true true a o t f low (inl x) is = into (Joins (Some j)) x.0 (is ∙ ap (seat_after _) x.1) (joins (inl refl) f)
+  joined_by j true true a o t f low (inr x) is = into (Joins (Some j)) x.0 (is ∙ ap (seat_after _) x.1) wants
   joined_by j false true a o t f low x is = absurd (true≢false (sym (low refl)))
-  joined_by j y false a o t f low x is = into (Joins (Some j)) x.0 (is ∙ ap (changed _) x.1) (at_end (inl refl) f)
+  joined_by j y false a o t f low x is = into (Joins (Some j)) x.0 (is ∙ ap (seat_after _) x.1) (at_end (inl refl) f)
 
   -- a count stays below the numbers' end, as every ticket is below the counter
   abbrev pub IsLow : Option ℕ → Type 0
@@ -127,11 +127,11 @@ module _ (i : ℕ) (h : ServiceHash) (n cap : ℕ) (b : List ℕ) (nodes : set.F
   tag_for (Some j) = Found
 
   tag_stood : (o : Option ℕ) (y : Phase) (a : Result Tag TagError) (t : Seat) → AtSeat i h (stood (is_some o) y) (letter.MakeTag i h a) t → ((a ≡ Ok (tag_for o)) × (t ≡ stood true y)) ⊎ ((a ≡ Err Tagging.OutOfMemory) × (t ≡ stood (is_some o) y))
-  tag_stood None y a t r = elim (r.own) [ inl x ↦ inl (x.0, r.is ∙ ap (changed _) x.1) | inr x ↦ inr (x.0, r.is ∙ ap (changed _) x.1) ]
-  tag_stood (Some j) y a t r = inl (r.own.0, r.is ∙ ap (changed _) r.own.1)
+  tag_stood None y a t r = elim (r.own) [ inl x ↦ inl (x.0, r.is ∙ ap (seat_after _) x.1) | inr x ↦ inr (x.0, r.is ∙ ap (seat_after _) x.1) ]
+  tag_stood (Some j) y a t r = inl (r.own.0, r.is ∙ ap (seat_after _) r.own.1)
 
   back_stood : (o : Option ℕ) (y : Phase) (tag : Tag) {w : List Letter} {t : Seat} → tag ≡ tag_for o → GivesBack i h (own_tag tag) w → Run (AtSeat i h) (stood true y) w t → t ≡ stood (is_some o) y
-  back_stood None y Made e (back.tag_back a back.nothing_left) r = let l = last r in l.is ∙ ap (changed _) l.own.1
+  back_stood None y Made e (back.tag_back a back.nothing_left) r = let l = last r in l.is ∙ ap (seat_after _) l.own.1
   back_stood None y Found e g r = absurd (cc)
   back_stood (Some j) y Found e back.nothing_left r = ended r
   back_stood (Some j) y Made e g r = absurd (cc)

@@ -16,10 +16,8 @@ use Rattle.iceoryx2_world.specs.declared.world.Phase.{Phase}
 use Rattle.iceoryx2_world.specs.declared.world.Phase.TheVariants as at
 use Rattle.iceoryx2_world.specs.declared.world.Ticket.{Ticket}
 use Rattle.iceoryx2_world.specs.Orders.{hash_cmp, hash_total, hash_exact, participant_cmp, participant_total, participant_exact}
-use Rattle.iceoryx2_world.specs.World.{World, Segment, row_of, segment_of, phase_of}
-use Rattle.iceoryx2_world.specs.Steps.{begins}
-use Rattle.iceoryx2_world.specs.Access.{tag_of}
-use Rattle.iceoryx2_world.specs.Across.{Agrees, ticket_of, ticket_count, join_count}
+use Rattle.iceoryx2_world.specs.World.{World, Segment, row_of, segment_of, phase_of, begins, tag_of, ticket_of, ticket_count, join_count}
+use Rattle.iceoryx2_world.specs.Across.{Agrees}
 use Rattle.iceoryx2_world.proofs.agreement.Empty.{empty_agrees}
 use Rattle.iceoryx2_calls.specs.Quiet.{Counts, Service, Quiet, ShowsService, Shows, CountIs, service_of, count_of, is_counted}
 use Rattle.iceoryx2_calls.specs.QuietLaws.{HoldsTheSame, HasNothingAt, times_at, times_opened}

@@ -8,25 +8,25 @@ use Rattle.iceoryx2_world.specs.declared.world.Participant.{Participant}
 use Rattle.iceoryx2_world.specs.declared.world.Participant.TheVariants.{Node}
 use Rattle.iceoryx2_data.specs.declared.description.ServiceHash.{ServiceHash}
 use Rattle.iceoryx2_world.specs.Orders.{hash_cmp, tag_cmp, tag_total}
-use Rattle.iceoryx2_world.specs.World.{World, row_of, segment_of, phase_of}
+use Rattle.iceoryx2_world.specs.World.{World, row_of, segment_of, phase_of, Tickets, tag_of}
 use Rattle.iceoryx2_world.specs.Steps.{Spot}
-use Rattle.iceoryx2_access.specs.Letter.{Letter}
+use Rattle.iceoryx2_access.specs.Letter.{Letter, caller_of, service_of}
 use Rattle.iceoryx2_access.specs.Letter as letter
 use Rattle.iceoryx2_access.specs.Run.{Run, done, next}
-use Rattle.iceoryx2_world.specs.Access.{Tickets, Seat, Change, seat, tag_of, set_tag, write, changed, nothing, existence, Own, IsOwnPart, node_of, hash_of}
+use Rattle.iceoryx2_world.specs.Access.{Seat, Change, seat, set_tag, write, seat_after, nothing, existence, IsSeatAnswer, IsOwnPart}
 use Rattle.iceoryx2_world.proofs.agreement.Moved.{same, same_self}
 use Rattle.iceoryx2_world.proofs.agreement.Whole.{row_put, segment_put, phase_put, own_hash}
 
 -- The letter at one seat.
 pub record AtSeat (i : ℕ) (h : ServiceHash) (s : Seat) (l : Letter) (t : Seat) : Type 0 where
   pub change : Change
-  pub own : Own i h s l change
-  pub is : t ≡ changed s change
+  pub own : IsSeatAnswer i h s l change
+  pub is : t ≡ seat_after s change
 
 -- A letter of this node and this service.
 abbrev pub Here : ℕ → ServiceHash → Letter → Type 0
 Here i h (letter.Exists g a) = g ≡ h
-Here i h l = (node_of l ≡ i) × (hash_of l ≡ h)
+Here i h l = (caller_of l ≡ i) × (service_of l ≡ h)
 
 abbrev pub at_tag : ℕ → ServiceHash → ℕ → ServiceHash → Bool
 at_tag j g i h = eq_by_cmp tag_cmp (j, g) (i, h)
@@ -53,10 +53,10 @@ module _ (w : World) (i : ℕ) (h : ServiceHash) where
   tag_write : (o : Option Bool) → set.contains (set_tag w.tags (i, h) o) (i, h) ≡ unwrap_or o (tag_of w i h)
   tag_write o = contains-set_tag w.tags (i, h) (i, h) o ∙ ap (λ b. cond b (unwrap_or o (tag_of w i h)) (tag_of w i h)) (ap is_eq (tied_itself tag_total (i, h)))
 
-  pub seat_write : (c : Change) → seat (write w i h c) i h ≡ changed (seat w i h) c
+  pub seat_write : (c : Change) → seat (write w i h c) i h ≡ seat_after (seat w i h) c
   seat_write c = spots c.spot c.tag c.tickets
     where
-      spots : (x : Option Spot) (g : Option Bool) (k : Option Tickets) → seat (write w i h (record { spot = x; tag = g; tickets = k })) i h ≡ changed (seat w i h) (record { spot = x; tag = g; tickets = k })
+      spots : (x : Option Spot) (g : Option Bool) (k : Option Tickets) → seat (write w i h (record { spot = x; tag = g; tickets = k })) i h ≡ seat_after (seat w i h) (record { spot = x; tag = g; tickets = k })
       spots None g k = let tag = tag_write g in λ j. record { spot = record { phase = phase_of w (Node i) h; row = row_of w h; segment = segment_of w h; counter = w.counter }; tag = tag j; tickets = unwrap_or k w.tickets }
       spots (Some s) g k =
           let row = row_put w (Node i) h s h ∙ ap (λ b. cond b s.row (row_of w h)) (own_hash h) in
@@ -85,11 +85,11 @@ pub record Moves (i : ℕ) (h : ServiceHash) (w : World) (l : Letter) (v : World
   pub at : AtSeat i h (seat w i h) l (seat v i h)
   pub apart : Apart i h w v
 
-written : (w v : World) (i : ℕ) (h : ServiceHash) (l : Letter) (c : Change) → Own i h (seat w i h) l c → v ≡ write w i h c → Moves i h w l v
+written : (w v : World) (i : ℕ) (h : ServiceHash) (l : Letter) (c : Change) → IsSeatAnswer i h (seat w i h) l c → v ≡ write w i h c → Moves i h w l v
 written w v i h l c own is = subst (λ (u : World). Moves i h w l u) (sym is) (record { at = record { change = c; own = own; is = seat_write w i h c }; apart = apart_write w i h c })
 
-of_seat : (w v : World) (i : ℕ) (h : ServiceHash) (l : Letter) → node_of l ≡ i → hash_of l ≡ h → IsOwnPart w l v → Moves i h w l v
-of_seat w v i h l e f x = subst (λ j. Moves j h w l v) e (subst (λ g. Moves (node_of l) g w l v) f (written w v (node_of l) (hash_of l) l x.change x.own x.is))
+of_seat : (w v : World) (i : ℕ) (h : ServiceHash) (l : Letter) → caller_of l ≡ i → service_of l ≡ h → IsOwnPart w l v → Moves i h w l v
+of_seat w v i h l e f x = subst (λ j. Moves j h w l v) e (subst (λ g. Moves (caller_of l) g w l v) f (written w v (caller_of l) (service_of l) l x.change x.own x.is))
 
 pub move : (i : ℕ) (h : ServiceHash) (w : World) (l : Letter) (v : World) → Here i h l → IsOwnPart w l v → Moves i h w l v
 move i h w (letter.Exists g a) v e x =

@@ -13,12 +13,11 @@ use Rattle.iceoryx2_access.specs.declared.storage.FetchError.{FetchError}
 use Rattle.iceoryx2_access.specs.declared.storage.FetchError.TheVariants as Fetching
 use Rattle.iceoryx2_access.specs.declared.storage.Tag.{Tag}
 use Rattle.iceoryx2_world.specs.declared.world.Row.TheVariants as row
-use Rattle.iceoryx2_world.specs.World.{World, Segment, row_of, segment_of, phase_of}
-use Rattle.iceoryx2_world.specs.Steps.{begins}
+use Rattle.iceoryx2_world.specs.World.{World, Segment, row_of, segment_of, phase_of, begins, Tickets, tag_of}
 use Rattle.iceoryx2_access.specs.Letter.{Letter}
 use Rattle.iceoryx2_access.specs.Letter as letter
 use Rattle.iceoryx2_access.specs.Run.{Run}
-use Rattle.iceoryx2_world.specs.Access.{Tickets, Seat, seat, tag_of, changed}
+use Rattle.iceoryx2_world.specs.Access.{Seat, seat, seat_after}
 use Rattle.iceoryx2_access.proofs.Run.{head, split, last}
 use Rattle.iceoryx2_errors.specs.declared.error.ServiceState.TheVariants as state
 use Rattle.iceoryx2_rounds.specs.declared.look.Outcome.{Outcome}
@@ -62,9 +61,9 @@ module _ (i : ℕ) (h : ServiceHash) (n : ℕ) (b : List ℕ) (sg : Option Segme
   starves_as {x = x} {t = t} e f = subst (λ a. Fetches x a t) (sym e) (subst (λ t. Fetches x (Err Fetching.OutOfMemory) t) (sym f) starves)
 
   fetch_there : (x : Phase) (a : Result (ℕ × List ℕ) FetchError) (t : Seat) → AtSeat i h (over x) (letter.Fetch i h a) t → Fetches x a t
-  fetch_there at.Idle a t r = elim (r.own) [ inl y ↦ fetches_as y.0 (r.is ∙ ap (changed _) y.1) (reads refl) | inr y ↦ starves_as y.0 (r.is ∙ ap (changed _) y.1) ]
-  fetch_there (at.Read m) a t r = elim (r.own) [ inl y ↦ fetches_as y.0 (r.is ∙ ap (changed _) y.1) (reads refl) | inr y ↦ starves_as y.0 (r.is ∙ ap (changed _) y.1) ]
-  fetch_there x a t r = elim (r.own) [ inl y ↦ fetches_as y.0 (r.is ∙ ap (changed _) y.1) (keeps refl) | inr y ↦ starves_as y.0 (r.is ∙ ap (changed _) y.1) ]
+  fetch_there at.Idle a t r = elim (r.own) [ inl y ↦ fetches_as y.0 (r.is ∙ ap (seat_after _) y.1) (reads refl) | inr y ↦ starves_as y.0 (r.is ∙ ap (seat_after _) y.1) ]
+  fetch_there (at.Read m) a t r = elim (r.own) [ inl y ↦ fetches_as y.0 (r.is ∙ ap (seat_after _) y.1) (reads refl) | inr y ↦ starves_as y.0 (r.is ∙ ap (seat_after _) y.1) ]
+  fetch_there x a t r = elim (r.own) [ inl y ↦ fetches_as y.0 (r.is ∙ ap (seat_after _) y.1) (keeps refl) | inr y ↦ starves_as y.0 (r.is ∙ ap (seat_after _) y.1) ]
 
   -- What a look finds: the service of this description.
   module _ {F E C : Type 0} (m : Meaning F E C) (d : Description) (limits : IsDescription d) (hash : d.hash ≡ h) (form_of : b ≡ form.description d) where
@@ -113,7 +112,7 @@ module _ (i : ℕ) (h : ServiceHash) (n : ℕ) (b : List ℕ) (sg : Option Segme
     look_there x look.broken r = absurd (grind (arith, (last r).own.0))
     look_there x (look.fetched may l) r =
         let f = head r in
-        leads (fetch_there x _ _ (last (from (f.first.is ∙ ap (changed _) f.first.own.1) f.rest))) l
+        leads (fetch_there x _ _ (last (from (f.first.is ∙ ap (seat_after _) f.first.own.1) f.rest))) l
 
     pub finds_something : {x : Phase} {t : Seat} → LooksThere x outcome.Nothing t → ⊥
     finds_something l = elim l [ ]

@@ -4,9 +4,9 @@ ghost use Rattle.std.specs.Prelude.{◌≡◌, ◌≢◌, ◌&&◌, is_some, Mat
 ghost use Rattle.std.specs.FinMap as map;
 ghost use Rattle.std.specs.Option.{option_copied};
 ghost use Rattle.iceoryx2_world.specs.Orders.{place_cmp};
-ghost use Rattle.iceoryx2_world.specs.World.{or_idle, unless_idle, set_to};
+ghost use Rattle.iceoryx2_world.specs.World.{or_idle, unless_idle, set_to, begins as begins_spec};
 ghost use Rattle.iceoryx2_world.specs.Acts as act;
-ghost use Rattle.iceoryx2_world.specs.Steps.{begins as begins_spec, fits as fits_spec, has_room as has_room_spec};
+ghost use Rattle.iceoryx2_world.specs.Steps.{fits as fits_spec, has_room as has_room_spec};
 ghost use Rattle.iceoryx2_data.specs.Description.{IsDescription};
 ghost use Rattle.iceoryx2_world.specs.Access.{has_made, open_refusal, segment_refusal};
 ghost use Rattle.iceoryx2_world.specs.Listing.{ListsAll, entry_of, listed_row as listed_row_of, listed_segment};

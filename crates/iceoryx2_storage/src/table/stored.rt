@@ -1,13 +1,13 @@
 //! What a table keeps, and the own part of each access of a node.
 
 ghost use Rattle.std.specs.Prelude.{◌≡◌, ◌&&◌, IfOk, nat_lt, filter, length};
-ghost use Rattle.iceoryx2_world.specs.Across.{belongs, empty_world, ticket_count};
+ghost use Rattle.iceoryx2_world.specs.World.{belongs, empty_world, ticket_count, tag_of};
 ghost use Rattle.iceoryx2_world.specs.Listing.{Lists};
 ghost use Rattle.std.specs.FinMap as map;
 ghost use Rattle.std.specs.Ordering.{nat_cmp};
 ghost use Rattle.iceoryx2_access.specs.Letter as letter;
 ghost use Rattle.iceoryx2_access.specs.Letter.{fetched};
-ghost use Rattle.iceoryx2_world.specs.Access.{IsOwnPart, has_lock, is_ticket, tag_of};
+ghost use Rattle.iceoryx2_world.specs.Access.{IsOwnPart, has_lock, is_ticket};
 
 use super::listing::Entry;
 use super::services::Services;

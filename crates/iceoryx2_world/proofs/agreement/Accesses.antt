@@ -9,16 +9,17 @@ use Rattle.iceoryx2_world.specs.declared.world.Phase.TheVariants as at
 use Rattle.iceoryx2_world.specs.declared.world.Row.{Row}
 use Rattle.iceoryx2_world.specs.declared.world.Row.TheVariants as row
 use Rattle.iceoryx2_world.specs.Orders.{tag_cmp}
-use Rattle.iceoryx2_world.specs.World.{World, Segment, row_of, segment_of, phase_of}
+use Rattle.iceoryx2_world.specs.World.{World, Segment, row_of, segment_of, phase_of, joined_number, locked_number, phase_number, row_number, ticket_of, join_count, belongs, ticket_count}
 use Rattle.iceoryx2_world.specs.Acts.{Act, IsAct}
 use Rattle.iceoryx2_world.specs.Acts as act
-use Rattle.iceoryx2_world.specs.Steps.{Spot, after}
-use Rattle.iceoryx2_world.specs.Agreement.{AgreesAt, AgreesEverywhere, Later, joined_number, locked_number, phase_number, row_number, IsPublished}
-use Rattle.iceoryx2_world.specs.Across.{ticket_of, join_count, belongs, ticket_count, Agrees}
+use Rattle.iceoryx2_world.specs.Steps.{Spot, world_after}
+use Rattle.iceoryx2_world.specs.Agreement.{AgreesAt, AgreesEverywhere, Later, IsPublished}
+use Rattle.iceoryx2_world.specs.Across.{Agrees}
 use Rattle.iceoryx2_access.specs.Letter.{Letter}
 use Rattle.iceoryx2_world.specs.Access.{IsOwnPart}
 use Rattle.iceoryx2_world.specs.Peers.{Peers, none, peer, IsAccess}
-use Rattle.iceoryx2_world.specs.Faulty.{IsFault, IsFaulty}
+use Rattle.iceoryx2_world.specs.Faulty.{IsFaulty}
+use Rattle.iceoryx2_access.specs.MayRefuse.{IsFault}
 use Rattle.iceoryx2_access.specs.Run.{Run, done, next}
 use Rattle.iceoryx2_world.proofs.agreement.Whole.{after_keeps}
 use Rattle.iceoryx2_world.proofs.agreement.Rows.{IsRow, joins as row_joins, joins_again, row_of_step}
@@ -126,7 +127,7 @@ opened_keeps w v id h n t p old =
     let fresh : ticket_of w w.counter ≡ None = is_none _ (λ x i. grind (arith, old.numbered.below w.counter x i)) in
     subst (λ z. Agrees z × Later w z) (sym (p.is ∙ ap (λ s. ticket_put (record u { counter = w.counter + 1 }) s (mine id h n)) p.ticket)) (gain_keeps w u id h act.Join n w.counter (w.counter + 1) tt (λ x y g. g) p.step p.number fresh (omega arith) (omega (arith, still)) free (few_more w id h n w.counter old) old)
 
-calm_keeps : (w v : World) (id : ℕ) (h : ServiceHash) (a : Act) → IsCalm a → after w (Node id) h a ≡ Some v → Agrees w → Agrees v × Later w v
+calm_keeps : (w v : World) (id : ℕ) (h : ServiceHash) (a : Act) → IsCalm a → world_after w (Node id) h a ≡ Some v → Agrees w → Agrees v × Later w v
 calm_keeps w v id h act.Read ok e old = idle_keeps w v id h act.Read tt (λ x y i. i) e old
 calm_keeps w v id h act.Lock ok e old = idle_keeps w v id h act.Lock tt (λ x y i. i) e old
 calm_keeps w v id h act.RemoveSegment ok e old = idle_keeps w v id h act.RemoveSegment tt (λ x y i. i) e old

@@ -10,12 +10,11 @@ use Rattle.iceoryx2_access.specs.declared.storage.RemoveError.{RemoveError}
 use Rattle.iceoryx2_access.specs.declared.storage.Release.{Release as Released}
 use Rattle.iceoryx2_world.specs.declared.world.Row.{Row}
 use Rattle.iceoryx2_world.specs.Orders.{hash_total, hash_exact}
-use Rattle.iceoryx2_world.specs.World.{World, Segment, row_of, segment_of, phase_of}
+use Rattle.iceoryx2_world.specs.World.{World, Segment, row_of, segment_of, phase_of, begins, locked_number, join_count}
 use Rattle.iceoryx2_world.specs.Acts.{Act}
 use Rattle.iceoryx2_world.specs.Acts as act
-use Rattle.iceoryx2_world.specs.Steps.{Spot, after, begins}
-use Rattle.iceoryx2_world.specs.Agreement.{locked_number}
-use Rattle.iceoryx2_world.specs.Across.{join_count, Agrees}
+use Rattle.iceoryx2_world.specs.Steps.{Spot, world_after}
+use Rattle.iceoryx2_world.specs.Across.{Agrees}
 use Rattle.iceoryx2_access.specs.Letter.{Letter}
 use Rattle.iceoryx2_access.specs.Letter as letter
 use Rattle.iceoryx2_world.specs.Access.{IsOwnPart}
@@ -25,7 +24,7 @@ use Rattle.iceoryx2_access.specs.Run.{Run, done, next}
 use Rattle.iceoryx2_world.specs.Calm.{published_of, SameServices, IsCalmLetter, CalmAccess, acts, refused}
 use Rattle.iceoryx2_world.proofs.agreement.Rows.{IsRow, reads, locks as row_locks, clears, makes, unmakes, unlocks as row_unlocks, publishes as row_publishes, joins as row_joins, joins_again, leaves_once, leaves, leaves_last, clears_last, ends as row_ends, row_of_step}
 use Rattle.iceoryx2_world.proofs.agreement.Maps.{set_cases}
-use Rattle.iceoryx2_world.proofs.agreement.Effects.{Change, Gains, Idles, Stepped, stepped, step_effect}
+use Rattle.iceoryx2_world.proofs.agreement.Effects.{PhaseChange, Gains, Idles, Stepped, stepped, step_effect}
 use Rattle.iceoryx2_world.proofs.agreement.Worlds.{place_cases, peer_places, step_places}
 use Rattle.iceoryx2_world.proofs.agreement.Parts.{IsCalm, Part, stays, tagged, calm, removed, publishes, joins, releases, own_part, publishing, joining, releasing, locking}
 use Rattle.iceoryx2_world.proofs.agreement.Accesses.{joined_means, peers_keep, faulty_keeps, access_keeps}
@@ -56,7 +55,7 @@ calm_row (leaves one others) ok = absurd ok
 calm_row (leaves_last one alone) ok = absurd ok
 calm_row (row_ends last) ok = absurd ok
 
-calm_idles : (a : Act) (x y : Phase) → IsCalm a → Change a x y → Idles x y
+calm_idles : (a : Act) (x y : Phase) → IsCalm a → PhaseChange a x y → Idles x y
 calm_idles act.Read x y ok i = i
 calm_idles act.Lock x y ok i = i
 calm_idles act.RemoveSegment x y ok i = i
@@ -90,7 +89,7 @@ pub record Calmed (w v : World) : Type 0 where
 calmed_same : (w v : World) → v ≡ w → Calmed w v
 calmed_same w v e = subst (λ u. Calmed w u) (sym e) (record { same = record { published = λ h. refl; counts = λ p h. refl }; locks = λ q h n l. l })
 
-calmed : (w v : World) (id : ℕ) (g : ServiceHash) (a : Act) → IsCalm a → after w (Node id) g a ≡ Some v → Calmed w v
+calmed : (w v : World) (id : ℕ) (g : ServiceHash) (a : Act) → IsCalm a → world_after w (Node id) g a ≡ Some v → Calmed w v
 calmed w v id g a ok e =
     let st = stepped w v (Node id) g a e in
     let c = calm_row (row_of_step (Node id) g a (phase_of w (Node id) g) (row_of w g) (segment_of w g) w.counter st.spot st.is) ok in
@@ -122,7 +121,7 @@ part_unlocks w v i h n a lock old (calm j g b is e) = (calmed w v j g b is e).sa
 part_unlocks w v i h n a lock old (removed j g is e) =
     let node : i ≡ j = cc in
     let hash : h ≡ g = cc in
-    let here : after w (Node i) h act.RemoveDescription ≡ Some v = (λ k. after w (Node (node k)) (hash k) act.RemoveDescription) ∙ e in
+    let here : world_after w (Node i) h act.RemoveDescription ≡ Some v = (λ k. world_after w (Node (node k)) (hash k) act.RemoveDescription) ∙ e in
     let st = stepped w v (Node i) h act.RemoveDescription here in
     let row = unlock_row (row_of_step (Node i) h act.RemoveDescription (phase_of w (Node i) h) (row_of w h) (segment_of w h) w.counter st.spot st.is) in
     let was = (old.everywhere h).locked (Node i) n lock in
@@ -137,7 +136,7 @@ pub own_unlocks : (w v : World) (i : ℕ) (h : ServiceHash) (n : ℕ) (a : Resul
 own_unlocks w v i h n a lock old o = part_unlocks w v i h n a lock old (own_part w (letter.RemoveDescription i h a) v o)
 
 -- the count at a step's place, in a world with the same phases
-gained : (w u : World) (i : ℕ) (h : ServiceHash) (a : Act) → ((x y : Phase) → Change a x y → Gains x y) → after w (Node i) h a ≡ Some u → join_count (phase_of u (Node i) h) ≡ join_count (phase_of w (Node i) h) + 1
+gained : (w u : World) (i : ℕ) (h : ServiceHash) (a : Act) → ((x y : Phase) → PhaseChange a x y → Gains x y) → world_after w (Node i) h a ≡ Some u → join_count (phase_of u (Node i) h) ≡ join_count (phase_of w (Node i) h) + 1
 gained w u i h a gain e = elim (step_places w u i h a (stepped w u (Node i) h a e) i h) [ inl k ↦ (gain _ _ k.2).count | inr k ↦ absurd (k.0 refl refl) ]
 
 -- A publishing and an opening raise the count of their node by one.
@@ -166,9 +165,9 @@ module _ (node : ℕ) (hash : ServiceHash) where
     locks : {b c : Bool} {n : ℕ} {word : List Letter} → Tame true word c → Tame b (letter.Lock node hash (Ok n) ∷ word) c
     unlocks : {c : Bool} {word : List Letter} (a : Result (Unit {0}) RemoveError) → Tame false word c → Tame true (letter.RemoveDescription node hash a ∷ word) c
 
-  abbrev pub HasLock : Bool → World → Type 0
-  HasLock true w = (n : ℕ) × (locked_number (phase_of w (Node node) hash) ≡ Some n)
-  HasLock false w = Unit {0}
+  abbrev pub WhileLocked : Bool → World → Type 0
+  WhileLocked true w = (n : ℕ) × (locked_number (phase_of w (Node node) hash) ≡ Some n)
+  WhileLocked false w = Unit {0}
 
 pub tame_both : {node : ℕ} {hash : ServiceHash} {b c d : Bool} {u v : List Letter} → Tame node hash b u c → Tame node hash c v d → Tame node hash b (u ++ v) d
 tame_both ends t = t
@@ -177,15 +176,15 @@ tame_both (locks r) t = locks (tame_both r t)
 tame_both (unlocks a r) t = unlocks a (tame_both r t)
 
 module _ (node : ℕ) (hash : ServiceHash) where
-  lock_calmed : (b : Bool) (w v : World) → Calmed w v → HasLock node hash b w → HasLock node hash b v
+  lock_calmed : (b : Bool) (w v : World) → Calmed w v → WhileLocked node hash b w → WhileLocked node hash b v
   lock_calmed true w v c h = (h.0, c.locks (Node node) hash h.0 h.1)
   lock_calmed false w v c h = tt
 
-  lock_phase : (b : Bool) (w v : World) → phase_of v (Node node) hash ≡ phase_of w (Node node) hash → HasLock node hash b w → HasLock node hash b v
+  lock_phase : (b : Bool) (w v : World) → phase_of v (Node node) hash ≡ phase_of w (Node node) hash → WhileLocked node hash b w → WhileLocked node hash b v
   lock_phase true w v e h = (h.0, ap locked_number e ∙ h.1)
   lock_phase false w v e h = tt
 
-  lock_peers : {w v : World} (b : Bool) → Peers w v → HasLock node hash b w → HasLock node hash b v
+  lock_peers : {w v : World} (b : Bool) → Peers w v → WhileLocked node hash b w → WhileLocked node hash b v
   lock_peers b none h = h
   lock_peers {w = u} {v = w} b (peer {v = v} id g a ok e rest) h = lock_peers b rest (lock_phase b u v (peer_places u v id g a (stepped u v (Peer id) g a e) node hash) h)
 
@@ -193,7 +192,7 @@ lock_spot : {p : Participant} {h : ServiceHash} {x : Phase} {r : Option Row} {s 
 lock_spot (row_locks free below) = refl
 
 -- who locks has the lock, and its number
-pub locked_now : (w v : World) (id : ℕ) (h : ServiceHash) → after w (Node id) h act.Lock ≡ Some v → locked_number (phase_of v (Node id) h) ≡ Some w.counter
+pub locked_now : (w v : World) (id : ℕ) (h : ServiceHash) → world_after w (Node id) h act.Lock ≡ Some v → locked_number (phase_of v (Node id) h) ≡ Some w.counter
 locked_now w v id h e = let st = stepped w v (Node id) h act.Lock e in
     subst (λ u. locked_number (phase_of u (Node id) h) ≡ Some w.counter) st.world (elim (place_cases w (Node id) h st.spot (Node id) h) [
       | inl k ↦ ap locked_number k.2 ∙ lock_spot (row_of_step (Node id) h act.Lock (phase_of w (Node id) h) (row_of w h) (segment_of w h) w.counter st.spot st.is)
@@ -201,7 +200,7 @@ locked_now w v id h e = let st = stepped w v (Node id) h act.Lock e in
     ])
 
 -- Each access of such a word is calm.
-pub calm_run : {node : ℕ} {hash : ServiceHash} {b c : Bool} {word : List Letter} {w v : World} → Tame node hash b word c → Run IsFaulty w word v → HasLock node hash b w → Agrees w → Run CalmAccess w word v
+pub calm_run : {node : ℕ} {hash : ServiceHash} {b c : Bool} {word : List Letter} {w v : World} → Tame node hash b word c → Run IsFaulty w word v → WhileLocked node hash b w → Agrees w → Run CalmAccess w word v
 calm_run ends done has old = done
 calm_run {node} {hash} {b = b} {w = w} (goes {l = l} k t) (next {mid = mid} (inl a) rest) has old =
     let at_own = lock_peers node hash b a.peers has in

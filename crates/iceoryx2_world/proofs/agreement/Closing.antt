@@ -9,34 +9,33 @@ use Rattle.iceoryx2_world.specs.declared.world.Phase.TheVariants as at
 use Rattle.iceoryx2_access.specs.declared.storage.Release.{Release as Released}
 use Rattle.iceoryx2_access.specs.declared.storage.Release.TheVariants.{Last}
 use Rattle.iceoryx2_world.specs.declared.world.Row.{Row}
-use Rattle.iceoryx2_world.specs.World.{World, Segment, row_of, segment_of, phase_of}
+use Rattle.iceoryx2_world.specs.World.{World, Segment, row_of, segment_of, phase_of, ticket_of}
 use Rattle.iceoryx2_world.specs.Acts as act
-use Rattle.iceoryx2_world.specs.Steps.{Spot, step}
-use Rattle.iceoryx2_world.specs.Across.{ticket_of}
+use Rattle.iceoryx2_world.specs.Steps.{Spot, spot_after}
 use Rattle.iceoryx2_access.specs.Letter as letter
-use Rattle.iceoryx2_world.specs.Access.{write, moves_with, left_as, is_ticket, IsOwnPart}
+use Rattle.iceoryx2_world.specs.Access.{write, moves_with, release_answer, is_ticket, IsOwnPart}
 use Rattle.iceoryx2_world.specs.Faulty.{IsFaulty}
 use Rattle.iceoryx2_world.proofs.agreement.Effects.{stepped as stepped_world}
 use Rattle.iceoryx2_world.proofs.agreement.Worlds.{place_cases}
-use Rattle.iceoryx2_world.proofs.agreement.Parts.{simply, passed, left_ok}
+use Rattle.iceoryx2_world.proofs.agreement.Parts.{sure_answer_cases, passed, release_ok}
 use Rattle.iceoryx2_world.proofs.agreement.Accesses.{granted}
 use Rattle.iceoryx2_world.proofs.agreement.Granted.{peers_phase}
 use Rattle.iceoryx2_world.proofs.agreement.Left.{clearing, own_phase}
 
 -- what a release answers, by the phase that its node comes to
-pub released_as : (w v : World) (t i : ℕ) (h : ServiceHash) (n : ℕ) (a : Released) → IsOwnPart w (letter.Release t i h n (Ok a)) v → a ≡ left_as (phase_of v (Node i) h)
-released_as w v t i h n a p = elim (simply _ (Ok a) p.change p.own) [
+pub released_as : (w v : World) (t i : ℕ) (h : ServiceHash) (n : ℕ) (a : Released) → IsOwnPart w (letter.Release t i h n (Ok a)) v → a ≡ release_answer (phase_of v (Node i) h)
+released_as w v t i h n a p = elim (sure_answer_cases _ (Ok a) p.change p.own) [
   | inl k ↦
-      let rest = left_ok i h t w.tickets _ k.given (passed (is_ticket i h n (ticket_of w t)) _ _ k.given k.from).1 in
+      let rest = release_ok i h t w.tickets _ k.given (passed (is_ticket i h n (ticket_of w t)) _ _ k.given k.from).1 in
       let answer : a ≡ k.given.0 = cc (k.answer) in
       let is : v ≡ write w i h (moves_with rest.0 (map.remove w.tickets t)) = p.is ∙ ap (write w i h) (k.change ∙ (λ j. (rest.2 j).1)) in
       let phase : phase_of v (Node i) h ≡ (rest.0).phase = ap (λ u. phase_of u (Node i) h) is ∙ elim (place_cases w (Node i) h rest.0 (Node i) h) [ inl q ↦ q.2 | inr q ↦ absurd (q.0 refl refl) ] in
-      answer ∙ (λ j. (rest.2 j).0) ∙ ap left_as (sym phase)
+      answer ∙ (λ j. (rest.2 j).0) ∙ ap release_answer (sym phase)
   | inr k ↦ absurd (cc (k.answer))
 ]
 
 -- who leaves as the last has to remove what is left
-pub last_is_leaving : (x : Phase) → left_as x ≡ Last → (n : ℕ) × (x ≡ at.Leaving n)
+pub last_is_leaving : (x : Phase) → release_answer x ≡ Last → (n : ℕ) × (x ≡ at.Leaving n)
 last_is_leaving (at.Leaving n) e = (n, refl)
 last_is_leaving at.Idle e = absurd (cc)
 last_is_leaving (at.Read n) e = absurd (cc)
@@ -56,7 +55,7 @@ pub tag_removed_phase : (w v : World) (i : ℕ) (h : ServiceHash) (a : _) → Is
 tag_removed_phase w v i h a (inl b) = tag_phase b.between v i h a b.own ∙ peers_phase b.peers i h
 tag_removed_phase w v i h a (inr f) = ap (λ u. phase_of u (Node i) h) f.1
 
-clear_phase : (p : Participant) (h : ServiceHash) (m : ℕ) (r : Option Row) (s : Option Segment) (c : ℕ) (new : Spot) → step p h act.RemoveSegment (at.Leaving m) r s c ≡ Some new → new.phase ≡ at.Cleared m
+clear_phase : (p : Participant) (h : ServiceHash) (m : ℕ) (r : Option Row) (s : Option Segment) (c : ℕ) (new : Spot) → spot_after p h act.RemoveSegment (at.Leaving m) r s c ≡ Some new → new.phase ≡ at.Cleared m
 clear_phase p h m r s c new e = let same : record { phase = at.Cleared m; row = r; segment = None; counter = c } ≡ new = cc in λ j. (sym same j).phase
 
 -- a removal of the segment by who left as the last
@@ -66,4 +65,4 @@ segment_removed_phase w v i h m a is e =
     let was = peers_phase b.peers i h ∙ is in
     let done = clearing b.between v i h a b.own in
     let st = stepped_world b.between v (Node i) h act.RemoveSegment done in
-    own_phase b.between v i h act.RemoveSegment st ∙ clear_phase (Node i) h m (row_of b.between h) (segment_of b.between h) (b.between).counter st.spot (subst (λ x. step (Node i) h act.RemoveSegment x (row_of b.between h) (segment_of b.between h) (b.between).counter ≡ Some st.spot) was st.is)
+    own_phase b.between v i h act.RemoveSegment st ∙ clear_phase (Node i) h m (row_of b.between h) (segment_of b.between h) (b.between).counter st.spot (subst (λ x. spot_after (Node i) h act.RemoveSegment x (row_of b.between h) (segment_of b.between h) (b.between).counter ≡ Some st.spot) was st.is)

@@ -7,12 +7,10 @@ use Rattle.iceoryx2_world.specs.declared.world.Phase.{Phase}
 use Rattle.iceoryx2_world.specs.declared.world.Phase.TheVariants as at
 use Rattle.iceoryx2_world.specs.declared.world.Row.{Row}
 use Rattle.iceoryx2_world.specs.declared.world.Row.TheVariants as row
-use Rattle.iceoryx2_world.specs.World.{World, Segment, row_of, segment_of, phase_of}
+use Rattle.iceoryx2_world.specs.World.{World, Segment, row_of, segment_of, phase_of, begins, joined_number, phase_number, locked_number, is_last, join_count}
 use Rattle.iceoryx2_world.specs.Acts.{Act, Publish, Join, Leave}
-use Rattle.iceoryx2_world.specs.Steps.{Spot, step, put, after, begins}
-use Rattle.iceoryx2_world.specs.Agreement.{joined_number, phase_number, locked_number, is_last}
+use Rattle.iceoryx2_world.specs.Steps.{Spot, spot_after, put, world_after}
 use Rattle.iceoryx2_world.proofs.agreement.Rows.{IsRow, reads, locks, clears, makes, unmakes, unlocks, publishes, joins, joins_again, leaves_once, leaves, leaves_last, clears_last, ends, row_of_step}
-use Rattle.iceoryx2_world.specs.Across.{join_count}
 
 -- one use more, of the number that the phase had
 pub record Gains (x y : Phase) : Type 0 where
@@ -32,16 +30,16 @@ pub record Idles (x y : Phase) : Type 0 where
   pub unjoined : joined_number x ≡ None
   pub still : joined_number y ≡ None
 
-abbrev pub Change : Act → Phase → Phase → Type 0
-Change Join x y = Gains x y
-Change (Publish d) x y = Gains x y
-Change Leave x y = Loses x y
-Change _ x y = Idles x y
+abbrev pub PhaseChange : Act → Phase → Phase → Type 0
+PhaseChange Join x y = Gains x y
+PhaseChange (Publish d) x y = Gains x y
+PhaseChange Leave x y = Loses x y
+PhaseChange _ x y = Idles x y
 
 pub record Effect (act : Act) (x : Phase) (r : Option Row) (c : ℕ) (new : Spot) : Type 0 where
   pub rises : c ≤ new.counter
   pub locks : (n : ℕ) → new.row ≡ Some (row.Locked n) → (r ≡ Some (row.Locked n)) ⊎ ((n ≡ c) × (c < new.counter))
-  pub change : Change act x new.phase
+  pub change : PhaseChange act x new.phase
 
 idles : {x y : Phase} → join_count x ≡ 0 → join_count y ≡ 0 → joined_number x ≡ None → joined_number y ≡ None → Idles x y
 idles a b c d = record { before = a; now = b; unjoined = c; still = d }
@@ -62,7 +60,7 @@ last_idle (at.Leaving n) e = (refl, refl)
 last_idle (at.Cleared n) e = (refl, refl)
 last_idle _ e = absurd (cc)
 
-calms : {act : Act} {x : Phase} {r : Option Row} {c : ℕ} {y : Phase} {s : Option Segment} → Change act x y
+calms : {act : Act} {x : Phase} {r : Option Row} {c : ℕ} {y : Phase} {s : Option Segment} → PhaseChange act x y
     → Effect act x r c (record { phase = y; row = r; segment = s; counter = c })
 calms change = record { rises = omega arith; locks = λ n l. inl l; change = change }
 
@@ -88,18 +86,18 @@ row_effect (ends {x = x} last) = let i = last_idle x last in
     record { rises = omega arith; locks = λ n l. absurd (cc); change = idles i.0 refl i.1 refl }
 
 pub step_effect : (p : Participant) (h : ServiceHash) (act : Act) (x : Phase) (r : Option Row) (s : Option Segment) (c : ℕ) (new : Spot)
-    → step p h act x r s c ≡ Some new → Effect act x r c new
+    → spot_after p h act x r s c ≡ Some new → Effect act x r c new
 step_effect p h act x r s c new e = row_effect (row_of_step p h act x r s c new e)
 
 -- an allowed step of a world
 pub record Stepped (w v : World) (p : Participant) (h : ServiceHash) (act : Act) : Type 0 where
   pub spot : Spot
-  pub is : step p h act (phase_of w p h) (row_of w h) (segment_of w h) w.counter ≡ Some spot
+  pub is : spot_after p h act (phase_of w p h) (row_of w h) (segment_of w h) w.counter ≡ Some spot
   pub world : put w p h spot ≡ v
 
-of_option : (w v : World) (p : Participant) (h : ServiceHash) (act : Act) (o : Option Spot) → step p h act (phase_of w p h) (row_of w h) (segment_of w h) w.counter ≡ o → option_map (put w p h) o ≡ Some v → Stepped w v p h act
+of_option : (w v : World) (p : Participant) (h : ServiceHash) (act : Act) (o : Option Spot) → spot_after p h act (phase_of w p h) (row_of w h) (segment_of w h) w.counter ≡ o → option_map (put w p h) o ≡ Some v → Stepped w v p h act
 of_option w v p h act None is e = absurd (cc)
 of_option w v p h act (Some s) is e = record { spot = s; is = is; world = cc }
 
-pub stepped : (w v : World) (p : Participant) (h : ServiceHash) (act : Act) → after w p h act ≡ Some v → Stepped w v p h act
+pub stepped : (w v : World) (p : Participant) (h : ServiceHash) (act : Act) → world_after w p h act ≡ Some v → Stepped w v p h act
 stepped w v p h act e = of_option w v p h act _ refl e

@@ -7,9 +7,8 @@ use Rattle.iceoryx2_data.specs.declared.description.ServiceHash.{ServiceHash}
 use Rattle.iceoryx2_world.specs.declared.world.Participant.TheVariants.{Node}
 use Rattle.iceoryx2_world.specs.declared.world.Phase.{Phase}
 use Rattle.iceoryx2_world.specs.declared.world.Ticket.{Ticket}
-use Rattle.iceoryx2_world.specs.World.{World, phase_of}
-use Rattle.iceoryx2_world.specs.Agreement.{joined_number}
-use Rattle.iceoryx2_world.specs.Across.{ticket_of, join_count, belongs, ticket_count, Held}
+use Rattle.iceoryx2_world.specs.World.{World, phase_of, joined_number, ticket_of, join_count, belongs, ticket_count}
+use Rattle.iceoryx2_world.specs.Across.{AgreesOnTickets}
 use Rattle.iceoryx2_world.proofs.agreement.Maps.{set_cases}
 use Rattle.iceoryx2_world.proofs.agreement.Effects.{Gains, Loses}
 use Rattle.iceoryx2_world.proofs.agreement.Tickets.{one_if, count_insert, count_remove, belongs_own, belongs_other, one_or_more}
@@ -19,7 +18,7 @@ abbrev pub Places : World → World → ℕ → ServiceHash → (Phase → Phase
 Places w v id h Changes = (i : ℕ) (g : ServiceHash) → ((i ≡ id) × (g ≡ h) × Changes (phase_of w (Node id) h) (phase_of v (Node id) h)) ⊎ (((i ≡ id) → (g ≡ h) → ⊥) × (phase_of v (Node i) g ≡ phase_of w (Node i) g))
 
 -- nothing of tickets changes
-pub held_same : (w v : World) → v.tickets ≡ w.tickets → ((i : ℕ) (g : ServiceHash) → (join_count (phase_of v (Node i) g) ≡ join_count (phase_of w (Node i) g)) × (joined_number (phase_of v (Node i) g) ≡ joined_number (phase_of w (Node i) g))) → Held w → Held v
+pub held_same : (w v : World) → v.tickets ≡ w.tickets → ((i : ℕ) (g : ServiceHash) → (join_count (phase_of v (Node i) g) ≡ join_count (phase_of w (Node i) g)) × (joined_number (phase_of v (Node i) g) ≡ joined_number (phase_of w (Node i) g))) → AgreesOnTickets w → AgreesOnTickets v
 held_same w v tickets phases held = record {
   number = λ t x e. (phases x.node x.hash).1 ∙ held.number t x (sym (ap (λ m. map.get m t) tickets) ∙ e);
   count = λ i g. ap (λ m. ticket_count m i g) tickets ∙ held.count i g ∙ sym (phases i g).0;
@@ -33,7 +32,7 @@ module _ (w v : World) (id : ℕ) (h : ServiceHash) (n t : ℕ) where
   not_mine i g apart = ap (λ b. one_if b) (belongs_other i g t mine (λ a b. apart (sym a) (sym b)))
 
   -- a new ticket, and a use more
-  pub held_more : ticket_of w t ≡ None → v.tickets ≡ map.insert w.tickets t mine → Places w v id h Gains → joined_number (phase_of v (Node id) h) ≡ Some n → Held w → Held v
+  pub held_more : ticket_of w t ≡ None → v.tickets ≡ map.insert w.tickets t mine → Places w v id h Gains → joined_number (phase_of v (Node id) h) ≡ Some n → AgreesOnTickets w → AgreesOnTickets v
   held_more fresh tickets places number held =
       let counts : (i : ℕ) (g : ServiceHash) → ticket_count v.tickets i g ≡ one_if (belongs i g (t, mine)) + ticket_count w.tickets i g = λ i g. ap (λ m. ticket_count m i g) tickets ∙ count_insert w.tickets t mine i g fresh in
       record {
@@ -51,7 +50,7 @@ module _ (w v : World) (id : ℕ) (h : ServiceHash) (n t : ℕ) where
       }
 
   -- a ticket goes, and a use with it
-  pub held_less : ticket_of w t ≡ Some mine → v.tickets ≡ map.remove w.tickets t → Places w v id h Loses → Held w → Held v
+  pub held_less : ticket_of w t ≡ Some mine → v.tickets ≡ map.remove w.tickets t → Places w v id h Loses → AgreesOnTickets w → AgreesOnTickets v
   held_less there tickets places held =
       let counts : (i : ℕ) (g : ServiceHash) → ticket_count w.tickets i g ≡ one_if (belongs i g (t, mine)) + ticket_count v.tickets i g = λ i g. count_remove w.tickets t mine i g there ∙ ap (λ m. one_if (belongs i g (t, mine)) + ticket_count m i g) (sym tickets) in
       let here : ticket_count w.tickets id h ≡ 1 + ticket_count v.tickets id h = counts id h ∙ ap (λ b. one_if b + ticket_count v.tickets id h) (belongs_own id h t n) in

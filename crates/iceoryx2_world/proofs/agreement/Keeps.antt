@@ -7,11 +7,11 @@ use Rattle.iceoryx2_world.specs.declared.world.Phase.TheVariants as at
 use Rattle.iceoryx2_world.specs.declared.world.Row.{Row}
 use Rattle.iceoryx2_world.specs.declared.world.Row.TheVariants as row
 use Rattle.iceoryx2_world.specs.Orders.{participant_cmp}
-use Rattle.iceoryx2_world.specs.World.{Segment}
-use Rattle.iceoryx2_world.specs.Steps.{made, begins}
+use Rattle.iceoryx2_world.specs.World.{Segment, begins, locked_number, is_last}
+use Rattle.iceoryx2_world.specs.Steps.{new_segment}
 use Rattle.iceoryx2_data.specs.Description.{Description, max_nodes_of}
 use Rattle.iceoryx2_data.specs.Form.{IsForm}
-use Rattle.iceoryx2_world.specs.Agreement.{AgreesAt, Describes, Holds, locked_number, is_last, IsPublished}
+use Rattle.iceoryx2_world.specs.Agreement.{AgreesAt, Describes, HasMember, IsPublished}
 use Rattle.iceoryx2_world.proofs.agreement.Moved.{moved, moved_here, at_each, contains_alone, contains_insert, contains_inserted, contains_remove, contains_insert_other, contains_remove_other, len_alone, len_insert_le, len_remove_le, only_one, last_cases, not_last}
 
 -- a description stays one where who is registered stays so
@@ -24,7 +24,7 @@ still_describes h n b s f g stay d = record {
 }
 
 -- who is in an unmarked segment stays there, where its participants change otherwise
-pub held_on : (n : ℕ) (q : Participant) (s t : Segment) → Holds (Some s) n q → t.number ≡ s.number → t.marked ≡ s.marked → (set.contains s.participants q ≡ true → set.contains t.participants q ≡ true) → Holds (Some t) n q
+pub held_on : (n : ℕ) (q : Participant) (s t : Segment) → HasMember (Some s) n q → t.number ≡ s.number → t.marked ≡ s.marked → (set.contains s.participants q ≡ true → set.contains t.participants q ≡ true) → HasMember (Some t) n q
 held_on n q s t held number marked stays = record { segment = t; there = refl; number = grind (arith, held.there, held.number, number); unmarked = grind (arith, held.there, held.unmarked, marked); member = stays (grind (arith, held.there, held.member)) }
 
 module _ (c : ℕ) (h : ServiceHash) (f : Participant → Phase) (p : Participant) where
@@ -70,7 +70,7 @@ module _ (c : ℕ) (h : ServiceHash) (f : Participant → Phase) (p : Participan
         published = λ i d e. absurd (cc);
       }
 
-  pub make_keeps : (n m : ℕ) (r : Option Row) → f p ≡ at.Locked n → 0 < m → AgreesAt c h r None f → AgreesAt c h r (Some (made p n m)) (moved f p (at.Made n))
+  pub make_keeps : (n m : ℕ) (r : Option Row) → f p ≡ at.Locked n → 0 < m → AgreesAt c h r None f → AgreesAt c h r (Some (new_segment p n m)) (moved f p (at.Made n))
   make_keeps n m r was positive a =
       let x = at.Made n in
       let each = at_each f p x in
@@ -221,7 +221,7 @@ module _ (c : ℕ) (h : ServiceHash) (f : Participant → Phase) (p : Participan
         one_holder = λ q u i j e g. grind (arith, each q, each u, a.one_holder q u i j);
         made = λ q i e. elim (each q) [ inl w ↦ absurd (grind (arith, w)) | inr w ↦ a.made q i (sym w.1 ∙ e) ];
         joined = λ q i j e. elim (each q) [
-          | inl w ↦ let one : (i ≡ n) × (j ≡ m) = grind (arith, w) in (grind arith, (row_is.0, grind (arith, row_is)), subst (λ u. Holds s i u) (sym w.0) (subst (λ u. Holds s u p) (sym one.0) at_p.2))
+          | inl w ↦ let one : (i ≡ n) × (j ≡ m) = grind (arith, w) in (grind arith, (row_is.0, grind (arith, row_is)), subst (λ u. HasMember s i u) (sym w.0) (subst (λ u. HasMember s u p) (sym one.0) at_p.2))
           | inr w ↦ a.joined q i j (sym w.1 ∙ e)
         ];
         leaving = λ q i e. elim (each q) [ inl w ↦ absurd (grind (arith, w)) | inr w ↦ a.leaving q i (sym w.1 ∙ e) ];

@@ -10,17 +10,17 @@ use Rattle.iceoryx2_access.specs.declared.storage.Tag.TheVariants.{Made, Found}
 use Rattle.iceoryx2_world.specs.declared.world.Row.{Row}
 use Rattle.iceoryx2_world.specs.declared.world.Row.TheVariants as row
 use Rattle.iceoryx2_world.specs.Orders.{hash_total, hash_exact, tag_cmp, tag_total, tag_exact}
-use Rattle.iceoryx2_world.specs.World.{World, Segment, row_of, segment_of, phase_of}
+use Rattle.iceoryx2_world.specs.World.{World, Segment, row_of, segment_of, phase_of, locked_number, tag_of}
 use Rattle.iceoryx2_world.specs.Acts.{Act}
 use Rattle.iceoryx2_world.specs.Acts as act
-use Rattle.iceoryx2_world.specs.Steps.{Spot, after}
+use Rattle.iceoryx2_world.specs.Steps.{Spot, world_after}
 use Rattle.std.specs.Prelude.{is_some}
 use Rattle.std.specs.Ordering.{eq_by_cmp}
-use Rattle.iceoryx2_world.specs.Agreement.{Spent, locked_number}
+use Rattle.iceoryx2_world.specs.Agreement.{IsSpent}
 use Rattle.iceoryx2_world.specs.Across.{Agrees}
 use Rattle.iceoryx2_access.specs.Letter.{Letter}
 use Rattle.iceoryx2_access.specs.Letter as letter
-use Rattle.iceoryx2_world.specs.Access.{Change, seat, write, tag_of, tried, read, MakesTag, IsOwnPart}
+use Rattle.iceoryx2_world.specs.Access.{Change, seat, write, own_step, read_change, MakesTag, IsOwnPart}
 use Rattle.iceoryx2_world.specs.Peers.{Peers, none, peer}
 use Rattle.iceoryx2_world.specs.Faulty.{IsFaulty}
 use Rattle.iceoryx2_access.specs.Run.{Run, done, next}
@@ -28,7 +28,7 @@ use Rattle.iceoryx2_world.proofs.agreement.Rows.{IsRow, reads, locks as row_lock
 use Rattle.iceoryx2_world.proofs.agreement.Maps.{set_cases, either, self}
 use Rattle.iceoryx2_world.proofs.agreement.Effects.{Stepped, stepped as stepped_world}
 use Rattle.iceoryx2_world.proofs.agreement.Worlds.{place_cases, peer_places, peer_keeps, not_peer, step_counter}
-use Rattle.iceoryx2_world.proofs.agreement.Parts.{gives, simply, passed, locking, moved_world, unchanged, fetched_ok, stepped_ok, made_ok}
+use Rattle.iceoryx2_world.proofs.agreement.Parts.{answer_cases, sure_answer_cases, passed, locking, moved_world, unchanged, fetched_ok, step_ok, made_ok}
 use Rattle.iceoryx2_world.proofs.agreement.Accesses.{peers_keep, access_keeps, faulty_keeps, granted}
 use Rattle.iceoryx2_world.proofs.agreement.Calm.{locked_now, begins_unlocked}
 use Rattle.iceoryx2_world.proofs.agreement.Spent.{world_segment, spent_own, spent_peers}
@@ -49,9 +49,9 @@ IsPlain _ = Unit {0}
 
 -- at most the node reads
 abbrev Reads : World → World → Type 0
-Reads w v = (v ≡ w) ⊎ ((i : ℕ) × (h : ServiceHash) × (after w (Node i) h act.Read ≡ Some v))
+Reads w v = (v ≡ w) ⊎ ((i : ℕ) × (h : ServiceHash) × (world_after w (Node i) h act.Read ≡ Some v))
 
-read_reads : (w v : World) (i : ℕ) (h : ServiceHash) (c : Change) (o : Option Spot) → tried i h act.Read (seat w i h).spot ≡ o → c ≡ read o → v ≡ write w i h c → Reads w v
+read_reads : (w v : World) (i : ℕ) (h : ServiceHash) (c : Change) (o : Option Spot) → own_step i h act.Read (seat w i h).spot ≡ o → c ≡ read_change o → v ≡ write w i h c → Reads w v
 read_reads w v i h c None e m is = inl (unchanged w v i h c m is)
 read_reads w v i h c (Some s) e m is = inr (i, h, moved_world w v i h act.Read c s e m is)
 
@@ -62,8 +62,8 @@ tag_plain w v i h false r c other (inr o) is = inl (unchanged w v i h c o.1 is)
 
 plain_part : (w : World) (l : Letter) (v : World) → IsPlain l → IsOwnPart w l v → Reads w v
 plain_part w (letter.Exists h a) v ok p = inl (unchanged w v 0 h p.change p.own.1 p.is)
-plain_part w (letter.Fetch i h a) v ok p = elim (gives _ _ a p.change p.own) [
-  | inl k ↦ read_reads w v i h p.change (tried i h act.Read (seat w i h).spot) refl (k.change ∙ (fetched_ok i h (seat w i h).spot (row_of w h) k.given k.from).1) p.is
+plain_part w (letter.Fetch i h a) v ok p = elim (answer_cases _ _ a p.change p.own) [
+  | inl k ↦ read_reads w v i h p.change (own_step i h act.Read (seat w i h).spot) refl (k.change ∙ (fetched_ok i h (seat w i h).spot (row_of w h) k.given k.from).1) p.is
   | inr k ↦ inl (unchanged w v i h p.change k.change p.is)
 ]
 plain_part w (letter.Counts i h a) v ok p = inl (unchanged w v i h p.change p.own.1 p.is)
@@ -73,19 +73,19 @@ plain_part w (letter.MakeTag i h (Err e)) v ok p = tag_plain w v i h (seat w i h
 plain_part w (letter.RemoveTag i h (Ok x)) v ok p = absurd ok
 plain_part w (letter.RemoveTag i h (Err e)) v ok p = let is = p.own.0 in absurd (cc)
 plain_part w (letter.Lock i h (Ok n)) v ok p = absurd ok
-plain_part w (letter.Lock i h (Err e)) v ok p = elim (gives _ _ (Err e) p.change p.own) [ inl k ↦ absurd (cc (k.answer)) | inr k ↦ inl (unchanged w v i h p.change k.change p.is) ]
+plain_part w (letter.Lock i h (Err e)) v ok p = elim (answer_cases _ _ (Err e) p.change p.own) [ inl k ↦ absurd (cc (k.answer)) | inr k ↦ inl (unchanged w v i h p.change k.change p.is) ]
 plain_part w (letter.MakeSegment i h n m (Ok x)) v ok p = absurd ok
-plain_part w (letter.MakeSegment i h n m (Err e)) v ok p = elim (gives _ _ (Err e) p.change p.own) [ inl k ↦ absurd (cc (k.answer)) | inr k ↦ inl (unchanged w v i h p.change k.change p.is) ]
+plain_part w (letter.MakeSegment i h n m (Err e)) v ok p = elim (answer_cases _ _ (Err e) p.change p.own) [ inl k ↦ absurd (cc (k.answer)) | inr k ↦ inl (unchanged w v i h p.change k.change p.is) ]
 plain_part w (letter.RemoveSegment i h (Ok x)) v ok p = absurd ok
-plain_part w (letter.RemoveSegment i h (Err e)) v ok p = elim (simply _ (Err e) p.change p.own) [ inl k ↦ absurd (cc (k.answer)) | inr k ↦ inl (unchanged w v i h p.change k.change p.is) ]
+plain_part w (letter.RemoveSegment i h (Err e)) v ok p = elim (sure_answer_cases _ (Err e) p.change p.own) [ inl k ↦ absurd (cc (k.answer)) | inr k ↦ inl (unchanged w v i h p.change k.change p.is) ]
 plain_part w (letter.RemoveDescription i h (Ok x)) v ok p = absurd ok
-plain_part w (letter.RemoveDescription i h (Err e)) v ok p = elim (simply _ (Err e) p.change p.own) [ inl k ↦ absurd (cc (k.answer)) | inr k ↦ inl (unchanged w v i h p.change k.change p.is) ]
+plain_part w (letter.RemoveDescription i h (Err e)) v ok p = elim (sure_answer_cases _ (Err e) p.change p.own) [ inl k ↦ absurd (cc (k.answer)) | inr k ↦ inl (unchanged w v i h p.change k.change p.is) ]
 plain_part w (letter.Publish i h n d (Ok t)) v ok p = absurd ok
-plain_part w (letter.Publish i h n d (Err e)) v ok p = elim (gives _ _ (Err e) p.change p.own.1) [ inl k ↦ absurd (cc (k.answer)) | inr k ↦ inl (unchanged w v i h p.change k.change p.is) ]
+plain_part w (letter.Publish i h n d (Err e)) v ok p = elim (answer_cases _ _ (Err e) p.change p.own.1) [ inl k ↦ absurd (cc (k.answer)) | inr k ↦ inl (unchanged w v i h p.change k.change p.is) ]
 plain_part w (letter.OpenSegment i h n (Ok t)) v ok p = absurd ok
-plain_part w (letter.OpenSegment i h n (Err e)) v ok p = elim (gives _ _ (Err e) p.change p.own) [ inl k ↦ absurd (cc (k.answer)) | inr k ↦ inl (unchanged w v i h p.change k.change p.is) ]
+plain_part w (letter.OpenSegment i h n (Err e)) v ok p = elim (answer_cases _ _ (Err e) p.change p.own) [ inl k ↦ absurd (cc (k.answer)) | inr k ↦ inl (unchanged w v i h p.change k.change p.is) ]
 plain_part w (letter.Release t i h n (Ok a)) v ok p = absurd ok
-plain_part w (letter.Release t i h n (Err e)) v ok p = elim (simply _ (Err e) p.change p.own) [ inl k ↦ absurd (cc (k.answer)) | inr k ↦ inl (unchanged w v i h p.change k.change p.is) ]
+plain_part w (letter.Release t i h n (Err e)) v ok p = elim (sure_answer_cases _ (Err e) p.change p.own) [ inl k ↦ absurd (cc (k.answer)) | inr k ↦ inl (unchanged w v i h p.change k.change p.is) ]
 
 -- a node's tags, and what it has locked
 pub record Untouched (w v : World) : Type 0 where
@@ -122,7 +122,7 @@ still_row (row_leaves one others) ok = absurd ok
 still_row (leaves_last one alone) ok = absurd ok
 still_row (row_ends last) ok = absurd ok
 
-untouched : (w v : World) (id : ℕ) (g : ServiceHash) (a : Act) → IsStill a → after w (Node id) g a ≡ Some v → Untouched w v
+untouched : (w v : World) (id : ℕ) (g : ServiceHash) (a : Act) → IsStill a → world_after w (Node id) g a ≡ Some v → Untouched w v
 untouched w v id g a ok e =
     let st = stepped_world w v (Node id) g a e in
     subst (λ u. Untouched w u) st.world (record {
@@ -133,7 +133,7 @@ untouched w v id g a ok e =
       ];
     })
 
-step_tags : (w v : World) (p : Participant) (g : ServiceHash) (a : Act) → after w p g a ≡ Some v → v.tags ≡ w.tags
+step_tags : (w v : World) (p : Participant) (g : ServiceHash) (a : Act) → world_after w p g a ≡ Some v → v.tags ≡ w.tags
 step_tags w v p g a e = subst (λ (z : World). z.tags ≡ w.tags) (stepped_world w v p g a e).world refl
 
 pub peers_untouched : {w v : World} → Peers w v → Untouched w v
@@ -208,7 +208,7 @@ module _ (node : ℕ) (hash : ServiceHash) where
   HoldIs free w = locked_number (phase_of w (Node node) hash) ≡ None
   HoldIs (clear n) w = (locked_number (phase_of w (Node node) hash) ≡ Some n) × Lacks w hash n
   HoldIs (full n) w = locked_number (phase_of w (Node node) hash) ≡ Some n
-  HoldIs (spent n) w = (locked_number (phase_of w (Node node) hash) ≡ None) × Spent w hash n
+  HoldIs (spent n) w = (locked_number (phase_of w (Node node) hash) ≡ None) × IsSpent w hash n
 
   -- the node's tag is its own since a beginning with these tags, or the tags are these
   abbrev pub TagIs : set.FinSet tag_cmp → Bool → World → Type 0
@@ -268,21 +268,21 @@ tag_put w v i h true c e o is = absurd (cc (o.0))
 tag_put w v i h false c e (inl o) is = (sym e, is ∙ ap (write w i h) o.1)
 tag_put w v i h false c e (inr o) is = absurd (cc (o.0))
 
-pub making : (w v : World) (i : ℕ) (h : ServiceHash) (n m : ℕ) (a : Unit {0}) → IsOwnPart w (letter.MakeSegment i h n m (Ok a)) v → after w (Node i) h (act.Make m) ≡ Some v
-making w v i h n m a p = elim (gives _ _ (Ok a) p.change p.own) [
+pub making : (w v : World) (i : ℕ) (h : ServiceHash) (n m : ℕ) (a : Unit {0}) → IsOwnPart w (letter.MakeSegment i h n m (Ok a)) v → world_after w (Node i) h (act.Make m) ≡ Some v
+making w v i h n m a p = elim (answer_cases _ _ (Ok a) p.change p.own) [
   | inl k ↦ let s = made_ok i h m (seat w i h).spot (segment_of w h) k.given (passed _ _ _ k.given k.from).1 in moved_world w v i h (act.Make m) p.change s.spot s.from (k.change ∙ (λ j. (s.is j).1)) p.is
   | inr k ↦ absurd (cc (k.answer))
 ]
 
-pub clearing : (w v : World) (i : ℕ) (h : ServiceHash) (a : Unit {0}) → IsOwnPart w (letter.RemoveSegment i h (Ok a)) v → after w (Node i) h act.RemoveSegment ≡ Some v
-clearing w v i h a p = elim (simply _ (Ok a) p.change p.own) [
-  | inl k ↦ let s = stepped_ok _ _ (tried i h act.RemoveSegment (seat w i h).spot) k.given k.from in moved_world w v i h act.RemoveSegment p.change s.spot s.from (k.change ∙ (λ j. (s.is j).1)) p.is
+pub clearing : (w v : World) (i : ℕ) (h : ServiceHash) (a : Unit {0}) → IsOwnPart w (letter.RemoveSegment i h (Ok a)) v → world_after w (Node i) h act.RemoveSegment ≡ Some v
+clearing w v i h a p = elim (sure_answer_cases _ (Ok a) p.change p.own) [
+  | inl k ↦ let s = step_ok _ _ (own_step i h act.RemoveSegment (seat w i h).spot) k.given k.from in moved_world w v i h act.RemoveSegment p.change s.spot s.from (k.change ∙ (λ j. (s.is j).1)) p.is
   | inr k ↦ absurd (cc (k.answer))
 ]
 
-pub unlocking : (w v : World) (i : ℕ) (h : ServiceHash) (a : Unit {0}) → IsOwnPart w (letter.RemoveDescription i h (Ok a)) v → after w (Node i) h act.RemoveDescription ≡ Some v
-unlocking w v i h a p = elim (simply _ (Ok a) p.change p.own) [
-  | inl k ↦ let s = stepped_ok _ _ (tried i h act.RemoveDescription (seat w i h).spot) k.given k.from in moved_world w v i h act.RemoveDescription p.change s.spot s.from (k.change ∙ (λ j. (s.is j).1)) p.is
+pub unlocking : (w v : World) (i : ℕ) (h : ServiceHash) (a : Unit {0}) → IsOwnPart w (letter.RemoveDescription i h (Ok a)) v → world_after w (Node i) h act.RemoveDescription ≡ Some v
+unlocking w v i h a p = elim (sure_answer_cases _ (Ok a) p.change p.own) [
+  | inl k ↦ let s = step_ok _ _ (own_step i h act.RemoveDescription (seat w i h).spot) k.given k.from in moved_world w v i h act.RemoveDescription p.change s.spot s.from (k.change ∙ (λ j. (s.is j).1)) p.is
   | inr k ↦ absurd (cc (k.answer))
 ]
 

@@ -16,19 +16,17 @@ use Rattle.iceoryx2_world.specs.declared.world.Ticket.{Ticket}
 use Rattle.iceoryx2_world.specs.declared.world.Row.{Row}
 use Rattle.iceoryx2_world.specs.declared.world.Row.TheVariants as row
 use Rattle.iceoryx2_world.specs.Orders.{hash_cmp, hash_exact, tag_cmp}
-use Rattle.iceoryx2_world.specs.World.{World, Segment, row_of, segment_of, phase_of}
+use Rattle.iceoryx2_world.specs.World.{World, Segment, row_of, segment_of, phase_of, phase_number, ticket_of, Tickets}
 use Rattle.iceoryx2_world.specs.Acts.{Act}
 use Rattle.iceoryx2_world.specs.Acts as act
-use Rattle.iceoryx2_world.specs.Steps.{Spot, put, after}
-use Rattle.iceoryx2_world.specs.Agreement.{phase_number}
-use Rattle.iceoryx2_world.specs.Across.{ticket_of}
+use Rattle.iceoryx2_world.specs.Steps.{Spot, put, world_after}
 use Rattle.iceoryx2_access.specs.declared.storage.Tag.{Tag}
 use Rattle.iceoryx2_access.specs.declared.storage.TagError.{TagError}
 use Rattle.iceoryx2_access.specs.declared.storage.OpenSegmentError.{OpenSegmentError}
 use Rattle.iceoryx2_access.specs.declared.storage.Release.{Release as Released}
 use Rattle.iceoryx2_access.specs.Letter.{Letter}
 use Rattle.iceoryx2_access.specs.Letter as letter
-use Rattle.iceoryx2_world.specs.Access.{Tickets, Seat, Change, seat, write, nothing, moves, moves_with, Gives, Simply, stepped, read, tried, with_ticket, is_ticket, fetch_of, MakesTag, lock_of, make_of, published, opened, left, left_as, has_made, has_lock, open_refusal, join_refusal, IsOwnPart}
+use Rattle.iceoryx2_world.specs.Access.{Seat, Change, seat, write, nothing, moves, moves_with, IsAnswer, IsSureAnswer, or_refused, read_change, own_step, with_ticket, is_ticket, fetch_of, MakesTag, lock_of, make_of, publishing_of, opening_of, release_of, release_answer, has_made, has_lock, open_refusal, join_refusal, IsOwnPart}
 use Rattle.iceoryx2_world.proofs.agreement.Worlds.{ticket_put, ticket_removed}
 
 -- An answer that is given, with its change.
@@ -44,14 +42,14 @@ pub record Denied {A E : Type 0} (r : Result A E) (c : Change) : Type 0 where
   pub answer : r ≡ Err error
   pub change : c ≡ nothing
 
-pub gives : {A E : Type 0} (no_memory : E) (o : Result (A × Change) E) (r : Result A E) (c : Change) → Gives no_memory o r c → Told o r c ⊎ Denied r c
-gives no_memory (Ok x) r c (inl g) = inl (record { given = x; from = refl; answer = g.0; change = g.1 })
-gives no_memory (Ok x) r c (inr g) = inr (record { error = no_memory; answer = g.0; change = g.1 })
-gives no_memory (Err e) r c g = inr (record { error = e; answer = g.0; change = g.1 })
+pub answer_cases : {A E : Type 0} (no_memory : E) (o : Result (A × Change) E) (r : Result A E) (c : Change) → IsAnswer no_memory o r c → Told o r c ⊎ Denied r c
+answer_cases no_memory (Ok x) r c (inl g) = inl (record { given = x; from = refl; answer = g.0; change = g.1 })
+answer_cases no_memory (Ok x) r c (inr g) = inr (record { error = no_memory; answer = g.0; change = g.1 })
+answer_cases no_memory (Err e) r c g = inr (record { error = e; answer = g.0; change = g.1 })
 
-pub simply : {A E : Type 0} (o : Result (A × Change) E) (r : Result A E) (c : Change) → Simply o r c → Told o r c ⊎ Denied r c
-simply (Ok x) r c g = inl (record { given = x; from = refl; answer = g.0; change = g.1 })
-simply (Err e) r c g = inr (record { error = e; answer = g.0; change = g.1 })
+pub sure_answer_cases : {A E : Type 0} (o : Result (A × Change) E) (r : Result A E) (c : Change) → IsSureAnswer o r c → Told o r c ⊎ Denied r c
+sure_answer_cases (Ok x) r c g = inl (record { given = x; from = refl; answer = g.0; change = g.1 })
+sure_answer_cases (Err e) r c g = inr (record { error = e; answer = g.0; change = g.1 })
 
 -- where a test stands before the rest
 pub passed : {A E : Type 0} (b : Bool) (o : Result A E) (e : E) (x : A) → cond b o (Err e) ≡ Ok x → (b ≡ true) × (o ≡ Ok x)
@@ -72,39 +70,39 @@ pub record Stepping (o : Option Spot) {A : Type 0} (x : A × Change) (answer : A
   pub from : o ≡ Some spot
   pub is : x ≡ (answer, moves spot)
 
-pub stepped_ok : {A E : Type 0} (e : E) (a : A) (o : Option Spot) (x : A × Change) → stepped e a o ≡ Ok x → Stepping o x a
-stepped_ok e a None x is = absurd (cc)
-stepped_ok e a (Some s) x is = record { spot = s; from = refl; is = cc }
+pub step_ok : {A E : Type 0} (e : E) (a : A) (o : Option Spot) (x : A × Change) → or_refused e a o ≡ Ok x → Stepping o x a
+step_ok e a None x is = absurd (cc)
+step_ok e a (Some s) x is = record { spot = s; from = refl; is = cc }
 
 module _ (i : ℕ) (h : ServiceHash) where
   abbrev pub mine : ℕ → Ticket
   mine n = record { node = i; hash = h; number = n }
 
-  published_ok : (n : ℕ) (k : Tickets) (o : Option Spot) (x : ℕ × Change) → published i h n k o ≡ Ok x → (s : Spot) × (o ≡ Some s) × (x ≡ (n, moves_with s (with_ticket i h k n n)))
+  published_ok : (n : ℕ) (k : Tickets) (o : Option Spot) (x : ℕ × Change) → publishing_of i h n k o ≡ Ok x → (s : Spot) × (o ≡ Some s) × (x ≡ (n, moves_with s (with_ticket i h k n n)))
   published_ok n k None x is = absurd (cc)
   published_ok n k (Some s) x is = (s, refl, cc)
 
-  opened_ok : (n : ℕ) (s : Seat) (e : Option OpenSegmentError) (o : Option Spot) (x : ℕ × Change) → opened i h n s e o ≡ Ok x → (e ≡ None) × (y : Spot) × (o ≡ Some y) × (x ≡ (s.spot.counter, moves_with (record y { counter = s.spot.counter + 1 }) (with_ticket i h s.tickets s.spot.counter n)))
+  opened_ok : (n : ℕ) (s : Seat) (e : Option OpenSegmentError) (o : Option Spot) (x : ℕ × Change) → opening_of i h n s e o ≡ Ok x → (e ≡ None) × (y : Spot) × (o ≡ Some y) × (x ≡ (s.spot.counter, moves_with (record y { counter = s.spot.counter + 1 }) (with_ticket i h s.tickets s.spot.counter n)))
   opened_ok n s (Some e) o x is = absurd (cc)
   opened_ok n s None None x is = absurd (cc)
   opened_ok n s None (Some y) x is = (refl, y, refl, cc)
 
-  pub left_ok : (t : ℕ) (k : Tickets) (o : Option Spot) (x : Released × Change) → left i h t k o ≡ Ok x → (s : Spot) × (o ≡ Some s) × (x ≡ (left_as s.phase, moves_with s (map.remove k t)))
-  left_ok t k None x is = absurd (cc)
-  left_ok t k (Some s) x is = (s, refl, cc)
+  pub release_ok : (t : ℕ) (k : Tickets) (o : Option Spot) (x : Released × Change) → release_of i h t k o ≡ Ok x → (s : Spot) × (o ≡ Some s) × (x ≡ (release_answer s.phase, moves_with s (map.remove k t)))
+  release_ok t k None x is = absurd (cc)
+  release_ok t k (Some s) x is = (s, refl, cc)
 
-  pub fetched_ok : (s : Spot) (r : Option Row) (x : _) → fetch_of i h s r ≡ Ok x → (r ≡ Some (row.Published x.0.0 x.0.1)) × (x.1 ≡ read (tried i h act.Read s))
+  pub fetched_ok : (s : Spot) (r : Option Row) (x : _) → fetch_of i h s r ≡ Ok x → (r ≡ Some (row.Published x.0.0 x.0.1)) × (x.1 ≡ read_change (own_step i h act.Read s))
   fetched_ok s None x is = absurd (cc)
   fetched_ok s (Some (row.Locked n)) x is = absurd (cc)
-  fetched_ok s (Some (row.Published n b)) x is = let same : x ≡ ((n, b), read (tried i h act.Read s)) = cc in (λ j. Some (row.Published (sym same j).0.0 (sym same j).0.1), λ j. (same j).1)
+  fetched_ok s (Some (row.Published n b)) x is = let same : x ≡ ((n, b), read_change (own_step i h act.Read s)) = cc in (λ j. Some (row.Published (sym same j).0.0 (sym same j).0.1), λ j. (same j).1)
 
-  locked_ok : (s : Spot) (r : Option Row) (x : ℕ × Change) → lock_of i h s r ≡ Ok x → Stepping (tried i h act.Lock s) x s.counter
-  locked_ok s None x is = stepped_ok _ s.counter (tried i h act.Lock s) x is
+  locked_ok : (s : Spot) (r : Option Row) (x : ℕ × Change) → lock_of i h s r ≡ Ok x → Stepping (own_step i h act.Lock s) x s.counter
+  locked_ok s None x is = step_ok _ s.counter (own_step i h act.Lock s) x is
   locked_ok s (Some (row.Locked n)) x is = absurd (cc)
   locked_ok s (Some (row.Published n b)) x is = absurd (cc)
 
-  pub made_ok : (m : ℕ) (s : Spot) (o : Option Segment) (x : Unit {0} × Change) → make_of i h m s o ≡ Ok x → Stepping (tried i h (act.Make m) s) x tt
-  made_ok m s None x is = stepped_ok _ tt (tried i h (act.Make m) s) x is
+  pub made_ok : (m : ℕ) (s : Spot) (o : Option Segment) (x : Unit {0} × Change) → make_of i h m s o ≡ Ok x → Stepping (own_step i h (act.Make m) s) x tt
+  made_ok m s None x is = step_ok _ tt (own_step i h (act.Make m) s) x is
   made_ok m s (Some y) x is = absurd (cc)
 
   -- it is the ticket of this node for this service and number
@@ -134,7 +132,7 @@ pub record Publishing (w : World) (i : ℕ) (h : ServiceHash) (n : ℕ) (d : Des
   pub limits : IsDescription d
   pub ticket : t ≡ n
   pub mid : World
-  pub step : after w (Node i) h (act.Publish d) ≡ Some mid
+  pub step : world_after w (Node i) h (act.Publish d) ≡ Some mid
   pub is : v ≡ ticket_put mid t (mine i h n)
 
 -- A segment is opened: the node gets the counter's value as ticket.
@@ -142,14 +140,14 @@ pub record Joining (w : World) (i : ℕ) (h : ServiceHash) (n t : ℕ) (v : Worl
   pub number : phase_number (phase_of w (Node i) h) ≡ Some n
   pub ticket : t ≡ w.counter
   pub mid : World
-  pub step : after w (Node i) h act.Join ≡ Some mid
+  pub step : world_after w (Node i) h act.Join ≡ Some mid
   pub is : v ≡ ticket_put (record mid { counter = w.counter + 1 }) t (mine i h n)
 
 -- A ticket is released.
 pub record Releasing (w : World) (t i : ℕ) (h : ServiceHash) (n : ℕ) (v : World) : Type 0 where
   pub ticket : ticket_of w t ≡ Some (mine i h n)
   pub mid : World
-  pub step : after w (Node i) h act.Leave ≡ Some mid
+  pub step : world_after w (Node i) h act.Leave ≡ Some mid
   pub is : v ≡ ticket_removed mid t
 
 -- acts by which nobody joins or leaves, and no row goes
@@ -164,8 +162,8 @@ IsCalm _ = ⊥
 pub data Part (w : World) (l : Letter) (v : World) : Type 0 where
   stays : v ≡ w → Part w l v
   tagged : (t : set.FinSet tag_cmp) → v ≡ record w { tags = t } → Part w l v
-  calm : (i : ℕ) (h : ServiceHash) (a : Act) → IsCalm a → after w (Node i) h a ≡ Some v → Part w l v
-  removed : (i : ℕ) (h : ServiceHash) → l ≡ letter.RemoveDescription i h (Ok tt) → after w (Node i) h act.RemoveDescription ≡ Some v → Part w l v
+  calm : (i : ℕ) (h : ServiceHash) (a : Act) → IsCalm a → world_after w (Node i) h a ≡ Some v → Part w l v
+  removed : (i : ℕ) (h : ServiceHash) → l ≡ letter.RemoveDescription i h (Ok tt) → world_after w (Node i) h act.RemoveDescription ≡ Some v → Part w l v
   publishes : (i : ℕ) (h : ServiceHash) (n : ℕ) (d : Description) (t : ℕ) → l ≡ letter.Publish i h n d (Ok t) → Publishing w i h n d t v → Part w l v
   joins : (i : ℕ) (h : ServiceHash) (n t : ℕ) → l ≡ letter.OpenSegment i h n (Ok t) → Joining w i h n t v → Part w l v
   releases : (t i : ℕ) (h : ServiceHash) (n : ℕ) (a : Released) → l ≡ letter.Release t i h n (Ok a) → Releasing w t i h n v → Part w l v
@@ -175,13 +173,13 @@ pub unchanged : (w v : World) (i : ℕ) (h : ServiceHash) (c : Change) → c ≡
 unchanged w v i h c e is = is ∙ ap (write w i h) e
 
 -- a step, in the world
-pub made_step : (w : World) (i : ℕ) (h : ServiceHash) (a : Act) (s : Spot) → tried i h a (seat w i h).spot ≡ Some s → after w (Node i) h a ≡ Some (put w (Node i) h s)
+pub made_step : (w : World) (i : ℕ) (h : ServiceHash) (a : Act) (s : Spot) → own_step i h a (seat w i h).spot ≡ Some s → world_after w (Node i) h a ≡ Some (put w (Node i) h s)
 made_step w i h a s e = ap (option_map (put w (Node i) h)) e
 
-pub moved_world : (w v : World) (i : ℕ) (h : ServiceHash) (a : Act) (c : Change) (s : Spot) → tried i h a (seat w i h).spot ≡ Some s → c ≡ moves s → v ≡ write w i h c → after w (Node i) h a ≡ Some v
+pub moved_world : (w v : World) (i : ℕ) (h : ServiceHash) (a : Act) (c : Change) (s : Spot) → own_step i h a (seat w i h).spot ≡ Some s → c ≡ moves s → v ≡ write w i h c → world_after w (Node i) h a ≡ Some v
 moved_world w v i h a c s e m is = made_step w i h a s e ∙ ap Some (sym (is ∙ ap (write w i h) m))
 
-read_part : (w v : World) (i : ℕ) (h : ServiceHash) (l : Letter) (c : Change) (o : Option Spot) → tried i h act.Read (seat w i h).spot ≡ o → c ≡ read o → v ≡ write w i h c → Part w l v
+read_part : (w v : World) (i : ℕ) (h : ServiceHash) (l : Letter) (c : Change) (o : Option Spot) → own_step i h act.Read (seat w i h).spot ≡ o → c ≡ read_change o → v ≡ write w i h c → Part w l v
 read_part w v i h l c None e m is = stays (unchanged w v i h c m is)
 read_part w v i h l c (Some s) e m is = calm i h act.Read tt (moved_world w v i h act.Read c s e m is)
 
@@ -191,7 +189,7 @@ tag_part w v i h l false r c (inl o) is = tagged _ (is ∙ ap (write w i h) o.1)
 tag_part w v i h l false r c (inr o) is = stays (unchanged w v i h c o.1 is)
 
 pub publishing : (w v : World) (i : ℕ) (h : ServiceHash) (n : ℕ) (d : Description) (t : ℕ) → IsOwnPart w (letter.Publish i h n d (Ok t)) v → Publishing w i h n d t v
-publishing w v i h n d t p = elim (gives _ _ _ p.change p.own.1) [
+publishing w v i h n d t p = elim (answer_cases _ _ _ p.change p.own.1) [
   | inl k ↦
       let first = passed (has_made n (phase_of w (Node i) h)) _ _ k.given k.from in
       let rest = published_ok i h n w.tickets _ k.given first.1 in
@@ -208,7 +206,7 @@ publishing w v i h n d t p = elim (gives _ _ _ p.change p.own.1) [
 ]
 
 pub joining : (w v : World) (i : ℕ) (h : ServiceHash) (n t : ℕ) → IsOwnPart w (letter.OpenSegment i h n (Ok t)) v → Joining w i h n t v
-joining w v i h n t p = elim (gives _ _ _ p.change p.own) [
+joining w v i h n t p = elim (answer_cases _ _ _ p.change p.own) [
   | inl k ↦
       let all = opened_ok i h n (seat w i h) _ _ k.given k.from in
       let answer : t ≡ k.given.0 = cc (k.answer) in
@@ -223,10 +221,10 @@ joining w v i h n t p = elim (gives _ _ _ p.change p.own) [
 ]
 
 pub releasing : (w v : World) (t i : ℕ) (h : ServiceHash) (n : ℕ) (a : Released) → IsOwnPart w (letter.Release t i h n (Ok a)) v → Releasing w t i h n v
-releasing w v t i h n a p = elim (simply _ _ p.change p.own) [
+releasing w v t i h n a p = elim (sure_answer_cases _ _ p.change p.own) [
   | inl k ↦
       let first = passed (is_ticket i h n (ticket_of w t)) _ _ k.given k.from in
-      let rest = left_ok i h t w.tickets _ k.given first.1 in
+      let rest = release_ok i h t w.tickets _ k.given first.1 in
       record {
         ticket = ticket_means i h n (ticket_of w t) first.0;
         mid = put w (Node i) h rest.0;
@@ -238,14 +236,14 @@ releasing w v t i h n a p = elim (simply _ _ p.change p.own) [
 
 -- what a fetch that is granted found
 pub fetching : (w v : World) (i : ℕ) (h : ServiceHash) (n : ℕ) (b : _) → IsOwnPart w (letter.Fetch i h (Ok (n, b))) v → row_of w h ≡ Some (row.Published n b)
-fetching w v i h n b p = elim (gives _ _ _ p.change p.own) [
+fetching w v i h n b p = elim (answer_cases _ _ _ p.change p.own) [
   | inl k ↦ let found = fetched_ok i h (seat w i h).spot (row_of w h) k.given k.from in let same : (n, b) ≡ k.given.0 = cc (k.answer) in found.0 ∙ (λ j. Some (row.Published (sym same j).0 (sym same j).1))
   | inr k ↦ absurd (cc (k.answer))
 ]
 
 -- a lock's number is the counter's value
-pub locking : (w v : World) (i : ℕ) (h : ServiceHash) (n : ℕ) → IsOwnPart w (letter.Lock i h (Ok n)) v → (n ≡ w.counter) × (after w (Node i) h act.Lock ≡ Some v)
-locking w v i h n p = elim (gives _ _ _ p.change p.own) [
+pub locking : (w v : World) (i : ℕ) (h : ServiceHash) (n : ℕ) → IsOwnPart w (letter.Lock i h (Ok n)) v → (n ≡ w.counter) × (world_after w (Node i) h act.Lock ≡ Some v)
+locking w v i h n p = elim (answer_cases _ _ _ p.change p.own) [
   | inl k ↦ let s = locked_ok i h (seat w i h).spot (row_of w h) k.given k.from in let answer : n ≡ k.given.0 = cc (k.answer) in
       (answer ∙ (λ j. (s.is j).0), moved_world w v i h act.Lock p.change s.spot s.from (k.change ∙ (λ j. (s.is j).1)) p.is)
   | inr k ↦ absurd (cc (k.answer))
@@ -254,32 +252,32 @@ locking w v i h n p = elim (gives _ _ _ p.change p.own) [
 -- any own part is of one of the kinds
 pub own_part : (w : World) (l : Letter) (v : World) → IsOwnPart w l v → Part w l v
 own_part w (letter.Exists h a) v p = stays (unchanged w v 0 h p.change p.own.1 p.is)
-own_part w (letter.Fetch i h a) v p = elim (gives _ _ a p.change p.own) [
-  | inl k ↦ read_part w v i h _ p.change (tried i h act.Read (seat w i h).spot) refl (k.change ∙ (fetched_ok i h (seat w i h).spot (row_of w h) k.given k.from).1) p.is
+own_part w (letter.Fetch i h a) v p = elim (answer_cases _ _ a p.change p.own) [
+  | inl k ↦ read_part w v i h _ p.change (own_step i h act.Read (seat w i h).spot) refl (k.change ∙ (fetched_ok i h (seat w i h).spot (row_of w h) k.given k.from).1) p.is
   | inr k ↦ stays (unchanged w v i h p.change k.change p.is)
 ]
 own_part w (letter.Counts i h a) v p = stays (unchanged w v i h p.change p.own.1 p.is)
 own_part w (letter.MakeTag i h a) v p = tag_part w v i h _ (seat w i h).tag a p.change p.own p.is
 own_part w (letter.RemoveTag i h a) v p = tagged _ (p.is ∙ ap (write w i h) p.own.1)
-own_part w (letter.Lock i h a) v p = elim (gives _ _ a p.change p.own) [
+own_part w (letter.Lock i h a) v p = elim (answer_cases _ _ a p.change p.own) [
   | inl k ↦ let s = locked_ok i h (seat w i h).spot (row_of w h) k.given k.from in calm i h act.Lock tt (moved_world w v i h act.Lock p.change s.spot s.from (k.change ∙ (λ j. (s.is j).1)) p.is)
   | inr k ↦ stays (unchanged w v i h p.change k.change p.is)
 ]
-own_part w (letter.MakeSegment i h n m a) v p = elim (gives _ _ a p.change p.own) [
+own_part w (letter.MakeSegment i h n m a) v p = elim (answer_cases _ _ a p.change p.own) [
   | inl k ↦ let s = made_ok i h m (seat w i h).spot (segment_of w h) k.given (passed (has_lock n (phase_of w (Node i) h) && nat_lt 0 m) _ _ k.given k.from).1 in calm i h (act.Make m) tt (moved_world w v i h (act.Make m) p.change s.spot s.from (k.change ∙ (λ j. (s.is j).1)) p.is)
   | inr k ↦ stays (unchanged w v i h p.change k.change p.is)
 ]
-own_part w (letter.RemoveSegment i h a) v p = elim (simply _ a p.change p.own) [
-  | inl k ↦ let s = stepped_ok _ _ (tried i h act.RemoveSegment (seat w i h).spot) k.given k.from in calm i h act.RemoveSegment tt (moved_world w v i h act.RemoveSegment p.change s.spot s.from (k.change ∙ (λ j. (s.is j).1)) p.is)
+own_part w (letter.RemoveSegment i h a) v p = elim (sure_answer_cases _ a p.change p.own) [
+  | inl k ↦ let s = step_ok _ _ (own_step i h act.RemoveSegment (seat w i h).spot) k.given k.from in calm i h act.RemoveSegment tt (moved_world w v i h act.RemoveSegment p.change s.spot s.from (k.change ∙ (λ j. (s.is j).1)) p.is)
   | inr k ↦ stays (unchanged w v i h p.change k.change p.is)
 ]
-own_part w (letter.RemoveDescription i h a) v p = elim (simply _ a p.change p.own) [
-  | inl k ↦ let s = stepped_ok _ _ (tried i h act.RemoveDescription (seat w i h).spot) k.given k.from in removed i h (ap (letter.RemoveDescription i h) k.answer) (moved_world w v i h act.RemoveDescription p.change s.spot s.from (k.change ∙ (λ j. (s.is j).1)) p.is)
+own_part w (letter.RemoveDescription i h a) v p = elim (sure_answer_cases _ a p.change p.own) [
+  | inl k ↦ let s = step_ok _ _ (own_step i h act.RemoveDescription (seat w i h).spot) k.given k.from in removed i h (ap (letter.RemoveDescription i h) k.answer) (moved_world w v i h act.RemoveDescription p.change s.spot s.from (k.change ∙ (λ j. (s.is j).1)) p.is)
   | inr k ↦ stays (unchanged w v i h p.change k.change p.is)
 ]
 own_part w (letter.Publish i h n d (Ok t)) v p = publishes i h n d t refl (publishing w v i h n d t p)
-own_part w (letter.Publish i h n d (Err e)) v p = elim (gives _ _ _ p.change p.own.1) [ inl k ↦ absurd (cc (k.answer)) | inr k ↦ stays (unchanged w v i h p.change k.change p.is) ]
+own_part w (letter.Publish i h n d (Err e)) v p = elim (answer_cases _ _ _ p.change p.own.1) [ inl k ↦ absurd (cc (k.answer)) | inr k ↦ stays (unchanged w v i h p.change k.change p.is) ]
 own_part w (letter.OpenSegment i h n (Ok t)) v p = joins i h n t refl (joining w v i h n t p)
-own_part w (letter.OpenSegment i h n (Err e)) v p = elim (gives _ _ _ p.change p.own) [ inl k ↦ absurd (cc (k.answer)) | inr k ↦ stays (unchanged w v i h p.change k.change p.is) ]
+own_part w (letter.OpenSegment i h n (Err e)) v p = elim (answer_cases _ _ _ p.change p.own) [ inl k ↦ absurd (cc (k.answer)) | inr k ↦ stays (unchanged w v i h p.change k.change p.is) ]
 own_part w (letter.Release t i h n (Ok a)) v p = releases t i h n a refl (releasing w v t i h n a p)
-own_part w (letter.Release t i h n (Err e)) v p = elim (simply _ _ p.change p.own) [ inl k ↦ absurd (cc (k.answer)) | inr k ↦ stays (unchanged w v i h p.change k.change p.is) ]
+own_part w (letter.Release t i h n (Err e)) v p = elim (sure_answer_cases _ _ p.change p.own) [ inl k ↦ absurd (cc (k.answer)) | inr k ↦ stays (unchanged w v i h p.change k.change p.is) ]

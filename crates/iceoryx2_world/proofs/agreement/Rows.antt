@@ -13,11 +13,10 @@ use Rattle.iceoryx2_world.specs.declared.world.Phase.TheVariants as at
 use Rattle.iceoryx2_world.specs.declared.world.Row.{Row}
 use Rattle.iceoryx2_world.specs.declared.world.Row.TheVariants as row
 use Rattle.iceoryx2_world.specs.Orders.{hash_cmp, hash_exact}
-use Rattle.iceoryx2_world.specs.World.{Segment}
+use Rattle.iceoryx2_world.specs.World.{Segment, begins, locked_number, is_last}
 use Rattle.iceoryx2_data.specs.Description.{Description, max_nodes_of}
 use Rattle.iceoryx2_world.specs.Acts.{Act, Read, Lock, RemoveSegment, RemoveDescription, Make, Publish, Join, Leave}
-use Rattle.iceoryx2_world.specs.Steps.{Spot, step, made, with_one, without_one, deserted, row_for, leave_of, has_room, has_others, fits, last_number, begins}
-use Rattle.iceoryx2_world.specs.Agreement.{locked_number, is_last}
+use Rattle.iceoryx2_world.specs.Steps.{Spot, spot_after, new_segment, with_one, without_one, deserted, row_for, leave_of, has_room, has_others, fits, last_number}
 
 abbrev spot : Phase → Option Row → Option Segment → ℕ → Spot
 spot x r s c = record { phase = x; row = r; segment = s; counter = c }
@@ -31,7 +30,7 @@ pub data IsRow (p : Participant) (h : ServiceHash) : Act → Phase → Option Ro
   clears : {n c : ℕ} {r : Option Row} {s : Option Segment}
       → IsRow p h RemoveSegment (at.Locked n) r s c (spot (at.Locked n) r None c)
   makes : {n m c : ℕ} {r : Option Row} → 0 < m
-      → IsRow p h (Make m) (at.Locked n) r None c (spot (at.Made n) r (Some (made p n m)) c)
+      → IsRow p h (Make m) (at.Locked n) r None c (spot (at.Made n) r (Some (new_segment p n m)) c)
   unmakes : {n c : ℕ} {r : Option Row} {s : Option Segment}
       → IsRow p h RemoveSegment (at.Made n) r s c (spot (at.Locked n) r None c)
   unlocks : {x : Phase} {n c : ℕ} {r : Option Row} {s : Option Segment} → locked_number x ≡ Some n
@@ -94,7 +93,7 @@ module _ (p : Participant) (h : ServiceHash) where
   leave_rows n k r s c new v o false false x y e = absurd (cc)
 
   -- Each allowed step is one of them.
-  pub row_of_step : (act : Act) (x : Phase) (r : Option Row) (s : Option Segment) (c : ℕ) (new : Spot) → step p h act x r s c ≡ Some new
+  pub row_of_step : (act : Act) (x : Phase) (r : Option Row) (s : Option Segment) (c : ℕ) (new : Spot) → spot_after p h act x r s c ≡ Some new
       → IsRow p h act x r s c new
   row_of_step Read at.Idle (Some (row.Published n b)) s c new e = always (IsRow p h _ _ _ s c) _ new e (reads refl)
   row_of_step Read (at.Read m) (Some (row.Published n b)) s c new e = always (IsRow p h _ _ _ s c) _ new e (reads refl)

@@ -7,11 +7,11 @@ use Rattle.iceoryx2_world.specs.declared.world.Phase.{Phase}
 use Rattle.iceoryx2_world.specs.declared.world.Row.{Row}
 use Rattle.iceoryx2_world.specs.declared.world.Row.TheVariants as row
 use Rattle.iceoryx2_world.specs.Orders.{hash_total, hash_exact}
-use Rattle.iceoryx2_world.specs.World.{World, Segment, row_of, segment_of, phase_of}
+use Rattle.iceoryx2_world.specs.World.{World, Segment, row_of, segment_of, phase_of, locked_number}
 use Rattle.iceoryx2_world.specs.Acts.{Act, IsAct, Read, Lock, RemoveSegment, RemoveDescription, Make, Publish, Join, Leave}
 use Rattle.iceoryx2_world.specs.Acts as act
-use Rattle.iceoryx2_world.specs.Steps.{Spot, put, after, with_one, without_one, deserted}
-use Rattle.iceoryx2_world.specs.Agreement.{AgreesEverywhere, Spent, locked_number}
+use Rattle.iceoryx2_world.specs.Steps.{Spot, put, world_after, with_one, without_one, deserted}
+use Rattle.iceoryx2_world.specs.Agreement.{AgreesEverywhere, IsSpent}
 use Rattle.iceoryx2_world.specs.Across.{Agrees}
 use Rattle.iceoryx2_access.specs.Letter.{Letter}
 use Rattle.iceoryx2_world.specs.Access.{IsOwnPart}
@@ -57,7 +57,7 @@ row_segment clears_last = no_origin _ _
 row_segment (ends last) = same_origin _ _
 
 -- the same in worlds, at each service
-pub world_segment : (w v : World) (p : Participant) (g : ServiceHash) (a : Act) → after w p g a ≡ Some v → (h : ServiceHash) (y : Segment) → segment_of v h ≡ Some y → ((z : Segment) × (segment_of w h ≡ Some z) × (z.number ≡ y.number)) ⊎ (locked_number (phase_of w p h) ≡ Some y.number)
+pub world_segment : (w v : World) (p : Participant) (g : ServiceHash) (a : Act) → world_after w p g a ≡ Some v → (h : ServiceHash) (y : Segment) → segment_of v h ≡ Some y → ((z : Segment) × (segment_of w h ≡ Some z) × (z.number ≡ y.number)) ⊎ (locked_number (phase_of w p h) ≡ Some y.number)
 world_segment w v p g a e h y is =
     let st = stepped w v p g a e in
     let there : segment_of (put w p g st.spot) h ≡ Some y = ap (λ u. segment_of u h) st.world ∙ is in
@@ -70,7 +70,7 @@ world_segment w v p g a e h y is =
     ]
 
 -- No step brings a spent number back.
-pub spent_step : (w v : World) (p : Participant) (g : ServiceHash) (a : Act) (h : ServiceHash) (n : ℕ) → IsAct a → after w p g a ≡ Some v → AgreesEverywhere w → Spent w h n → Spent v h n
+pub spent_step : (w v : World) (p : Participant) (g : ServiceHash) (a : Act) (h : ServiceHash) (n : ℕ) → IsAct a → world_after w p g a ≡ Some v → AgreesEverywhere w → IsSpent w h n → IsSpent v h n
 spent_step w v p g a h n ok e each s =
     let later = (after_keeps w v p g a ok e each).1 in
     record {
@@ -82,10 +82,10 @@ spent_step w v p g a h n ok e each s =
       ];
     }
 
-spent_same : (w v : World) (h : ServiceHash) (n : ℕ) → v ≡ w → Spent w h n → Spent v h n
-spent_same w v h n e s = subst (λ u. Spent u h n) (sym e) s
+spent_same : (w v : World) (h : ServiceHash) (n : ℕ) → v ≡ w → IsSpent w h n → IsSpent v h n
+spent_same w v h n e s = subst (λ u. IsSpent u h n) (sym e) s
 
-pub spent_peers : {w v : World} (h : ServiceHash) (n : ℕ) → Peers w v → Agrees w → Spent w h n → Spent v h n
+pub spent_peers : {w v : World} (h : ServiceHash) (n : ℕ) → Peers w v → Agrees w → IsSpent w h n → IsSpent v h n
 spent_peers h n none old s = s
 spent_peers {w = u} {v = w} h n (peer {v = v} id g a ok e rest) old s = spent_peers h n rest (peer_keeps u v id g a ok e old).0 (spent_step u v (Peer id) g a h n ok e old.everywhere s)
 
@@ -99,23 +99,23 @@ calm_is (act.Publish d) ok = absurd ok
 calm_is act.Join ok = absurd ok
 calm_is act.Leave ok = absurd ok
 
-part_spent : (w : World) (l : Letter) (v : World) (h : ServiceHash) (n : ℕ) → Part w l v → Agrees w → Spent w h n → Spent v h n
+part_spent : (w : World) (l : Letter) (v : World) (h : ServiceHash) (n : ℕ) → Part w l v → Agrees w → IsSpent w h n → IsSpent v h n
 part_spent w l v h n (stays e) old s = spent_same w v h n e s
-part_spent w l v h n (tagged t e) old s = subst (λ u. Spent u h n) (sym e) (record { below = s.below; row = s.row; segment = s.segment })
+part_spent w l v h n (tagged t e) old s = subst (λ u. IsSpent u h n) (sym e) (record { below = s.below; row = s.row; segment = s.segment })
 part_spent w l v h n (calm i g a ok e) old s = spent_step w v (Node i) g a h n (calm_is a ok) e old.everywhere s
 part_spent w l v h n (removed i g is e) old s = spent_step w v (Node i) g act.RemoveDescription h n tt e old.everywhere s
-part_spent w l v h n (publishes i g m d t is p) old s = let new = spent_step w p.mid (Node i) g (act.Publish d) h n p.limits p.step old.everywhere s in subst (λ u. Spent u h n) (sym p.is) (record { below = new.below; row = new.row; segment = new.segment })
-part_spent w l v h n (joins i g m t is p) old s = let new = spent_step w p.mid (Node i) g act.Join h n tt p.step old.everywhere s in subst (λ u. Spent u h n) (sym p.is) (record { below = grind (arith, s.below); row = new.row; segment = new.segment })
-part_spent w l v h n (releases t i g m a is p) old s = let new = spent_step w p.mid (Node i) g act.Leave h n tt p.step old.everywhere s in subst (λ u. Spent u h n) (sym p.is) (record { below = new.below; row = new.row; segment = new.segment })
+part_spent w l v h n (publishes i g m d t is p) old s = let new = spent_step w p.mid (Node i) g (act.Publish d) h n p.limits p.step old.everywhere s in subst (λ u. IsSpent u h n) (sym p.is) (record { below = new.below; row = new.row; segment = new.segment })
+part_spent w l v h n (joins i g m t is p) old s = let new = spent_step w p.mid (Node i) g act.Join h n tt p.step old.everywhere s in subst (λ u. IsSpent u h n) (sym p.is) (record { below = grind (arith, s.below); row = new.row; segment = new.segment })
+part_spent w l v h n (releases t i g m a is p) old s = let new = spent_step w p.mid (Node i) g act.Leave h n tt p.step old.everywhere s in subst (λ u. IsSpent u h n) (sym p.is) (record { below = new.below; row = new.row; segment = new.segment })
 
-pub spent_own : (w : World) (l : Letter) (v : World) (h : ServiceHash) (n : ℕ) → IsOwnPart w l v → Agrees w → Spent w h n → Spent v h n
+pub spent_own : (w : World) (l : Letter) (v : World) (h : ServiceHash) (n : ℕ) → IsOwnPart w l v → Agrees w → IsSpent w h n → IsSpent v h n
 spent_own w l v h n o old s = part_spent w l v h n (own_part w l v o) old s
 
-pub spent_access : (w : World) (l : Letter) (v : World) (h : ServiceHash) (n : ℕ) → IsFaulty w l v → Agrees w → Spent w h n → Spent v h n
+pub spent_access : (w : World) (l : Letter) (v : World) (h : ServiceHash) (n : ℕ) → IsFaulty w l v → Agrees w → IsSpent w h n → IsSpent v h n
 spent_access w l v h n (inl a) old s = spent_own a.between l v h n a.own (peers_keep a.peers old).0 (spent_peers h n a.peers old s)
 spent_access w l v h n (inr f) old s = spent_same w v h n f.1 s
 
 -- nor does a run of accesses
-pub spent_run : {w v : World} {word : List Letter} (h : ServiceHash) (n : ℕ) → Run IsFaulty w word v → Agrees w → Spent w h n → Spent v h n
+pub spent_run : {w v : World} {word : List Letter} (h : ServiceHash) (n : ℕ) → Run IsFaulty w word v → Agrees w → IsSpent w h n → IsSpent v h n
 spent_run h n done old s = s
 spent_run {w = u} {v = w} h n (next {mid = v} {letter = l} a rest) old s = spent_run h n rest (faulty_keeps u l v a old).0 (spent_access u l v h n a old s)

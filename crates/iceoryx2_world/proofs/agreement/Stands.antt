@@ -14,20 +14,20 @@ use Rattle.iceoryx2_world.specs.declared.world.Ticket.{Ticket}
 use Rattle.iceoryx2_world.specs.declared.world.Row.{Row}
 use Rattle.iceoryx2_world.specs.declared.world.Row.TheVariants as row
 use Rattle.iceoryx2_world.specs.Orders.{hash_total, hash_exact}
-use Rattle.iceoryx2_world.specs.World.{World, Segment, row_of, segment_of, phase_of}
+use Rattle.iceoryx2_world.specs.World.{World, Segment, row_of, segment_of, phase_of, joined_number, locked_number, ticket_of}
 use Rattle.iceoryx2_world.specs.Acts.{Act, IsAct}
 use Rattle.iceoryx2_world.specs.Acts as act
-use Rattle.iceoryx2_world.specs.Steps.{Spot, after}
-use Rattle.iceoryx2_world.specs.Agreement.{AgreesEverywhere, Later, joined_number, locked_number}
-use Rattle.iceoryx2_world.specs.Across.{ticket_of, Agrees}
+use Rattle.iceoryx2_world.specs.Steps.{Spot, world_after}
+use Rattle.iceoryx2_world.specs.Agreement.{AgreesEverywhere, Later}
+use Rattle.iceoryx2_world.specs.Across.{Agrees}
 use Rattle.iceoryx2_access.specs.declared.storage.Release.{Release as Released}
 use Rattle.iceoryx2_access.specs.Letter.{Letter}
 use Rattle.iceoryx2_access.specs.Letter as letter
 use Rattle.iceoryx2_world.specs.Peers.{Peers, none, peer, IsAccess}
 use Rattle.iceoryx2_world.specs.Faulty.{IsFaulty}
 use Rattle.iceoryx2_access.specs.Factory.{Factory}
-use Rattle.iceoryx2_world.specs.Standing.{ticket_for, Stands, Spares, Each}
-use Rattle.iceoryx2_access.specs.Run.{Run, done, next}
+use Rattle.iceoryx2_world.specs.Standing.{ticket_for, Stands, Spares}
+use Rattle.iceoryx2_access.specs.Run.{Each, Run, done, next}
 use Rattle.iceoryx2_access.proofs.Run.{split, head, last}
 use Rattle.iceoryx2_world.proofs.agreement.Whole.{after_keeps}
 use Rattle.iceoryx2_world.proofs.agreement.Rows.{IsRow, publishes as row_publishes, row_of_step}
@@ -65,7 +65,7 @@ ticket_stands w t x a e =
     (f, refl, same, stands_by_ticket w w f (later_refl w) d.form.0 row a (e ∙ ap Some (sym same)))
 
 -- A step of another participant.
-pub other_stands : (w v : World) (p : Participant) (g : ServiceHash) (a : Act) (f : Factory) → (Node f.node ≢ p) → IsAct a → after w p g a ≡ Some v → Agrees w → Stands w f → Stands v f
+pub other_stands : (w v : World) (p : Participant) (g : ServiceHash) (a : Act) (f : Factory) → (Node f.node ≢ p) → IsAct a → world_after w p g a ≡ Some v → Agrees w → Stands w f → Stands v f
 other_stands w v p g a f apart ok e old s =
     let st = stepped w v p g a e in
     let kept = after_keeps w v p g a ok e old.everywhere in
@@ -76,7 +76,7 @@ other_stands w v p g a f apart ok e old s =
     stands_by w v f kept.1 s.limits s.row kept.0 (ap joined_number still ∙ old.held.number f.ticket (ticket_for f) s.ticket) (ap (λ m. map.get m f.ticket) (step_tickets w v p g a st) ∙ s.ticket)
 
 -- a step leaves all tickets
-step_ticket : (w v : World) (p : Participant) (g : ServiceHash) (a : Act) (t : ℕ) (x : Ticket) → after w p g a ≡ Some v → ticket_of w t ≡ Some x → ticket_of v t ≡ Some x
+step_ticket : (w v : World) (p : Participant) (g : ServiceHash) (a : Act) (t : ℕ) (x : Ticket) → world_after w p g a ≡ Some v → ticket_of w t ≡ Some x → ticket_of v t ≡ Some x
 step_ticket w v p g a t x e k = ap (λ m. map.get m t) (step_tickets w v p g a (stepped w v p g a e)) ∙ k
 
 -- another ticket comes or goes

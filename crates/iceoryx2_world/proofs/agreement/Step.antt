@@ -5,17 +5,17 @@ use Rattle.iceoryx2_data.specs.declared.description.ServiceHash.{ServiceHash}
 use Rattle.iceoryx2_world.specs.declared.world.Phase.{Phase}
 use Rattle.iceoryx2_world.specs.declared.world.Row.{Row}
 use Rattle.iceoryx2_world.specs.declared.world.Row.TheVariants as row
-use Rattle.iceoryx2_world.specs.World.{Segment}
+use Rattle.iceoryx2_world.specs.World.{Segment, begins, locked_number, is_last}
 use Rattle.iceoryx2_data.specs.Form as form
 use Rattle.iceoryx2_world.specs.Acts.{Act, IsAct}
-use Rattle.iceoryx2_world.specs.Steps.{Spot, step, begins}
-use Rattle.iceoryx2_world.specs.Agreement.{AgreesAt, LaterAt, locked_number, is_last}
+use Rattle.iceoryx2_world.specs.Steps.{Spot, spot_after}
+use Rattle.iceoryx2_world.specs.Agreement.{AgreesAt, LaterAt}
 use Rattle.iceoryx2_world.proofs.agreement.Moved.{moved}
 use Rattle.iceoryx2_world.proofs.agreement.Rows.{IsRow, reads, locks, clears, makes, unmakes, unlocks, publishes, joins, joins_again, leaves_once, leaves, leaves_last, clears_last, ends, row_of_step}
 use Rattle.iceoryx2_world.proofs.agreement.Keeps.{read_keeps, lock_keeps, make_keeps, unmake_keeps, unlock_keeps, publish_keeps, join_keeps, recount_keeps, leave_keeps, last_keeps, clear_keeps, end_keeps}
 
 -- what a step keeps, and that the row is a later one
-pub record Keeps (c : ℕ) (r : Option Row) (h : ServiceHash) (f : Participant → Phase) (p : Participant) (new : Spot) : Type 0 where
+pub record StepKeeps (c : ℕ) (r : Option Row) (h : ServiceHash) (f : Participant → Phase) (p : Participant) (new : Spot) : Type 0 where
   pub rises : c ≤ new.counter
   pub later : LaterAt c r new.row
   pub agrees : AgreesAt new.counter h new.row new.segment (moved f p new.phase)
@@ -33,15 +33,15 @@ later_published : (c n : ℕ) (b : List ℕ) (r : Option Row) → r ≡ Some (ro
 later_published c n b r was = record { no_new = λ x e below. (row.Locked n, was, grind arith); not_relocked = λ m e g. cc; same_bytes = λ m x y e g. absurd (cc) }
 
 stays : {c : ℕ} {r : Option Row} {h : ServiceHash} {f : Participant → Phase} {p : Participant} {x : Phase} {s : Option Segment}
-    → AgreesAt c h r s (moved f p x) → Keeps c r h f p (record { phase = x; row = r; segment = s; counter = c })
+    → AgreesAt c h r s (moved f p x) → StepKeeps c r h f p (record { phase = x; row = r; segment = s; counter = c })
 stays a = record { rises = omega arith; later = later_same _ _; agrees = a }
 
 goes : {c : ℕ} {r : Option Row} {h : ServiceHash} {f : Participant → Phase} {p : Participant} {x : Phase} {s : Option Segment}
-    → AgreesAt c h None s (moved f p x) → Keeps c r h f p (record { phase = x; row = None; segment = s; counter = c })
+    → AgreesAt c h None s (moved f p x) → StepKeeps c r h f p (record { phase = x; row = None; segment = s; counter = c })
 goes a = record { rises = omega arith; later = later_none _ _; agrees = a }
 
 row_keeps : {p : Participant} {h : ServiceHash} {act : Act} {x : Phase} {r : Option Row} {s : Option Segment} {c : ℕ} {new : Spot} → IsRow p h act x r s c new
-    → (f : Participant → Phase) → f p ≡ x → IsAct act → AgreesAt c h r s f → Keeps c r h f p new
+    → (f : Participant → Phase) → f p ≡ x → IsAct act → AgreesAt c h r s f → StepKeeps c r h f p new
 row_keeps {p} {h} (reads {n = n} {c = c} {b = b} {s = s} free) f was ok a = stays (read_keeps c h f p n b s (ap begins was ∙ free) a)
 row_keeps {p} {h} (locks {c = c} {s = s} free below) f was ok a =
     record { rises = omega arith; later = later_locked c; agrees = lock_keeps c h f p s a }
@@ -63,5 +63,5 @@ row_keeps {p} {h} (clears_last {n = n} {c = c} {r = r} {s = s}) f was ok a = sta
 row_keeps {p} {h} (ends {c = c} {r = r} {s = s} last) f was ok a = goes (end_keeps c h f p r s (ap is_last was ∙ last) a)
 
 pub step_keeps : (p : Participant) (h : ServiceHash) (act : Act) (x : Phase) (r : Option Row) (s : Option Segment) (c : ℕ) (new : Spot)
-    (f : Participant → Phase) → f p ≡ x → IsAct act → step p h act x r s c ≡ Some new → AgreesAt c h r s f → Keeps c r h f p new
+    (f : Participant → Phase) → f p ≡ x → IsAct act → spot_after p h act x r s c ≡ Some new → AgreesAt c h r s f → StepKeeps c r h f p new
 step_keeps p h act x r s c new f was ok e a = row_keeps (row_of_step p h act x r s c new e) f was ok a

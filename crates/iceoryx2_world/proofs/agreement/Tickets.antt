@@ -11,8 +11,7 @@ use Rattle.std.proofs.lemmas.Map.Lookups.{exact_unsigned}
 use Rattle.iceoryx2_data.specs.declared.description.ServiceHash.{ServiceHash}
 use Rattle.iceoryx2_world.specs.declared.world.Ticket.{Ticket}
 use Rattle.iceoryx2_world.specs.Orders.{hash_cmp, hash_total, hash_exact}
-use Rattle.iceoryx2_world.specs.Access.{Tickets}
-use Rattle.iceoryx2_world.specs.Across.{belongs, ticket_count}
+use Rattle.iceoryx2_world.specs.World.{Tickets, belongs, ticket_count}
 use Rattle.iceoryx2_world.proofs.agreement.Counts.{passing_put}
 use Rattle.iceoryx2_world.proofs.agreement.Maps.{self}
 

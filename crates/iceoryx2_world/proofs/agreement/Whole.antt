@@ -15,7 +15,7 @@ use Rattle.iceoryx2_world.specs.declared.world.Row.{Row}
 use Rattle.iceoryx2_world.specs.Orders.{hash_cmp, hash_exact, hash_total, place_cmp, place_total, participant_cmp}
 use Rattle.iceoryx2_world.specs.World.{World, Segment, row_of, segment_of, phase_of, or_idle, unless_idle, set_to}
 use Rattle.iceoryx2_world.specs.Acts.{Act, IsAct}
-use Rattle.iceoryx2_world.specs.Steps.{Spot, step, put, after}
+use Rattle.iceoryx2_world.specs.Steps.{Spot, spot_after, put, world_after}
 use Rattle.iceoryx2_world.specs.Agreement.{AgreesAt, AgreesEverywhere, LaterAt, Later}
 use Rattle.iceoryx2_world.proofs.agreement.Moved.{moved, same}
 use Rattle.iceoryx2_world.proofs.agreement.Step.{step_keeps, later_same}
@@ -114,7 +114,7 @@ later_from w p h s l g = elim (is_eq (hash_cmp g h)) as (λ b. is_eq (hash_cmp g
   | false ↦ λ t. rw (row_put w p h s g, t) (later_same _ _)
 ] refl
 
-everywhere : (w : World) (p : Participant) (h : ServiceHash) (act : Act) (o : Option Spot) (w' : World) → IsAct act → step p h act (phase_of w p h) (row_of w h) (segment_of w h) w.counter ≡ o → option_map (put w p h) o ≡ Some w' → AgreesEverywhere w → AgreesEverywhere w' × Later w w'
+everywhere : (w : World) (p : Participant) (h : ServiceHash) (act : Act) (o : Option Spot) (w' : World) → IsAct act → spot_after p h act (phase_of w p h) (row_of w h) (segment_of w h) w.counter ≡ o → option_map (put w p h) o ≡ Some w' → AgreesEverywhere w → AgreesEverywhere w' × Later w w'
 everywhere w p h act None w' ok is e a = absurd (cc)
 everywhere w p h act (Some s) w' ok is e a =
     let kept = step_keeps p h act (phase_of w p h) (row_of w h) (segment_of w h) w.counter s (λ q. phase_of w q h) refl ok is (a h) in
@@ -128,5 +128,5 @@ everywhere w p h act (Some s) w' ok is e a =
     )
 
 -- an allowed step keeps the agreement, and the world is a later one
-pub after_keeps : (w w' : World) (p : Participant) (h : ServiceHash) (act : Act) → IsAct act → after w p h act ≡ Some w' → AgreesEverywhere w → AgreesEverywhere w' × Later w w'
+pub after_keeps : (w w' : World) (p : Participant) (h : ServiceHash) (act : Act) → IsAct act → world_after w p h act ≡ Some w' → AgreesEverywhere w → AgreesEverywhere w' × Later w w'
 after_keeps w w' p h act ok e a = everywhere w p h act _ w' ok refl e a

@@ -10,15 +10,15 @@ use Rattle.iceoryx2_world.specs.declared.world.Phase.{Phase}
 use Rattle.iceoryx2_world.specs.declared.world.Row.TheVariants as row
 use Rattle.iceoryx2_world.specs.declared.world.Ticket.{Ticket}
 use Rattle.iceoryx2_world.specs.Orders.{hash_total, hash_exact, place_total, place_exact}
-use Rattle.iceoryx2_world.specs.World.{World, row_of, segment_of, phase_of, or_idle, unless_idle}
+use Rattle.iceoryx2_world.specs.World.{World, row_of, segment_of, phase_of, or_idle, unless_idle, joined_number, phase_number, ticket_of, join_count, belongs, ticket_count}
 use Rattle.iceoryx2_world.specs.Acts.{Act, IsAct}
 use Rattle.iceoryx2_world.specs.Acts as act
-use Rattle.iceoryx2_world.specs.Steps.{Spot, put, after}
-use Rattle.iceoryx2_world.specs.Agreement.{AgreesEverywhere, Later, joined_number, phase_number}
+use Rattle.iceoryx2_world.specs.Steps.{Spot, put, world_after}
+use Rattle.iceoryx2_world.specs.Agreement.{AgreesEverywhere, Later}
 use Rattle.iceoryx2_world.proofs.agreement.Whole.{AgreesAt-later, after_keeps, stored}
-use Rattle.iceoryx2_world.specs.Across.{ticket_of, join_count, belongs, ticket_count, Numbered, Agrees}
+use Rattle.iceoryx2_world.specs.Across.{AgreesOnNumbers, Agrees}
 use Rattle.iceoryx2_world.proofs.agreement.Maps.{set_cases}
-use Rattle.iceoryx2_world.proofs.agreement.Effects.{Gains, Idles, Change, Stepped, stepped, step_effect}
+use Rattle.iceoryx2_world.proofs.agreement.Effects.{Gains, Idles, PhaseChange, Stepped, stepped, step_effect}
 use Rattle.iceoryx2_world.proofs.agreement.Holding.{Places, held_same, held_more, held_less}
 use Rattle.iceoryx2_world.proofs.agreement.Tickets.{one_if, count_insert, count_remove}
 
@@ -43,8 +43,8 @@ place_cases w p h s q g = elim (set_cases place_total place_exact w.phases (p, h
 ]
 
 -- a step moves one place of a node
-pub step_places : (w v : World) (id : ℕ) (h : ServiceHash) (a : Act) → Stepped w v (Node id) h a → Places w v id h (Change a)
-step_places w v id h a st = subst (λ u. Places w u id h (Change a)) st.world (λ i g. elim (place_cases w (Node id) h st.spot (Node i) g) [
+pub step_places : (w v : World) (id : ℕ) (h : ServiceHash) (a : Act) → Stepped w v (Node id) h a → Places w v id h (PhaseChange a)
+step_places w v id h a st = subst (λ u. Places w u id h (PhaseChange a)) st.world (λ i g. elim (place_cases w (Node id) h st.spot (Node i) g) [
   | inl e ↦ inl (same_node i id e.0, e.1, rw (ap (λ q. phase_of (put w (Node id) h st.spot) q h) (sym e.0) ∙ ap (phase_of (put w (Node id) h st.spot) (Node i)) (sym e.1) ∙ e.2) (step_effect (Node id) h a (phase_of w (Node id) h) (row_of w h) (segment_of w h) w.counter st.spot st.is).change)
   | inr e ↦ inr (λ x y. e.0 (ap Node x) y, e.1)
 ])
@@ -76,7 +76,7 @@ pub is_none : (o : Option Ticket) → ((x : Ticket) → o ≡ Some x → ⊥) �
 is_none None f = refl
 is_none (Some x) f = absurd (f x refl)
 
-pub step_numbered : (w v : World) (p : Participant) (h : ServiceHash) (a : Act) → Stepped w v p h a → AgreesEverywhere w → Numbered w → Numbered v
+pub step_numbered : (w v : World) (p : Participant) (h : ServiceHash) (a : Act) → Stepped w v p h a → AgreesEverywhere w → AgreesOnNumbers w → AgreesOnNumbers v
 step_numbered w v p h a st each old =
     let tickets = step_tickets w v p h a st in
     let rises = step_counter w v p h a st in
@@ -102,7 +102,7 @@ step_numbered w v p h a st each old =
     }
 
 -- a ticket more
-numbered_more : (w v : World) (t : ℕ) (x : Ticket) → v.tickets ≡ map.insert w.tickets t x → v.rows ≡ w.rows → w.counter ≤ v.counter → t < v.counter → ((g : ServiceHash) → row_of w g ≢ Some (row.Locked t)) → ((i : ℕ) (g : ServiceHash) → ticket_count v.tickets i g ≤ v.counter) → Numbered w → Numbered v
+numbered_more : (w v : World) (t : ℕ) (x : Ticket) → v.tickets ≡ map.insert w.tickets t x → v.rows ≡ w.rows → w.counter ≤ v.counter → t < v.counter → ((g : ServiceHash) → row_of w g ≢ Some (row.Locked t)) → ((i : ℕ) (g : ServiceHash) → ticket_count v.tickets i g ≤ v.counter) → AgreesOnNumbers w → AgreesOnNumbers v
 numbered_more w v t x tickets rows rises below free few old =
     let lock : (g : ServiceHash) (n : ℕ) → row_of v g ≡ Some (row.Locked n) → row_of w g ≡ Some (row.Locked n) = λ g n e. ap (λ m. map.get m g) (sym rows) ∙ e in
     let from : (s : ℕ) (y : Ticket) → ticket_of v s ≡ Some y → (s ≡ t) ⊎ (ticket_of w s ≡ Some y) = λ s y e. elim (set_cases nat_cmp_total exact_unsigned w.tickets t (Some x) s) [
@@ -116,7 +116,7 @@ numbered_more w v t x tickets rows rises below free few old =
       few = few;
     }
 
-numbered_less : (w v : World) (t : ℕ) (x : Ticket) → ticket_of w t ≡ Some x → v.tickets ≡ map.remove w.tickets t → v.rows ≡ w.rows → w.counter ≤ v.counter → Numbered w → Numbered v
+numbered_less : (w v : World) (t : ℕ) (x : Ticket) → ticket_of w t ≡ Some x → v.tickets ≡ map.remove w.tickets t → v.rows ≡ w.rows → w.counter ≤ v.counter → AgreesOnNumbers w → AgreesOnNumbers v
 numbered_less w v t x there tickets rows rises old =
     let lock : (g : ServiceHash) (n : ℕ) → row_of v g ≡ Some (row.Locked n) → row_of w g ≡ Some (row.Locked n) = λ g n e. ap (λ m. map.get m g) (sym rows) ∙ e in
     let from : (s : ℕ) (y : Ticket) → ticket_of v s ≡ Some y → ticket_of w s ≡ Some y = λ s y e. elim (set_cases nat_cmp_total exact_unsigned w.tickets t None s) [
@@ -131,13 +131,13 @@ numbered_less w v t x there tickets rows rises old =
     }
 
 -- any step keeps all but the tickets of nodes
-pub bare_keeps : (w v : World) (p : Participant) (h : ServiceHash) (a : Act) → IsAct a → after w p h a ≡ Some v → AgreesEverywhere w → Numbered w → AgreesEverywhere v × Numbered v × Later w v
+pub bare_keeps : (w v : World) (p : Participant) (h : ServiceHash) (a : Act) → IsAct a → world_after w p h a ≡ Some v → AgreesEverywhere w → AgreesOnNumbers w → AgreesEverywhere v × AgreesOnNumbers v × Later w v
 bare_keeps w v p h a ok e each numbered =
     let kept = after_keeps w v p h a ok e each in
     (kept.0, step_numbered w v p h a (stepped w v p h a e) each numbered, kept.1)
 
 -- a step of a peer keeps all
-pub peer_keeps : (w v : World) (id : ℕ) (h : ServiceHash) (a : Act) → IsAct a → after w (Peer id) h a ≡ Some v → Agrees w → Agrees v × Later w v
+pub peer_keeps : (w v : World) (id : ℕ) (h : ServiceHash) (a : Act) → IsAct a → world_after w (Peer id) h a ≡ Some v → Agrees w → Agrees v × Later w v
 peer_keeps w v id h a ok e old =
     let st = stepped w v (Peer id) h a e in
     let kept = after_keeps w v (Peer id) h a ok e old.everywhere in (
@@ -150,7 +150,7 @@ peer_keeps w v id h a ok e old =
     )
 
 -- a node's step that join_count nothing
-pub idle_keeps : (w v : World) (id : ℕ) (h : ServiceHash) (a : Act) → IsAct a → ((x y : Phase) → Change a x y → Idles x y) → after w (Node id) h a ≡ Some v → Agrees w → Agrees v × Later w v
+pub idle_keeps : (w v : World) (id : ℕ) (h : ServiceHash) (a : Act) → IsAct a → ((x y : Phase) → PhaseChange a x y → Idles x y) → world_after w (Node id) h a ≡ Some v → Agrees w → Agrees v × Later w v
 idle_keeps w v id h a ok idle e old =
     let st = stepped w v (Node id) h a e in
     let kept = after_keeps w v (Node id) h a ok e old.everywhere in
@@ -167,7 +167,7 @@ idle_keeps w v id h a ok idle e old =
     )
 
 -- a node's step by which it gains a use, with a new ticket
-pub gain_keeps : (w u : World) (id : ℕ) (h : ServiceHash) (a : Act) (n t c : ℕ) → IsAct a → ((x y : Phase) → Change a x y → Gains x y) → after w (Node id) h a ≡ Some u → phase_number (phase_of w (Node id) h) ≡ Some n → ticket_of w t ≡ None → t < c → u.counter ≤ c → ((g : ServiceHash) → row_of u g ≢ Some (row.Locked t)) → ((i : ℕ) (g : ServiceHash) → one_if (belongs i g (t, record { node = id; hash = h; number = n })) + ticket_count w.tickets i g ≤ c) → Agrees w → Agrees (ticket_put (record u { counter = c }) t (record { node = id; hash = h; number = n })) × Later w (ticket_put (record u { counter = c }) t (record { node = id; hash = h; number = n }))
+pub gain_keeps : (w u : World) (id : ℕ) (h : ServiceHash) (a : Act) (n t c : ℕ) → IsAct a → ((x y : Phase) → PhaseChange a x y → Gains x y) → world_after w (Node id) h a ≡ Some u → phase_number (phase_of w (Node id) h) ≡ Some n → ticket_of w t ≡ None → t < c → u.counter ≤ c → ((g : ServiceHash) → row_of u g ≢ Some (row.Locked t)) → ((i : ℕ) (g : ServiceHash) → one_if (belongs i g (t, record { node = id; hash = h; number = n })) + ticket_count w.tickets i g ≤ c) → Agrees w → Agrees (ticket_put (record u { counter = c }) t (record { node = id; hash = h; number = n })) × Later w (ticket_put (record u { counter = c }) t (record { node = id; hash = h; number = n }))
 gain_keeps w u id h a n t c ok gain e is fresh below rises free few old =
     let st = stepped w u (Node id) h a e in
     let kept = after_keeps w u (Node id) h a ok e old.everywhere in
@@ -185,7 +185,7 @@ gain_keeps w u id h a n t c ok gain e is fresh below rises free few old =
       record { counter = grind (arith, kept.1.counter, rises); rows = kept.1.rows },
     )
 
-pub lose_keeps : (w u : World) (id : ℕ) (h : ServiceHash) (n t : ℕ) → after w (Node id) h act.Leave ≡ Some u → ticket_of w t ≡ Some (record { node = id; hash = h; number = n }) → Agrees w → Agrees (ticket_removed u t) × Later w (ticket_removed u t)
+pub lose_keeps : (w u : World) (id : ℕ) (h : ServiceHash) (n t : ℕ) → world_after w (Node id) h act.Leave ≡ Some u → ticket_of w t ≡ Some (record { node = id; hash = h; number = n }) → Agrees w → Agrees (ticket_removed u t) × Later w (ticket_removed u t)
 lose_keeps w u id h n t e there old =
     let st = stepped w u (Node id) h act.Leave e in
     let kept = after_keeps w u (Node id) h act.Leave tt e old.everywhere in

@@ -6,7 +6,7 @@ use Rattle.iceoryx2_world.specs.declared.world.Phase.TheVariants as at
 use Rattle.iceoryx2_world.specs.Orders.{hash_cmp, hash_total, hash_exact, place_cmp}
 use Rattle.iceoryx2_world.specs.World.{Segment}
 use Rattle.iceoryx2_world.specs.Acts as act
-use Rattle.iceoryx2_world.specs.Steps.{now, last_number}
+use Rattle.iceoryx2_world.specs.Steps.{to_spot, last_number}
 use Rattle.iceoryx2_storage.specs.Book.{Admits, needs_room}
 use Rattle.iceoryx2_storage.proofs.Views.{kept, kept_at, there_by}
 use Rattle.iceoryx2_storage.proofs.Spots.{by_phase, by_both, replaced, returned, did, refused, starved}
@@ -34,7 +34,7 @@ returns-then-admitted c =
     let there : map.get m h ≡ Some s = sym c.remove.ensures.value ∙ c.in-Some.is in
     let ad = subst (λ (b : Bool). Admits c.in-Read.number p s (Ok b) c.admit-admitted.new.self) c.if-admitted.true c.in-Ok.ensures in
     did p h act.Join (record { phase = at.Joined c.in-Read.number 1; row = _; segment = Some more; counter = _ }) c.self.view_is
-    (by_both _ p h act.Join (at.Read c.in-Read.number) (Some s) phase there ∙ ap (λ (b : Bool). if b then now (at.Joined c.in-Read.number 1) (map.get rows h) (Some more) c.self.inside.counter else None) ad.0)
+    (by_both _ p h act.Join (at.Read c.in-Read.number) (Some s) phase there ∙ ap (λ (b : Bool). if b then to_spot (at.Joined c.in-Read.number 1) (map.get rows h) (Some more) c.self.inside.counter else None) ad.0)
     (λ i. record {
       rows = kept hash_total hash_exact rows h i;
       segments = (replaced hash_total hash_exact m _ _ h _ (c.remove.ensures.items hash_exact) c.insert.ensures ∙ ap (map.insert m h) ad.1) i;
@@ -53,7 +53,7 @@ returns-else-count-ge18446744073709551615 c =
     let phase = sym c.phase_in.ensures ∙ c.in-Joined.is in
     let fits : nat_lt k last_number ≡ true = grind (arith, nat_tests, c.if-count-ge18446744073709551615.false) in
     did p h act.Join (record { phase = at.Joined n (k + 1); row = _; segment = _; counter = _ }) c.self.view_is
-    (by_phase _ p h act.Join (at.Joined n k) phase ∙ ap (λ (b : Bool). if b then now (at.Joined n (k + 1)) (map.get rows h) (map.get m h) c.self.inside.counter else None) fits)
+    (by_phase _ p h act.Join (at.Joined n k) phase ∙ ap (λ (b : Bool). if b then to_spot (at.Joined n (k + 1)) (map.get rows h) (map.get m h) c.self.inside.counter else None) fits)
     (λ i. record {
       rows = kept hash_total hash_exact rows h i;
       segments = kept hash_total hash_exact m h i;
@@ -73,7 +73,7 @@ returns-else-admitted c =
     let there : map.get m h ≡ Some s = sym c.remove.ensures.value ∙ c.in-Some.is in
     let ad = subst (λ (b : Bool). Admits c.in-Read.number p s (Ok b) c.admit-admitted.new.self) c.if-admitted.false c.in-Ok.ensures in
     refused p h act.Join c.self.view_is
-    (by_both _ p h act.Join (at.Read c.in-Read.number) (Some s) phase there ∙ ap (λ (b : Bool). if b then now (at.Joined c.in-Read.number 1) (map.get rows h) (Some more) c.self.inside.counter else None) ad.0)
+    (by_both _ p h act.Join (at.Read c.in-Read.number) (Some s) phase there ∙ ap (λ (b : Bool). if b then to_spot (at.Joined c.in-Read.number 1) (map.get rows h) (Some more) c.self.inside.counter else None) ad.0)
     (λ i. record { rows = rows; segments = returned hash_total hash_exact m _ _ h s (c.remove.ensures.items hash_exact) (c.insert.ensures ∙ ap (map.insert _ h) ad.1) there i; phases = map.from_sorted {R = place_cmp} c.self.inside.phases.entries.items; counter = c.self.inside.counter })
 
 pub returns-in-Err : goal.returns-in-Err
@@ -88,6 +88,6 @@ returns-in-Err c =
     let there : map.get m h ≡ Some s = sym c.remove.ensures.value ∙ c.in-Some.is in
     let ad = c.in-Err.ensures in
     starved p h act.Join _ c.self.view_is
-    (by_both _ p h act.Join (at.Read c.in-Read.number) (Some s) phase there ∙ ap (λ (b : Bool). if b then now (at.Joined c.in-Read.number 1) (map.get rows h) (Some more) c.self.inside.counter else None) ad.0)
+    (by_both _ p h act.Join (at.Read c.in-Read.number) (Some s) phase there ∙ ap (λ (b : Bool). if b then to_spot (at.Joined c.in-Read.number 1) (map.get rows h) (Some more) c.self.inside.counter else None) ad.0)
     (ap (needs_room act.Join) phase)
     (λ i. record { rows = rows; segments = returned hash_total hash_exact m _ _ h s (c.remove.ensures.items hash_exact) (c.insert.ensures ∙ ap (map.insert _ h) ad.1) there i; phases = map.from_sorted {R = place_cmp} c.self.inside.phases.entries.items; counter = c.self.inside.counter })

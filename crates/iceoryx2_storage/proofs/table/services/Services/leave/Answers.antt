@@ -8,7 +8,7 @@ use Rattle.iceoryx2_world.specs.declared.world.Row.{Row}
 use Rattle.iceoryx2_world.specs.Orders.{hash_cmp, hash_total, hash_exact, place_cmp}
 use Rattle.iceoryx2_world.specs.World.{Segment}
 use Rattle.iceoryx2_world.specs.Acts as act
-use Rattle.iceoryx2_world.specs.Steps.{Spot, now, leave_of, without_one, deserted}
+use Rattle.iceoryx2_world.specs.Steps.{Spot, to_spot, leave_of, without_one, deserted}
 use Rattle.iceoryx2_storage.specs.Book.{Dismisses}
 use Rattle.iceoryx2_storage.proofs.Views.{kept, kept_at, there_by}
 use Rattle.iceoryx2_storage.proofs.Spots.{by_both, by_phase, replaced, refused, left}
@@ -16,7 +16,7 @@ use Rattle.iceoryx2_storage.proofs.table.services.Services.leave.Goals as goal
 
 -- what a leave comes to, by the two tests of the count
 abbrev counted : Participant → ℕ → ℕ → Option Row → Option Segment → ℕ → Bool → Bool → Option Spot
-counted p n k r s c more one = if more then now (at.Joined n (k - 1)) r s c else if one then leave_of p n r s c else None
+counted p n k r s c more one = if more then to_spot (at.Joined n (k - 1)) r s c else if one then leave_of p n r s c else None
 
 pub returns-then-count-gt1 : goal.returns-then-count-gt1
 returns-then-count-gt1 c =
@@ -87,7 +87,7 @@ returns-then-others c =
     let tried = by_both _ p h act.Leave (at.Joined n k) (Some s) phase there
     ∙ ap (λ (b : Bool). counted p n k (map.get rows h) (Some s) c.self.inside.counter b (k == 1)) more
     ∙ ap (λ (b : Bool). counted p n k (map.get rows h) (Some s) c.self.inside.counter false b) one
-    ∙ ap (λ (b : Bool). if b then now at.Idle (map.get rows h) (Some (without_one p s)) c.self.inside.counter else now (at.Leaving n) (map.get rows h) (Some (deserted s)) c.self.inside.counter) d.0 in
+    ∙ ap (λ (b : Bool). if b then to_spot at.Idle (map.get rows h) (Some (without_one p s)) c.self.inside.counter else to_spot (at.Leaving n) (map.get rows h) (Some (deserted s)) c.self.inside.counter) d.0 in
     left p h _ (record { phase = at.Idle; row = _; segment = Some (without_one p s); counter = _ }) c.self.view_is tried refl
     (λ i. record {
       rows = kept hash_total hash_exact rows h i;
@@ -113,7 +113,7 @@ returns c =
     let tried = by_both _ p h act.Leave (at.Joined n k) (Some s) phase there
     ∙ ap (λ (b : Bool). counted p n k (map.get rows h) (Some s) c.self.inside.counter b (k == 1)) more
     ∙ ap (λ (b : Bool). counted p n k (map.get rows h) (Some s) c.self.inside.counter false b) one
-    ∙ ap (λ (b : Bool). if b then now at.Idle (map.get rows h) (Some (without_one p s)) c.self.inside.counter else now (at.Leaving n) (map.get rows h) (Some (deserted s)) c.self.inside.counter) d.0 in
+    ∙ ap (λ (b : Bool). if b then to_spot at.Idle (map.get rows h) (Some (without_one p s)) c.self.inside.counter else to_spot (at.Leaving n) (map.get rows h) (Some (deserted s)) c.self.inside.counter) d.0 in
     left p h _ (record { phase = at.Leaving n; row = _; segment = Some (deserted s); counter = _ }) c.self.view_is tried refl
     (λ i. record {
       rows = kept hash_total hash_exact rows h i;

@@ -6,7 +6,8 @@ use Rattle.iceoryx2_access.specs.declared.storage.FetchError.TheVariants as Fetc
 use Rattle.iceoryx2_world.specs.declared.world.Participant.TheVariants.{Node}
 use Rattle.iceoryx2_world.specs.Acts as act
 use Rattle.iceoryx2_access.specs.Letter as letter
-use Rattle.iceoryx2_world.specs.Access.{Tickets, nothing, read, fetch_of}
+use Rattle.iceoryx2_world.specs.Access.{nothing, read_change, fetch_of}
+use Rattle.iceoryx2_world.specs.World.{Tickets}
 use Rattle.iceoryx2_storage.specs.Book.{Book, tries, world}
 use Rattle.iceoryx2_world.specs.Sets as set
 use Rattle.iceoryx2_world.specs.Orders.{tag_cmp}
@@ -56,6 +57,6 @@ returns c =
     let i = c.args.node in
     let h = c.args.hash.now in
     let b : Book = c.self.inside.services in
-    part (letter.Fetch i h (Ok (c.in-Published.number, c.in-Ok.copy.items))) (read (tries b (Node i) h act.Read)) c.self.view_is
+    part (letter.Fetch i h (Ok (c.in-Published.number, c.in-Ok.copy.items))) (read_change (tries b (Node i) h act.Read)) c.self.view_is
     (gives_done _ _ _ _ (ap (fetch_of i h (spot_at b i h)) (c.in-Some.ensures ∙ ap Some (c.in-Published.is ∙ ap (row.Published c.in-Published.number) (sym c.in-Ok.ensures)))))
     (read_or_not i h b _ _ _ _ c.in-Ok-read.ensures)

@@ -5,7 +5,8 @@ use Rattle.iceoryx2_access.specs.declared.storage.LockError.TheVariants as Locki
 use Rattle.iceoryx2_world.specs.declared.world.Participant.TheVariants.{Node}
 use Rattle.iceoryx2_world.specs.Acts as act
 use Rattle.iceoryx2_access.specs.Letter as letter
-use Rattle.iceoryx2_world.specs.Access.{Tickets, nothing, moves, stepped, lock_of}
+use Rattle.iceoryx2_world.specs.Access.{nothing, moves, or_refused, lock_of}
+use Rattle.iceoryx2_world.specs.World.{Tickets}
 use Rattle.iceoryx2_storage.specs.Book.{Book, Tries, world}
 use Rattle.iceoryx2_world.specs.Sets as set
 use Rattle.iceoryx2_world.specs.Orders.{tag_cmp}
@@ -37,7 +38,7 @@ returns-in_default c =
     let t : set.FinSet tag_cmp = map.from_sorted c.self.inside.tags.entries.items in
     let k : Tickets = map.from_sorted c.self.inside.tickets.entries.items in
     part (letter.Lock i h (Err Locking.OutOfMemory)) nothing c.self.view_is
-    (gives_starved _ _ _ (ap (lock_of i h (spot_at b i h)) c.in-None.ensures ∙ ap (stepped Locking.Other b.counter) starved.1))
+    (gives_starved _ _ _ (ap (lock_of i h (spot_at b i h)) c.in-None.ensures ∙ ap (or_refused Locking.Other b.counter) starved.1))
     (ap (λ x. world x t k) starved.3)
 
 pub returns-then-not-locked : goal.returns-then-not-locked
@@ -49,7 +50,7 @@ returns-then-not-locked c =
     let t : set.FinSet tag_cmp = map.from_sorted c.self.inside.tags.entries.items in
     let k : Tickets = map.from_sorted c.self.inside.tickets.entries.items in
     part (letter.Lock i h (Err Locking.Other)) nothing c.self.view_is
-    (gives_refusal _ _ _ (ap (lock_of i h (spot_at b i h)) c.in-None.ensures ∙ ap (stepped Locking.Other b.counter) forbidden.0))
+    (gives_refusal _ _ _ (ap (lock_of i h (spot_at b i h)) c.in-None.ensures ∙ ap (or_refused Locking.Other b.counter) forbidden.0))
     (ap (λ x. world x t k) forbidden.1)
 
 pub returns : goal.returns
@@ -61,5 +62,5 @@ returns c =
     let t : set.FinSet tag_cmp = map.from_sorted c.self.inside.tags.entries.items in
     let k : Tickets = map.from_sorted c.self.inside.tickets.entries.items in
     part (letter.Lock i h (Ok c.counter-number.result)) (moves done.0) c.self.view_is
-    (gives_done _ _ _ _ (ap (lock_of i h (spot_at b i h)) c.in-None.ensures ∙ ap (stepped Locking.Other b.counter) done.1 ∙ ap (λ n. Ok (n, moves done.0)) (sym c.counter-number.ensures)))
+    (gives_done _ _ _ _ (ap (lock_of i h (spot_at b i h)) c.in-None.ensures ∙ ap (or_refused Locking.Other b.counter) done.1 ∙ ap (λ n. Ok (n, moves done.0)) (sym c.counter-number.ensures)))
     (ap (λ x. world x t k) done.2)

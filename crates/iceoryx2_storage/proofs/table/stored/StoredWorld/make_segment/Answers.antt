@@ -6,7 +6,8 @@ use Rattle.iceoryx2_world.specs.declared.world.Participant.TheVariants.{Node}
 use Rattle.iceoryx2_world.specs.declared.world.Phase.{Phase}
 use Rattle.iceoryx2_world.specs.Acts as act
 use Rattle.iceoryx2_access.specs.Letter as letter
-use Rattle.iceoryx2_world.specs.Access.{Tickets, nothing, moves, stepped, has_lock, make_of}
+use Rattle.iceoryx2_world.specs.Access.{nothing, moves, or_refused, has_lock, make_of}
+use Rattle.iceoryx2_world.specs.World.{Tickets}
 use Rattle.iceoryx2_storage.specs.Book.{Book, Tries, world}
 use Rattle.iceoryx2_world.specs.Sets as set
 use Rattle.iceoryx2_world.specs.Orders.{tag_cmp}
@@ -51,7 +52,7 @@ returns-in_default c =
     let t : set.FinSet tag_cmp = map.from_sorted c.self.inside.tags.entries.items in
     let k : Tickets = map.from_sorted c.self.inside.tickets.entries.items in
     part (letter.MakeSegment i h n m (Err Making.OutOfMemory)) nothing c.self.view_is
-    (gives_starved _ _ _ (ap (λ (x : Bool). if x then make_of i h m (spot_at b i h) (map.get b.segments h) else Err Making.Other) may ∙ ap (make_of i h m (spot_at b i h)) none ∙ ap (stepped Making.Other tt) starved.1))
+    (gives_starved _ _ _ (ap (λ (x : Bool). if x then make_of i h m (spot_at b i h) (map.get b.segments h) else Err Making.Other) may ∙ ap (make_of i h m (spot_at b i h)) none ∙ ap (or_refused Making.Other tt) starved.1))
     (ap (λ x. world x t k) starved.3)
 
 pub returns : goal.returns
@@ -67,5 +68,5 @@ returns c =
     let t : set.FinSet tag_cmp = map.from_sorted c.self.inside.tags.entries.items in
     let k : Tickets = map.from_sorted c.self.inside.tickets.entries.items in
     part (letter.MakeSegment i h n m (Ok tt)) (moves done.0) c.self.view_is
-    (gives_done _ _ _ _ (ap (λ (x : Bool). if x then make_of i h m (spot_at b i h) (map.get b.segments h) else Err Making.Other) may ∙ ap (make_of i h m (spot_at b i h)) none ∙ ap (stepped Making.Other tt) done.1))
+    (gives_done _ _ _ _ (ap (λ (x : Bool). if x then make_of i h m (spot_at b i h) (map.get b.segments h) else Err Making.Other) may ∙ ap (make_of i h m (spot_at b i h)) none ∙ ap (or_refused Making.Other tt) done.1))
     (ap (λ x. world x t k) done.2)

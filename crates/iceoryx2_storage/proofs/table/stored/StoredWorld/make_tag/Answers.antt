@@ -4,7 +4,8 @@ use Rattle.std.specs.FinMap as map
 use Rattle.iceoryx2_access.specs.declared.storage.Tag.TheVariants.{Made, Found}
 use Rattle.iceoryx2_access.specs.declared.storage.TagError.TheVariants as Tagging
 use Rattle.iceoryx2_access.specs.Letter as letter
-use Rattle.iceoryx2_world.specs.Access.{Tickets, nothing, tags, MakesTag}
+use Rattle.iceoryx2_world.specs.Access.{nothing, tag_becomes, MakesTag}
+use Rattle.iceoryx2_world.specs.World.{Tickets}
 use Rattle.iceoryx2_storage.specs.Book.{world}
 use Rattle.iceoryx2_storage.proofs.Accesses.{part}
 use Rattle.iceoryx2_storage.proofs.table.stored.StoredWorld.make_tag.Goals as goal
@@ -31,6 +32,6 @@ returns c =
     let i = c.args.node in
     let h = c.args.hash.now in
     let k : Tickets = map.from_sorted c.self.inside.tickets.entries.items in
-    part (letter.MakeTag i h (Ok Made)) (tags true) c.self.view_is
-    (subst (λ (b : Bool). MakesTag i h b (Ok Made) (tags true)) (sym (ap is_some c.in_default.ensures)) (inl (refl, refl)))
+    part (letter.MakeTag i h (Ok Made)) (tag_becomes true) c.self.view_is
+    (subst (λ (b : Bool). MakesTag i h b (Ok Made) (tag_becomes true)) (sym (ap is_some c.in_default.ensures)) (inl (refl, refl)))
     (ap (λ x. world c.self.inside.services x k) (c.insert.ensures ∙ ap (λ m. map.insert m (i, h) tt) c.reserve.ensures.same))

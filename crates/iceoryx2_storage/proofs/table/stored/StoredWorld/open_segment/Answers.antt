@@ -8,7 +8,8 @@ use Rattle.iceoryx2_world.specs.declared.world.Ticket.{Ticket}
 use Rattle.iceoryx2_world.specs.Acts as act
 use Rattle.iceoryx2_access.specs.Letter as letter
 use Rattle.iceoryx2_world.specs.Steps.{Spot}
-use Rattle.iceoryx2_world.specs.Access.{Tickets, nothing, moves_with, with_ticket, opened, seat}
+use Rattle.iceoryx2_world.specs.Access.{nothing, moves_with, with_ticket, opening_of, seat}
+use Rattle.iceoryx2_world.specs.World.{Tickets}
 use Rattle.iceoryx2_storage.specs.Book.{Book, Tries, tries, world}
 use Rattle.iceoryx2_storage.proofs.Spots.{may_join}
 use Rattle.iceoryx2_world.specs.Sets as set
@@ -25,7 +26,7 @@ returns-in-Some c =
     let t : set.FinSet tag_cmp = map.from_sorted c.self.inside.tags.entries.items in
     let k : Tickets = map.from_sorted c.self.inside.tickets.entries.items in
     part (letter.OpenSegment i h n (Err c.in-Some.refusal)) nothing c.self.view_is
-    (gives_refusal _ _ _ (ap (λ (r : Option OpenSegmentError). opened i h n (seat (world b t k) i h) r (tries b (Node i) h act.Join)) (sym c.open_refusal.ensures ∙ c.in-Some.is)))
+    (gives_refusal _ _ _ (ap (λ (r : Option OpenSegmentError). opening_of i h n (seat (world b t k) i h) r (tries b (Node i) h act.Join)) (sym c.open_refusal.ensures ∙ c.in-Some.is)))
     (sym c.self.view_is)
 
 pub returns-then-is_err : goal.returns-then-is_err

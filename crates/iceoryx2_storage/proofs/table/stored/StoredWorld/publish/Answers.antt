@@ -6,7 +6,8 @@ use Rattle.iceoryx2_world.specs.declared.world.Participant.TheVariants.{Node}
 use Rattle.iceoryx2_world.specs.declared.world.Ticket.{Ticket}
 use Rattle.iceoryx2_world.specs.Acts as act
 use Rattle.iceoryx2_access.specs.Letter as letter
-use Rattle.iceoryx2_world.specs.Access.{Tickets, nothing, moves_with, with_ticket}
+use Rattle.iceoryx2_world.specs.Access.{nothing, moves_with, with_ticket}
+use Rattle.iceoryx2_world.specs.World.{Tickets}
 use Rattle.iceoryx2_storage.specs.Book.{Book, Tries, world}
 use Rattle.iceoryx2_world.specs.Sets as set
 use Rattle.iceoryx2_world.specs.Orders.{tag_cmp}

@@ -6,7 +6,8 @@ use Rattle.iceoryx2_access.specs.declared.storage.ReleaseError.TheVariants.{NoSu
 use Rattle.iceoryx2_world.specs.declared.world.Participant.TheVariants.{Node}
 use Rattle.iceoryx2_world.specs.Acts as act
 use Rattle.iceoryx2_access.specs.Letter as letter
-use Rattle.iceoryx2_world.specs.Access.{Tickets, nothing, moves_with, left}
+use Rattle.iceoryx2_world.specs.Access.{nothing, moves_with, release_of}
+use Rattle.iceoryx2_world.specs.World.{Tickets}
 use Rattle.iceoryx2_storage.specs.Book.{Book, tries, world}
 use Rattle.iceoryx2_world.specs.Sets as set
 use Rattle.iceoryx2_world.specs.Orders.{tag_cmp}
@@ -21,7 +22,7 @@ returns-then-not-is_held c =
     let b : Book = c.self.inside.services in
     let k : Tickets = map.from_sorted c.self.inside.tickets.entries.items in
     part (letter.Release u i h c.args.number (Err NoSuchTicket)) nothing c.self.view_is
-    (simply_refusal _ _ (ap (λ (x : Bool). if x then left i h u k (tries b (Node i) h act.Leave) else Err NoSuchTicket) (sym c.is_held.ensures ∙ c.if-not-is_held.true)))
+    (simply_refusal _ _ (ap (λ (x : Bool). if x then release_of i h u k (tries b (Node i) h act.Leave) else Err NoSuchTicket) (sym c.is_held.ensures ∙ c.if-not-is_held.true)))
     (sym c.self.view_is)
 
 pub returns-in_default : goal.returns-in_default
@@ -34,7 +35,7 @@ returns-in_default c =
     let forbidden = c.in_default.ensures in
     let t : set.FinSet tag_cmp = map.from_sorted c.self.inside.tags.entries.items in
     part (letter.Release u i h c.args.number (Err NoSuchTicket)) nothing c.self.view_is
-    (simply_refusal _ _ (ap (λ (x : Bool). if x then left i h u k (tries b (Node i) h act.Leave) else Err NoSuchTicket) (sym c.is_held.ensures ∙ c.if-not-is_held.false) ∙ ap (left i h u k) forbidden.0))
+    (simply_refusal _ _ (ap (λ (x : Bool). if x then release_of i h u k (tries b (Node i) h act.Leave) else Err NoSuchTicket) (sym c.is_held.ensures ∙ c.if-not-is_held.false) ∙ ap (release_of i h u k) forbidden.0))
     (ap (λ x. world x t k) forbidden.1)
 
 pub returns : goal.returns
@@ -47,5 +48,5 @@ returns c =
     let done = c.in-Some.ensures in
     let t : set.FinSet tag_cmp = map.from_sorted c.self.inside.tags.entries.items in
     part (letter.Release u i h c.args.number (Ok c.in-Some.release)) (moves_with done.0 (map.remove k u)) c.self.view_is
-    (simply_done _ _ _ (ap (λ (x : Bool). if x then left i h u k (tries b (Node i) h act.Leave) else Err NoSuchTicket) (sym c.is_held.ensures ∙ c.if-not-is_held.false) ∙ ap (left i h u k) done.1 ∙ ap (λ r. Ok (r, moves_with done.0 (map.remove k u))) (sym done.2)))
+    (simply_done _ _ _ (ap (λ (x : Bool). if x then release_of i h u k (tries b (Node i) h act.Leave) else Err NoSuchTicket) (sym c.is_held.ensures ∙ c.if-not-is_held.false) ∙ ap (release_of i h u k) done.1 ∙ ap (λ r. Ok (r, moves_with done.0 (map.remove k u))) (sym done.2)))
     (λ j. world (done.3 j) t (c.remove.ensures.items nat_cmp-IsAntisymmetric j))

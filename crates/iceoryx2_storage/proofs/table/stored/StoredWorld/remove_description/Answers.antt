@@ -4,7 +4,8 @@ use Rattle.iceoryx2_access.specs.declared.storage.RemoveError.TheVariants as Rem
 use Rattle.iceoryx2_world.specs.declared.world.Participant.TheVariants.{Node}
 use Rattle.iceoryx2_world.specs.Acts as act
 use Rattle.iceoryx2_access.specs.Letter as letter
-use Rattle.iceoryx2_world.specs.Access.{Tickets, nothing, moves, stepped}
+use Rattle.iceoryx2_world.specs.Access.{nothing, moves, or_refused}
+use Rattle.iceoryx2_world.specs.World.{Tickets}
 use Rattle.iceoryx2_storage.specs.Book.{Book, Steps, world}
 use Rattle.iceoryx2_world.specs.Sets as set
 use Rattle.iceoryx2_world.specs.Orders.{tag_cmp}
@@ -21,7 +22,7 @@ returns-then-remove_description c =
     let t : set.FinSet tag_cmp = map.from_sorted c.self.inside.tags.entries.items in
     let k : Tickets = map.from_sorted c.self.inside.tickets.entries.items in
     part (letter.RemoveDescription i h (Ok tt)) (moves done.0) c.self.view_is
-    (simply_done _ _ _ (ap (stepped Removing.Other tt) done.1))
+    (simply_done _ _ _ (ap (or_refused Removing.Other tt) done.1))
     (ap (λ x. world x t k) done.2)
 
 pub returns : goal.returns
@@ -33,5 +34,5 @@ returns c =
     let t : set.FinSet tag_cmp = map.from_sorted c.self.inside.tags.entries.items in
     let k : Tickets = map.from_sorted c.self.inside.tickets.entries.items in
     part (letter.RemoveDescription i h (Err Removing.Other)) nothing c.self.view_is
-    (simply_refusal _ _ (ap (stepped Removing.Other tt) forbidden.0))
+    (simply_refusal _ _ (ap (or_refused Removing.Other tt) forbidden.0))
     (ap (λ x. world x t k) forbidden.1)

@@ -3,8 +3,7 @@ use Rattle.std.specs.Prelude.{length, filter}
 use Rattle.std.specs.FinMap.{entries-from_sorted}
 use Rattle.std.specs.Ordering.{nat_cmp}
 use Rattle.iceoryx2_world.specs.declared.world.Ticket.{Ticket}
-use Rattle.iceoryx2_world.specs.World.{World}
-use Rattle.iceoryx2_world.specs.Across.{belongs, ticket_count}
+use Rattle.iceoryx2_world.specs.World.{World, belongs, ticket_count}
 use Rattle.iceoryx2_storage.proofs.Places.{true_T}
 use Rattle.iceoryx2_storage.proofs.table.stored.StoredWorld.tickets.Goals as goal
 

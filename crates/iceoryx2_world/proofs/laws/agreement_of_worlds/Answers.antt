@@ -5,7 +5,7 @@ use Rattle.iceoryx2_world.proofs.agreement.Stands.{ticket_stands, other_stands, 
 use Rattle.iceoryx2_world.proofs.agreement.Calm.{own_calmed, own_unlocks, publishing_counts, joining_counts, releasing_counts}
 use Rattle.iceoryx2_world.proofs.agreement.Granted.{release_granted}
 use Rattle.iceoryx2_world.proofs.agreement.Spent.{spent_access}
-use Rattle.iceoryx2_world.proofs.laws.agreement.Goals as goal
+use Rattle.iceoryx2_world.proofs.laws.agreement_of_worlds.Goals as goal
 
 pub returns-clause-empty : goal.returns-clause-empty
 returns-clause-empty g = λ c. empty_agrees c
