@@ -29,4 +29,5 @@ pub record ChangesLast (node : ℕ) (hash : ServiceHash) (w : World) (word : Lis
   pub final : Letter
   pub in_order : word ≡ front ++ final ∷ []
   pub calm : AtEach IsFaulty ActsCalmly w front
-  pub change : (u v : World) (a : IsAccess u final v) → count_of v (Node node) hash ≡ count_of a.between (Node node) hash + 1
+  pub change : (u v : World) (a : IsAccess u final v)
+      → count_of v (Node node) hash ≡ count_of a.between (Node node) hash + 1

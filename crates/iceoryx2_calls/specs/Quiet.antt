@@ -57,12 +57,18 @@ pub record IsAbsent (r : Option Row) (s : Option Segment) (phase : ℕ → Phase
 
 -- A service with this hash: its description is published under its number, the segment beside it
 -- is unmarked and takes in its nodes and nobody else, and its nodes alone have tags.
-pub record IsThere (h : ServiceHash) (x : Service) (r : Option Row) (s : Option Segment) (phase : ℕ → Phase) (tag : ℕ → Bool) : Type 0 where
+pub record IsThere (h : ServiceHash) (x : Service) (r : Option Row) (s : Option Segment)
+    (phase : ℕ → Phase) (tag : ℕ → Bool) : Type 0 where
   pub limits : IsDescription x.description
   pub hash : x.description.hash ≡ h
   pub row : r ≡ Some (row.Published x.number (form.description x.description))
   pub nodes : set.FinSet participant_cmp
-  pub segment : s ≡ Some (record { number = x.number; capacity = max_nodes_of x.description.pattern; participants = nodes; marked = false })
+  pub segment : s ≡ Some (record {
+    number = x.number;
+    capacity = max_nodes_of x.description.pattern;
+    participants = nodes;
+    marked = false;
+  })
   pub members : (p : Participant) → set.contains nodes p ≡ is_counted x p
   pub as_many : set.len nodes ≡ map.len x.counts
   pub one_or_more : 1 ≤ map.len x.counts

@@ -1,5 +1,6 @@
 -- The calls of the quiet machine: what each answers, and the state after it. One line a row.
-use Rattle.std.specs.Prelude.{◌≡◌, ℕ, ◌+◌, ◌-◌, ◌<◌, ◌≤◌, ◌⊎◌, true, false, nat_lt, List, Option, Some, None, Result, Ok, Err, is_some, unwrap_or, if◌then◌else◌}
+use Rattle.std.specs.Prelude.{◌≡◌, ℕ, ◌+◌, ◌-◌, ◌<◌, ◌≤◌, ◌⊎◌, true, false, nat_lt, List, Option, Some, None}
+use Rattle.std.specs.Prelude.{Result, Ok, Err, is_some, unwrap_or, if◌then◌else◌}
 use Rattle.std.specs.FinMap as map
 use Rattle.iceoryx2_data.specs.declared.description.ServiceHash.{ServiceHash}
 use Rattle.iceoryx2_data.specs.declared.time.ClockFault.{ClockFault}
@@ -21,7 +22,8 @@ use Rattle.iceoryx2_calls.specs.Quiet.{Counts, Service, Quiet, service_of, count
 pub record IsRegular {F E C : Type 0} (m : Meaning F E C) : Type 0 where
   pub create_memory : m.create_error_of (m.fault state.OutOfMemory) ≡ m.create_refusal create_refusal.OutOfMemory
   pub open_memory : m.open_error_of (m.fault state.OutOfMemory) ≡ m.open_refusal open_refusal.OutOfMemory
-  pub misfit : (d : Description) (fault : F) → m.misfit d ≡ Some fault → m.create_error_of fault ≡ m.create_refusal create_refusal.AlreadyExists
+  pub misfit : (d : Description) (fault : F) → m.misfit d ≡ Some fault
+      → m.create_error_of fault ≡ m.create_refusal create_refusal.AlreadyExists
 
 -- a service that a node has just created
 abbrev pub first_counts : ℕ → Counts
@@ -71,33 +73,61 @@ abbrev pub HasNoPlace : Service → ℕ → Type 0
 HasNoPlace x i = (count_of x i ≡ None) × (max_nodes_of x.description.pattern ≤ map.len x.counts)
 
 module _ {F E C : Type 0} (m : Meaning F E C) (q : Quiet) (node : ℕ) (hash : ServiceHash) where
+  -- this node creates a service of this hash: the factory, and the machine after it
+  abbrev pub factory_created : Description → Factory
+  factory_created d = record { node = node; number = q.counter; ticket = q.counter; description = d }
+
+  abbrev pub with_created : Description → Quiet
+  with_created d = spend (with_service q hash (Some (created_by node d q.counter)))
+
+  -- it opens one
+  abbrev pub factory_opened : Service → Factory
+  factory_opened x = record { node = node; number = x.number; ticket = q.counter; description = x.description }
+
+  abbrev pub with_opened : Service → Quiet
+  with_opened x = spend (with_service q hash (Some (opened_by node x)))
+
   -- Create, for a name and the clock's answer.
   pub data Creates (name : List ℕ) (now : Result Span ClockFault) : Result Factory C → Quiet → Type 0 where
     forbidden : {error : C} → m.history_refusal ≡ Some error → Creates name now (Err error) q
-    exists : (x : Service) → m.history_refusal ≡ None → service_of q hash ≡ Some x → Creates name now (Err (m.create_refusal create_refusal.AlreadyExists)) q
-    no_time : m.history_refusal ≡ None → service_of q hash ≡ None → clock_stops m.needs_clock now ≡ true → Creates name now (Err (m.create_refusal create_refusal.InternalFailure)) q
-    no_number : m.history_refusal ≡ None → service_of q hash ≡ None → clock_stops m.needs_clock now ≡ false → HasNoNumber q → Creates name now (Err (m.create_refusal create_refusal.InternalFailure)) q
-    created : m.history_refusal ≡ None → service_of q hash ≡ None → clock_stops m.needs_clock now ≡ false → HasNumber q
-        → Creates name now (Ok (record { node = node; number = q.counter; ticket = q.counter; description = description_of m hash name now })) (spend (with_service q hash (Some (created_by node (description_of m hash name now) q.counter))))
+    exists : (x : Service) → m.history_refusal ≡ None → service_of q hash ≡ Some x
+        → Creates name now (Err (m.create_refusal create_refusal.AlreadyExists)) q
+    no_time : m.history_refusal ≡ None → service_of q hash ≡ None → clock_stops m.needs_clock now ≡ true
+        → Creates name now (Err (m.create_refusal create_refusal.InternalFailure)) q
+    no_number : m.history_refusal ≡ None → service_of q hash ≡ None → clock_stops m.needs_clock now ≡ false
+        → HasNoNumber q
+        → Creates name now (Err (m.create_refusal create_refusal.InternalFailure)) q
+    created : m.history_refusal ≡ None → service_of q hash ≡ None → clock_stops m.needs_clock now ≡ false
+        → HasNumber q
+        → Creates name now (Ok (factory_created (description_of m hash name now)))
+        (with_created (description_of m hash name now))
     -- memory may be wanted in place of each answer from the look on; after the lock its number is spent
     no_memory : m.history_refusal ≡ None → Creates name now (Err (m.create_refusal create_refusal.OutOfMemory)) q
-    no_memory_locked : m.history_refusal ≡ None → service_of q hash ≡ None → clock_stops m.needs_clock now ≡ false → HasNumber q
+    no_memory_locked : m.history_refusal ≡ None → service_of q hash ≡ None → clock_stops m.needs_clock now ≡ false
+        → HasNumber q
         → Creates name now (Err (m.create_refusal create_refusal.OutOfMemory)) (spend q)
 
   -- Open.
   pub data Opens : Result Factory E → Quiet → Type 0 where
     absent : service_of q hash ≡ None → Opens (Err (m.open_refusal open_refusal.DoesNotExist)) q
-    misfit : {fault : F} (x : Service) → service_of q hash ≡ Some x → m.misfit x.description ≡ Some fault → Opens (Err (m.open_error_of fault)) q
-    not_accepted : {error : E} (x : Service) → service_of q hash ≡ Some x → m.misfit x.description ≡ None → verdict (m.requirement x.description) ≡ Err error → Opens (Err error) q
-    no_place : (x : Service) → service_of q hash ≡ Some x → m.misfit x.description ≡ None → verdict (m.requirement x.description) ≡ Ok tt → HasNoPlace x node
+    misfit : {fault : F} (x : Service) → service_of q hash ≡ Some x → m.misfit x.description ≡ Some fault
+        → Opens (Err (m.open_error_of fault)) q
+    not_accepted : {error : E} (x : Service) → service_of q hash ≡ Some x → m.misfit x.description ≡ None
+        → verdict (m.requirement x.description) ≡ Err error
+        → Opens (Err error) q
+    no_place : (x : Service) → service_of q hash ≡ Some x → m.misfit x.description ≡ None
+        → verdict (m.requirement x.description) ≡ Ok tt → HasNoPlace x node
         → Opens (Err (m.open_refusal open_refusal.ExceedsMaxNumberOfNodes)) q
-    no_number : (x : Service) → service_of q hash ≡ Some x → m.misfit x.description ≡ None → verdict (m.requirement x.description) ≡ Ok tt → HasPlace x node → HasNoNumber q
+    no_number : (x : Service) → service_of q hash ≡ Some x → m.misfit x.description ≡ None
+        → verdict (m.requirement x.description) ≡ Ok tt → HasPlace x node → HasNoNumber q
         → Opens (Err (m.open_refusal open_refusal.InternalFailure)) q
-    opened : (x : Service) → service_of q hash ≡ Some x → m.misfit x.description ≡ None → verdict (m.requirement x.description) ≡ Ok tt → HasPlace x node → HasNumber q
-        → Opens (Ok (record { node = node; number = x.number; ticket = q.counter; description = x.description })) (spend (with_service q hash (Some (opened_by node x))))
+    opened : (x : Service) → service_of q hash ≡ Some x → m.misfit x.description ≡ None
+        → verdict (m.requirement x.description) ≡ Ok tt → HasPlace x node → HasNumber q
+        → Opens (Ok (factory_opened x)) (with_opened x)
     -- memory may be wanted in place of each answer where the service is there
     no_memory : (x : Service) → service_of q hash ≡ Some x → Opens (Err (m.open_refusal open_refusal.OutOfMemory)) q
 
 -- Close, of a factory of this node.
 pub data Closes (q : Quiet) (node : ℕ) (hash : ServiceHash) : Quiet → Type 0 where
-  closed : (x : Service) (k : ℕ) → service_of q hash ≡ Some x → count_of x node ≡ Some k → Closes q node hash (with_service q hash (closed_by node k x))
+  closed : (x : Service) (k : ℕ) → service_of q hash ≡ Some x → count_of x node ≡ Some k
+      → Closes q node hash (with_service q hash (closed_by node k x))

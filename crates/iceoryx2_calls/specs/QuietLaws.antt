@@ -16,7 +16,8 @@ tickets_after k (Ok r) = map.insert k r.ticket (ticket_for r)
 tickets_after k (Err e) = k
 
 -- After a create or an open from w to v, which is one of these calls of the machine.
-pub record IsCall {E : Type 0} (w : World) (Calls : Quiet → Type 0) (answer : Result Factory E) (v : World) : Type 0 where
+pub record IsCall {E : Type 0} (w : World) (Calls : Quiet → Type 0) (answer : Result Factory E) (v : World)
+    : Type 0 where
   pub state : Quiet
   pub call : Calls state
   pub shows : Shows v state

@@ -12,7 +12,12 @@ abbrev pub listed_service : ServiceHash → Service → Entry
 listed_service h x = record {
   hash = h;
   row = listed.Published x.number (form.description x.description);
-  segment = Some (record { number = x.number; max_nodes = max_nodes_of x.description.pattern; participants = finite.len x.counts; marked = false });
+  segment = Some (record {
+    number = x.number;
+    max_nodes = max_nodes_of x.description.pattern;
+    participants = finite.len x.counts;
+    marked = false;
+  });
 }
 
 -- each service, ascending by hash

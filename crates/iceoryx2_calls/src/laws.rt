@@ -112,7 +112,8 @@ pub fn agreement<P: Pattern>()
         → AtEach IsFaulty ActsCalmly w word }
 
     // Nor does a refused open.
-    ensures refused_open { (p : P) (node : ℕ) (hash : ServiceHash) (word : List Letter) (error : P.OpenError) (w : World)
+    ensures refused_open { (p : P) (node : ℕ) (hash : ServiceHash) (word : List Letter) (error : P.OpenError)
+        (w : World)
         → IsOpenWord (P.meaning p) node hash word (Err error) → Agrees w
         → AtEach IsFaulty ActsCalmly w word }
 

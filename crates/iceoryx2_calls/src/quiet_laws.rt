@@ -1,6 +1,7 @@
 //! What the calls make of a table that nobody else uses.
 
-ghost use Rattle.std.specs.Prelude.{◌≡◌, ◌↔◌, ℕ, ◌+◌, ◌<◌, ◌≤◌, List, Result, Ok, Err, Option, Some, None, IsTrue, IfErr};
+ghost use Rattle.std.specs.Prelude.{◌≡◌, ◌↔◌, ℕ, ◌+◌, ◌<◌, ◌≤◌, List, Result, Ok, Err, Option, Some, None};
+ghost use Rattle.std.specs.Prelude.{IsTrue, IfErr};
 ghost use Rattle.std.specs.FinMap as map;
 ghost use Rattle.iceoryx2_data.specs.declared.description.ServiceHash.{ServiceHash};
 ghost use Rattle.iceoryx2_data.specs.declared.time.ClockFault.{ClockFault};
@@ -37,56 +38,96 @@ pub fn quiet_laws()
     ensures empty { (c : ℕ) → Shows (empty_world c) (no_service c) }
 
     // To close a factory whose ticket is there is Ok, and it is the machine's close.
-    ensures close { (r : Factory) (w v : World) (q : Quiet) (word : List Letter) (answer : Result (Unit {0}) (CloseError Factory)) → Shows w q → Agrees w → ticket_of w r.ticket ≡ Some (ticket_for r) → IsCloseWord r word answer → Run IsOwnPart w word v → (answer ≡ Ok tt) × IsClose w q r v }
+    ensures close { (r : Factory) (w v : World) (q : Quiet)
+        (word : List Letter) (answer : Result (Unit {0}) (CloseError Factory))
+        → Shows w q → Agrees w → ticket_of w r.ticket ≡ Some (ticket_for r)
+        → IsCloseWord r word answer → Run IsOwnPart w word v
+        → (answer ≡ Ok tt) × IsClose w q r v }
 
     // Who has a ticket has opened its service,
-    ensures ticket { (w : World) (q : Quiet) (t : ℕ) (x : Ticket) → Shows w q → Agrees w → ticket_of w t ≡ Some x → HasOpened q x.node x.hash x.number }
+    ensures ticket { (w : World) (q : Quiet) (t : ℕ) (x : Ticket)
+        → Shows w q → Agrees w → ticket_of w t ≡ Some x → HasOpened q x.node x.hash x.number }
 
     // and has as many tickets for it as the machine counts.
-    ensures tickets { (w : World) (q : Quiet) (node : ℕ) (hash : ServiceHash) → Shows w q → Agrees w → ticket_count w.tickets node hash ≡ times_opened q node hash }
+    ensures tickets { (w : World) (q : Quiet) (node : ℕ) (hash : ServiceHash)
+        → Shows w q → Agrees w → ticket_count w.tickets node hash ≡ times_opened q node hash }
 
     // The tags are those of the nodes that the machine counts.
-    ensures tags { (w : World) (q : Quiet) (node : ℕ) (hash : ServiceHash) → Shows w q → IsTrue (tag_of w node hash) ↔ (1 ≤ times_opened q node hash) }
+    ensures tags { (w : World) (q : Quiet) (node : ℕ) (hash : ServiceHash)
+        → Shows w q → IsTrue (tag_of w node hash) ↔ (1 ≤ times_opened q node hash) }
 
     // What stands at each service is told by the machine's services.
-    ensures same { (w v : World) (q p : Quiet) → Shows w q → Shows v p → p.services ≡ q.services → HoldsTheSame w v }
+    ensures same { (w v : World) (q p : Quiet)
+        → Shows w q → Shows v p → p.services ≡ q.services → HoldsTheSame w v }
 
     // Of a service that the machine doesn't have nothing is there.
-    ensures absent { (w : World) (q : Quiet) (hash : ServiceHash) → Shows w q → service_of q hash ≡ None → HasNothingAt w hash }
+    ensures absent { (w : World) (q : Quiet) (hash : ServiceHash)
+        → Shows w q → service_of q hash ≡ None → HasNothingAt w hash }
 
     // Where no ticket is left, no service is, and nothing of any.
-    ensures unused { (w : World) (q : Quiet) → Shows w q → Agrees w → ((t : ℕ) → ticket_of w t ≡ None) → (q.services ≡ map.empty) × ((hash : ServiceHash) → HasNothingAt w hash) }
+    ensures unused { (w : World) (q : Quiet)
+        → Shows w q → Agrees w → ((t : ℕ) → ticket_of w t ≡ None)
+        → (q.services ≡ map.empty) × ((hash : ServiceHash) → HasNothingAt w hash) }
 
     // What is listed are the machine's services.
-    ensures list { (w : World) (q : Quiet) (entries : List Entry) → Shows w q → Lists w entries → entries ≡ listing q }
+    ensures list { (w : World) (q : Quiet) (entries : List Entry)
+        → Shows w q → Lists w entries → entries ≡ listing q }
 
     // The meaning of each builder of events is regular, and with its adjusted settings a create
     // publishes for one node or more.
     ensures events { (asked : Asked) → IsRegular (event_meaning asked) }
-    ensures events_take_nodes { (asked : Asked) (now : Span) → 0 < max_nodes_of ((event_meaning (event_adjusted asked)).published now) }
+    ensures events_take_nodes { (asked : Asked) (now : Span)
+        → 0 < max_nodes_of ((event_meaning (event_adjusted asked)).published now) }
 {}
 
 /// What holds of the calls of each pattern over such a table.
 pub fn quiet_calls<F: Copy, E: Copy, C: Copy>()
     // A create over a world that shows the machine is the machine's create.
-    ensures create { (m : Meaning F E C) (node : ℕ) (hash : ServiceHash) (name : List ℕ) (now : Result Span ClockFault) (w v : World) (q : Quiet) (word : List Letter) (answer : Result Factory C) → IsRegular m → 0 < max_nodes_of (m.published (time_of now)) → Shows w q → Agrees w → IsCreateWord m node hash name now word answer → Run IsOwnPart w word v → IsCall w (Creates m q node hash name now answer) answer v }
+    ensures create { (m : Meaning F E C) (node : ℕ) (hash : ServiceHash) (name : List ℕ)
+        (now : Result Span ClockFault) (w v : World) (q : Quiet) (word : List Letter) (answer : Result Factory C)
+        → IsRegular m → 0 < max_nodes_of (m.published (time_of now)) → Shows w q → Agrees w
+        → IsCreateWord m node hash name now word answer → Run IsOwnPart w word v
+        → IsCall w (Creates m q node hash name now answer) answer v }
 
     // And so is an open, whatever its rounds.
-    ensures open { (m : Meaning F E C) (node : ℕ) (hash : ServiceHash) (w v : World) (q : Quiet) (word : List Letter) (answer : Result Factory E) → IsRegular m → Shows w q → Agrees w → IsOpenWord m node hash word answer → Run IsOwnPart w word v → IsCall w (Opens m q node hash answer) answer v }
+    ensures open { (m : Meaning F E C) (node : ℕ) (hash : ServiceHash)
+        (w v : World) (q : Quiet) (word : List Letter) (answer : Result Factory E)
+        → IsRegular m → Shows w q → Agrees w
+        → IsOpenWord m node hash word answer → Run IsOwnPart w word v
+        → IsCall w (Opens m q node hash answer) answer v }
 
     // A refused call changes no description, segment, tag or count.
-    ensures refused_create { (m : Meaning F E C) (node : ℕ) (hash : ServiceHash) (name : List ℕ) (now : Result Span ClockFault) (w v : World) (q p : Quiet) (error : C) → Shows w q → Shows v p → Creates m q node hash name now (Err error) p → HoldsTheSame w v }
-    ensures refused_open { (m : Meaning F E C) (node : ℕ) (hash : ServiceHash) (w v : World) (q p : Quiet) (error : E) → Shows w q → Shows v p → Opens m q node hash (Err error) p → HoldsTheSame w v }
+    ensures refused_create { (m : Meaning F E C) (node : ℕ) (hash : ServiceHash) (name : List ℕ)
+        (now : Result Span ClockFault) (w v : World) (q p : Quiet) (error : C)
+        → Shows w q → Shows v p → Creates m q node hash name now (Err error) p → HoldsTheSame w v }
+    ensures refused_open { (m : Meaning F E C) (node : ℕ) (hash : ServiceHash)
+        (w v : World) (q p : Quiet) (error : E)
+        → Shows w q → Shows v p → Opens m q node hash (Err error) p → HoldsTheSame w v }
 
     // A create and then the close of its factory leave nothing of that service and the rest as it
     // was, and one number is spent.
-    ensures create_and_close { (m : Meaning F E C) (node : ℕ) (hash : ServiceHash) (name : List ℕ) (now : Result Span ClockFault) (w v : World) (q p z : Quiet) (r : Factory) → Shows w q → Shows v z → Creates m q node hash name now (Ok r) p → Closes p r.node r.description.hash z → HasNothingAt v hash × HoldsTheSame w v × (v.counter ≡ w.counter + 1) }
+    ensures create_and_close { (m : Meaning F E C) (node : ℕ) (hash : ServiceHash) (name : List ℕ)
+        (now : Result Span ClockFault) (w v : World) (q p z : Quiet) (r : Factory)
+        → Shows w q → Shows v z
+        → Creates m q node hash name now (Ok r) p → Closes p r.node r.description.hash z
+        → HasNothingAt v hash × HoldsTheSame w v × (v.counter ≡ w.counter + 1) }
 
     // A further factory of a node takes no further place: the segment stays as it is, and the
     // node's count rises by one.
-    ensures again { (m : Meaning F E C) (node : ℕ) (hash : ServiceHash) (w v : World) (q p : Quiet) (r : Factory) (x : Service) (k : ℕ) → Shows w q → Shows v p → service_of q hash ≡ Some x → count_of x node ≡ Some k → Opens m q node hash (Ok r) p → (segment_of v hash ≡ segment_of w hash) × (join_count (phase_of w (Node node) hash) ≡ k) × (join_count (phase_of v (Node node) hash) ≡ k + 1) }
+    ensures again { (m : Meaning F E C) (node : ℕ) (hash : ServiceHash)
+        (w v : World) (q p : Quiet) (r : Factory) (x : Service) (k : ℕ)
+        → Shows w q → Shows v p → service_of q hash ≡ Some x → count_of x node ≡ Some k
+        → Opens m q node hash (Ok r) p
+        → (segment_of v hash ≡ segment_of w hash)
+        × (join_count (phase_of w (Node node) hash) ≡ k)
+        × (join_count (phase_of v (Node node) hash) ≡ k + 1) }
 
     // While a service stands that fits and that the requirement accepts, and a place and a number
     // are left, an open is Ok or wants memory.
-    ensures accepted { (m : Meaning F E C) (node : ℕ) (hash : ServiceHash) (q p : Quiet) (x : Service) (answer : Result Factory E) → service_of q hash ≡ Some x → m.misfit x.description ≡ None → verdict (m.requirement x.description) ≡ Ok tt → HasPlace x node → HasNumber q → Opens m q node hash answer p → IfErr answer (λ e. e ≡ m.open_refusal OutOfMemory) }
+    ensures accepted { (m : Meaning F E C) (node : ℕ) (hash : ServiceHash)
+        (q p : Quiet) (x : Service) (answer : Result Factory E)
+        → service_of q hash ≡ Some x → m.misfit x.description ≡ None
+        → verdict (m.requirement x.description) ≡ Ok tt → HasPlace x node → HasNumber q
+        → Opens m q node hash answer p
+        → IfErr answer (λ e. e ≡ m.open_refusal OutOfMemory) }
 {}
