@@ -16,5 +16,4 @@ pub mod Empty
 pub mod Calm
 pub mod Granted
 pub mod Spent
-pub mod Left
 pub mod Closing

@@ -1,10 +1,11 @@
 -- What an access of a node answers and changes, on the seat of that node at that service: the
 -- tests in their order, and then at most one step.
-use Rattle.std.specs.Prelude.{◌≡◌, ℕ, ◌+◌, Bool, true, false, ◌&&◌, nat_lt, ◌==◌, List, Option, Some, None, Result, Ok, Err, ◌⊎◌, OnOk, unwrap_or, if◌then◌else◌}
+use Rattle.std.specs.Prelude.{◌≡◌, ℕ, ◌+◌, Bool, true, false, ◌&&◌, nat_lt, ◌==◌, if◌then◌else◌}
+use Rattle.std.specs.Prelude.{List, Option, Some, None, Result, Ok, Err, ◌⊎◌, OnOk, unwrap_or}
 use Rattle.std.specs.FinMap as map
 use Rattle.std.specs.Ordering.{eq_by_cmp}
 use Rattle.iceoryx2_data.specs.declared.description.ServiceHash.{ServiceHash}
-use Rattle.iceoryx2_data.specs.Description.{IsDescription}
+use Rattle.iceoryx2_data.specs.Description.{Description, IsDescription}
 use Rattle.iceoryx2_world.specs.Sets as set
 use Rattle.iceoryx2_world.specs.declared.world.Participant.TheVariants.{Node}
 use Rattle.iceoryx2_world.specs.declared.world.Ticket.{Ticket}
@@ -25,6 +26,7 @@ use Rattle.iceoryx2_access.specs.declared.storage.Tag.{Tag}
 use Rattle.iceoryx2_access.specs.declared.storage.Tag.TheVariants.{Made, Found}
 use Rattle.iceoryx2_access.specs.declared.storage.TagError.{TagError}
 use Rattle.iceoryx2_access.specs.declared.storage.TagError.TheVariants as Tagging
+use Rattle.iceoryx2_access.specs.declared.storage.RemoveError.{RemoveError}
 use Rattle.iceoryx2_access.specs.declared.storage.RemoveError.TheVariants as Removing
 use Rattle.iceoryx2_access.specs.declared.storage.LockError.{LockError}
 use Rattle.iceoryx2_access.specs.declared.storage.LockError.TheVariants as Locking
@@ -54,7 +56,11 @@ pub record Change : Type 0 where
   pub tickets : Option Tickets
 
 abbrev pub seat : World → ℕ → ServiceHash → Seat
-seat w i h = record { spot = record { phase = phase_of w (Node i) h; row = row_of w h; segment = segment_of w h; counter = w.counter }; tag = tag_of w i h; tickets = w.tickets }
+seat w i h = record {
+  spot = record { phase = phase_of w (Node i) h; row = row_of w h; segment = segment_of w h; counter = w.counter };
+  tag = tag_of w i h;
+  tickets = w.tickets;
+}
 
 abbrev pub put_spot : World → ℕ → ServiceHash → Option Spot → World
 put_spot w i h None = w
@@ -67,11 +73,18 @@ set_tag t k (Some false) = set.remove t k
 
 -- the world with the change
 abbrev pub write : World → ℕ → ServiceHash → Change → World
-write w i h c = record (put_spot w i h c.spot) { tags = set_tag w.tags (i, h) c.tag; tickets = unwrap_or c.tickets w.tickets }
+write w i h c = record (put_spot w i h c.spot) {
+  tags = set_tag w.tags (i, h) c.tag;
+  tickets = unwrap_or c.tickets w.tickets;
+}
 
 -- the seat with the change
 abbrev pub seat_after : Seat → Change → Seat
-seat_after s c = record { spot = unwrap_or c.spot s.spot; tag = unwrap_or c.tag s.tag; tickets = unwrap_or c.tickets s.tickets }
+seat_after s c = record {
+  spot = unwrap_or c.spot s.spot;
+  tag = unwrap_or c.tag s.tag;
+  tickets = unwrap_or c.tickets s.tickets;
+}
 
 abbrev pub nothing : Change
 nothing = record { spot = None; tag = None; tickets = None }
@@ -122,14 +135,25 @@ abbrev pub has_made : ℕ → Phase → Bool
 has_made n (at.Made m) = m == n
 has_made n _ = false
 
+-- a test that is needed, with the refusal where it fails, and what is tested after it
+abbrev pub need : {E : Type 0} → Bool → E → Option E → Option E
+need b e rest = if b then rest else Some e
+
+-- the last test of an opening: there is a ticket
+abbrev pub number_refusal : ℕ → Option OpenSegmentError → Option OpenSegmentError
+number_refusal c rest = need (nat_lt c last_number) Opening.OutOfNumbers rest
+
 -- why a segment of this number isn't opened, by the phase
 abbrev pub join_refusal : ℕ → Segment → ℕ → Phase → Option OpenSegmentError
-join_refusal n x c (at.Read m) = if m == n then if has_room n x then if nat_lt c last_number then None else Some Opening.OutOfNumbers else Some Opening.Full else Some Opening.Failed
-join_refusal n x c (at.Joined m k) = if m == n then if nat_lt c last_number then if nat_lt k last_number then None else Some Opening.Failed else Some Opening.OutOfNumbers else Some Opening.Failed
+join_refusal n x c (at.Read m) =
+    need (m == n) Opening.Failed (need (has_room n x) Opening.Full (number_refusal c None))
+join_refusal n x c (at.Joined m k) =
+    need (m == n) Opening.Failed (number_refusal c (need (nat_lt k last_number) Opening.Failed None))
 join_refusal n x c _ = Some Opening.Failed
 
 abbrev pub segment_refusal : ℕ → Segment → ℕ → Phase → Option OpenSegmentError
-segment_refusal n x c f = if x.number == n then if x.marked then Some Opening.Marked else join_refusal n x c f else Some Opening.Failed
+segment_refusal n x c f =
+    need (x.number == n) Opening.Failed (if x.marked then Some Opening.Marked else join_refusal n x c f)
 
 abbrev pub open_refusal : ℕ → Option Segment → ℕ → Phase → Option OpenSegmentError
 open_refusal n None c f = Some Opening.DoesNotExist
@@ -180,11 +204,35 @@ module _ (i : ℕ) (h : ServiceHash) where
   abbrev pub opening_of : ℕ → Seat → Option OpenSegmentError → Option Spot → Result (ℕ × Change) OpenSegmentError
   opening_of n s (Some e) x = Err e
   opening_of n s None None = Err Opening.Failed
-  opening_of n s None (Some x) = Ok (s.spot.counter, moves_with (record x { counter = s.spot.counter + 1 }) (with_ticket s.tickets s.spot.counter n))
+  opening_of n s None (Some x) =
+      let ticket = s.spot.counter in
+      Ok (ticket, moves_with (record x { counter = ticket + 1 }) (with_ticket s.tickets ticket n))
 
   abbrev pub release_of : ℕ → Tickets → Option Spot → Result (Released × Change) ReleaseError
   release_of t k None = Err NoSuchTicket
   release_of t k (Some x) = Ok (release_answer x.phase, moves_with x (map.remove k t))
+
+  -- what each access answers and changes: its own tests, and then the step
+  abbrev pub make_answer : Seat → ℕ → ℕ → Result (Unit {0} × Change) MakeSegmentError
+  make_answer s n m =
+      if has_lock n s.spot.phase && nat_lt 0 m then make_of m s.spot s.spot.segment else Err Making.Other
+
+  abbrev pub remove_answer : Seat → Act → Result (Unit {0} × Change) RemoveError
+  remove_answer s a = or_refused Removing.Other tt (own_step a s.spot)
+
+  abbrev pub publish_answer : Seat → ℕ → Description → Result (ℕ × Change) PublishError
+  publish_answer s n d =
+      if has_made n s.spot.phase then publishing_of n s.tickets (own_step (act.Publish d) s.spot)
+      else Err Publishing.Other
+
+  abbrev pub open_answer : Seat → ℕ → Result (ℕ × Change) OpenSegmentError
+  open_answer s n =
+      opening_of n s (open_refusal n s.spot.segment s.spot.counter s.spot.phase) (own_step act.Join s.spot)
+
+  abbrev pub release_with : Seat → ℕ → ℕ → Result (Released × Change) ReleaseError
+  release_with s t n =
+      if is_ticket n (map.get s.tickets t) then release_of t s.tickets (own_step act.Leave s.spot)
+      else Err NoSuchTicket
 
   -- The answer of a letter, and its change.
   abbrev pub IsSeatAnswer : Seat → Letter → Change → Type 0
@@ -194,12 +242,13 @@ module _ (i : ℕ) (h : ServiceHash) where
   IsSeatAnswer s (letter.MakeTag j g a) c = MakesTag s.tag a c
   IsSeatAnswer s (letter.RemoveTag j g a) c = (a ≡ Ok tt) × (c ≡ tag_becomes false)
   IsSeatAnswer s (letter.Lock j g a) c = IsAnswer Locking.OutOfMemory (lock_of s.spot s.spot.row) a c
-  IsSeatAnswer s (letter.MakeSegment j g n m a) c = IsAnswer Making.OutOfMemory (if has_lock n s.spot.phase && nat_lt 0 m then make_of m s.spot s.spot.segment else Err Making.Other) a c
-  IsSeatAnswer s (letter.RemoveSegment j g a) c = IsSureAnswer (or_refused Removing.Other tt (own_step act.RemoveSegment s.spot)) a c
-  IsSeatAnswer s (letter.RemoveDescription j g a) c = IsSureAnswer (or_refused Removing.Other tt (own_step act.RemoveDescription s.spot)) a c
-  IsSeatAnswer s (letter.Publish j g n d a) c = OnOk a (IsDescription d) × IsAnswer Publishing.OutOfMemory (if has_made n s.spot.phase then publishing_of n s.tickets (own_step (act.Publish d) s.spot) else Err Publishing.Other) a c
-  IsSeatAnswer s (letter.OpenSegment j g n a) c = IsAnswer Opening.OutOfMemory (opening_of n s (open_refusal n s.spot.segment s.spot.counter s.spot.phase) (own_step act.Join s.spot)) a c
-  IsSeatAnswer s (letter.Release t j g n a) c = IsSureAnswer (if is_ticket n (map.get s.tickets t) then release_of t s.tickets (own_step act.Leave s.spot) else Err NoSuchTicket) a c
+  IsSeatAnswer s (letter.MakeSegment j g n m a) c = IsAnswer Making.OutOfMemory (make_answer s n m) a c
+  IsSeatAnswer s (letter.RemoveSegment j g a) c = IsSureAnswer (remove_answer s act.RemoveSegment) a c
+  IsSeatAnswer s (letter.RemoveDescription j g a) c = IsSureAnswer (remove_answer s act.RemoveDescription) a c
+  IsSeatAnswer s (letter.Publish j g n d a) c =
+      OnOk a (IsDescription d) × IsAnswer Publishing.OutOfMemory (publish_answer s n d) a c
+  IsSeatAnswer s (letter.OpenSegment j g n a) c = IsAnswer Opening.OutOfMemory (open_answer s n) a c
+  IsSeatAnswer s (letter.Release t j g n a) c = IsSureAnswer (release_with s t n) a c
 
 -- The node's own part of an access, in the world.
 pub record IsOwnPart (w : World) (l : Letter) (v : World) : Type 0 where

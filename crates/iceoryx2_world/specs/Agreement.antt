@@ -9,7 +9,8 @@ use Rattle.iceoryx2_world.specs.declared.world.Phase.{Phase}
 use Rattle.iceoryx2_world.specs.declared.world.Phase.TheVariants as at
 use Rattle.iceoryx2_world.specs.declared.world.Row.{Row}
 use Rattle.iceoryx2_world.specs.declared.world.Row.TheVariants as row
-use Rattle.iceoryx2_world.specs.World.{World, Segment, row_of, segment_of, phase_of, locked_number, phase_number, row_number, is_last}
+use Rattle.iceoryx2_world.specs.World.{World, Segment, row_of, segment_of, phase_of}
+use Rattle.iceoryx2_world.specs.World.{locked_number, phase_number, row_number, is_last}
 use Rattle.iceoryx2_world.specs.Steps.{new_segment}
 
 abbrev pub IsPublished : ℕ → Option Row → Type 0
@@ -40,14 +41,16 @@ pub record IsSegmentOf (d : Description) (n : ℕ) (phase : Participant → Phas
   pub members : (p : Participant) → set.contains x.participants p ≡ true → (k : ℕ) × (phase p ≡ at.Joined n k)
 
 -- The bytes are the byte form of a description of this service, and a segment beside them is its.
-pub record Describes (h : ServiceHash) (n : ℕ) (b : List ℕ) (s : Option Segment) (phase : Participant → Phase) : Type 0 where
+pub record Describes (h : ServiceHash) (n : ℕ) (b : List ℕ) (s : Option Segment) (phase : Participant → Phase)
+    : Type 0 where
   pub description : Description
   pub form : IsForm description b
   pub hash : description.hash ≡ h
   pub segment : (x : Segment) → s ≡ Some x → IsSegmentOf description n phase x
 
 -- What is true at one service: of its row, its segment and where the participants are with it, with the counter.
-pub record AgreesAt (c : ℕ) (h : ServiceHash) (r : Option Row) (s : Option Segment) (phase : Participant → Phase) : Type 0 where
+pub record AgreesAt (c : ℕ) (h : ServiceHash) (r : Option Row) (s : Option Segment) (phase : Participant → Phase)
+    : Type 0 where
   -- every number is below the counter
   pub row_below : (x : Row) → r ≡ Some x → row_number x < c
   pub segment_below : (x : Segment) → s ≡ Some x → x.number < c
@@ -55,7 +58,8 @@ pub record AgreesAt (c : ℕ) (h : ServiceHash) (r : Option Row) (s : Option Seg
   -- the row is Locked n exactly where somebody holds the lock of n, and at most one holds a lock
   pub locked : (p : Participant) (n : ℕ) → locked_number (phase p) ≡ Some n → r ≡ Some (row.Locked n)
   pub holder : (n : ℕ) → r ≡ Some (row.Locked n) → (p : Participant) × (locked_number (phase p) ≡ Some n)
-  pub one_holder : (p q : Participant) (m n : ℕ) → locked_number (phase p) ≡ Some m → locked_number (phase q) ≡ Some n → p ≡ q
+  pub one_holder : (p q : Participant) (m n : ℕ)
+      → locked_number (phase p) ≡ Some m → locked_number (phase q) ≡ Some n → p ≡ q
   -- who is Made n has an unmarked segment of that number with room for one or more, alone in it
   pub made : (p : Participant) (n : ℕ) → phase p ≡ at.Made n → (m : ℕ) × (1 ≤ m) × (s ≡ Some (new_segment p n m))
   -- who is Joined n has joined once or more, and its service stands
@@ -66,7 +70,8 @@ pub record AgreesAt (c : ℕ) (h : ServiceHash) (r : Option Row) (s : Option Seg
   pub one_last : (p q : Participant) → is_last (phase p) ≡ true → is_last (phase q) ≡ true → p ≡ q
   -- who has read n: n isn't a lock's number, and an unmarked segment of it stands only beside its description
   pub read_row : (p : Participant) (n : ℕ) → phase p ≡ at.Read n → r ≢ Some (row.Locked n)
-  pub read_segment : (p : Participant) (n : ℕ) (x : Segment) → phase p ≡ at.Read n → s ≡ Some x → x.number ≡ n → x.marked ≡ false → IsPublished n r
+  pub read_segment : (p : Participant) (n : ℕ) (x : Segment)
+      → phase p ≡ at.Read n → s ≡ Some x → x.number ≡ n → x.marked ≡ false → IsPublished n r
   -- what is published is a description of this service, and the segment beside it is its
   pub published : (n : ℕ) (b : List ℕ) → r ≡ Some (row.Published n b) → Describes h n b s phase
 
@@ -74,7 +79,8 @@ pub record AgreesAt (c : ℕ) (h : ServiceHash) (r : Option Row) (s : Option Seg
 abbrev pub AgreesEverywhere : World → Type 0
 AgreesEverywhere w = (h : ServiceHash) → AgreesAt w.counter h (row_of w h) (segment_of w h) (λ p. phase_of w p h)
 
--- A later row of the same service: no number from before comes anew, what was published isn't locked again, and its bytes stay.
+-- A later row of the same service: no number from before comes anew, what was published isn't locked again,
+-- and its bytes stay.
 pub record LaterAt (c : ℕ) (old new : Option Row) : Type 0 where
   pub no_new : (x : Row) → new ≡ Some x → row_number x < c → (y : Row) × (old ≡ Some y) × (row_number y ≡ row_number x)
   pub not_relocked : (n : ℕ) → IsPublished n old → new ≢ Some (row.Locked n)

@@ -1,8 +1,7 @@
 -- A code of worlds, so that they can be a model's value.
-use Rattle.std.specs.Prelude.{◌≡◌, ℕ, Bool, cond, ◌==◌, List, [], refl}
+use Rattle.std.specs.Prelude.{◌≡◌, ℕ, Bool, cond, ◌==◌, List, [], refl, if◌then◌else◌}
 use Rattle.std.specs.FinMap as map
 use Rattle.iceoryx2_world.specs.Sets as set
-use Rattle.std.specs.Ordering.{nat_cmp}
 use Rattle.std.specs.Coded.{Coded, code_by, coded×, coded_ℕ, coded_bool, coded_list}
 use Rattle.iceoryx2_world.specs.declared.world.Participant.{Participant}
 use Rattle.iceoryx2_world.specs.declared.world.Participant.TheVariants as who
@@ -13,7 +12,7 @@ use Rattle.iceoryx2_world.specs.declared.world.Phase.TheVariants as at
 use Rattle.iceoryx2_world.specs.declared.world.Row.{Row}
 use Rattle.iceoryx2_world.specs.declared.world.Row.TheVariants as row
 use Rattle.iceoryx2_world.specs.Orders.{hash_cmp, participant_cmp, place_cmp, tag_cmp}
-use Rattle.iceoryx2_world.specs.World.{World, Segment}
+use Rattle.iceoryx2_world.specs.World.{World, Segment, Tickets}
 
 abbrev pub coded_hash : Coded ServiceHash
 coded_hash = code_by (List ℕ) (coded_list coded_ℕ) (λ h. h.0) (λ l. record { 0 = l }) (λ _. refl)
@@ -43,7 +42,13 @@ to_phase (at.Cleared n) = (6, (n, 0))
 
 abbrev from_phase : ℕ × (ℕ × ℕ) → Phase
 from_phase p = let n = p.1.0 in
-    cond (p.0 == 0) at.Idle (cond (p.0 == 1) (at.Read n) (cond (p.0 == 2) (at.Locked n) (cond (p.0 == 3) (at.Made n) (cond (p.0 == 4) (at.Joined n p.1.1) (cond (p.0 == 5) (at.Leaving n) (at.Cleared n))))))
+    if p.0 == 0 then at.Idle
+    else if p.0 == 1 then at.Read n
+    else if p.0 == 2 then at.Locked n
+    else if p.0 == 3 then at.Made n
+    else if p.0 == 4 then at.Joined n p.1.1
+    else if p.0 == 5 then at.Leaving n
+    else at.Cleared n
 
 pub back_phase : (p : Phase) → from_phase (to_phase p) ≡ p
 back_phase at.Idle = refl
@@ -73,19 +78,40 @@ coded_row = code_by (ℕ × (ℕ × List ℕ)) (coded× coded_ℕ (coded× coded
 
 abbrev pub coded_segment : Coded Segment
 coded_segment =
-    code_by (ℕ × (ℕ × (set.FinSet participant_cmp × Bool))) (coded× coded_ℕ (coded× coded_ℕ (coded× (set.code coded_participant) coded_bool)))
+    code_by (ℕ × (ℕ × (set.FinSet participant_cmp × Bool)))
+    (coded× coded_ℕ (coded× coded_ℕ (coded× (set.code coded_participant) coded_bool)))
     (λ s. (s.number, (s.capacity, (s.participants, s.marked))))
     (λ p. record { number = p.0; capacity = p.1.0; participants = p.1.1.0; marked = p.1.1.1 }) (λ _. refl)
 
 abbrev pub coded_ticket : Coded Ticket
-coded_ticket = code_by (ℕ × (ServiceHash × ℕ)) (coded× coded_ℕ (coded× coded_hash coded_ℕ)) (λ t. (t.node, (t.hash, t.number))) (λ p. record { node = p.0; hash = p.1.0; number = p.1.1 }) (λ _. refl)
+coded_ticket =
+    code_by (ℕ × (ServiceHash × ℕ)) (coded× coded_ℕ (coded× coded_hash coded_ℕ)) (λ t. (t.node, (t.hash, t.number)))
+    (λ p. record { node = p.0; hash = p.1.0; number = p.1.1 }) (λ _. refl)
 
-abbrev pub Parts : Type 0
-Parts = map.FinMap hash_cmp Row × (map.FinMap hash_cmp Segment × (map.FinMap place_cmp Phase × (set.FinSet tag_cmp × (map.FinMap nat_cmp Ticket × ℕ))))
+-- what stands for the services, and what nodes hold
+abbrev pub Services : Type 0
+Services = map.FinMap hash_cmp Row × (map.FinMap hash_cmp Segment × map.FinMap place_cmp Phase)
+
+abbrev pub coded_services : Coded Services
+coded_services =
+    coded× (map.code coded_hash coded_row)
+    (coded× (map.code coded_hash coded_segment) (map.code (coded× coded_participant coded_hash) coded_phase))
+
+abbrev pub Holdings : Type 0
+Holdings = set.FinSet tag_cmp × Tickets
+
+abbrev pub coded_holdings : Coded Holdings
+coded_holdings = coded× (set.code (coded× coded_ℕ coded_hash)) (map.code coded_ℕ coded_ticket)
 
 abbrev pub coded_world : Coded World
 coded_world =
-    code_by Parts
-    (coded× (map.code coded_hash coded_row) (coded× (map.code coded_hash coded_segment) (coded× (map.code (coded× coded_participant coded_hash) coded_phase) (coded× (set.code (coded× coded_ℕ coded_hash)) (coded× (map.code coded_ℕ coded_ticket) coded_ℕ)))))
-    (λ w. (w.rows, (w.segments, (w.phases, (w.tags, (w.tickets, w.counter))))))
-    (λ p. record { rows = p.0; segments = p.1.0; phases = p.1.1.0; tags = p.1.1.1.0; tickets = p.1.1.1.1.0; counter = p.1.1.1.1.1 }) (λ _. refl)
+    code_by (Services × (Holdings × ℕ)) (coded× coded_services (coded× coded_holdings coded_ℕ))
+    (λ w. ((w.rows, (w.segments, w.phases)), ((w.tags, w.tickets), w.counter)))
+    (λ p. record {
+      rows = p.0.0;
+      segments = p.0.1.0;
+      phases = p.0.1.1;
+      tags = p.1.0.0;
+      tickets = p.1.0.1;
+      counter = p.1.1;
+    }) (λ _. refl)

@@ -20,7 +20,12 @@ listed_row (Some (row.Locked n)) = listed.Locked n
 listed_row (Some (row.Published n b)) = listed.Published n b
 
 abbrev pub listed_segment : Segment → ListedSegment
-listed_segment s = record { number = s.number; max_nodes = s.capacity; participants = set.len s.participants; marked = s.marked }
+listed_segment s = record {
+  number = s.number;
+  max_nodes = s.capacity;
+  participants = set.len s.participants;
+  marked = s.marked;
+}
 
 -- what is listed of a row and a segment; nothing where there is neither
 abbrev pub entry_of : ServiceHash → Option Row → Option Segment → Entry
@@ -35,7 +40,8 @@ abbrev pub keyed : List Entry → List (ServiceHash × Entry)
 keyed es = map (λ e. (e.hash, e)) es
 
 -- Every hash with a row or a segment is listed once, in ascending order, with what stands there, and no other hash.
-pub record ListsAll (rows : finite.FinMap hash_cmp Row) (segments : finite.FinMap hash_cmp Segment) (es : List Entry) : Type 0 where
+pub record ListsAll (rows : finite.FinMap hash_cmp Row) (segments : finite.FinMap hash_cmp Segment) (es : List Entry)
+    : Type 0 where
   pub ascends : T (is_sorted hash_cmp (keyed es))
   pub each : (h : ServiceHash) → find hash_cmp h (keyed es) ≡ entry_at h (finite.get rows h) (finite.get segments h)
 

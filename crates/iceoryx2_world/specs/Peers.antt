@@ -11,7 +11,8 @@ use Rattle.iceoryx2_world.specs.Access.{IsOwnPart}
 -- Any number of steps of peers, each with its effect.
 pub data Peers : World → World → Type 0 where
   none : {w : World} → Peers w w
-  peer : {u v w : World} (id : ℕ) (h : ServiceHash) (act : Act) → IsAct act → world_after u (Peer id) h act ≡ Some v → Peers v w → Peers u w
+  peer : {u v w : World} (id : ℕ) (h : ServiceHash) (act : Act)
+      → IsAct act → world_after u (Peer id) h act ≡ Some v → Peers v w → Peers u w
 
 -- An access of a node with its answer, after any steps of peers.
 pub record IsAccess (w : World) (l : Letter) (v : World) : Type 0 where

@@ -1,5 +1,6 @@
 -- The fourteen steps, by what the participant is at and what it does.
-use Rattle.std.specs.Prelude.{ℕ, ◌+◌, ◌-◌, ◌^◌, Bool, true, false, not, ◌&&◌, nat_lt, ◌==◌, Option, Some, None, if◌then◌else◌}
+use Rattle.std.specs.Prelude.{ℕ, ◌+◌, ◌-◌, ◌^◌, Bool, true, false, not, ◌&&◌, nat_lt, ◌==◌}
+use Rattle.std.specs.Prelude.{Option, Some, None, if◌then◌else◌}
 use Rattle.std.specs.Option.{option_map}
 use Rattle.iceoryx2_world.specs.Sets as set
 use Rattle.std.specs.Ordering.{eq_by_cmp}
@@ -65,7 +66,8 @@ row_for n d = row.Published n (form.description d)
 abbrev pub leave_of : Participant → ℕ → Option Row → Option Segment → ℕ → Option Spot
 leave_of p n r None c = None
 leave_of p n r (Some s) c =
-    if has_others s then to_spot at.Idle r (Some (without_one p s)) c else to_spot (at.Leaving n) r (Some (deserted s)) c
+    if has_others s then to_spot at.Idle r (Some (without_one p s)) c
+    else to_spot (at.Leaving n) r (Some (deserted s)) c
 
 -- What a step of p at h changes, of its phase, the row, the segment and the counter there; none where it is forbidden.
 abbrev pub spot_after : Participant → ServiceHash → Act → Phase → Option Row → Option Segment → ℕ → Option Spot
@@ -76,7 +78,8 @@ spot_after p h Lock at.Idle None s c =
 spot_after p h Lock (at.Read m) None s c =
     if nat_lt c last_number then to_spot (at.Locked c) (Some (row.Locked c)) s (c + 1) else None
 spot_after p h RemoveSegment (at.Locked n) r s c = to_spot (at.Locked n) r None c
-spot_after p h (Make m) (at.Locked n) r None c = if nat_lt 0 m then to_spot (at.Made n) r (Some (new_segment p n m)) c else None
+spot_after p h (Make m) (at.Locked n) r None c =
+    if nat_lt 0 m then to_spot (at.Made n) r (Some (new_segment p n m)) c else None
 spot_after p h RemoveSegment (at.Made n) r s c = to_spot (at.Locked n) r None c
 spot_after p h RemoveDescription (at.Locked n) r s c = to_spot at.Idle None s c
 spot_after p h RemoveDescription (at.Made n) r s c = to_spot at.Idle None s c
@@ -103,4 +106,5 @@ put w p h s = record w {
 
 -- the world after a step; none where it is forbidden
 abbrev pub world_after : World → Participant → ServiceHash → Act → Option World
-world_after w p h act = option_map (put w p h) (spot_after p h act (phase_of w p h) (row_of w h) (segment_of w h) w.counter)
+world_after w p h act =
+    option_map (put w p h) (spot_after p h act (phase_of w p h) (row_of w h) (segment_of w h) w.counter)

@@ -180,7 +180,3 @@ own_access w l v o = record { between = w; peers = none; own = o }
 pub granted : (w : World) (l : Letter) (v : World) → (IsFault l → ⊥) → IsFaulty w l v → IsAccess w l v
 granted w l v other (inl a) = a
 granted w l v other (inr f) = absurd (other f.0)
-
--- the own part keeps the agreement
-pub own_agrees : (w : World) (l : Letter) (v : World) → IsOwnPart w l v → Agrees w → Agrees v
-own_agrees w l v o old = (access_keeps w l v (own_access w l v o) old).0

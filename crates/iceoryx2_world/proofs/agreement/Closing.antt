@@ -17,10 +17,10 @@ use Rattle.iceoryx2_world.specs.Access.{write, moves_with, release_answer, is_ti
 use Rattle.iceoryx2_world.specs.Faulty.{IsFaulty}
 use Rattle.iceoryx2_world.proofs.agreement.Effects.{stepped as stepped_world}
 use Rattle.iceoryx2_world.proofs.agreement.Worlds.{place_cases}
-use Rattle.iceoryx2_world.proofs.agreement.Parts.{sure_answer_cases, passed, release_ok}
+use Rattle.iceoryx2_world.proofs.agreement.Parts.{clearing, sure_answer_cases, passed, release_ok}
 use Rattle.iceoryx2_world.proofs.agreement.Accesses.{granted}
 use Rattle.iceoryx2_world.proofs.agreement.Granted.{peers_phase}
-use Rattle.iceoryx2_world.proofs.agreement.Left.{clearing, own_phase}
+use Rattle.iceoryx2_world.proofs.agreement.Stands.{own_phase}
 
 -- what a release answers, by the phase that its node comes to
 pub released_as : (w v : World) (t i : ℕ) (h : ServiceHash) (n : ℕ) (a : Released) → IsOwnPart w (letter.Release t i h n (Ok a)) v → a ≡ release_answer (phase_of v (Node i) h)

@@ -1,9 +1,9 @@
 -- What a map with one value set gives, by cases.
-use Rattle.std.proofs.Common.{◌≡◌, ◌≢◌, ◌+◌, ◌-◌, true, false, cond, ◌⊎◌, inl, inr, Option, refl, sym, ap, subst, ◌∙◌}
+use Rattle.std.proofs.Common.{◌≡◌, ◌≢◌, true, false, cond, ◌⊎◌, inl, inr, Option, refl, sym, ap, subst, ◌∙◌}
 use mathlib.Core.Bool.{true≢false}
 use Rattle.std.specs.FinMap as map
 use Rattle.iceoryx2_world.specs.Sets as set
-use Rattle.std.specs.Prelude.{not, ◌||◌, ◌&&◌}
+use Rattle.std.specs.Prelude.{◌||◌}
 use Rattle.std.specs.Ordering.{is_eq, eq_by_cmp}
 use Rattle.std.specs.declared.cmp.Ordering.{Ordering}
 use Rattle.std.specs.Cmp.{IsTotalOrder, Equal-is, tied_itself}
@@ -35,18 +35,3 @@ module _ {K : Type 0} {R : K → K → Ordering} (o : IsTotalOrder R) (exact : C
 
   pub set_has : (s : set.FinSet R) (k : K) → set.contains (set.insert s k) k ≡ true
   set_has s k = set.contains-insert o s k k ∙ ap (λ b. b || set.contains s k) (self k)
-
-  pub set_has_other : (s : set.FinSet R) (k q : K) → q ≢ k → set.contains (set.insert s k) q ≡ set.contains s q
-  set_has_other s k q ne = set.contains-insert o s k q ∙ elim (either q k) [ inl e ↦ absurd (ne e) | inr e ↦ ap (λ b. b || set.contains s q) e.1 ]
-
-  pub set_lacks : (s : set.FinSet R) (k : K) → set.contains (set.remove s k) k ≡ false
-  set_lacks s k = set.contains-remove o s k k ∙ ap (λ b. not b && set.contains s k) (self k)
-
-  pub set_lacks_other : (s : set.FinSet R) (k q : K) → q ≢ k → set.contains (set.remove s k) q ≡ set.contains s q
-  set_lacks_other s k q ne = set.contains-remove o s k q ∙ elim (either q k) [ inl e ↦ absurd (ne e) | inr e ↦ ap (λ b. not b && set.contains s q) e.1 ]
-
-  pub len_more : (s : set.FinSet R) (k : K) → set.contains s k ≡ false → set.len (set.insert s k) ≡ set.len s + 1
-  len_more s k e = set.len-insert o s k ∙ ap (λ b. cond b (set.len s) (set.len s + 1)) e
-
-  pub len_less : (s : set.FinSet R) (k : K) → set.contains s k ≡ true → set.len (set.remove s k) ≡ set.len s - 1
-  len_less s k e = set.len-remove o s k ∙ ap (λ b. cond b (set.len s - 1) (set.len s)) e

@@ -249,6 +249,25 @@ locking w v i h n p = elim (answer_cases _ _ _ p.change p.own) [
   | inr k ↦ absurd (cc (k.answer))
 ]
 
+-- a segment is made, or removed, or a description is
+pub making : (w v : World) (i : ℕ) (h : ServiceHash) (n m : ℕ) (a : Unit {0}) → IsOwnPart w (letter.MakeSegment i h n m (Ok a)) v → world_after w (Node i) h (act.Make m) ≡ Some v
+making w v i h n m a p = elim (answer_cases _ _ (Ok a) p.change p.own) [
+  | inl k ↦ let s = made_ok i h m (seat w i h).spot (segment_of w h) k.given (passed _ _ _ k.given k.from).1 in moved_world w v i h (act.Make m) p.change s.spot s.from (k.change ∙ (λ j. (s.is j).1)) p.is
+  | inr k ↦ absurd (cc (k.answer))
+]
+
+pub clearing : (w v : World) (i : ℕ) (h : ServiceHash) (a : Unit {0}) → IsOwnPart w (letter.RemoveSegment i h (Ok a)) v → world_after w (Node i) h act.RemoveSegment ≡ Some v
+clearing w v i h a p = elim (sure_answer_cases _ (Ok a) p.change p.own) [
+  | inl k ↦ let s = step_ok _ _ (own_step i h act.RemoveSegment (seat w i h).spot) k.given k.from in moved_world w v i h act.RemoveSegment p.change s.spot s.from (k.change ∙ (λ j. (s.is j).1)) p.is
+  | inr k ↦ absurd (cc (k.answer))
+]
+
+pub unlocking : (w v : World) (i : ℕ) (h : ServiceHash) (a : Unit {0}) → IsOwnPart w (letter.RemoveDescription i h (Ok a)) v → world_after w (Node i) h act.RemoveDescription ≡ Some v
+unlocking w v i h a p = elim (sure_answer_cases _ (Ok a) p.change p.own) [
+  | inl k ↦ let s = step_ok _ _ (own_step i h act.RemoveDescription (seat w i h).spot) k.given k.from in moved_world w v i h act.RemoveDescription p.change s.spot s.from (k.change ∙ (λ j. (s.is j).1)) p.is
+  | inr k ↦ absurd (cc (k.answer))
+]
+
 -- any own part is of one of the kinds
 pub own_part : (w : World) (l : Letter) (v : World) → IsOwnPart w l v → Part w l v
 own_part w (letter.Exists h a) v p = stays (unchanged w v 0 h p.change p.own.1 p.is)

@@ -127,6 +127,12 @@ publish_spot {d = d} {n = n} is (row_publishes {n = m} hash nodes) = let same : 
 pub own_row : (w v : World) (p : Participant) (h : ServiceHash) (a : Act) → (st : Stepped w v p h a) → row_of v h ≡ st.spot.row
 own_row w v p h a st = subst (λ u. row_of u h ≡ st.spot.row) st.world (elim (set_cases hash_total hash_exact w.rows h st.spot.row h) [ inl e ↦ e.1 | inr e ↦ absurd (e.0 refl) ])
 
+pub own_phase : (w v : World) (i : ℕ) (h : ServiceHash) (a : Act) → (st : Stepped w v (Node i) h a) → phase_of v (Node i) h ≡ st.spot.phase
+own_phase w v i h a st = subst (λ u. phase_of u (Node i) h ≡ st.spot.phase) st.world (elim (place_cases w (Node i) h st.spot (Node i) h) [ inl k ↦ k.2 | inr k ↦ absurd (k.0 refl refl) ])
+
+pub own_segment : (w v : World) (p : Participant) (h : ServiceHash) (a : Act) → (st : Stepped w v p h a) → segment_of v h ≡ st.spot.segment
+own_segment w v p h a st = subst (λ u. segment_of u h ≡ st.spot.segment) st.world (elim (set_cases hash_total hash_exact w.segments h st.spot.segment h) [ inl e ↦ e.1 | inr e ↦ absurd (e.0 refl) ])
+
 -- a ticket that was put is there
 ticket_there : (u : World) (t : ℕ) (x : Ticket) → ticket_of (ticket_put u t x) t ≡ Some x
 ticket_there u t x = elim (set_cases nat_cmp_total exact_unsigned u.tickets t (Some x) t) [ inl i ↦ i.1 | inr i ↦ absurd (i.0 refl) ]
