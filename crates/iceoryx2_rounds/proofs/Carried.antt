@@ -35,8 +35,8 @@ module _ {F E C : Type 0} {m : Meaning F E C} {node : ℕ} {hash : ServiceHash} 
   pub opened_carries : {w : List Letter} {r : Factory} → IsOpenWord m node hash w (Ok r) → Carries m node hash r
   opened_carries (ended small before l) = round_carries l
 
--- of a close
-removed_here : (s : Factory) (tag segment description : Result (Unit {0}) RemoveError) → first_refused tag segment description ≡ Err (NotHere s) → ⊥
+-- of a close: none whose removals were tried hands anything back
+pub removed_here : (s : Factory) (tag segment description : Result (Unit {0}) RemoveError) → first_refused tag segment description ≡ Err (NotHere s) → ⊥
 removed_here s (Err e) segment description is = cc
 removed_here s (Ok x) (Err e) description is = cc
 removed_here s (Ok x) (Ok y) (Err e) is = cc

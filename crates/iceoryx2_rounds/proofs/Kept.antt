@@ -1,9 +1,8 @@
 -- What a call keeps along its words.
-use Rattle.std.proofs.Common.{ℕ, zero, suc, Bool, true, false, List, [], ◌∷◌, ◌++◌, Result, Ok, Err}
+use Rattle.std.proofs.Common.{ℕ, zero, suc, Bool, false, List, ◌∷◌, ◌++◌, Ok, Err}
 use Rattle.std.specs.Prelude.{is_err}
 use Rattle.iceoryx2_data.specs.declared.description.ServiceHash.{ServiceHash}
 use Rattle.iceoryx2_data.specs.Description.{Description}
-use Rattle.iceoryx2_access.specs.declared.storage.RemoveError.{RemoveError}
 use Rattle.iceoryx2_access.specs.declared.storage.OpenSegmentError.{OpenSegmentError}
 use Rattle.iceoryx2_access.specs.declared.storage.Tag.{Tag}
 use Rattle.iceoryx2_access.specs.declared.storage.Tag.TheVariants.{Made, Found}
@@ -14,7 +13,6 @@ use Rattle.iceoryx2_rounds.specs.declared.pattern.CreateRefusal.{CreateRefusal}
 use Rattle.iceoryx2_rounds.specs.Meaning.{Meaning}
 use Rattle.iceoryx2_access.specs.Factory.{Factory}
 use Rattle.iceoryx2_rounds.specs.Looks.{IsLookWord, absent, broken, fetched}
-use Rattle.iceoryx2_rounds.specs.GivesBack as back
 use Rattle.iceoryx2_rounds.specs.GivesBack.{GivesBack, OwnLock, OwnSegment, own_tag, nothing_left, segment_back, lock_back, tag_back}
 use Rattle.iceoryx2_rounds.specs.Segments as segments
 use Rattle.iceoryx2_rounds.specs.Segments.{cleared, IsSegmentWord, not_made, not_removed, still_there}

@@ -1,11 +1,10 @@
 -- A create that answers Ok.
-use Rattle.std.proofs.Common.{◌≡◌, ℕ, ◌≤◌, Bool, ◌∷◌, ◌++◌, [], List, Ok, refl, arith}
+use Rattle.std.proofs.Common.{◌≡◌, ℕ, ◌≤◌, Bool, List, Ok, refl, arith}
 use Rattle.iceoryx2_data.specs.declared.description.ServiceHash.{ServiceHash}
 use Rattle.iceoryx2_data.specs.Description.{Description}
 use Rattle.iceoryx2_world.specs.World.{World}
 use Rattle.iceoryx2_access.specs.declared.storage.Tag.{Tag}
 use Rattle.iceoryx2_access.specs.Letter.{Letter}
-use Rattle.iceoryx2_access.specs.Letter as letter
 use Rattle.iceoryx2_access.specs.Run.{Run}
 use Rattle.iceoryx2_world.specs.Across.{Agrees}
 use Rattle.iceoryx2_world.specs.Faulty.{IsFaulty}

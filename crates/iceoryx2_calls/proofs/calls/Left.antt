@@ -1,12 +1,12 @@
 -- What a refused call leaves, whatever peers do within it and whichever of its accesses are refused.
-use Rattle.std.proofs.Common.{◌≡◌, ◌≢◌, ℕ, ◌<◌, Bool, true, false, cond, ◌⊎◌, inl, inr, List, [], ◌∷◌, Option, Some, None, Result, Ok, Err, refl, sym, ap, subst, ◌∙◌, arith}
-use Rattle.std.specs.Prelude.{is_some, is_err}
+use Rattle.std.proofs.Common.{◌≡◌, ℕ, ◌<◌, Bool, true, false, cond, inl, inr, List, Option, Some, None, Result, Ok, Err, refl, sym, ap, subst, ◌∙◌, arith}
+use Rattle.std.specs.Prelude.{is_some}
 use Rattle.std.specs.Ordering.{eq_by_cmp}
 use Rattle.std.specs.FinMap as map
 use Rattle.iceoryx2_data.specs.declared.description.ServiceHash.{ServiceHash}
 use Rattle.iceoryx2_access.specs.declared.storage.MakeSegmentError.TheVariants as make
 use Rattle.iceoryx2_access.specs.declared.storage.RemoveError.{RemoveError}
-use Rattle.iceoryx2_access.specs.declared.storage.Tag.TheVariants.{Made, Found}
+use Rattle.iceoryx2_access.specs.declared.storage.Tag.TheVariants.{Made}
 use Rattle.iceoryx2_access.specs.Letter.{Letter}
 use Rattle.iceoryx2_access.specs.Letter as letter
 use Rattle.iceoryx2_access.specs.Run.{Run, done, next, Each}
@@ -39,7 +39,7 @@ use Rattle.iceoryx2_world.proofs.agreement.Stands.{own_row}
 use Rattle.iceoryx2_rounds.specs.Keeps as keeps
 use Rattle.iceoryx2_rounds.specs.Keeps.{KeptTag, NoTag, OwnTag, KeptLock, NoLock, Locked, WithSegment, GivenBack, HasService, IsUnlocked, MakesNothing, Keeps, GivesAllBack}
 use Rattle.iceoryx2_calls.specs.Leaves.{IsGranted, HasAtMostRead, LacksRow, LacksSegment, NodeHasRead, Leaves, LeavesOfLock, LeavesNothing, SpendsNumber, tags_after}
-use Rattle.iceoryx2_calls.proofs.calls.Plain.{IsPlain, Untouched, plain_untouched, untouched_same, read_both, step_tags, row_stays_away}
+use Rattle.iceoryx2_calls.proofs.calls.Plain.{IsPlain, Untouched, plain_untouched, read_both, step_tags, row_stays_away}
 
 -- peers change no tag and no ticket
 pub record PeersLeave (w v : World) : Type 0 where

@@ -12,7 +12,6 @@ use Rattle.iceoryx2_access.specs.Factory.{Factory}
 use Rattle.iceoryx2_world.specs.Standing.{Stands, Spares}
 use Rattle.iceoryx2_access.specs.Run.{Each}
 use Rattle.iceoryx2_access.specs.declared.storage.MakeSegmentError.TheVariants as make
-use Rattle.iceoryx2_access.specs.declared.storage.RemoveError.{RemoveError}
 use Rattle.iceoryx2_access.specs.declared.storage.Tag.{Tag}
 use Rattle.iceoryx2_world.proofs.agreement.Accesses.{later_refl, later_trans, faulty_keeps}
 use Rattle.iceoryx2_world.proofs.agreement.Stands.{faulty_stands, each_append, each_map}
@@ -29,7 +28,8 @@ use Rattle.iceoryx2_rounds.specs.Creates as creates
 use Rattle.iceoryx2_rounds.specs.Creates.{IsEntryWord, IsServiceWord, IsCreating, forbidden, not_entered, clock_fault, not_locked, no_segment, not_published, published, counted, no_copies, entered}
 use Rattle.iceoryx2_rounds.specs.Opens as opens
 use Rattle.iceoryx2_rounds.specs.Opens.{IsReady, ready, IsFailedRound, failed, IsLastRound, AreFailedRounds, no_round, one_more, IsOpenWord, ended, all_failed}
-use Rattle.iceoryx2_rounds.specs.Closes.{IsCloseWord, first_refused, not_here, still_counted, left, last}
+use Rattle.iceoryx2_rounds.specs.Closes.{IsCloseWord, not_here, still_counted, left, last}
+use Rattle.iceoryx2_rounds.proofs.Carried.{removed_here}
 use Rattle.iceoryx2_calls.specs.Calls.{Throughout}
 
 -- what each access keeps is true throughout
@@ -146,12 +146,6 @@ close_spares f apart (left tag) = (λ e _ _ _. apart (sym e), (tt, tt))
 close_spares f apart (last tag segment description) = (λ e _ _ _. apart (sym e), (tt, (tt, (tt, tt))))
 
 -- and none where it is not there
-removed_here : (s : Factory) (tag segment description : Result (Unit {0}) RemoveError) → first_refused tag segment description ≡ Err (NotHere s) → ⊥
-removed_here s (Err e) segment description is = cc
-removed_here s (Ok x) (Err e) description is = cc
-removed_here s (Ok x) (Ok y) (Err e) is = cc
-removed_here s (Ok x) (Ok y) (Ok z) is = cc
-
 not_here_by : {r : Factory} {word : List Letter} {answer : Result (Unit {0}) (CloseError Factory)} (s : Factory) → answer ≡ Err (NotHere s) → IsCloseWord r word answer → (s ≡ r) × ((f : Factory) → Each (Spares f) word)
 not_here_by s e not_here = (cc, λ f. (tt, tt))
 not_here_by s e still_counted = absurd (cc)
