@@ -5,9 +5,6 @@ use Rattle.iceoryx2_world.specs.declared.world.Phase.TheVariants as at
 use Rattle.iceoryx2_world.specs.declared.world.Row.{Row}
 use Rattle.std.proofs.Common.{◌≡◌, ℕ, ◌+◌, List, Bool, true, false, arith, Option, Some, None, refl, sym, ap, subst, ◌∙◌}
 use Rattle.std.specs.FinMap as map
-use Rattle.std.specs.FinMap.{IsAntisymmetric}
-use Rattle.std.specs.declared.cmp.Ordering.{Ordering}
-use Rattle.std.specs.Cmp.{IsTotalOrder}
 use Rattle.iceoryx2_world.specs.declared.world.Participant.{Participant}
 use Rattle.iceoryx2_data.specs.declared.description.ServiceHash.{ServiceHash}
 use Rattle.iceoryx2_world.specs.declared.world.Phase.{Phase}
@@ -16,40 +13,30 @@ use Rattle.iceoryx2_world.specs.Acts.{Act}
 use Rattle.iceoryx2_world.specs.Acts as act
 use Rattle.iceoryx2_world.specs.declared.world.Row.TheVariants as row
 use Rattle.iceoryx2_data.specs.Description.{Description}
-use Rattle.iceoryx2_data.specs.Form as form
-use Rattle.iceoryx2_world.specs.Steps.{Spot, spot_after, to_spot, fits, has_room, last_number}
-use Rattle.iceoryx2_storage.specs.Book.{Book, tries, with_spot, needs_room, Done, Starved, Leaves}
+use Rattle.iceoryx2_world.specs.Steps.{Spot, spot_after, to_spot, fits, has_room, last_number, with_one, row_for}
+use Rattle.iceoryx2_storage.specs.Book.{Book, step_at, with_spot, needs_room, HasEffect, Starves, Leaves, published_number, segment_fits}
 use Rattle.iceoryx2_access.specs.declared.storage.OpenSegmentError.TheVariants as Opening
 use Rattle.iceoryx2_access.specs.declared.storage.Release.{Release as Released}
 use Rattle.iceoryx2_world.specs.Access.{release_answer, open_refusal}
-use Rattle.iceoryx2_storage.proofs.Views.{put_back, put_other}
-
-module _ {K X : Type 0} {R : K → K → Ordering} (o : IsTotalOrder R) (exact : IsAntisymmetric R) where
-  -- taken out, changed and put again
-  pub replaced : (m a z : map.FinMap R X) (k : K) (v : X) → a ≡ map.remove m k → z ≡ map.insert a k v → z ≡ map.insert m k v
-  replaced m a z k v e f = f ∙ ap (λ x. map.insert x k v) e ∙ put_other R o exact m k v
-
-  pub returned : (m a z : map.FinMap R X) (k : K) (v : X) → a ≡ map.remove m k → z ≡ map.insert a k v → map.get m k ≡ Some v → z ≡ m
-  returned m a z k v e f there = f ∙ ap (λ x. map.insert x k v) e ∙ put_back R o exact m k v there
 
 -- by the phase that was read
-pub by_phase : (b : Book) (p : Participant) (h : ServiceHash) (a : Act) (x : Phase) → or_idle (map.get b.phases (p, h)) ≡ x → tries b p h a ≡ spot_after p h a x (map.get b.rows h) (map.get b.segments h) b.counter
+pub by_phase : (b : Book) (p : Participant) (h : ServiceHash) (a : Act) (x : Phase) → or_idle (map.get b.phases (p, h)) ≡ x → step_at b p h a ≡ spot_after p h a x (map.get b.rows h) (map.get b.segments h) b.counter
 by_phase b p h a x e = ap (λ y. spot_after p h a y (map.get b.rows h) (map.get b.segments h) b.counter) e
 
-pub by_both : (b : Book) (p : Participant) (h : ServiceHash) (a : Act) (x : Phase) (s : Option Segment) → or_idle (map.get b.phases (p, h)) ≡ x → map.get b.segments h ≡ s → tries b p h a ≡ spot_after p h a x (map.get b.rows h) s b.counter
+pub by_both : (b : Book) (p : Participant) (h : ServiceHash) (a : Act) (x : Phase) (s : Option Segment) → or_idle (map.get b.phases (p, h)) ≡ x → map.get b.segments h ≡ s → step_at b p h a ≡ spot_after p h a x (map.get b.rows h) s b.counter
 by_both b p h a x s e f = by_phase b p h a x e ∙ ap (λ t. spot_after p h a x (map.get b.rows h) t b.counter) f
 
 -- what was shown of the fields, of the value
-pub did : {a b new : Book} (p : Participant) (h : ServiceHash) (t : Act) (s : Spot) → a ≡ b → tries a p h t ≡ Some s → new ≡ with_spot a p h s → Done b p h t new
-did {a} {b} {new} p h t s is e f = subst (λ (x : Book). Done x p h t new) is (s, e, f)
+pub did : {a b new : Book} (p : Participant) (h : ServiceHash) (t : Act) (s : Spot) → a ≡ b → step_at a p h t ≡ Some s → new ≡ with_spot a p h s → HasEffect b p h t new
+did {a} {b} {new} p h t s is e f = subst (λ (x : Book). HasEffect x p h t new) is (s, e, f)
 
-pub refused : {a b new : Book} (p : Participant) (h : ServiceHash) (t : Act) → a ≡ b → tries a p h t ≡ None → new ≡ a → (tries b p h t ≡ None) × (new ≡ b)
-refused p h t is e f = (ap (λ (x : Book). tries x p h t) (sym is) ∙ e, f ∙ is)
+pub refused : {a b new : Book} (p : Participant) (h : ServiceHash) (t : Act) → a ≡ b → step_at a p h t ≡ None → new ≡ a → (step_at b p h t ≡ None) × (new ≡ b)
+refused p h t is e f = (ap (λ (x : Book). step_at x p h t) (sym is) ∙ e, f ∙ is)
 
-pub starved : {a b new : Book} (p : Participant) (h : ServiceHash) (t : Act) (s : Spot) → a ≡ b → tries a p h t ≡ Some s → needs_room t (or_idle (map.get a.phases (p, h))) ≡ true → new ≡ a → Starved b p h t new
-starved {a} {b} {new} p h t s is e room f = subst (λ (x : Book). Starved x p h t new) is (s, e, room, f)
+pub starved : {a b new : Book} (p : Participant) (h : ServiceHash) (t : Act) (s : Spot) → a ≡ b → step_at a p h t ≡ Some s → needs_room t (or_idle (map.get a.phases (p, h))) ≡ true → new ≡ a → Starves b p h t new
+starved {a} {b} {new} p h t s is e room f = subst (λ (x : Book). Starves x p h t new) is (s, e, room, f)
 
-pub left : {a b new : Book} (p : Participant) (h : ServiceHash) (r : Released) (s : Spot) → a ≡ b → tries a p h act.Leave ≡ Some s → r ≡ release_answer s.phase → new ≡ with_spot a p h s → Leaves b p h (Some r) new
+pub left : {a b new : Book} (p : Participant) (h : ServiceHash) (r : Released) (s : Spot) → a ≡ b → step_at a p h act.Leave ≡ Some s → r ≡ release_answer s.phase → new ≡ with_spot a p h s → Leaves b p h (Some r) new
 left {a} {b} {new} p h r s is e l f = subst (λ (x : Book). Leaves x p h (Some r) new) is (s, e, l, f)
 
 if_none : {E : Type 0} (b : Bool) (e : E) (o : Option E) → (if b then o else Some e) ≡ None → (b ≡ true) × (o ≡ None)
@@ -76,7 +63,7 @@ may_join p h n c r (Some s) (at.Read m) e =
     let f = if_none (has_room n s) _ _ d.1 in
     let g = if_none (nat_lt c last_number) _ _ f.1 in
     let room : has_room m s ≡ true = subst (λ (k : ℕ). has_room k s ≡ true) (sym (same_number m n d.0)) f.0 in
-    (g.0, (_, ap (λ (y : Bool). if y then to_spot (at.Joined m 1) r (Some (record s { participants = map.insert s.participants p tt })) c else None) room))
+    (g.0, (_, ap (λ (y : Bool). if y then to_spot (at.Joined m 1) r (Some (with_one p s)) c else None) room))
 may_join p h n c r (Some s) (at.Joined m k) e =
     let a = if_none (s.number == n) _ _ e in
     let b = if_some s.marked _ _ a.1 in
@@ -101,7 +88,7 @@ locks p h (at.Leaving n) s c e = absurd (cc)
 locks p h (at.Cleared n) s c e = absurd (cc)
 
 pub lock_tried : (b : Book) (p : Participant) (h : ServiceHash) (x : Phase) → or_idle (map.get b.phases (p, h)) ≡ x → begins x ≡ true → map.get b.rows h ≡ None → nat_lt b.counter last_number ≡ true
-    → tries b p h act.Lock ≡ to_spot (at.Locked b.counter) (Some (row.Locked b.counter)) (map.get b.segments h) (b.counter + 1)
+    → step_at b p h act.Lock ≡ to_spot (at.Locked b.counter) (Some (row.Locked b.counter)) (map.get b.segments h) (b.counter + 1)
 lock_tried b p h x e free none left =
     by_phase b p h act.Lock x e
     ∙ ap (λ r. spot_after p h act.Lock x r (map.get b.segments h) b.counter) none
@@ -110,7 +97,7 @@ lock_tried b p h x e free none left =
 
 -- who holds nothing reads what is published
 pub read_tried : (b : Book) (p : Participant) (h : ServiceHash) (x : Phase) (n : ℕ) (d : List ℕ) → or_idle (map.get b.phases (p, h)) ≡ x → begins x ≡ true → map.get b.rows h ≡ Some (row.Published n d)
-    → tries b p h act.Read ≡ to_spot (at.Read n) (map.get b.rows h) (map.get b.segments h) b.counter
+    → step_at b p h act.Read ≡ to_spot (at.Read n) (map.get b.rows h) (map.get b.segments h) b.counter
 read_tried b p h x n d e free there =
     by_phase b p h act.Read x e
     ∙ ap (λ r. spot_after p h act.Read x r (map.get b.segments h) b.counter) there
@@ -128,8 +115,34 @@ read_tried b p h x n d e free there =
 
 -- who made a segment publishes what fits it
 pub publish_tried : (b : Book) (p : Participant) (h : ServiceHash) (d : Description) (n : ℕ) (s : Segment) → or_idle (map.get b.phases (p, h)) ≡ at.Made n → map.get b.segments h ≡ Some s → fits h s d ≡ true
-    → tries b p h (act.Publish d) ≡ to_spot (at.Joined n 1) (Some (row.Published n (form.description d))) (map.get b.segments h) b.counter
+    → step_at b p h (act.Publish d) ≡ to_spot (at.Joined n 1) (Some (row_for n d)) (map.get b.segments h) b.counter
 publish_tried b p h d n s e there fit =
     by_both b p h (act.Publish d) (at.Made n) (Some s) e there
-    ∙ ap (λ (t : Bool). if t then to_spot (at.Joined n 1) (Some (row.Published n (form.description d))) (Some s) b.counter else None) fit
-    ∙ ap (λ x. to_spot (at.Joined n 1) (Some (row.Published n (form.description d))) x b.counter) (sym there)
+    ∙ ap (λ (t : Bool). if t then to_spot (at.Joined n 1) (Some (row_for n d)) (Some s) b.counter else None) fit
+    ∙ ap (λ x. to_spot (at.Joined n 1) (Some (row_for n d)) x b.counter) (sym there)
+
+-- what has a number that is published
+pub published_row : (o : Option Row) (n : ℕ) → published_number o ≡ Some n → (d : List ℕ) × (o ≡ Some (row.Published n d))
+published_row None n e = absurd (cc)
+published_row (Some (row.Locked m)) n e = absurd (cc)
+published_row (Some (row.Published m d)) n e = let same : m ≡ n = cc in (d, ap (λ k. Some (row.Published k d)) same)
+
+-- a segment that the description fits
+pub fitting : (h : ServiceHash) (o : Option Segment) (d : Description) → segment_fits h o d ≡ true → (s : Segment) × (o ≡ Some s) × (fits h s d ≡ true)
+fitting h None d e = absurd (cc)
+fitting h (Some s) d e = (s, refl, e)
+
+some_if : (b : Bool) (x y : Spot) → (if b then Some x else None) ≡ Some y → x ≡ y
+some_if true x y e = cc
+some_if false x y e = absurd (cc)
+
+-- a join hands out no number
+pub join_counter : (p : Participant) (h : ServiceHash) (x : Phase) (r : Option Row) (s : Option Segment) (c : ℕ) (t : Spot) → spot_after p h act.Join x r s c ≡ Some t → t.counter ≡ c
+join_counter p h (at.Read m) r None c t e = absurd (cc)
+join_counter p h (at.Read m) r (Some s) c t e = ap (λ (y : Spot). y.counter) (sym (some_if (has_room m s) _ t e))
+join_counter p h (at.Joined m k) r s c t e = ap (λ (y : Spot). y.counter) (sym (some_if (nat_lt k last_number) _ t e))
+join_counter p h at.Idle r s c t e = absurd (cc)
+join_counter p h (at.Locked m) r s c t e = absurd (cc)
+join_counter p h (at.Made m) r s c t e = absurd (cc)
+join_counter p h (at.Leaving m) r s c t e = absurd (cc)
+join_counter p h (at.Cleared m) r s c t e = absurd (cc)

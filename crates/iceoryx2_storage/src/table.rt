@@ -5,8 +5,9 @@ ghost use Rattle.iceoryx2_world.specs.World.{tag_of, empty_world, ticket_count};
 ghost use Rattle.iceoryx2_world.specs.Across.{Agrees};
 ghost use Rattle.iceoryx2_world.specs.Listing.{Lists};
 
+mod merge;
+mod segments;
 mod services;
-mod sorted;
 mod stored;
 
 use self::listing::Entry;
@@ -227,6 +228,3 @@ impl Storage for Table {
         self.world.release(ticket, node, hash, number)
     }
 }
-
-#[cfg(test)]
-mod tests;

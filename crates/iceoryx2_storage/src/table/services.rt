@@ -1,141 +1,30 @@
 //! What stands for the services, and the steps of one participant at one of them.
 
-ghost use Rattle.std.specs.Prelude.{◌≡◌, ◌≢◌, ◌&&◌, is_some, MatchOption, Some, None, IsSome, IsTrue, IfOk, Ok, true};
+ghost use Rattle.std.specs.Prelude.{◌≡◌, ◌≢◌, ◌<◌, ◌+◌, is_some, Some, None, IsSome, IsTrue, IfOk, Ok, true};
 ghost use Rattle.std.specs.FinMap as map;
 ghost use Rattle.std.specs.Option.{option_copied};
-ghost use Rattle.iceoryx2_world.specs.Orders.{place_cmp};
-ghost use Rattle.iceoryx2_world.specs.World.{or_idle, unless_idle, set_to, begins as begins_spec};
-ghost use Rattle.iceoryx2_world.specs.Acts as act;
-ghost use Rattle.iceoryx2_world.specs.Steps.{fits as fits_spec, has_room as has_room_spec};
+ghost use Rattle.sorted_map.specs.Sorted.{map_of, HasRoom};
+ghost use Rattle.sorted_map.specs.Places.{place_in};
 ghost use Rattle.iceoryx2_data.specs.Description.{IsDescription};
-ghost use Rattle.iceoryx2_world.specs.Access.{has_made, open_refusal, segment_refusal};
-ghost use Rattle.iceoryx2_world.specs.Listing.{ListsAll, entry_of, listed_row as listed_row_of, listed_segment};
-ghost use Rattle.iceoryx2_storage.specs.Book.{Steps, Tries, Leaves, Admits, Dismisses, TakesSegment, TakesDescription, segment_fits};
+ghost use Rattle.iceoryx2_world.specs.Orders.{place_cmp};
+ghost use Rattle.iceoryx2_world.specs.World.{unless_idle, set_to, begins as begins_spec};
+ghost use Rattle.iceoryx2_world.specs.Acts as act;
+ghost use Rattle.iceoryx2_world.specs.Steps.{last_number};
+ghost use Rattle.iceoryx2_world.specs.Access.{open_refusal};
+ghost use Rattle.iceoryx2_world.specs.Listing.{ListsAll};
+ghost use Rattle.iceoryx2_storage.specs.Book.{Leaves, MayTakeStep, TakesDescription, TakesSegment, TakesStep};
+ghost use Rattle.iceoryx2_storage.specs.Book.{position_in, published_number, segment_fits};
 
-use super::listing::{Entry, ListedRow, ListedSegment};
-use super::sorted::{SortedVec, add_keys};
+use super::listing::Entry;
+use super::merge::merged;
+use super::segments::StoredSegment;
 use super::world::{Bytes, Participant, Phase, Row};
 use crate::storage::{OpenSegmentError, Release};
 use iceoryx2_data::bytes::encode;
 use iceoryx2_data::description::{ServiceHash, StaticConfig};
+use sorted_map::{Place, SortedVec};
 use std::alloc::{AllocError, Global};
 use std::marker::Model;
-
-/// A segment as it is kept.
-#[derive(Drop)]
-pub struct StoredSegment {
-    number: u64,
-    capacity: u64,
-    participants: SortedVec<Participant, ()>,
-    marked: bool,
-}
-
-impl Model for StoredSegment {
-    ghost use Rattle.std.specs.FinMap as map;
-    ghost use Rattle.std.specs.Option.{option_copied};
-    ghost use Rattle.iceoryx2_world.specs.Orders.{participant_cmp};
-    ghost use Rattle.iceoryx2_world.specs.World.{Segment};
-    ghost use Rattle.iceoryx2_world.specs.Codes.{coded_segment};
-
-    ghost Value = { Segment };
-
-    ghost coded = { coded_segment };
-
-    ghost view = { λ s. record { number = s.number; capacity = s.capacity; participants = map.from_sorted {R = participant_cmp} s.participants.entries.items; marked = s.marked } };
-}
-
-impl StoredSegment {
-    fn has_room(&self, number: u64) -> bool
-        ensures { result ≡ has_room_spec number self.now }
-    {
-        self.number == number && !self.marked && (self.participants.len() as u64) < self.capacity
-    }
-
-    // It is described so: for this service, and for as many nodes.
-    fn fits(&self, hash: &ServiceHash, description: &StaticConfig) -> bool
-        ensures { result ≡ fits_spec hash.now self.now description.now }
-    {
-        description.service_hash().cmp(hash).is_eq() && description.max_nodes() == self.capacity
-    }
-
-    // Why it isn't opened.
-    fn refusal(&self, number: u64, counter: u64, phase: Phase) -> Option<OpenSegmentError>
-        ensures { result ≡ segment_refusal number self.now counter phase }
-    {
-        if self.number != number {
-            return Some(OpenSegmentError::Failed);
-        }
-        if self.marked {
-            return Some(OpenSegmentError::Marked);
-        }
-        match phase {
-            Phase::Read(read) => {
-                if read != number {
-                    return Some(OpenSegmentError::Failed);
-                }
-                if !self.has_room(number) {
-                    return Some(OpenSegmentError::Full);
-                }
-                if counter >= u64::MAX {
-                    return Some(OpenSegmentError::OutOfNumbers);
-                }
-                None
-            }
-            Phase::Joined(joined, count) => {
-                if joined != number {
-                    return Some(OpenSegmentError::Failed);
-                }
-                if counter >= u64::MAX {
-                    return Some(OpenSegmentError::OutOfNumbers);
-                }
-                if count >= u64::MAX {
-                    return Some(OpenSegmentError::Failed);
-                }
-                None
-            }
-            _ => Some(OpenSegmentError::Failed),
-        }
-    }
-
-    // The segment as it is listed.
-    fn listed(&self) -> ListedSegment
-        ensures { result ≡ listed_segment self.now }
-    {
-        ListedSegment {
-            number: self.number,
-            max_nodes: self.capacity,
-            participants: self.participants.len() as u64,
-            marked: self.marked,
-        }
-    }
-
-    // It takes one more with this number.
-    fn admit(&mut self, number: u64, participant: Participant) -> Result<bool, AllocError>
-        ensures { Admits number participant self.old result self.new }
-    {
-        if !self.has_room(number) {
-            return Ok(false);
-        }
-        if self.participants.reserve().is_err() {
-            return Err(AllocError);
-        }
-        self.participants.insert(participant, ());
-        Ok(true)
-    }
-
-    // One goes; the last one marks the segment. True where others stay.
-    fn dismiss(&mut self, participant: Participant) -> bool
-        ensures { Dismisses participant self.old result self.new }
-    {
-        if self.participants.len() > 1 {
-            let _ = self.participants.remove(&participant);
-            return true;
-        }
-        self.participants.clear();
-        self.marked = true;
-        false
-    }
-}
 
 /// The rows, the segments, the phases and the counter.
 #[derive(Drop)]
@@ -147,8 +36,7 @@ pub struct Services {
 }
 
 impl Model for Services {
-    ghost use Rattle.std.specs.FinMap as map;
-    ghost use Rattle.std.specs.Option.{option_copied};
+    ghost use Rattle.sorted_map.specs.Sorted.{map_of};
     ghost use Rattle.iceoryx2_world.specs.Orders.{hash_cmp, place_cmp};
     ghost use Rattle.iceoryx2_storage.specs.Book.{Book, coded_book};
 
@@ -157,39 +45,51 @@ impl Model for Services {
     ghost coded = { coded_book };
 
     ghost view = { λ t. record {
-      rows = map.from_sorted {R = hash_cmp} t.rows.entries.items;
-      segments = map.from_sorted {R = hash_cmp} t.segments.entries.items;
-      phases = map.from_sorted {R = place_cmp} t.phases.entries.items;
+      rows = map_of hash_cmp t.rows;
+      segments = map_of hash_cmp t.segments;
+      phases = map_of place_cmp t.phases;
       counter = t.counter;
     } };
 }
 
-// Who is not stored is Idle.
-fn phase_in(
-    phases: &SortedVec<(Participant, ServiceHash), Phase>,
-    place: &(Participant, ServiceHash),
-) -> Phase
-    ensures { result ≡ or_idle (map.get (map.from_sorted {R = place_cmp} phases.now.entries.items) place.now) }
-{
-    match phases.get(place) {
-        Some(phase) => *phase,
-        None => Phase::Idle,
-    }
+/// Where a participant's phase stands, or would stand, and the phase.
+#[derive(Clone, Copy, Debug, PartialEq, Eq)]
+pub struct Position {
+    pub place: Place,
+    pub phase: Phase,
 }
 
-// Sets the phase of one that is stored; takes no memory.
+// Who is not stored is Idle.
+fn position_of(
+    phases: &SortedVec<(Participant, ServiceHash), Phase>,
+    key: &(Participant, ServiceHash),
+) -> Position
+    ensures { result ≡ position_in (map_of place_cmp phases.now) key.now }
+{
+    let place = phases.place_of(key);
+    let phase = match phases.get_at(key, place) {
+        Some(phase) => *phase,
+        None => Phase::Idle,
+    };
+    Position { place, phase }
+}
+
+// Sets the phase at its place.
 fn set_phase(
     phases: &mut SortedVec<(Participant, ServiceHash), Phase>,
-    place: (Participant, ServiceHash),
+    key: (Participant, ServiceHash),
+    place: Place,
     phase: Phase,
 )
-    ensures { map.get (map.from_sorted {R = place_cmp} phases.old.entries.items) place ≢ None → map.from_sorted {R = place_cmp} phases.new.entries.items ≡ set_to (map.from_sorted {R = place_cmp} phases.old.entries.items) place (unless_idle phase) }
+    requires place { place ≡ place_in (map_of place_cmp phases.old) key }
+    requires room { map.get (map_of place_cmp phases.old) key ≡ None → HasRoom place_cmp phases.old }
+    ensures { map_of place_cmp phases.new ≡ set_to (map_of place_cmp phases.old) key (unless_idle phase) }
 {
     match phase {
         Phase::Idle => {
-            let _ = phases.remove(&place);
+            let _ = phases.remove_at(&key, place);
         }
-        _ => phases.replace(place, phase),
+        _ => phases.insert_at(key, place, phase),
     }
 }
 
@@ -226,20 +126,6 @@ fn may_remove_description(phase: Phase) -> bool
     }
 }
 
-// The row as it is listed.
-fn listed_row(row: Option<&Row>) -> Result<ListedRow, AllocError>
-    ensures { IfOk result (λ listed. listed ≡ listed_row_of (option_copied row.entry)) }
-{
-    match row {
-        None => Ok(ListedRow::Absent),
-        Some(Row::Locked(number)) => Ok(ListedRow::Locked(*number)),
-        Some(Row::Published(number, bytes)) => {
-            let bytes = bytes.copy()?;
-            Ok(ListedRow::Published(*number, Bytes::from_vec(bytes)))
-        }
-    }
-}
-
 impl Services {
     pub fn starting_at(alloc: Global, counter: u64) -> Services
         ensures { result ≡ (record { rows = map.empty; segments = map.empty; phases = map.empty; counter = counter }) }
@@ -252,280 +138,288 @@ impl Services {
         }
     }
 
+    /// Each hash with a row or a segment, in ascending order.
+    pub fn list(&self) -> Result<Vec<Entry>, AllocError>
+        ensures { IfOk result (λ entries. ListsAll self.now.rows self.now.segments entries.items) }
+    {
+        merged(
+            self.rows.allocator(),
+            self.rows.entries(),
+            self.segments.entries(),
+        )
+    }
+
+    /// The next number.
     pub fn counter(&self) -> u64
         ensures { result ≡ self.now.counter }
     {
         self.counter
     }
 
-    pub fn set_counter(&mut self, counter: u64)
-        ensures { self.new ≡ record self.old { counter = counter } }
+    /// Hands out the next number.
+    pub fn next_number(&mut self) -> u64
+        requires { self.old.counter < last_number }
+        ensures number { result ≡ self.old.counter }
+        ensures effect { self.new ≡ record self.old { counter = self.old.counter + 1 } }
     {
-        self.counter = counter;
+        let number = self.counter;
+        self.counter += 1;
+        number
     }
 
-    // What is listed of a hash.
-    fn entry(&self, hash: &ServiceHash) -> Result<Entry, AllocError>
-        ensures { IfOk result (λ entry. entry ≡ entry_of hash.now (map.get self.now.rows hash.now) (map.get self.now.segments hash.now)) }
+    /// Where the row stands, or would stand.
+    pub fn row_place(&self, hash: &ServiceHash) -> Place
+        ensures { result ≡ place_in self.now.rows hash.now }
     {
-        let row = listed_row(self.rows.get(hash))?;
-        let segment = match self.segments.get(hash) {
-            Some(segment) => Some(segment.listed()),
-            None => None,
-        };
-        Ok(Entry {
-            hash: *hash,
-            row,
-            segment,
-        })
+        self.rows.place_of(hash)
     }
 
-    /// Each hash with a row or a segment, in ascending order.
-    pub fn list(&self) -> Result<Vec<Entry>, AllocError>
-        ensures { IfOk result (λ entries. ListsAll self.now.rows self.now.segments entries.items) }
+    /// The row at its place.
+    pub fn row_at(&self, hash: &ServiceHash, place: Place) -> Option<&Row>
+        requires { place ≡ place_in self.now.rows hash.now }
+        ensures { option_copied result ≡ map.get self.now.rows hash.now }
     {
-        let alloc = self.rows.allocator();
-        let mut hashes = SortedVec::new(alloc);
-        add_keys(&mut hashes, &self.rows)?;
-        add_keys(&mut hashes, &self.segments)?;
-        let mut entries = Vec::new(alloc);
-        for (hash, _) in hashes.entries.iter() {
-            let entry = self.entry(hash)?;
-            entries.push(entry)?;
-        }
-        Ok(entries)
+        self.rows.get_at(hash, place)
     }
 
-    pub fn row_at(&self, hash: &ServiceHash) -> Option<&Row>
-        ensures { MatchOption result (map.get self.now.rows hash.now ≡ None) (λ r. map.get self.now.rows hash.now ≡ Some r.now) }
+    /// What is written under the hash.
+    pub fn row(&self, hash: &ServiceHash) -> Option<&Row>
+        ensures { option_copied result ≡ map.get self.now.rows hash.now }
     {
         self.rows.get(hash)
     }
 
-    pub fn has_segment(&self, hash: &ServiceHash) -> bool
-        ensures { result ≡ is_some (map.get self.now.segments hash.now) }
+    /// Where the segment stands, or would stand.
+    pub fn segment_place(&self, hash: &ServiceHash) -> Place
+        ensures { result ≡ place_in self.now.segments hash.now }
     {
-        match self.segments.get(hash) {
-            Some(_) => true,
-            None => false,
-        }
+        self.segments.place_of(hash)
     }
 
-    pub fn phase_at(&self, participant: Participant, hash: &ServiceHash) -> Phase
-        ensures { result ≡ or_idle (map.get self.now.phases (participant, hash.now)) }
+    /// Where the participant is with the service.
+    pub fn position(&self, participant: Participant, hash: &ServiceHash) -> Position
+        ensures { result ≡ position_in self.now.phases (participant, hash.now) }
     {
-        phase_in(&self.phases, &(participant, *hash))
+        position_of(&self.phases, &(participant, *hash))
     }
 
-    pub fn open_refusal(
-        &self,
-        participant: Participant,
-        hash: &ServiceHash,
-        number: u64,
-    ) -> Option<OpenSegmentError>
-        ensures { result ≡ open_refusal number (map.get self.now.segments hash.now) self.now.counter (or_idle (map.get self.now.phases (participant, hash.now))) }
+    /// Whether there is a segment that the description fits.
+    pub fn has_segment_for(&self, hash: &ServiceHash, description: &StaticConfig) -> bool
+        ensures { result ≡ segment_fits hash.now (map.get self.now.segments hash.now) description.now }
     {
-        let Some(segment) = self.segments.get(hash) else {
-            return Some(OpenSegmentError::DoesNotExist);
-        };
-        segment.refusal(
-            number,
-            self.counter,
-            phase_in(&self.phases, &(participant, *hash)),
-        )
-    }
-
-    pub fn read(&mut self, participant: Participant, hash: &ServiceHash) -> Result<bool, AllocError>
-        ensures { Tries self.old participant hash.now act.Read result self.new }
-    {
-        let Some(row) = self.rows.get(hash) else {
-            return Ok(false);
-        };
-        let Row::Published(number, _) = row else {
-            return Ok(false);
-        };
-        let number = *number;
-        let place = (participant, *hash);
-        match phase_in(&self.phases, &place) {
-            Phase::Idle => {
-                if self.phases.reserve().is_err() {
-                    return Err(AllocError);
-                }
-                self.phases.insert(place, Phase::Read(number));
-                Ok(true)
-            }
-            Phase::Read(_) => {
-                set_phase(&mut self.phases, place, Phase::Read(number));
-                Ok(true)
-            }
-            _ => Ok(false),
-        }
-    }
-
-    pub fn lock(&mut self, participant: Participant, hash: &ServiceHash) -> Result<bool, AllocError>
-        ensures { Tries self.old participant hash.now act.Lock result self.new }
-    {
-        let place = (participant, *hash);
-        if !begins(phase_in(&self.phases, &place)) {
-            return Ok(false);
-        }
-        if let Some(_) = self.rows.get(hash) {
-            return Ok(false);
-        }
-        let number = self.counter;
-        if number >= u64::MAX {
-            return Ok(false);
-        }
-        if self.rows.reserve().is_err() {
-            return Err(AllocError);
-        }
-        if self.phases.reserve().is_err() {
-            return Err(AllocError);
-        }
-        self.rows.insert(*hash, Row::Locked(number));
-        self.phases.insert(place, Phase::Locked(number));
-        self.counter = number + 1;
-        Ok(true)
-    }
-
-    pub fn remove_segment(&mut self, participant: Participant, hash: &ServiceHash) -> bool
-        ensures { Steps self.old participant hash.now act.RemoveSegment result self.new }
-    {
-        let place = (participant, *hash);
-        let Some(next) = without_segment(phase_in(&self.phases, &place)) else {
-            return false;
-        };
-        set_phase(&mut self.phases, place, next);
-        let _ = self.segments.remove(hash);
-        true
-    }
-
-    pub fn remove_description(&mut self, participant: Participant, hash: &ServiceHash) -> bool
-        ensures { Steps self.old participant hash.now act.RemoveDescription result self.new }
-    {
-        let place = (participant, *hash);
-        if !may_remove_description(phase_in(&self.phases, &place)) {
-            return false;
-        }
-        set_phase(&mut self.phases, place, Phase::Idle);
-        let _ = self.rows.remove(hash);
-        true
-    }
-
-    pub fn make(
-        &mut self,
-        participant: Participant,
-        hash: &ServiceHash,
-        max_nodes: u64,
-    ) -> Result<bool, AllocError>
-        ensures { Tries self.old participant hash.now (act.Make max_nodes) result self.new }
-    {
-        let place = (participant, *hash);
-        let Phase::Locked(number) = phase_in(&self.phases, &place) else {
-            return Ok(false);
-        };
-        if max_nodes == 0 {
-            return Ok(false);
-        }
-        if let Some(_) = self.segments.get(hash) {
-            return Ok(false);
-        }
-        let mut participants = SortedVec::new(self.segments.allocator());
-        if participants.reserve().is_err() {
-            return Err(AllocError);
-        }
-        if self.segments.reserve().is_err() {
-            return Err(AllocError);
-        }
-        participants.insert(participant, ());
-        self.segments.insert(
-            *hash,
-            StoredSegment {
-                number,
-                capacity: max_nodes,
-                participants,
-                marked: false,
-            },
-        );
-        set_phase(&mut self.phases, place, Phase::Made(number));
-        Ok(true)
-    }
-
-    /// Whether the participant made the segment of this number, and the description fits it.
-    pub fn may_publish(
-        &self,
-        participant: Participant,
-        hash: &ServiceHash,
-        number: u64,
-        description: &StaticConfig,
-    ) -> bool
-        ensures { result ≡ (has_made number (or_idle (map.get self.now.phases (participant, hash.now))) && segment_fits hash.now (map.get self.now.segments hash.now) description.now) }
-    {
-        let Phase::Made(made) = phase_in(&self.phases, &(participant, *hash)) else {
-            return false;
-        };
-        if made != number {
-            return false;
-        }
         match self.segments.get(hash) {
             Some(segment) => segment.fits(hash, description),
             None => false,
         }
     }
 
+    /// Why the segment at its place isn't opened.
+    pub fn open_refusal(
+        &self,
+        hash: &ServiceHash,
+        segment: Place,
+        number: u64,
+        phase: Phase,
+    ) -> Option<OpenSegmentError>
+        requires { segment ≡ place_in self.now.segments hash.now }
+        ensures { result ≡ open_refusal number (map.get self.now.segments hash.now) self.now.counter phase }
+    {
+        match self.segments.get_at(hash, segment) {
+            Some(segment) => segment.refusal(number, self.counter, phase),
+            None => Some(OpenSegmentError::DoesNotExist),
+        }
+    }
+
+    /// Reads what is published under the number.
+    pub fn read(
+        &mut self,
+        participant: Participant,
+        hash: &ServiceHash,
+        number: u64,
+    ) -> Result<bool, AllocError>
+        requires { published_number (map.get self.old.rows hash.now) ≡ Some number }
+        ensures { MayTakeStep self.old participant hash.now act.Read result self.new }
+    {
+        let key = (participant, *hash);
+        let position = position_of(&self.phases, &key);
+        if !begins(position.phase) {
+            return Ok(false);
+        }
+        if self.phases.reserve_at(&key, position.place).is_err() {
+            return Err(AllocError);
+        }
+        self.phases
+            .insert_at(key, position.place, Phase::Read(number));
+        Ok(true)
+    }
+
+    /// Locks what has no row, whose place was found.
+    pub fn lock(
+        &mut self,
+        participant: Participant,
+        hash: &ServiceHash,
+        row: Place,
+    ) -> Result<bool, AllocError>
+        requires row { row ≡ place_in self.old.rows hash.now }
+        requires absent { map.get self.old.rows hash.now ≡ None }
+        ensures { MayTakeStep self.old participant hash.now act.Lock result self.new }
+    {
+        let key = (participant, *hash);
+        let position = position_of(&self.phases, &key);
+        if !begins(position.phase) {
+            return Ok(false);
+        }
+        let number = self.counter;
+        if number >= u64::MAX {
+            return Ok(false);
+        }
+        if self.rows.reserve_at(hash, row).is_err() {
+            return Err(AllocError);
+        }
+        if self.phases.reserve_at(&key, position.place).is_err() {
+            return Err(AllocError);
+        }
+        self.rows.insert_at(*hash, row, Row::Locked(number));
+        self.phases
+            .insert_at(key, position.place, Phase::Locked(number));
+        self.counter = number + 1;
+        Ok(true)
+    }
+
+    pub fn remove_segment(&mut self, participant: Participant, hash: &ServiceHash) -> bool
+        ensures { TakesStep self.old participant hash.now act.RemoveSegment result self.new }
+    {
+        let key = (participant, *hash);
+        let position = position_of(&self.phases, &key);
+        let Some(next) = without_segment(position.phase) else {
+            return false;
+        };
+        set_phase(&mut self.phases, key, position.place, next);
+        let _ = self.segments.remove(hash);
+        true
+    }
+
+    pub fn remove_description(&mut self, participant: Participant, hash: &ServiceHash) -> bool
+        ensures { TakesStep self.old participant hash.now act.RemoveDescription result self.new }
+    {
+        let key = (participant, *hash);
+        let position = position_of(&self.phases, &key);
+        if !may_remove_description(position.phase) {
+            return false;
+        }
+        set_phase(&mut self.phases, key, position.place, Phase::Idle);
+        let _ = self.rows.remove(hash);
+        true
+    }
+
+    /// Makes a segment for so many nodes, at the position that was found.
+    pub fn make(
+        &mut self,
+        participant: Participant,
+        hash: &ServiceHash,
+        max_nodes: u64,
+        position: Position,
+    ) -> Result<bool, AllocError>
+        requires { position ≡ position_in self.old.phases (participant, hash.now) }
+        ensures { MayTakeStep self.old participant hash.now (act.Make max_nodes) result self.new }
+    {
+        let Phase::Locked(number) = position.phase else {
+            return Ok(false);
+        };
+        if max_nodes == 0 {
+            return Ok(false);
+        }
+        let place = self.segments.place_of(hash);
+        if place.is_ok() {
+            return Ok(false);
+        }
+        let alloc = self.segments.allocator();
+        let Ok(segment) = StoredSegment::new(alloc, participant, number, max_nodes) else {
+            return Err(AllocError);
+        };
+        if self.segments.reserve_at(hash, place).is_err() {
+            return Err(AllocError);
+        }
+        self.segments.insert_at(*hash, place, segment);
+        let key = (participant, *hash);
+        set_phase(&mut self.phases, key, position.place, Phase::Made(number));
+        Ok(true)
+    }
+
+    /// Publishes a description that fits the segment, at the position that was found.
     pub fn publish(
         &mut self,
         participant: Participant,
         hash: &ServiceHash,
         description: &StaticConfig,
+        position: Position,
     ) -> Result<bool, AllocError>
-        ensures effect { Tries self.old participant hash.now (act.Publish description.now) result self.new }
+        requires position { position ≡ position_in self.old.phases (participant, hash.now) }
+        requires fits { segment_fits hash.now (map.get self.old.segments hash.now) description.now ≡ true }
+        ensures effect { MayTakeStep self.old participant hash.now (act.Publish description.now) result self.new }
         ensures limits { result ≡ Ok true → IsDescription description.now }
     {
-        let place = (participant, *hash);
-        let Phase::Made(number) = phase_in(&self.phases, &place) else {
+        let Phase::Made(number) = position.phase else {
             return Ok(false);
         };
-        let Some(segment) = self.segments.get(hash) else {
-            return Ok(false);
-        };
-        if !segment.fits(hash, description) {
-            return Ok(false);
-        }
         let Ok(bytes) = encode(self.rows.allocator(), description) else {
             return Err(AllocError);
         };
-        if self.rows.reserve().is_err() {
+        let row = self.rows.place_of(hash);
+        if self.rows.reserve_at(hash, row).is_err() {
             return Err(AllocError);
         }
         self.rows
-            .insert(*hash, Row::Published(number, Bytes::from_vec(bytes)));
-        set_phase(&mut self.phases, place, Phase::Joined(number, 1));
+            .insert_at(*hash, row, Row::Published(number, Bytes::from_vec(bytes)));
+        let key = (participant, *hash);
+        set_phase(
+            &mut self.phases,
+            key,
+            position.place,
+            Phase::Joined(number, 1),
+        );
         Ok(true)
     }
 
-    pub fn join(&mut self, participant: Participant, hash: &ServiceHash) -> Result<bool, AllocError>
-        ensures { Tries self.old participant hash.now act.Join result self.new }
+    /// Registers the participant once more, at the position and with the segment that were found.
+    pub fn join(
+        &mut self,
+        participant: Participant,
+        hash: &ServiceHash,
+        position: Position,
+        segment: Place,
+    ) -> Result<bool, AllocError>
+        requires position { position ≡ position_in self.old.phases (participant, hash.now) }
+        requires segment { segment ≡ place_in self.old.segments hash.now }
+        ensures { MayTakeStep self.old participant hash.now act.Join result self.new }
     {
-        let place = (participant, *hash);
-        match phase_in(&self.phases, &place) {
+        let key = (participant, *hash);
+        match position.phase {
             Phase::Joined(number, count) => {
                 if count >= u64::MAX {
                     return Ok(false);
                 }
-                set_phase(&mut self.phases, place, Phase::Joined(number, count + 1));
+                set_phase(
+                    &mut self.phases,
+                    key,
+                    position.place,
+                    Phase::Joined(number, count + 1),
+                );
                 Ok(true)
             }
             Phase::Read(number) => {
-                let Some(mut segment) = self.segments.remove(hash) else {
+                let Some(segment) = self.segments.get_mut_at(hash, segment) else {
                     return Ok(false);
                 };
-                let admitted = segment.admit(number, participant);
-                self.segments.insert(*hash, segment);
-                match admitted {
+                match segment.admit(number, participant) {
                     Ok(admitted) => {
                         if admitted {
-                            set_phase(&mut self.phases, place, Phase::Joined(number, 1));
+                            set_phase(
+                                &mut self.phases,
+                                key,
+                                position.place,
+                                Phase::Joined(number, 1),
+                            );
                             return Ok(true);
                         }
                         Ok(false)
@@ -540,27 +434,36 @@ impl Services {
     pub fn leave(&mut self, participant: Participant, hash: &ServiceHash) -> Option<Release>
         ensures { Leaves self.old participant hash.now result self.new }
     {
-        let place = (participant, *hash);
-        let Phase::Joined(number, count) = phase_in(&self.phases, &place) else {
+        let key = (participant, *hash);
+        let position = position_of(&self.phases, &key);
+        let Phase::Joined(number, count) = position.phase else {
             return None;
         };
         if count > 1 {
-            set_phase(&mut self.phases, place, Phase::Joined(number, count - 1));
+            set_phase(
+                &mut self.phases,
+                key,
+                position.place,
+                Phase::Joined(number, count - 1),
+            );
             return Some(Release::StillCounted);
         }
         if count == 0 {
             return None;
         }
-        let Some(mut segment) = self.segments.remove(hash) else {
+        let Some(segment) = self.segments.get_mut(hash) else {
             return None;
         };
-        let others = segment.dismiss(participant);
-        self.segments.insert(*hash, segment);
-        if others {
-            set_phase(&mut self.phases, place, Phase::Idle);
+        if segment.dismiss(participant) {
+            set_phase(&mut self.phases, key, position.place, Phase::Idle);
             return Some(Release::Left);
         }
-        set_phase(&mut self.phases, place, Phase::Leaving(number));
+        set_phase(
+            &mut self.phases,
+            key,
+            position.place,
+            Phase::Leaving(number),
+        );
         Some(Release::Last)
     }
 }

@@ -3,21 +3,20 @@
 ghost use Rattle.std.specs.Prelude.{◌≡◌, ◌&&◌, IfOk, nat_lt, filter, length};
 ghost use Rattle.iceoryx2_world.specs.World.{belongs, empty_world, ticket_count, tag_of};
 ghost use Rattle.iceoryx2_world.specs.Listing.{Lists};
-ghost use Rattle.std.specs.FinMap as map;
-ghost use Rattle.std.specs.Ordering.{nat_cmp};
+ghost use Rattle.std.specs.Option.{option_copied};
 ghost use Rattle.iceoryx2_access.specs.Letter as letter;
 ghost use Rattle.iceoryx2_access.specs.Letter.{fetched};
-ghost use Rattle.iceoryx2_world.specs.Access.{IsOwnPart, has_lock, is_ticket};
+ghost use Rattle.iceoryx2_world.specs.Access.{IsOwnPart, has_lock, has_made as has_made_spec, is_ticket};
 
 use super::listing::Entry;
 use super::services::Services;
-use super::sorted::SortedVec;
 use super::world::{Participant, Phase, Row, Ticket};
 use crate::storage::{
     Existence, FetchError, LockError, MakeSegmentError, OpenSegmentError, PublishError, Release,
     ReleaseError, RemoveError, Tag, TagError,
 };
 use iceoryx2_data::description::{ServiceHash, StaticConfig};
+use sorted_map::SortedVec;
 use std::alloc::{AllocError, Global};
 use std::marker::Model;
 
@@ -30,8 +29,8 @@ pub struct StoredWorld {
 }
 
 impl Model for StoredWorld {
-    ghost use Rattle.std.specs.FinMap as map;
     ghost use Rattle.std.specs.Ordering.{nat_cmp};
+    ghost use Rattle.sorted_map.specs.Sorted.{map_of};
     ghost use Rattle.iceoryx2_world.specs.Orders.{tag_cmp};
     ghost use Rattle.iceoryx2_world.specs.World.{World};
     ghost use Rattle.iceoryx2_world.specs.Codes.{coded_world};
@@ -41,7 +40,7 @@ impl Model for StoredWorld {
 
     ghost coded = { coded_world };
 
-    ghost view = { λ t. world t.services (map.from_sorted {R = tag_cmp} t.tags.entries.items) (map.from_sorted {R = nat_cmp} t.tickets.entries.items) };
+    ghost view = { λ t. world t.services (map_of tag_cmp t.tags) (map_of nat_cmp t.tickets) };
 }
 
 // How many of the tickets are this node's for this service.
@@ -55,18 +54,22 @@ fn count_held(tickets: &[(u64, Ticket)], node: u64, hash: &ServiceHash) -> usize
 }
 
 // It is this node's ticket for this service and number.
-fn is_held(
-    tickets: &SortedVec<u64, Ticket>,
-    ticket: u64,
-    node: u64,
-    hash: &ServiceHash,
-    number: u64,
-) -> bool
-    ensures { result ≡ is_ticket node hash.now number (map.get (map.from_sorted {R = nat_cmp} tickets.now.entries.items) ticket) }
+fn is_held(held: Option<&Ticket>, node: u64, hash: &ServiceHash, number: u64) -> bool
+    ensures { result ≡ is_ticket node hash.now number (option_copied held.entry) }
 {
-    match tickets.get(&ticket) {
+    match held {
         None => false,
         Some(held) => held.node == node && held.hash.cmp(hash).is_eq() && held.number == number,
+    }
+}
+
+// It has made a segment under the lock of this number.
+fn has_made(phase: Phase, number: u64) -> bool
+    ensures { result ≡ has_made_spec number phase }
+{
+    match phase {
+        Phase::Made(made) => made == number,
+        _ => false,
     }
 }
 
@@ -109,7 +112,7 @@ impl StoredWorld {
     pub fn tickets(&self, node: u64, hash: &ServiceHash) -> u64
         ensures { result ≡ ticket_count self.now.tickets node hash.now }
     {
-        count_held(&self.tickets.entries, node, hash) as u64
+        count_held(self.tickets.entries(), node, hash) as u64
     }
 
     pub fn counter(&self) -> u64
@@ -121,7 +124,7 @@ impl StoredWorld {
     pub fn exists(&self, hash: &ServiceHash) -> Existence
         ensures { IsOwnPart self.now (letter.Exists hash.now result) self.now }
     {
-        match self.services.row_at(hash) {
+        match self.services.row(hash) {
             None => Existence::No,
             Some(Row::Locked(_)) => Existence::BeingSetUp,
             Some(Row::Published(_, _)) => Existence::Yes,
@@ -131,7 +134,7 @@ impl StoredWorld {
     pub fn fetch(&mut self, node: u64, hash: &ServiceHash) -> Result<(u64, Vec<u8>), FetchError>
         ensures { IsOwnPart self.old (letter.Fetch node hash.now (fetched result)) self.new }
     {
-        let Some(row) = self.services.row_at(hash) else {
+        let Some(row) = self.services.row(hash) else {
             return Err(FetchError::DoesNotExist);
         };
         let Row::Published(number, bytes) = row else {
@@ -141,7 +144,7 @@ impl StoredWorld {
         let Ok(copy) = bytes.copy() else {
             return Err(FetchError::OutOfMemory);
         };
-        let Ok(_) = self.services.read(Participant::Node(node), hash) else {
+        let Ok(_) = self.services.read(Participant::Node(node), hash, number) else {
             return Err(FetchError::OutOfMemory);
         };
         Ok((number, copy))
@@ -150,7 +153,7 @@ impl StoredWorld {
     pub fn counts(&self, node: u64, hash: &ServiceHash) -> bool
         ensures { IsOwnPart self.now (letter.Counts node hash.now result) self.now }
     {
-        match self.services.phase_at(Participant::Node(node), hash) {
+        match self.services.position(Participant::Node(node), hash).phase {
             Phase::Joined(_, _) => true,
             _ => false,
         }
@@ -160,13 +163,14 @@ impl StoredWorld {
         ensures { IsOwnPart self.old (letter.MakeTag node hash.now result) self.new }
     {
         let key = (node, *hash);
-        if let Some(_) = self.tags.get(&key) {
+        let place = self.tags.place_of(&key);
+        if place.is_ok() {
             return Ok(Tag::Found);
         }
         if self.tags.reserve().is_err() {
             return Err(TagError::OutOfMemory);
         }
-        self.tags.insert(key, ());
+        self.tags.insert_at(key, place, ());
         Ok(Tag::Made)
     }
 
@@ -180,13 +184,14 @@ impl StoredWorld {
     pub fn lock(&mut self, node: u64, hash: &ServiceHash) -> Result<u64, LockError>
         ensures { IsOwnPart self.old (letter.Lock node hash.now result) self.new }
     {
-        match self.services.row_at(hash) {
+        let row = self.services.row_place(hash);
+        match self.services.row_at(hash, row) {
             Some(Row::Locked(_)) => return Err(LockError::Creation),
             Some(Row::Published(_, _)) => return Err(LockError::AlreadyExists),
             None => {}
         }
         let number = self.services.counter();
-        let Ok(locked) = self.services.lock(Participant::Node(node), hash) else {
+        let Ok(locked) = self.services.lock(Participant::Node(node), hash, row) else {
             return Err(LockError::OutOfMemory);
         };
         if !locked {
@@ -205,17 +210,15 @@ impl StoredWorld {
         ensures { IsOwnPart self.old (letter.MakeSegment node hash.now number max_nodes result) self.new }
     {
         let participant = Participant::Node(node);
-        if !may_make(self.services.phase_at(participant, hash), number, max_nodes) {
+        let position = self.services.position(participant, hash);
+        if !may_make(position.phase, number, max_nodes) {
             return Err(MakeSegmentError::Other);
         }
-        if self.services.has_segment(hash) {
-            return Err(MakeSegmentError::AlreadyExists);
-        }
-        let Ok(made) = self.services.make(participant, hash, max_nodes) else {
+        let Ok(made) = self.services.make(participant, hash, max_nodes, position) else {
             return Err(MakeSegmentError::OutOfMemory);
         };
         if !made {
-            return Err(MakeSegmentError::Other);
+            return Err(MakeSegmentError::AlreadyExists);
         }
         Ok(())
     }
@@ -251,16 +254,20 @@ impl StoredWorld {
         ensures { IsOwnPart self.old (letter.Publish node hash.now number description.now result) self.new }
     {
         let participant = Participant::Node(node);
-        if !self
-            .services
-            .may_publish(participant, hash, number, description)
-        {
+        let position = self.services.position(participant, hash);
+        if !has_made(position.phase, number) {
+            return Err(PublishError::Other);
+        }
+        if !self.services.has_segment_for(hash, description) {
             return Err(PublishError::Other);
         }
         if self.tickets.reserve().is_err() {
             return Err(PublishError::OutOfMemory);
         }
-        let Ok(published) = self.services.publish(participant, hash, description) else {
+        let Ok(published) = self
+            .services
+            .publish(participant, hash, description, position)
+        else {
             return Err(PublishError::OutOfMemory);
         };
         if !published {
@@ -287,20 +294,24 @@ impl StoredWorld {
         ensures { IsOwnPart self.old (letter.OpenSegment node hash.now number result) self.new }
     {
         let participant = Participant::Node(node);
-        if let Some(refusal) = self.services.open_refusal(participant, hash, number) {
+        let segment = self.services.segment_place(hash);
+        let position = self.services.position(participant, hash);
+        if let Some(refusal) = self
+            .services
+            .open_refusal(hash, segment, number, position.phase)
+        {
             return Err(refusal);
         }
-        let ticket = self.services.counter();
         if self.tickets.reserve().is_err() {
             return Err(OpenSegmentError::OutOfMemory);
         }
-        let Ok(joined) = self.services.join(participant, hash) else {
+        let Ok(joined) = self.services.join(participant, hash, position, segment) else {
             return Err(OpenSegmentError::OutOfMemory);
         };
         if !joined {
             return Err(OpenSegmentError::Failed);
         }
-        self.services.set_counter(ticket + 1);
+        let ticket = self.services.next_number();
         self.tickets.insert(
             ticket,
             Ticket {
@@ -321,13 +332,14 @@ impl StoredWorld {
     ) -> Result<Release, ReleaseError>
         ensures { IsOwnPart self.old (letter.Release ticket node hash.now number result) self.new }
     {
-        if !is_held(&self.tickets, ticket, node, hash, number) {
+        let place = self.tickets.place_of(&ticket);
+        if !is_held(self.tickets.get_at(&ticket, place), node, hash, number) {
             return Err(ReleaseError::NoSuchTicket);
         }
         let Some(release) = self.services.leave(Participant::Node(node), hash) else {
             return Err(ReleaseError::NoSuchTicket);
         };
-        let _ = self.tickets.remove(&ticket);
+        let _ = self.tickets.remove_at(&ticket, place);
         Ok(release)
     }
 }

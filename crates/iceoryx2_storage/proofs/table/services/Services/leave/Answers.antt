@@ -2,6 +2,8 @@ use Rattle.std.proofs.Common.{◌≡◌, ℕ, ◌-◌, Bool, Option, Some, None,
 use Rattle.std.specs.Prelude.{nat_lt, ◌==◌, if◌then◌else◌}
 use Rattle.std.specs.FinMap as map
 use Rattle.std.proofs.lemmas.Bool.Decides.{nat_tests}
+use Rattle.sorted_map.specs.Sorted.{map_of}
+use Rattle.sorted_map.proofs.Maps.{map_of_written}
 use Rattle.iceoryx2_world.specs.declared.world.Participant.{Participant}
 use Rattle.iceoryx2_world.specs.declared.world.Phase.TheVariants as at
 use Rattle.iceoryx2_world.specs.declared.world.Row.{Row}
@@ -9,9 +11,10 @@ use Rattle.iceoryx2_world.specs.Orders.{hash_cmp, hash_total, hash_exact, place_
 use Rattle.iceoryx2_world.specs.World.{Segment}
 use Rattle.iceoryx2_world.specs.Acts as act
 use Rattle.iceoryx2_world.specs.Steps.{Spot, to_spot, leave_of, without_one, deserted}
+use Rattle.iceoryx2_storage.specs.declared.table.services.Position.{Position}
 use Rattle.iceoryx2_storage.specs.Book.{Dismisses}
-use Rattle.iceoryx2_storage.proofs.Views.{kept, kept_at, there_by}
-use Rattle.iceoryx2_storage.proofs.Spots.{by_both, by_phase, replaced, refused, left}
+use Rattle.iceoryx2_storage.proofs.Views.{kept}
+use Rattle.iceoryx2_storage.proofs.Spots.{by_phase, by_both, refused, left}
 use Rattle.iceoryx2_storage.proofs.table.services.Services.leave.Goals as goal
 
 -- what a leave comes to, by the two tests of the count
@@ -24,17 +27,19 @@ returns-then-count-gt1 c =
     let h = c.args.hash.now in
     let n = c.in-Joined.number in
     let k = c.in-Joined.count in
-    let m = map.from_sorted {R = hash_cmp} c.self.inside.segments.entries.items in
-    let rows = map.from_sorted {R = hash_cmp} c.self.inside.rows.entries.items in
-    let phase = sym c.phase_in.ensures ∙ c.in-Joined.is in
+    let rows = map_of hash_cmp c.self.inside.rows in
+    let segments = map_of hash_cmp c.self.inside.segments in
+    let phases = map_of place_cmp c.self.inside.phases in
+    let found = sym (ap (λ (q : Position). q.phase) c.position_of-position.ensures) in
+    let phase = found ∙ c.in-Joined.is in
     let more : nat_lt 1 k ≡ true = grind (arith, nat_tests, c.if-count-gt1.true) in
     left p h _ (record { phase = at.Joined n (k - 1); row = _; segment = _; counter = _ }) c.self.view_is
-    (by_phase _ p h act.Leave (at.Joined n k) phase ∙ ap (λ (b : Bool). counted p n k (map.get rows h) (map.get m h) c.self.inside.counter b (k == 1)) more)
+    (by_phase _ p h act.Leave (at.Joined n k) phase ∙ ap (λ (b : Bool). counted p n k (map.get rows h) (map.get segments h) c.self.inside.counter b (k == 1)) more)
     refl
     (λ i. record {
       rows = kept hash_total hash_exact rows h i;
-      segments = kept hash_total hash_exact m h i;
-      phases = c.set_phase.ensures (there_by _ _ phase refl) i;
+      segments = kept hash_total hash_exact segments h i;
+      phases = c.set_phase.ensures i;
       counter = c.self.inside.counter;
     })
 
@@ -44,55 +49,67 @@ returns-then-count-eq0 c =
     let h = c.args.hash.now in
     let n = c.in-Joined.number in
     let k = c.in-Joined.count in
-    let m = map.from_sorted {R = hash_cmp} c.self.inside.segments.entries.items in
-    let rows = map.from_sorted {R = hash_cmp} c.self.inside.rows.entries.items in
-    let phase = sym c.phase_in.ensures ∙ c.in-Joined.is in
+    let rows = map_of hash_cmp c.self.inside.rows in
+    let segments = map_of hash_cmp c.self.inside.segments in
+    let phases = map_of place_cmp c.self.inside.phases in
+    let found = sym (ap (λ (q : Position). q.phase) c.position_of-position.ensures) in
+    let phase = found ∙ c.in-Joined.is in
     let more : nat_lt 1 k ≡ false = grind (arith, nat_tests, c.if-count-gt1.false) in
     let one : (k == 1) ≡ false = grind (arith, nat_tests) in
     let no = refused p h act.Leave c.self.view_is
-    (by_phase _ p h act.Leave (at.Joined n k) phase ∙ ap (λ (b : Bool). counted p n k (map.get rows h) (map.get m h) c.self.inside.counter b (k == 1)) more ∙ ap (λ (b : Bool). counted p n k (map.get rows h) (map.get m h) c.self.inside.counter false b) one)
+    (by_phase _ p h act.Leave (at.Joined n k) phase
+    ∙ ap (λ (b : Bool). counted p n k (map.get rows h) (map.get segments h) c.self.inside.counter b (k == 1)) more
+    ∙ ap (λ (b : Bool). counted p n k (map.get rows h) (map.get segments h) c.self.inside.counter false b) one)
     refl in
     (no.0, refl)
 
-pub returns-in_default-remove : goal.returns-in_default-remove
-returns-in_default-remove c =
+pub returns-in_default-get_mut : goal.returns-in_default-get_mut
+returns-in_default-get_mut c =
     let p = c.args.participant in
     let h = c.args.hash.now in
     let n = c.in-Joined.number in
     let k = c.in-Joined.count in
-    let m = map.from_sorted {R = hash_cmp} c.self.inside.segments.entries.items in
-    let rows = map.from_sorted {R = hash_cmp} c.self.inside.rows.entries.items in
-    let phase = sym c.phase_in.ensures ∙ c.in-Joined.is in
-    let none : map.get m h ≡ None = sym c.remove.ensures.value ∙ c.in_default-remove.is in
+    let rows = map_of hash_cmp c.self.inside.rows in
+    let segments = map_of hash_cmp c.self.inside.segments in
+    let phases = map_of place_cmp c.self.inside.phases in
+    let found = sym (ap (λ (q : Position). q.phase) c.position_of-position.ensures) in
+    let phase = found ∙ c.in-Joined.is in
     let more : nat_lt 1 k ≡ false = grind (arith, nat_tests, c.if-count-gt1.false) in
     let one : (k == 1) ≡ true = grind (arith, nat_tests) in
+    let none = sym c.in_default-get_mut.ensures.value in
     refused p h act.Leave c.self.view_is
-    (by_both _ p h act.Leave (at.Joined n k) None phase none ∙ ap (λ (b : Bool). counted p n k (map.get rows h) None c.self.inside.counter b (k == 1)) more ∙ ap (λ (b : Bool). counted p n k (map.get rows h) None c.self.inside.counter false b) one)
-    (λ i. record { rows = rows; segments = (c.remove.ensures.items hash_exact ∙ sym (kept_at hash_total hash_exact m h None none)) i; phases = map.from_sorted {R = place_cmp} c.self.inside.phases.entries.items; counter = c.self.inside.counter })
+    (by_both _ p h act.Leave (at.Joined n k) None phase none
+    ∙ ap (λ (b : Bool). counted p n k (map.get rows h) None c.self.inside.counter b (k == 1)) more
+    ∙ ap (λ (b : Bool). counted p n k (map.get rows h) None c.self.inside.counter false b) one)
+    refl
 
-pub returns-then-others : goal.returns-then-others
-returns-then-others c =
+pub returns-then-dismiss : goal.returns-then-dismiss
+returns-then-dismiss c =
     let p = c.args.participant in
     let h = c.args.hash.now in
     let n = c.in-Joined.number in
     let k = c.in-Joined.count in
-    let m = map.from_sorted {R = hash_cmp} c.self.inside.segments.entries.items in
-    let rows = map.from_sorted {R = hash_cmp} c.self.inside.rows.entries.items in
-    let phase = sym c.phase_in.ensures ∙ c.in-Joined.is in
-    let s : Segment = c.in-Some.segment in
-    let there : map.get m h ≡ Some s = sym c.remove.ensures.value ∙ c.in-Some.is in
+    let rows = map_of hash_cmp c.self.inside.rows in
+    let segments = map_of hash_cmp c.self.inside.segments in
+    let phases = map_of place_cmp c.self.inside.phases in
+    let found = sym (ap (λ (q : Position). q.phase) c.position_of-position.ensures) in
+    let phase = found ∙ c.in-Joined.is in
+    let s : Segment = c.in-Some.segment.now in
+    let it = sym c.in-Some.ensures.value in
     let more : nat_lt 1 k ≡ false = grind (arith, nat_tests, c.if-count-gt1.false) in
     let one : (k == 1) ≡ true = grind (arith, nat_tests) in
-    let d = subst (λ (b : Bool). Dismisses p s b c.dismiss-others.new.self) c.if-others.true c.dismiss-others.ensures in
-    let tried = by_both _ p h act.Leave (at.Joined n k) (Some s) phase there
+    let left_behind : Segment = c.dismiss.new.self in
+    let written = map_of_written hash_cmp c.self.inside.segments h left_behind in
+    let d = subst (λ (b : Bool). Dismisses p s b left_behind) c.if-dismiss.true c.dismiss.ensures in
+    let tried = by_both _ p h act.Leave (at.Joined n k) (Some s) phase it
     ∙ ap (λ (b : Bool). counted p n k (map.get rows h) (Some s) c.self.inside.counter b (k == 1)) more
     ∙ ap (λ (b : Bool). counted p n k (map.get rows h) (Some s) c.self.inside.counter false b) one
     ∙ ap (λ (b : Bool). if b then to_spot at.Idle (map.get rows h) (Some (without_one p s)) c.self.inside.counter else to_spot (at.Leaving n) (map.get rows h) (Some (deserted s)) c.self.inside.counter) d.0 in
     left p h _ (record { phase = at.Idle; row = _; segment = Some (without_one p s); counter = _ }) c.self.view_is tried refl
     (λ i. record {
       rows = kept hash_total hash_exact rows h i;
-      segments = (replaced hash_total hash_exact m _ _ h _ (c.remove.ensures.items hash_exact) c.insert.ensures ∙ ap (map.insert m h) d.1) i;
-      phases = c.set_phase-then-others.ensures (there_by _ _ phase refl) i;
+      segments = (written ∙ ap (map.insert segments h) d.1) i;
+      phases = c.set_phase-then-dismiss.ensures i;
       counter = c.self.inside.counter;
     })
 
@@ -102,22 +119,26 @@ returns c =
     let h = c.args.hash.now in
     let n = c.in-Joined.number in
     let k = c.in-Joined.count in
-    let m = map.from_sorted {R = hash_cmp} c.self.inside.segments.entries.items in
-    let rows = map.from_sorted {R = hash_cmp} c.self.inside.rows.entries.items in
-    let phase = sym c.phase_in.ensures ∙ c.in-Joined.is in
-    let s : Segment = c.in-Some.segment in
-    let there : map.get m h ≡ Some s = sym c.remove.ensures.value ∙ c.in-Some.is in
+    let rows = map_of hash_cmp c.self.inside.rows in
+    let segments = map_of hash_cmp c.self.inside.segments in
+    let phases = map_of place_cmp c.self.inside.phases in
+    let found = sym (ap (λ (q : Position). q.phase) c.position_of-position.ensures) in
+    let phase = found ∙ c.in-Joined.is in
+    let s : Segment = c.in-Some.segment.now in
+    let it = sym c.in-Some.ensures.value in
     let more : nat_lt 1 k ≡ false = grind (arith, nat_tests, c.if-count-gt1.false) in
     let one : (k == 1) ≡ true = grind (arith, nat_tests) in
-    let d = subst (λ (b : Bool). Dismisses p s b c.dismiss-others.new.self) c.if-others.false c.dismiss-others.ensures in
-    let tried = by_both _ p h act.Leave (at.Joined n k) (Some s) phase there
+    let left_behind : Segment = c.dismiss.new.self in
+    let written = map_of_written hash_cmp c.self.inside.segments h left_behind in
+    let d = subst (λ (b : Bool). Dismisses p s b left_behind) c.if-dismiss.false c.dismiss.ensures in
+    let tried = by_both _ p h act.Leave (at.Joined n k) (Some s) phase it
     ∙ ap (λ (b : Bool). counted p n k (map.get rows h) (Some s) c.self.inside.counter b (k == 1)) more
     ∙ ap (λ (b : Bool). counted p n k (map.get rows h) (Some s) c.self.inside.counter false b) one
     ∙ ap (λ (b : Bool). if b then to_spot at.Idle (map.get rows h) (Some (without_one p s)) c.self.inside.counter else to_spot (at.Leaving n) (map.get rows h) (Some (deserted s)) c.self.inside.counter) d.0 in
     left p h _ (record { phase = at.Leaving n; row = _; segment = Some (deserted s); counter = _ }) c.self.view_is tried refl
     (λ i. record {
       rows = kept hash_total hash_exact rows h i;
-      segments = (replaced hash_total hash_exact m _ _ h _ (c.remove.ensures.items hash_exact) c.insert.ensures ∙ ap (map.insert m h) d.1) i;
-      phases = c.set_phase-2.ensures (there_by _ _ phase refl) i;
+      segments = (written ∙ ap (map.insert segments h) d.1) i;
+      phases = c.set_phase-2.ensures i;
       counter = c.self.inside.counter;
     })

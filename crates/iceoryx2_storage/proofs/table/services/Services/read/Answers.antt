@@ -1,51 +1,56 @@
-use Rattle.std.proofs.Common.{Some, refl, sym, ap, ◌∙◌}
+use Rattle.std.proofs.Common.{Option, sym, ap, ◌∙◌}
 use Rattle.std.specs.FinMap as map
+use Rattle.sorted_map.specs.Sorted.{map_of}
+use Rattle.iceoryx2_world.specs.declared.world.Phase.{Phase}
 use Rattle.iceoryx2_world.specs.declared.world.Phase.TheVariants as at
-use Rattle.iceoryx2_world.specs.Orders.{hash_cmp, hash_total, hash_exact}
+use Rattle.iceoryx2_world.specs.Orders.{hash_cmp, hash_total, hash_exact, place_cmp}
+use Rattle.iceoryx2_world.specs.World.{or_idle}
 use Rattle.iceoryx2_world.specs.Acts as act
+use Rattle.iceoryx2_storage.specs.declared.table.services.Position.{Position}
 use Rattle.iceoryx2_storage.specs.Book.{needs_room}
-use Rattle.iceoryx2_storage.proofs.Views.{kept, there_by}
-use Rattle.iceoryx2_storage.proofs.Spots.{did, starved, read_tried}
+use Rattle.iceoryx2_storage.proofs.Views.{kept, when_err}
+use Rattle.iceoryx2_storage.proofs.Spots.{did, starved, read_tried, published_row}
 use Rattle.iceoryx2_storage.proofs.table.services.Services.read.Goals as goal
 
 pub returns-then-is_err : goal.returns-then-is_err
 returns-then-is_err c =
     let p = c.args.participant in
     let h = c.args.hash.now in
-    let phase = sym c.phase_in.ensures ∙ c.in-Idle.is in
-    starved p h act.Read _ c.self.view_is
-    (read_tried _ p h at.Idle c.in-Published.number c.in-Published.field-1 phase refl (c.in-Some.ensures ∙ ap Some c.in-Published.is))
-    (ap (needs_room act.Read) phase)
+    let n = c.args.number in
+    let rows = map_of hash_cmp c.self.inside.rows in
+    let segments = map_of hash_cmp c.self.inside.segments in
+    let phases = map_of place_cmp c.self.inside.phases in
+    let x = c.position_of-position.result.phase in
+    let found = sym (ap (λ (q : Position). q.phase) c.position_of-position.ensures) in
+    let free = sym c.begins.ensures ∙ c.if-not-begins.false in
+    let written = published_row (map.get rows h) n (rw (← c.self.view_is) at c.requires) in
+    let tried = read_tried _ p h x n written.0 found free written.1 in
+    let absent = when_err c.reserve_at.result (sym c.is_err.ensures.value ∙ c.if-is_err.true) c.reserve_at.ensures.absent in
+    starved p h act.Read _ c.self.view_is tried (ap (λ (o : Option Phase). needs_room act.Read (or_idle o)) absent)
     (λ i. record {
-      rows = map.from_sorted {R = hash_cmp} c.self.inside.rows.entries.items;
-      segments = map.from_sorted {R = hash_cmp} c.self.inside.segments.entries.items;
-      phases = c.reserve.ensures.same i;
+      rows = rows;
+      segments = segments;
+      phases = c.reserve_at.ensures.same i;
       counter = c.self.inside.counter;
     })
 
-pub returns-else-is_err : goal.returns-else-is_err
-returns-else-is_err c =
+pub returns : goal.returns
+returns c =
     let p = c.args.participant in
     let h = c.args.hash.now in
-    did p h act.Read _ c.self.view_is
-    (read_tried _ p h at.Idle c.in-Published.number c.in-Published.field-1 (sym c.phase_in.ensures ∙ c.in-Idle.is) refl (c.in-Some.ensures ∙ ap Some c.in-Published.is))
+    let n = c.args.number in
+    let rows = map_of hash_cmp c.self.inside.rows in
+    let segments = map_of hash_cmp c.self.inside.segments in
+    let phases = map_of place_cmp c.self.inside.phases in
+    let x = c.position_of-position.result.phase in
+    let found = sym (ap (λ (q : Position). q.phase) c.position_of-position.ensures) in
+    let free = sym c.begins.ensures ∙ c.if-not-begins.false in
+    let written = published_row (map.get rows h) n (rw (← c.self.view_is) at c.requires) in
+    let tried = read_tried _ p h x n written.0 found free written.1 in
+    did p h act.Read _ c.self.view_is tried
     (λ i. record {
-      rows = kept hash_total hash_exact (map.from_sorted {R = hash_cmp} c.self.inside.rows.entries.items) h i;
-      segments = kept hash_total hash_exact (map.from_sorted {R = hash_cmp} c.self.inside.segments.entries.items) h i;
-      phases = (c.insert.ensures ∙ ap (λ m. map.insert m (p, h) (at.Read c.in-Published.number)) c.reserve.ensures.same) i;
-      counter = c.self.inside.counter;
-    })
-
-pub returns-in-Read : goal.returns-in-Read
-returns-in-Read c =
-    let p = c.args.participant in
-    let h = c.args.hash.now in
-    let phase = sym c.phase_in.ensures ∙ c.in-Read.is in
-    did p h act.Read _ c.self.view_is
-    (read_tried _ p h (at.Read c.in-Read.field-0) c.in-Published.number c.in-Published.field-1 phase refl (c.in-Some.ensures ∙ ap Some c.in-Published.is))
-    (λ i. record {
-      rows = kept hash_total hash_exact (map.from_sorted {R = hash_cmp} c.self.inside.rows.entries.items) h i;
-      segments = kept hash_total hash_exact (map.from_sorted {R = hash_cmp} c.self.inside.segments.entries.items) h i;
-      phases = c.set_phase.ensures (there_by _ _ phase refl) i;
+      rows = kept hash_total hash_exact rows h i;
+      segments = kept hash_total hash_exact segments h i;
+      phases = (c.insert_at.ensures.effect ∙ ap (λ m. map.insert m (p, h) (at.Read n)) c.reserve_at.ensures.same) i;
       counter = c.self.inside.counter;
     })

@@ -1,15 +1,16 @@
 use Rattle.std.proofs.Common.{Bool, Some, sym, ap, subst, ◌∙◌}
 use Rattle.std.specs.Prelude.{Ok, Err}
-use Rattle.std.specs.FinMap as map
+use Rattle.std.specs.Ordering.{nat_cmp}
+use Rattle.sorted_map.specs.Sorted.{map_of}
+use Rattle.iceoryx2_access.specs.Letter as letter
 use Rattle.iceoryx2_access.specs.declared.storage.LockError.TheVariants as Locking
 use Rattle.iceoryx2_world.specs.declared.world.Participant.TheVariants.{Node}
-use Rattle.iceoryx2_world.specs.Acts as act
-use Rattle.iceoryx2_access.specs.Letter as letter
-use Rattle.iceoryx2_world.specs.Access.{nothing, moves, or_refused, lock_of}
-use Rattle.iceoryx2_world.specs.World.{Tickets}
-use Rattle.iceoryx2_storage.specs.Book.{Book, Tries, world}
 use Rattle.iceoryx2_world.specs.Sets as set
 use Rattle.iceoryx2_world.specs.Orders.{tag_cmp}
+use Rattle.iceoryx2_world.specs.Acts as act
+use Rattle.iceoryx2_world.specs.Access.{nothing, moves, or_refused, lock_of}
+use Rattle.iceoryx2_world.specs.World.{Tickets}
+use Rattle.iceoryx2_storage.specs.Book.{Book, MayTakeStep, world}
 use Rattle.iceoryx2_storage.proofs.Accesses.{part, spot_at, gives_refusal, gives_done, gives_starved}
 use Rattle.iceoryx2_storage.proofs.table.stored.StoredWorld.lock.Goals as goal
 
@@ -17,16 +18,22 @@ pub returns-in-Some-Locked : goal.returns-in-Some-Locked
 returns-in-Some-Locked c =
     let i = c.args.node in
     let h = c.args.hash.now in
+    let b : Book = c.self.inside.services in
+    let t : set.FinSet tag_cmp = map_of tag_cmp c.self.inside.tags in
+    let k : Tickets = map_of nat_cmp c.self.inside.tickets in
     part (letter.Lock i h (Err Locking.Creation)) nothing c.self.view_is
-    (gives_refusal _ _ _ (ap (lock_of i h (spot_at c.self.inside.services i h)) (c.in-Some-Locked.ensures ∙ ap Some c.in-Some-Locked.field-0-is)))
+    (gives_refusal _ _ _ (ap (lock_of i h (spot_at b i h)) (sym c.in-Some-Locked.ensures ∙ ap Some c.in-Some-Locked.field-0-is)))
     (sym c.self.view_is)
 
 pub returns-in-Some-Published : goal.returns-in-Some-Published
 returns-in-Some-Published c =
     let i = c.args.node in
     let h = c.args.hash.now in
+    let b : Book = c.self.inside.services in
+    let t : set.FinSet tag_cmp = map_of tag_cmp c.self.inside.tags in
+    let k : Tickets = map_of nat_cmp c.self.inside.tickets in
     part (letter.Lock i h (Err Locking.AlreadyExists)) nothing c.self.view_is
-    (gives_refusal _ _ _ (ap (lock_of i h (spot_at c.self.inside.services i h)) (c.in-Some-Published.ensures ∙ ap Some c.in-Some-Published.field-0-is)))
+    (gives_refusal _ _ _ (ap (lock_of i h (spot_at b i h)) (sym c.in-Some-Published.ensures ∙ ap Some c.in-Some-Published.field-0-is)))
     (sym c.self.view_is)
 
 pub returns-in_default : goal.returns-in_default
@@ -34,11 +41,11 @@ returns-in_default c =
     let i = c.args.node in
     let h = c.args.hash.now in
     let b : Book = c.self.inside.services in
+    let t : set.FinSet tag_cmp = map_of tag_cmp c.self.inside.tags in
+    let k : Tickets = map_of nat_cmp c.self.inside.tickets in
     let starved = c.in_default.ensures in
-    let t : set.FinSet tag_cmp = map.from_sorted c.self.inside.tags.entries.items in
-    let k : Tickets = map.from_sorted c.self.inside.tickets.entries.items in
     part (letter.Lock i h (Err Locking.OutOfMemory)) nothing c.self.view_is
-    (gives_starved _ _ _ (ap (lock_of i h (spot_at b i h)) c.in-None.ensures ∙ ap (or_refused Locking.Other b.counter) starved.1))
+    (gives_starved _ _ _ (ap (lock_of i h (spot_at b i h)) (sym c.in-None.ensures) ∙ ap (or_refused Locking.Other b.counter) starved.1))
     (ap (λ x. world x t k) starved.3)
 
 pub returns-then-not-locked : goal.returns-then-not-locked
@@ -46,11 +53,11 @@ returns-then-not-locked c =
     let i = c.args.node in
     let h = c.args.hash.now in
     let b : Book = c.self.inside.services in
-    let forbidden = subst (λ (d : Bool). Tries b (Node i) h act.Lock (Ok d) c.lock.new.self) c.if-not-locked.true c.in-Ok.ensures in
-    let t : set.FinSet tag_cmp = map.from_sorted c.self.inside.tags.entries.items in
-    let k : Tickets = map.from_sorted c.self.inside.tickets.entries.items in
+    let t : set.FinSet tag_cmp = map_of tag_cmp c.self.inside.tags in
+    let k : Tickets = map_of nat_cmp c.self.inside.tickets in
+    let forbidden = subst (λ (d : Bool). MayTakeStep b (Node i) h act.Lock (Ok d) c.lock.new.self) c.if-not-locked.true c.in-Ok.ensures in
     part (letter.Lock i h (Err Locking.Other)) nothing c.self.view_is
-    (gives_refusal _ _ _ (ap (lock_of i h (spot_at b i h)) c.in-None.ensures ∙ ap (or_refused Locking.Other b.counter) forbidden.0))
+    (gives_refusal _ _ _ (ap (lock_of i h (spot_at b i h)) (sym c.in-None.ensures) ∙ ap (or_refused Locking.Other b.counter) forbidden.0))
     (ap (λ x. world x t k) forbidden.1)
 
 pub returns : goal.returns
@@ -58,9 +65,9 @@ returns c =
     let i = c.args.node in
     let h = c.args.hash.now in
     let b : Book = c.self.inside.services in
-    let done = subst (λ (d : Bool). Tries b (Node i) h act.Lock (Ok d) c.lock.new.self) c.if-not-locked.false c.in-Ok.ensures in
-    let t : set.FinSet tag_cmp = map.from_sorted c.self.inside.tags.entries.items in
-    let k : Tickets = map.from_sorted c.self.inside.tickets.entries.items in
+    let t : set.FinSet tag_cmp = map_of tag_cmp c.self.inside.tags in
+    let k : Tickets = map_of nat_cmp c.self.inside.tickets in
+    let done = subst (λ (d : Bool). MayTakeStep b (Node i) h act.Lock (Ok d) c.lock.new.self) c.if-not-locked.false c.in-Ok.ensures in
     part (letter.Lock i h (Ok c.counter-number.result)) (moves done.0) c.self.view_is
-    (gives_done _ _ _ _ (ap (lock_of i h (spot_at b i h)) c.in-None.ensures ∙ ap (or_refused Locking.Other b.counter) done.1 ∙ ap (λ n. Ok (n, moves done.0)) (sym c.counter-number.ensures)))
+    (gives_done _ _ _ _ (ap (lock_of i h (spot_at b i h)) (sym c.in-None.ensures) ∙ ap (or_refused Locking.Other b.counter) done.1 ∙ ap (λ n. Ok (n, moves done.0)) (sym c.counter-number.ensures)))
     (ap (λ x. world x t k) done.2)

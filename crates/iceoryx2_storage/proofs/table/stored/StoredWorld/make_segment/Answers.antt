@@ -1,72 +1,83 @@
 use Rattle.std.proofs.Common.{Bool, sym, ap, subst, ◌∙◌}
 use Rattle.std.specs.Prelude.{Ok, Err, nat_lt, ◌&&◌, if◌then◌else◌}
 use Rattle.std.specs.FinMap as map
+use Rattle.std.specs.Ordering.{nat_cmp}
+use Rattle.sorted_map.specs.Sorted.{map_of}
+use Rattle.iceoryx2_access.specs.Letter as letter
 use Rattle.iceoryx2_access.specs.declared.storage.MakeSegmentError.TheVariants as Making
 use Rattle.iceoryx2_world.specs.declared.world.Participant.TheVariants.{Node}
 use Rattle.iceoryx2_world.specs.declared.world.Phase.{Phase}
-use Rattle.iceoryx2_world.specs.Acts as act
-use Rattle.iceoryx2_access.specs.Letter as letter
-use Rattle.iceoryx2_world.specs.Access.{nothing, moves, or_refused, has_lock, make_of}
-use Rattle.iceoryx2_world.specs.World.{Tickets}
-use Rattle.iceoryx2_storage.specs.Book.{Book, Tries, world}
 use Rattle.iceoryx2_world.specs.Sets as set
 use Rattle.iceoryx2_world.specs.Orders.{tag_cmp}
-use Rattle.iceoryx2_storage.proofs.Accesses.{part, spot_at, gives_refusal, gives_done, gives_starved, none_of, some_of}
+use Rattle.iceoryx2_world.specs.Acts as act
+use Rattle.iceoryx2_world.specs.Access.{nothing, moves, has_lock, make_of}
+use Rattle.iceoryx2_world.specs.World.{Tickets}
+use Rattle.iceoryx2_storage.specs.declared.table.services.Position.{Position}
+use Rattle.iceoryx2_storage.specs.Book.{Book, MayTakeStep, world}
+use Rattle.iceoryx2_storage.proofs.Accesses.{part, spot_at, gives_refusal, gives_done, gives_starved, make_refused, make_done}
 use Rattle.iceoryx2_storage.proofs.table.stored.StoredWorld.make_segment.Goals as goal
 
 pub returns-then-not-may_make : goal.returns-then-not-may_make
 returns-then-not-may_make c =
     let i = c.args.node in
     let h = c.args.hash.now in
+    let b : Book = c.self.inside.services in
+    let t : set.FinSet tag_cmp = map_of tag_cmp c.self.inside.tags in
+    let k : Tickets = map_of nat_cmp c.self.inside.tickets in
     let n = c.args.number in
     let m = c.args.max_nodes in
-    let b : Book = c.self.inside.services in
-    let may_not = ap (λ (f : Phase). has_lock n f && nat_lt 0 m) (sym c.phase_at.ensures) ∙ sym c.may_make.ensures ∙ c.if-not-may_make.true in
-    part (letter.MakeSegment i h n m (Err Making.Other)) nothing c.self.view_is
-    (gives_refusal _ _ _ (ap (λ (x : Bool). if x then make_of i h m (spot_at b i h) (map.get b.segments h) else Err Making.Other) may_not))
-    (sym c.self.view_is)
-
-pub returns-then-has_segment : goal.returns-then-has_segment
-returns-then-has_segment c =
-    let i = c.args.node in
-    let h = c.args.hash.now in
-    let n = c.args.number in
-    let m = c.args.max_nodes in
-    let b : Book = c.self.inside.services in
-    let may = ap (λ (f : Phase). has_lock n f && nat_lt 0 m) (sym c.phase_at.ensures) ∙ sym c.may_make.ensures ∙ c.if-not-may_make.false in
-    let there = some_of _ (sym c.has_segment.ensures ∙ c.if-has_segment.true) in
-    part (letter.MakeSegment i h n m (Err Making.AlreadyExists)) nothing c.self.view_is
-    (gives_refusal _ _ _ (ap (λ (x : Bool). if x then make_of i h m (spot_at b i h) (map.get b.segments h) else Err Making.Other) may ∙ ap (make_of i h m (spot_at b i h)) there.is))
-    (sym c.self.view_is)
+    let found = sym (ap (λ (q : Position). q.phase) c.position-position.ensures) in
+    let may_not = ap (λ (f : Phase). has_lock n f && nat_lt 0 m) found ∙ sym c.may_make.ensures ∙ c.if-not-may_make.true in
+    let chosen = λ (x : Bool). if x then make_of i h m (spot_at b i h) (map.get b.segments h) else Err Making.Other in
+    part (letter.MakeSegment i h n m (Err Making.Other)) nothing c.self.view_is (gives_refusal _ _ _ (ap chosen may_not)) (sym c.self.view_is)
 
 pub returns-in_default : goal.returns-in_default
 returns-in_default c =
     let i = c.args.node in
     let h = c.args.hash.now in
+    let b : Book = c.self.inside.services in
+    let t : set.FinSet tag_cmp = map_of tag_cmp c.self.inside.tags in
+    let k : Tickets = map_of nat_cmp c.self.inside.tickets in
     let n = c.args.number in
     let m = c.args.max_nodes in
-    let b : Book = c.self.inside.services in
-    let may = ap (λ (f : Phase). has_lock n f && nat_lt 0 m) (sym c.phase_at.ensures) ∙ sym c.may_make.ensures ∙ c.if-not-may_make.false in
-    let none = none_of _ (sym c.has_segment.ensures ∙ c.if-has_segment.false) in
+    let found = sym (ap (λ (q : Position). q.phase) c.position-position.ensures) in
+    let may = ap (λ (f : Phase). has_lock n f && nat_lt 0 m) found ∙ sym c.may_make.ensures ∙ c.if-not-may_make.false in
+    let chosen = λ (x : Bool). if x then make_of i h m (spot_at b i h) (map.get b.segments h) else Err Making.Other in
     let starved = c.in_default.ensures in
-    let t : set.FinSet tag_cmp = map.from_sorted c.self.inside.tags.entries.items in
-    let k : Tickets = map.from_sorted c.self.inside.tickets.entries.items in
     part (letter.MakeSegment i h n m (Err Making.OutOfMemory)) nothing c.self.view_is
-    (gives_starved _ _ _ (ap (λ (x : Bool). if x then make_of i h m (spot_at b i h) (map.get b.segments h) else Err Making.Other) may ∙ ap (make_of i h m (spot_at b i h)) none ∙ ap (or_refused Making.Other tt) starved.1))
+    (gives_starved _ _ _ (ap chosen may ∙ make_done i h m _ _ _ _ starved.0 starved.1))
     (ap (λ x. world x t k) starved.3)
+
+pub returns-then-not-made : goal.returns-then-not-made
+returns-then-not-made c =
+    let i = c.args.node in
+    let h = c.args.hash.now in
+    let b : Book = c.self.inside.services in
+    let t : set.FinSet tag_cmp = map_of tag_cmp c.self.inside.tags in
+    let k : Tickets = map_of nat_cmp c.self.inside.tickets in
+    let n = c.args.number in
+    let m = c.args.max_nodes in
+    let found = sym (ap (λ (q : Position). q.phase) c.position-position.ensures) in
+    let may = ap (λ (f : Phase). has_lock n f && nat_lt 0 m) found ∙ sym c.may_make.ensures ∙ c.if-not-may_make.false in
+    let chosen = λ (x : Bool). if x then make_of i h m (spot_at b i h) (map.get b.segments h) else Err Making.Other in
+    let forbidden = subst (λ (d : Bool). MayTakeStep b (Node i) h (act.Make m) (Ok d) c.make.new.self) c.if-not-made.true c.in-Ok.ensures in
+    part (letter.MakeSegment i h n m (Err Making.AlreadyExists)) nothing c.self.view_is
+    (gives_refusal _ _ _ (ap chosen may ∙ make_refused i h n m _ _ _ _ may forbidden.0))
+    (ap (λ x. world x t k) forbidden.1)
 
 pub returns : goal.returns
 returns c =
     let i = c.args.node in
     let h = c.args.hash.now in
+    let b : Book = c.self.inside.services in
+    let t : set.FinSet tag_cmp = map_of tag_cmp c.self.inside.tags in
+    let k : Tickets = map_of nat_cmp c.self.inside.tickets in
     let n = c.args.number in
     let m = c.args.max_nodes in
-    let b : Book = c.self.inside.services in
-    let may = ap (λ (f : Phase). has_lock n f && nat_lt 0 m) (sym c.phase_at.ensures) ∙ sym c.may_make.ensures ∙ c.if-not-may_make.false in
-    let none = none_of _ (sym c.has_segment.ensures ∙ c.if-has_segment.false) in
-    let done = subst (λ (d : Bool). Tries b (Node i) h (act.Make m) (Ok d) c.make.new.self) c.if-not-made.false c.in-Ok.ensures in
-    let t : set.FinSet tag_cmp = map.from_sorted c.self.inside.tags.entries.items in
-    let k : Tickets = map.from_sorted c.self.inside.tickets.entries.items in
+    let found = sym (ap (λ (q : Position). q.phase) c.position-position.ensures) in
+    let may = ap (λ (f : Phase). has_lock n f && nat_lt 0 m) found ∙ sym c.may_make.ensures ∙ c.if-not-may_make.false in
+    let chosen = λ (x : Bool). if x then make_of i h m (spot_at b i h) (map.get b.segments h) else Err Making.Other in
+    let done = subst (λ (d : Bool). MayTakeStep b (Node i) h (act.Make m) (Ok d) c.make.new.self) c.if-not-made.false c.in-Ok.ensures in
     part (letter.MakeSegment i h n m (Ok tt)) (moves done.0) c.self.view_is
-    (gives_done _ _ _ _ (ap (λ (x : Bool). if x then make_of i h m (spot_at b i h) (map.get b.segments h) else Err Making.Other) may ∙ ap (make_of i h m (spot_at b i h)) none ∙ ap (or_refused Making.Other tt) done.1))
+    (gives_done _ _ _ _ (ap chosen may ∙ make_done i h m _ _ _ _ done.0 done.1))
     (ap (λ x. world x t k) done.2)

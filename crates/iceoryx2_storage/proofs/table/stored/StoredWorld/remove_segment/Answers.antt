@@ -1,15 +1,16 @@
 use Rattle.std.proofs.Common.{Bool, ap, subst}
 use Rattle.std.specs.Prelude.{Ok, Err}
+use Rattle.std.specs.Ordering.{nat_cmp}
+use Rattle.sorted_map.specs.Sorted.{map_of}
+use Rattle.iceoryx2_access.specs.Letter as letter
 use Rattle.iceoryx2_access.specs.declared.storage.RemoveError.TheVariants as Removing
 use Rattle.iceoryx2_world.specs.declared.world.Participant.TheVariants.{Node}
-use Rattle.iceoryx2_world.specs.Acts as act
-use Rattle.iceoryx2_access.specs.Letter as letter
-use Rattle.iceoryx2_world.specs.Access.{nothing, moves, or_refused}
-use Rattle.iceoryx2_world.specs.World.{Tickets}
-use Rattle.iceoryx2_storage.specs.Book.{Book, Steps, world}
 use Rattle.iceoryx2_world.specs.Sets as set
 use Rattle.iceoryx2_world.specs.Orders.{tag_cmp}
-use Rattle.std.specs.FinMap as map
+use Rattle.iceoryx2_world.specs.Acts as act
+use Rattle.iceoryx2_world.specs.Access.{nothing, moves, or_refused}
+use Rattle.iceoryx2_world.specs.World.{Tickets}
+use Rattle.iceoryx2_storage.specs.Book.{Book, TakesStep, world}
 use Rattle.iceoryx2_storage.proofs.Accesses.{part, simply_refusal, simply_done}
 use Rattle.iceoryx2_storage.proofs.table.stored.StoredWorld.remove_segment.Goals as goal
 
@@ -18,9 +19,9 @@ returns-then-remove_segment c =
     let i = c.args.node in
     let h = c.args.hash.now in
     let b : Book = c.self.inside.services in
-    let done = subst (λ (d : Bool). Steps b (Node i) h act.RemoveSegment d c.remove_segment.new.self) c.if-remove_segment.true c.remove_segment.ensures in
-    let t : set.FinSet tag_cmp = map.from_sorted c.self.inside.tags.entries.items in
-    let k : Tickets = map.from_sorted c.self.inside.tickets.entries.items in
+    let t : set.FinSet tag_cmp = map_of tag_cmp c.self.inside.tags in
+    let k : Tickets = map_of nat_cmp c.self.inside.tickets in
+    let done = subst (λ (d : Bool). TakesStep b (Node i) h act.RemoveSegment d c.remove_segment.new.self) c.if-remove_segment.true c.remove_segment.ensures in
     part (letter.RemoveSegment i h (Ok tt)) (moves done.0) c.self.view_is
     (simply_done _ _ _ (ap (or_refused Removing.Other tt) done.1))
     (ap (λ x. world x t k) done.2)
@@ -30,9 +31,9 @@ returns c =
     let i = c.args.node in
     let h = c.args.hash.now in
     let b : Book = c.self.inside.services in
-    let forbidden = subst (λ (d : Bool). Steps b (Node i) h act.RemoveSegment d c.remove_segment.new.self) c.if-remove_segment.false c.remove_segment.ensures in
-    let t : set.FinSet tag_cmp = map.from_sorted c.self.inside.tags.entries.items in
-    let k : Tickets = map.from_sorted c.self.inside.tickets.entries.items in
+    let t : set.FinSet tag_cmp = map_of tag_cmp c.self.inside.tags in
+    let k : Tickets = map_of nat_cmp c.self.inside.tickets in
+    let forbidden = subst (λ (d : Bool). TakesStep b (Node i) h act.RemoveSegment d c.remove_segment.new.self) c.if-remove_segment.false c.remove_segment.ensures in
     part (letter.RemoveSegment i h (Err Removing.Other)) nothing c.self.view_is
     (simply_refusal _ _ (ap (or_refused Removing.Other tt) forbidden.0))
     (ap (λ x. world x t k) forbidden.1)
