@@ -13,7 +13,7 @@ use Rattle.iceoryx2_world.specs.declared.world.Row.{Row}
 use Rattle.iceoryx2_world.specs.declared.listing.Entry.{Entry}
 use Rattle.iceoryx2_world.specs.Orders.{hash_cmp, hash_total, hash_exact}
 use Rattle.iceoryx2_world.specs.World.{Segment}
-use Rattle.iceoryx2_world.specs.Listing.{entry_of, entry_at, keyed, ListsAll}
+use Rattle.iceoryx2_world.specs.Listing.{entry_of, entry_at, by_hash, ListsAll}
 use Rattle.iceoryx2_storage.specs.Merge.{Rows, Segments, merge, IsStep}
 
 less_of : (o : Ordering) → T (is_lt o) → o ≡ Less
@@ -46,7 +46,7 @@ none_below q (e ∷ es) h = let p = parts _ _ h in rw (less_of (hash_cmp q e.0) 
 back : (x y : ServiceHash) → hash_cmp x y ≡ Greater → hash_cmp y x ≡ Less
 back x y e = hash_total.antisymm y x ∙ ap ordering_reverse e
 
-below : (h : ServiceHash) (rs : Rows) (ss : Segments) → T (below_all hash_cmp h rs) → T (below_all hash_cmp h ss) → T (below_all hash_cmp h (keyed (merge rs ss)))
+below : (h : ServiceHash) (rs : Rows) (ss : Segments) → T (below_all hash_cmp h rs) → T (below_all hash_cmp h ss) → T (below_all hash_cmp h (by_hash (merge rs ss)))
 unfolding merge
 below h [] [] a b = tt
 below h [] (s ∷ ss) a b = let p = parts _ _ b in both _ _ p.0 (below h [] ss tt p.1)
@@ -54,7 +54,7 @@ below h (r ∷ rs) [] a b = let p = parts _ _ a in both _ _ p.0 (below h rs [] p
 below h (r ∷ rs) (s ∷ ss) a b =
     let p = parts _ _ a in
     let q = parts _ _ b in
-    elim (hash_cmp r.0 s.0) as (λ o. T (below_all hash_cmp h (keyed (match_ordering o
+    elim (hash_cmp r.0 s.0) as (λ o. T (below_all hash_cmp h (by_hash (match_ordering o
     (entry_of r.0 (Some r.1) None ∷ merge rs (s ∷ ss))
     (entry_of r.0 (Some r.1) (Some s.1) ∷ merge rs ss)
     (entry_of s.0 None (Some s.1) ∷ merge (r ∷ rs) ss))))) [
@@ -63,7 +63,7 @@ below h (r ∷ rs) (s ∷ ss) a b =
       | Greater ↦ both _ _ q.0 (below h (r ∷ rs) ss a q.1)
     ]
 
-ascends : (rs : Rows) (ss : Segments) → T (is_sorted hash_cmp rs) → T (is_sorted hash_cmp ss) → T (is_sorted hash_cmp (keyed (merge rs ss)))
+ascends : (rs : Rows) (ss : Segments) → T (is_sorted hash_cmp rs) → T (is_sorted hash_cmp ss) → T (is_sorted hash_cmp (by_hash (merge rs ss)))
 unfolding merge
 ascends [] [] a b = tt
 ascends [] (s ∷ ss) a b = let p = parts _ _ b in both _ _ (below s.0 [] ss tt p.0) (ascends [] ss tt p.1)
@@ -71,7 +71,7 @@ ascends (r ∷ rs) [] a b = let p = parts _ _ a in both _ _ (below r.0 rs [] p.0
 ascends (r ∷ rs) (s ∷ ss) a b =
     let p = parts _ _ a in
     let q = parts _ _ b in
-    elim (hash_cmp r.0 s.0) as (λ o. hash_cmp r.0 s.0 ≡ o → T (is_sorted hash_cmp (keyed (match_ordering o
+    elim (hash_cmp r.0 s.0) as (λ o. hash_cmp r.0 s.0 ≡ o → T (is_sorted hash_cmp (by_hash (match_ordering o
     (entry_of r.0 (Some r.1) None ∷ merge rs (s ∷ ss))
     (entry_of r.0 (Some r.1) (Some s.1) ∷ merge rs ss)
     (entry_of s.0 None (Some s.1) ∷ merge (r ∷ rs) ss))))) [
@@ -115,7 +115,7 @@ find_both q r s rs ss found same rest =
       | false ↦ λ t. rest
     ] refl)
 
-finds : (q : ServiceHash) (rs : Rows) (ss : Segments) → T (is_sorted hash_cmp rs) → T (is_sorted hash_cmp ss) → find hash_cmp q (keyed (merge rs ss)) ≡ entry_at q (find hash_cmp q rs) (find hash_cmp q ss)
+finds : (q : ServiceHash) (rs : Rows) (ss : Segments) → T (is_sorted hash_cmp rs) → T (is_sorted hash_cmp ss) → find hash_cmp q (by_hash (merge rs ss)) ≡ entry_at q (find hash_cmp q rs) (find hash_cmp q ss)
 unfolding merge
 finds q [] [] a b = refl
 finds q [] (s ∷ ss) a b = find_segment q s [] ss _ tt (finds q [] ss tt (parts _ _ b).1)
@@ -123,7 +123,7 @@ finds q (r ∷ rs) [] a b = find_row q r rs [] _ tt (finds q rs [] (parts _ _ a)
 finds q (r ∷ rs) (s ∷ ss) a b =
     let p = parts _ _ a in
     let z = parts _ _ b in
-    elim (hash_cmp r.0 s.0) as (λ o. hash_cmp r.0 s.0 ≡ o → find hash_cmp q (keyed (match_ordering o
+    elim (hash_cmp r.0 s.0) as (λ o. hash_cmp r.0 s.0 ≡ o → find hash_cmp q (by_hash (match_ordering o
     (entry_of r.0 (Some r.1) None ∷ merge rs (s ∷ ss))
     (entry_of r.0 (Some r.1) (Some s.1) ∷ merge rs ss)
     (entry_of s.0 None (Some s.1) ∷ merge (r ∷ rs) ss))) ≡ entry_at q (find hash_cmp q (r ∷ rs)) (find hash_cmp q (s ∷ ss))) [

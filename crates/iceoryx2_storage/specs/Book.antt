@@ -19,7 +19,7 @@ use Rattle.iceoryx2_world.specs.Orders.{hash_cmp, place_cmp, tag_cmp}
 use Rattle.iceoryx2_world.specs.World.{World, Segment, set_to, or_idle, unless_idle, Tickets}
 use Rattle.iceoryx2_world.specs.Acts.{Act}
 use Rattle.iceoryx2_world.specs.Acts as act
-use Rattle.iceoryx2_world.specs.Steps.{Spot, spot_after, fits, has_room, has_others, with_one, without_one, deserted}
+use Rattle.iceoryx2_world.specs.Steps.{Spot, spot_after, fits, has_room, has_others, with_one, without_one, without_any}
 use Rattle.iceoryx2_world.specs.Codes.{coded_hash, coded_row, coded_segment, coded_participant, coded_phase}
 use Rattle.iceoryx2_world.specs.Access.{release_answer}
 
@@ -113,7 +113,7 @@ Admits n p s (Err e) t = (has_room n s ≡ true) × (t ≡ s)
 -- one goes who is not the last, or the segment is marked
 abbrev pub Dismisses : Participant → Segment → Bool → Segment → Type 0
 Dismisses p s true t = (has_others s ≡ true) × (t ≡ without_one p s)
-Dismisses p s false t = (has_others s ≡ false) × (t ≡ deserted s)
+Dismisses p s false t = (has_others s ≡ false) × (t ≡ without_any s)
 
 -- the phase of who takes the segment away, where it may
 abbrev pub TakesSegment : Phase → Option Phase → Type 0

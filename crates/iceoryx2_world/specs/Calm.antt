@@ -7,8 +7,6 @@ use Rattle.iceoryx2_world.specs.declared.world.Row.TheVariants as row
 use Rattle.iceoryx2_world.specs.World.{World, row_of, count_of}
 use Rattle.iceoryx2_access.specs.Letter.{Letter}
 use Rattle.iceoryx2_access.specs.Letter as letter
-use Rattle.iceoryx2_world.specs.Peers.{IsAccess}
-use Rattle.iceoryx2_access.specs.MayRefuse.{IsFault}
 
 -- the number and the bytes of what is published
 abbrev pub published_of : Option Row → Option (ℕ × List ℕ)
@@ -27,9 +25,3 @@ IsCalmLetter (letter.Publish i h n d (Ok t)) = ⊥
 IsCalmLetter (letter.OpenSegment i h n (Ok t)) = ⊥
 IsCalmLetter (letter.Release t i h n (Ok a)) = ⊥
 IsCalmLetter _ = Unit {0}
-
--- An access that is calm: its own part, without the steps of peers before it, changes none of these. A refused
--- one has no part.
-pub data CalmAccess (w : World) (l : Letter) (v : World) : Type 0 where
-  acts : (a : IsAccess w l v) → SameServices a.between v → CalmAccess w l v
-  refused : IsFault l → v ≡ w → CalmAccess w l v

@@ -89,18 +89,18 @@ coded_ticket =
     (λ p. record { node = p.0; hash = p.1.0; number = p.1.1 }) (λ _. refl)
 
 -- what stands for the services, and what nodes hold
-abbrev pub Services : Type 0
+abbrev Services : Type 0
 Services = map.FinMap hash_cmp Row × (map.FinMap hash_cmp Segment × map.FinMap place_cmp Phase)
 
-abbrev pub coded_services : Coded Services
+abbrev coded_services : Coded Services
 coded_services =
     coded× (map.code coded_hash coded_row)
     (coded× (map.code coded_hash coded_segment) (map.code (coded× coded_participant coded_hash) coded_phase))
 
-abbrev pub Holdings : Type 0
+abbrev Holdings : Type 0
 Holdings = set.FinSet tag_cmp × Tickets
 
-abbrev pub coded_holdings : Coded Holdings
+abbrev coded_holdings : Coded Holdings
 coded_holdings = coded× (set.code (coded× coded_ℕ coded_hash)) (map.code coded_ℕ coded_ticket)
 
 abbrev pub coded_world : Coded World

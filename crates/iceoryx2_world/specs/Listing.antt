@@ -36,14 +36,14 @@ entry_at h None None = None
 entry_at h (Some r) s = Some (entry_of h (Some r) s)
 entry_at h None (Some s) = Some (entry_of h None (Some s))
 
-abbrev pub keyed : List Entry → List (ServiceHash × Entry)
-keyed es = map (λ e. (e.hash, e)) es
+abbrev pub by_hash : List Entry → List (ServiceHash × Entry)
+by_hash es = map (λ e. (e.hash, e)) es
 
 -- Every hash with a row or a segment is listed once, in ascending order, with what stands there, and no other hash.
 pub record ListsAll (rows : finite.FinMap hash_cmp Row) (segments : finite.FinMap hash_cmp Segment) (es : List Entry)
     : Type 0 where
-  pub ascends : T (is_sorted hash_cmp (keyed es))
-  pub each : (h : ServiceHash) → find hash_cmp h (keyed es) ≡ entry_at h (finite.get rows h) (finite.get segments h)
+  pub ascends : T (is_sorted hash_cmp (by_hash es))
+  pub each : (h : ServiceHash) → find hash_cmp h (by_hash es) ≡ entry_at h (finite.get rows h) (finite.get segments h)
 
 abbrev pub Lists : World → List Entry → Type 0
 Lists w es = ListsAll w.rows w.segments es

@@ -43,8 +43,8 @@ with_one p s = record s { participants = set.insert s.participants p }
 abbrev pub without_one : Participant → Segment → Segment
 without_one p s = record s { participants = set.remove s.participants p }
 
-abbrev pub deserted : Segment → Segment
-deserted s = record s { participants = set.empty; marked = true }
+abbrev pub without_any : Segment → Segment
+without_any s = record s { participants = set.empty; marked = true }
 
 -- the segment takes one more with this number
 abbrev pub has_room : ℕ → Segment → Bool
@@ -67,7 +67,7 @@ abbrev pub leave_of : Participant → ℕ → Option Row → Option Segment → 
 leave_of p n r None c = None
 leave_of p n r (Some s) c =
     if has_others s then to_spot at.Idle r (Some (without_one p s)) c
-    else to_spot (at.Leaving n) r (Some (deserted s)) c
+    else to_spot (at.Leaving n) r (Some (without_any s)) c
 
 -- What a step of p at h changes, of its phase, the row, the segment and the counter there; none where it is forbidden.
 abbrev pub spot_after : Participant → ServiceHash → Act → Phase → Option Row → Option Segment → ℕ → Option Spot

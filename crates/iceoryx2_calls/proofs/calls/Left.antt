@@ -17,25 +17,25 @@ use Rattle.iceoryx2_world.specs.declared.world.Phase.{Phase}
 use Rattle.iceoryx2_world.specs.declared.world.Phase.TheVariants as at
 use Rattle.iceoryx2_world.specs.declared.world.Row.{Row}
 use Rattle.iceoryx2_world.specs.declared.world.Row.TheVariants as row
-use Rattle.iceoryx2_world.specs.Orders.{hash_total, hash_exact, tag_cmp, tag_total, tag_exact}
+use Rattle.iceoryx2_world.specs.Orders.{tag_cmp, tag_total, tag_exact}
 use Rattle.iceoryx2_world.specs.World.{World, Segment, row_of, segment_of, phase_of, begins, locked_number, tag_of}
 use Rattle.iceoryx2_world.specs.Acts.{Act}
 use Rattle.iceoryx2_world.specs.Acts as act
 use Rattle.iceoryx2_world.specs.Steps.{Spot, world_after}
 use Rattle.iceoryx2_world.specs.Agreement.{IsSpent}
 use Rattle.iceoryx2_world.specs.Across.{Agrees}
-use Rattle.iceoryx2_world.specs.Access.{Change, seat, write, own_step, MakesTag, IsOwnPart}
+use Rattle.iceoryx2_world.specs.Access.{Change, seat, write, MakesTag, IsOwnPart}
 use Rattle.iceoryx2_world.specs.Peers.{Peers, none, peer, IsAccess}
 use Rattle.iceoryx2_world.specs.Faulty.{IsFaulty}
 use Rattle.iceoryx2_world.proofs.agreement.Rows.{IsRow, locks as row_locks, clears as row_clears, unmakes, unlocks as row_unlocks, clears_last, ends as row_ends, makes as row_makes, row_of_step}
-use Rattle.iceoryx2_world.proofs.agreement.Maps.{set_cases, set_has, either, self}
-use Rattle.iceoryx2_world.proofs.agreement.Effects.{Stepped, stepped as stepped_world}
-use Rattle.iceoryx2_world.proofs.agreement.Worlds.{place_cases, peer_places, peer_keeps, not_peer, step_counter, step_tickets}
-use Rattle.iceoryx2_world.proofs.agreement.Parts.{answer_cases, sure_answer_cases, passed, locking, moved_world, step_ok, made_ok}
+use Rattle.iceoryx2_world.proofs.agreement.Maps.{set_has, either, self}
+use Rattle.iceoryx2_world.proofs.agreement.Effects.{stepped as stepped_world}
+use Rattle.iceoryx2_world.proofs.agreement.Worlds.{peer_places, peer_keeps, not_peer, step_counter, step_tickets}
+use Rattle.iceoryx2_world.proofs.agreement.Parts.{making, clearing, unlocking, locking}
 use Rattle.iceoryx2_world.proofs.agreement.Accesses.{peers_keep, own_keeps, access_keeps, faulty_keeps, granted, with_refusals}
 use Rattle.iceoryx2_world.proofs.agreement.Granted.{peers_phase, tag_granted, segment_granted, description_granted, MayClear, MayEnd}
 use Rattle.iceoryx2_world.proofs.agreement.Spent.{world_segment, spent_own, spent_peers}
-use Rattle.iceoryx2_world.proofs.agreement.Stands.{own_row}
+use Rattle.iceoryx2_world.proofs.agreement.Stands.{own_row, own_phase, own_segment}
 use Rattle.iceoryx2_rounds.specs.Keeps as keeps
 use Rattle.iceoryx2_rounds.specs.Keeps.{KeptTag, NoTag, OwnTag, KeptLock, NoLock, Locked, WithSegment, GivenBack, HasService, IsUnlocked, MakesNothing, Keeps, GivesAllBack}
 use Rattle.iceoryx2_calls.specs.Leaves.{IsGranted, HasAtMostRead, LacksRow, LacksSegment, NodeHasRead, Leaves, LeavesOfLock, LeavesNothing, SpendsNumber, tags_after}
@@ -199,24 +199,6 @@ tag_put w v i h true c e o is = absurd (cc (o.0))
 tag_put w v i h false c e (inl o) is = (sym e, is ∙ ap (write w i h) o.1)
 tag_put w v i h false c e (inr o) is = absurd (cc (o.0))
 
-making : (w v : World) (i : ℕ) (h : ServiceHash) (n m : ℕ) (a : Unit {0}) → IsOwnPart w (letter.MakeSegment i h n m (Ok a)) v → world_after w (Node i) h (act.Make m) ≡ Some v
-making w v i h n m a p = elim (answer_cases _ _ (Ok a) p.change p.own) [
-  | inl k ↦ let s = made_ok i h m (seat w i h).spot (segment_of w h) k.given (passed _ _ _ k.given k.from).1 in moved_world w v i h (act.Make m) p.change s.spot s.from (k.change ∙ (λ j. (s.is j).1)) p.is
-  | inr k ↦ absurd (cc (k.answer))
-]
-
-clearing : (w v : World) (i : ℕ) (h : ServiceHash) (a : Unit {0}) → IsOwnPart w (letter.RemoveSegment i h (Ok a)) v → world_after w (Node i) h act.RemoveSegment ≡ Some v
-clearing w v i h a p = elim (sure_answer_cases _ (Ok a) p.change p.own) [
-  | inl k ↦ let s = step_ok _ _ (own_step i h act.RemoveSegment (seat w i h).spot) k.given k.from in moved_world w v i h act.RemoveSegment p.change s.spot s.from (k.change ∙ (λ j. (s.is j).1)) p.is
-  | inr k ↦ absurd (cc (k.answer))
-]
-
-unlocking : (w v : World) (i : ℕ) (h : ServiceHash) (a : Unit {0}) → IsOwnPart w (letter.RemoveDescription i h (Ok a)) v → world_after w (Node i) h act.RemoveDescription ≡ Some v
-unlocking w v i h a p = elim (sure_answer_cases _ (Ok a) p.change p.own) [
-  | inl k ↦ let s = step_ok _ _ (own_step i h act.RemoveDescription (seat w i h).spot) k.given k.from in moved_world w v i h act.RemoveDescription p.change s.spot s.from (k.change ∙ (λ j. (s.is j).1)) p.is
-  | inr k ↦ absurd (cc (k.answer))
-]
-
 -- what the steps leave
 record Begun (x : Phase) (c : ℕ) (new : Spot) : Type 0 where
   pub before : begins x ≡ true
@@ -245,12 +227,6 @@ record Unlocked (s : Option Segment) (new : Spot) : Type 0 where
 unlock_row : {p : Participant} {h : ServiceHash} {x : Phase} {r : Option Row} {s : Option Segment} {c : ℕ} {new : Spot} → IsRow p h act.RemoveDescription x r s c new → Unlocked s new
 unlock_row (row_unlocks lock) = record { row = refl; segment = refl; phase = refl }
 unlock_row (row_ends last) = record { row = refl; segment = refl; phase = refl }
-
-own_phase : (w v : World) (i : ℕ) (h : ServiceHash) (a : Act) → (st : Stepped w v (Node i) h a) → phase_of v (Node i) h ≡ st.spot.phase
-own_phase w v i h a st = subst (λ u. phase_of u (Node i) h ≡ st.spot.phase) st.world (elim (place_cases w (Node i) h st.spot (Node i) h) [ inl k ↦ k.2 | inr k ↦ absurd (k.0 refl refl) ])
-
-own_segment : (w v : World) (p : Participant) (h : ServiceHash) (a : Act) → (st : Stepped w v p h a) → segment_of v h ≡ st.spot.segment
-own_segment w v p h a st = subst (λ u. segment_of u h ≡ st.spot.segment) st.world (elim (set_cases hash_total hash_exact w.segments h st.spot.segment h) [ inl e ↦ e.1 | inr e ↦ absurd (e.0 refl) ])
 
 lacking : (o : Option (Unit {0})) → is_some o ≡ false → o ≡ None
 lacking None e = refl

@@ -172,10 +172,6 @@ pub with_refusals : {w v : World} {word : List Letter} → Run IsAccess w word v
 with_refusals done = done
 with_refusals (next a rest) = next (inl a) (with_refusals rest)
 
--- where no peer takes a step between
-pub own_access : (w : World) (l : Letter) (v : World) → IsOwnPart w l v → IsAccess w l v
-own_access w l v o = record { between = w; peers = none; own = o }
-
 -- an answer that isn't the general fault is the table's own
 pub granted : (w : World) (l : Letter) (v : World) → (IsFault l → ⊥) → IsFaulty w l v → IsAccess w l v
 granted w l v other (inl a) = a

@@ -3,7 +3,7 @@ use Rattle.std.proofs.Common.{◌≡◌, ℕ, ◌+◌, ◌≤◌, Bool, true, fa
 use Rattle.iceoryx2_data.specs.declared.description.ServiceHash.{ServiceHash}
 use Rattle.iceoryx2_data.specs.Description.{Description}
 use Rattle.iceoryx2_world.specs.declared.world.Participant.{Participant}
-use Rattle.iceoryx2_world.specs.declared.world.Participant.TheVariants.{Node, Peer}
+use Rattle.iceoryx2_world.specs.declared.world.Participant.TheVariants.{Node}
 use Rattle.iceoryx2_world.specs.declared.world.Phase.{Phase}
 use Rattle.iceoryx2_world.specs.declared.world.Phase.TheVariants as at
 use Rattle.iceoryx2_access.specs.declared.storage.RemoveError.{RemoveError}
@@ -18,16 +18,13 @@ use Rattle.iceoryx2_world.specs.Across.{Agrees}
 use Rattle.iceoryx2_access.specs.Letter.{Letter}
 use Rattle.iceoryx2_access.specs.Letter as letter
 use Rattle.iceoryx2_world.specs.Access.{IsOwnPart}
-use Rattle.iceoryx2_world.specs.Peers.{Peers, none, peer}
-use Rattle.iceoryx2_world.specs.Faulty.{IsFaulty}
-use Rattle.iceoryx2_access.specs.Run.{Run, done, next}
-use Rattle.iceoryx2_world.specs.Calm.{published_of, SameServices, IsCalmLetter, CalmAccess, acts, refused}
+use Rattle.iceoryx2_world.specs.Calm.{published_of, SameServices, IsCalmLetter}
 use Rattle.iceoryx2_world.proofs.agreement.Rows.{IsRow, reads, locks as row_locks, clears, makes, unmakes, unlocks as row_unlocks, publishes as row_publishes, joins as row_joins, joins_again, leaves_once, leaves, leaves_last, clears_last, ends as row_ends, row_of_step}
 use Rattle.iceoryx2_world.proofs.agreement.Maps.{set_cases}
 use Rattle.iceoryx2_world.proofs.agreement.Effects.{PhaseChange, Gains, Idles, Stepped, stepped, step_effect}
-use Rattle.iceoryx2_world.proofs.agreement.Worlds.{place_cases, peer_places, step_places}
-use Rattle.iceoryx2_world.proofs.agreement.Parts.{IsCalm, Part, stays, tagged, calm, removed, publishes, joins, releases, own_part, publishing, joining, releasing, locking}
-use Rattle.iceoryx2_world.proofs.agreement.Accesses.{joined_means, peers_keep, faulty_keeps, access_keeps}
+use Rattle.iceoryx2_world.proofs.agreement.Worlds.{place_cases, step_places}
+use Rattle.iceoryx2_world.proofs.agreement.Parts.{IsCalm, Part, stays, tagged, calm, removed, publishes, joins, releases, own_part, publishing, joining, releasing}
+use Rattle.iceoryx2_world.proofs.agreement.Accesses.{joined_means}
 
 record Calmly (x : Phase) (r : Option Row) (new : Spot) : Type 0 where
   pub row : published_of new.row ≡ published_of r
@@ -175,19 +172,6 @@ tame_both (goes k r) t = goes k (tame_both r t)
 tame_both (locks r) t = locks (tame_both r t)
 tame_both (unlocks a r) t = unlocks a (tame_both r t)
 
-module _ (node : ℕ) (hash : ServiceHash) where
-  lock_calmed : (b : Bool) (w v : World) → Calmed w v → WhileLocked node hash b w → WhileLocked node hash b v
-  lock_calmed true w v c h = (h.0, c.locks (Node node) hash h.0 h.1)
-  lock_calmed false w v c h = tt
-
-  lock_phase : (b : Bool) (w v : World) → phase_of v (Node node) hash ≡ phase_of w (Node node) hash → WhileLocked node hash b w → WhileLocked node hash b v
-  lock_phase true w v e h = (h.0, ap locked_number e ∙ h.1)
-  lock_phase false w v e h = tt
-
-  lock_peers : {w v : World} (b : Bool) → Peers w v → WhileLocked node hash b w → WhileLocked node hash b v
-  lock_peers b none h = h
-  lock_peers {w = u} {v = w} b (peer {v = v} id g a ok e rest) h = lock_peers b rest (lock_phase b u v (peer_places u v id g a (stepped u v (Peer id) g a e) node hash) h)
-
 lock_spot : {p : Participant} {h : ServiceHash} {x : Phase} {r : Option Row} {s : Option Segment} {c : ℕ} {new : Spot} → IsRow p h act.Lock x r s c new → locked_number new.phase ≡ Some c
 lock_spot (row_locks free below) = refl
 
@@ -198,23 +182,3 @@ locked_now w v id h e = let st = stepped w v (Node id) h act.Lock e in
       | inl k ↦ ap locked_number k.2 ∙ lock_spot (row_of_step (Node id) h act.Lock (phase_of w (Node id) h) (row_of w h) (segment_of w h) w.counter st.spot st.is)
       | inr k ↦ absurd (k.0 refl refl)
     ])
-
--- Each access of such a word is calm.
-pub calm_run : {node : ℕ} {hash : ServiceHash} {b c : Bool} {word : List Letter} {w v : World} → Tame node hash b word c → Run IsFaulty w word v → WhileLocked node hash b w → Agrees w → Run CalmAccess w word v
-calm_run ends done has old = done
-calm_run {node} {hash} {b = b} {w = w} (goes {l = l} k t) (next {mid = mid} (inl a) rest) has old =
-    let at_own = lock_peers node hash b a.peers has in
-    let c = own_calmed a.between l mid k a.own in
-    next (acts a c.same) (calm_run t rest (lock_calmed node hash b a.between mid c at_own) (access_keeps w l mid a old).0)
-calm_run {node} {hash} {b = b} {w = w} (goes {l = l} k t) (next {mid = mid} (inr a) rest) has old =
-    next (refused a.0 a.1) (calm_run t rest (lock_calmed node hash b w mid (calmed_same w mid a.1) has) (faulty_keeps w l mid (inr a) old).0)
-calm_run {node} {hash} {w = w} (locks {n = n} t) (next {mid = mid} (inl a) rest) has old =
-    let k = locking a.between mid node hash n a.own in
-    let c = calmed a.between mid node hash act.Lock tt k.1 in
-    next (acts a c.same) (calm_run t rest (a.between.counter, locked_now a.between mid node hash k.1) (access_keeps w (letter.Lock node hash (Ok n)) mid a old).0)
-calm_run {node} {hash} {w = w} (locks {n = n} t) (next {mid = mid} (inr a) rest) has old = let wrong = a.0 in absurd (cc)
-calm_run {node} {hash} {w = w} (unlocks x t) (next {mid = mid} (inl a) rest) has old =
-    let at_own = lock_peers node hash true a.peers has in
-    next (acts a (own_unlocks a.between mid node hash at_own.0 x at_own.1 (peers_keep a.peers old).0 a.own)) (calm_run t rest tt (access_keeps w (letter.RemoveDescription node hash x) mid a old).0)
-calm_run {node} {hash} {w = w} (unlocks x t) (next {mid = mid} (inr a) rest) has old =
-    next (refused a.0 a.1) (calm_run t rest tt (faulty_keeps w (letter.RemoveDescription node hash x) mid (inr a) old).0)

@@ -14,7 +14,7 @@ use Rattle.iceoryx2_world.specs.Orders.{hash_total, hash_exact}
 use Rattle.iceoryx2_world.specs.World.{World, Segment, row_of, segment_of, phase_of, ticket_of, Tickets}
 use Rattle.iceoryx2_world.specs.Acts.{Act}
 use Rattle.iceoryx2_world.specs.Acts as act
-use Rattle.iceoryx2_world.specs.Steps.{Spot, spot_after, to_spot, leave_of, has_others, without_one, deserted}
+use Rattle.iceoryx2_world.specs.Steps.{Spot, spot_after, to_spot, leave_of, has_others, without_one, without_any}
 use Rattle.iceoryx2_world.specs.Across.{Agrees}
 use Rattle.iceoryx2_access.specs.Letter.{Letter}
 use Rattle.iceoryx2_access.specs.Letter as letter
@@ -37,7 +37,7 @@ own_ticket : (i : ℕ) (h : ServiceHash) (n : ℕ) → is_ticket i h n (Some (re
 own_ticket i h n = rw (self hash_total hash_exact h) (grind (arith, nat_tests))
 
 last_granted : (p : Participant) (n : ℕ) (r : Option Row) (c : ℕ) (y : Segment) → leave_of p n r (Some y) c ≡ None → ⊥
-last_granted p n r c y e = elim (has_others y) as (λ b. cond b (to_spot at.Idle r (Some (without_one p y)) c) (to_spot (at.Leaving n) r (Some (deserted y)) c) ≡ None → ⊥) [ true ↦ λ f. cc | false ↦ λ f. cc ] e
+last_granted p n r c y e = elim (has_others y) as (λ b. cond b (to_spot at.Idle r (Some (without_one p y)) c) (to_spot (at.Leaving n) r (Some (without_any y)) c) ≡ None → ⊥) [ true ↦ λ f. cc | false ↦ λ f. cc ] e
 
 leave_tests : (v : Spot) (o : Option Spot) (k : ℕ) (a b : Bool) → nat_lt 1 k ≡ a → (k == 1) ≡ b → 1 ≤ k → (o ≡ None → ⊥) → cond a (Some v) (cond b o None) ≡ None → ⊥
 leave_tests v o k true b x y some never e = cc

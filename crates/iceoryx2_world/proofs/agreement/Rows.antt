@@ -16,7 +16,7 @@ use Rattle.iceoryx2_world.specs.Orders.{hash_cmp, hash_exact}
 use Rattle.iceoryx2_world.specs.World.{Segment, begins, locked_number, is_last}
 use Rattle.iceoryx2_data.specs.Description.{Description, max_nodes_of}
 use Rattle.iceoryx2_world.specs.Acts.{Act, Read, Lock, RemoveSegment, RemoveDescription, Make, Publish, Join, Leave}
-use Rattle.iceoryx2_world.specs.Steps.{Spot, spot_after, new_segment, with_one, without_one, deserted, row_for, leave_of, has_room, has_others, fits, last_number}
+use Rattle.iceoryx2_world.specs.Steps.{Spot, spot_after, new_segment, with_one, without_one, without_any, row_for, leave_of, has_room, has_others, fits, last_number}
 
 abbrev spot : Phase → Option Row → Option Segment → ℕ → Spot
 spot x r s c = record { phase = x; row = r; segment = s; counter = c }
@@ -48,7 +48,7 @@ pub data IsRow (p : Participant) (h : ServiceHash) : Act → Phase → Option Ro
   leaves : {n k c : ℕ} {r : Option Row} {s : Segment} → k ≡ 1 → 1 < set.len s.participants
       → IsRow p h Leave (at.Joined n k) r (Some s) c (spot at.Idle r (Some (without_one p s)) c)
   leaves_last : {n k c : ℕ} {r : Option Row} {s : Segment} → k ≡ 1 → set.len s.participants ≤ 1
-      → IsRow p h Leave (at.Joined n k) r (Some s) c (spot (at.Leaving n) r (Some (deserted s)) c)
+      → IsRow p h Leave (at.Joined n k) r (Some s) c (spot (at.Leaving n) r (Some (without_any s)) c)
   clears_last : {n c : ℕ} {r : Option Row} {s : Option Segment}
       → IsRow p h RemoveSegment (at.Leaving n) r s c (spot (at.Cleared n) r None c)
   ends : {x : Phase} {c : ℕ} {r : Option Row} {s : Option Segment} → is_last x ≡ true

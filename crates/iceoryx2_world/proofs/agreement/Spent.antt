@@ -1,5 +1,5 @@
 -- A number that is spent at a service never comes back there.
-use Rattle.std.proofs.Common.{◌≡◌, ℕ, ◌⊎◌, inl, inr, List, Option, Some, None, refl, sym, ap, subst, ◌∙◌, arith}
+use Rattle.std.proofs.Common.{◌≡◌, ℕ, ◌⊎◌, inl, inr, Option, Some, None, refl, sym, ap, subst, ◌∙◌, arith}
 use Rattle.iceoryx2_data.specs.declared.description.ServiceHash.{ServiceHash}
 use Rattle.iceoryx2_world.specs.declared.world.Participant.{Participant}
 use Rattle.iceoryx2_world.specs.declared.world.Participant.TheVariants.{Node, Peer}
@@ -10,21 +10,20 @@ use Rattle.iceoryx2_world.specs.Orders.{hash_total, hash_exact}
 use Rattle.iceoryx2_world.specs.World.{World, Segment, row_of, segment_of, phase_of, locked_number}
 use Rattle.iceoryx2_world.specs.Acts.{Act, IsAct, Read, Lock, RemoveSegment, RemoveDescription, Make, Publish, Join, Leave}
 use Rattle.iceoryx2_world.specs.Acts as act
-use Rattle.iceoryx2_world.specs.Steps.{Spot, put, world_after, with_one, without_one, deserted}
+use Rattle.iceoryx2_world.specs.Steps.{Spot, put, world_after, with_one, without_one, without_any}
 use Rattle.iceoryx2_world.specs.Agreement.{AgreesEverywhere, IsSpent}
 use Rattle.iceoryx2_world.specs.Across.{Agrees}
 use Rattle.iceoryx2_access.specs.Letter.{Letter}
 use Rattle.iceoryx2_world.specs.Access.{IsOwnPart}
 use Rattle.iceoryx2_world.specs.Peers.{Peers, none, peer}
 use Rattle.iceoryx2_world.specs.Faulty.{IsFaulty}
-use Rattle.iceoryx2_access.specs.Run.{Run, done, next}
 use Rattle.iceoryx2_world.proofs.agreement.Whole.{after_keeps}
 use Rattle.iceoryx2_world.proofs.agreement.Rows.{IsRow, reads, locks, clears, makes, unmakes, unlocks, publishes, joins as adds, joins_again, leaves_once, leaves, leaves_last, clears_last, ends, row_of_step}
 use Rattle.iceoryx2_world.proofs.agreement.Maps.{set_cases}
 use Rattle.iceoryx2_world.proofs.agreement.Effects.{stepped}
 use Rattle.iceoryx2_world.proofs.agreement.Worlds.{peer_keeps}
 use Rattle.iceoryx2_world.proofs.agreement.Parts.{IsCalm, Part, stays, tagged, calm, removed, publishes, joins, releases, own_part}
-use Rattle.iceoryx2_world.proofs.agreement.Accesses.{peers_keep, faulty_keeps}
+use Rattle.iceoryx2_world.proofs.agreement.Accesses.{peers_keep}
 
 -- a segment after a step has its number from the one before, or from the lock of who acts
 abbrev pub Origin : Option ℕ → Option Segment → Option Segment → Type 0
@@ -52,7 +51,7 @@ row_segment {p} (adds {s = s} number unmarked room) = some_origin _ s (with_one 
 row_segment (joins_again below) = same_origin _ _
 row_segment (leaves_once more) = same_origin _ _
 row_segment {p} (leaves {s = s} one others) = some_origin _ s (without_one p s) refl
-row_segment (leaves_last {s = s} one alone) = some_origin _ s (deserted s) refl
+row_segment (leaves_last {s = s} one alone) = some_origin _ s (without_any s) refl
 row_segment clears_last = no_origin _ _
 row_segment (ends last) = same_origin _ _
 
@@ -114,8 +113,3 @@ spent_own w l v h n o old s = part_spent w l v h n (own_part w l v o) old s
 pub spent_access : (w : World) (l : Letter) (v : World) (h : ServiceHash) (n : ℕ) → IsFaulty w l v → Agrees w → IsSpent w h n → IsSpent v h n
 spent_access w l v h n (inl a) old s = spent_own a.between l v h n a.own (peers_keep a.peers old).0 (spent_peers h n a.peers old s)
 spent_access w l v h n (inr f) old s = spent_same w v h n f.1 s
-
--- nor does a run of accesses
-pub spent_run : {w v : World} {word : List Letter} (h : ServiceHash) (n : ℕ) → Run IsFaulty w word v → Agrees w → IsSpent w h n → IsSpent v h n
-spent_run h n done old s = s
-spent_run {w = u} {v = w} h n (next {mid = v} {letter = l} a rest) old s = spent_run h n rest (faulty_keeps u l v a old).0 (spent_access u l v h n a old s)

@@ -10,7 +10,7 @@ use Rattle.iceoryx2_world.specs.declared.world.Row.{Row}
 use Rattle.iceoryx2_world.specs.Orders.{hash_cmp, hash_total, hash_exact, place_cmp}
 use Rattle.iceoryx2_world.specs.World.{Segment}
 use Rattle.iceoryx2_world.specs.Acts as act
-use Rattle.iceoryx2_world.specs.Steps.{Spot, to_spot, leave_of, without_one, deserted}
+use Rattle.iceoryx2_world.specs.Steps.{Spot, to_spot, leave_of, without_one, without_any}
 use Rattle.iceoryx2_storage.specs.declared.table.services.Position.{Position}
 use Rattle.iceoryx2_storage.specs.Book.{Dismisses}
 use Rattle.iceoryx2_storage.proofs.Views.{kept}
@@ -104,7 +104,7 @@ returns-then-dismiss c =
     let tried = by_both _ p h act.Leave (at.Joined n k) (Some s) phase it
     ∙ ap (λ (b : Bool). counted p n k (map.get rows h) (Some s) c.self.inside.counter b (k == 1)) more
     ∙ ap (λ (b : Bool). counted p n k (map.get rows h) (Some s) c.self.inside.counter false b) one
-    ∙ ap (λ (b : Bool). if b then to_spot at.Idle (map.get rows h) (Some (without_one p s)) c.self.inside.counter else to_spot (at.Leaving n) (map.get rows h) (Some (deserted s)) c.self.inside.counter) d.0 in
+    ∙ ap (λ (b : Bool). if b then to_spot at.Idle (map.get rows h) (Some (without_one p s)) c.self.inside.counter else to_spot (at.Leaving n) (map.get rows h) (Some (without_any s)) c.self.inside.counter) d.0 in
     left p h _ (record { phase = at.Idle; row = _; segment = Some (without_one p s); counter = _ }) c.self.view_is tried refl
     (λ i. record {
       rows = kept hash_total hash_exact rows h i;
@@ -134,8 +134,8 @@ returns c =
     let tried = by_both _ p h act.Leave (at.Joined n k) (Some s) phase it
     ∙ ap (λ (b : Bool). counted p n k (map.get rows h) (Some s) c.self.inside.counter b (k == 1)) more
     ∙ ap (λ (b : Bool). counted p n k (map.get rows h) (Some s) c.self.inside.counter false b) one
-    ∙ ap (λ (b : Bool). if b then to_spot at.Idle (map.get rows h) (Some (without_one p s)) c.self.inside.counter else to_spot (at.Leaving n) (map.get rows h) (Some (deserted s)) c.self.inside.counter) d.0 in
-    left p h _ (record { phase = at.Leaving n; row = _; segment = Some (deserted s); counter = _ }) c.self.view_is tried refl
+    ∙ ap (λ (b : Bool). if b then to_spot at.Idle (map.get rows h) (Some (without_one p s)) c.self.inside.counter else to_spot (at.Leaving n) (map.get rows h) (Some (without_any s)) c.self.inside.counter) d.0 in
+    left p h _ (record { phase = at.Leaving n; row = _; segment = Some (without_any s); counter = _ }) c.self.view_is tried refl
     (λ i. record {
       rows = kept hash_total hash_exact rows h i;
       segments = (written ∙ ap (map.insert segments h) d.1) i;
