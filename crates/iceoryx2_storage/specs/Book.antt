@@ -54,7 +54,8 @@ published_number _ = None
 
 -- what a step of p at h changes, where it is allowed
 abbrev pub step_at : Book → Participant → ServiceHash → Act → Option Spot
-step_at b p h a = spot_after p h a (or_idle (map.get b.phases (p, h))) (map.get b.rows h) (map.get b.segments h) b.counter
+step_at b p h a =
+    spot_after p h a (or_idle (map.get b.phases (p, h))) (map.get b.rows h) (map.get b.segments h) b.counter
 
 abbrev pub with_spot : Book → Participant → ServiceHash → Spot → Book
 with_spot b p h s = record {
