@@ -26,13 +26,13 @@ use Rattle.iceoryx2_builder.specs.declared.builder.event.asked.Marks.{Marks}
 abbrev pub rows : Settings → Marks → Settings → List (Row EventOpenError)
 rows required marks existing =
     at_least marks.max_notifiers existing.max_notifiers required.max_notifiers
-        opening.DoesNotSupportRequestedAmountOfNotifiers ∷
+    opening.DoesNotSupportRequestedAmountOfNotifiers ∷
     at_least marks.max_listeners existing.max_listeners required.max_listeners
-        opening.DoesNotSupportRequestedAmountOfListeners ∷
+    opening.DoesNotSupportRequestedAmountOfListeners ∷
     at_least marks.event_id_max_value existing.event_id_max_value required.event_id_max_value
-        opening.DoesNotSupportRequestedMaxEventId ∷
+    opening.DoesNotSupportRequestedMaxEventId ∷
     at_least marks.max_nodes existing.max_nodes required.max_nodes
-        opening.DoesNotSupportRequestedAmountOfNodes ∷
+    opening.DoesNotSupportRequestedAmountOfNodes ∷
     []
 
 abbrev pub setting_clauses : Asked → MessagingPattern → List (Clause EventOpenError)
@@ -87,5 +87,5 @@ event_meaning asked = record {
   history_refusal = None;
   needs_clock = is_some asked.settings.deadline;
   published = λ now.
-    existing.Event (record asked.settings { deadline = option_map (deadline_at now) asked.settings.deadline });
+      existing.Event (record asked.settings { deadline = option_map (deadline_at now) asked.settings.deadline });
 }

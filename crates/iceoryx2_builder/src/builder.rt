@@ -11,9 +11,9 @@ ghost use Rattle.iceoryx2_builder.specs.declared.builder.event.asked.Asked.{Aske
 
 pub mod event;
 
+use iceoryx2_access::storage::{Service, ServiceNameHasher};
 use iceoryx2_data::config::Config;
 use iceoryx2_data::description::{ServiceHash, ServiceName};
-use iceoryx2_access::storage::{Service, ServiceNameHasher};
 use std::marker::{Model, PhantomData};
 
 /// One that creates and opens services: a number, and the settings that its builders start from.

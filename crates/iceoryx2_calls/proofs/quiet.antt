@@ -15,3 +15,4 @@ pub mod Same
 pub mod After
 pub mod Listing
 pub mod Events
+pub mod Own

@@ -20,6 +20,8 @@ ghost use Rattle.iceoryx2_world.specs.Standing.{ticket_for};
 ghost use Rattle.iceoryx2_world.specs.Listing.{Lists};
 ghost use Rattle.iceoryx2_rounds.specs.declared.pattern.OpenRefusal.TheVariants.{OutOfMemory};
 ghost use Rattle.iceoryx2_errors.specs.declared.error.CloseError.{CloseError};
+ghost use Rattle.iceoryx2_errors.specs.declared.error.EventOpenError.{EventOpenError};
+ghost use Rattle.iceoryx2_errors.specs.declared.error.EventOpenError.TheVariants as opening;
 ghost use Rattle.iceoryx2_rounds.specs.Meaning.{Meaning};
 ghost use Rattle.iceoryx2_rounds.specs.Verdict.{verdict};
 ghost use Rattle.iceoryx2_access.specs.Factory.{Factory};
@@ -79,6 +81,15 @@ pub fn quiet_laws()
     ensures events { (asked : Asked) → IsRegular (event_meaning asked) }
     ensures events_take_nodes { (asked : Asked) (now : Span)
         → 0 < max_nodes_of ((event_meaning (event_adjusted asked)).published now) }
+
+    // What a builder of events has created the same builder opens: while the service stands, with a
+    // place and a number left, an open with the same settings is Ok or wants memory.
+    ensures own_settings { (asked : Asked) (hash : ServiceHash) (name : List ℕ) (now : Result Span ClockFault)
+        (creator node : ℕ) (q p u z : Quiet) (f : Factory) (x : Service) (answer : Result Factory EventOpenError)
+        → Creates (event_meaning (event_adjusted asked)) q creator hash name now (Ok f) p
+        → service_of u hash ≡ Some x → x.description ≡ f.description → HasPlace x node → HasNumber u
+        → Opens (event_meaning asked) u node hash answer z
+        → IfErr answer (λ e. e ≡ opening.OutOfMemory) }
 {}
 
 /// What holds of the calls of each pattern over such a table.

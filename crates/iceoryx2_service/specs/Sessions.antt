@@ -29,7 +29,8 @@ pub record SessionState : Type 0 where
   pub slots : List (Option Factory)
 
 -- A builder call goes along a word of its grammar, with that answer.
-abbrev pub Builds : BuilderCall → How → Result Span ClockFault → TableState → Result Factory Refusal → TableState → Type 0
+abbrev pub Builds
+    : BuilderCall → How → Result Span ClockFault → TableState → Result Factory Refusal → TableState → Type 0
 Builds b how.Create now s answer t =
     (a : Result Factory b.create_error) × (answer ≡ with_refusal b.refusal_of_create a)
     × Joins IsTableAccess s (λ word. IsCreateWord b.creating b.node b.hash b.name now word a) t

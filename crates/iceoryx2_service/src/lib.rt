@@ -2,13 +2,15 @@
 #![tactic(auto)]
 
 pub mod command;
+pub mod description;
 mod events;
 mod open_service;
 pub mod session;
 mod slots;
+pub mod table;
 
+pub use iceoryx2_access::storage;
 pub use iceoryx2_builder::builder;
 pub use iceoryx2_calls::{laws, quiet_laws};
-pub use iceoryx2_data as data;
-pub use iceoryx2_rounds as rounds;
-pub use iceoryx2_storage as storage;
+pub use iceoryx2_data::bytes;
+pub use iceoryx2_rounds::port_factory;

@@ -5,7 +5,7 @@ ghost use Rattle.iceoryx2_service.specs.Patterns.{builder_call};
 ghost use Rattle.iceoryx2_service.specs.Sessions.{Builds, ClosesSlot};
 ghost use Rattle.iceoryx2_service.specs.Slots.{slot_count};
 
-use crate::command::{Call, Command, Refusal, Reply, Settings};
+pub use crate::command::{Call, Command, EventSetting, How, Refusal, Reply, Settings};
 use crate::events;
 use crate::open_service::OpenService;
 use crate::slots::{SLOTS, Slots};

@@ -4,6 +4,10 @@
 #[cfg(test)]
 mod events;
 #[cfg(test)]
+mod names;
+#[cfg(test)]
+mod readme;
+#[cfg(test)]
 mod sessions;
 #[cfg(test)]
 mod support;

@@ -2,7 +2,7 @@
 
 use crate::support::*;
 use iceoryx2_data::config::Config;
-use iceoryx2_data::time::Time;
+use iceoryx2_data::time::{ClockFault, Duration, Time};
 use iceoryx2_rounds::error::{EventCreateError, EventOpenError};
 use iceoryx2_service::command::{Call, Command, EventSetting, How, Refusal, Reply, Settings};
 use iceoryx2_service::session::Session;
@@ -122,5 +122,70 @@ fn settings_are_set_in_order(rt: HostRuntime) -> Result<(), Fail> {
         panic!(rt; "no segment")
     };
     assert_eq!(rt; segment.max_nodes, 2);
+    Ok(())
+}
+
+/// A call of node 2 for this service into a slot, with one setting.
+fn call_with(
+    rt: &impl Abort,
+    alloc: Global,
+    how: How,
+    slot: usize,
+    text: &str,
+    setting: EventSetting,
+) -> Command {
+    let mut settings = Vec::new(alloc);
+    let Ok(()) = settings.push(setting) else {
+        panic!(rt; "no memory")
+    };
+    Command::Call(Call {
+        how,
+        node: 2,
+        slot,
+        name: name(rt, alloc, text),
+        settings: Settings::Event(settings),
+        now: Ok(Time::default()),
+    })
+}
+
+/// What creates and opens answer that are refused, each for its own reason.
+fn refusals(rt: &impl Abort, alloc: Global) -> [Reply; 6] {
+    let mut config = Config::default();
+    config.event.deadline = Duration::new(1, 0);
+    let mut session = Session::new(config, Table::new(alloc));
+    let clock_fails = Call {
+        how: How::Create,
+        node: 1,
+        slot: 1,
+        name: name(rt, alloc, "a"),
+        settings: Settings::Event(Vec::new(alloc)),
+        now: Err(ClockFault),
+    };
+    let missing = apply(&mut session, call(rt, alloc, How::Open, 1, 0, "a"));
+    let untimed = apply(&mut session, Command::Call(clock_fails));
+    let made = EventSetting::MaxNodes(1);
+    let made = apply(
+        &mut session,
+        call_with(rt, alloc, How::Create, 0, "a", made),
+    );
+    let there = apply(&mut session, call(rt, alloc, How::Create, 1, 1, "a"));
+    let small = EventSetting::MaxNodes(2);
+    let small = apply(&mut session, call_with(rt, alloc, How::Open, 1, "a", small));
+    let full = apply(&mut session, call(rt, alloc, How::Open, 1, 1, "a"));
+    let _table = session.finish();
+    [missing, untimed, made, there, small, full]
+}
+
+#[test]
+fn each_refusal_has_its_own_name(rt: HostRuntime) -> Result<(), Fail> {
+    let wanted = [
+        Reply::Refused(Refusal::EventOpen(EventOpenError::DoesNotExist)),
+        Reply::Refused(Refusal::EventCreate(EventCreateError::InternalFailure)),
+        Reply::Opened { slot: 0, number: 0 },
+        Reply::Refused(Refusal::EventCreate(EventCreateError::AlreadyExists)),
+        Reply::Refused(Refusal::EventOpen(EventOpenError::DoesNotSupportRequestedAmountOfNodes)),
+        Reply::Refused(Refusal::EventOpen(EventOpenError::ExceedsMaxNumberOfNodes)),
+    ];
+    assert_eq!(rt; refusals(&rt, rt.alloc()), wanted);
     Ok(())
 }

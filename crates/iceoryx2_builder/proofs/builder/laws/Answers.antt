@@ -1,6 +1,5 @@
-use Rattle.std.proofs.Common.{refl}
 use Rattle.iceoryx2_builder.proofs.OwnSettings.{own_settings}
 use Rattle.iceoryx2_builder.proofs.builder.laws.Goals as goal
 
 pub returns : goal.returns
-returns c = λ asked hash name now. record { fits = refl; accepted = own_settings asked hash name now }
+returns c = λ asked hash name now. own_settings asked hash name now

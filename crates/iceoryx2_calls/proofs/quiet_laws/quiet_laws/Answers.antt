@@ -3,6 +3,9 @@ use Rattle.iceoryx2_calls.proofs.quiet.Tickets.{has_opened}
 use Rattle.iceoryx2_calls.proofs.quiet.Same.{holds_the_same, nothing_at, tickets_counted, tags_counted, all_gone}
 use Rattle.iceoryx2_calls.proofs.quiet.Listing.{lists_the_machine}
 use Rattle.iceoryx2_calls.proofs.quiet.Events.{event_is_regular, event_takes_nodes}
+use Rattle.iceoryx2_builder.proofs.OwnSettings.{own_settings}
+use Rattle.iceoryx2_builder.specs.Event.{event_meaning, event_adjusted}
+use Rattle.iceoryx2_calls.proofs.quiet.Own.{opens_own}
 use Rattle.iceoryx2_calls.proofs.quiet_laws.quiet_laws.Goals as goal
 
 pub returns-clause-empty : goal.returns-clause-empty
@@ -37,3 +40,7 @@ returns-clause-events c = λ asked. event_is_regular asked
 
 pub returns-clause-events_take_nodes : goal.returns-clause-events_take_nodes
 returns-clause-events_take_nodes c = λ asked now. event_takes_nodes asked now
+
+pub returns-clause-own_settings : goal.returns-clause-own_settings
+returns-clause-own_settings c = λ asked hash name now creator node q p u z f x answer made there same place room opened.
+    opens_own (event_meaning (event_adjusted asked)) (event_meaning asked) hash name now (own_settings asked hash name now) creator node q p u z f x answer made there same place room opened

@@ -1,0 +1,5 @@
+//! A table within one process, its readers' answers, and services that stand in it.
+
+pub use iceoryx2_storage::local::Local;
+pub use iceoryx2_storage::table::Table;
+pub use iceoryx2_world::listing::{Entry, ListedRow, ListedSegment};
