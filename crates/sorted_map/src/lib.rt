@@ -256,6 +256,7 @@ impl<K: Ord + Copy, V: Drop> SortedVec<K, V> {
     }
 
     /// Takes all out.
+    #[tactic(auto, using(crate::proofs::Maps::from_nil))]
     pub fn clear(&mut self)
         ensures effect { map_of K.cmp self.new ≡ map.empty }
         ensures capacity { self.new.capacity ≡ self.old.capacity }
