@@ -399,12 +399,8 @@ impl Services {
                 if count >= u64::MAX {
                     return Ok(false);
                 }
-                set_phase(
-                    &mut self.phases,
-                    key,
-                    position.place,
-                    Phase::Joined(number, count + 1),
-                );
+                let phase = Phase::Joined(number, count + 1);
+                set_phase(&mut self.phases, key, position.place, phase);
                 Ok(true)
             }
             Phase::Read(number) => {
@@ -414,12 +410,8 @@ impl Services {
                 match segment.admit(number, participant) {
                     Ok(admitted) => {
                         if admitted {
-                            set_phase(
-                                &mut self.phases,
-                                key,
-                                position.place,
-                                Phase::Joined(number, 1),
-                            );
+                            let phase = Phase::Joined(number, 1);
+                            set_phase(&mut self.phases, key, position.place, phase);
                             return Ok(true);
                         }
                         Ok(false)
@@ -440,12 +432,8 @@ impl Services {
             return None;
         };
         if count > 1 {
-            set_phase(
-                &mut self.phases,
-                key,
-                position.place,
-                Phase::Joined(number, count - 1),
-            );
+            let phase = Phase::Joined(number, count - 1);
+            set_phase(&mut self.phases, key, position.place, phase);
             return Some(Release::StillCounted);
         }
         if count == 0 {

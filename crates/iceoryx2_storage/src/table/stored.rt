@@ -274,14 +274,12 @@ impl StoredWorld {
             return Err(PublishError::Other);
         }
         let ticket = number;
-        self.tickets.insert(
-            ticket,
-            Ticket {
-                node,
-                hash: *hash,
-                number,
-            },
-        );
+        let held = Ticket {
+            node,
+            hash: *hash,
+            number,
+        };
+        self.tickets.insert(ticket, held);
         Ok(ticket)
     }
 
@@ -312,14 +310,12 @@ impl StoredWorld {
             return Err(OpenSegmentError::Failed);
         }
         let ticket = self.services.next_number();
-        self.tickets.insert(
-            ticket,
-            Ticket {
-                node,
-                hash: *hash,
-                number,
-            },
-        );
+        let held = Ticket {
+            node,
+            hash: *hash,
+            number,
+        };
+        self.tickets.insert(ticket, held);
         Ok(ticket)
     }
 
