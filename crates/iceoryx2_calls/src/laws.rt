@@ -18,7 +18,7 @@ ghost use Rattle.iceoryx2_errors.specs.declared.error.CloseError.TheVariants.{No
 ghost use Rattle.iceoryx2_rounds.specs.Closes.{IsCloseWord};
 ghost use Rattle.iceoryx2_rounds.specs.Counts.{IsWithin};
 ghost use Rattle.iceoryx2_rounds.specs.Creates.{IsCreateWord, description_of};
-ghost use Rattle.iceoryx2_rounds.specs.Keeps.{GivesAllBack, Keeps, NoLock, NoTag, no_tag};
+ghost use Rattle.iceoryx2_rounds.specs.Keeps.{GivesAllBack, Keeps, NoLock, NoTag, no_own_tag};
 ghost use Rattle.iceoryx2_rounds.specs.Opens.{IsOpenWord};
 ghost use Rattle.iceoryx2_rounds.specs.Verdict.{verdict};
 ghost use Rattle.iceoryx2_calls.specs.Calls.{Throughout, AtEach, ActsCalmly, ChangesLast};
@@ -140,7 +140,7 @@ pub fn agreement<P: Pattern>()
     ensures refused_open_leaves { (p : P) (node : ℕ) (hash : ServiceHash) (word : List Letter) (error : P.OpenError)
         (w v : World)
         → IsOpenWord (P.meaning p) node hash word (Err error) → Run IsFaulty w word v → Agrees w
-        → (is_left : Bool) × Keeps node hash no_tag NoLock word (NoTag is_left) NoLock
+        → (is_left : Bool) × Keeps node hash no_own_tag NoLock word (NoTag is_left) NoLock
         × Leaves node hash is_left NoLock w v }
 
     // Where nothing is refused by a fault, each removal of a refused create answers Ok, whatever peers

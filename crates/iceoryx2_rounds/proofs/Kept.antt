@@ -21,7 +21,7 @@ use Rattle.iceoryx2_rounds.specs.Creates.{IsEntryWord, IsServiceWord, IsCreating
 use Rattle.iceoryx2_rounds.specs.Opens as opens
 use Rattle.iceoryx2_rounds.specs.Opens.{IsReady, ready, IsFailedRound, failed, IsLastRound, AreFailedRounds, no_round, one_more, IsOpenWord, ended, all_failed}
 use Rattle.iceoryx2_rounds.specs.Keeps as keeps
-use Rattle.iceoryx2_rounds.specs.Keeps.{KeptTag, NoTag, KeptLock, NoLock, Locked, WithSegment, GivenBack, HasService, IsUnlocked, no_tag, with_tag, Keeps, ends, makes_tag, locks, makes_segment, publishes, removes_segment, unlocks, removes_tag, clears, goes_on, GivesAllBack}
+use Rattle.iceoryx2_rounds.specs.Keeps.{KeptTag, NoTag, KeptLock, NoLock, Locked, WithSegment, GivenBack, HasService, IsUnlocked, no_own_tag, with_tag, Keeps, ends, makes_tag, locks, makes_segment, publishes, removes_segment, unlocks, removes_tag, clears, goes_on, GivesAllBack}
 
 module _ (node : ℕ) (hash : ServiceHash) where
   -- a word from here after which the tag is given back, or left
@@ -85,13 +85,13 @@ module _ {node : ℕ} {hash : ServiceHash} where
   leaves : {is_left : Bool} {w : List Letter} → Keeps node hash (NoTag is_left) NoLock w (NoTag is_left) NoLock → Untags node hash (NoTag is_left) NoLock NoLock w
   leaves {is_left} p = record { is_left = is_left; keeps = p }
 
-  nothing_returns : {w : List Letter} → Keeps node hash no_tag NoLock w no_tag NoLock → Returns node hash no_tag NoLock w
+  nothing_returns : {w : List Letter} → Keeps node hash no_own_tag NoLock w no_own_tag NoLock → Returns node hash no_own_tag NoLock w
   nothing_returns p = record { lock = NoLock; is_unlocked = tt; tag = leaves p }
 
-  lock_returns : (tag : Tag) {n : ℕ} {is_segment_left : Bool} {w : List Letter} → GivesBack node hash (OwnLock ∷ own_tag tag) w → Returns node hash (with_tag no_tag tag) (Locked n is_segment_left) w
+  lock_returns : (tag : Tag) {n : ℕ} {is_segment_left : Bool} {w : List Letter} → GivesBack node hash (OwnLock ∷ own_tag tag) w → Returns node hash (with_tag no_own_tag tag) (Locked n is_segment_left) w
   lock_returns tag (lock_back answer b) = unlocked_returns tt (then_untags (unlocks answer ends) (tag_returns tag false tt b))
 
-  segment_returns : (tag : Tag) {n : ℕ} {w : List Letter} → GivesBack node hash (OwnSegment ∷ OwnLock ∷ own_tag tag) w → Returns node hash (with_tag no_tag tag) (WithSegment n) w
+  segment_returns : (tag : Tag) {n : ℕ} {w : List Letter} → GivesBack node hash (OwnSegment ∷ OwnLock ∷ own_tag tag) w → Returns node hash (with_tag no_own_tag tag) (WithSegment n) w
   segment_returns tag (segment_back answer b) = then_returns (removes_segment answer ends) (lock_returns tag b)
 
 module _ {F E C : Type 0} {m : Meaning F E C} {node : ℕ} {hash : ServiceHash} where
@@ -100,22 +100,22 @@ module _ {F E C : Type 0} {m : Meaning F E C} {node : ℕ} {hash : ServiceHash} 
   look_keeps broken = goes_on keeps.looks ends
   look_keeps (fetched there read) = goes_on keeps.looks (goes_on keeps.fetches ends)
 
-  entry_kept : {w : List Letter} {tag : Tag} → IsEntryWord m node hash w (Ok tag) → Keeps node hash no_tag NoLock w (with_tag no_tag tag) NoLock
+  entry_kept : {w : List Letter} {tag : Tag} → IsEntryWord m node hash w (Ok tag) → Keeps node hash no_own_tag NoLock w (with_tag no_own_tag tag) NoLock
   entry_kept (entered tag l) = then_keeps (look_keeps l) (goes_on keeps.asks (tag_kept tag ends))
 
-  entry_refused : {w : List Letter} {error : C} → IsEntryWord m node hash w (Err error) → Keeps node hash no_tag NoLock w no_tag NoLock
+  entry_refused : {w : List Letter} {error : C} → IsEntryWord m node hash w (Err error) → Keeps node hash no_own_tag NoLock w no_own_tag NoLock
   entry_refused (creates.look_faulty l) = look_keeps l
   entry_refused (creates.look_found l) = look_keeps l
   entry_refused (counted l) = then_keeps (look_keeps l) (goes_on keeps.asks ends)
   entry_refused (no_copies l) = then_keeps (look_keeps l) (goes_on keeps.asks ends)
   entry_refused (creates.no_tag e l) = then_keeps (look_keeps l) (goes_on keeps.asks (goes_on keeps.gets_no_tag ends))
 
-  service_returns : {d : Description} {tag : Tag} {w : List Letter} {error : C} → IsServiceWord m node hash d tag w (Err error) → Returns node hash (with_tag no_tag tag) NoLock w
+  service_returns : {d : Description} {tag : Tag} {w : List Letter} {error : C} → IsServiceWord m node hash d tag w (Err error) → Returns node hash (with_tag no_own_tag tag) NoLock w
   service_returns {tag = tag} (not_locked e b) = unlocked_returns tt (then_untags (goes_on keeps.gets_no_lock ends) (tag_returns tag false tt b))
   service_returns {tag = tag} (no_segment s b) = then_returns (locks (segment_refused s)) (lock_returns tag b)
   service_returns {tag = tag} (not_published e s b) = then_returns (locks (segment_kept s)) (then_returns (goes_on keeps.publishes_nothing ends) (segment_returns tag b))
 
-  create_returns : {stops : Bool} {d : Description} {w : List Letter} {error : C} → IsCreating m node hash stops d w (Err error) → Returns node hash no_tag NoLock w
+  create_returns : {stops : Bool} {d : Description} {w : List Letter} {error : C} → IsCreating m node hash stops d w (Err error) → Returns node hash no_own_tag NoLock w
   create_returns (forbidden _) = nothing_returns ends
   create_returns (not_entered _ e) = nothing_returns (entry_refused e)
   create_returns (clock_fault {tag} _ _ e b) = unlocked_returns tt (then_untags (entry_kept e) (tag_returns tag false tt b))
@@ -129,7 +129,7 @@ module _ {F E C : Type 0} {m : Meaning F E C} {node : ℕ} {hash : ServiceHash} 
   service_kept : {d : Description} {tag : Tag} {w : List Letter} {r : Factory} {t : KeptTag} → IsServiceWord m node hash d tag w (Ok r) → Keeps node hash t NoLock w t (HasService r.number)
   service_kept (published n k s) = locks (then_keeps (segment_kept s) (publishes ends))
 
-  pub created_keeps : {stops : Bool} {d : Description} {w : List Letter} {r : Factory} → IsCreating m node hash stops d w (Ok r) → (tag : Tag) × Keeps node hash no_tag NoLock w (with_tag no_tag tag) (HasService r.number)
+  pub created_keeps : {stops : Bool} {d : Description} {w : List Letter} {r : Factory} → IsCreating m node hash stops d w (Ok r) → (tag : Tag) × Keeps node hash no_own_tag NoLock w (with_tag no_own_tag tag) (HasService r.number)
   created_keeps (made {tag} _ _ e s) = (tag, then_keeps (entry_kept e) (service_kept s))
 
   ready_kept : {n : ℕ} {d : Description} {tag : Tag} {w : List Letter} {is_left : Bool} → IsReady m node hash n d tag w → Keeps node hash (NoTag is_left) NoLock w (with_tag (NoTag is_left) tag) NoLock
@@ -152,12 +152,12 @@ module _ {F E C : Type 0} {m : Meaning F E C} {node : ℕ} {hash : ServiceHash} 
   last_leaves is_left (opens.then_faulty {tag = tag} r l b) = then_untags (ready_kept r) (looks_again tag is_left l b)
   last_leaves is_left (opens.then_none {tag = tag} r l b) = then_untags (ready_kept r) (looks_again tag is_left l b)
 
-  rounds_leave : {k : ℕ} {w : List Letter} → AreFailedRounds m node hash k w → Untags node hash no_tag NoLock NoLock w
+  rounds_leave : {k : ℕ} {w : List Letter} → AreFailedRounds m node hash k w → Untags node hash no_own_tag NoLock NoLock w
   rounds_leave no_round = leaves ends
   rounds_leave (one_more before r) = let first = rounds_leave before in then_untags first.keeps (failed_leaves first.is_left r)
 
   -- a refused open gives back what it made
-  pub refused_open_keeps : {w : List Letter} {error : E} → IsOpenWord m node hash w (Err error) → (is_left : Bool) × Keeps node hash no_tag NoLock w (NoTag is_left) NoLock
+  pub refused_open_keeps : {w : List Letter} {error : E} → IsOpenWord m node hash w (Err error) → (is_left : Bool) × Keeps node hash no_own_tag NoLock w (NoTag is_left) NoLock
   refused_open_keeps (ended small before l) = let first = rounds_leave before in let u = then_untags first.keeps (last_leaves first.is_left l) in (u.is_left, u.keeps)
   refused_open_keeps (all_failed before) = let u = rounds_leave before in (u.is_left, u.keeps)
 
@@ -165,5 +165,5 @@ module _ {F E C : Type 0} {m : Meaning F E C} {node : ℕ} {hash : ServiceHash} 
   last_kept is_left (opens.opened {tag = tag} t r) = (tag, then_keeps (ready_kept r) (keeps.opens ends))
 
   -- an open that succeeds keeps at most the tag of its last round
-  pub opened_keeps : {w : List Letter} {r : Factory} → IsOpenWord m node hash w (Ok r) → (is_left : Bool) × (tag : Tag) × Keeps node hash no_tag NoLock w (with_tag (NoTag is_left) tag) (HasService r.number)
+  pub opened_keeps : {w : List Letter} {r : Factory} → IsOpenWord m node hash w (Ok r) → (is_left : Bool) × (tag : Tag) × Keeps node hash no_own_tag NoLock w (with_tag (NoTag is_left) tag) (HasService r.number)
   opened_keeps (ended small before l) = let first = rounds_leave before in let last = last_kept first.is_left l in (first.is_left, last.0, then_keeps first.keeps last.1)

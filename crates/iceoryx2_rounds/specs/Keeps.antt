@@ -21,7 +21,7 @@ pub data KeptTag : Type 0 where
   -- it has none of its own, but what a refused removal left of one
   NoTag : (is_left : Bool) → KeptTag
   -- it has made one
-  OwnTag : KeptTag
+  HasTag : KeptTag
 
 -- The call's lock, and the segment under it: locked first and given back last.
 pub data KeptLock : Type 0 where
@@ -43,12 +43,12 @@ IsUnlocked (GivenBack n is_lock_left is_segment_left) = Unit {0}
 IsUnlocked _ = ⊥
 
 -- nothing is made yet
-abbrev pub no_tag : KeptTag
-no_tag = NoTag false
+abbrev pub no_own_tag : KeptTag
+no_own_tag = NoTag false
 
 -- a tag that was there isn't the call's own
 abbrev pub with_tag : KeptTag → Tag → KeptTag
-with_tag s tag.Made = OwnTag
+with_tag s tag.Made = HasTag
 with_tag s tag.Found = s
 
 module _ (node : ℕ) (hash : ServiceHash) where
@@ -70,7 +70,7 @@ module _ (node : ℕ) (hash : ServiceHash) where
   -- is left where that is refused is remembered. A segment of another is removed right after it was found.
   pub data Keeps : KeptTag → KeptLock → List Letter → KeptTag → KeptLock → Type 0 where
     ends : {t : KeptTag} {k : KeptLock} → Keeps t k [] t k
-    makes_tag : {is_left : Bool} {t : KeptTag} {k : KeptLock} {word : List Letter} → Keeps OwnTag NoLock word t k
+    makes_tag : {is_left : Bool} {t : KeptTag} {k : KeptLock} {word : List Letter} → Keeps HasTag NoLock word t k
         → Keeps (NoTag is_left) NoLock (MakeTag node hash (Ok tag.Made) ∷ word) t k
     locks : {s t : KeptTag} {k : KeptLock} {word : List Letter} {number : ℕ} → Keeps s (Locked number false) word t k
         → Keeps s NoLock (Lock node hash (Ok number) ∷ word) t k
@@ -90,7 +90,7 @@ module _ (node : ℕ) (hash : ServiceHash) where
         → Keeps s (Locked number is_segment_left) (RemoveDescription node hash answer ∷ word) t k
     removes_tag : {t : KeptTag} {j k : KeptLock} {word : List Letter}
         (answer : Result (Unit {0}) RemoveError) → IsUnlocked j → Keeps (NoTag (is_err answer)) j word t k
-        → Keeps OwnTag j (RemoveTag node hash answer ∷ word) t k
+        → Keeps HasTag j (RemoveTag node hash answer ∷ word) t k
     clears : {s t : KeptTag} {k : KeptLock} {word : List Letter} {number max_nodes : ℕ}
         {answer : Result (Unit {0}) RemoveError} → Keeps s (Locked number false) word t k
         → Keeps s (Locked number false)
@@ -104,4 +104,4 @@ module _ (node : ℕ) (hash : ServiceHash) where
     pub is_tag_left : Bool
     pub lock : KeptLock
     pub is_unlocked : IsUnlocked lock
-    pub keeps : Keeps no_tag NoLock word (NoTag is_tag_left) lock
+    pub keeps : Keeps no_own_tag NoLock word (NoTag is_tag_left) lock

@@ -12,7 +12,7 @@ ghost use Rattle.iceoryx2_errors.specs.declared.error.CloseError.TheVariants.{No
 ghost use Rattle.iceoryx2_rounds.specs.Closes.{IsCloseWord};
 ghost use Rattle.iceoryx2_rounds.specs.Counts.{IsWithin};
 ghost use Rattle.iceoryx2_rounds.specs.Creates.{IsCreateWord, description_of};
-ghost use Rattle.iceoryx2_rounds.specs.Keeps.{GivesAllBack, HasService, Keeps, NoLock, NoTag, no_tag, with_tag};
+ghost use Rattle.iceoryx2_rounds.specs.Keeps.{GivesAllBack, HasService, Keeps, NoLock, NoTag, no_own_tag, with_tag};
 ghost use Rattle.iceoryx2_rounds.specs.Opens.{IsOpenWord};
 ghost use Rattle.iceoryx2_access.specs.Factory.{Factory};
 ghost use Rattle.iceoryx2_rounds.specs.Segments.{IsSegmentWord};
@@ -65,7 +65,7 @@ pub fn refused_create_gives_back<P: Pattern>()
 pub fn refused_open_gives_back<P: Pattern>()
     ensures { (p : P) (node : ℕ) (hash : ServiceHash) (word : List Letter) (error : P.OpenError)
         → IsOpenWord (P.meaning p) node hash word (Err error)
-        → (is_left : Bool) × Keeps node hash no_tag NoLock word (NoTag is_left) NoLock }
+        → (is_left : Bool) × Keeps node hash no_own_tag NoLock word (NoTag is_left) NoLock }
 {}
 
 /// A create that succeeds keeps its segment and its lock, under whose number the description now
@@ -74,7 +74,7 @@ pub fn create_keeps_what_it_made<P: Pattern>()
     ensures { (p : P) (node : ℕ) (hash : ServiceHash) (name : List ℕ) (now : Result Span ClockFault)
         (word : List Letter) (r : Factory)
         → IsCreateWord (P.meaning p) node hash name now word (Ok r)
-        → (tag : Tag) × Keeps node hash no_tag NoLock word (with_tag no_tag tag) (HasService r.number) }
+        → (tag : Tag) × Keeps node hash no_own_tag NoLock word (with_tag no_own_tag tag) (HasService r.number) }
 {}
 
 /// An open that succeeds keeps the tag of its last round, which may have been there, and has given
@@ -83,7 +83,7 @@ pub fn open_keeps_its_tag<P: Pattern>()
     ensures { (p : P) (node : ℕ) (hash : ServiceHash) (word : List Letter) (r : Factory)
         → IsOpenWord (P.meaning p) node hash word (Ok r)
         → (is_left : Bool) × (tag : Tag)
-        × Keeps node hash no_tag NoLock word (with_tag (NoTag is_left) tag) (HasService r.number) }
+        × Keeps node hash no_own_tag NoLock word (with_tag (NoTag is_left) tag) (HasService r.number) }
 {}
 
 /// A create that succeeds carries its node and what it published.

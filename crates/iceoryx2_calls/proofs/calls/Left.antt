@@ -37,7 +37,7 @@ use Rattle.iceoryx2_world.proofs.agreement.Granted.{peers_phase, tag_granted, se
 use Rattle.iceoryx2_world.proofs.agreement.Spent.{world_segment, spent_own, spent_peers}
 use Rattle.iceoryx2_world.proofs.agreement.Stands.{own_row, own_phase, own_segment}
 use Rattle.iceoryx2_rounds.specs.Keeps as keeps
-use Rattle.iceoryx2_rounds.specs.Keeps.{KeptTag, NoTag, OwnTag, KeptLock, NoLock, Locked, WithSegment, GivenBack, HasService, IsUnlocked, MakesNothing, Keeps, GivesAllBack}
+use Rattle.iceoryx2_rounds.specs.Keeps.{KeptTag, NoTag, HasTag, KeptLock, NoLock, Locked, WithSegment, GivenBack, HasService, IsUnlocked, MakesNothing, Keeps, GivesAllBack}
 use Rattle.iceoryx2_calls.specs.Leaves.{IsGranted, HasAtMostRead, LacksRow, LacksSegment, NodeHasRead, Leaves, LeavesOfLock, LeavesNothing, SpendsNumber, tags_after}
 use Rattle.iceoryx2_calls.proofs.calls.Plain.{IsPlain, Untouched, plain_untouched, read_both, step_tags, row_stays_away}
 
@@ -120,7 +120,7 @@ module _ (node : ℕ) (hash : ServiceHash) where
   abbrev HoldsTag : KeptTag → set.FinSet tag_cmp → set.FinSet tag_cmp → Type 0
   HoldsTag (NoTag false) old new = new ≡ old
   HoldsTag (NoTag true) old new = (new ≡ set.insert old (node, hash)) × (set.contains old (node, hash) ≡ false)
-  HoldsTag OwnTag old new = (new ≡ set.insert old (node, hash)) × (set.contains old (node, hash) ≡ false)
+  HoldsTag HasTag old new = (new ≡ set.insert old (node, hash)) × (set.contains old (node, hash) ≡ false)
 
   -- What a call that began at the first world has made of the second.
   record Kept (start : World) (t : KeptTag) (k : KeptLock) (w : World) : Type 0 where
@@ -252,7 +252,7 @@ module _ (node : ℕ) (hash : ServiceHash) where
   has_own : (tags : set.FinSet tag_cmp) → set.contains (set.insert tags (node, hash)) (node, hash) ≡ true
   has_own tags = set_has tag_total tag_exact tags (node, hash)
 
-  tag_of_kept : (left : Bool) (old now : set.FinSet tag_cmp) → HoldsTag node hash (NoTag left) old now → set.contains now (node, hash) ≡ false → HoldsTag node hash OwnTag old (set.insert now (node, hash))
+  tag_of_kept : (left : Bool) (old now : set.FinSet tag_cmp) → HoldsTag node hash (NoTag left) old now → set.contains now (node, hash) ≡ false → HoldsTag node hash HasTag old (set.insert now (node, hash))
   tag_of_kept false old now h lacks = (ap (λ s. set.insert s (node, hash)) h, ap (λ s. set.contains s (node, hash)) (sym h) ∙ lacks)
   tag_of_kept true old now h lacks = let has = ap (λ s. set.contains s (node, hash)) h.0 ∙ has_own old in absurd (cc)
 
@@ -330,23 +330,23 @@ module _ (node : ℕ) (hash : ServiceHash) where
     holds = holds_tags k w v tags e h.holds;
   }
 
-  kept_tags : {start : World} (left : Bool) (w v : World) → IsFaulty w (letter.MakeTag node hash (Ok Made)) v → Agrees w → Kept node hash start (NoTag left) NoLock w → Kept node hash start OwnTag NoLock v
+  kept_tags : {start : World} (left : Bool) (w v : World) → IsFaulty w (letter.MakeTag node hash (Ok Made)) v → Agrees w → Kept node hash start (NoTag left) NoLock w → Kept node hash start HasTag NoLock v
   kept_tags {start} left w v x old h =
       let a = granted w (letter.MakeTag node hash (Ok Made)) v (λ e. cc) x in
       let u = a.between in
       let now = kept_peers node hash (NoTag left) NoLock a.peers old h in
       let p = a.own in
       let made = tag_put u v node hash (seat u node hash).tag p.change refl p.own p.is in
-      kept_other_tags (NoTag left) OwnTag NoLock u v (set.insert u.tags (node, hash)) made.1 (tag_of_kept left start.tags u.tags now.tags made.0) now
+      kept_other_tags (NoTag left) HasTag NoLock u v (set.insert u.tags (node, hash)) made.1 (tag_of_kept left start.tags u.tags now.tags made.0) now
 
-  kept_untags : {start : World} (k : KeptLock) (y : Unit {0}) (w v : World) → IsFaulty w (letter.RemoveTag node hash (Ok y)) v → Agrees w → Kept node hash start OwnTag k w → Kept node hash start (NoTag false) k v
+  kept_untags : {start : World} (k : KeptLock) (y : Unit {0}) (w v : World) → IsFaulty w (letter.RemoveTag node hash (Ok y)) v → Agrees w → Kept node hash start HasTag k w → Kept node hash start (NoTag false) k v
   kept_untags {start} k y w v x old h =
       let a = granted w (letter.RemoveTag node hash (Ok y)) v (λ e. cc) x in
       let u = a.between in
-      let now = kept_peers node hash OwnTag k a.peers old h in
+      let now = kept_peers node hash HasTag k a.peers old h in
       let p = a.own in
       let is : v ≡ record u { tags = set.remove u.tags (node, hash) } = p.is ∙ ap (write u node hash) p.own.1 in
-      kept_other_tags OwnTag (NoTag false) k u v (set.remove u.tags (node, hash)) is (ap (λ s. set.remove s (node, hash)) now.tags.0 ∙ back start.tags (node, hash) now.tags.1) now
+      kept_other_tags HasTag (NoTag false) k u v (set.remove u.tags (node, hash)) is (ap (λ s. set.remove s (node, hash)) now.tags.0 ∙ back start.tags (node, hash) now.tags.1) now
 
 -- what a refused removal leaves is remembered
 module _ {node : ℕ} {hash : ServiceHash} {start w : World} where
@@ -356,7 +356,7 @@ module _ {node : ℕ} {hash : ServiceHash} {start w : World} where
   with_left_lock : (t : KeptTag) (n : ℕ) (l : Bool) → Kept node hash start t (Locked n l) w → Kept node hash start t (GivenBack n true l) w
   with_left_lock t n l h = record { tickets = h.tickets; tags = h.tags; phase = h.phase; holds = h.holds }
 
-  with_left_tag : (k : KeptLock) → Kept node hash start OwnTag k w → Kept node hash start (NoTag true) k w
+  with_left_tag : (k : KeptLock) → Kept node hash start HasTag k w → Kept node hash start (NoTag true) k w
   with_left_tag k h = record { tickets = h.tickets; tags = h.tags; phase = h.phase; holds = h.holds }
 
 -- who has the service keeps it
@@ -390,7 +390,7 @@ kept_run {node} {hash} {w = w} (keeps.unlocks {s = s} {number = n} {is_segment_l
 kept_run {node} {hash} {w = w} (keeps.removes_tag {j = j} (Ok y) _ p) free (next {mid = mid} x rest) old h =
     kept_run p free rest (faulty_keeps w (letter.RemoveTag node hash (Ok y)) mid x old).0 (kept_untags node hash j y w mid x old h)
 kept_run {node} {hash} {w = w} (keeps.removes_tag {j = j} (Err e) _ p) free (next {mid = mid} x rest) old h =
-    kept_run p free rest (faulty_keeps w (letter.RemoveTag node hash (Err e)) mid x old).0 (with_left_tag j (kept_plain node hash OwnTag j w (letter.RemoveTag node hash (Err e)) mid tt x old h))
+    kept_run p free rest (faulty_keeps w (letter.RemoveTag node hash (Err e)) mid x old).0 (with_left_tag j (kept_plain node hash HasTag j w (letter.RemoveTag node hash (Err e)) mid tt x old h))
 kept_run {node} {hash} {w = w} (keeps.clears {s = s} {number = n} {max_nodes = m} {answer = Ok y} p) free (next {mid = mid} x (next {mid = last} z rest)) old h =
     let first = letter.MakeSegment node hash n m (Err make.AlreadyExists) in
     let old_2 = (faulty_keeps w first mid x old).0 in
@@ -506,7 +506,7 @@ granted_run {node} {hash} {w = w} (keeps.goes_on {s = s} {j = j} {letter = l} is
 -- where each removal is granted nothing is left
 abbrev LeftNoTag : KeptTag → Type 0
 LeftNoTag (NoTag l) = l ≡ false
-LeftNoTag OwnTag = Unit {0}
+LeftNoTag HasTag = Unit {0}
 
 abbrev LeftNoLock : KeptLock → Type 0
 LeftNoLock (Locked n l) = l ≡ false
