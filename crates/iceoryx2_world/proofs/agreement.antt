@@ -1,5 +1,5 @@
 pub mod Moved
-pub mod Rows
+pub mod StepCases
 pub mod Keeps
 pub mod Step
 pub mod Whole

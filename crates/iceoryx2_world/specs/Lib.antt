@@ -3,6 +3,7 @@ pub mod Sets
 pub mod World
 pub mod Acts
 pub mod Steps
+pub mod StepCases
 pub mod Codes
 pub mod Access
 pub mod Agreement

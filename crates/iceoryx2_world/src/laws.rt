@@ -1,15 +1,18 @@
 //! What is true of every world of a table, whatever its nodes do and whatever steps peers take.
 
-ghost use Rattle.std.specs.Prelude.{◌≡◌, ◌≢◌, ℕ, ◌+◌, ◌≤◌, List, [], ◌∷◌, ◌++◌, Some, None, Result, Ok, Err};
+ghost use Rattle.std.specs.Prelude.{◌≡◌, ◌≢◌, ℕ, ◌+◌, ◌≤◌, List, [], ◌∷◌, ◌++◌, Option, Some, None, Result, Ok, Err};
 ghost use Rattle.iceoryx2_data.specs.declared.description.ServiceHash.{ServiceHash};
 ghost use Rattle.iceoryx2_data.specs.Description.{Description};
 ghost use Rattle.iceoryx2_data.specs.Form.{IsForm};
 ghost use Rattle.iceoryx2_world.specs.declared.world.Participant.{Participant};
 ghost use Rattle.iceoryx2_world.specs.declared.world.Participant.TheVariants.{Node, Peer};
 ghost use Rattle.iceoryx2_world.specs.declared.world.Ticket.{Ticket};
-ghost use Rattle.iceoryx2_world.specs.World.{World, phase_of, locked_number, empty_world, ticket_of, count_of};
+ghost use Rattle.iceoryx2_world.specs.World.{World, Segment, phase_of, locked_number, empty_world, ticket_of, count_of};
 ghost use Rattle.iceoryx2_world.specs.Acts.{Act, IsAct};
-ghost use Rattle.iceoryx2_world.specs.Steps.{world_after};
+ghost use Rattle.iceoryx2_world.specs.Steps.{Spot, spot_after, world_after};
+ghost use Rattle.iceoryx2_world.specs.StepCases.{IsStep};
+ghost use Rattle.iceoryx2_world.specs.declared.world.Phase.{Phase};
+ghost use Rattle.iceoryx2_world.specs.declared.world.Row.{Row};
 ghost use Rattle.iceoryx2_access.specs.declared.storage.RemoveError.{RemoveError};
 ghost use Rattle.iceoryx2_access.specs.declared.storage.Release.{Release as Released};
 ghost use Rattle.iceoryx2_access.specs.declared.storage.ReleaseError.{ReleaseError};
@@ -30,6 +33,14 @@ ghost use Rattle.iceoryx2_world.specs.Standing.{ticket_for, Stands, Spares};
 pub fn agreement_of_worlds()
     // A world in which nothing is there agrees, wherever its counter begins.
     ensures empty { (c : ℕ) → Agrees (empty_world c) }
+
+    // A step is allowed, and comes to this, exactly where it is one of the fourteen.
+    ensures allowed { (p : Participant) (h : ServiceHash) (act : Act)
+        (x : Phase) (r : Option Row) (s : Option Segment) (c : ℕ) (new : Spot)
+        → spot_after p h act x r s c ≡ Some new → IsStep p h act x r s c new }
+    ensures each_allowed { (p : Participant) (h : ServiceHash) (act : Act)
+        (x : Phase) (r : Option Row) (s : Option Segment) (c : ℕ) (new : Spot)
+        → IsStep p h act x r s c new → spot_after p h act x r s c ≡ Some new }
 
     // A step of anyone keeps everything but the tickets of nodes, and gives a later world.
     ensures step { (w v : World) (p : Participant) (h : ServiceHash) (act : Act)

@@ -27,7 +27,8 @@ use Rattle.iceoryx2_world.specs.Across.{Agrees}
 use Rattle.iceoryx2_world.specs.Access.{Change, seat, write, MakesTag, IsOwnPart}
 use Rattle.iceoryx2_world.specs.Peers.{Peers, none, peer, IsAccess}
 use Rattle.iceoryx2_world.specs.Faulty.{IsFaulty}
-use Rattle.iceoryx2_world.proofs.agreement.Rows.{IsRow, locks as row_locks, clears as row_clears, unmakes, unlocks as row_unlocks, clears_last, ends as row_ends, makes as row_makes, row_of_step}
+use Rattle.iceoryx2_world.specs.StepCases.{IsStep, locks as row_locks, clears as row_clears, unmakes, unlocks as row_unlocks, clears_last, ends as row_ends, makes as row_makes}
+use Rattle.iceoryx2_world.proofs.agreement.StepCases.{step_case}
 use Rattle.iceoryx2_world.proofs.agreement.Maps.{set_has, either, self}
 use Rattle.iceoryx2_world.proofs.agreement.Effects.{stepped as stepped_world}
 use Rattle.iceoryx2_world.proofs.agreement.Worlds.{peer_places, peer_keeps, not_peer, step_counter, step_tickets}
@@ -204,17 +205,17 @@ record Begun (x : Phase) (c : ℕ) (new : Spot) : Type 0 where
   pub before : begins x ≡ true
   pub lock : locked_number new.phase ≡ Some c
 
-lock_row : {p : Participant} {h : ServiceHash} {x : Phase} {r : Option Row} {s : Option Segment} {c : ℕ} {new : Spot} → IsRow p h act.Lock x r s c new → Begun x c new
+lock_row : {p : Participant} {h : ServiceHash} {x : Phase} {r : Option Row} {s : Option Segment} {c : ℕ} {new : Spot} → IsStep p h act.Lock x r s c new → Begun x c new
 lock_row (row_locks free below) = record { before = free; lock = refl }
 
-make_row : {p : Participant} {h : ServiceHash} {m : ℕ} {x : Phase} {r : Option Row} {s : Option Segment} {c : ℕ} {new : Spot} → IsRow p h (act.Make m) x r s c new → locked_number new.phase ≡ locked_number x
+make_row : {p : Participant} {h : ServiceHash} {m : ℕ} {x : Phase} {r : Option Row} {s : Option Segment} {c : ℕ} {new : Spot} → IsStep p h (act.Make m) x r s c new → locked_number new.phase ≡ locked_number x
 make_row (row_makes room) = refl
 
 record Cleared (x : Phase) (new : Spot) : Type 0 where
   pub segment : new.segment ≡ None
   pub lock : (n : ℕ) → locked_number x ≡ Some n → locked_number new.phase ≡ Some n
 
-clear_row : {p : Participant} {h : ServiceHash} {x : Phase} {r : Option Row} {s : Option Segment} {c : ℕ} {new : Spot} → IsRow p h act.RemoveSegment x r s c new → Cleared x new
+clear_row : {p : Participant} {h : ServiceHash} {x : Phase} {r : Option Row} {s : Option Segment} {c : ℕ} {new : Spot} → IsStep p h act.RemoveSegment x r s c new → Cleared x new
 clear_row row_clears = record { segment = refl; lock = λ n l. l }
 clear_row unmakes = record { segment = refl; lock = λ n l. l }
 clear_row clears_last = record { segment = refl; lock = λ n l. absurd (cc) }
@@ -224,7 +225,7 @@ record Unlocked (s : Option Segment) (new : Spot) : Type 0 where
   pub segment : new.segment ≡ s
   pub phase : new.phase ≡ at.Idle
 
-unlock_row : {p : Participant} {h : ServiceHash} {x : Phase} {r : Option Row} {s : Option Segment} {c : ℕ} {new : Spot} → IsRow p h act.RemoveDescription x r s c new → Unlocked s new
+unlock_row : {p : Participant} {h : ServiceHash} {x : Phase} {r : Option Row} {s : Option Segment} {c : ℕ} {new : Spot} → IsStep p h act.RemoveDescription x r s c new → Unlocked s new
 unlock_row (row_unlocks lock) = record { row = refl; segment = refl; phase = refl }
 unlock_row (row_ends last) = record { row = refl; segment = refl; phase = refl }
 
@@ -274,7 +275,7 @@ module _ (node : ℕ) (hash : ServiceHash) where
       let now = kept_peers node hash t NoLock a.peers old h in
       let k = locking u v node hash n a.own in
       let st = stepped_world u v (Node node) hash act.Lock k.1 in
-      let b = lock_row (row_of_step (Node node) hash act.Lock (phase_of u (Node node) hash) (row_of u hash) (segment_of u hash) u.counter st.spot st.is) in
+      let b = lock_row (step_case (Node node) hash act.Lock (phase_of u (Node node) hash) (row_of u hash) (segment_of u hash) u.counter st.spot st.is) in
       let lacks : LacksSegment v hash n = λ y is same. elim (world_segment u v (Node node) hash act.Lock k.1 hash y is) [
         | inl z ↦ grind (arith, (agrees.everywhere hash).segment_below z.0 z.1, z.2, same, k.0)
         | inr l ↦ unlocked_begins (phase_of u (Node node) hash) y.number b.before l
@@ -288,7 +289,7 @@ module _ (node : ℕ) (hash : ServiceHash) where
       let now = kept_peers node hash t (Locked n false) a.peers old h in
       let e = making u v node hash n m y a.own in
       let st = stepped_world u v (Node node) hash (act.Make m) e in
-      let b = make_row (row_of_step (Node node) hash (act.Make m) (phase_of u (Node node) hash) (row_of u hash) (segment_of u hash) u.counter st.spot st.is) in
+      let b = make_row (step_case (Node node) hash (act.Make m) (phase_of u (Node node) hash) (row_of u hash) (segment_of u hash) u.counter st.spot st.is) in
       kept_step t (Locked n false) (WithSegment n) u v (act.Make m) e now.phase (ap locked_number (own_phase u v node hash (act.Make m) st) ∙ b ∙ now.holds.0, λ kept. absurd (cc)) now
 
   kept_clears : {start : World} (t : KeptTag) (n : ℕ) (l : Bool) (y : Unit {0}) (w v : World) → IsFaulty w (letter.RemoveSegment node hash (Ok y)) v → Agrees w → Kept node hash start t (Locked n l) w → Kept node hash start t (Locked n false) v
@@ -298,7 +299,7 @@ module _ (node : ℕ) (hash : ServiceHash) where
       let now = kept_peers node hash t (Locked n l) a.peers old h in
       let e = clearing u v node hash y a.own in
       let st = stepped_world u v (Node node) hash act.RemoveSegment e in
-      let b = clear_row (row_of_step (Node node) hash act.RemoveSegment (phase_of u (Node node) hash) (row_of u hash) (segment_of u hash) u.counter st.spot st.is) in
+      let b = clear_row (step_case (Node node) hash act.RemoveSegment (phase_of u (Node node) hash) (row_of u hash) (segment_of u hash) u.counter st.spot st.is) in
       let gone : segment_of v hash ≡ None = own_segment u v (Node node) hash act.RemoveSegment st ∙ b.segment in
       let lacks : LacksSegment v hash n = λ z is. absurd (cc) in
       kept_step t (Locked n l) (Locked n false) u v act.RemoveSegment e now.phase (ap locked_number (own_phase u v node hash act.RemoveSegment st) ∙ b.lock n now.holds.0, λ _. lacks) now
@@ -315,7 +316,7 @@ module _ (node : ℕ) (hash : ServiceHash) where
       let now = kept_peers node hash t (Locked n l) a.peers old h in
       let e = unlocking u v node hash y a.own in
       let st = stepped_world u v (Node node) hash act.RemoveDescription e in
-      let b = unlock_row (row_of_step (Node node) hash act.RemoveDescription (phase_of u (Node node) hash) (row_of u hash) (segment_of u hash) u.counter st.spot st.is) in
+      let b = unlock_row (step_case (Node node) hash act.RemoveDescription (phase_of u (Node node) hash) (row_of u hash) (segment_of u hash) u.counter st.spot st.is) in
       let below : n < v.counter = grind (arith, step_counter u v (Node node) hash act.RemoveDescription st, (agrees.everywhere hash).row_below (row.Locked n) ((agrees.everywhere hash).locked (Node node) n now.holds.0)) in
       let gone : row_of v hash ≡ None = own_row u v (Node node) hash act.RemoveDescription st ∙ b.row in
       let same : segment_of v hash ≡ segment_of u hash = own_segment u v (Node node) hash act.RemoveDescription st ∙ b.segment in

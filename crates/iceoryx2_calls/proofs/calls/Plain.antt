@@ -15,7 +15,8 @@ use Rattle.iceoryx2_world.specs.Agreement.{Later}
 use Rattle.iceoryx2_access.specs.Letter.{Letter}
 use Rattle.iceoryx2_access.specs.Letter as letter
 use Rattle.iceoryx2_world.specs.Access.{Change, seat, write, own_step, read_change, MakesTag, IsOwnPart}
-use Rattle.iceoryx2_world.proofs.agreement.Rows.{IsRow, reads, row_of_step}
+use Rattle.iceoryx2_world.specs.StepCases.{IsStep, reads}
+use Rattle.iceoryx2_world.proofs.agreement.StepCases.{step_case}
 use Rattle.iceoryx2_world.proofs.agreement.Maps.{set_cases}
 use Rattle.iceoryx2_world.proofs.agreement.Effects.{stepped as stepped_world}
 use Rattle.iceoryx2_world.proofs.agreement.Worlds.{place_cases, step_tickets}
@@ -99,13 +100,13 @@ record Read (x : Phase) (s : Option Segment) (new : Spot) : Type 0 where
   pub now : begins new.phase ≡ true
   pub segment : new.segment ≡ s
 
-read_row : {p : Participant} {h : ServiceHash} {x : Phase} {r : Option Row} {s : Option Segment} {c : ℕ} {new : Spot} → IsRow p h act.Read x r s c new → Read x s new
+read_row : {p : Participant} {h : ServiceHash} {x : Phase} {r : Option Row} {s : Option Segment} {c : ℕ} {new : Spot} → IsStep p h act.Read x r s c new → Read x s new
 read_row (reads free) = record { before = free; now = refl; segment = refl }
 
 read_untouched : (w v : World) (i : ℕ) (g : ServiceHash) → world_after w (Node i) g act.Read ≡ Some v → Untouched w v
 read_untouched w v i g e =
     let st = stepped_world w v (Node i) g act.Read e in
-    let r = read_row (row_of_step (Node i) g act.Read (phase_of w (Node i) g) (row_of w g) (segment_of w g) w.counter st.spot st.is) in
+    let r = read_row (step_case (Node i) g act.Read (phase_of w (Node i) g) (row_of w g) (segment_of w g) w.counter st.spot st.is) in
     record {
       tags = step_tags w v (Node i) g act.Read e;
       tickets = step_tickets w v (Node i) g act.Read st;

@@ -22,7 +22,8 @@ use Rattle.iceoryx2_world.specs.Faulty.{IsFaulty}
 use Rattle.iceoryx2_access.specs.MayRefuse.{IsFault}
 use Rattle.iceoryx2_access.specs.Run.{Run, done, next}
 use Rattle.iceoryx2_world.proofs.agreement.Whole.{after_keeps}
-use Rattle.iceoryx2_world.proofs.agreement.Rows.{IsRow, joins as row_joins, joins_again, row_of_step}
+use Rattle.iceoryx2_world.specs.StepCases.{IsStep, joins as row_joins, joins_again}
+use Rattle.iceoryx2_world.proofs.agreement.StepCases.{step_case}
 use Rattle.iceoryx2_world.proofs.agreement.Step.{later_same}
 use Rattle.iceoryx2_world.proofs.agreement.Effects.{stepped}
 use Rattle.iceoryx2_world.proofs.agreement.Tickets.{one_if, belongs_means}
@@ -75,7 +76,7 @@ tags_keep : (w : World) (t : set.FinSet tag_cmp) → Agrees w → Agrees (record
 tags_keep w t old = (record { everywhere = old.everywhere; numbered = record { below = old.numbered.below; apart = old.numbered.apart; free = old.numbered.free; few = old.numbered.few }; held = record { number = old.held.number; count = old.held.count } }, record { counter = omega arith; rows = λ h. later_same _ _ })
 
 -- a Join changes neither row nor counter
-join_counter : {p : Participant} {h : ServiceHash} {x : Phase} {r : Option Row} {s : Option Segment} {c : ℕ} {new : Spot} → IsRow p h act.Join x r s c new → new.counter ≡ c
+join_counter : {p : Participant} {h : ServiceHash} {x : Phase} {r : Option Row} {s : Option Segment} {c : ℕ} {new : Spot} → IsStep p h act.Join x r s c new → new.counter ≡ c
 join_counter (row_joins number unmarked room) = refl
 join_counter (joins_again below) = refl
 
@@ -122,7 +123,7 @@ opened_keeps w v id h n t p old =
     let u = p.mid in
     let st = stepped w u (Node id) h act.Join p.step in
     let kept = after_keeps w u (Node id) h act.Join tt p.step old.everywhere in
-    let still : u.counter ≡ w.counter = subst (λ (z : World). z.counter ≡ w.counter) st.world (join_counter (row_of_step (Node id) h act.Join (phase_of w (Node id) h) (row_of w h) (segment_of w h) w.counter st.spot st.is)) in
+    let still : u.counter ≡ w.counter = subst (λ (z : World). z.counter ≡ w.counter) st.world (join_counter (step_case (Node id) h act.Join (phase_of w (Node id) h) (row_of w h) (segment_of w h) w.counter st.spot st.is)) in
     let free : (g : ServiceHash) → row_of u g ≢ Some (row.Locked w.counter) = λ g l. absurd (grind (arith, (kept.0 g).row_below (row.Locked w.counter) l, still)) in
     let fresh : ticket_of w w.counter ≡ None = is_none _ (λ x i. grind (arith, old.numbered.below w.counter x i)) in
     subst (λ z. Agrees z × Later w z) (sym (p.is ∙ ap (λ s. ticket_put (record u { counter = w.counter + 1 }) s (mine id h n)) p.ticket)) (gain_keeps w u id h act.Join n w.counter (w.counter + 1) tt (λ x y g. g) p.step p.number fresh (omega arith) (omega (arith, still)) free (few_more w id h n w.counter old) old)

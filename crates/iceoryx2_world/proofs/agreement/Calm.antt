@@ -19,7 +19,8 @@ use Rattle.iceoryx2_access.specs.Letter.{Letter}
 use Rattle.iceoryx2_access.specs.Letter as letter
 use Rattle.iceoryx2_world.specs.Access.{IsOwnPart}
 use Rattle.iceoryx2_world.specs.Calm.{published_of, SameServices, IsCalmLetter}
-use Rattle.iceoryx2_world.proofs.agreement.Rows.{IsRow, reads, locks as row_locks, clears, makes, unmakes, unlocks as row_unlocks, publishes as row_publishes, joins as row_joins, joins_again, leaves_once, leaves, leaves_last, clears_last, ends as row_ends, row_of_step}
+use Rattle.iceoryx2_world.specs.StepCases.{IsStep, reads, locks as row_locks, clears, makes, unmakes, unlocks as row_unlocks, publishes as row_publishes, joins as row_joins, joins_again, leaves_once, leaves, leaves_last, clears_last, ends as row_ends}
+use Rattle.iceoryx2_world.proofs.agreement.StepCases.{step_case}
 use Rattle.iceoryx2_world.proofs.agreement.Maps.{set_cases}
 use Rattle.iceoryx2_world.proofs.agreement.Effects.{PhaseChange, Gains, Idles, Stepped, stepped, step_effect}
 use Rattle.iceoryx2_world.proofs.agreement.Worlds.{place_cases, step_places}
@@ -35,7 +36,7 @@ begins_unlocked at.Idle e = refl
 begins_unlocked (at.Read m) e = refl
 begins_unlocked _ e = absurd (cc)
 
-calm_row : {p : Participant} {h : ServiceHash} {act : Act} {x : Phase} {r : Option Row} {s : Option Segment} {c : ℕ} {new : Spot} → IsRow p h act x r s c new
+calm_row : {p : Participant} {h : ServiceHash} {act : Act} {x : Phase} {r : Option Row} {s : Option Segment} {c : ℕ} {new : Spot} → IsStep p h act x r s c new
     → IsCalm act → Calmly x r new
 calm_row (reads {x = x} free) ok = record { row = refl; lock = λ m l. let none = begins_unlocked x free in absurd (cc) }
 calm_row (row_locks {x = x} free below) ok = record { row = refl; lock = λ m l. let none = begins_unlocked x free in absurd (cc) }
@@ -62,7 +63,7 @@ calm_idles (act.Publish d) x y ok i = absurd ok
 calm_idles act.Join x y ok i = absurd ok
 calm_idles act.Leave x y ok i = absurd ok
 
-unlock_row : {p : Participant} {h : ServiceHash} {x : Phase} {r : Option Row} {s : Option Segment} {c : ℕ} {new : Spot} → IsRow p h act.RemoveDescription x r s c new → new.row ≡ None
+unlock_row : {p : Participant} {h : ServiceHash} {x : Phase} {r : Option Row} {s : Option Segment} {c : ℕ} {new : Spot} → IsStep p h act.RemoveDescription x r s c new → new.row ≡ None
 unlock_row (row_unlocks lock) = refl
 unlock_row (row_ends last) = refl
 
@@ -89,7 +90,7 @@ calmed_same w v e = subst (λ u. Calmed w u) (sym e) (record { same = record { p
 calmed : (w v : World) (id : ℕ) (g : ServiceHash) (a : Act) → IsCalm a → world_after w (Node id) g a ≡ Some v → Calmed w v
 calmed w v id g a ok e =
     let st = stepped w v (Node id) g a e in
-    let c = calm_row (row_of_step (Node id) g a (phase_of w (Node id) g) (row_of w g) (segment_of w g) w.counter st.spot st.is) ok in
+    let c = calm_row (step_case (Node id) g a (phase_of w (Node id) g) (row_of w g) (segment_of w g) w.counter st.spot st.is) ok in
     let i = calm_idles a _ _ ok (step_effect (Node id) g a (phase_of w (Node id) g) (row_of w g) (segment_of w g) w.counter st.spot st.is).change in
     record {
       same = step_same w v (Node id) g a st c.row (i.now ∙ sym i.before);
@@ -120,7 +121,7 @@ part_unlocks w v i h n a lock old (removed j g is e) =
     let hash : h ≡ g = cc in
     let here : world_after w (Node i) h act.RemoveDescription ≡ Some v = (λ k. world_after w (Node (node k)) (hash k) act.RemoveDescription) ∙ e in
     let st = stepped w v (Node i) h act.RemoveDescription here in
-    let row = unlock_row (row_of_step (Node i) h act.RemoveDescription (phase_of w (Node i) h) (row_of w h) (segment_of w h) w.counter st.spot st.is) in
+    let row = unlock_row (step_case (Node i) h act.RemoveDescription (phase_of w (Node i) h) (row_of w h) (segment_of w h) w.counter st.spot st.is) in
     let was = (old.everywhere h).locked (Node i) n lock in
     let c = (step_effect (Node i) h act.RemoveDescription (phase_of w (Node i) h) (row_of w h) (segment_of w h) w.counter st.spot st.is).change in
     step_same w v (Node i) h act.RemoveDescription st (ap published_of row ∙ ap published_of (sym was)) (c.now ∙ sym c.before)
@@ -172,13 +173,13 @@ tame_both (goes k r) t = goes k (tame_both r t)
 tame_both (locks r) t = locks (tame_both r t)
 tame_both (unlocks a r) t = unlocks a (tame_both r t)
 
-lock_spot : {p : Participant} {h : ServiceHash} {x : Phase} {r : Option Row} {s : Option Segment} {c : ℕ} {new : Spot} → IsRow p h act.Lock x r s c new → locked_number new.phase ≡ Some c
+lock_spot : {p : Participant} {h : ServiceHash} {x : Phase} {r : Option Row} {s : Option Segment} {c : ℕ} {new : Spot} → IsStep p h act.Lock x r s c new → locked_number new.phase ≡ Some c
 lock_spot (row_locks free below) = refl
 
 -- who locks has the lock, and its number
 pub locked_now : (w v : World) (id : ℕ) (h : ServiceHash) → world_after w (Node id) h act.Lock ≡ Some v → locked_number (phase_of v (Node id) h) ≡ Some w.counter
 locked_now w v id h e = let st = stepped w v (Node id) h act.Lock e in
     subst (λ u. locked_number (phase_of u (Node id) h) ≡ Some w.counter) st.world (elim (place_cases w (Node id) h st.spot (Node id) h) [
-      | inl k ↦ ap locked_number k.2 ∙ lock_spot (row_of_step (Node id) h act.Lock (phase_of w (Node id) h) (row_of w h) (segment_of w h) w.counter st.spot st.is)
+      | inl k ↦ ap locked_number k.2 ∙ lock_spot (step_case (Node id) h act.Lock (phase_of w (Node id) h) (row_of w h) (segment_of w h) w.counter st.spot st.is)
       | inr k ↦ absurd (k.0 refl refl)
     ])

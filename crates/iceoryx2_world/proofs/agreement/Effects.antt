@@ -10,7 +10,8 @@ use Rattle.iceoryx2_world.specs.declared.world.Row.TheVariants as row
 use Rattle.iceoryx2_world.specs.World.{World, Segment, row_of, segment_of, phase_of, begins, joined_number, phase_number, locked_number, is_last, join_count}
 use Rattle.iceoryx2_world.specs.Acts.{Act, Publish, Join, Leave}
 use Rattle.iceoryx2_world.specs.Steps.{Spot, spot_after, put, world_after}
-use Rattle.iceoryx2_world.proofs.agreement.Rows.{IsRow, reads, locks, clears, makes, unmakes, unlocks, publishes, joins, joins_again, leaves_once, leaves, leaves_last, clears_last, ends, row_of_step}
+use Rattle.iceoryx2_world.specs.StepCases.{IsStep, reads, locks, clears, makes, unmakes, unlocks, publishes, joins, joins_again, leaves_once, leaves, leaves_last, clears_last, ends}
+use Rattle.iceoryx2_world.proofs.agreement.StepCases.{step_case}
 
 -- one use more, of the number that the phase had
 pub record Gains (x y : Phase) : Type 0 where
@@ -64,7 +65,7 @@ calms : {act : Act} {x : Phase} {r : Option Row} {c : ℕ} {y : Phase} {s : Opti
     → Effect act x r c (record { phase = y; row = r; segment = s; counter = c })
 calms change = record { rises = omega arith; locks = λ n l. inl l; change = change }
 
-row_effect : {p : Participant} {h : ServiceHash} {act : Act} {x : Phase} {r : Option Row} {s : Option Segment} {c : ℕ} {new : Spot} → IsRow p h act x r s c new
+row_effect : {p : Participant} {h : ServiceHash} {act : Act} {x : Phase} {r : Option Row} {s : Option Segment} {c : ℕ} {new : Spot} → IsStep p h act x r s c new
     → Effect act x r c new
 row_effect (reads {x = x} free) = let i = begins_idle x free in calms (idles i.0 refl i.1 refl)
 row_effect (locks {x = x} free below) = let i = begins_idle x free in
@@ -87,7 +88,7 @@ row_effect (ends {x = x} last) = let i = last_idle x last in
 
 pub step_effect : (p : Participant) (h : ServiceHash) (act : Act) (x : Phase) (r : Option Row) (s : Option Segment) (c : ℕ) (new : Spot)
     → spot_after p h act x r s c ≡ Some new → Effect act x r c new
-step_effect p h act x r s c new e = row_effect (row_of_step p h act x r s c new e)
+step_effect p h act x r s c new e = row_effect (step_case p h act x r s c new e)
 
 -- an allowed step of a world
 pub record Stepped (w v : World) (p : Participant) (h : ServiceHash) (act : Act) : Type 0 where

@@ -18,7 +18,8 @@ use Rattle.iceoryx2_world.specs.Access.{IsOwnPart}
 use Rattle.iceoryx2_world.specs.Peers.{Peers, none, peer}
 use Rattle.iceoryx2_world.specs.Faulty.{IsFaulty}
 use Rattle.iceoryx2_world.proofs.agreement.Whole.{after_keeps}
-use Rattle.iceoryx2_world.proofs.agreement.Rows.{IsRow, reads, locks, clears, makes, unmakes, unlocks, publishes, joins as adds, joins_again, leaves_once, leaves, leaves_last, clears_last, ends, row_of_step}
+use Rattle.iceoryx2_world.specs.StepCases.{IsStep, reads, locks, clears, makes, unmakes, unlocks, publishes, joins as adds, joins_again, leaves_once, leaves, leaves_last, clears_last, ends}
+use Rattle.iceoryx2_world.proofs.agreement.StepCases.{step_case}
 use Rattle.iceoryx2_world.proofs.agreement.Maps.{set_cases}
 use Rattle.iceoryx2_world.proofs.agreement.Effects.{stepped}
 use Rattle.iceoryx2_world.proofs.agreement.Worlds.{peer_keeps}
@@ -38,7 +39,7 @@ no_origin x s y e = absurd (cc)
 some_origin : (x : Option ℕ) (z t : Segment) → z.number ≡ t.number → Origin x (Some z) (Some t)
 some_origin x z t e y is = let same : t ≡ y = cc in inl (z, refl, e ∙ ap (λ (k : Segment). k.number) same)
 
-row_segment : {p : Participant} {h : ServiceHash} {act : Act} {x : Phase} {r : Option Row} {s : Option Segment} {c : ℕ} {new : Spot} → IsRow p h act x r s c new
+row_segment : {p : Participant} {h : ServiceHash} {act : Act} {x : Phase} {r : Option Row} {s : Option Segment} {c : ℕ} {new : Spot} → IsStep p h act x r s c new
     → Origin (locked_number x) s new.segment
 row_segment (reads free) = same_origin _ _
 row_segment (locks free below) = same_origin _ _
@@ -61,7 +62,7 @@ world_segment w v p g a e h y is =
     let st = stepped w v p g a e in
     let there : segment_of (put w p g st.spot) h ≡ Some y = ap (λ u. segment_of u h) st.world ∙ is in
     elim (set_cases hash_total hash_exact w.segments g st.spot.segment h) [
-      | inl k ↦ elim (row_segment (row_of_step p g a (phase_of w p g) (row_of w g) (segment_of w g) w.counter st.spot st.is) y (sym k.1 ∙ there)) [
+      | inl k ↦ elim (row_segment (step_case p g a (phase_of w p g) (row_of w g) (segment_of w g) w.counter st.spot st.is) y (sym k.1 ∙ there)) [
         | inl z ↦ inl (z.0, ap (segment_of w) k.0 ∙ z.1, z.2)
         | inr l ↦ inr (ap (λ f. locked_number (phase_of w p f)) k.0 ∙ l)
       ]

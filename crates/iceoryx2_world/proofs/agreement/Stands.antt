@@ -30,7 +30,8 @@ use Rattle.iceoryx2_world.specs.Standing.{ticket_for, Stands, Spares}
 use Rattle.iceoryx2_access.specs.Run.{Each, Run, done, next}
 use Rattle.iceoryx2_access.proofs.Run.{split, head, last}
 use Rattle.iceoryx2_world.proofs.agreement.Whole.{after_keeps}
-use Rattle.iceoryx2_world.proofs.agreement.Rows.{IsRow, publishes as row_publishes, row_of_step}
+use Rattle.iceoryx2_world.specs.StepCases.{IsStep, publishes as row_publishes}
+use Rattle.iceoryx2_world.proofs.agreement.StepCases.{step_case}
 use Rattle.iceoryx2_world.proofs.agreement.Maps.{set_cases}
 use Rattle.iceoryx2_world.proofs.agreement.Effects.{Stepped, stepped}
 use Rattle.iceoryx2_world.proofs.agreement.Worlds.{ticket_put, ticket_removed, place_cases, step_tickets}
@@ -121,7 +122,7 @@ run_stands {w = u} {v = w} f (next {mid = v} {letter = l} a rest) spares old s =
 
 -- the row that a publishing leaves
 publish_spot : {p : Participant} {h : ServiceHash} {d : Description} {n : ℕ} {x : Phase} {r : Option Row} {s : Option Segment} {c : ℕ} {new : Spot} → x ≡ at.Made n
-    → IsRow p h (act.Publish d) x r s c new → (new.row ≡ Some (row.Published n (form.description d))) × (d.hash ≡ h)
+    → IsStep p h (act.Publish d) x r s c new → (new.row ≡ Some (row.Published n (form.description d))) × (d.hash ≡ h)
 publish_spot {d = d} {n = n} is (row_publishes {n = m} hash nodes) = let same : m ≡ n = cc in (ap (λ k. Some (row.Published k (form.description d))) same, hash)
 
 pub own_row : (w v : World) (p : Participant) (h : ServiceHash) (a : Act) → (st : Stepped w v p h a) → row_of v h ≡ st.spot.row
@@ -144,7 +145,7 @@ published_stands w v i h n d t e old =
     let p = publishing a.between v i h n d t a.own in
     let st = stepped a.between p.mid (Node i) h (act.Publish d) p.step in
     let new = (access_keeps w (letter.Publish i h n d (Ok t)) v a old).0 in
-    let is = publish_spot p.phase (row_of_step (Node i) h (act.Publish d) (phase_of a.between (Node i) h) (row_of a.between h) (segment_of a.between h) a.between.counter st.spot st.is) in
+    let is = publish_spot p.phase (step_case (Node i) h (act.Publish d) (phase_of a.between (Node i) h) (row_of a.between h) (segment_of a.between h) a.between.counter st.spot st.is) in
     let f : Factory = record { node = i; number = n; ticket = t; description = d } in
     let row : row_of v d.hash ≡ Some (row.Published n (form.description d)) = ap (row_of v) is.1 ∙ ap (λ z. row_of z h) p.is ∙ own_row a.between p.mid (Node i) h (act.Publish d) st ∙ is.0 in
     let ticket : ticket_of v t ≡ Some (ticket_for f) = ap (λ z. ticket_of z t) p.is ∙ ticket_there p.mid t (mine i h n) ∙ (λ j. Some (record { node = i; hash = sym is.1 j; number = n })) in

@@ -11,7 +11,8 @@ use Rattle.iceoryx2_world.specs.Acts.{Act, IsAct}
 use Rattle.iceoryx2_world.specs.Steps.{Spot, spot_after}
 use Rattle.iceoryx2_world.specs.Agreement.{AgreesAt, LaterAt}
 use Rattle.iceoryx2_world.proofs.agreement.Moved.{moved}
-use Rattle.iceoryx2_world.proofs.agreement.Rows.{IsRow, reads, locks, clears, makes, unmakes, unlocks, publishes, joins, joins_again, leaves_once, leaves, leaves_last, clears_last, ends, row_of_step}
+use Rattle.iceoryx2_world.specs.StepCases.{IsStep, reads, locks, clears, makes, unmakes, unlocks, publishes, joins, joins_again, leaves_once, leaves, leaves_last, clears_last, ends}
+use Rattle.iceoryx2_world.proofs.agreement.StepCases.{step_case}
 use Rattle.iceoryx2_world.proofs.agreement.Keeps.{read_keeps, lock_keeps, make_keeps, unmake_keeps, unlock_keeps, publish_keeps, join_keeps, recount_keeps, leave_keeps, last_keeps, clear_keeps, end_keeps}
 
 -- what a step keeps, and that the row is a later one
@@ -40,7 +41,7 @@ goes : {c : ℕ} {r : Option Row} {h : ServiceHash} {f : Participant → Phase} 
     → AgreesAt c h None s (moved f p x) → StepKeeps c r h f p (record { phase = x; row = None; segment = s; counter = c })
 goes a = record { rises = omega arith; later = later_none _ _; agrees = a }
 
-row_keeps : {p : Participant} {h : ServiceHash} {act : Act} {x : Phase} {r : Option Row} {s : Option Segment} {c : ℕ} {new : Spot} → IsRow p h act x r s c new
+row_keeps : {p : Participant} {h : ServiceHash} {act : Act} {x : Phase} {r : Option Row} {s : Option Segment} {c : ℕ} {new : Spot} → IsStep p h act x r s c new
     → (f : Participant → Phase) → f p ≡ x → IsAct act → AgreesAt c h r s f → StepKeeps c r h f p new
 row_keeps {p} {h} (reads {n = n} {c = c} {b = b} {s = s} free) f was ok a = stays (read_keeps c h f p n b s (ap begins was ∙ free) a)
 row_keeps {p} {h} (locks {c = c} {s = s} free below) f was ok a =
@@ -64,4 +65,4 @@ row_keeps {p} {h} (ends {c = c} {r = r} {s = s} last) f was ok a = goes (end_kee
 
 pub step_keeps : (p : Participant) (h : ServiceHash) (act : Act) (x : Phase) (r : Option Row) (s : Option Segment) (c : ℕ) (new : Spot)
     (f : Participant → Phase) → f p ≡ x → IsAct act → spot_after p h act x r s c ≡ Some new → AgreesAt c h r s f → StepKeeps c r h f p new
-step_keeps p h act x r s c new f was ok e a = row_keeps (row_of_step p h act x r s c new e) f was ok a
+step_keeps p h act x r s c new f was ok e a = row_keeps (step_case p h act x r s c new e) f was ok a

@@ -1,3 +1,4 @@
+use Rattle.iceoryx2_world.proofs.agreement.StepCases.{step_case, case_allowed}
 use Rattle.iceoryx2_world.proofs.agreement.Empty.{empty_agrees}
 use Rattle.iceoryx2_world.proofs.agreement.Worlds.{bare_keeps, peer_keeps}
 use Rattle.iceoryx2_world.proofs.agreement.Accesses.{access_keeps, faulty_keeps, run_keeps, later_trans}
@@ -9,6 +10,12 @@ use Rattle.iceoryx2_world.proofs.laws.agreement_of_worlds.Goals as goal
 
 pub returns-clause-empty : goal.returns-clause-empty
 returns-clause-empty g = λ c. empty_agrees c
+
+pub returns-clause-allowed : goal.returns-clause-allowed
+returns-clause-allowed g = λ p h act x r s c new e. step_case p h act x r s c new e
+
+pub returns-clause-each_allowed : goal.returns-clause-each_allowed
+returns-clause-each_allowed g = λ p h act x r s c new i. case_allowed p h i
 
 pub returns-clause-step : goal.returns-clause-step
 returns-clause-step g = λ w v p h act ok e each numbered. bare_keeps w v p h act ok e each numbered
