@@ -33,6 +33,6 @@ module _ {F E C : Type 0} (creating opening : Meaning F E C) (hash : ServiceHash
   opens_own own creator node q p u z f x answer made there same place room opened =
       let is : x.description ≡ description_of creating hash name now = same ∙ carries q creator (Ok f) p made in
       accepted opening node hash u z x answer there
-        (ap (λ d. opening.misfit d) is ∙ own.fits)
-        (ap (λ d. verdict (opening.requirement d)) is ∙ own.accepted)
-        place room opened
+      (ap (λ d. opening.misfit d) is ∙ own.fits)
+      (ap (λ d. verdict (opening.requirement d)) is ∙ own.accepted)
+      place room opened
