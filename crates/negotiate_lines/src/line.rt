@@ -5,8 +5,7 @@ ghost use Rattle.negotiate_lines.specs.Words.{without_end_of, words_of};
 ghost use Rattle.negotiate_lines.specs.Lines.{AreLine, IsLine, IsNumberOf, how_word};
 
 use iceoryx2_service::command::{Call, Command, How, Settings};
-use iceoryx2_service::data::description::{ServiceName, ServiceNameError};
-use iceoryx2_service::data::time::Time;
+use iceoryx2_service::description::{ServiceName, ServiceNameError, Time};
 use std::alloc::{AllocError, Global};
 
 /// The number of slots. A line may name the slots below it.

@@ -2,9 +2,9 @@
 
 use crate::line::{self, Line};
 use iceoryx2_service::command::{Command, Refusal, Reply};
-use iceoryx2_service::data::config::Config;
+use iceoryx2_service::description::Config;
 use iceoryx2_service::session::Session;
-use iceoryx2_service::storage::table::Table;
+use iceoryx2_service::table::Table;
 use std::alloc::{AllocError, Global};
 use std::io::{self, BufRead, BufReader, ErrorKind, Read, Write};
 

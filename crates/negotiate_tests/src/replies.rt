@@ -1,7 +1,7 @@
 //! The lines that are printed for replies.
 
+use iceoryx2_service::builder::event::{EventCreateError, EventOpenError};
 use iceoryx2_service::command::{Refusal, Reply};
-use iceoryx2_service::rounds::error::{EventCreateError, EventOpenError};
 use negotiate_lines::serve::describe;
 use std::test::Fail;
 
