@@ -22,7 +22,8 @@ pub data Letter : Type 0 where
   MakeTag : (node : ℕ) → ServiceHash → Result Tag TagError → Letter
   RemoveTag : (node : ℕ) → ServiceHash → Result (Unit {0}) RemoveError → Letter
   Lock : (node : ℕ) → ServiceHash → Result ℕ LockError → Letter
-  MakeSegment : (node : ℕ) → ServiceHash → (number max_nodes : ℕ) → Result (Unit {0}) MakeSegmentError → Letter
+  MakeSegment : (node : ℕ) → ServiceHash → (number max_nodes : ℕ) → Result (Unit {0}) MakeSegmentError
+      → Letter
   RemoveSegment : (node : ℕ) → ServiceHash → Result (Unit {0}) RemoveError → Letter
   RemoveDescription : (node : ℕ) → ServiceHash → Result (Unit {0}) RemoveError → Letter
   Publish : (node : ℕ) → ServiceHash → (number : ℕ) → Description → Result ℕ PublishError → Letter

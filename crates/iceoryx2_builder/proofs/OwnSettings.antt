@@ -5,7 +5,7 @@ use Rattle.std.proofs.lemmas.Bool.Decides.{nat_tests}
 use Rattle.iceoryx2_data.specs.declared.description.ServiceHash.{ServiceHash}
 use Rattle.iceoryx2_data.specs.declared.time.ClockFault.{ClockFault}
 use Rattle.iceoryx2_data.specs.Span.{Span}
-use Rattle.iceoryx2_rounds.specs.Verdict.{Row, verdict, marked_clauses, at_least, and_then}
+use Rattle.iceoryx2_rounds.specs.Verdict.{SettingRow, verdict, marked_clauses, at_least, and_then}
 use Rattle.iceoryx2_rounds.specs.Creates.{description_of}
 use Rattle.iceoryx2_rounds.proofs.Verdicts.{row_decides, no_row}
 use Rattle.iceoryx2_builder.specs.declared.builder.event.asked.Asked.{Asked}
@@ -18,7 +18,7 @@ unfolding verdict marked_clauses at_least
 offers true x r e h = rw h refl
 offers false x r e h = refl
 
-then_more : {E : Type 0} (row : Row E) (rows : List (Row E)) → verdict (marked_clauses (row ∷ [])) ≡ Ok tt
+then_more : {E : Type 0} (row : SettingRow E) (rows : List (SettingRow E)) → verdict (marked_clauses (row ∷ [])) ≡ Ok tt
     → verdict (marked_clauses rows) ≡ Ok tt → verdict (marked_clauses (row ∷ rows)) ≡ Ok tt
 then_more row rows h k = row_decides row rows ∙ ap (λ v. and_then v (verdict (marked_clauses rows))) h ∙ k
 

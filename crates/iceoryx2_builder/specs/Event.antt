@@ -7,7 +7,7 @@ use Rattle.iceoryx2_data.specs.declared.description.MessagingPattern.{MessagingP
 use Rattle.iceoryx2_data.specs.declared.description.MessagingPattern.TheVariants as existing
 use Rattle.iceoryx2_data.specs.declared.event.StaticConfig.{StaticConfig as Settings}
 use Rattle.iceoryx2_data.specs.declared.event.Deadline.{Deadline}
-use Rattle.iceoryx2_rounds.specs.Verdict.{Clause, Row, at_least, marked_clauses}
+use Rattle.iceoryx2_rounds.specs.Verdict.{Clause, SettingRow, at_least, marked_clauses}
 use Rattle.iceoryx2_rounds.specs.Meaning.{Meaning}
 use Rattle.iceoryx2_errors.specs.States.{open_error_of_state, create_error_of_state}
 use Rattle.iceoryx2_errors.specs.declared.error.ServiceState.{ServiceState}
@@ -23,8 +23,8 @@ use Rattle.iceoryx2_builder.specs.declared.builder.event.asked.Asked.{Asked}
 use Rattle.iceoryx2_builder.specs.declared.builder.event.asked.Marks.{Marks}
 
 -- the settings in order, each with its test and its error
-abbrev pub rows : Settings → Marks → Settings → List (Row EventOpenError)
-rows required marks existing =
+abbrev pub setting_rows : Settings → Marks → Settings → List (SettingRow EventOpenError)
+setting_rows required marks existing =
     at_least marks.max_notifiers existing.max_notifiers required.max_notifiers
     opening.DoesNotSupportRequestedAmountOfNotifiers ∷
     at_least marks.max_listeners existing.max_listeners required.max_listeners
@@ -36,7 +36,7 @@ rows required marks existing =
     []
 
 abbrev pub setting_clauses : Asked → MessagingPattern → List (Clause EventOpenError)
-setting_clauses asked (existing.Event settings) = marked_clauses (rows asked.settings asked.marks settings)
+setting_clauses asked (existing.Event settings) = marked_clauses (setting_rows asked.settings asked.marks settings)
 
 -- another pattern than events: so far there is no other
 abbrev pub misfit_of : MessagingPattern → Option ServiceState
@@ -72,8 +72,8 @@ event_adjusted asked = record asked {
 }
 
 -- the deadline of a service that is created at this time
-abbrev pub deadline_at : Span → Deadline → Deadline
-deadline_at now deadline = record { value = deadline.value; creation_time = now }
+abbrev pub created_deadline : Span → Deadline → Deadline
+created_deadline now deadline = record { value = deadline.value; creation_time = now }
 
 abbrev pub event_meaning : Asked → Meaning ServiceState EventOpenError EventCreateError
 event_meaning asked = record {
@@ -87,5 +87,5 @@ event_meaning asked = record {
   history_refusal = None;
   needs_clock = is_some asked.settings.deadline;
   published = λ now.
-      existing.Event (record asked.settings { deadline = option_map (deadline_at now) asked.settings.deadline });
+      existing.Event (record asked.settings { deadline = option_map (created_deadline now) asked.settings.deadline });
 }

@@ -34,8 +34,8 @@ abbrev pub letter_of_events : ℕ
 letter_of_events = 101
 
 -- a configured deadline, of a service that isn't created yet
-abbrev pub deadline_from : Span → Deadline
-deadline_from value = record { value = value; creation_time = zero_span }
+abbrev pub configured_deadline : Span → Deadline
+configured_deadline value = record { value = value; creation_time = zero_span }
 
 -- the configured settings with nothing marked
 abbrev pub fresh_asked : EventDefaults → Asked
@@ -48,7 +48,7 @@ fresh_asked defaults = record {
     notifier_created_event = defaults.notifier_created_event;
     notifier_dropped_event = defaults.notifier_dropped_event;
     notifier_dead_event = defaults.notifier_dead_event;
-    deadline = option_map deadline_from defaults.deadline;
+    deadline = option_map configured_deadline defaults.deadline;
   };
   marks = record {
     max_notifiers = false;

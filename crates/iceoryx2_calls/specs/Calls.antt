@@ -10,7 +10,8 @@ use Rattle.iceoryx2_world.specs.Calm.{SameServices}
 
 -- Whatever worlds the accesses of this word lead through, it is true of each: before the first access, between
 -- any two and after the last.
-abbrev pub Throughout : (World → Letter → World → Type 0) → (World → Type 0) → World → List Letter → Type 0
+abbrev pub Throughout : (World → Letter → World → Type 0) → (World → Type 0) → World → List Letter
+    → Type 0
 Throughout step P w [] = P w
 Throughout step P w (l ∷ word) = P w × ((v : World) → step w l v → Throughout step P v word)
 

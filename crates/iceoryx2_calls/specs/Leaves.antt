@@ -51,7 +51,8 @@ module _ (node : ℕ) (hash : ServiceHash) where
   abbrev pub LeavesOfLock : KeptLock → (w v : World) → Type 0
   LeavesOfLock NoLock w v = NodeHasRead w v
   LeavesOfLock (GivenBack n is_lock_left is_segment_left) w v =
-      (is_lock_left ≡ false → NodeHasRead w v × LacksRow v hash n) × (is_segment_left ≡ false → LacksSegment v hash n)
+      (is_lock_left ≡ false → NodeHasRead w v × LacksRow v hash n)
+      × (is_segment_left ≡ false → LacksSegment v hash n)
   LeavesOfLock _ w v = ⊥
 
   -- All that stays, where the call's removals left this of its tag and its lock.

@@ -16,31 +16,31 @@ use Rattle.iceoryx2_world.specs.Orders.{hash_cmp, participant_cmp}
 use Rattle.iceoryx2_world.specs.World.{World, Segment, row_of, segment_of, phase_of, begins, tag_of}
 
 -- how often each node has opened a service
-abbrev pub Counts : Type 0
-Counts = map.FinMap nat_cmp ℕ
+abbrev pub NodeCounts : Type 0
+NodeCounts = map.FinMap nat_cmp ℕ
 
-pub record Service : Type 0 where
+pub record QuietService : Type 0 where
   pub description : Description
   pub number : ℕ
-  pub counts : Counts
+  pub counts : NodeCounts
 
 -- The state of the machine: the next number, and the services by hash.
 pub record Quiet : Type 0 where
   pub counter : ℕ
-  pub services : map.FinMap hash_cmp Service
+  pub services : map.FinMap hash_cmp QuietService
 
 -- no service, and the next number is this
 abbrev pub no_service : ℕ → Quiet
 no_service c = record { counter = c; services = map.empty }
 
-abbrev pub service_of : Quiet → ServiceHash → Option Service
-service_of q h = map.get q.services h
+abbrev pub service_at : Quiet → ServiceHash → Option QuietService
+service_at q h = map.get q.services h
 
-abbrev pub count_of : Service → ℕ → Option ℕ
-count_of x i = map.get x.counts i
+abbrev pub times_counted : QuietService → ℕ → Option ℕ
+times_counted x i = map.get x.counts i
 
-abbrev pub is_counted : Service → Participant → Bool
-is_counted x (Node i) = is_some (count_of x i)
+abbrev pub is_counted : QuietService → Participant → Bool
+is_counted x (Node i) = is_some (times_counted x i)
 is_counted x (Peer i) = false
 
 -- The node's phase by its count at the service of this number.
@@ -57,7 +57,7 @@ pub record IsAbsent (r : Option Row) (s : Option Segment) (phase : ℕ → Phase
 
 -- A service with this hash: its description is published under its number, the segment beside it
 -- is unmarked and takes in its nodes and nobody else, and its nodes alone have tags.
-pub record IsThere (h : ServiceHash) (x : Service) (r : Option Row) (s : Option Segment)
+pub record IsThere (h : ServiceHash) (x : QuietService) (r : Option Row) (s : Option Segment)
     (phase : ℕ → Phase) (tag : ℕ → Bool) : Type 0 where
   pub limits : IsDescription x.description
   pub hash : x.description.hash ≡ h
@@ -72,18 +72,19 @@ pub record IsThere (h : ServiceHash) (x : Service) (r : Option Row) (s : Option 
   pub members : (p : Participant) → set.contains nodes p ≡ is_counted x p
   pub as_many : set.len nodes ≡ map.len x.counts
   pub one_or_more : 1 ≤ map.len x.counts
-  pub phases : (i : ℕ) → CountIs x.number (phase i) (count_of x i)
-  pub tags : (i : ℕ) → tag i ≡ is_some (count_of x i)
+  pub phases : (i : ℕ) → CountIs x.number (phase i) (times_counted x i)
+  pub tags : (i : ℕ) → tag i ≡ is_some (times_counted x i)
 
-abbrev pub ShowsAt : ServiceHash → Option Service → Option Row → Option Segment → (ℕ → Phase) → (ℕ → Bool) → Type 0
+abbrev pub ShowsAt : ServiceHash → Option QuietService → Option Row → Option Segment → (ℕ → Phase)
+    → (ℕ → Bool) → Type 0
 ShowsAt h None r s phase tag = IsAbsent r s phase tag
 ShowsAt h (Some x) r s phase tag = IsThere h x r s phase tag
 
 -- What the world has at a hash is this service, or none.
-abbrev pub ShowsService : World → ServiceHash → Option Service → Type 0
+abbrev pub ShowsService : World → ServiceHash → Option QuietService → Type 0
 ShowsService w h o = ShowsAt h o (row_of w h) (segment_of w h) (λ i. phase_of w (Node i) h) (λ i. tag_of w i h)
 
 -- The world shows the machine's state, hash by hash. Its tickets are told by the agreement of worlds.
 pub record Shows (w : World) (q : Quiet) : Type 0 where
   pub counter : w.counter ≡ q.counter
-  pub services : (h : ServiceHash) → ShowsService w h (service_of q h)
+  pub services : (h : ServiceHash) → ShowsService w h (service_at q h)

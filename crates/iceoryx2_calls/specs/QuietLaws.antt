@@ -7,7 +7,7 @@ use Rattle.iceoryx2_world.specs.World.{World, row_of, segment_of, phase_of, Tick
 use Rattle.iceoryx2_world.specs.Across.{Agrees}
 use Rattle.iceoryx2_access.specs.Factory.{Factory}
 use Rattle.iceoryx2_world.specs.Standing.{Stands, ticket_for}
-use Rattle.iceoryx2_calls.specs.Quiet.{Quiet, Service, Shows, service_of, count_of}
+use Rattle.iceoryx2_calls.specs.Quiet.{Quiet, QuietService, Shows, service_at, times_counted}
 use Rattle.iceoryx2_calls.specs.QuietCalls.{Closes}
 
 -- the tickets after a create or an open: one more where it gave a factory
@@ -40,19 +40,19 @@ pub record IsClose (w : World) (q : Quiet) (r : Factory) (v : World) : Type 0 wh
 
 -- The node has opened the service of this hash and number.
 pub record HasOpened (q : Quiet) (i : ℕ) (h : ServiceHash) (n : ℕ) : Type 0 where
-  pub service : Service
-  pub there : service_of q h ≡ Some service
+  pub service : QuietService
+  pub there : service_at q h ≡ Some service
   pub number : service.number ≡ n
   pub count : ℕ
-  pub counted : count_of service i ≡ Some count
+  pub counted : times_counted service i ≡ Some count
 
 -- how often a node has opened the service under a hash
-abbrev pub times_at : Option Service → ℕ → ℕ
+abbrev pub times_at : Option QuietService → ℕ → ℕ
 times_at None i = 0
-times_at (Some x) i = unwrap_or (count_of x i) 0
+times_at (Some x) i = unwrap_or (times_counted x i) 0
 
 abbrev pub times_opened : Quiet → ℕ → ServiceHash → ℕ
-times_opened q i h = times_at (service_of q h) i
+times_opened q i h = times_at (service_at q h) i
 
 -- Both worlds have the same descriptions, segments, tags and counts.
 pub record HoldsTheSame (w v : World) : Type 0 where

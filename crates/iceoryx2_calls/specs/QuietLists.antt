@@ -6,9 +6,9 @@ use Rattle.iceoryx2_data.specs.Description.{max_nodes_of}
 use Rattle.iceoryx2_data.specs.Form as form
 use Rattle.iceoryx2_world.specs.declared.listing.ListedRow.TheVariants as listed
 use Rattle.iceoryx2_world.specs.declared.listing.Entry.{Entry}
-use Rattle.iceoryx2_calls.specs.Quiet.{Service, Quiet}
+use Rattle.iceoryx2_calls.specs.Quiet.{QuietService, Quiet}
 
-abbrev pub listed_service : ServiceHash → Service → Entry
+abbrev pub listed_service : ServiceHash → QuietService → Entry
 listed_service h x = record {
   hash = h;
   row = listed.Published x.number (form.description x.description);

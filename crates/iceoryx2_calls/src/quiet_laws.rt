@@ -30,7 +30,7 @@ ghost use Rattle.iceoryx2_rounds.specs.Opens.{IsOpenWord};
 ghost use Rattle.iceoryx2_rounds.specs.Closes.{IsCloseWord};
 ghost use Rattle.iceoryx2_builder.specs.declared.builder.event.asked.Asked.{Asked};
 ghost use Rattle.iceoryx2_builder.specs.Event.{event_meaning, event_adjusted};
-ghost use Rattle.iceoryx2_calls.specs.Quiet.{Quiet, Service, Shows, no_service, service_of, count_of};
+ghost use Rattle.iceoryx2_calls.specs.Quiet.{Quiet, QuietService, Shows, no_service, service_at, times_counted};
 ghost use Rattle.iceoryx2_calls.specs.QuietCalls.{IsRegular, Creates, Opens, Closes, HasPlace, HasNumber};
 ghost use Rattle.iceoryx2_calls.specs.QuietLists.{listing};
 ghost use Rattle.iceoryx2_calls.specs.QuietLaws.{IsCall, IsClose, HasOpened, HoldsTheSame, HasNothingAt, times_opened};
@@ -65,7 +65,7 @@ pub fn quiet_laws()
 
     // Of a service that the machine doesn't have nothing is there.
     ensures absent { (w : World) (q : Quiet) (hash : ServiceHash)
-        → Shows w q → service_of q hash ≡ None → HasNothingAt w hash }
+        → Shows w q → service_at q hash ≡ None → HasNothingAt w hash }
 
     // Where no ticket is left, no service is, and nothing of any.
     ensures unused { (w : World) (q : Quiet)
@@ -85,9 +85,9 @@ pub fn quiet_laws()
     // What a builder of events has created the same builder opens: while the service stands, with a
     // place and a number left, an open with the same settings is Ok or wants memory.
     ensures own_settings { (asked : Asked) (hash : ServiceHash) (name : List ℕ) (now : Result Span ClockFault)
-        (creator node : ℕ) (q p u z : Quiet) (f : Factory) (x : Service) (answer : Result Factory EventOpenError)
+        (creator node : ℕ) (q p u z : Quiet) (f : Factory) (x : QuietService) (answer : Result Factory EventOpenError)
         → Creates (event_meaning (event_adjusted asked)) q creator hash name now (Ok f) p
-        → service_of u hash ≡ Some x → x.description ≡ f.description → HasPlace x node → HasNumber u
+        → service_at u hash ≡ Some x → x.description ≡ f.description → HasPlace x node → HasNumber u
         → Opens (event_meaning asked) u node hash answer z
         → IfErr answer (λ e. e ≡ opening.OutOfMemory) }
 {}
@@ -127,8 +127,8 @@ pub fn quiet_calls<F: Copy, E: Copy, C: Copy>()
     // A further factory of a node takes no further place: the segment stays as it is, and the
     // node's count rises by one.
     ensures again { (m : Meaning F E C) (node : ℕ) (hash : ServiceHash)
-        (w v : World) (q p : Quiet) (r : Factory) (x : Service) (k : ℕ)
-        → Shows w q → Shows v p → service_of q hash ≡ Some x → count_of x node ≡ Some k
+        (w v : World) (q p : Quiet) (r : Factory) (x : QuietService) (k : ℕ)
+        → Shows w q → Shows v p → service_at q hash ≡ Some x → times_counted x node ≡ Some k
         → Opens m q node hash (Ok r) p
         → (segment_of v hash ≡ segment_of w hash)
         × (join_count (phase_of w (Node node) hash) ≡ k)
@@ -137,8 +137,8 @@ pub fn quiet_calls<F: Copy, E: Copy, C: Copy>()
     // While a service stands that fits and that the requirement accepts, and a place and a number
     // are left, an open is Ok or wants memory.
     ensures accepted { (m : Meaning F E C) (node : ℕ) (hash : ServiceHash)
-        (q p : Quiet) (x : Service) (answer : Result Factory E)
-        → service_of q hash ≡ Some x → m.misfit x.description ≡ None
+        (q p : Quiet) (x : QuietService) (answer : Result Factory E)
+        → service_at q hash ≡ Some x → m.misfit x.description ≡ None
         → verdict (m.requirement x.description) ≡ Ok tt → HasPlace x node → HasNumber q
         → Opens m q node hash answer p
         → IfErr answer (λ e. e ≡ m.open_refusal OutOfMemory) }

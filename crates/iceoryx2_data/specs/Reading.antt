@@ -101,10 +101,10 @@ unfoldable pub pattern_at : Part MessagingPattern
 pattern_at [] = None
 pattern_at (b ∷ rest) = if b == EVENT_BYTE then (event_at rest >>= λ x. Some (Event x.0, x.1)) else None
 
-abbrev pub Parts : Type 0
-Parts = Unit {0} × (Unit {0} × (List ℕ × (List ℕ × (Unit {0} × MessagingPattern))))
+abbrev pub DescriptionParts : Type 0
+DescriptionParts = Unit {0} × (Unit {0} × (List ℕ × (List ℕ × (Unit {0} × MessagingPattern))))
 
-abbrev pub description_from : Parts → Description
+abbrev pub description_from : DescriptionParts → Description
 description_from p = record { hash = record { 0 = p.1.1.0 }; name = p.1.1.1.0; pattern = p.1.1.1.1.1 }
 
 unfoldable pub description_at : Part Description

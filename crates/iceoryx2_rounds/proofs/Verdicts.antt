@@ -1,6 +1,6 @@
 use Rattle.std.proofs.Common.{◌≡◌, Bool, true, false, List, [], ◌∷◌, ◌++◌, Result, Ok, Err, refl, sym, subst, ap, arith, All}
 use Rattle.std.proofs.lemmas.List.Elements.{All-cons}
-use Rattle.iceoryx2_rounds.specs.Verdict.{Clause, Row, verdict, marked_clauses, and_then, IsMet, IsVerdict, IsFirstUnmet}
+use Rattle.iceoryx2_rounds.specs.Verdict.{Clause, SettingRow, verdict, marked_clauses, and_then, IsMet, IsVerdict, IsFirstUnmet}
 
 passes : {E : Type 0} (c : Clause E) (cs : List (Clause E)) (met : Bool) → c.is_met ≡ met → verdict (c ∷ []) ≡ Ok tt → verdict (c ∷ cs) ≡ verdict cs
 unfolding verdict
@@ -12,22 +12,22 @@ unfolding verdict
 fails c cs error true e h = let k = rw e at h in cc
 fails c cs error false e h = let k = rw e at h in rw e k
 
-passes_row : {E : Type 0} (row : Row E) (rows : List (Row E)) (marked : Bool) → row.is_marked ≡ marked → verdict (marked_clauses (row ∷ [])) ≡ Ok tt → verdict (marked_clauses (row ∷ rows)) ≡ verdict (marked_clauses rows)
+passes_row : {E : Type 0} (row : SettingRow E) (rows : List (SettingRow E)) (marked : Bool) → row.is_marked ≡ marked → verdict (marked_clauses (row ∷ [])) ≡ Ok tt → verdict (marked_clauses (row ∷ rows)) ≡ verdict (marked_clauses rows)
 unfolding marked_clauses
 passes_row row rows true e h = let k = rw e at h in rw e (passes row.clause (marked_clauses rows) row.clause.is_met refl k)
 passes_row row rows false e h = rw e refl
 
-fails_row : {E : Type 0} (row : Row E) (rows : List (Row E)) (error : E) (marked : Bool) → row.is_marked ≡ marked → verdict (marked_clauses (row ∷ [])) ≡ Err error → verdict (marked_clauses (row ∷ rows)) ≡ Err error
+fails_row : {E : Type 0} (row : SettingRow E) (rows : List (SettingRow E)) (error : E) (marked : Bool) → row.is_marked ≡ marked → verdict (marked_clauses (row ∷ [])) ≡ Err error → verdict (marked_clauses (row ∷ rows)) ≡ Err error
 unfolding marked_clauses verdict
 fails_row row rows error true e h = let k = rw e at h in rw e (fails row.clause (marked_clauses rows) error row.clause.is_met refl k)
 fails_row row rows error false e h = let k = rw e at h in cc
 
-by_verdict : {E : Type 0} (row : Row E) (rows : List (Row E)) (v : Result (Unit {0}) E) → verdict (marked_clauses (row ∷ [])) ≡ v → verdict (marked_clauses (row ∷ rows)) ≡ and_then v (verdict (marked_clauses rows))
+by_verdict : {E : Type 0} (row : SettingRow E) (rows : List (SettingRow E)) (v : Result (Unit {0}) E) → verdict (marked_clauses (row ∷ [])) ≡ v → verdict (marked_clauses (row ∷ rows)) ≡ and_then v (verdict (marked_clauses rows))
 by_verdict row rows (Ok u) h = passes_row row rows row.is_marked refl h
 by_verdict row rows (Err e) h = fails_row row rows e row.is_marked refl h
 
 -- a row decides alone, or leaves it to the others
-pub row_decides : {E : Type 0} (row : Row E) (rows : List (Row E)) → verdict (marked_clauses (row ∷ rows)) ≡ and_then (verdict (marked_clauses (row ∷ []))) (verdict (marked_clauses rows))
+pub row_decides : {E : Type 0} (row : SettingRow E) (rows : List (SettingRow E)) → verdict (marked_clauses (row ∷ rows)) ≡ and_then (verdict (marked_clauses (row ∷ []))) (verdict (marked_clauses rows))
 row_decides row rows = by_verdict row rows _ refl
 
 -- no row refuses nothing

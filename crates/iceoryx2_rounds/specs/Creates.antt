@@ -47,7 +47,8 @@ module _ {F E C : Type 0} (m : Meaning F E C) (node : ℕ) (hash : ServiceHash) 
     no_copies : {u : List Letter} → IsLookWord m node hash u Nothing
         → IsEntryWord (u ++ Counts node hash false ∷ []) (Err (m.create_refusal refusal.OutOfMemory))
     no_tag : {u : List Letter} (e : TagError) → IsLookWord m node hash u Nothing
-        → IsEntryWord (u ++ Counts node hash false ∷ MakeTag node hash (Err e) ∷ []) (Err (m.create_refusal (of_tag e)))
+        → IsEntryWord (u ++ Counts node hash false ∷ MakeTag node hash (Err e) ∷ [])
+        (Err (m.create_refusal (of_tag e)))
     entered : {u : List Letter} (tag : Tag) → IsLookWord m node hash u Nothing
         → IsEntryWord (u ++ Counts node hash false ∷ MakeTag node hash (Ok tag) ∷ []) (Ok tag)
 

@@ -64,7 +64,8 @@ module _ (node : ℕ) (hash : ServiceHash) where
         → MakesNothing (MakeSegment node hash number max_nodes (Err error))
     publishes_nothing : {number : ℕ} {d : Description} {error : PublishError}
         → MakesNothing (Publish node hash number d (Err error))
-    opens_nothing : {number : ℕ} {error : OpenSegmentError} → MakesNothing (OpenSegment node hash number (Err error))
+    opens_nothing : {number : ℕ} {error : OpenSegmentError}
+        → MakesNothing (OpenSegment node hash number (Err error))
 
   -- The tag is made first, then the lock, then the segment. Only what was made last is given back, by one removal; what
   -- is left where that is refused is remembered. A segment of another is removed right after it was found.
@@ -72,7 +73,8 @@ module _ (node : ℕ) (hash : ServiceHash) where
     ends : {t : KeptTag} {k : KeptLock} → Keeps t k [] t k
     makes_tag : {is_left : Bool} {t : KeptTag} {k : KeptLock} {word : List Letter} → Keeps HasTag NoLock word t k
         → Keeps (NoTag is_left) NoLock (MakeTag node hash (Ok tag.Made) ∷ word) t k
-    locks : {s t : KeptTag} {k : KeptLock} {word : List Letter} {number : ℕ} → Keeps s (Locked number false) word t k
+    locks : {s t : KeptTag} {k : KeptLock} {word : List Letter} {number : ℕ}
+        → Keeps s (Locked number false) word t k
         → Keeps s NoLock (Lock node hash (Ok number) ∷ word) t k
     makes_segment : {s t : KeptTag} {k : KeptLock} {word : List Letter} {number max_nodes : ℕ}
         → Keeps s (WithSegment number) word t k
@@ -81,7 +83,8 @@ module _ (node : ℕ) (hash : ServiceHash) where
         → Keeps s (HasService number) word t k
         → Keeps s (WithSegment number) (Publish node hash number d (Ok ticket) ∷ word) t k
     opens : {s t : KeptTag} {k : KeptLock} {word : List Letter} {number ticket : ℕ}
-        → Keeps s (HasService number) word t k → Keeps s NoLock (OpenSegment node hash number (Ok ticket) ∷ word) t k
+        → Keeps s (HasService number) word t k
+        → Keeps s NoLock (OpenSegment node hash number (Ok ticket) ∷ word) t k
     removes_segment : {s t : KeptTag} {k : KeptLock} {word : List Letter} {number : ℕ}
         (answer : Result (Unit {0}) RemoveError) → Keeps s (Locked number (is_err answer)) word t k
         → Keeps s (WithSegment number) (RemoveSegment node hash answer ∷ word) t k
@@ -94,7 +97,8 @@ module _ (node : ℕ) (hash : ServiceHash) where
     clears : {s t : KeptTag} {k : KeptLock} {word : List Letter} {number max_nodes : ℕ}
         {answer : Result (Unit {0}) RemoveError} → Keeps s (Locked number false) word t k
         → Keeps s (Locked number false)
-        (MakeSegment node hash number max_nodes (Err make.AlreadyExists) ∷ RemoveSegment node hash answer ∷ word) t k
+        (MakeSegment node hash number max_nodes (Err make.AlreadyExists) ∷ RemoveSegment node hash answer ∷ word)
+        t k
     goes_on : {s t : KeptTag} {j k : KeptLock} {word : List Letter} {letter : Letter}
         → MakesNothing letter → Keeps s j word t k → Keeps s j (letter ∷ word) t k
 

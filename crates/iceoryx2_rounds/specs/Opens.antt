@@ -21,7 +21,8 @@ use Rattle.iceoryx2_rounds.specs.Refusals.{of_tag_opening, of_opening}
 module _ {F E C : Type 0} (m : Meaning F E C) (node : ℕ) (hash : ServiceHash) where
   -- A service is found that meets the requirement, and the node has its tag.
   pub data IsReady (n : ℕ) (d : Description) : Tag → List Letter → Type 0 where
-    ready : {u : List Letter} (tag : Tag) → IsLookWord m node hash u (Found n d) → verdict (m.requirement d) ≡ Ok tt
+    ready : {u : List Letter} (tag : Tag) → IsLookWord m node hash u (Found n d)
+        → verdict (m.requirement d) ≡ Ok tt
         → IsReady n d tag (u ++ MakeTag node hash (Ok tag) ∷ [])
 
   -- The opening fails, and a second look still finds a service.
@@ -58,7 +59,8 @@ module _ {F E C : Type 0} (m : Meaning F E C) (node : ℕ) (hash : ServiceHash) 
   -- so many rounds that fail, one after the other
   pub data AreFailedRounds : ℕ → List Letter → Type 0 where
     no_round : AreFailedRounds 0 []
-    one_more : {k : ℕ} {u v : List Letter} → AreFailedRounds k u → IsFailedRound v → AreFailedRounds (suc k) (u ++ v)
+    one_more : {k : ℕ} {u v : List Letter} → AreFailedRounds k u → IsFailedRound v
+        → AreFailedRounds (suc k) (u ++ v)
 
   -- At most as many failed rounds as are tried again and a last one, or one failed round more.
   pub data IsOpenWord : List Letter → Result Factory E → Type 0 where

@@ -9,12 +9,12 @@ pub record Clause (E : Type 0) : Type 0 where
   pub error : E
 
 -- One condition, and whether it is asked for at all.
-pub record Row (E : Type 0) : Type 0 where
+pub record SettingRow (E : Type 0) : Type 0 where
   pub is_marked : Bool
   pub clause : Clause E
 
 -- the clauses of the marked rows, in order
-unfoldable pub marked_clauses : {E : Type 0} → List (Row E) → List (Clause E)
+unfoldable pub marked_clauses : {E : Type 0} → List (SettingRow E) → List (Clause E)
 marked_clauses [] = []
 marked_clauses (row ∷ rows) = if row.is_marked then row.clause ∷ marked_clauses rows else marked_clauses rows
 
@@ -24,7 +24,7 @@ verdict [] = Ok tt
 verdict (clause ∷ clauses) = if clause.is_met then verdict clauses else Err clause.error
 
 -- the existing number must not be less than the required one
-unfoldable pub at_least : {E : Type 0} → (marked : Bool) → (existing required : ℕ) → E → Row E
+unfoldable pub at_least : {E : Type 0} → (marked : Bool) → (existing required : ℕ) → E → SettingRow E
 at_least marked existing required error =
     record { is_marked = marked; clause = record { is_met = nat_le required existing; error = error } }
 
@@ -41,12 +41,12 @@ is_same_span (Some a) None = false
 is_same_span (Some a) (Some b) = nat_eq a.seconds b.seconds && nat_eq a.nanoseconds b.nanoseconds
 
 -- the existing number, or none, must be the required one
-unfoldable pub number_is : {E : Type 0} → (marked : Bool) → (existing required : Option ℕ) → E → Row E
+unfoldable pub number_is : {E : Type 0} → (marked : Bool) → (existing required : Option ℕ) → E → SettingRow E
 number_is marked existing required error =
     record { is_marked = marked; clause = record { is_met = is_same_number existing required; error = error } }
 
 -- the existing length of time, or none, must be the required one
-unfoldable pub span_is : {E : Type 0} → (marked : Bool) → (existing required : Option Span) → E → Row E
+unfoldable pub span_is : {E : Type 0} → (marked : Bool) → (existing required : Option Span) → E → SettingRow E
 span_is marked existing required error =
     record { is_marked = marked; clause = record { is_met = is_same_span existing required; error = error } }
 

@@ -28,7 +28,8 @@ pub record IsQuiet (s : SessionState) (q : Quiet) : Type 0 where
   pub agrees : Agrees s.table.world
 
 -- What the machine answers to a builder call, and its state after it.
-abbrev pub Answers : Quiet → BuilderCall → How → Result Span ClockFault → Result Factory Refusal → Quiet → Type 0
+abbrev pub Answers : Quiet → BuilderCall → How → Result Span ClockFault → Result Factory Refusal
+    → Quiet → Type 0
 Answers q b how.Create now answer p =
     (a : Result Factory b.create_error) × (answer ≡ with_refusal b.refusal_of_create a)
     × Creates b.creating q b.node b.hash b.name now a p
@@ -39,7 +40,8 @@ Answers q b how.Open now answer p =
 -- A command with its reply moves the machine and the slots.
 pub data Moves (config : Config) (q : Quiet) (slots : List (Option Factory))
     : Command → Reply → Quiet → List (Option Factory) → Type 0 where
-  call_past : {call : Call} → slot_count ≤ call.slot → Moves config q slots (command.Call call) reply.NoSuchSlot q slots
+  call_past : {call : Call} → slot_count ≤ call.slot
+      → Moves config q slots (command.Call call) reply.NoSuchSlot q slots
   call_taken : {call : Call} → TakenAt slots call.slot
       → Moves config q slots (command.Call call) reply.SlotInUse q slots
   called : {call : Call} (f : Factory) {p : Quiet} → FreeAt slots call.slot
@@ -49,7 +51,8 @@ pub data Moves (config : Config) (q : Quiet) (slots : List (Option Factory))
   refused : {call : Call} {e : Refusal} {p : Quiet} → FreeAt slots call.slot
       → Answers q (builder_call config call) call.how call.now (Err e) p
       → Moves config q slots (command.Call call) (reply.Refused e) p slots
-  close_past : {slot : ℕ} → slot_count ≤ slot → Moves config q slots (command.Close slot) reply.NoSuchSlot q slots
+  close_past : {slot : ℕ} → slot_count ≤ slot
+      → Moves config q slots (command.Close slot) reply.NoSuchSlot q slots
   close_empty : {slot : ℕ} → FreeAt slots slot → Moves config q slots (command.Close slot) reply.SlotEmpty q slots
   closed : {slot : ℕ} (f : Factory) {p : Quiet} → HoldsAt slots slot f → Closes q f.node f.description.hash p
       → Moves config q slots (command.Close slot) (reply.Closed slot) p (slice_set slots slot None)

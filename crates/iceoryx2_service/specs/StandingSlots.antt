@@ -10,7 +10,8 @@ use Rattle.iceoryx2_service.specs.Sessions.{SessionState}
 -- Each slot's factory stands, with a ticket of its own.
 pub record SlotsStand (s : SessionState) : Type 0 where
   pub stand : (k : ℕ) (f : Factory) → HoldsAt s.slots k f → Stands s.table.world f
-  pub apart : (j k : ℕ) (f g : Factory) → HoldsAt s.slots j f → HoldsAt s.slots k g → f.ticket ≡ g.ticket → j ≡ k
+  pub apart : (j k : ℕ) (f g : Factory) → HoldsAt s.slots j f → HoldsAt s.slots k g
+      → f.ticket ≡ g.ticket → j ≡ k
 
 -- A slot's factory has this ticket.
 pub record HasTicket (slots : List (Option Factory)) (t : ℕ) : Type 0 where

@@ -66,7 +66,8 @@ impl Session {
 
     /// A session whose nodes have this configuration. All its slots are free.
     pub fn new(config: Config, table: Table) -> Session
-        ensures state { state_of result ≡ record { config = config; table = table; slots = replicate slot_count None } }
+        ensures state { state_of result
+            ≡ record { config = config; table = table; slots = replicate slot_count None } }
 
         // So each factory of a slot stands, whatever the table.
         ensures stands { SlotsStand (state_of result) }

@@ -18,9 +18,9 @@ use Rattle.iceoryx2_world.specs.Acts as act
 use Rattle.iceoryx2_world.specs.Steps.{Spot, spot_after, to_spot, row_for}
 use Rattle.iceoryx2_access.specs.Letter.{Letter, caller_of, service_of}
 use Rattle.iceoryx2_access.specs.declared.storage.OpenSegmentError.{OpenSegmentError}
-use Rattle.iceoryx2_world.specs.Access.{Seat, Change, nothing, moves_with, with_ticket, opening_of, read_change, publishing_of, has_made, has_lock, make_of, moves, or_refused, IsSeatAnswer, IsOwnPart, IsAnswer, IsSureAnswer, seat, write}
+use Rattle.iceoryx2_world.specs.Access.{Seat, Change, nothing, spot_becomes_with, with_ticket, opening_of, read_change, publishing_of, has_made, has_lock, make_of, spot_becomes, or_refused, IsSeatAnswer, IsOwnPart, IsAnswer, IsSureAnswer, seat, write}
 use Rattle.iceoryx2_storage.proofs.Views.{both_true}
-use Rattle.iceoryx2_storage.specs.Book.{Book, TakesStep, step_at, world, segment_fits}
+use Rattle.iceoryx2_storage.specs.Book.{Book, TakesStep, step_at, world_with, segment_fits}
 
 -- what was shown of the fields, of the value
 pub part : {a w v : World} (l : Letter) (c : Change) → a ≡ w → IsSeatAnswer (caller_of l) (service_of l) (seat a (caller_of l) (service_of l)) l c → v ≡ write a (caller_of l) (service_of l) c → IsOwnPart w l v
@@ -55,9 +55,9 @@ some_of None e = absurd (cc)
 some_of (Some x) e = record { it = x; is = refl }
 
 -- who may not read what is published has read it before
-pub read_or_not : (i : ℕ) (h : ServiceHash) (b c : Book) (t : set.FinSet tag_cmp) (k : Tickets) (done : Bool) → TakesStep b (Node i) h act.Read done c → world c t k ≡ write (world b t k) i h (read_change (step_at b (Node i) h act.Read))
-read_or_not i h b c t k true s = ap (λ x. world x t k) s.2 ∙ ap (λ o. write (world b t k) i h (read_change o)) (sym s.1)
-read_or_not i h b c t k false s = ap (λ x. world x t k) s.1 ∙ ap (λ o. write (world b t k) i h (read_change o)) (sym s.0)
+pub read_or_not : (i : ℕ) (h : ServiceHash) (b c : Book) (t : set.FinSet tag_cmp) (k : Tickets) (done : Bool) → TakesStep b (Node i) h act.Read done c → world_with c t k ≡ write (world_with b t k) i h (read_change (step_at b (Node i) h act.Read))
+read_or_not i h b c t k true s = ap (λ x. world_with x t k) s.2 ∙ ap (λ o. write (world_with b t k) i h (read_change o)) (sym s.1)
+read_or_not i h b c t k false s = ap (λ x. world_with x t k) s.1 ∙ ap (λ o. write (world_with b t k) i h (read_change o)) (sym s.0)
 
 module _ (i : ℕ) (h : ServiceHash) (n : ℕ) (d : Description) (k : Tickets) (r : Option Row) (c : ℕ) where
   -- what a node publishes that made the segment, or why it doesn't
@@ -99,7 +99,7 @@ module _ (i : ℕ) (h : ServiceHash) (n : ℕ) (d : Description) (k : Tickets) (
 
 -- an opening that isn't refused
 pub opens_by : (i : ℕ) (h : ServiceHash) (n : ℕ) (s : Seat) (r : Option OpenSegmentError) (o : Option Spot) (x : Spot) → r ≡ None → o ≡ Some x
-    → opening_of i h n s r o ≡ Ok (s.spot.counter, moves_with (record x { counter = s.spot.counter + 1 }) (with_ticket i h s.tickets s.spot.counter n))
+    → opening_of i h n s r o ≡ Ok (s.spot.counter, spot_becomes_with (record x { counter = s.spot.counter + 1 }) (with_ticket i h s.tickets s.spot.counter n))
 opens_by i h n s r o x e f = ap (λ (q : Option OpenSegmentError). opening_of i h n s q o) e ∙ ap (opening_of i h n s None) f
 
 -- who holds the lock is refused a segment only because there is one
@@ -120,7 +120,7 @@ make_refused i h n m (at.Cleared k) r None c may e = absurd (cc)
 
 -- a segment is made only where there is none
 pub make_done : (i : ℕ) (h : ServiceHash) (m : ℕ) (x : Phase) (r : Option Row) (s : Option Segment) (c : ℕ) (y : Spot) → spot_after (Node i) h (act.Make m) x r s c ≡ Some y
-    → make_of i h m (record { phase = x; row = r; segment = s; counter = c }) s ≡ Ok (tt, moves y)
+    → make_of i h m (record { phase = x; row = r; segment = s; counter = c }) s ≡ Ok (tt, spot_becomes y)
 make_done i h m x r None c y e = ap (or_refused Making.Other tt) e
 make_done i h m (at.Locked k) r (Some s) c y e = absurd (cc)
 make_done i h m at.Idle r (Some s) c y e = absurd (cc)

@@ -14,7 +14,7 @@ use Rattle.iceoryx2_world.specs.declared.listing.Entry.{Entry}
 use Rattle.iceoryx2_world.specs.Orders.{hash_cmp, hash_total, hash_exact}
 use Rattle.iceoryx2_world.specs.World.{Segment}
 use Rattle.iceoryx2_world.specs.Listing.{entry_of, entry_at, by_hash, ListsAll}
-use Rattle.iceoryx2_storage.specs.Merge.{Rows, Segments, merge, IsStep}
+use Rattle.iceoryx2_storage.specs.Merge.{RowEntries, SegmentEntries, merge, IsStep}
 
 less_of : (o : Ordering) → T (is_lt o) → o ≡ Less
 less_of Less h = refl
@@ -46,7 +46,7 @@ none_below q (e ∷ es) h = let p = parts _ _ h in rw (less_of (hash_cmp q e.0) 
 back : (x y : ServiceHash) → hash_cmp x y ≡ Greater → hash_cmp y x ≡ Less
 back x y e = hash_total.antisymm y x ∙ ap ordering_reverse e
 
-below : (h : ServiceHash) (rs : Rows) (ss : Segments) → T (below_all hash_cmp h rs) → T (below_all hash_cmp h ss) → T (below_all hash_cmp h (by_hash (merge rs ss)))
+below : (h : ServiceHash) (rs : RowEntries) (ss : SegmentEntries) → T (below_all hash_cmp h rs) → T (below_all hash_cmp h ss) → T (below_all hash_cmp h (by_hash (merge rs ss)))
 unfolding merge
 below h [] [] a b = tt
 below h [] (s ∷ ss) a b = let p = parts _ _ b in both _ _ p.0 (below h [] ss tt p.1)
@@ -63,7 +63,7 @@ below h (r ∷ rs) (s ∷ ss) a b =
       | Greater ↦ both _ _ q.0 (below h (r ∷ rs) ss a q.1)
     ]
 
-ascends : (rs : Rows) (ss : Segments) → T (is_sorted hash_cmp rs) → T (is_sorted hash_cmp ss) → T (is_sorted hash_cmp (by_hash (merge rs ss)))
+ascends : (rs : RowEntries) (ss : SegmentEntries) → T (is_sorted hash_cmp rs) → T (is_sorted hash_cmp ss) → T (is_sorted hash_cmp (by_hash (merge rs ss)))
 unfolding merge
 ascends [] [] a b = tt
 ascends [] (s ∷ ss) a b = let p = parts _ _ b in both _ _ (below s.0 [] ss tt p.0) (ascends [] ss tt p.1)
@@ -84,7 +84,7 @@ ascends (r ∷ rs) (s ∷ ss) a b =
 found_key : (q h : ServiceHash) → eq_by_cmp hash_cmp q h ≡ true → q ≡ h
 found_key q h e = hash_exact q h ((Equal-is (hash_cmp q h)).0 e)
 
-find_row : (q : ServiceHash) (r : ServiceHash × Row) (rs : Rows) (ss : Segments) (found : Option Entry) → T (below_all hash_cmp r.0 ss) → found ≡ entry_at q (find hash_cmp q rs) (find hash_cmp q ss)
+find_row : (q : ServiceHash) (r : ServiceHash × Row) (rs : RowEntries) (ss : SegmentEntries) (found : Option Entry) → T (below_all hash_cmp r.0 ss) → found ≡ entry_at q (find hash_cmp q rs) (find hash_cmp q ss)
     → cond (eq_by_cmp hash_cmp q r.0) (Some (entry_of r.0 (Some r.1) None)) found ≡ entry_at q (find hash_cmp q (r ∷ rs)) (find hash_cmp q ss)
 find_row q r rs ss found b rest =
     elim (eq_by_cmp hash_cmp q r.0) as (λ t. eq_by_cmp hash_cmp q r.0 ≡ t → cond t (Some (entry_of r.0 (Some r.1) None)) found ≡ entry_at q (cond t (Some r.1) (find hash_cmp q rs)) (find hash_cmp q ss)) [
@@ -95,7 +95,7 @@ find_row q r rs ss found b rest =
       | false ↦ λ t. rest
     ] refl
 
-find_segment : (q : ServiceHash) (s : ServiceHash × Segment) (rs : Rows) (ss : Segments) (found : Option Entry) → T (below_all hash_cmp s.0 rs) → found ≡ entry_at q (find hash_cmp q rs) (find hash_cmp q ss)
+find_segment : (q : ServiceHash) (s : ServiceHash × Segment) (rs : RowEntries) (ss : SegmentEntries) (found : Option Entry) → T (below_all hash_cmp s.0 rs) → found ≡ entry_at q (find hash_cmp q rs) (find hash_cmp q ss)
     → cond (eq_by_cmp hash_cmp q s.0) (Some (entry_of s.0 None (Some s.1))) found ≡ entry_at q (find hash_cmp q rs) (find hash_cmp q (s ∷ ss))
 find_segment q s rs ss found b rest =
     elim (eq_by_cmp hash_cmp q s.0) as (λ t. eq_by_cmp hash_cmp q s.0 ≡ t → cond t (Some (entry_of s.0 None (Some s.1))) found ≡ entry_at q (find hash_cmp q rs) (cond t (Some s.1) (find hash_cmp q ss))) [
@@ -106,7 +106,7 @@ find_segment q s rs ss found b rest =
       | false ↦ λ t. rest
     ] refl
 
-find_both : (q : ServiceHash) (r : ServiceHash × Row) (s : ServiceHash × Segment) (rs : Rows) (ss : Segments) (found : Option Entry) → r.0 ≡ s.0 → found ≡ entry_at q (find hash_cmp q rs) (find hash_cmp q ss)
+find_both : (q : ServiceHash) (r : ServiceHash × Row) (s : ServiceHash × Segment) (rs : RowEntries) (ss : SegmentEntries) (found : Option Entry) → r.0 ≡ s.0 → found ≡ entry_at q (find hash_cmp q rs) (find hash_cmp q ss)
     → cond (eq_by_cmp hash_cmp q r.0) (Some (entry_of r.0 (Some r.1) (Some s.1))) found ≡ entry_at q (find hash_cmp q (r ∷ rs)) (find hash_cmp q (s ∷ ss))
 find_both q r s rs ss found same rest =
     subst (λ h. cond (eq_by_cmp hash_cmp q r.0) (Some (entry_of r.0 (Some r.1) (Some s.1))) found ≡ entry_at q (cond (eq_by_cmp hash_cmp q r.0) (Some r.1) (find hash_cmp q rs)) (cond (eq_by_cmp hash_cmp q h) (Some s.1) (find hash_cmp q ss))) same
@@ -115,7 +115,7 @@ find_both q r s rs ss found same rest =
       | false ↦ λ t. rest
     ] refl)
 
-finds : (q : ServiceHash) (rs : Rows) (ss : Segments) → T (is_sorted hash_cmp rs) → T (is_sorted hash_cmp ss) → find hash_cmp q (by_hash (merge rs ss)) ≡ entry_at q (find hash_cmp q rs) (find hash_cmp q ss)
+finds : (q : ServiceHash) (rs : RowEntries) (ss : SegmentEntries) → T (is_sorted hash_cmp rs) → T (is_sorted hash_cmp ss) → find hash_cmp q (by_hash (merge rs ss)) ≡ entry_at q (find hash_cmp q rs) (find hash_cmp q ss)
 unfolding merge
 finds q [] [] a b = refl
 finds q [] (s ∷ ss) a b = find_segment q s [] ss _ tt (finds q [] ss tt (parts _ _ b).1)
@@ -147,7 +147,7 @@ at_place xs i x lt is = drop_more xs i x lt ∙ ap (λ y. y ∷ drop (i + 1) xs)
 grown : (es fs more : List Entry) (e : Entry) → fs ≡ es ++ e ∷ [] → fs ++ more ≡ es ++ (e ∷ more)
 grown es fs more e is = ap (λ l. l ++ more) is ∙ append_assoc es (e ∷ []) more
 
-walked : (rs : Rows) (ss : Segments) (i j m n : ℕ) (es fs : List Entry) (e : Entry) → fs ≡ es ++ e ∷ [] → merge (drop i rs) (drop j ss) ≡ e ∷ merge (drop m rs) (drop n ss)
+walked : (rs : RowEntries) (ss : SegmentEntries) (i j m n : ℕ) (es fs : List Entry) (e : Entry) → fs ≡ es ++ e ∷ [] → merge (drop i rs) (drop j ss) ≡ e ∷ merge (drop m rs) (drop n ss)
     → m ≤ length rs → n ≤ length ss → i + j < m + n → IsStep rs ss (i, j) es (m, n) fs
 walked rs ss i j m n es fs e grows next rows segments more = record {
   same = grown es fs _ e grows ∙ ap (λ l. es ++ l) (sym next);
@@ -156,15 +156,15 @@ walked rs ss i j m n es fs e grows next rows segments more = record {
   more = more;
 }
 
-merge_row : (r : ServiceHash × Row) (rs : Rows) → merge (r ∷ rs) [] ≡ entry_of r.0 (Some r.1) None ∷ merge rs []
+merge_row : (r : ServiceHash × Row) (rs : RowEntries) → merge (r ∷ rs) [] ≡ entry_of r.0 (Some r.1) None ∷ merge rs []
 unfolding merge
 merge_row r rs = refl
 
-merge_segment : (s : ServiceHash × Segment) (ss : Segments) → merge [] (s ∷ ss) ≡ entry_of s.0 None (Some s.1) ∷ merge [] ss
+merge_segment : (s : ServiceHash × Segment) (ss : SegmentEntries) → merge [] (s ∷ ss) ≡ entry_of s.0 None (Some s.1) ∷ merge [] ss
 unfolding merge
 merge_segment s ss = refl
 
-merge_both : (r : ServiceHash × Row) (s : ServiceHash × Segment) (rs : Rows) (ss : Segments) (o : Ordering) → hash_cmp r.0 s.0 ≡ o → merge (r ∷ rs) (s ∷ ss) ≡ match_ordering o
+merge_both : (r : ServiceHash × Row) (s : ServiceHash × Segment) (rs : RowEntries) (ss : SegmentEntries) (o : Ordering) → hash_cmp r.0 s.0 ≡ o → merge (r ∷ rs) (s ∷ ss) ≡ match_ordering o
     (entry_of r.0 (Some r.1) None ∷ merge rs (s ∷ ss))
     (entry_of r.0 (Some r.1) (Some s.1) ∷ merge rs ss)
     (entry_of s.0 None (Some s.1) ∷ merge (r ∷ rs) ss)
@@ -180,7 +180,7 @@ past [] (suc i) le = refl
 past (x ∷ xs) zero le = absurd (omega arith)
 past (x ∷ xs) (suc i) le = past xs i (omega arith)
 
-module _ (rs : Rows) (ss : Segments) (i j : ℕ) (es fs : List Entry) where
+module _ (rs : RowEntries) (ss : SegmentEntries) (i j : ℕ) (es fs : List Entry) where
   pub only_row : (r : ServiceHash × Row) → i < length rs → r ≡ get_or rs i r → j ≡ length ss → fs ≡ es ++ entry_of r.0 (Some r.1) None ∷ [] → IsStep rs ss (i, j) es (i + 1, j) fs
   only_row r lt is end grows =
       let none = past ss j (omega arith) in
@@ -220,6 +220,6 @@ unfolding merge
 merge_nothing = refl
 
 -- all is listed
-pub all_listed : (rs : Rows) (ss : Segments) (i j : ℕ) (es : List Entry) → length rs ≤ i → length ss ≤ j → es ++ merge (drop i rs) (drop j ss) ≡ merge rs ss → es ≡ merge rs ss
+pub all_listed : (rs : RowEntries) (ss : SegmentEntries) (i j : ℕ) (es : List Entry) → length rs ≤ i → length ss ≤ j → es ++ merge (drop i rs) (drop j ss) ≡ merge rs ss → es ≡ merge rs ss
 all_listed rs ss i j es lr ls is =
     sym (append-nil es) ∙ ap (λ l. es ++ l) (sym ((λ k. merge (past rs i lr k) (past ss j ls k)) ∙ merge_nothing)) ∙ is

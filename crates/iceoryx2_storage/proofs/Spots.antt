@@ -14,7 +14,7 @@ use Rattle.iceoryx2_world.specs.Acts as act
 use Rattle.iceoryx2_world.specs.declared.world.Row.TheVariants as row
 use Rattle.iceoryx2_data.specs.Description.{Description}
 use Rattle.iceoryx2_world.specs.Steps.{Spot, spot_after, to_spot, fits, has_room, last_number, with_one, row_for}
-use Rattle.iceoryx2_storage.specs.Book.{Book, step_at, with_spot, needs_room, HasEffect, Starves, Leaves, published_number, segment_fits}
+use Rattle.iceoryx2_storage.specs.Book.{Book, step_at, with_spot, needs_room, HasEffect, Starves, TakesLeave, published_number, segment_fits}
 use Rattle.iceoryx2_access.specs.declared.storage.OpenSegmentError.TheVariants as Opening
 use Rattle.iceoryx2_access.specs.declared.storage.Release.{Release as Released}
 use Rattle.iceoryx2_world.specs.Access.{release_answer, open_refusal}
@@ -36,8 +36,8 @@ refused p h t is e f = (ap (λ (x : Book). step_at x p h t) (sym is) ∙ e, f �
 pub starved : {a b new : Book} (p : Participant) (h : ServiceHash) (t : Act) (s : Spot) → a ≡ b → step_at a p h t ≡ Some s → needs_room t (or_idle (map.get a.phases (p, h))) ≡ true → new ≡ a → Starves b p h t new
 starved {a} {b} {new} p h t s is e room f = subst (λ (x : Book). Starves x p h t new) is (s, e, room, f)
 
-pub left : {a b new : Book} (p : Participant) (h : ServiceHash) (r : Released) (s : Spot) → a ≡ b → step_at a p h act.Leave ≡ Some s → r ≡ release_answer s.phase → new ≡ with_spot a p h s → Leaves b p h (Some r) new
-left {a} {b} {new} p h r s is e l f = subst (λ (x : Book). Leaves x p h (Some r) new) is (s, e, l, f)
+pub left : {a b new : Book} (p : Participant) (h : ServiceHash) (r : Released) (s : Spot) → a ≡ b → step_at a p h act.Leave ≡ Some s → r ≡ release_answer s.phase → new ≡ with_spot a p h s → TakesLeave b p h (Some r) new
+left {a} {b} {new} p h r s is e l f = subst (λ (x : Book). TakesLeave x p h (Some r) new) is (s, e, l, f)
 
 if_none : {E : Type 0} (b : Bool) (e : E) (o : Option E) → (if b then o else Some e) ≡ None → (b ≡ true) × (o ≡ None)
 if_none true e o x = (refl, x)

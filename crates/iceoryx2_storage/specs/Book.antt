@@ -30,15 +30,16 @@ pub record Book : Type 0 where
   pub phases : map.FinMap place_cmp Phase
   pub counter : ℕ
 
-abbrev pub Parts : Type 0
-Parts = map.FinMap hash_cmp Row × (map.FinMap hash_cmp Segment × (map.FinMap place_cmp Phase × ℕ))
+abbrev pub BookParts : Type 0
+BookParts = map.FinMap hash_cmp Row × (map.FinMap hash_cmp Segment × (map.FinMap place_cmp Phase × ℕ))
 
 abbrev pub coded_phases : Coded (map.FinMap place_cmp Phase)
 coded_phases = map.code (coded× coded_participant coded_hash) coded_phase
 
 abbrev pub coded_book : Coded Book
-coded_book = code_by Parts
-    (coded× (map.code coded_hash coded_row) (coded× (map.code coded_hash coded_segment) (coded× coded_phases coded_ℕ)))
+coded_book = code_by BookParts
+    (coded× (map.code coded_hash coded_row)
+    (coded× (map.code coded_hash coded_segment) (coded× coded_phases coded_ℕ)))
     (λ w. (w.rows, (w.segments, (w.phases, w.counter))))
     (λ p. record { rows = p.0; segments = p.1.0; phases = p.1.1.0; counter = p.1.1.1 })
     (λ _. refl)
@@ -95,10 +96,10 @@ MayTakeStep b p h a (Ok done) c = TakesStep b p h a done c
 MayTakeStep b p h a (Err e) c = Starves b p h a c
 
 -- a leave, with what it leaves
-abbrev pub Leaves : Book → Participant → ServiceHash → Option Released → Book → Type 0
-Leaves b p h (Some r) c =
+abbrev pub TakesLeave : Book → Participant → ServiceHash → Option Released → Book → Type 0
+TakesLeave b p h (Some r) c =
     (s : Spot) × (step_at b p h act.Leave ≡ Some s) × (r ≡ release_answer s.phase) × (c ≡ with_spot b p h s)
-Leaves b p h None c = (step_at b p h act.Leave ≡ None) × (c ≡ b)
+TakesLeave b p h None c = (step_at b p h act.Leave ≡ None) × (c ≡ b)
 
 -- there is a segment that the description fits
 abbrev pub segment_fits : ServiceHash → Option Segment → Description → Bool
@@ -133,7 +134,7 @@ TakesDescription x false =
     (p : Participant) (h : ServiceHash) (r : Option Row) (s : Option Segment) (c : ℕ)
     → spot_after p h act.RemoveDescription x r s c ≡ None
 
--- the world of the services, the tags and the tickets
-abbrev pub world : Book → set.FinSet tag_cmp → Tickets → World
-world b t k =
+-- the world_with of the services, the tags and the tickets
+abbrev pub world_with : Book → set.FinSet tag_cmp → Tickets → World
+world_with b t k =
     record { rows = b.rows; segments = b.segments; phases = b.phases; tags = t; tickets = k; counter = b.counter }

@@ -8,14 +8,14 @@ use Rattle.iceoryx2_world.specs.Orders.{hash_cmp}
 use Rattle.iceoryx2_world.specs.World.{Segment}
 use Rattle.iceoryx2_world.specs.Listing.{entry_of}
 
-abbrev pub Rows : Type 0
-Rows = List (ServiceHash × Row)
+abbrev pub RowEntries : Type 0
+RowEntries = List (ServiceHash × Row)
 
-abbrev pub Segments : Type 0
-Segments = List (ServiceHash × Segment)
+abbrev pub SegmentEntries : Type 0
+SegmentEntries = List (ServiceHash × Segment)
 
 -- the lesser hash goes first, and equal ones go together
-unfoldable pub merge : Rows → Segments → List Entry
+unfoldable pub merge : RowEntries → SegmentEntries → List Entry
 merge [] [] = []
 merge [] (s ∷ ss) = entry_of s.0 None (Some s.1) ∷ merge [] ss
 merge (r ∷ rs) [] = entry_of r.0 (Some r.1) None ∷ merge rs []
@@ -26,12 +26,12 @@ merge (r ∷ rs) (s ∷ ss) =
     (entry_of s.0 None (Some s.1) ∷ merge (r ∷ rs) ss)
 
 -- so many rows and segments
-abbrev pub Counts : Type 0
-Counts = ℕ × ℕ
+abbrev pub Progress : Type 0
+Progress = ℕ × ℕ
 
-module _ (rs : Rows) (ss : Segments) where
+module _ (rs : RowEntries) (ss : SegmentEntries) where
   -- From where so many are listed, some more are, and what was to come has come so far.
-  pub record IsStep (at : Counts) (es : List Entry) (next : Counts) (fs : List Entry) : Type 0 where
+  pub record IsStep (at : Progress) (es : List Entry) (next : Progress) (fs : List Entry) : Type 0 where
     pub same : fs ++ merge (drop next.0 rs) (drop next.1 ss) ≡ es ++ merge (drop at.0 rs) (drop at.1 ss)
     pub rows : next.0 ≤ length rs
     pub segments : next.1 ≤ length ss

@@ -89,14 +89,14 @@ seat_after s c = record {
 abbrev pub nothing : Change
 nothing = record { spot = None; tag = None; tickets = None }
 
-abbrev pub moves : Spot → Change
-moves x = record { spot = Some x; tag = None; tickets = None }
+abbrev pub spot_becomes : Spot → Change
+spot_becomes x = record { spot = Some x; tag = None; tickets = None }
 
 abbrev pub tag_becomes : Bool → Change
 tag_becomes b = record { spot = None; tag = Some b; tickets = None }
 
-abbrev pub moves_with : Spot → Tickets → Change
-moves_with x k = record { spot = Some x; tag = None; tickets = Some k }
+abbrev pub spot_becomes_with : Spot → Tickets → Change
+spot_becomes_with x k = record { spot = Some x; tag = None; tickets = Some k }
 
 -- An answer with its change, or want of memory in a success's place, which changes nothing.
 abbrev pub IsAnswer : {A E : Type 0} → E → Result (A × Change) E → Result A E → Change → Type 0
@@ -111,7 +111,7 @@ IsSureAnswer (Err e) r c = (r ≡ Err e) × (c ≡ nothing)
 -- the step, or the refusal where it is forbidden
 abbrev pub or_refused : {A E : Type 0} → E → A → Option Spot → Result (A × Change) E
 or_refused e a None = Err e
-or_refused e a (Some x) = Ok (a, moves x)
+or_refused e a (Some x) = Ok (a, spot_becomes x)
 
 abbrev pub existence : Option Row → Existence
 existence None = No
@@ -125,7 +125,7 @@ is_joined _ = false
 -- who may not read what is published has read it before
 abbrev pub read_change : Option Spot → Change
 read_change None = nothing
-read_change (Some x) = moves x
+read_change (Some x) = spot_becomes x
 
 abbrev pub has_lock : ℕ → Phase → Bool
 has_lock n (at.Locked m) = m == n
@@ -199,18 +199,19 @@ module _ (i : ℕ) (h : ServiceHash) where
   -- the ticket is the number
   abbrev pub publishing_of : ℕ → Tickets → Option Spot → Result (ℕ × Change) PublishError
   publishing_of n k None = Err Publishing.Other
-  publishing_of n k (Some x) = Ok (n, moves_with x (with_ticket k n n))
+  publishing_of n k (Some x) = Ok (n, spot_becomes_with x (with_ticket k n n))
 
-  abbrev pub opening_of : ℕ → Seat → Option OpenSegmentError → Option Spot → Result (ℕ × Change) OpenSegmentError
+  abbrev pub opening_of : ℕ → Seat → Option OpenSegmentError → Option Spot
+      → Result (ℕ × Change) OpenSegmentError
   opening_of n s (Some e) x = Err e
   opening_of n s None None = Err Opening.Failed
   opening_of n s None (Some x) =
       let ticket = s.spot.counter in
-      Ok (ticket, moves_with (record x { counter = ticket + 1 }) (with_ticket s.tickets ticket n))
+      Ok (ticket, spot_becomes_with (record x { counter = ticket + 1 }) (with_ticket s.tickets ticket n))
 
   abbrev pub release_of : ℕ → Tickets → Option Spot → Result (Released × Change) ReleaseError
   release_of t k None = Err NoSuchTicket
-  release_of t k (Some x) = Ok (release_answer x.phase, moves_with x (map.remove k t))
+  release_of t k (Some x) = Ok (release_answer x.phase, spot_becomes_with x (map.remove k t))
 
   -- what each access answers and changes: its own tests, and then the step
   abbrev pub make_answer : Seat → ℕ → ℕ → Result (Unit {0} × Change) MakeSegmentError

@@ -38,7 +38,8 @@ pub record IsSegmentOf (d : Description) (n : ℕ) (phase : Participant → Phas
   pub number : x.number ≡ n
   pub capacity : x.capacity ≡ max_nodes_of d.pattern
   pub few : set.len x.participants ≤ max_nodes_of d.pattern
-  pub members : (p : Participant) → set.contains x.participants p ≡ true → (k : ℕ) × (phase p ≡ at.Joined n k)
+  pub members : (p : Participant) → set.contains x.participants p ≡ true
+      → (k : ℕ) × (phase p ≡ at.Joined n k)
 
 -- The bytes are the byte form of a description of this service, and a segment beside them is its.
 pub record Describes (h : ServiceHash) (n : ℕ) (b : List ℕ) (s : Option Segment) (phase : Participant → Phase)
@@ -61,9 +62,11 @@ pub record AgreesAt (c : ℕ) (h : ServiceHash) (r : Option Row) (s : Option Seg
   pub one_holder : (p q : Participant) (m n : ℕ)
       → locked_number (phase p) ≡ Some m → locked_number (phase q) ≡ Some n → p ≡ q
   -- who is Made n has an unmarked segment of that number with room for one or more, alone in it
-  pub made : (p : Participant) (n : ℕ) → phase p ≡ at.Made n → (m : ℕ) × (1 ≤ m) × (s ≡ Some (new_segment p n m))
+  pub made : (p : Participant) (n : ℕ) → phase p ≡ at.Made n
+      → (m : ℕ) × (1 ≤ m) × (s ≡ Some (new_segment p n m))
   -- who is Joined n has joined once or more, and its service stands
-  pub joined : (p : Participant) (n k : ℕ) → phase p ≡ at.Joined n k → (1 ≤ k) × IsPublished n r × HasMember s n p
+  pub joined : (p : Participant) (n k : ℕ) → phase p ≡ at.Joined n k
+      → (1 ≤ k) × IsPublished n r × HasMember s n p
   -- who was the last to leave finds what it has to remove, and nobody else has
   pub leaving : (p : Participant) (n : ℕ) → phase p ≡ at.Leaving n → IsPublished n r × IsDeserted s n
   pub cleared : (p : Participant) (n : ℕ) → phase p ≡ at.Cleared n → IsPublished n r × (s ≡ None)
@@ -82,9 +85,11 @@ AgreesEverywhere w = (h : ServiceHash) → AgreesAt w.counter h (row_of w h) (se
 -- A later row of the same service: no number from before comes anew, what was published isn't locked again,
 -- and its bytes stay.
 pub record LaterAt (c : ℕ) (old new : Option Row) : Type 0 where
-  pub no_new : (x : Row) → new ≡ Some x → row_number x < c → (y : Row) × (old ≡ Some y) × (row_number y ≡ row_number x)
+  pub no_new : (x : Row) → new ≡ Some x → row_number x < c
+      → (y : Row) × (old ≡ Some y) × (row_number y ≡ row_number x)
   pub not_relocked : (n : ℕ) → IsPublished n old → new ≢ Some (row.Locked n)
-  pub same_bytes : (n : ℕ) (a b : List ℕ) → old ≡ Some (row.Published n a) → new ≡ Some (row.Published n b) → a ≡ b
+  pub same_bytes : (n : ℕ) (a b : List ℕ) → old ≡ Some (row.Published n a)
+      → new ≡ Some (row.Published n b) → a ≡ b
 
 -- A later world: numbers go on, and each row is a later one.
 pub record Later (old new : World) : Type 0 where

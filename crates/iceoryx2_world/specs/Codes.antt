@@ -60,7 +60,8 @@ back_phase (at.Leaving n) = refl
 back_phase (at.Cleared n) = refl
 
 abbrev pub coded_phase : Coded Phase
-coded_phase = code_by (ℕ × (ℕ × ℕ)) (coded× coded_ℕ (coded× coded_ℕ coded_ℕ)) to_phase from_phase back_phase
+coded_phase =
+    code_by (ℕ × (ℕ × ℕ)) (coded× coded_ℕ (coded× coded_ℕ coded_ℕ)) to_phase from_phase back_phase
 
 abbrev to_row : Row → ℕ × (ℕ × List ℕ)
 to_row (row.Locked n) = (0, (n, []))
@@ -74,7 +75,9 @@ back_row (row.Locked n) = refl
 back_row (row.Published n b) = refl
 
 abbrev pub coded_row : Coded Row
-coded_row = code_by (ℕ × (ℕ × List ℕ)) (coded× coded_ℕ (coded× coded_ℕ (coded_list coded_ℕ))) to_row from_row back_row
+coded_row =
+    code_by (ℕ × (ℕ × List ℕ)) (coded× coded_ℕ (coded× coded_ℕ (coded_list coded_ℕ)))
+    to_row from_row back_row
 
 abbrev pub coded_segment : Coded Segment
 coded_segment =
@@ -85,7 +88,8 @@ coded_segment =
 
 abbrev pub coded_ticket : Coded Ticket
 coded_ticket =
-    code_by (ℕ × (ServiceHash × ℕ)) (coded× coded_ℕ (coded× coded_hash coded_ℕ)) (λ t. (t.node, (t.hash, t.number)))
+    code_by (ℕ × (ServiceHash × ℕ)) (coded× coded_ℕ (coded× coded_hash coded_ℕ))
+    (λ t. (t.node, (t.hash, t.number)))
     (λ p. record { node = p.0; hash = p.1.0; number = p.1.1 }) (λ _. refl)
 
 -- what stands for the services, and what nodes hold

@@ -43,7 +43,8 @@ by_hash es = map (λ e. (e.hash, e)) es
 pub record ListsAll (rows : finite.FinMap hash_cmp Row) (segments : finite.FinMap hash_cmp Segment) (es : List Entry)
     : Type 0 where
   pub ascends : T (is_sorted hash_cmp (by_hash es))
-  pub each : (h : ServiceHash) → find hash_cmp h (by_hash es) ≡ entry_at h (finite.get rows h) (finite.get segments h)
+  pub each : (h : ServiceHash)
+      → find hash_cmp h (by_hash es) ≡ entry_at h (finite.get rows h) (finite.get segments h)
 
 abbrev pub Lists : World → List Entry → Type 0
 Lists w es = ListsAll w.rows w.segments es

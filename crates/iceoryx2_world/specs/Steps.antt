@@ -70,7 +70,8 @@ leave_of p n r (Some s) c =
     else to_spot (at.Leaving n) r (Some (without_any s)) c
 
 -- What a step of p at h changes, of its phase, the row, the segment and the counter there; none where it is forbidden.
-abbrev pub spot_after : Participant → ServiceHash → Act → Phase → Option Row → Option Segment → ℕ → Option Spot
+abbrev pub spot_after : Participant → ServiceHash → Act → Phase → Option Row → Option Segment → ℕ
+    → Option Spot
 spot_after p h Read at.Idle (Some (row.Published n b)) s c = to_spot (at.Read n) (Some (row.Published n b)) s c
 spot_after p h Read (at.Read m) (Some (row.Published n b)) s c = to_spot (at.Read n) (Some (row.Published n b)) s c
 spot_after p h Lock at.Idle None s c =

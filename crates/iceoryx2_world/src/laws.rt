@@ -107,7 +107,8 @@ pub fn agreement_of_worlds()
     // that very description, and a new ticket.
     ensures opened { (w v : World) (node number ticket : ℕ) (h : ServiceHash) (d : Description) (bytes : List ℕ)
         (word : List Letter)
-        → Run IsFaulty w (Fetch node h (Ok (number, bytes)) ∷ (word ++ OpenSegment node h number (Ok ticket) ∷ [])) v
+        → Run IsFaulty w
+        (Fetch node h (Ok (number, bytes)) ∷ (word ++ OpenSegment node h number (Ok ticket) ∷ [])) v
         → IsForm d bytes → d.hash ≡ h → Agrees w
         → Stands v (record { node = node; number = number; ticket = ticket; description = d })
         × (w.counter ≤ ticket) }

@@ -229,7 +229,8 @@ impl<K: Ord + Copy, V: Drop> SortedVec<K, V> {
     /// Takes the key at a place out, and gives its value.
     pub fn remove_at(&mut self, key: &K, place: Place) -> Option<V>
         requires { place ≡ place_in (map_of K.cmp self.old) key.now }
-        ensures effect { IsAntisymmetric K.cmp → map_of K.cmp self.new ≡ map.remove (map_of K.cmp self.old) key.now }
+        ensures effect { IsAntisymmetric K.cmp
+            → map_of K.cmp self.new ≡ map.remove (map_of K.cmp self.old) key.now }
         ensures value { result ≡ map.get (map_of K.cmp self.old) key.now }
         ensures capacity { self.new.capacity ≡ self.old.capacity }
 
@@ -244,7 +245,8 @@ impl<K: Ord + Copy, V: Drop> SortedVec<K, V> {
 
     /// Takes a key out, and gives its value.
     pub fn remove(&mut self, key: &K) -> Option<V>
-        ensures effect { IsAntisymmetric K.cmp → map_of K.cmp self.new ≡ map.remove (map_of K.cmp self.old) key.now }
+        ensures effect { IsAntisymmetric K.cmp
+            → map_of K.cmp self.new ≡ map.remove (map_of K.cmp self.old) key.now }
         ensures value { result ≡ map.get (map_of K.cmp self.old) key.now }
         ensures capacity { self.new.capacity ≡ self.old.capacity }
 

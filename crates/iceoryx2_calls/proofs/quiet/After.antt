@@ -18,7 +18,7 @@ use Rattle.iceoryx2_rounds.specs.declared.pattern.OpenRefusal.TheVariants as ref
 use Rattle.iceoryx2_rounds.specs.Meaning.{Meaning}
 use Rattle.iceoryx2_rounds.specs.Verdict.{verdict}
 use Rattle.iceoryx2_access.specs.Factory.{Factory}
-use Rattle.iceoryx2_calls.specs.Quiet.{Service, Quiet, ShowsService, Shows, service_of, count_of, is_counted}
+use Rattle.iceoryx2_calls.specs.Quiet.{QuietService, Quiet, ShowsService, Shows, service_at, times_counted, is_counted}
 use Rattle.iceoryx2_calls.specs.QuietCalls.{Creates, Opens, Closes, closed, HasPlace, HasNumber, first_counts, created_by, opened_by, closed_by, more_counts, fewer_counts, with_service, spend}
 use Rattle.iceoryx2_calls.specs.QuietCalls as call
 use Rattle.iceoryx2_calls.specs.QuietLaws.{HoldsTheSame, HasNothingAt}
@@ -60,17 +60,17 @@ closed_again i d n =
     ap (λ b. cond b (Some (record { description = d; number = n; counts = fewer_counts (first_counts i) i 1 })) None) gone
 
 -- a service that came has gone
-put_and_taken : (q : Quiet) (h : ServiceHash) (x : Service) → service_of q h ≡ None → map.remove (map.insert q.services h x) h ≡ q.services
+put_and_taken : (q : Quiet) (h : ServiceHash) (x : QuietService) → service_at q h ≡ None → map.remove (map.insert q.services h x) h ≡ q.services
 put_and_taken q h x gone = same_map hash_total hash_exact _ _ (λ g. get-remove hash_total (map.insert q.services h x) h g ∙ elim (is_eq (hash_cmp g h)) as (λ b. is_eq (hash_cmp g h) ≡ b → cond b None (map.get (map.insert q.services h x) g) ≡ map.get q.services g) [
   | true ↦ λ e. sym (ap (map.get q.services) (same_hash g h e) ∙ gone)
   | false ↦ λ e. get-insert hash_total q.services h x g ∙ ap (λ b. cond b (Some x) (map.get q.services g)) e
 ] refl)
 
-close_of_new : (q : Quiet) (i : ℕ) (h : ServiceHash) (d : Description) (z : Quiet) → service_of q h ≡ None → Closes (spend (with_service q h (Some (created_by i d q.counter)))) i h z → (z.counter ≡ q.counter + 1) × (z.services ≡ q.services)
+close_of_new : (q : Quiet) (i : ℕ) (h : ServiceHash) (d : Description) (z : Quiet) → service_at q h ≡ None → Closes (spend (with_service q h (Some (created_by i d q.counter)))) i h z → (z.counter ≡ q.counter + 1) × (z.services ≡ q.services)
 close_of_new q i h d z gone (closed x k there counted) =
     let y = created_by i d q.counter in
     let same : x ≡ y = let is = sym there ∙ with_service_has q h y in cc in
-    let one : k ≡ 1 = let is = sym counted ∙ ap (λ z. count_of z i) same ∙ get_first_own i in cc in
+    let one : k ≡ 1 = let is = sym counted ∙ ap (λ z. times_counted z i) same ∙ get_first_own i in cc in
     let none : closed_by i k x ≡ None = (λ j. closed_by i (one j) (same j)) ∙ closed_again i d q.counter in
     (refl, ap (λ o. (with_service (spend (with_service q h (Some y))) h o).services) none ∙ put_and_taken q h y gone)
 
@@ -81,29 +81,29 @@ module _ {F E C : Type 0} (m : Meaning F E C) (i : ℕ) (h : ServiceHash) where
       let back = close_of_new q i h r.description z gone c in
       (nothing_at v z h t (ap (λ k. map.get k h) back.1 ∙ gone), holds_the_same w v q z s t back.1, t.counter ∙ back.0 ∙ ap (λ n. n + 1) (sym s.counter))
 
-  still_counted : (x : Service) (k : ℕ) → count_of x i ≡ Some k → (p : Participant) → is_counted (opened_by i x) p ≡ is_counted x p
+  still_counted : (x : QuietService) (k : ℕ) → times_counted x i ≡ Some k → (p : Participant) → is_counted (opened_by i x) p ≡ is_counted x p
   still_counted x k e (Node j) = elim (equal_or_not j i) [
-    | inl is ↦ ap is_some (ap (count_of (opened_by i x)) is ∙ get_more_own x.counts i) ∙ sym (ap is_some (ap (count_of x) is ∙ e))
+    | inl is ↦ ap is_some (ap (times_counted (opened_by i x)) is ∙ get_more_own x.counts i) ∙ sym (ap is_some (ap (times_counted x) is ∙ e))
     | inr other ↦ ap is_some (get_more_other x.counts i j other)
   ]
   still_counted x k e (Peer j) = refl
 
   -- A further factory of a node takes no further place: the segment stays as it is, and the node's count rises by one.
-  pub opened_again : (w v : World) (q p : Quiet) (r : Factory) (x : Service) (k : ℕ) → Shows w q → Shows v p → service_of q h ≡ Some x → count_of x i ≡ Some k → Opens m q i h (Ok r) p
+  pub opened_again : (w v : World) (q p : Quiet) (r : Factory) (x : QuietService) (k : ℕ) → Shows w q → Shows v p → service_at q h ≡ Some x → times_counted x i ≡ Some k → Opens m q i h (Ok r) p
       → (segment_of v h ≡ segment_of w h) × (join_count (phase_of w (Node i) h) ≡ k) × (join_count (phase_of v (Node i) h) ≡ k + 1)
   opened_again w v q p r x k s t there counted (call.opened y is_y good fits place room) =
       let same : y ≡ x = let is = sym is_y ∙ there in cc in
-      let now : service_of p h ≡ Some (opened_by i x) = with_service_has q h (opened_by i y) ∙ ap (λ z. Some (opened_by i z)) same in
+      let now : service_at p h ≡ Some (opened_by i x) = with_service_has q h (opened_by i y) ∙ ap (λ z. Some (opened_by i z)) same in
       let before = subst (λ o. ShowsService w h o) there (s.services h) in
       let after = subst (λ o. ShowsService v h o) now (t.services h) in
       let times = ap (λ o. unwrap_or o 0) (get_more_own x.counts i) ∙ ap (λ o. unwrap_or o 0 + 1) counted in (
         same_segment w v h x (more_counts x.counts i) before after (still_counted x k counted),
-        joined_times x.number _ (count_of x i) (before.phases i) ∙ ap (λ o. unwrap_or o 0) counted,
-        joined_times x.number _ (count_of (opened_by i x) i) (after.phases i) ∙ times,
+        joined_times x.number _ (times_counted x i) (before.phases i) ∙ ap (λ o. unwrap_or o 0) counted,
+        joined_times x.number _ (times_counted (opened_by i x) i) (after.phases i) ∙ times,
       )
 
   -- An open that the requirement accepts, with a place and a number left, is Ok or wants memory.
-  pub accepted : (q p : Quiet) (x : Service) (r : Result Factory E) → service_of q h ≡ Some x → m.misfit x.description ≡ None → verdict (m.requirement x.description) ≡ Ok tt → HasPlace x i → HasNumber q → Opens m q i h r p → IfErr r (λ e. e ≡ m.open_refusal refusal.OutOfMemory)
+  pub accepted : (q p : Quiet) (x : QuietService) (r : Result Factory E) → service_at q h ≡ Some x → m.misfit x.description ≡ None → verdict (m.requirement x.description) ≡ Ok tt → HasPlace x i → HasNumber q → Opens m q i h r p → IfErr r (λ e. e ≡ m.open_refusal refusal.OutOfMemory)
   accepted q p x r there good fits place room (call.absent gone) = let is = sym gone ∙ there in absurd (cc)
   accepted q p x r there good fits place room (call.misfit y is_y bad) = let same : y ≡ x = let is = sym is_y ∙ there in cc in let is = sym good ∙ ap (λ z. m.misfit z.description) (sym same) ∙ bad in absurd (cc)
   accepted q p x r there good fits place room (call.not_accepted y is_y _ unfit) = let same : y ≡ x = let is = sym is_y ∙ there in cc in let is = sym fits ∙ ap (λ z. verdict (m.requirement z.description)) (sym same) ∙ unfit in absurd (cc)
@@ -118,5 +118,5 @@ module _ {F E C : Type 0} (m : Meaning F E C) (i : ℕ) (h : ServiceHash) where
   accepted q p x r there good fits place room (call.no_memory y is_y) = refl
 
   -- The service that a create gave stands in the machine, with the factory's description and number.
-  pub created_there : (name : List ℕ) (now : Result Span ClockFault) (q p : Quiet) (r : Factory) → Creates m q i h name now (Ok r) p → service_of p h ≡ Some (created_by i r.description r.number)
+  pub created_there : (name : List ℕ) (now : Result Span ClockFault) (q p : Quiet) (r : Factory) → Creates m q i h name now (Ok r) p → service_at p h ≡ Some (created_by i r.description r.number)
   created_there name now q p r (call.created fits gone runs room) = with_service_has q h (created_by i r.description q.counter)

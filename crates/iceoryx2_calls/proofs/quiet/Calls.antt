@@ -25,7 +25,7 @@ use Rattle.iceoryx2_rounds.specs.Meaning.{Meaning}
 use Rattle.iceoryx2_access.specs.Factory.{Factory}
 use Rattle.iceoryx2_rounds.specs.Creates.{IsCreateWord, time_of, description_of}
 use Rattle.iceoryx2_rounds.specs.Opens.{IsOpenWord}
-use Rattle.iceoryx2_calls.specs.Quiet.{Service, Quiet, ShowsService, Shows, no_service, service_of}
+use Rattle.iceoryx2_calls.specs.Quiet.{QuietService, Quiet, ShowsService, Shows, no_service, service_at}
 use Rattle.iceoryx2_calls.specs.QuietCalls.{IsRegular, Creates, Opens, created_by, opened_by, with_service, spend}
 use Rattle.iceoryx2_calls.specs.QuietCalls as call
 use Rattle.iceoryx2_calls.specs.QuietLaws.{tickets_after, IsCall, IsClose}
@@ -39,8 +39,8 @@ use Rattle.iceoryx2_calls.proofs.quiet.Opened.{open_absent, open_there}
 
 -- The machine has the service of a registration, whose ticket is the old counter's value.
 record GivesIn (w : World) (q : Quiet) (r : Factory) : Type 0 where
-  service : Service
-  there : service_of q r.description.hash ≡ Some service
+  service : QuietService
+  there : service_at q r.description.hash ≡ Some service
   number : service.number ≡ r.number
   description : service.description ≡ r.description
   ticket : r.ticket ≡ w.counter
@@ -70,8 +70,8 @@ is_call {E = E} {w = w} {v = v} (Ok r) made gives run old =
       kept = kept_by_call {E = E} w v (Ok r) old kept.0 kept.1 made.tickets (λ x is. let same : r ≡ x = cc in ap (λ (z : Factory). z.ticket) (sym same) ∙ gives.ticket);
     }
 
-pub with_service_has : (q : Quiet) (h : ServiceHash) (x : Service) → service_of (spend (with_service q h (Some x))) h ≡ Some x
-with_service_has q h x = map.get-insert hash_total q.services h x h ∙ ap (λ b. cond b (Some x) (service_of q h)) (own_hash h)
+pub with_service_has : (q : Quiet) (h : ServiceHash) (x : QuietService) → service_at (spend (with_service q h (Some x))) h ≡ Some x
+with_service_has q h x = map.get-insert hash_total q.services h x h ∙ ap (λ b. cond b (Some x) (service_at q h)) (own_hash h)
 
 module _ {F E C : Type 0} (m : Meaning F E C) (q : Quiet) (i : ℕ) (h : ServiceHash) (w : World) (s : Shows w q) where
   create_gives : (name : List ℕ) (now : Result Span ClockFault) (r : Result Factory C) (p : Quiet) → Creates m q i h name now r p → IfOk r (λ x. GivesIn w p x)
@@ -86,7 +86,7 @@ module _ {F E C : Type 0} (m : Meaning F E C) (q : Quiet) (i : ℕ) (h : Service
   open_gives : (r : Result Factory E) (p : Quiet) → Opens m q i h r p → IfOk r (λ x. GivesIn w p x)
   open_gives r p (call.opened x there good fits place room) =
       let at_h = subst (λ o. ShowsService w h o) there (s.services h) in
-      record { service = opened_by i x; there = ap (service_of (spend (with_service q h (Some (opened_by i x))))) at_h.hash ∙ with_service_has q h (opened_by i x); number = refl; description = refl; ticket = sym s.counter }
+      record { service = opened_by i x; there = ap (service_at (spend (with_service q h (Some (opened_by i x))))) at_h.hash ∙ with_service_has q h (opened_by i x); number = refl; description = refl; ticket = sym s.counter }
   open_gives r p (call.absent gone) = tt
   open_gives r p (call.misfit x there bad) = tt
   open_gives r p (call.not_accepted x there good unfit) = tt
@@ -97,7 +97,7 @@ module _ {F E C : Type 0} (m : Meaning F E C) (q : Quiet) (i : ℕ) (h : Service
 pub empty_shows : (c : ℕ) → Shows (empty_world c) (no_service c)
 empty_shows c = record {
   counter = refl;
-  services = λ h. rw (map.get-empty {X = Service} hash_cmp h) (record {
+  services = λ h. rw (map.get-empty {X = QuietService} hash_cmp h) (record {
     row = map.get-empty hash_cmp h;
     segment = map.get-empty hash_cmp h;
     phases = λ i. ap (λ o. begins (or_idle o)) (map.get-empty place_cmp (Node i, h));
@@ -112,7 +112,7 @@ module _ {F E C : Type 0} (m : Meaning F E C) (i : ℕ) (h : ServiceHash) where
   create_follows name now w v q word r regular room s old is_word run =
       let all = move_all i h (create_here is_word) run in
       let positive : nat_lt 0 (max_nodes_of (m.published (time_of now))) ≡ true = grind (arith, nat_tests, room) in
-      let made : Made (Creates m q i h name now r) (tickets_after w.tickets r) v = elim (service_of q h) as (λ o. service_of q h ≡ o → Made (Creates m q i h name now r) (tickets_after w.tickets r) v) [
+      let made : Made (Creates m q i h name now r) (tickets_after w.tickets r) v = elim (service_at q h) as (λ o. service_at q h ≡ o → Made (Creates m q i h name now r) (tickets_after w.tickets r) v) [
         | None ↦ λ e. create_absent m i h name now w v q all.apart s e r word positive is_word all.at
         | Some x ↦ λ e. create_there m regular i h w v q all.apart s x e name now r word is_word all.at
       ] refl in
@@ -122,7 +122,7 @@ module _ {F E C : Type 0} (m : Meaning F E C) (i : ℕ) (h : ServiceHash) where
   pub open_follows : (w v : World) (q : Quiet) (word : List Letter) (r : Result Factory E) → IsRegular m → Shows w q → Agrees w → IsOpenWord m i h word r → Run IsOwnPart w word v → IsCall w (Opens m q i h r) r v
   open_follows w v q word r regular s old is_word run =
       let all = move_all i h (open_here is_word) run in
-      let made : Made (Opens m q i h r) (tickets_after w.tickets r) v = elim (service_of q h) as (λ o. service_of q h ≡ o → Made (Opens m q i h r) (tickets_after w.tickets r) v) [
+      let made : Made (Opens m q i h r) (tickets_after w.tickets r) v = elim (service_at q h) as (λ o. service_at q h ≡ o → Made (Opens m q i h r) (tickets_after w.tickets r) v) [
         | None ↦ λ e. open_absent m i h w v q all.apart s e r word is_word all.at
         | Some x ↦ λ e. open_there m regular i h w v q all.apart s old x e r word is_word all.at
       ] refl in

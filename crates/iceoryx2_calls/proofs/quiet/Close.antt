@@ -24,7 +24,7 @@ use Rattle.iceoryx2_world.proofs.agreement.Whole.{own_hash, get-set_to}
 use Rattle.iceoryx2_errors.specs.declared.error.CloseError.{CloseError}
 use Rattle.iceoryx2_access.specs.Factory.{Factory}
 use Rattle.iceoryx2_rounds.specs.Closes.{IsCloseWord}
-use Rattle.iceoryx2_calls.specs.Quiet.{Counts, Service, Quiet, IsThere, ShowsService, Shows, CountIs, service_of, count_of, is_counted}
+use Rattle.iceoryx2_calls.specs.Quiet.{NodeCounts, QuietService, Quiet, IsThere, ShowsService, Shows, CountIs, service_at, times_counted, is_counted}
 use Rattle.iceoryx2_calls.specs.QuietCalls.{Closes, closed, fewer_counts, with_counts, closed_by, with_service}
 use Rattle.iceoryx2_calls.proofs.quiet.Seats.{Apart, AtSeat}
 use Rattle.iceoryx2_calls.proofs.quiet.Absent.{at_seat, from}
@@ -34,7 +34,7 @@ use Rattle.iceoryx2_calls.proofs.quiet.Create.{Made}
 use Rattle.iceoryx2_calls.proofs.quiet.There.{was_there}
 use Rattle.iceoryx2_calls.proofs.quiet.Leave.{Closed, counts, goes, clears, closing, joins_here}
 
-module _ (f : Factory) (w v : World) (q : Quiet) (a : Apart f.node f.description.hash w v) (s : Shows w q) (x : Service) (is_there : service_of q f.description.hash ≡ Some x) (number : x.number ≡ f.number) (k : ℕ) (counted : count_of x f.node ≡ Some k) (here : ticket_of w f.ticket ≡ Some (ticket_for f)) where
+module _ (f : Factory) (w v : World) (q : Quiet) (a : Apart f.node f.description.hash w v) (s : Shows w q) (x : QuietService) (is_there : service_at q f.description.hash ≡ Some x) (number : x.number ≡ f.number) (k : ℕ) (counted : times_counted x f.node ≡ Some k) (here : ticket_of w f.ticket ≡ Some (ticket_for f)) where
   abbrev i : ℕ
   i = f.node
 
@@ -44,7 +44,7 @@ module _ (f : Factory) (w v : World) (q : Quiet) (a : Apart f.node f.description
   was : IsThere h x (row_of w h) (segment_of w h) (λ j. phase_of w (Node j) h) (λ j. tag_of w j h)
   was = was_there i h w v q a s x is_there
 
-  abbrev m : Counts
+  abbrev m : NodeCounts
   m = fewer_counts x.counts i k
 
   abbrev p : Quiet
@@ -125,7 +125,7 @@ module _ (f : Factory) (w v : World) (q : Quiet) (a : Apart f.node f.description
       let as_many = was.as_many in
       let none : map.len m ≡ 0 = omega (arith, low, as_many, len) in
       let gone : nat_lt 0 (map.len m) ≡ false = grind (arith, nat_tests, none) in
-      let others : (j : ℕ) → j ≢ i → count_of x j ≡ None = λ j other. sym (get_fewer_other x.counts i k j other) ∙ ap (λ z. map.get z j) (map.empty_of_len m none) ∙ map.get-empty nat_cmp j in
+      let others : (j : ℕ) → j ≢ i → times_counted x j ≡ None = λ j other. sym (get_fewer_other x.counts i k j other) ∙ ap (λ z. map.get z j) (map.empty_of_len m none) ∙ map.get-empty nat_cmp j in
       shows (ap (λ (z : Seat). z.spot.counter) is) (rw gone (record {
         row = ap (λ (z : Seat). z.spot.row) is;
         segment = ap (λ (z : Seat). z.spot.segment) is;

@@ -5,7 +5,7 @@ use Rattle.std.specs.FinMap as map
 use Rattle.std.specs.FinMap.{get-insert, get-remove}
 use Rattle.std.specs.Ordering.{nat_cmp}
 use Rattle.std.proofs.lemmas.Cmp.{nat_cmp_total}
-use Rattle.iceoryx2_calls.specs.Quiet.{Counts}
+use Rattle.iceoryx2_calls.specs.Quiet.{NodeCounts}
 use Rattle.iceoryx2_calls.specs.QuietCalls.{first_counts, more_counts, fewer_counts}
 use Rattle.iceoryx2_calls.proofs.quiet.Lift.{own_number, number_apart}
 
@@ -18,7 +18,7 @@ get_first_other i j other = get-insert nat_cmp_total map.empty i 1 j ∙ ap (λ 
 pub len_first : (i : ℕ) → map.len (first_counts i) ≡ 1
 len_first i = map.len-insert nat_cmp_total map.empty i 1 ∙ grind (arith, map.len-empty nat_cmp ℕ, map.get-empty {X = ℕ} nat_cmp i)
 
-module _ (m : Counts) (i : ℕ) where
+module _ (m : NodeCounts) (i : ℕ) where
   pub get_more_own : map.get (more_counts m i) i ≡ Some (unwrap_or (map.get m i) 0 + 1)
   get_more_own = get-insert nat_cmp_total m i (unwrap_or (map.get m i) 0 + 1) i ∙ ap (λ b. cond b (Some (unwrap_or (map.get m i) 0 + 1)) (map.get m i)) (own_number i)
 

@@ -22,7 +22,7 @@ use Rattle.iceoryx2_world.proofs.agreement.Whole.{own_hash}
 use Rattle.iceoryx2_rounds.specs.Meaning.{Meaning}
 use Rattle.iceoryx2_access.specs.Factory.{Factory}
 use Rattle.iceoryx2_rounds.specs.Creates.{IsCreateWord, clock_stops, description_of}
-use Rattle.iceoryx2_calls.specs.Quiet.{Quiet, IsAbsent, ShowsService, Shows, service_of, is_counted}
+use Rattle.iceoryx2_calls.specs.Quiet.{Quiet, IsAbsent, ShowsService, Shows, service_at, is_counted}
 use Rattle.iceoryx2_calls.specs.QuietCalls.{Creates, created_by, with_service, spend}
 use Rattle.iceoryx2_calls.specs.QuietCalls as call
 use Rattle.iceoryx2_calls.specs.QuietLaws.{tickets_after}
@@ -38,7 +38,7 @@ pub record Made (Calls : Quiet → Type 0) (held : Tickets) (v : World) : Type 0
   pub shows : Shows v state
   pub tickets : v.tickets ≡ held
 
-module _ (i : ℕ) (h : ServiceHash) (w v : World) (q : Quiet) (a : Apart i h w v) (s : Shows w q) (gone : service_of q h ≡ None) where
+module _ (i : ℕ) (h : ServiceHash) (w v : World) (q : Quiet) (a : Apart i h w v) (s : Shows w q) (gone : service_at q h ≡ None) where
   pub was_absent : IsAbsent (row_of w h) (segment_of w h) (λ j. phase_of w (Node j) h) (λ j. tag_of w j h)
   was_absent = subst (λ o. ShowsService w h o) gone (s.services h)
 
@@ -88,7 +88,7 @@ module _ (i : ℕ) (h : ServiceHash) (w v : World) (q : Quiet) (a : Apart i h w 
       ]
       members n d (Peer j) = contains_alone (Node i) (Peer j) ∙ not_same (Peer j) (Node i) (no_node j i)
 
-module _ {F E C : Type 0} (m : Meaning F E C) (i : ℕ) (h : ServiceHash) (name : List ℕ) (now : Result Span ClockFault) (w v : World) (q : Quiet) (a : Apart i h w v) (s : Shows w q) (gone : service_of q h ≡ None) where
+module _ {F E C : Type 0} (m : Meaning F E C) (i : ℕ) (h : ServiceHash) (name : List ℕ) (now : Result Span ClockFault) (w v : World) (q : Quiet) (a : Apart i h w v) (s : Shows w q) (gone : service_at q h ≡ None) where
   abbrev d : Description
   d = description_of m h name now
 

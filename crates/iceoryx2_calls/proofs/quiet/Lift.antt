@@ -14,7 +14,7 @@ use Rattle.iceoryx2_world.specs.Orders.{hash_cmp, tag_cmp, tag_exact}
 use Rattle.iceoryx2_world.specs.World.{World, phase_of, tag_of}
 use Rattle.iceoryx2_world.proofs.agreement.Moved.{same, same_is}
 use Rattle.iceoryx2_world.proofs.agreement.Whole.{own_hash, same_hash}
-use Rattle.iceoryx2_calls.specs.Quiet.{Service, Quiet, service_of, ShowsAt, ShowsService, Shows}
+use Rattle.iceoryx2_calls.specs.Quiet.{QuietService, Quiet, service_at, ShowsAt, ShowsService, Shows}
 use Rattle.iceoryx2_calls.proofs.quiet.Seats.{Apart, at_tag}
 
 and_false : (b : Bool) → (b && false) ≡ false
@@ -63,7 +63,7 @@ phase_beside {i = i} {h = h} a j other = a.phases (Node j) h (ap (λ b. b && is_
 pub tag_beside : {i : ℕ} {h : ServiceHash} {w v : World} → Apart i h w v → (j : ℕ) → j ≢ i → tag_of v j h ≡ tag_of w j h
 tag_beside {i = i} {h = h} a j other = a.tags j h (false_unless _ (λ e. other (tied_tag j i h h e).0))
 
-elsewhere : {i : ℕ} {h : ServiceHash} {w v : World} → Apart i h w v → (o : Option Service) (g : ServiceHash) → is_eq (hash_cmp g h) ≡ false → ShowsService w g o → ShowsService v g o
+elsewhere : {i : ℕ} {h : ServiceHash} {w v : World} → Apart i h w v → (o : Option QuietService) (g : ServiceHash) → is_eq (hash_cmp g h) ≡ false → ShowsService w g o → ShowsService v g o
 elsewhere {w = w} {v = v} a o g apart s =
     let rows = sym (a.rows g apart) in
     let segments = sym (a.segments g apart) in
@@ -73,18 +73,18 @@ elsewhere {w = w} {v = v} a o g apart s =
     subst (λ (X : Type 0). X) along s
 
 -- Every hash by itself: at its own the service is this one now, and elsewhere all is as before.
-pub services_after : {i : ℕ} {h : ServiceHash} {w v : World} (q p : Quiet) (o : Option Service) → Apart i h w v → Shows w q
-    → ((g : ServiceHash) → service_of p g ≡ cond (is_eq (hash_cmp g h)) o (service_of q g))
+pub services_after : {i : ℕ} {h : ServiceHash} {w v : World} (q p : Quiet) (o : Option QuietService) → Apart i h w v → Shows w q
+    → ((g : ServiceHash) → service_at p g ≡ cond (is_eq (hash_cmp g h)) o (service_at q g))
     → ShowsService v h o
-    → (g : ServiceHash) → ShowsService v g (service_of p g)
-services_after {i = i} {h = h} {w = w} {v = v} q p o a s sets here g = elim (is_eq (hash_cmp g h)) as (λ b. is_eq (hash_cmp g h) ≡ b → ShowsService v g (service_of p g)) [
-  | true ↦ λ e. subst (λ o. ShowsService v g o) (sym (sets g ∙ ap (λ b. cond b o (service_of q g)) e)) (subst (λ k. ShowsService v k o) (sym (same_hash g h e)) here)
-  | false ↦ λ e. subst (λ o. ShowsService v g o) (sym (sets g ∙ ap (λ b. cond b o (service_of q g)) e)) (elsewhere a (service_of q g) g e (s.services g))
+    → (g : ServiceHash) → ShowsService v g (service_at p g)
+services_after {i = i} {h = h} {w = w} {v = v} q p o a s sets here g = elim (is_eq (hash_cmp g h)) as (λ b. is_eq (hash_cmp g h) ≡ b → ShowsService v g (service_at p g)) [
+  | true ↦ λ e. subst (λ o. ShowsService v g o) (sym (sets g ∙ ap (λ b. cond b o (service_at q g)) e)) (subst (λ k. ShowsService v k o) (sym (same_hash g h e)) here)
+  | false ↦ λ e. subst (λ o. ShowsService v g o) (sym (sets g ∙ ap (λ b. cond b o (service_at q g)) e)) (elsewhere a (service_at q g) g e (s.services g))
 ] refl
 
 -- where the service under a hash is as it was
-pub same_services : (q : Quiet) (h : ServiceHash) (o : Option Service) → service_of q h ≡ o → (g : ServiceHash) → service_of q g ≡ cond (is_eq (hash_cmp g h)) o (service_of q g)
-same_services q h o is g = elim (is_eq (hash_cmp g h)) as (λ b. is_eq (hash_cmp g h) ≡ b → service_of q g ≡ cond b o (service_of q g)) [
-  | true ↦ λ e. ap (service_of q) (same_hash g h e) ∙ is
+pub same_services : (q : Quiet) (h : ServiceHash) (o : Option QuietService) → service_at q h ≡ o → (g : ServiceHash) → service_at q g ≡ cond (is_eq (hash_cmp g h)) o (service_at q g)
+same_services q h o is g = elim (is_eq (hash_cmp g h)) as (λ b. is_eq (hash_cmp g h) ≡ b → service_at q g ≡ cond b o (service_at q g)) [
+  | true ↦ λ e. ap (service_at q) (same_hash g h e) ∙ is
   | false ↦ λ e. refl
 ] refl

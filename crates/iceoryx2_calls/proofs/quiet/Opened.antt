@@ -24,7 +24,7 @@ use Rattle.iceoryx2_world.proofs.agreement.Moved.{contains_inserted}
 use Rattle.iceoryx2_rounds.specs.Meaning.{Meaning}
 use Rattle.iceoryx2_access.specs.Factory.{Factory}
 use Rattle.iceoryx2_rounds.specs.Opens.{IsOpenWord}
-use Rattle.iceoryx2_calls.specs.Quiet.{Counts, Service, Quiet, IsThere, Shows, CountIs, service_of, count_of, is_counted}
+use Rattle.iceoryx2_calls.specs.Quiet.{NodeCounts, QuietService, Quiet, IsThere, Shows, CountIs, service_at, times_counted, is_counted}
 use Rattle.iceoryx2_calls.specs.QuietCalls.{IsRegular, Opens, HasPlace, more_counts, opened_by, with_service, spend}
 use Rattle.iceoryx2_calls.specs.QuietCalls as call
 use Rattle.iceoryx2_calls.specs.QuietLaws.{tickets_after}
@@ -36,7 +36,7 @@ use Rattle.iceoryx2_calls.proofs.quiet.Create.{Made, was_absent, begin_absent, s
 use Rattle.iceoryx2_calls.proofs.quiet.There.{was_there, stays_there}
 use Rattle.iceoryx2_calls.proofs.quiet.Open.{opening_absent, stood, joined_seat, Place, OpensHere, starves, bad, unfit, no_place, no_number, opens, opening_there}
 
-module _ {F E C : Type 0} (m : Meaning F E C) (i : ℕ) (h : ServiceHash) (w v : World) (q : Quiet) (a : Apart i h w v) (s : Shows w q) (gone : service_of q h ≡ None) where
+module _ {F E C : Type 0} (m : Meaning F E C) (i : ℕ) (h : ServiceHash) (w v : World) (q : Quiet) (a : Apart i h w v) (s : Shows w q) (gone : service_at q h ≡ None) where
   pub open_absent : (r : Result Factory E) (word : List Letter) → IsOpenWord m i h word r → Run (AtSeat i h) (seat w i h) word (seat v i h) → Made (Opens m q i h r) (tickets_after w.tickets r) v
   open_absent r word is_word run =
       let e = opening_absent m i h (phase_of w (Node i) h) q.counter w.tickets is_word (from (begin_absent i h w v q a s gone) run) in
@@ -47,17 +47,17 @@ module _ {F E C : Type 0} (m : Meaning F E C) (i : ℕ) (h : ServiceHash) (w v :
         tickets = ap (λ (z : Seat). z.tickets) e.1;
       })
 
-module _ (i : ℕ) (h : ServiceHash) (w v : World) (q : Quiet) (a : Apart i h w v) (s : Shows w q) (x : Service) (is_there : service_of q h ≡ Some x) where
+module _ (i : ℕ) (h : ServiceHash) (w v : World) (q : Quiet) (a : Apart i h w v) (s : Shows w q) (x : QuietService) (is_there : service_at q h ≡ Some x) where
   abbrev pub was : IsThere h x (row_of w h) (segment_of w h) (λ j. phase_of w (Node j) h) (λ j. tag_of w j h)
   was = was_there i h w v q a s x is_there
 
   abbrev new : ℕ
-  new = unwrap_or (count_of x i) 0 + 1
+  new = unwrap_or (times_counted x i) 0 + 1
 
-  abbrev more : Counts
+  abbrev more : NodeCounts
   more = more_counts x.counts i
 
-  abbrev y : Service
+  abbrev y : QuietService
   y = opened_by i x
 
   abbrev pub p : Quiet
@@ -88,9 +88,9 @@ module _ (i : ℕ) (h : ServiceHash) (w v : World) (q : Quiet) (a : Apart i h w 
       both (Node j) = elim (equal_or_not j i) [ inl e ↦ rw e (member ∙ sym (ap is_some (get_more_own x.counts i))) | inr e ↦ members (Node j) (other_node j i e) ∙ was.members (Node j) ∙ sym (ap is_some (get_more_other x.counts i j e)) ]
       both (Peer j) = members (Peer j) (no_node j i) ∙ was.members (Peer j)
 
-  pub shows_opened : (o : Option ℕ) → count_of x i ≡ o → seat v i h ≡ joined_seat i h x.number (max_nodes_of x.description.pattern) (form.description x.description) was.nodes q.counter w.tickets o → Shows v p
+  pub shows_opened : (o : Option ℕ) → times_counted x i ≡ o → seat v i h ≡ joined_seat i h x.number (max_nodes_of x.description.pattern) (form.description x.description) was.nodes q.counter w.tickets o → Shows v p
   shows_opened None e is =
-      let zero_count : unwrap_or (count_of x i) 0 ≡ 0 = ap (λ o. unwrap_or o 0) e in
+      let zero_count : unwrap_or (times_counted x i) 0 ≡ 0 = ap (λ o. unwrap_or o 0) e in
       let one : 1 ≡ new = omega (arith, zero_count) in
       let absent : set.contains was.nodes (Node i) ≡ false = was.members (Node i) ∙ ap is_some e in
       let len_nodes : set.len (set.insert was.nodes (Node i)) ≡ set.len was.nodes + 1 = set.len-insert participant_total was.nodes (Node i) ∙ ap (λ b. cond b (set.len was.nodes) (set.len was.nodes + 1)) absent in
@@ -102,7 +102,7 @@ module _ (i : ℕ) (h : ServiceHash) (w v : World) (q : Quiet) (a : Apart i h w 
       (λ z other. set.contains-insert participant_total was.nodes (Node i) z ∙ ap (λ b. b || set.contains was.nodes z) (not_same z (Node i) other))
       is
   shows_opened (Some j) e is =
-      let count : unwrap_or (count_of x i) 0 ≡ j = ap (λ o. unwrap_or o 0) e in
+      let count : unwrap_or (times_counted x i) 0 ≡ j = ap (λ o. unwrap_or o 0) e in
       let one : j + 1 ≡ new = omega (arith, count) in
       let len_counts = len_more_old x.counts i j e in
       opened_on (at.Joined x.number (j + 1)) was.nodes (ap (λ z. at.Joined x.number z) one, omega (arith, one))
@@ -112,18 +112,18 @@ module _ (i : ℕ) (h : ServiceHash) (w v : World) (q : Quiet) (a : Apart i h w 
       (λ z other. refl)
       is
 
-module _ {F E C : Type 0} (m : Meaning F E C) (regular : IsRegular m) (i : ℕ) (h : ServiceHash) (w v : World) (q : Quiet) (a : Apart i h w v) (s : Shows w q) (old : Agrees w) (x : Service) (is_there : service_of q h ≡ Some x) where
+module _ {F E C : Type 0} (m : Meaning F E C) (regular : IsRegular m) (i : ℕ) (h : ServiceHash) (w v : World) (q : Quiet) (a : Apart i h w v) (s : Shows w q) (old : Agrees w) (x : QuietService) (is_there : service_at q h ≡ Some x) where
   abbrev before : IsThere h x (row_of w h) (segment_of w h) (λ j. phase_of w (Node j) h) (λ j. tag_of w j h)
   before = was_there i h w v q a s x is_there
 
   abbrev here : Bool → Phase → Seat
   here g f = stood i h x.number (max_nodes_of x.description.pattern) (form.description x.description) before.nodes q.counter w.tickets g f
 
-  begin : seat w i h ≡ here (is_some (count_of x i)) (phase_of w (Node i) h)
+  begin : seat w i h ≡ here (is_some (times_counted x i)) (phase_of w (Node i) h)
   begin = λ z. record { spot = record { phase = phase_of w (Node i) h; row = before.row z; segment = before.segment z; counter = s.counter z }; tag = before.tags i z; tickets = w.tickets }
 
   -- no node has opened it more often than there are tickets below the counter
-  low : nat_lt q.counter last_number ≡ true → (j : ℕ) → count_of x i ≡ Some j → nat_lt j last_number ≡ true
+  low : nat_lt q.counter last_number ≡ true → (j : ℕ) → times_counted x i ≡ Some j → nat_lt j last_number ≡ true
   low room j e =
       let count = subst (λ o. CountIs x.number (phase_of w (Node i) h) o) e (before.phases i) in
       let held = old.held.count i h ∙ ap join_count count.0 in
@@ -134,7 +134,7 @@ module _ {F E C : Type 0} (m : Meaning F E C) (regular : IsRegular m) (i : ℕ) 
   abbrev MadeHere : Result Factory E → Type 0
   MadeHere r = Made (Opens m q i h r) (tickets_after w.tickets r) v
 
-  kept : (r : Result Factory E) (f : Phase) → Opens m q i h r q → tickets_after w.tickets r ≡ w.tickets → CountIs x.number f (count_of x i) → seat v i h ≡ here (is_some (count_of x i)) f → MadeHere r
+  kept : (r : Result Factory E) (f : Phase) → Opens m q i h r q → tickets_after w.tickets r ≡ w.tickets → CountIs x.number f (times_counted x i) → seat v i h ≡ here (is_some (times_counted x i)) f → MadeHere r
   kept r f call no_ticket count is = record {
     state = q;
     call = call;
@@ -142,7 +142,7 @@ module _ {F E C : Type 0} (m : Meaning F E C) (regular : IsRegular m) (i : ℕ) 
     tickets = ap (λ (z : Seat). z.tickets) is ∙ sym no_ticket;
   }
 
-  place_of : Place i h x.number (max_nodes_of x.description.pattern) (form.description x.description) before.nodes q.counter w.tickets (count_of x i) → HasPlace x i
+  place_of : Place i h x.number (max_nodes_of x.description.pattern) (form.description x.description) before.nodes q.counter w.tickets (times_counted x i) → HasPlace x i
   place_of (inl e) = inl e
   place_of (inr e) = let above : set.len before.nodes < max_nodes_of x.description.pattern = grind (arith, nat_tests, e) in inr (omega (arith, above, before.as_many))
 
@@ -150,7 +150,7 @@ module _ {F E C : Type 0} (m : Meaning F E C) (regular : IsRegular m) (i : ℕ) 
   joined_tickets None = refl
   joined_tickets (Some j) = refl
 
-  made : (r : Result Factory E) (u : Seat) → OpensHere i h x.number (max_nodes_of x.description.pattern) (form.description x.description) before.nodes q.counter w.tickets m regular x.description before.limits before.hash refl (count_of x i) (phase_of w (Node i) h) (before.phases i) low r u → seat v i h ≡ u → MadeHere r
+  made : (r : Result Factory E) (u : Seat) → OpensHere i h x.number (max_nodes_of x.description.pattern) (form.description x.description) before.nodes q.counter w.tickets m regular x.description before.limits before.hash refl (times_counted x i) (phase_of w (Node i) h) (before.phases i) low r u → seat v i h ≡ u → MadeHere r
   made r u (starves count) is = kept r _ (call.no_memory x is_there) refl count is
   made r u (bad count e) is = kept r _ (call.misfit x is_there e) refl count is
   made r u (unfit count good e) is = kept r _ (call.not_accepted x is_there good e) refl count is
@@ -161,9 +161,9 @@ module _ {F E C : Type 0} (m : Meaning F E C) (regular : IsRegular m) (i : ℕ) 
       record {
         state = p i h w v q a s x is_there;
         call = call.opened x is_there good fits (place_of place) lt;
-        shows = shows_opened i h w v q a s x is_there (count_of x i) refl is;
-        tickets = ap (λ (z : Seat). z.tickets) is ∙ joined_tickets (count_of x i) ∙ ap (λ g. map.insert w.tickets q.counter (record { node = i; hash = g; number = x.number })) (sym before.hash);
+        shows = shows_opened i h w v q a s x is_there (times_counted x i) refl is;
+        tickets = ap (λ (z : Seat). z.tickets) is ∙ joined_tickets (times_counted x i) ∙ ap (λ g. map.insert w.tickets q.counter (record { node = i; hash = g; number = x.number })) (sym before.hash);
       }
 
   pub open_there : (r : Result Factory E) (word : List Letter) → IsOpenWord m i h word r → Run (AtSeat i h) (seat w i h) word (seat v i h) → MadeHere r
-  open_there r word is_word run = made r _ (opening_there i h x.number (max_nodes_of x.description.pattern) (form.description x.description) before.nodes q.counter w.tickets m regular x.description before.limits before.hash refl (count_of x i) (phase_of w (Node i) h) (before.phases i) low is_word (from begin run)) refl
+  open_there r word is_word run = made r _ (opening_there i h x.number (max_nodes_of x.description.pattern) (form.description x.description) before.nodes q.counter w.tickets m regular x.description before.limits before.hash refl (times_counted x i) (phase_of w (Node i) h) (before.phases i) low is_word (from begin run)) refl

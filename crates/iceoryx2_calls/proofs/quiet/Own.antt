@@ -10,7 +10,7 @@ use Rattle.iceoryx2_rounds.specs.Meaning.{Meaning}
 use Rattle.iceoryx2_rounds.specs.Creates.{description_of}
 use Rattle.iceoryx2_rounds.specs.Verdict.{verdict}
 use Rattle.iceoryx2_builder.specs.OwnSettings.{AcceptsOwn}
-use Rattle.iceoryx2_calls.specs.Quiet.{Service, Quiet, service_of}
+use Rattle.iceoryx2_calls.specs.Quiet.{QuietService, Quiet, service_at}
 use Rattle.iceoryx2_calls.specs.QuietCalls.{Creates, Opens, HasPlace, HasNumber}
 use Rattle.iceoryx2_calls.specs.QuietCalls as call
 use Rattle.iceoryx2_calls.proofs.quiet.After.{accepted}
@@ -27,8 +27,8 @@ module _ {F E C : Type 0} (creating opening : Meaning F E C) (hash : ServiceHash
   carries q node r p (call.no_memory fits) = tt
   carries q node r p (call.no_memory_locked fits gone runs room) = tt
 
-  pub opens_own : AcceptsOwn creating opening hash name now → (creator node : ℕ) (q p u z : Quiet) (f : Factory) (x : Service) (answer : Result Factory E)
-      → Creates creating q creator hash name now (Ok f) p → service_of u hash ≡ Some x → x.description ≡ f.description
+  pub opens_own : AcceptsOwn creating opening hash name now → (creator node : ℕ) (q p u z : Quiet) (f : Factory) (x : QuietService) (answer : Result Factory E)
+      → Creates creating q creator hash name now (Ok f) p → service_at u hash ≡ Some x → x.description ≡ f.description
       → HasPlace x node → HasNumber u → Opens opening u node hash answer z → IfErr answer (λ e. e ≡ opening.open_refusal refusal.OutOfMemory)
   opens_own own creator node q p u z f x answer made there same place room opened =
       let is : x.description ≡ description_of creating hash name now = same ∙ carries q creator (Ok f) p made in

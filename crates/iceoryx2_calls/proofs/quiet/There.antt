@@ -29,7 +29,7 @@ use Rattle.iceoryx2_rounds.specs.Looks.{LeadsTo, IsLookWord}
 use Rattle.iceoryx2_rounds.specs.Looks as look
 use Rattle.iceoryx2_rounds.specs.Creates.{IsEntryWord, IsCreateWord}
 use Rattle.iceoryx2_rounds.specs.Creates as create
-use Rattle.iceoryx2_calls.specs.Quiet.{Service, Quiet, IsThere, ShowsService, Shows, CountIs, service_of, count_of}
+use Rattle.iceoryx2_calls.specs.Quiet.{QuietService, Quiet, IsThere, ShowsService, Shows, CountIs, service_at, times_counted}
 use Rattle.iceoryx2_calls.specs.QuietCalls.{IsRegular, Creates}
 use Rattle.iceoryx2_calls.specs.QuietCalls as call
 use Rattle.iceoryx2_calls.specs.QuietLaws.{tickets_after}
@@ -118,7 +118,7 @@ module _ (i : ℕ) (h : ServiceHash) (n : ℕ) (b : List ℕ) (sg : Option Segme
     finds_something l = elim l [ ]
 
 -- where only the phase of one node changed, and it counts as before
-module _ (i : ℕ) (h : ServiceHash) (w v : World) (q : Quiet) (a : Apart i h w v) (s : Shows w q) (x : Service) (is_there : service_of q h ≡ Some x) where
+module _ (i : ℕ) (h : ServiceHash) (w v : World) (q : Quiet) (a : Apart i h w v) (s : Shows w q) (x : QuietService) (is_there : service_at q h ≡ Some x) where
   pub was_there : IsThere h x (row_of w h) (segment_of w h) (λ j. phase_of w (Node j) h) (λ j. tag_of w j h)
   was_there = subst (λ o. ShowsService w h o) is_there (s.services h)
 
@@ -128,7 +128,7 @@ module _ (i : ℕ) (h : ServiceHash) (w v : World) (q : Quiet) (a : Apart i h w 
   pub begin_there : seat w i h ≡ over_here (phase_of w (Node i) h)
   begin_there = λ k. record { spot = record { phase = phase_of w (Node i) h; row = was_there.row k; segment = segment_of w h; counter = w.counter }; tag = tag_of w i h; tickets = w.tickets }
 
-  pub stays_there : (y : Phase) → CountIs x.number y (count_of x i) → seat v i h ≡ over_here y → Shows v q
+  pub stays_there : (y : Phase) → CountIs x.number y (times_counted x i) → seat v i h ≡ over_here y → Shows v q
   stays_there y counts is = record {
     counter = ap (λ (z : Seat). z.spot.counter) is ∙ s.counter;
     services = services_after q q (Some x) a s (same_services q h (Some x) is_there) (record {
@@ -152,7 +152,7 @@ still_counts None (keeps e) count = count
 still_counts (Some k) (reads e) count = absurd (cc)
 still_counts (Some k) (keeps e) count = count
 
-module _ {F E C : Type 0} (m : Meaning F E C) (regular : IsRegular m) (i : ℕ) (h : ServiceHash) (w v : World) (q : Quiet) (a : Apart i h w v) (s : Shows w q) (x : Service) (is_there : service_of q h ≡ Some x) where
+module _ {F E C : Type 0} (m : Meaning F E C) (regular : IsRegular m) (i : ℕ) (h : ServiceHash) (w v : World) (q : Quiet) (a : Apart i h w v) (s : Shows w q) (x : QuietService) (is_there : service_at q h ≡ Some x) where
   abbrev was : IsThere h x (row_of w h) (segment_of w h) (λ j. phase_of w (Node j) h) (λ j. tag_of w j h)
   was = was_there i h w v q a s x is_there
 
@@ -172,7 +172,7 @@ module _ {F E C : Type 0} (m : Meaning F E C) (regular : IsRegular m) (i : ℕ) 
     abbrev MadeHere : Result Factory C → Type 0
     MadeHere r = Made (Creates m q i h name now r) (tickets_after w.tickets r) v
 
-    kept : (r : Result Factory C) (y : Phase) → Creates m q i h name now r q → tickets_after w.tickets r ≡ w.tickets → CountIs x.number y (count_of x i) → seat v i h ≡ over_here i h w v q a s x is_there y → MadeHere r
+    kept : (r : Result Factory C) (y : Phase) → Creates m q i h name now r q → tickets_after w.tickets r ≡ w.tickets → CountIs x.number y (times_counted x i) → seat v i h ≡ over_here i h w v q a s x is_there y → MadeHere r
     kept r y call no_ticket count is = record { state = q; call = call; shows = stays_there i h w v q a s x is_there y count is; tickets = ap (λ (z : Seat). z.tickets) is ∙ sym no_ticket }
 
     faulty : {fault : F} {t : Seat} → m.history_refusal ≡ None → Looks (outcome.Faulty fault) t → seat v i h ≡ t → MadeHere (Err (m.create_error_of fault))

@@ -19,7 +19,7 @@ use Rattle.iceoryx2_world.specs.Standing.{Stands, ticket_for}
 use Rattle.iceoryx2_world.proofs.agreement.Accesses.{later_refl}
 use Rattle.iceoryx2_world.proofs.agreement.Maps.{set_cases}
 use Rattle.iceoryx2_world.proofs.agreement.Stands.{stands_by_ticket, older_ticket}
-use Rattle.iceoryx2_calls.specs.Quiet.{Service, Quiet, ShowsService, Shows, CountIs, service_of, count_of}
+use Rattle.iceoryx2_calls.specs.Quiet.{QuietService, Quiet, ShowsService, Shows, CountIs, service_at, times_counted}
 use Rattle.iceoryx2_calls.specs.QuietLaws.{HasOpened, tickets_after}
 
 not_begun : (x : Phase) (n : ℕ) → begins x ≡ true → joined_number x ≡ Some n → ⊥
@@ -31,13 +31,13 @@ counted_by : (x : Phase) (n m : ℕ) (o : Option ℕ) → CountIs m x o → join
 counted_by x n m None count e = absurd (not_begun x n count e)
 counted_by x n m (Some k) count e = let is = sym (ap joined_number count.0) ∙ e in (k, refl, cc)
 
-open_by : (w : World) (q : Quiet) (i : ℕ) (h : ServiceHash) (n : ℕ) (o : Option Service) → service_of q h ≡ o → ShowsService w h o → joined_number (phase_of w (Node i) h) ≡ Some n → HasOpened q i h n
+open_by : (w : World) (q : Quiet) (i : ℕ) (h : ServiceHash) (n : ℕ) (o : Option QuietService) → service_at q h ≡ o → ShowsService w h o → joined_number (phase_of w (Node i) h) ≡ Some n → HasOpened q i h n
 open_by w q i h n None is s e = absurd (not_begun (phase_of w (Node i) h) n (s.phases i) e)
-open_by w q i h n (Some x) is s e = let c = counted_by (phase_of w (Node i) h) n x.number (count_of x i) (s.phases i) e in record { service = x; there = is; number = c.2; count = c.0; counted = c.1 }
+open_by w q i h n (Some x) is s e = let c = counted_by (phase_of w (Node i) h) n x.number (times_counted x i) (s.phases i) e in record { service = x; there = is; number = c.2; count = c.0; counted = c.1 }
 
 -- who has a ticket has opened its service
 pub has_opened : (w : World) (q : Quiet) (t : ℕ) (x : Ticket) → Shows w q → Agrees w → ticket_of w t ≡ Some x → HasOpened q x.node x.hash x.number
-has_opened w q t x s old e = open_by w q x.node x.hash x.number (service_of q x.hash) refl (s.services x.hash) (old.held.number t x e)
+has_opened w q t x s old e = open_by w q x.node x.hash x.number (service_at q x.hash) refl (s.services x.hash) (old.held.number t x e)
 
 -- a factory whose ticket stays stands
 pub still_stands : (w v : World) (f : Factory) → Later w v → Agrees v → Stands w f → ticket_of v f.ticket ≡ ticket_of w f.ticket → Stands v f
@@ -56,7 +56,7 @@ kept_by_close w v t new later tickets f apart s =
     still_stands w v f later new s (ap (λ k. map.get k f.ticket) tickets ∙ elim (set_cases nat_cmp_total exact_unsigned w.tickets t None f.ticket) [ inl i ↦ absurd (apart i.0) | inr i ↦ i.1 ])
 
 -- a new factory stands where the machine has its service, and its ticket is there
-pub given_stands : (w v : World) (q : Quiet) (r : Factory) (x : Service) → Shows v q → Agrees v → service_of q r.description.hash ≡ Some x → x.number ≡ r.number → x.description ≡ r.description → v.tickets ≡ map.insert w.tickets r.ticket (ticket_for r) → Stands v r
+pub given_stands : (w v : World) (q : Quiet) (r : Factory) (x : QuietService) → Shows v q → Agrees v → service_at q r.description.hash ≡ Some x → x.number ≡ r.number → x.description ≡ r.description → v.tickets ≡ map.insert w.tickets r.ticket (ticket_for r) → Stands v r
 given_stands w v q r x s new is number description tickets =
     let there = subst (λ o. ShowsService v r.description.hash o) is (s.services r.description.hash) in
     stands_by_ticket v v r (later_refl v) (subst (λ d. IsDescription d) description there.limits) (there.row ∙ (λ i. Some (row.Published (number i) (form.description (description i))))) new

@@ -12,7 +12,7 @@ ghost use Rattle.iceoryx2_world.specs.Acts as act;
 ghost use Rattle.iceoryx2_world.specs.Steps.{last_number};
 ghost use Rattle.iceoryx2_world.specs.Access.{open_refusal};
 ghost use Rattle.iceoryx2_world.specs.Listing.{ListsAll};
-ghost use Rattle.iceoryx2_storage.specs.Book.{Leaves, MayTakeStep, TakesDescription, TakesSegment, TakesStep};
+ghost use Rattle.iceoryx2_storage.specs.Book.{TakesLeave, MayTakeStep, TakesDescription, TakesSegment, TakesStep};
 ghost use Rattle.iceoryx2_storage.specs.Book.{position_in, published_number, segment_fits};
 
 use super::listing::Entry;
@@ -128,7 +128,8 @@ fn may_remove_description(phase: Phase) -> bool
 
 impl Services {
     pub fn starting_at(alloc: Global, counter: u64) -> Services
-        ensures { result ≡ (record { rows = map.empty; segments = map.empty; phases = map.empty; counter = counter }) }
+        ensures { result
+            ≡ (record { rows = map.empty; segments = map.empty; phases = map.empty; counter = counter }) }
     {
         Services {
             rows: SortedVec::new(alloc),
@@ -424,7 +425,7 @@ impl Services {
     }
 
     pub fn leave(&mut self, participant: Participant, hash: &ServiceHash) -> Option<Release>
-        ensures { Leaves self.old participant hash.now result self.new }
+        ensures { TakesLeave self.old participant hash.now result self.new }
     {
         let key = (participant, *hash);
         let position = position_of(&self.phases, &key);

@@ -10,7 +10,7 @@ ghost use Rattle.iceoryx2_world.specs.Access.{IsOwnPart, has_lock, has_made as h
 
 use super::listing::Entry;
 use super::services::Services;
-use super::world::{Participant, Phase, Row, Ticket};
+use super::world_with::{Participant, Phase, Row, Ticket};
 use crate::storage::{
     Existence, FetchError, LockError, MakeSegmentError, OpenSegmentError, PublishError, Release,
     ReleaseError, RemoveError, Tag, TagError,
@@ -34,13 +34,13 @@ impl Model for StoredWorld {
     ghost use Rattle.iceoryx2_world.specs.Orders.{tag_cmp};
     ghost use Rattle.iceoryx2_world.specs.World.{World};
     ghost use Rattle.iceoryx2_world.specs.Codes.{coded_world};
-    ghost use Rattle.iceoryx2_storage.specs.Book.{world};
+    ghost use Rattle.iceoryx2_storage.specs.Book.{world_with};
 
     ghost Value = { World };
 
     ghost coded = { coded_world };
 
-    ghost view = { λ t. world t.services (map_of tag_cmp t.tags) (map_of nat_cmp t.tickets) };
+    ghost view = { λ t. world_with t.services (map_of tag_cmp t.tags) (map_of nat_cmp t.tickets) };
 }
 
 // How many of the tickets are this node's for this service.

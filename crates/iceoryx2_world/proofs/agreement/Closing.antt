@@ -13,7 +13,7 @@ use Rattle.iceoryx2_world.specs.World.{World, Segment, row_of, segment_of, phase
 use Rattle.iceoryx2_world.specs.Acts as act
 use Rattle.iceoryx2_world.specs.Steps.{Spot, spot_after}
 use Rattle.iceoryx2_access.specs.Letter as letter
-use Rattle.iceoryx2_world.specs.Access.{write, moves_with, release_answer, is_ticket, IsOwnPart}
+use Rattle.iceoryx2_world.specs.Access.{write, spot_becomes_with, release_answer, is_ticket, IsOwnPart}
 use Rattle.iceoryx2_world.specs.Faulty.{IsFaulty}
 use Rattle.iceoryx2_world.proofs.agreement.Effects.{stepped as stepped_world}
 use Rattle.iceoryx2_world.proofs.agreement.Worlds.{place_cases}
@@ -28,7 +28,7 @@ released_as w v t i h n a p = elim (sure_answer_cases _ (Ok a) p.change p.own) [
   | inl k ↦
       let rest = release_ok i h t w.tickets _ k.given (passed (is_ticket i h n (ticket_of w t)) _ _ k.given k.from).1 in
       let answer : a ≡ k.given.0 = cc (k.answer) in
-      let is : v ≡ write w i h (moves_with rest.0 (map.remove w.tickets t)) = p.is ∙ ap (write w i h) (k.change ∙ (λ j. (rest.2 j).1)) in
+      let is : v ≡ write w i h (spot_becomes_with rest.0 (map.remove w.tickets t)) = p.is ∙ ap (write w i h) (k.change ∙ (λ j. (rest.2 j).1)) in
       let phase : phase_of v (Node i) h ≡ (rest.0).phase = ap (λ u. phase_of u (Node i) h) is ∙ elim (place_cases w (Node i) h rest.0 (Node i) h) [ inl q ↦ q.2 | inr q ↦ absurd (q.0 refl refl) ] in
       answer ∙ (λ j. (rest.2 j).0) ∙ ap release_answer (sym phase)
   | inr k ↦ absurd (cc (k.answer))

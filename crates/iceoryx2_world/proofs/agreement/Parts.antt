@@ -26,7 +26,7 @@ use Rattle.iceoryx2_access.specs.declared.storage.OpenSegmentError.{OpenSegmentE
 use Rattle.iceoryx2_access.specs.declared.storage.Release.{Release as Released}
 use Rattle.iceoryx2_access.specs.Letter.{Letter}
 use Rattle.iceoryx2_access.specs.Letter as letter
-use Rattle.iceoryx2_world.specs.Access.{Seat, Change, seat, write, nothing, moves, moves_with, IsAnswer, IsSureAnswer, or_refused, read_change, own_step, with_ticket, is_ticket, fetch_of, MakesTag, lock_of, make_of, publishing_of, opening_of, release_of, release_answer, has_made, has_lock, open_refusal, join_refusal, IsOwnPart}
+use Rattle.iceoryx2_world.specs.Access.{Seat, Change, seat, write, nothing, spot_becomes, spot_becomes_with, IsAnswer, IsSureAnswer, or_refused, read_change, own_step, with_ticket, is_ticket, fetch_of, MakesTag, lock_of, make_of, publishing_of, opening_of, release_of, release_answer, has_made, has_lock, open_refusal, join_refusal, IsOwnPart}
 use Rattle.iceoryx2_world.proofs.agreement.Worlds.{ticket_put, ticket_removed}
 
 -- An answer that is given, with its change.
@@ -68,7 +68,7 @@ refused_else false o e is = (refl, is)
 pub record Stepping (o : Option Spot) {A : Type 0} (x : A × Change) (answer : A) : Type 0 where
   pub spot : Spot
   pub from : o ≡ Some spot
-  pub is : x ≡ (answer, moves spot)
+  pub is : x ≡ (answer, spot_becomes spot)
 
 pub step_ok : {A E : Type 0} (e : E) (a : A) (o : Option Spot) (x : A × Change) → or_refused e a o ≡ Ok x → Stepping o x a
 step_ok e a None x is = absurd (cc)
@@ -78,16 +78,16 @@ module _ (i : ℕ) (h : ServiceHash) where
   abbrev pub mine : ℕ → Ticket
   mine n = record { node = i; hash = h; number = n }
 
-  published_ok : (n : ℕ) (k : Tickets) (o : Option Spot) (x : ℕ × Change) → publishing_of i h n k o ≡ Ok x → (s : Spot) × (o ≡ Some s) × (x ≡ (n, moves_with s (with_ticket i h k n n)))
+  published_ok : (n : ℕ) (k : Tickets) (o : Option Spot) (x : ℕ × Change) → publishing_of i h n k o ≡ Ok x → (s : Spot) × (o ≡ Some s) × (x ≡ (n, spot_becomes_with s (with_ticket i h k n n)))
   published_ok n k None x is = absurd (cc)
   published_ok n k (Some s) x is = (s, refl, cc)
 
-  opened_ok : (n : ℕ) (s : Seat) (e : Option OpenSegmentError) (o : Option Spot) (x : ℕ × Change) → opening_of i h n s e o ≡ Ok x → (e ≡ None) × (y : Spot) × (o ≡ Some y) × (x ≡ (s.spot.counter, moves_with (record y { counter = s.spot.counter + 1 }) (with_ticket i h s.tickets s.spot.counter n)))
+  opened_ok : (n : ℕ) (s : Seat) (e : Option OpenSegmentError) (o : Option Spot) (x : ℕ × Change) → opening_of i h n s e o ≡ Ok x → (e ≡ None) × (y : Spot) × (o ≡ Some y) × (x ≡ (s.spot.counter, spot_becomes_with (record y { counter = s.spot.counter + 1 }) (with_ticket i h s.tickets s.spot.counter n)))
   opened_ok n s (Some e) o x is = absurd (cc)
   opened_ok n s None None x is = absurd (cc)
   opened_ok n s None (Some y) x is = (refl, y, refl, cc)
 
-  pub release_ok : (t : ℕ) (k : Tickets) (o : Option Spot) (x : Released × Change) → release_of i h t k o ≡ Ok x → (s : Spot) × (o ≡ Some s) × (x ≡ (release_answer s.phase, moves_with s (map.remove k t)))
+  pub release_ok : (t : ℕ) (k : Tickets) (o : Option Spot) (x : Released × Change) → release_of i h t k o ≡ Ok x → (s : Spot) × (o ≡ Some s) × (x ≡ (release_answer s.phase, spot_becomes_with s (map.remove k t)))
   release_ok t k None x is = absurd (cc)
   release_ok t k (Some s) x is = (s, refl, cc)
 
@@ -176,7 +176,7 @@ unchanged w v i h c e is = is ∙ ap (write w i h) e
 pub made_step : (w : World) (i : ℕ) (h : ServiceHash) (a : Act) (s : Spot) → own_step i h a (seat w i h).spot ≡ Some s → world_after w (Node i) h a ≡ Some (put w (Node i) h s)
 made_step w i h a s e = ap (option_map (put w (Node i) h)) e
 
-pub moved_world : (w v : World) (i : ℕ) (h : ServiceHash) (a : Act) (c : Change) (s : Spot) → own_step i h a (seat w i h).spot ≡ Some s → c ≡ moves s → v ≡ write w i h c → world_after w (Node i) h a ≡ Some v
+pub moved_world : (w v : World) (i : ℕ) (h : ServiceHash) (a : Act) (c : Change) (s : Spot) → own_step i h a (seat w i h).spot ≡ Some s → c ≡ spot_becomes s → v ≡ write w i h c → world_after w (Node i) h a ≡ Some v
 moved_world w v i h a c s e m is = made_step w i h a s e ∙ ap Some (sym (is ∙ ap (write w i h) m))
 
 read_part : (w v : World) (i : ℕ) (h : ServiceHash) (l : Letter) (c : Change) (o : Option Spot) → own_step i h act.Read (seat w i h).spot ≡ o → c ≡ read_change o → v ≡ write w i h c → Part w l v

@@ -3,7 +3,7 @@
 ghost use Rattle.std.specs.Prelude.{◌≡◌};
 ghost use Rattle.iceoryx2_rounds.specs.Verdict.{verdict, marked_clauses};
 ghost use Rattle.std.specs.Option.{option_map};
-ghost use Rattle.iceoryx2_builder.specs.Event.{rows, at_least_one, deadline_at};
+ghost use Rattle.iceoryx2_builder.specs.Event.{setting_rows, at_least_one, created_deadline};
 ghost use Rattle.iceoryx2_builder.specs.Request.{fresh_asked, asked_with};
 
 use crate::builder::event::setting::EventSetting;
@@ -100,7 +100,7 @@ fn raised(value: u64) -> u64
 
 /// The deadline of a service that is created at this time.
 fn deadline_at_creation(deadline: Option<Deadline>, now: Time) -> Option<Deadline>
-    ensures { result ≡ option_map (deadline_at now) deadline }
+    ensures { result ≡ option_map (created_deadline now) deadline }
 {
     match deadline {
         None => None,
@@ -114,7 +114,7 @@ fn deadline_at_creation(deadline: Option<Deadline>, now: Time) -> Option<Deadlin
 /// Whether the existing settings offer what is marked.
 #[tactic(auto, using(iceoryx2_rounds::proofs::Verdicts::row_decides, iceoryx2_rounds::proofs::Verdicts::no_row))]
 fn verify_settings(asked: &Asked, existing: &event::StaticConfig) -> Result<(), EventOpenError>
-    ensures { result ≡ verdict (marked_clauses (rows asked.now.settings asked.now.marks existing.now)) }
+    ensures { result ≡ verdict (marked_clauses (setting_rows asked.now.settings asked.now.marks existing.now)) }
 {
     let marks = &asked.marks;
     let required = &asked.settings;

@@ -11,7 +11,7 @@ use Rattle.iceoryx2_world.specs.Orders.{tag_cmp}
 use Rattle.iceoryx2_world.specs.Acts as act
 use Rattle.iceoryx2_world.specs.Access.{nothing, read_change, fetch_of}
 use Rattle.iceoryx2_world.specs.World.{Tickets}
-use Rattle.iceoryx2_storage.specs.Book.{Book, step_at, world}
+use Rattle.iceoryx2_storage.specs.Book.{Book, step_at, world_with}
 use Rattle.iceoryx2_storage.proofs.Accesses.{part, spot_at, gives_refusal, gives_done, gives_starved, read_or_not}
 use Rattle.iceoryx2_storage.proofs.table.stored.StoredWorld.fetch.Goals as goal
 
@@ -57,7 +57,7 @@ returns-in_default-read c =
     let k : Tickets = map_of nat_cmp c.self.inside.tickets in
     part (letter.Fetch i h (Err Fetching.OutOfMemory)) nothing c.self.view_is
     (gives_starved _ _ _ (ap (fetch_of i h (spot_at b i h)) (sym c.in-Some.ensures ∙ ap Some c.in-Published.is)))
-    (ap (λ x. world x t k) c.in_default-read.ensures.3)
+    (ap (λ x. world_with x t k) c.in_default-read.ensures.3)
 
 pub returns : goal.returns
 returns c =

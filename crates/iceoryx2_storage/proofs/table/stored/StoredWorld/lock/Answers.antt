@@ -8,9 +8,9 @@ use Rattle.iceoryx2_world.specs.declared.world.Participant.TheVariants.{Node}
 use Rattle.iceoryx2_world.specs.Sets as set
 use Rattle.iceoryx2_world.specs.Orders.{tag_cmp}
 use Rattle.iceoryx2_world.specs.Acts as act
-use Rattle.iceoryx2_world.specs.Access.{nothing, moves, or_refused, lock_of}
+use Rattle.iceoryx2_world.specs.Access.{nothing, spot_becomes, or_refused, lock_of}
 use Rattle.iceoryx2_world.specs.World.{Tickets}
-use Rattle.iceoryx2_storage.specs.Book.{Book, MayTakeStep, world}
+use Rattle.iceoryx2_storage.specs.Book.{Book, MayTakeStep, world_with}
 use Rattle.iceoryx2_storage.proofs.Accesses.{part, spot_at, gives_refusal, gives_done, gives_starved}
 use Rattle.iceoryx2_storage.proofs.table.stored.StoredWorld.lock.Goals as goal
 
@@ -46,7 +46,7 @@ returns-in_default c =
     let starved = c.in_default.ensures in
     part (letter.Lock i h (Err Locking.OutOfMemory)) nothing c.self.view_is
     (gives_starved _ _ _ (ap (lock_of i h (spot_at b i h)) (sym c.in-None.ensures) ∙ ap (or_refused Locking.Other b.counter) starved.1))
-    (ap (λ x. world x t k) starved.3)
+    (ap (λ x. world_with x t k) starved.3)
 
 pub returns-then-not-locked : goal.returns-then-not-locked
 returns-then-not-locked c =
@@ -58,7 +58,7 @@ returns-then-not-locked c =
     let forbidden = subst (λ (d : Bool). MayTakeStep b (Node i) h act.Lock (Ok d) c.lock.new.self) c.if-not-locked.true c.in-Ok.ensures in
     part (letter.Lock i h (Err Locking.Other)) nothing c.self.view_is
     (gives_refusal _ _ _ (ap (lock_of i h (spot_at b i h)) (sym c.in-None.ensures) ∙ ap (or_refused Locking.Other b.counter) forbidden.0))
-    (ap (λ x. world x t k) forbidden.1)
+    (ap (λ x. world_with x t k) forbidden.1)
 
 pub returns : goal.returns
 returns c =
@@ -68,6 +68,6 @@ returns c =
     let t : set.FinSet tag_cmp = map_of tag_cmp c.self.inside.tags in
     let k : Tickets = map_of nat_cmp c.self.inside.tickets in
     let done = subst (λ (d : Bool). MayTakeStep b (Node i) h act.Lock (Ok d) c.lock.new.self) c.if-not-locked.false c.in-Ok.ensures in
-    part (letter.Lock i h (Ok c.counter-number.result)) (moves done.0) c.self.view_is
-    (gives_done _ _ _ _ (ap (lock_of i h (spot_at b i h)) (sym c.in-None.ensures) ∙ ap (or_refused Locking.Other b.counter) done.1 ∙ ap (λ n. Ok (n, moves done.0)) (sym c.counter-number.ensures)))
-    (ap (λ x. world x t k) done.2)
+    part (letter.Lock i h (Ok c.counter-number.result)) (spot_becomes done.0) c.self.view_is
+    (gives_done _ _ _ _ (ap (lock_of i h (spot_at b i h)) (sym c.in-None.ensures) ∙ ap (or_refused Locking.Other b.counter) done.1 ∙ ap (λ n. Ok (n, spot_becomes done.0)) (sym c.counter-number.ensures)))
+    (ap (λ x. world_with x t k) done.2)

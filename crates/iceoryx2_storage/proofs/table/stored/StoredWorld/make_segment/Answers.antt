@@ -10,10 +10,10 @@ use Rattle.iceoryx2_world.specs.declared.world.Phase.{Phase}
 use Rattle.iceoryx2_world.specs.Sets as set
 use Rattle.iceoryx2_world.specs.Orders.{tag_cmp}
 use Rattle.iceoryx2_world.specs.Acts as act
-use Rattle.iceoryx2_world.specs.Access.{nothing, moves, has_lock, make_of}
+use Rattle.iceoryx2_world.specs.Access.{nothing, spot_becomes, has_lock, make_of}
 use Rattle.iceoryx2_world.specs.World.{Tickets}
 use Rattle.iceoryx2_storage.specs.declared.table.services.Position.{Position}
-use Rattle.iceoryx2_storage.specs.Book.{Book, MayTakeStep, world}
+use Rattle.iceoryx2_storage.specs.Book.{Book, MayTakeStep, world_with}
 use Rattle.iceoryx2_storage.proofs.Accesses.{part, spot_at, gives_refusal, gives_done, gives_starved, make_refused, make_done}
 use Rattle.iceoryx2_storage.proofs.table.stored.StoredWorld.make_segment.Goals as goal
 
@@ -46,7 +46,7 @@ returns-in_default c =
     let starved = c.in_default.ensures in
     part (letter.MakeSegment i h n m (Err Making.OutOfMemory)) nothing c.self.view_is
     (gives_starved _ _ _ (ap chosen may ∙ make_done i h m _ _ _ _ starved.0 starved.1))
-    (ap (λ x. world x t k) starved.3)
+    (ap (λ x. world_with x t k) starved.3)
 
 pub returns-then-not-made : goal.returns-then-not-made
 returns-then-not-made c =
@@ -63,7 +63,7 @@ returns-then-not-made c =
     let forbidden = subst (λ (d : Bool). MayTakeStep b (Node i) h (act.Make m) (Ok d) c.make.new.self) c.if-not-made.true c.in-Ok.ensures in
     part (letter.MakeSegment i h n m (Err Making.AlreadyExists)) nothing c.self.view_is
     (gives_refusal _ _ _ (ap chosen may ∙ make_refused i h n m _ _ _ _ may forbidden.0))
-    (ap (λ x. world x t k) forbidden.1)
+    (ap (λ x. world_with x t k) forbidden.1)
 
 pub returns : goal.returns
 returns c =
@@ -78,6 +78,6 @@ returns c =
     let may = ap (λ (f : Phase). has_lock n f && nat_lt 0 m) found ∙ sym c.may_make.ensures ∙ c.if-not-may_make.false in
     let chosen = λ (x : Bool). if x then make_of i h m (spot_at b i h) (map.get b.segments h) else Err Making.Other in
     let done = subst (λ (d : Bool). MayTakeStep b (Node i) h (act.Make m) (Ok d) c.make.new.self) c.if-not-made.false c.in-Ok.ensures in
-    part (letter.MakeSegment i h n m (Ok tt)) (moves done.0) c.self.view_is
+    part (letter.MakeSegment i h n m (Ok tt)) (spot_becomes done.0) c.self.view_is
     (gives_done _ _ _ _ (ap chosen may ∙ make_done i h m _ _ _ _ done.0 done.1))
-    (ap (λ x. world x t k) done.2)
+    (ap (λ x. world_with x t k) done.2)

@@ -10,7 +10,7 @@ use Rattle.iceoryx2_world.specs.Sets as set
 use Rattle.iceoryx2_world.specs.Orders.{tag_cmp}
 use Rattle.iceoryx2_world.specs.Access.{nothing, tag_becomes, MakesTag}
 use Rattle.iceoryx2_world.specs.World.{Tickets}
-use Rattle.iceoryx2_storage.specs.Book.{Book, world}
+use Rattle.iceoryx2_storage.specs.Book.{Book, world_with}
 use Rattle.iceoryx2_storage.proofs.Accesses.{part}
 use Rattle.iceoryx2_storage.proofs.table.stored.StoredWorld.make_tag.Goals as goal
 
@@ -36,7 +36,7 @@ returns-then-is_err c =
     let found = sym c.place_of-place.ensures.there ∙ sym c.is_ok.ensures.value ∙ c.if-is_ok.false in
     part (letter.MakeTag i h (Err Tagging.OutOfMemory)) nothing c.self.view_is
     (subst (λ (x : Bool). MakesTag i h x (Err Tagging.OutOfMemory) nothing) (sym found) (inr (refl, refl)))
-    (ap (λ x. world b x k) c.reserve.ensures.same)
+    (ap (λ x. world_with b x k) c.reserve.ensures.same)
 
 pub returns : goal.returns
 returns c =
@@ -48,4 +48,4 @@ returns c =
     let found = sym c.place_of-place.ensures.there ∙ sym c.is_ok.ensures.value ∙ c.if-is_ok.false in
     part (letter.MakeTag i h (Ok Made)) (tag_becomes true) c.self.view_is
     (subst (λ (x : Bool). MakesTag i h x (Ok Made) (tag_becomes true)) (sym found) (inl (refl, refl)))
-    (ap (λ x. world b x k) (c.insert_at.ensures.effect ∙ ap (λ m. map.insert m (i, h) tt) c.reserve.ensures.same))
+    (ap (λ x. world_with b x k) (c.insert_at.ensures.effect ∙ ap (λ m. map.insert m (i, h) tt) c.reserve.ensures.same))

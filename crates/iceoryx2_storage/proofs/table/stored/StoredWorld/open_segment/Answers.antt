@@ -13,10 +13,10 @@ use Rattle.iceoryx2_world.specs.Sets as set
 use Rattle.iceoryx2_world.specs.Orders.{tag_cmp}
 use Rattle.iceoryx2_world.specs.Acts as act
 use Rattle.iceoryx2_world.specs.Steps.{Spot}
-use Rattle.iceoryx2_world.specs.Access.{nothing, moves_with, seat, with_ticket, opening_of, open_refusal}
+use Rattle.iceoryx2_world.specs.Access.{nothing, spot_becomes_with, seat, with_ticket, opening_of, open_refusal}
 use Rattle.iceoryx2_world.specs.World.{Tickets}
 use Rattle.iceoryx2_storage.specs.declared.table.services.Position.{Position}
-use Rattle.iceoryx2_storage.specs.Book.{Book, MayTakeStep, step_at, world}
+use Rattle.iceoryx2_storage.specs.Book.{Book, MayTakeStep, step_at, world_with}
 use Rattle.iceoryx2_storage.proofs.Spots.{may_join, join_counter}
 use Rattle.iceoryx2_storage.proofs.Accesses.{part, spot_at, gives_refusal, gives_done, gives_starved, opens_by}
 use Rattle.iceoryx2_storage.proofs.table.stored.StoredWorld.open_segment.Goals as goal
@@ -32,7 +32,7 @@ returns-in-Some c =
     let found = sym (ap (λ (q : Position). q.phase) c.position-position.ensures) in
     let refused = ap (λ (f : Phase). open_refusal n (map.get b.segments h) b.counter f) found ∙ sym c.open_refusal.ensures ∙ c.in-Some.is in
     part (letter.OpenSegment i h n (Err c.in-Some.refusal)) nothing c.self.view_is
-    (gives_refusal _ _ _ (ap (λ (r : Option OpenSegmentError). opening_of i h n (seat (world b t k) i h) r (step_at b (Node i) h act.Join)) refused))
+    (gives_refusal _ _ _ (ap (λ (r : Option OpenSegmentError). opening_of i h n (seat (world_with b t k) i h) r (step_at b (Node i) h act.Join)) refused))
     (sym c.self.view_is)
 
 pub returns-then-is_err : goal.returns-then-is_err
@@ -47,8 +47,8 @@ returns-then-is_err c =
     let none = ap (λ (f : Phase). open_refusal n (map.get b.segments h) b.counter f) found ∙ sym c.open_refusal.ensures ∙ c.in_default.is in
     let may = (may_join (Node i) h n b.counter (map.get b.rows h) _ _ none).1 in
     part (letter.OpenSegment i h n (Err Opening.OutOfMemory)) nothing c.self.view_is
-    (gives_starved _ _ _ (opens_by i h n (seat (world b t k) i h) _ _ _ none may.1))
-    (ap (λ x. world b t x) c.reserve.ensures.same)
+    (gives_starved _ _ _ (opens_by i h n (seat (world_with b t k) i h) _ _ _ none may.1))
+    (ap (λ x. world_with b t x) c.reserve.ensures.same)
 
 pub returns-in_default-join : goal.returns-in_default-join
 returns-in_default-join c =
@@ -62,8 +62,8 @@ returns-in_default-join c =
     let none = ap (λ (f : Phase). open_refusal n (map.get b.segments h) b.counter f) found ∙ sym c.open_refusal.ensures ∙ c.in_default.is in
     let starved = c.in_default-join.ensures in
     part (letter.OpenSegment i h n (Err Opening.OutOfMemory)) nothing c.self.view_is
-    (gives_starved _ _ _ (opens_by i h n (seat (world b t k) i h) _ _ _ none starved.1))
-    (λ j. world (starved.3 j) t (c.reserve.ensures.same j))
+    (gives_starved _ _ _ (opens_by i h n (seat (world_with b t k) i h) _ _ _ none starved.1))
+    (λ j. world_with (starved.3 j) t (c.reserve.ensures.same j))
 
 pub returns : goal.returns
 returns c =
@@ -82,6 +82,6 @@ returns c =
     let same : c.join.new.self.counter ≡ b.counter = ap (λ (y : Book). y.counter) done.2 ∙ join_counter (Node i) h (spot_at b i h).phase (map.get b.rows h) (map.get b.segments h) b.counter s done.1 in
     let is : b.counter ≡ u = sym (c.next_number-ticket.ensures.number ∙ same) in
     let counted : c.join.new.self.counter + 1 ≡ u + 1 = ap (λ v. v + 1) (same ∙ is) in
-    part (letter.OpenSegment i h n (Ok u)) (moves_with (record s { counter = u + 1 }) (with_ticket i h k u n)) c.self.view_is
-    (gives_done _ _ _ _ (opens_by i h n (seat (world b t k) i h) _ _ _ none done.1 ∙ ap (λ v. Ok (v, moves_with (record s { counter = v + 1 }) (with_ticket i h k v n))) is))
-    (λ j. world ((c.next_number-ticket.ensures.effect ∙ (λ l. record (done.2 l) { counter = counted l })) j) t ((c.insert.ensures.effect ∙ ap (λ m. map.insert m u held) c.reserve.ensures.same) j))
+    part (letter.OpenSegment i h n (Ok u)) (spot_becomes_with (record s { counter = u + 1 }) (with_ticket i h k u n)) c.self.view_is
+    (gives_done _ _ _ _ (opens_by i h n (seat (world_with b t k) i h) _ _ _ none done.1 ∙ ap (λ v. Ok (v, spot_becomes_with (record s { counter = v + 1 }) (with_ticket i h k v n))) is))
+    (λ j. world_with ((c.next_number-ticket.ensures.effect ∙ (λ l. record (done.2 l) { counter = counted l })) j) t ((c.insert.ensures.effect ∙ ap (λ m. map.insert m u held) c.reserve.ensures.same) j))

@@ -10,10 +10,10 @@ use Rattle.iceoryx2_world.specs.declared.world.Ticket.{Ticket}
 use Rattle.iceoryx2_world.specs.Sets as set
 use Rattle.iceoryx2_world.specs.Orders.{tag_cmp}
 use Rattle.iceoryx2_world.specs.Acts as act
-use Rattle.iceoryx2_world.specs.Access.{nothing, moves_with, with_ticket, has_made}
+use Rattle.iceoryx2_world.specs.Access.{nothing, spot_becomes_with, with_ticket, has_made}
 use Rattle.iceoryx2_world.specs.World.{Tickets}
 use Rattle.iceoryx2_storage.specs.declared.table.services.Position.{Position}
-use Rattle.iceoryx2_storage.specs.Book.{Book, MayTakeStep, world, segment_fits}
+use Rattle.iceoryx2_storage.specs.Book.{Book, MayTakeStep, world_with, segment_fits}
 use Rattle.iceoryx2_storage.proofs.Accesses.{part, spot_at, gives_refusal, gives_done, gives_starved, no_publish, may_publish, publishes_by}
 use Rattle.iceoryx2_storage.proofs.table.stored.StoredWorld.publish.Goals as goal
 
@@ -65,7 +65,7 @@ returns-then-is_err c =
     let may = may_publish i h n d k (map.get b.rows h) b.counter _ _ both in
     part (letter.Publish i h n d (Err Publishing.OutOfMemory)) nothing c.self.view_is
     (tt, gives_starved _ _ _ (publishes_by i h n d k _ _ _ _ _ may.0 may.1.is))
-    (ap (λ x. world b t x) c.reserve.ensures.same)
+    (ap (λ x. world_with b t x) c.reserve.ensures.same)
 
 pub returns-in_default : goal.returns-in_default
 returns-in_default c =
@@ -81,7 +81,7 @@ returns-in_default c =
     let starved = c.in_default.ensures.effect in
     part (letter.Publish i h n d (Err Publishing.OutOfMemory)) nothing c.self.view_is
     (tt, gives_starved _ _ _ (publishes_by i h n d k _ _ _ _ _ made starved.1))
-    (λ j. world (starved.3 j) t (c.reserve.ensures.same j))
+    (λ j. world_with (starved.3 j) t (c.reserve.ensures.same j))
 
 pub returns : goal.returns
 returns c =
@@ -96,6 +96,6 @@ returns c =
     let made = ap (has_made n) found ∙ sym c.has_made.ensures ∙ c.if-not-has_made.false in
     let held : Ticket = record { node = i; hash = h; number = n } in
     let done = subst (λ (x : Bool). MayTakeStep b (Node i) h (act.Publish d) (Ok x) c.publish.new.self) c.if-not-published.false c.in-Ok.ensures.effect in
-    part (letter.Publish i h n d (Ok n)) (moves_with done.0 (with_ticket i h k n n)) c.self.view_is
+    part (letter.Publish i h n d (Ok n)) (spot_becomes_with done.0 (with_ticket i h k n n)) c.self.view_is
     (c.in-Ok.ensures.limits (ap Ok c.if-not-published.false), gives_done _ _ _ _ (publishes_by i h n d k _ _ _ _ _ made done.1))
-    (λ j. world (done.2 j) t ((c.insert.ensures.effect ∙ ap (λ m. map.insert m n held) c.reserve.ensures.same) j))
+    (λ j. world_with (done.2 j) t ((c.insert.ensures.effect ∙ ap (λ m. map.insert m n held) c.reserve.ensures.same) j))

@@ -7,7 +7,7 @@ use Rattle.iceoryx2_world.specs.Sets as set
 use Rattle.iceoryx2_world.specs.Orders.{tag_cmp, tag_exact}
 use Rattle.iceoryx2_world.specs.Access.{tag_becomes}
 use Rattle.iceoryx2_world.specs.World.{Tickets}
-use Rattle.iceoryx2_storage.specs.Book.{Book, world}
+use Rattle.iceoryx2_storage.specs.Book.{Book, world_with}
 use Rattle.iceoryx2_storage.proofs.Accesses.{part}
 use Rattle.iceoryx2_storage.proofs.table.stored.StoredWorld.remove_tag.Goals as goal
 
@@ -18,4 +18,4 @@ returns c =
     let b : Book = c.self.inside.services in
     let t : set.FinSet tag_cmp = map_of tag_cmp c.self.inside.tags in
     let k : Tickets = map_of nat_cmp c.self.inside.tickets in
-    part (letter.RemoveTag i h (Ok tt)) (tag_becomes false) c.self.view_is (refl, refl) (ap (λ x. world b x k) (c.remove.ensures.effect tag_exact))
+    part (letter.RemoveTag i h (Ok tt)) (tag_becomes false) c.self.view_is (refl, refl) (ap (λ x. world_with b x k) (c.remove.ensures.effect tag_exact))
