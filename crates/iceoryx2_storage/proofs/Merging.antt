@@ -14,7 +14,7 @@ use Rattle.iceoryx2_world.specs.declared.listing.Entry.{Entry}
 use Rattle.iceoryx2_world.specs.Orders.{hash_cmp, hash_total, hash_exact}
 use Rattle.iceoryx2_world.specs.World.{Segment}
 use Rattle.iceoryx2_world.specs.Listing.{entry_of, entry_at, by_hash, ListsAll}
-use Rattle.iceoryx2_storage.specs.Merge.{RowEntries, SegmentEntries, merge, IsStep}
+use Rattle.iceoryx2_storage.specs.Merge.{RowEntries, SegmentEntries, merge, Advances}
 
 less_of : (o : Ordering) → T (is_lt o) → o ≡ Less
 less_of Less h = refl
@@ -148,7 +148,7 @@ grown : (es fs more : List Entry) (e : Entry) → fs ≡ es ++ e ∷ [] → fs +
 grown es fs more e is = ap (λ l. l ++ more) is ∙ append_assoc es (e ∷ []) more
 
 walked : (rs : RowEntries) (ss : SegmentEntries) (i j m n : ℕ) (es fs : List Entry) (e : Entry) → fs ≡ es ++ e ∷ [] → merge (drop i rs) (drop j ss) ≡ e ∷ merge (drop m rs) (drop n ss)
-    → m ≤ length rs → n ≤ length ss → i + j < m + n → IsStep rs ss (i, j) es (m, n) fs
+    → m ≤ length rs → n ≤ length ss → i + j < m + n → Advances rs ss (i, j) es (m, n) fs
 walked rs ss i j m n es fs e grows next rows segments more = record {
   same = grown es fs _ e grows ∙ ap (λ l. es ++ l) (sym next);
   rows = rows;
@@ -181,14 +181,14 @@ past (x ∷ xs) zero le = absurd (omega arith)
 past (x ∷ xs) (suc i) le = past xs i (omega arith)
 
 module _ (rs : RowEntries) (ss : SegmentEntries) (i j : ℕ) (es fs : List Entry) where
-  pub only_row : (r : ServiceHash × Row) → i < length rs → r ≡ get_or rs i r → j ≡ length ss → fs ≡ es ++ entry_of r.0 (Some r.1) None ∷ [] → IsStep rs ss (i, j) es (i + 1, j) fs
+  pub only_row : (r : ServiceHash × Row) → i < length rs → r ≡ get_or rs i r → j ≡ length ss → fs ≡ es ++ entry_of r.0 (Some r.1) None ∷ [] → Advances rs ss (i, j) es (i + 1, j) fs
   only_row r lt is end grows =
       let none = past ss j (omega arith) in
       walked rs ss i j (i + 1) j es fs _ grows
       ((λ k. merge (at_place rs i r lt is k) (none k)) ∙ merge_row r (drop (i + 1) rs) ∙ (λ k. entry_of r.0 (Some r.1) None ∷ merge (drop (i + 1) rs) (sym none k)))
       (omega arith) (omega arith) (omega arith)
 
-  pub only_segment : (s : ServiceHash × Segment) → j < length ss → s ≡ get_or ss j s → i ≡ length rs → fs ≡ es ++ entry_of s.0 None (Some s.1) ∷ [] → IsStep rs ss (i, j) es (i, j + 1) fs
+  pub only_segment : (s : ServiceHash × Segment) → j < length ss → s ≡ get_or ss j s → i ≡ length rs → fs ≡ es ++ entry_of s.0 None (Some s.1) ∷ [] → Advances rs ss (i, j) es (i, j + 1) fs
   only_segment s lt is end grows =
       let none = past rs i (omega arith) in
       walked rs ss i j i (j + 1) es fs _ grows
@@ -202,15 +202,15 @@ module _ (rs : RowEntries) (ss : SegmentEntries) (i j : ℕ) (es fs : List Entry
         (entry_of s.0 None (Some s.1) ∷ merge (r ∷ drop (i + 1) rs) (drop (j + 1) ss))
     heads o e = (λ k. merge (at_place rs i r lr ir k) (at_place ss j s ls is k)) ∙ merge_both r s _ _ o e
 
-    pub row_first : hash_cmp r.0 s.0 ≡ Less → fs ≡ es ++ entry_of r.0 (Some r.1) None ∷ [] → IsStep rs ss (i, j) es (i + 1, j) fs
+    pub row_first : hash_cmp r.0 s.0 ≡ Less → fs ≡ es ++ entry_of r.0 (Some r.1) None ∷ [] → Advances rs ss (i, j) es (i + 1, j) fs
     row_first e grows = walked rs ss i j (i + 1) j es fs _ grows
         (heads Less e ∙ (λ k. entry_of r.0 (Some r.1) None ∷ merge (drop (i + 1) rs) (sym (at_place ss j s ls is) k)))
         (omega arith) (omega arith) (omega arith)
 
-    pub together : hash_cmp r.0 s.0 ≡ Equal → fs ≡ es ++ entry_of r.0 (Some r.1) (Some s.1) ∷ [] → IsStep rs ss (i, j) es (i + 1, j + 1) fs
+    pub together : hash_cmp r.0 s.0 ≡ Equal → fs ≡ es ++ entry_of r.0 (Some r.1) (Some s.1) ∷ [] → Advances rs ss (i, j) es (i + 1, j + 1) fs
     together e grows = walked rs ss i j (i + 1) (j + 1) es fs _ grows (heads Equal e) (omega arith) (omega arith) (omega arith)
 
-    pub segment_first : hash_cmp r.0 s.0 ≡ Greater → fs ≡ es ++ entry_of s.0 None (Some s.1) ∷ [] → IsStep rs ss (i, j) es (i, j + 1) fs
+    pub segment_first : hash_cmp r.0 s.0 ≡ Greater → fs ≡ es ++ entry_of s.0 None (Some s.1) ∷ [] → Advances rs ss (i, j) es (i, j + 1) fs
     segment_first e grows = walked rs ss i j i (j + 1) es fs _ grows
         (heads Greater e ∙ (λ k. entry_of s.0 None (Some s.1) ∷ merge (sym (at_place rs i r lr ir) k) (drop (j + 1) ss)))
         (omega arith) (omega arith) (omega arith)

@@ -31,7 +31,7 @@ Progress = ℕ × ℕ
 
 module _ (rs : RowEntries) (ss : SegmentEntries) where
   -- From where so many are listed, some more are, and what was to come has come so far.
-  pub record IsStep (at : Progress) (es : List Entry) (next : Progress) (fs : List Entry) : Type 0 where
+  pub record Advances (at : Progress) (es : List Entry) (next : Progress) (fs : List Entry) : Type 0 where
     pub same : fs ++ merge (drop next.0 rs) (drop next.1 ss) ≡ es ++ merge (drop at.0 rs) (drop at.1 ss)
     pub rows : next.0 ≤ length rs
     pub segments : next.1 ≤ length ss

@@ -2,7 +2,7 @@
 
 ghost use Rattle.std.specs.Prelude.{◌≡◌, ◌<◌, ◌≤◌, ◌+◌, ◌++◌, ◌∷◌, [], IfOk, OnOk, length};
 ghost use Rattle.std.specs.Option.{option_copied};
-ghost use Rattle.iceoryx2_storage.specs.Merge.{merge, IsStep};
+ghost use Rattle.iceoryx2_storage.specs.Merge.{merge, Advances};
 ghost use Rattle.iceoryx2_world.specs.Listing.{entry_of, listed_row as listed_row_of};
 
 use super::listing::{Entry, ListedRow};
@@ -61,7 +61,7 @@ fn push_next(
     requires rows { row ≤ length rows.now }
     requires segments { segment ≤ length segments.now }
     requires left { row + segment < length rows.now + length segments.now }
-    ensures walks { IfOk result (λ next. IsStep rows.now segments.now
+    ensures walks { IfOk result (λ next. Advances rows.now segments.now
         (row, segment) entries.old.items next entries.new.items) }
 {
     if row == rows.len() {

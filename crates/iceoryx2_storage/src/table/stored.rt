@@ -10,7 +10,7 @@ ghost use Rattle.iceoryx2_world.specs.Access.{IsOwnPart, has_lock, has_made as h
 
 use super::listing::Entry;
 use super::services::Services;
-use super::world_with::{Participant, Phase, Row, Ticket};
+use super::world::{Participant, Phase, Row, Ticket};
 use crate::storage::{
     Existence, FetchError, LockError, MakeSegmentError, OpenSegmentError, PublishError, Release,
     ReleaseError, RemoveError, Tag, TagError,
