@@ -6,17 +6,17 @@ use std::alloc::Global;
 use std::io::{self, ErrorKind};
 
 /// Faults of a reader behind a whole line, and what is printed in all.
-const READING: [(ErrorKind, &[u8]); 3] = [
-    (ErrorKind::IsADirectory, b"ok 0 number=0\n"),
-    (ErrorKind::UnexpectedEof, b"ok 0 number=0\n"),
-    (ErrorKind::OutOfMemory, b"ok 0 number=0\nout of memory\n"),
+const READING: [(ErrorKind, &str); 3] = [
+    (ErrorKind::IsADirectory, "ok 0 number=0\n"),
+    (ErrorKind::UnexpectedEof, "ok 0 number=0\n"),
+    (ErrorKind::OutOfMemory, "ok 0 number=0\nout of memory\n"),
 ];
 
 /// What is printed where the reader fails in the middle of the second line, and the status.
 fn read_until_fault(alloc: Global, fault: ErrorKind) -> (Vec<u8>, u8) {
     let mut page = Page::new(alloc);
     let input = Pieces {
-        bytes: b"event create 1 0 a\nclose 0",
+        bytes: "event create 1 0 a\nclose 0".as_bytes(),
         piece: 4,
         fault: Some(fault),
     };
@@ -28,7 +28,7 @@ fn read_until_fault(alloc: Global, fault: ErrorKind) -> (Vec<u8>, u8) {
 fn a_reader_that_fails_ends_the_program(rt: HostRuntime) {
     for (fault, wanted) in READING {
         let (text, status) = read_until_fault(rt.alloc(), fault);
-        assert_eq!(rt; text.as_slice(), wanted);
+        assert_eq!(rt; text.as_slice(), wanted.as_bytes());
         assert_eq!(rt; status, 3);
     }
 }
@@ -42,7 +42,7 @@ fn written(alloc: Global, room: usize, flushes: u64) -> (usize, u8) {
         flushes,
     };
     let input = Pieces {
-        bytes: b"event create 1 0 a\nclose 0\nclose 0\n",
+        bytes: "event create 1 0 a\nclose 0\nclose 0\n".as_bytes(),
         piece: 9,
         fault: None,
     };
@@ -76,12 +76,12 @@ fn ended(alloc: Global, fault: ErrorKind, room: usize) -> (Vec<u8>, u8) {
 #[test]
 fn want_of_memory_is_printed(rt: HostRuntime) {
     for (fault, room, wanted) in [
-        (ErrorKind::OutOfMemory, 100, b"out of memory\n".as_slice()),
-        (ErrorKind::OutOfMemory, 3, b"out".as_slice()),
-        (ErrorKind::StorageFull, 100, b"".as_slice()),
+        (ErrorKind::OutOfMemory, 100, "out of memory\n"),
+        (ErrorKind::OutOfMemory, 3, "out"),
+        (ErrorKind::StorageFull, 100, ""),
     ] {
         let (text, status) = ended(rt.alloc(), fault, room);
-        assert_eq!(rt; text.as_slice(), wanted);
+        assert_eq!(rt; text.as_slice(), wanted.as_bytes());
         assert_eq!(rt; status, 3);
     }
 }

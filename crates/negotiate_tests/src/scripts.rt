@@ -5,89 +5,88 @@ use std::alloc::{AllocError, Global};
 use std::test::Fail;
 
 /// Inputs, what is printed for them, and the status.
-const SCRIPTS: [(&[u8], &[u8], u8); 11] = [
+const SCRIPTS: [(&str, &str, u8); 11] = [
     // Blank lines are counted.
-    (b"\nevent jump 1 0 a", b"line 2: not a command\n", 2),
+    ("\nevent jump 1 0 a", "line 2: not a command\n", 2),
     // A missing service is no fault of the line.
     (
-        b"\n  event  open 1   0 a  \r\n \r",
-        b"EventOpenError::DoesNotExist\n",
+        "\n  event  open 1   0 a  \r\n \r",
+        "EventOpenError::DoesNotExist\n",
         0,
     ),
     // What comes behind a line that is no command is not answered.
     (
-        b"event create 1 0 a\nlist\nclose 0\nevent create 1 1 b\n",
-        b"ok 0 number=0\nline 2: not a command\n",
+        "event create 1 0 a\nlist\nclose 0\nevent create 1 1 b\n",
+        "ok 0 number=0\nline 2: not a command\n",
         2,
     ),
     // A slot is told whatever is wrong with it.
     (
-        b"event create 1 7 a\nevent create 2 7 b\nclose 8\nevent create 3 8 a\nclose 007\n",
-        b"ok 7 number=0\nslot 7 in use\nslot 8 empty\nEventCreateError::AlreadyExists\nclosed 7\n",
+        "event create 1 7 a\nevent create 2 7 b\nclose 8\nevent create 3 8 a\nclose 007\n",
+        "ok 7 number=0\nslot 7 in use\nslot 8 empty\nEventCreateError::AlreadyExists\nclosed 7\n",
         0,
     ),
     // The slots are 0 to 63.
     (
-        b"event create 1 32 a\nevent create 1 62 b\nevent create 1 63 c\nclose 31\nclose 62\nclose 63\n",
-        b"ok 32 number=0\nok 62 number=1\nok 63 number=2\nslot 31 empty\nclosed 62\nclosed 63\n",
+        "event create 1 32 a\nevent create 1 62 b\nevent create 1 63 c\nclose 31\nclose 62\nclose 63\n",
+        "ok 32 number=0\nok 62 number=1\nok 63 number=2\nslot 31 empty\nclosed 62\nclosed 63\n",
         0,
     ),
     // The greatest node is a node like others, and none is another one.
     (
-        b"event create 18446744073709551615 0 a\nevent open 18446744073709551615 1 a\nevent open 0 2 a",
-        b"ok 0 number=0\nok 1 number=0\nok 2 number=0\n",
+        "event create 18446744073709551615 0 a\nevent open 18446744073709551615 1 a\nevent open 0 2 a",
+        "ok 0 number=0\nok 1 number=0\nok 2 number=0\n",
         0,
     ),
     // Names differ by the case of their letters.
     (
-        b"event create 1 0 a\nevent create 1 1 A\nevent open 2 2 A\n",
-        b"ok 0 number=0\nok 1 number=1\nok 2 number=1\n",
+        "event create 1 0 a\nevent create 1 1 A\nevent open 2 2 A\n",
+        "ok 0 number=0\nok 1 number=1\nok 2 number=1\n",
         0,
     ),
     // Names in any script are found again.
     (
-        b"event create 1 0 Gr\xc3\xb6\xc3\x9fe/\xe5\x90\x8d\xe5\x89\x8d\nevent open 2 1 Gr\xc3\xb6\xc3\x9fe/\xe5\x90\x8d\xe5\x89\x8d\n",
-        b"ok 0 number=0\nok 1 number=0\n",
+        "event create 1 0 Größe/名前\nevent open 2 1 Größe/名前\n",
+        "ok 0 number=0\nok 1 number=0\n",
         0,
     ),
     // A service is gone with its last factory.
     (
-        b"event create 1 0 a\nevent open 2 1 a\nclose 0\nevent open 3 0 a\nclose 1\nclose 0\nevent open 3 0 a\n",
-        b"ok 0 number=0\nok 1 number=0\nclosed 0\nok 0 number=0\nclosed 1\nclosed 0\nEventOpenError::DoesNotExist\n",
+        "event create 1 0 a\nevent open 2 1 a\nclose 0\nevent open 3 0 a\nclose 1\nclose 0\nevent open 3 0 a\n",
+        "ok 0 number=0\nok 1 number=0\nclosed 0\nok 0 number=0\nclosed 1\nclosed 0\nEventOpenError::DoesNotExist\n",
         0,
     ),
     // A refusal leaves its slot free.
     (
-        b"event open 1 0 a\nevent create 1 0 a\nevent create 1 1 a\nclose 1\n",
-        b"EventOpenError::DoesNotExist\nok 0 number=0\nEventCreateError::AlreadyExists\nslot 1 empty\n",
+        "event open 1 0 a\nevent create 1 0 a\nevent create 1 1 a\nclose 1\n",
+        "EventOpenError::DoesNotExist\nok 0 number=0\nEventCreateError::AlreadyExists\nslot 1 empty\n",
         0,
     ),
     // A closed slot is free.
     (
-        b"event create 1 0 a\nclose 0\nclose 0\nevent create 1 0 a",
-        b"ok 0 number=0\nclosed 0\nslot 0 empty\nok 0 number=1\n",
+        "event create 1 0 a\nclose 0\nclose 0\nevent create 1 0 a",
+        "ok 0 number=0\nclosed 0\nslot 0 empty\nok 0 number=1\n",
         0,
     ),
 ];
 
 #[test]
 fn lines_are_answered_in_their_order(rt: HostRuntime) {
-    for (input, wanted, ends) in SCRIPTS {
-        let (text, status) = answered(rt.alloc(), input, 100);
-        assert_eq!(rt; text.as_slice(), wanted);
-        assert_eq!(rt; status, ends);
+    for (input, wanted, status) in SCRIPTS {
+        assert!(rt;
+            answers(rt.alloc(), input.as_bytes(), wanted, status),
+            "{input}"
+        );
     }
 }
 
 #[test]
 fn two_nodes_share_a_service(rt: HostRuntime) {
-    let lines = b"event create 1 0 xample\nevent open 2 1 xample\nclose 1\nclose 0\n";
+    let lines = "event create 1 0 xample\nevent open 2 1 xample\nclose 1\nclose 0\n";
+    let wanted = "ok 0 number=0\nok 1 number=0\nclosed 1\nclosed 0\n";
     for piece in [1, 3, 1000] {
-        let (text, status) = answered(rt.alloc(), lines, piece);
-        assert_eq!(rt;
-            text.as_slice(),
-            b"ok 0 number=0\nok 1 number=0\nclosed 1\nclosed 0\n".as_slice()
-        );
+        let (text, status) = answered(rt.alloc(), lines.as_bytes(), piece);
+        assert_eq!(rt; text.as_slice(), wanted.as_bytes());
         assert_eq!(rt; status, 0);
     }
 }
@@ -103,12 +102,12 @@ fn bad_line_behind(alloc: Global, blank: usize) -> Result<String, AllocError> {
 fn a_bad_line_far_down_is_told_by_its_number(rt: HostRuntime) -> Result<(), Fail> {
     let ten = bad_line_behind(rt.alloc(), 9)?;
     let thousands = bad_line_behind(rt.alloc(), 70_000)?;
-    assert!(rt; answers(rt.alloc(), ten.as_bytes(), b"line 10: not a command\n", 2));
+    assert!(rt; answers(rt.alloc(), ten.as_bytes(), "line 10: not a command\n", 2));
     assert!(rt;
         answers(
             rt.alloc(),
             thousands.as_bytes(),
-            b"line 70001: not a command\n",
+            "line 70001: not a command\n",
             2
         )
     );
@@ -130,7 +129,7 @@ fn pairs(alloc: Global) -> Result<(String, String), AllocError> {
 #[test]
 fn a_hundred_lines_are_answered(rt: HostRuntime) -> Result<(), Fail> {
     let (lines, wanted) = pairs(rt.alloc())?;
-    assert!(rt; answers(rt.alloc(), lines.as_bytes(), wanted.as_bytes(), 0));
+    assert!(rt; answers(rt.alloc(), lines.as_bytes(), &wanted, 0));
     Ok(())
 }
 
@@ -151,6 +150,6 @@ fn nodes(alloc: Global) -> Result<(String, String), AllocError> {
 #[test]
 fn a_service_has_places_for_36_nodes(rt: HostRuntime) -> Result<(), Fail> {
     let (lines, wanted) = nodes(rt.alloc())?;
-    assert!(rt; answers(rt.alloc(), lines.as_bytes(), wanted.as_bytes(), 0));
+    assert!(rt; answers(rt.alloc(), lines.as_bytes(), &wanted, 0));
     Ok(())
 }

@@ -84,7 +84,7 @@ pub fn answered(alloc: Global, input: &[u8], piece: usize) -> (Vec<u8>, u8) {
 }
 
 /// Whether an input is answered by this text and ends with this status.
-pub fn answers(alloc: Global, input: &[u8], wanted: &[u8], status: u8) -> bool {
+pub fn answers(alloc: Global, input: &[u8], wanted: &str, status: u8) -> bool {
     let (text, ended) = answered(alloc, input, 1000);
-    text.as_slice() == wanted && ended == status
+    text.as_slice() == wanted.as_bytes() && ended == status
 }
