@@ -1,22 +1,73 @@
 //! Ordered maps: the standard library's, and one as a vector in the order of its keys.
 
-use std::collections::BTreeMap;
-use std::collections::TryReserveError;
+use std::collections::{BTreeMap, TryReserveError, btree_map};
+
+/// The place of a key that is there.
+pub trait OccupiedEntry<V> {
+    fn get(&self) -> &V;
+
+    fn get_mut(&mut self) -> &mut V;
+
+    fn set(&mut self, value: V) {
+        *self.get_mut() = value;
+    }
+
+    fn remove(self) -> V;
+}
+
+/// The place where a key would go.
+pub trait VacantEntry<V> {
+    /// Makes room for one more, where the map has its memory at hand.
+    fn reserve(&mut self) -> Result<(), TryReserveError>;
+
+    fn insert(self, value: V);
+}
+
+/// The place of a key, by one search.
+pub enum Entry<O, F> {
+    Occupied(O),
+    Vacant(F),
+}
+
+impl<O, F> Entry<O, F> {
+    pub fn occupied(self) -> Option<O> {
+        match self {
+            Entry::Occupied(entry) => Some(entry),
+            Entry::Vacant(_) => None,
+        }
+    }
+}
 
 /// A map in the order of its keys.
 pub trait OrderedMap<K: Ord, V>: Default {
+    type Occupied<'a>: OccupiedEntry<V>
+    where
+        Self: 'a;
+
+    type Vacant<'a>: VacantEntry<V>
+    where
+        Self: 'a;
+
     fn get(&self, key: &K) -> Option<&V>;
 
     fn get_mut(&mut self, key: &K) -> Option<&mut V>;
 
+    fn entry(&mut self, key: K) -> Entry<Self::Occupied<'_>, Self::Vacant<'_>>;
+
     /// Makes room for one more, where the map has its memory at hand.
     fn reserve(&mut self) -> Result<(), TryReserveError>;
 
-    /// The value of the key, set to this one first if the key is absent.
-    fn get_or_insert(&mut self, key: K, value: V) -> Result<&mut V, TryReserveError>;
-
     /// Sets the value of a key.
-    fn insert(&mut self, key: K, value: V) -> Result<(), TryReserveError>;
+    fn insert(&mut self, key: K, value: V) -> Result<(), TryReserveError> {
+        match self.entry(key) {
+            Entry::Occupied(mut entry) => entry.set(value),
+            Entry::Vacant(mut entry) => {
+                entry.reserve()?;
+                entry.insert(value);
+            }
+        }
+        Ok(())
+    }
 
     fn remove(&mut self, key: &K) -> Option<V>;
 
@@ -30,7 +81,41 @@ pub trait OrderedMap<K: Ord, V>: Default {
         V: 'a;
 }
 
+impl<K: Ord, V> OccupiedEntry<V> for btree_map::OccupiedEntry<'_, K, V> {
+    fn get(&self) -> &V {
+        btree_map::OccupiedEntry::get(self)
+    }
+
+    fn get_mut(&mut self) -> &mut V {
+        btree_map::OccupiedEntry::get_mut(self)
+    }
+
+    fn remove(self) -> V {
+        btree_map::OccupiedEntry::remove(self)
+    }
+}
+
+impl<K: Ord, V> VacantEntry<V> for btree_map::VacantEntry<'_, K, V> {
+    fn reserve(&mut self) -> Result<(), TryReserveError> {
+        Ok(())
+    }
+
+    fn insert(self, value: V) {
+        btree_map::VacantEntry::insert(self, value);
+    }
+}
+
 impl<K: Ord, V> OrderedMap<K, V> for BTreeMap<K, V> {
+    type Occupied<'a>
+        = btree_map::OccupiedEntry<'a, K, V>
+    where
+        Self: 'a;
+
+    type Vacant<'a>
+        = btree_map::VacantEntry<'a, K, V>
+    where
+        Self: 'a;
+
     fn get(&self, key: &K) -> Option<&V> {
         BTreeMap::get(self, key)
     }
@@ -39,16 +124,14 @@ impl<K: Ord, V> OrderedMap<K, V> for BTreeMap<K, V> {
         BTreeMap::get_mut(self, key)
     }
 
+    fn entry(&mut self, key: K) -> Entry<Self::Occupied<'_>, Self::Vacant<'_>> {
+        match BTreeMap::entry(self, key) {
+            btree_map::Entry::Occupied(entry) => Entry::Occupied(entry),
+            btree_map::Entry::Vacant(entry) => Entry::Vacant(entry),
+        }
+    }
+
     fn reserve(&mut self) -> Result<(), TryReserveError> {
-        Ok(())
-    }
-
-    fn get_or_insert(&mut self, key: K, value: V) -> Result<&mut V, TryReserveError> {
-        Ok(self.entry(key).or_insert(value))
-    }
-
-    fn insert(&mut self, key: K, value: V) -> Result<(), TryReserveError> {
-        BTreeMap::insert(self, key, value);
         Ok(())
     }
 
@@ -92,7 +175,53 @@ impl<K: Ord, V> SortedVec<K, V> {
     }
 }
 
+/// The place of a key in a sorted vector, where it stands or would go.
+pub struct Place<'a, K, V> {
+    entries: &'a mut Vec<(K, V)>,
+    at: usize,
+}
+
+/// The place of a key that isn't there, with the key.
+pub struct Gap<'a, K, V> {
+    place: Place<'a, K, V>,
+    key: K,
+}
+
+impl<K, V> OccupiedEntry<V> for Place<'_, K, V> {
+    fn get(&self) -> &V {
+        &self.entries[self.at].1
+    }
+
+    fn get_mut(&mut self) -> &mut V {
+        &mut self.entries[self.at].1
+    }
+
+    fn remove(self) -> V {
+        self.entries.remove(self.at).1
+    }
+}
+
+impl<K, V> VacantEntry<V> for Gap<'_, K, V> {
+    fn reserve(&mut self) -> Result<(), TryReserveError> {
+        self.place.entries.try_reserve(1)
+    }
+
+    fn insert(self, value: V) {
+        self.place.entries.insert(self.place.at, (self.key, value));
+    }
+}
+
 impl<K: Ord, V> OrderedMap<K, V> for SortedVec<K, V> {
+    type Occupied<'a>
+        = Place<'a, K, V>
+    where
+        Self: 'a;
+
+    type Vacant<'a>
+        = Gap<'a, K, V>
+    where
+        Self: 'a;
+
     fn get(&self, key: &K) -> Option<&V> {
         self.search(key).ok().map(|at| &self.entries[at].1)
     }
@@ -101,31 +230,20 @@ impl<K: Ord, V> OrderedMap<K, V> for SortedVec<K, V> {
         self.search(key).ok().map(|at| &mut self.entries[at].1)
     }
 
+    fn entry(&mut self, key: K) -> Entry<Self::Occupied<'_>, Self::Vacant<'_>> {
+        let found = self.search(&key);
+        let entries = &mut self.entries;
+        match found {
+            Ok(at) => Entry::Occupied(Place { entries, at }),
+            Err(at) => Entry::Vacant(Gap {
+                place: Place { entries, at },
+                key,
+            }),
+        }
+    }
+
     fn reserve(&mut self) -> Result<(), TryReserveError> {
         self.entries.try_reserve(1)
-    }
-
-    fn get_or_insert(&mut self, key: K, value: V) -> Result<&mut V, TryReserveError> {
-        let at = match self.search(&key) {
-            Ok(at) => at,
-            Err(at) => {
-                self.entries.try_reserve(1)?;
-                self.entries.insert(at, (key, value));
-                at
-            }
-        };
-        Ok(&mut self.entries[at].1)
-    }
-
-    fn insert(&mut self, key: K, value: V) -> Result<(), TryReserveError> {
-        match self.search(&key) {
-            Ok(at) => self.entries[at].1 = value,
-            Err(at) => {
-                self.entries.try_reserve(1)?;
-                self.entries.insert(at, (key, value));
-            }
-        }
-        Ok(())
     }
 
     fn remove(&mut self, key: &K) -> Option<V> {

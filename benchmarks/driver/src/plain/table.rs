@@ -1,7 +1,7 @@
 //! A storage within one process.
 
 use super::data::{ServiceHash, StaticConfig, encode};
-use crate::maps::{Maps, OrderedMap};
+use crate::maps::{Entry as Found, Maps, OccupiedEntry, OrderedMap, VacantEntry};
 use std::collections::TryReserveError;
 
 #[derive(Clone, Copy, Debug, PartialEq, Eq)]
@@ -155,6 +155,26 @@ fn copy_bytes(bytes: &[u8]) -> Result<Vec<u8>, TryReserveError> {
 }
 
 impl<M: Maps> Segment<M> {
+    /// How often who is in this phase is registered at the number, or why it can't be once more.
+    fn join_count(&self, number: u64, phase: Option<&Phase>) -> Result<u64, OpenSegmentError> {
+        if self.number != number {
+            return Err(OpenSegmentError::Failed);
+        }
+        if self.marked {
+            return Err(OpenSegmentError::Marked);
+        }
+        match phase {
+            Some(Phase::Read(read)) if *read == number => {
+                if self.participants.len() as u64 >= self.capacity {
+                    return Err(OpenSegmentError::Full);
+                }
+                Ok(0)
+            }
+            Some(Phase::Joined(joined, count)) if *joined == number => Ok(*count),
+            _ => Err(OpenSegmentError::Failed),
+        }
+    }
+
     fn listed(&self) -> ListedSegment {
         ListedSegment {
             number: self.number,
@@ -222,10 +242,16 @@ impl<M: Maps> Table<M> {
             Some(Row::Published(number, bytes)) => (*number, bytes),
         };
         let copy = copy_bytes(bytes).map_err(|_| FetchError::OutOfMemory)?;
-        let place = (Participant::Node(node), *hash);
-        let phase = self.phases.get_or_insert(place, Phase::Read(number));
-        if let Phase::Read(read) = phase.map_err(|_| FetchError::OutOfMemory)? {
-            *read = number;
+        match self.phases.entry((Participant::Node(node), *hash)) {
+            Found::Occupied(mut phase) => {
+                if let Phase::Read(read) = phase.get_mut() {
+                    *read = number;
+                }
+            }
+            Found::Vacant(mut phase) => {
+                phase.reserve().map_err(|_| FetchError::OutOfMemory)?;
+                phase.insert(Phase::Read(number));
+            }
         }
         Ok((number, copy))
     }
@@ -237,12 +263,13 @@ impl<M: Maps> Table<M> {
     }
 
     pub fn make_tag(&mut self, node: u64, hash: &ServiceHash) -> Result<Tag, TryReserveError> {
-        let before = self.tags.len();
-        self.tags.get_or_insert((node, *hash), ())?;
-        if self.tags.len() > before {
-            Ok(Tag::Made)
-        } else {
-            Ok(Tag::Found)
+        match self.tags.entry((node, *hash)) {
+            Found::Occupied(_) => Ok(Tag::Found),
+            Found::Vacant(mut tag) => {
+                tag.reserve()?;
+                tag.insert(());
+                Ok(Tag::Made)
+            }
         }
     }
 
@@ -253,23 +280,30 @@ impl<M: Maps> Table<M> {
 
     /// Locks the hash for a new service, and gives that service's number.
     pub fn lock(&mut self, node: u64, hash: &ServiceHash) -> Result<u64, LockError> {
-        match self.rows.get(hash) {
-            Some(Row::Locked(_)) => return Err(LockError::Creation),
-            Some(Row::Published(_, _)) => return Err(LockError::AlreadyExists),
-            None => {}
-        }
-        let place = (Participant::Node(node), *hash);
-        let phase = self.phases.get(&place);
-        if !matches!(phase, None | Some(Phase::Read(_))) || self.counter == u64::MAX {
-            return Err(LockError::Other);
-        }
+        let mut row = match self.rows.entry(*hash) {
+            Found::Occupied(row) => {
+                return Err(match row.get() {
+                    Row::Locked(_) => LockError::Creation,
+                    Row::Published(_, _) => LockError::AlreadyExists,
+                });
+            }
+            Found::Vacant(row) => row,
+        };
         let number = self.counter;
-        self.rows.reserve().map_err(|_| LockError::OutOfMemory)?;
-        let locked = self.phases.insert(place, Phase::Locked(number));
-        locked.map_err(|_| LockError::OutOfMemory)?;
-        let row = self.rows.insert(*hash, Row::Locked(number));
-        row.map_err(|_| LockError::OutOfMemory)?;
-        self.counter += 1;
+        let next = number.checked_add(1).ok_or(LockError::Other)?;
+        row.reserve().map_err(|_| LockError::OutOfMemory)?;
+        match self.phases.entry((Participant::Node(node), *hash)) {
+            Found::Occupied(mut phase) => match phase.get() {
+                Phase::Read(_) => phase.set(Phase::Locked(number)),
+                _ => return Err(LockError::Other),
+            },
+            Found::Vacant(mut phase) => {
+                phase.reserve().map_err(|_| LockError::OutOfMemory)?;
+                phase.insert(Phase::Locked(number));
+            }
+        }
+        row.insert(Row::Locked(number));
+        self.counter = next;
         Ok(number)
     }
 
@@ -289,20 +323,19 @@ impl<M: Maps> Table<M> {
         if capacity == 0 {
             return Err(MakeSegmentError::Other);
         }
-        if self.segments.get(hash).is_some() {
+        let Found::Vacant(mut place) = self.segments.entry(*hash) else {
             return Err(MakeSegmentError::AlreadyExists);
-        }
+        };
         let mut participants = M::Map::default();
         let joined = participants.insert(participant, ());
         joined.map_err(|_| MakeSegmentError::OutOfMemory)?;
-        let segment = Segment {
+        place.reserve().map_err(|_| MakeSegmentError::OutOfMemory)?;
+        place.insert(Segment {
             number,
             capacity,
             participants,
             marked: false,
-        };
-        let made = self.segments.insert(*hash, segment);
-        made.map_err(|_| MakeSegmentError::OutOfMemory)?;
+        });
         *phase = Phase::Made(number);
         Ok(())
     }
@@ -320,15 +353,14 @@ impl<M: Maps> Table<M> {
     }
 
     pub fn remove_description(&mut self, node: u64, hash: &ServiceHash) -> Result<(), RemoveError> {
-        let place = (Participant::Node(node), *hash);
-        match self.phases.get(&place) {
-            None | Some(Phase::Read(_) | Phase::Joined(_, _)) => Err(RemoveError::Other),
-            Some(_) => {
-                self.phases.remove(&place);
-                self.rows.remove(hash);
-                Ok(())
-            }
+        let phase = self.phases.entry((Participant::Node(node), *hash));
+        let phase = phase.occupied().ok_or(RemoveError::Other)?;
+        if let Phase::Read(_) | Phase::Joined(_, _) = phase.get() {
+            return Err(RemoveError::Other);
         }
+        phase.remove();
+        self.rows.remove(hash);
+        Ok(())
     }
 
     /// Puts the description in the lock's place, and gives a ticket for the node.
@@ -373,22 +405,9 @@ impl<M: Maps> Table<M> {
             .segments
             .get_mut(hash)
             .ok_or(OpenSegmentError::DoesNotExist)?;
-        if segment.number != number {
-            return Err(OpenSegmentError::Failed);
-        }
-        if segment.marked {
-            return Err(OpenSegmentError::Marked);
-        }
         let phase = self.phases.get_mut(&(participant, *hash));
+        let count = segment.join_count(number, phase.as_deref())?;
         let phase = phase.ok_or(OpenSegmentError::Failed)?;
-        let count = match *phase {
-            Phase::Read(read) if read == number => 0,
-            Phase::Joined(joined, count) if joined == number => count,
-            _ => return Err(OpenSegmentError::Failed),
-        };
-        if count == 0 && segment.participants.len() as u64 >= segment.capacity {
-            return Err(OpenSegmentError::Full);
-        }
         if self.counter == u64::MAX {
             return Err(OpenSegmentError::OutOfNumbers);
         }
@@ -425,29 +444,31 @@ impl<M: Maps> Table<M> {
             hash: *hash,
             number,
         };
-        if self.tickets.get(&ticket) != Some(&wanted) {
+        let ticket = self.tickets.entry(ticket).occupied().ok_or(NoSuchTicket)?;
+        if *ticket.get() != wanted {
             return Err(NoSuchTicket);
         }
-        let place = (Participant::Node(node), *hash);
-        let phase = self.phases.get_mut(&place).ok_or(NoSuchTicket)?;
-        let Phase::Joined(_, count) = phase else {
+        let participant = Participant::Node(node);
+        let phase = self.phases.entry((participant, *hash));
+        let mut phase = phase.occupied().ok_or(NoSuchTicket)?;
+        let Phase::Joined(_, count) = phase.get_mut() else {
             return Err(NoSuchTicket);
         };
         if *count > 1 {
             *count -= 1;
-            self.tickets.remove(&ticket);
+            ticket.remove();
             return Ok(Release::StillCounted);
         }
         let segment = self.segments.get_mut(hash).ok_or(NoSuchTicket)?;
-        self.tickets.remove(&ticket);
+        ticket.remove();
         if segment.participants.len() > 1 {
-            segment.participants.remove(&place.0);
-            self.phases.remove(&place);
+            segment.participants.remove(&participant);
+            phase.remove();
             return Ok(Release::Left);
         }
         segment.participants.clear();
         segment.marked = true;
-        *phase = Phase::Leaving(number);
+        phase.set(Phase::Leaving(number));
         Ok(Release::Last)
     }
 }
