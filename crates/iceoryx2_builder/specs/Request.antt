@@ -5,6 +5,7 @@ use Rattle.iceoryx2_data.specs.declared.config.Config.{Config}
 use Rattle.iceoryx2_data.specs.declared.config.Event.{Event as EventDefaults}
 use Rattle.iceoryx2_data.specs.declared.event.Deadline.{Deadline}
 use Rattle.iceoryx2_data.specs.Span.{Span, zero_span}
+use Rattle.iceoryx2_builder.specs.declared.builder.event.TheConstants.{LETTER}
 use Rattle.iceoryx2_builder.specs.declared.builder.event.asked.Asked.{Asked}
 use Rattle.iceoryx2_builder.specs.declared.builder.event.setting.EventSetting.{EventSetting}
 use Rattle.iceoryx2_builder.specs.declared.builder.event.setting.EventSetting.TheVariants as set
@@ -31,7 +32,7 @@ pub record EventRequest : Type 0 where
 
 -- the letter of services of events
 abbrev pub letter_of_events : ℕ
-letter_of_events = 101
+letter_of_events = LETTER
 
 -- a configured deadline, of a service that isn't created yet
 abbrev pub configured_deadline : Span → Deadline

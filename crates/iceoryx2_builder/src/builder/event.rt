@@ -26,6 +26,11 @@ use std::marker::Model;
 /// The letter that stands before a name in the hash of a service of events.
 pub const LETTER: u8 = b'e';
 
+/// The letter is `e`.
+pub fn letter_is_e()
+    ensures { LETTER ≡ 101 }
+{}
+
 /// A builder of a service of events.
 ///
 /// A setter sets the value with which a service is created, and marks the setting, so that an
