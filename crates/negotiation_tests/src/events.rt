@@ -3,225 +3,285 @@
 use crate::support::*;
 use iceoryx2_access::storage::Storage;
 use iceoryx2_builder::builder::Node;
-use iceoryx2_builder::builder::event::EventId;
+use iceoryx2_builder::builder::event::{Builder, EventId};
 use iceoryx2_data::config::Config;
+use iceoryx2_data::description::ServiceHash;
+use iceoryx2_data::event::StaticConfig;
+use iceoryx2_data::time::Time;
 use iceoryx2_rounds::error::{EventCreateError, EventOpenError};
+use iceoryx2_rounds::port_factory::event::PortFactory;
 use iceoryx2_storage::local::Local;
 use iceoryx2_storage::table::Table;
-use std::test::Fail;
+use std::alloc::Global;
+use std::process::Abort;
 
-#[test]
-fn a_created_service_raises_zero_notifiers_to_one(rt: HostRuntime) -> Result<(), Fail> {
-    let mut table = Table::new(rt.alloc());
-    let builder = events(&rt, rt.alloc(), 1, "xample").max_notifiers(0);
-    let factory = created(&rt, builder, &mut table);
-    assert_eq!(rt; factory.number(), 0);
-    assert_eq!(rt; factory.node(), 1);
-    assert_eq!(rt; factory.name().as_str(), "xample");
-    assert_eq!(rt; factory.static_config().max_notifiers, 1);
-    assert_eq!(rt; factory.static_config().max_listeners, 16);
-    assert_eq!(rt; factory.static_config().event_id_max_value, 255);
-    assert_eq!(rt; factory.static_config().max_nodes, 36);
-    let hash = hash_of_events(&rt, rt.alloc(), "xample");
-    assert_eq!(rt; *factory.service_hash(), hash);
-    closed(&rt, factory, &mut table);
-    Ok(())
+/// The builder of a node for the service of all these tests.
+fn wanting(rt: &impl Abort, alloc: Global, node: u64) -> Builder<Local> {
+    events(rt, alloc, node, "xample")
+}
+
+/// The hash of that service.
+fn example(rt: &impl Abort, alloc: Global) -> ServiceHash {
+    hash_of_events(rt, alloc, "xample")
+}
+
+fn create_at_zero(rt: &impl Abort, builder: Builder<Local>, table: &mut Table) -> EventCreateError {
+    create_refusal(rt, builder, table, Ok(Time::default()))
+}
+
+/// The number and the node of a factory, and whether it has this name and this hash.
+fn identity(
+    factory: &PortFactory<Local>,
+    text: &str,
+    hash: &ServiceHash,
+) -> (u64, u64, bool, bool) {
+    (
+        factory.number(),
+        factory.node(),
+        factory.name().as_str() == text,
+        factory.service_hash() == hash,
+    )
+}
+
+/// Who a factory is that is created for zero notifiers, and its settings.
+fn created_for_none(rt: &impl Abort, alloc: Global) -> ((u64, u64, bool, bool), StaticConfig) {
+    let mut table = table_from(alloc, 0);
+    let builder = wanting(rt, alloc, 1).max_notifiers(0);
+    let factory = created(rt, builder, &mut table);
+    let is = identity(&factory, "xample", &example(rt, alloc));
+    let settings = settings(&factory);
+    closed(rt, factory, &mut table);
+    (is, settings)
 }
 
 #[test]
-fn a_second_factory_of_a_node_takes_no_further_node_slot(rt: HostRuntime) -> Result<(), Fail> {
-    let mut table = Table::new(rt.alloc());
-    let hash = hash_of_events(&rt, rt.alloc(), "xample");
-    let first = created(&rt, events(&rt, rt.alloc(), 1, "xample"), &mut table);
-    let second = opened(&rt, events(&rt, rt.alloc(), 1, "xample"), &mut table);
-    let Ok(entries) = table.list() else {
-        panic!(rt; "no memory")
-    };
-    assert_eq!(rt; entries.len(), 1);
-    let Some(segment) = entries[0].segment else {
-        panic!(rt; "no segment")
-    };
-    assert_eq!(rt; segment.participants, 1);
-    assert_eq!(rt; table.tickets(1, &hash), 2);
-    assert_eq!(rt; table.counter(), 2);
-    assert!(rt; table.has_tag(1, &hash));
-    closed(&rt, first, &mut table);
-    closed(&rt, second, &mut table);
-    assert_eq!(rt; table.list()?.len(), 0);
-    assert!(rt; !table.has_tag(1, &hash));
-    assert_eq!(rt; table.tickets(1, &hash), 0);
-    Ok(())
+fn a_created_service_raises_zero_notifiers_to_one(rt: HostRuntime) {
+    let mut wanted = DEFAULTS;
+    wanted.max_notifiers = 1;
+    assert_eq!(rt;
+        created_for_none(&rt, rt.alloc()),
+        ((0, 1, true, true), wanted)
+    );
+}
+
+/// What a table has of a service: how many are listed, what node 1 holds, and the counter.
+type Has = (usize, (bool, u64), u64);
+
+fn has(rt: &impl Abort, alloc: Global, table: &Table) -> Has {
+    let held = held(table, 1, &example(rt, alloc));
+    (listed(rt, table), held, counter(table))
+}
+
+/// What a table has of a service that a node has created and opened, how many nodes are in the
+/// segment, and what it has once the node has closed both.
+fn opened_by_its_creator(rt: &impl Abort, alloc: Global) -> (Has, u64, Has) {
+    let mut table = table_from(alloc, 0);
+    let first = created(rt, wanting(rt, alloc, 1), &mut table);
+    let second = opened(rt, wanting(rt, alloc, 1), &mut table);
+    let before = has(rt, alloc, &table);
+    let (_, participants) = seats(rt, &table);
+    closed(rt, first, &mut table);
+    closed(rt, second, &mut table);
+    (before, participants, has(rt, alloc, &table))
 }
 
 #[test]
-fn the_first_setting_that_is_too_small_is_named(rt: HostRuntime) -> Result<(), Fail> {
-    let mut table = Table::new(rt.alloc());
-    let builder = events(&rt, rt.alloc(), 1, "xample")
-        .max_notifiers(4)
-        .max_listeners(4);
-    let factory = created(&rt, builder, &mut table);
-    let builder = events(&rt, rt.alloc(), 2, "xample")
-        .max_notifiers(8)
-        .max_listeners(8);
-    assert_eq!(rt;
-        open_refusal(&rt, builder, &mut table),
-        EventOpenError::DoesNotSupportRequestedAmountOfNotifiers
-    );
-    let builder = events(&rt, rt.alloc(), 2, "xample")
-        .max_listeners(8)
-        .max_notifiers(4);
-    assert_eq!(rt;
-        open_refusal(&rt, builder, &mut table),
-        EventOpenError::DoesNotSupportRequestedAmountOfListeners
-    );
-    let builder = events(&rt, rt.alloc(), 2, "xample").event_id_max_value(256);
-    assert_eq!(rt;
-        open_refusal(&rt, builder, &mut table),
-        EventOpenError::DoesNotSupportRequestedMaxEventId
-    );
-    let builder = events(&rt, rt.alloc(), 2, "xample").max_nodes(37);
-    assert_eq!(rt;
-        open_refusal(&rt, builder, &mut table),
-        EventOpenError::DoesNotSupportRequestedAmountOfNodes
-    );
-    let second = opened(
-        &rt,
-        events(&rt, rt.alloc(), 2, "xample").max_notifiers(3),
-        &mut table,
-    );
-    assert_eq!(rt; second.static_config().max_notifiers, 4);
-    closed(&rt, second, &mut table);
-    closed(&rt, factory, &mut table);
-    Ok(())
+fn a_second_factory_of_a_node_takes_no_further_node_slot(rt: HostRuntime) {
+    let wanted = ((1, (true, 2), 2), 1, (0, (false, 0), 2));
+    assert_eq!(rt; opened_by_its_creator(&rt, rt.alloc()), wanted);
+}
+
+/// Why opens of node 2 are refused that want more than 4 notifiers, 4 listeners, events up to 255
+/// and 36 nodes, and for how many notifiers the service is that it opens for 3.
+fn asking_for_more(rt: &impl Abort, alloc: Global) -> ([EventOpenError; 4], u64) {
+    let mut table = table_from(alloc, 0);
+    let builder = wanting(rt, alloc, 1).max_notifiers(4).max_listeners(4);
+    let factory = created(rt, builder, &mut table);
+    let builder = wanting(rt, alloc, 2).max_notifiers(8).max_listeners(8);
+    let notifiers = open_refusal(rt, builder, &mut table);
+    let builder = wanting(rt, alloc, 2).max_listeners(8).max_notifiers(4);
+    let listeners = open_refusal(rt, builder, &mut table);
+    let builder = wanting(rt, alloc, 2).event_id_max_value(256);
+    let events = open_refusal(rt, builder, &mut table);
+    let builder = wanting(rt, alloc, 2).max_nodes(37);
+    let nodes = open_refusal(rt, builder, &mut table);
+    let second = opened(rt, wanting(rt, alloc, 2).max_notifiers(3), &mut table);
+    let offered = settings(&second).max_notifiers;
+    closed(rt, second, &mut table);
+    closed(rt, factory, &mut table);
+    ([notifiers, listeners, events, nodes], offered)
 }
 
 #[test]
-fn a_service_for_one_node_has_no_room_for_a_second(rt: HostRuntime) -> Result<(), Fail> {
-    let mut table = Table::new(rt.alloc());
-    let hash = hash_of_events(&rt, rt.alloc(), "xample");
-    let factory = created(
-        &rt,
-        events(&rt, rt.alloc(), 1, "xample").max_nodes(1),
-        &mut table,
-    );
-    let builder = events(&rt, rt.alloc(), 2, "xample");
-    assert_eq!(rt;
-        open_refusal(&rt, builder, &mut table),
-        EventOpenError::ExceedsMaxNumberOfNodes
-    );
-    assert!(rt; !table.has_tag(2, &hash));
-    closed(&rt, factory, &mut table);
-    Ok(())
+fn the_first_setting_that_is_too_small_is_named(rt: HostRuntime) {
+    let wanted = [
+        EventOpenError::DoesNotSupportRequestedAmountOfNotifiers,
+        EventOpenError::DoesNotSupportRequestedAmountOfListeners,
+        EventOpenError::DoesNotSupportRequestedMaxEventId,
+        EventOpenError::DoesNotSupportRequestedAmountOfNodes,
+    ];
+    assert_eq!(rt; asking_for_more(&rt, rt.alloc()), (wanted, 4));
+}
+
+/// Why node 2 doesn't open a service that node 1 creates for so many nodes, over a table with this
+/// counter, whether it has a tag then, and the service's number.
+fn second_node(
+    rt: &impl Abort,
+    alloc: Global,
+    max_nodes: u64,
+    counter: u64,
+) -> (EventOpenError, bool, u64) {
+    let mut table = table_from(alloc, counter);
+    let builder = wanting(rt, alloc, 1).max_nodes(max_nodes);
+    let factory = created(rt, builder, &mut table);
+    let number = factory.number();
+    let error = open_refusal(rt, wanting(rt, alloc, 2), &mut table);
+    let (has_tag, _) = held(&table, 2, &example(rt, alloc));
+    closed(rt, factory, &mut table);
+    (error, has_tag, number)
 }
 
 #[test]
-fn a_table_without_numbers_creates_nothing(rt: HostRuntime) -> Result<(), Fail> {
-    let mut table = Table::starting_at(rt.alloc(), u64::MAX);
-    let hash = hash_of_events(&rt, rt.alloc(), "xample");
-    let builder = events(&rt, rt.alloc(), 1, "xample");
-    assert_eq!(rt;
-        create_refusal(&rt, builder, &mut table),
-        EventCreateError::InternalFailure
-    );
-    assert!(rt; !table.has_tag(1, &hash));
-    assert_eq!(rt; table.list()?.len(), 0);
-    assert_eq!(rt; table.counter(), u64::MAX);
-    Ok(())
+fn a_service_for_one_node_has_no_room_for_a_second(rt: HostRuntime) {
+    let wanted = (EventOpenError::ExceedsMaxNumberOfNodes, false, 0);
+    assert_eq!(rt; second_node(&rt, rt.alloc(), 1, 0), wanted);
 }
 
 #[test]
-fn the_last_number_creates_a_service_that_nobody_else_opens(rt: HostRuntime) -> Result<(), Fail> {
-    let mut table = Table::starting_at(rt.alloc(), u64::MAX - 1);
-    let hash = hash_of_events(&rt, rt.alloc(), "xample");
-    let factory = created(&rt, events(&rt, rt.alloc(), 1, "xample"), &mut table);
-    assert_eq!(rt; factory.number(), 18_446_744_073_709_551_614);
-    let builder = events(&rt, rt.alloc(), 2, "xample");
-    assert_eq!(rt;
-        open_refusal(&rt, builder, &mut table),
-        EventOpenError::InternalFailure
+fn the_last_number_creates_a_service_that_nobody_else_opens(rt: HostRuntime) {
+    let wanted = (
+        EventOpenError::InternalFailure,
+        false,
+        18_446_744_073_709_551_614,
     );
-    assert!(rt; !table.has_tag(2, &hash));
-    closed(&rt, factory, &mut table);
-    Ok(())
+    assert_eq!(rt; second_node(&rt, rt.alloc(), 36, u64::MAX - 1), wanted);
+}
+
+/// Why nothing is created over a table whose counter is at its end, and what the table has then.
+fn without_numbers(rt: &impl Abort, alloc: Global) -> (EventCreateError, Has) {
+    let mut table = table_from(alloc, u64::MAX);
+    let error = create_at_zero(rt, wanting(rt, alloc, 1), &mut table);
+    (error, has(rt, alloc, &table))
 }
 
 #[test]
-fn what_is_missing_or_there_is_named(rt: HostRuntime) -> Result<(), Fail> {
-    let mut table = Table::new(rt.alloc());
-    let builder = events(&rt, rt.alloc(), 1, "xample");
-    assert_eq!(rt;
-        open_refusal(&rt, builder, &mut table),
-        EventOpenError::DoesNotExist
-    );
-    let factory = created(&rt, events(&rt, rt.alloc(), 1, "xample"), &mut table);
-    let builder = events(&rt, rt.alloc(), 2, "xample");
-    assert_eq!(rt;
-        create_refusal(&rt, builder, &mut table),
-        EventCreateError::AlreadyExists
-    );
-    closed(&rt, factory, &mut table);
-    let builder = events(&rt, rt.alloc(), 2, "xample");
-    assert_eq!(rt;
-        open_refusal(&rt, builder, &mut table),
-        EventOpenError::DoesNotExist
-    );
-    Ok(())
+fn a_table_without_numbers_creates_nothing(rt: HostRuntime) {
+    let wanted = (EventCreateError::InternalFailure, (0, (false, 0), u64::MAX));
+    assert_eq!(rt; without_numbers(&rt, rt.alloc()), wanted);
+}
+
+/// Why an open is refused before a service is created and after it is closed, and a second create
+/// between them.
+fn missing_or_there(
+    rt: &impl Abort,
+    alloc: Global,
+) -> (EventOpenError, EventCreateError, EventOpenError) {
+    let mut table = table_from(alloc, 0);
+    let before = open_refusal(rt, wanting(rt, alloc, 1), &mut table);
+    let factory = created(rt, wanting(rt, alloc, 1), &mut table);
+    let again = create_at_zero(rt, wanting(rt, alloc, 2), &mut table);
+    closed(rt, factory, &mut table);
+    let after = open_refusal(rt, wanting(rt, alloc, 2), &mut table);
+    (before, again, after)
 }
 
 #[test]
-fn a_lock_of_another_makes_calls_hang(rt: HostRuntime) -> Result<(), Fail> {
-    let mut table = Table::new(rt.alloc());
-    let hash = hash_of_events(&rt, rt.alloc(), "xample");
-    assert!(rt; matches!(table.lock(7, &hash), Ok(0)));
-    let builder = events(&rt, rt.alloc(), 1, "xample");
-    assert_eq!(rt;
-        open_refusal(&rt, builder, &mut table),
-        EventOpenError::HangsInCreation
+fn what_is_missing_or_there_is_named(rt: HostRuntime) {
+    let wanted = (
+        EventOpenError::DoesNotExist,
+        EventCreateError::AlreadyExists,
+        EventOpenError::DoesNotExist,
     );
-    let builder = events(&rt, rt.alloc(), 1, "xample");
-    assert_eq!(rt;
-        create_refusal(&rt, builder, &mut table),
-        EventCreateError::HangsInCreation
-    );
-    assert!(rt; !table.has_tag(1, &hash));
-    Ok(())
+    assert_eq!(rt; missing_or_there(&rt, rt.alloc()), wanted);
+}
+
+/// The number of a lock.
+fn locked(rt: &impl Abort, table: &mut Table, hash: &ServiceHash) -> u64 {
+    match table.lock(7, hash) {
+        Ok(number) => number,
+        Err(_) => panic!(rt; "no lock"),
+    }
+}
+
+/// The number of another's lock, why an open and a create are refused by it, and whether node 1 has
+/// a tag then.
+fn under_a_lock(rt: &impl Abort, alloc: Global) -> (u64, EventOpenError, EventCreateError, bool) {
+    let mut table = table_from(alloc, 0);
+    let hash = example(rt, alloc);
+    let number = locked(rt, &mut table, &hash);
+    let opening = open_refusal(rt, wanting(rt, alloc, 1), &mut table);
+    let creating = create_at_zero(rt, wanting(rt, alloc, 1), &mut table);
+    let (has_tag, _) = held(&table, 1, &hash);
+    (number, opening, creating, has_tag)
 }
 
 #[test]
-fn an_abandoned_factory_leaves_its_ticket(rt: HostRuntime) -> Result<(), Fail> {
-    let mut table = Table::new(rt.alloc());
-    let hash = hash_of_events(&rt, rt.alloc(), "xample");
-    let factory = created(&rt, events(&rt, rt.alloc(), 1, "xample"), &mut table);
+fn a_lock_of_another_makes_calls_hang(rt: HostRuntime) {
+    let wanted = (
+        0,
+        EventOpenError::HangsInCreation,
+        EventCreateError::HangsInCreation,
+        false,
+    );
+    assert_eq!(rt; under_a_lock(&rt, rt.alloc()), wanted);
+}
+
+/// What a node holds of a service whose factory it abandons.
+fn abandoned(rt: &impl Abort, alloc: Global) -> (bool, u64) {
+    let mut table = table_from(alloc, 0);
+    let factory = created(rt, wanting(rt, alloc, 1), &mut table);
     factory.abandon();
-    assert_eq!(rt; table.tickets(1, &hash), 1);
-    assert!(rt; table.has_tag(1, &hash));
-    Ok(())
+    held(&table, 1, &example(rt, alloc))
 }
 
 #[test]
-fn a_node_tells_what_it_was_made_of(rt: HostRuntime) -> Result<(), Fail> {
+fn an_abandoned_factory_leaves_its_ticket(rt: HostRuntime) {
+    assert_eq!(rt; abandoned(&rt, rt.alloc()), (true, 1));
+}
+
+/// A configuration for 5 nodes, with an event of created notifiers.
+fn for_five_nodes() -> Config {
     let mut config = Config::default();
     config.event.max_nodes = 5;
     config.event.notifier_created_event = Some(EventId::new(9));
-    let node = Node::<Local>::new(3, config);
-    assert_eq!(rt; node.id(), 3);
-    assert_eq!(rt; *node.config(), config);
-    let mut table = Table::new(rt.alloc());
-    let builder = node.service_builder(name(&rt, rt.alloc(), "mine")).event();
-    let factory = created(&rt, builder, &mut table);
-    assert_eq!(rt; factory.static_config().max_nodes, 5);
-    assert_eq!(rt;
-        factory.static_config().notifier_created_event,
-        Some(EventId::new(9))
-    );
-    assert_eq!(rt; factory.node(), 3);
-    closed(&rt, factory, &mut table);
-    Ok(())
+    config
+}
+
+/// The number of a node, and whether it has the configuration that it was made of.
+fn node_of(id: u64, config: Config) -> (u64, bool) {
+    let node = Node::<Local>::new(id, config);
+    (node.id(), *node.config() == config)
+}
+
+/// The node of a factory that a node of that configuration creates, and the factory's settings.
+fn created_by_it(rt: &impl Abort, alloc: Global) -> (u64, StaticConfig) {
+    let mut table = table_from(alloc, 0);
+    let builder = configured(rt, alloc, 3, for_five_nodes(), "mine");
+    let factory = created(rt, builder, &mut table);
+    let told = (factory.node(), settings(&factory));
+    closed(rt, factory, &mut table);
+    told
 }
 
 #[test]
-fn the_hash_of_events_is_the_standard_one(rt: HostRuntime) -> Result<(), Fail> {
-    let text = hash_of_events(&rt, rt.alloc(), "xample").to_text(rt.alloc())?;
+fn a_node_tells_what_it_was_made_of(rt: HostRuntime) {
+    let mut wanted = DEFAULTS;
+    wanted.max_nodes = 5;
+    wanted.notifier_created_event = Some(EventId::new(9));
+    let found = (node_of(3, for_five_nodes()), created_by_it(&rt, rt.alloc()));
+    assert_eq!(rt; found, ((3, true), (3, wanted)));
+}
+
+/// The digits of the hash of events of this name.
+fn digits(rt: &impl Abort, alloc: Global, text: &str) -> String {
+    match hash_of_events(rt, alloc, text).to_text(alloc) {
+        Ok(digits) => digits,
+        Err(_) => panic!(rt; "no memory"),
+    }
+}
+
+#[test]
+fn the_hash_of_events_is_the_standard_one(rt: HostRuntime) {
+    let text = digits(&rt, rt.alloc(), "xample");
     assert_eq!(rt; text.as_str(), "c3499c2729730a7f807efb8676a92dcb6f8a3f8f");
-    Ok(())
 }

@@ -9,17 +9,15 @@ use iceoryx2_service::session::Session;
 use iceoryx2_storage::table::Table;
 use std::alloc::Global;
 use std::process::Abort;
-use std::test::Fail;
 
-fn call(rt: &impl Abort, alloc: Global, how: How, node: u64, slot: usize, text: &str) -> Command {
-    Command::Call(Call {
-        how,
-        node,
-        slot,
-        name: name(rt, alloc, text),
-        settings: Settings::Event(Vec::new(alloc)),
-        now: Ok(Time::default()),
-    })
+/// A session over a new table.
+fn started(alloc: Global, config: Config) -> Session {
+    Session::new(config, table_from(alloc, 0))
+}
+
+/// The table of a session, which has no factory any more.
+fn finished(session: Session) -> Table {
+    session.finish()
 }
 
 /// Carries out one command. What its contract says of the table is not wanted here.
@@ -27,157 +25,200 @@ fn apply(session: &mut Session, command: Command) -> Reply {
     session.apply(command)
 }
 
-#[test]
-fn slots_are_tested_before_anything_is_called(rt: HostRuntime) -> Result<(), Fail> {
-    let mut session = Session::new(Config::default(), Table::new(rt.alloc()));
-    let past = apply(&mut session, Command::Close { slot: 64 });
-    let empty = apply(&mut session, Command::Close { slot: 63 });
-    let past_call = apply(&mut session, call(&rt, rt.alloc(), How::Create, 1, 64, "a"));
-    let made = apply(&mut session, call(&rt, rt.alloc(), How::Create, 1, 63, "a"));
-    let taken = apply(&mut session, call(&rt, rt.alloc(), How::Create, 1, 63, "b"));
-    let counter = session.table().counter();
-    let table = session.finish();
-    assert_eq!(rt; past, Reply::NoSuchSlot);
-    assert_eq!(rt; empty, Reply::SlotEmpty);
-    assert_eq!(rt; past_call, Reply::NoSuchSlot);
-    assert_eq!(rt;
-        made,
-        Reply::Opened {
-            slot: 63,
-            number: 0
-        }
-    );
-    assert_eq!(rt; taken, Reply::SlotInUse);
-    assert_eq!(rt; counter, 1);
-    assert_eq!(rt; table.list()?.len(), 0);
-    Ok(())
+fn close(session: &mut Session, slot: usize) -> Reply {
+    apply(session, Command::Close { slot })
 }
 
-#[test]
-fn finishing_closes_every_slot(rt: HostRuntime) -> Result<(), Fail> {
-    let mut session = Session::new(Config::default(), Table::new(rt.alloc()));
-    let first = apply(&mut session, call(&rt, rt.alloc(), How::Create, 1, 0, "a"));
-    let second = apply(&mut session, call(&rt, rt.alloc(), How::Open, 2, 1, "a"));
-    let third = apply(&mut session, call(&rt, rt.alloc(), How::Open, 2, 2, "a"));
-    let closed = apply(&mut session, Command::Close { slot: 1 });
-    let again = apply(&mut session, Command::Close { slot: 1 });
-    let table = session.finish();
-    assert_eq!(rt; first, Reply::Opened { slot: 0, number: 0 });
-    assert_eq!(rt; second, Reply::Opened { slot: 1, number: 0 });
-    assert_eq!(rt; third, Reply::Opened { slot: 2, number: 0 });
-    assert_eq!(rt; closed, Reply::Closed { slot: 1 });
-    assert_eq!(rt; again, Reply::SlotEmpty);
-    let hash = hash_of_events(&rt, rt.alloc(), "a");
-    assert_eq!(rt; table.list()?.len(), 0);
-    assert_eq!(rt; table.tickets(1, &hash), 0);
-    assert_eq!(rt; table.tickets(2, &hash), 0);
-    assert!(rt; !table.has_tag(1, &hash));
-    assert!(rt; !table.has_tag(2, &hash));
-    assert_eq!(rt; table.counter(), 3);
-    Ok(())
-}
-
-#[test]
-fn settings_are_set_in_order(rt: HostRuntime) -> Result<(), Fail> {
-    let alloc = rt.alloc();
-    let mut session = Session::new(Config::default(), Table::new(alloc));
-    let settings = vec![in alloc;
-        EventSetting::MaxNodes(9),
-        EventSetting::MaxNotifiers(3),
-        EventSetting::MaxListeners(4),
-        EventSetting::EventIdMaxValue(5),
-        EventSetting::MaxNodes(2),
-    ];
-    let Ok(settings) = settings else {
-        let _table = session.finish();
-        panic!(rt; "no memory")
+/// Calls for a service of this name, at time zero and with the default settings.
+fn call(
+    rt: &impl Abort,
+    alloc: Global,
+    session: &mut Session,
+    how: How,
+    (node, slot): (u64, usize),
+    text: &str,
+) -> Reply {
+    let call = Call {
+        how,
+        node,
+        slot,
+        name: name(rt, alloc, text),
+        settings: Settings::Event(Vec::new(alloc)),
+        now: Ok(Time::default()),
     };
-    let made = apply(
-        &mut session,
-        Command::Call(Call {
-            how: How::Create,
-            node: 1,
-            slot: 0,
-            name: name(&rt, alloc, "a"),
-            settings: Settings::Event(settings),
-            now: Ok(Time::default()),
-        }),
-    );
-    let entries = session.table().list();
-    let refused = apply(&mut session, call(&rt, alloc, How::Create, 1, 1, "a"));
-    let missing = apply(&mut session, call(&rt, alloc, How::Open, 1, 1, "b"));
-    let _table = session.finish();
-    assert_eq!(rt; made, Reply::Opened { slot: 0, number: 0 });
-    assert_eq!(rt;
-        refused,
-        Reply::Refused(Refusal::EventCreate(EventCreateError::AlreadyExists))
-    );
-    assert_eq!(rt;
-        missing,
-        Reply::Refused(Refusal::EventOpen(EventOpenError::DoesNotExist))
-    );
-    let entries = entries?;
-    assert_eq!(rt; entries.len(), 1);
-    let Some(segment) = entries[0].segment else {
-        panic!(rt; "no segment")
-    };
-    assert_eq!(rt; segment.max_nodes, 2);
-    Ok(())
+    apply(session, Command::Call(call))
 }
 
-/// A call of node 2 for this service into a slot, with one setting.
+/// Settings in a vector.
+fn listed_settings(rt: &impl Abort, alloc: Global, settings: &[EventSetting]) -> Vec<EventSetting> {
+    let mut all = Vec::new(alloc);
+    match all.extend_from_slice(settings) {
+        Ok(()) => all,
+        Err(_) => panic!(rt; "no memory"),
+    }
+}
+
+/// Calls for the service `a` at time zero, with these settings.
 fn call_with(
     rt: &impl Abort,
     alloc: Global,
+    session: &mut Session,
     how: How,
-    slot: usize,
-    text: &str,
-    setting: EventSetting,
-) -> Command {
-    let mut settings = Vec::new(alloc);
-    let Ok(()) = settings.push(setting) else {
-        panic!(rt; "no memory")
-    };
-    Command::Call(Call {
+    (node, slot): (u64, usize),
+    settings: &[EventSetting],
+) -> Reply {
+    let call = Call {
         how,
-        node: 2,
+        node,
         slot,
-        name: name(rt, alloc, text),
-        settings: Settings::Event(settings),
+        name: name(rt, alloc, "a"),
+        settings: Settings::Event(listed_settings(rt, alloc, settings)),
         now: Ok(Time::default()),
-    })
+    };
+    apply(session, Command::Call(call))
 }
 
-/// What creates and opens answer that are refused, each for its own reason.
-fn refusals(rt: &impl Abort, alloc: Global) -> [Reply; 6] {
-    let mut config = Config::default();
-    config.event.deadline = Duration::new(1, 0);
-    let mut session = Session::new(config, Table::new(alloc));
-    let clock_fails = Call {
+/// Node 1 creates the service `a` where there is no time.
+fn create_without_time(
+    rt: &impl Abort,
+    alloc: Global,
+    session: &mut Session,
+    slot: usize,
+) -> Reply {
+    let call = Call {
         how: How::Create,
         node: 1,
-        slot: 1,
+        slot,
         name: name(rt, alloc, "a"),
         settings: Settings::Event(Vec::new(alloc)),
         now: Err(ClockFault),
     };
-    let missing = apply(&mut session, call(rt, alloc, How::Open, 1, 0, "a"));
-    let untimed = apply(&mut session, Command::Call(clock_fails));
-    let made = EventSetting::MaxNodes(1);
-    let made = apply(
-        &mut session,
-        call_with(rt, alloc, How::Create, 0, "a", made),
+    apply(session, Command::Call(call))
+}
+
+/// What commands answer whose slot is past the last one, empty, free and taken, and the counter
+/// after them.
+fn answers_of_slots(rt: &impl Abort, alloc: Global) -> ([Reply; 5], u64, usize) {
+    let mut session = started(alloc, Config::default());
+    let past = close(&mut session, 64);
+    let empty = close(&mut session, 63);
+    let past_call = call(rt, alloc, &mut session, How::Create, (1, 64), "a");
+    let made = call(rt, alloc, &mut session, How::Create, (1, 63), "a");
+    let taken = call(rt, alloc, &mut session, How::Create, (1, 63), "b");
+    let table = finished(session);
+    (
+        [past, empty, past_call, made, taken],
+        counter(&table),
+        listed(rt, &table),
+    )
+}
+
+#[test]
+fn slots_are_tested_before_anything_is_called(rt: HostRuntime) {
+    let wanted = [
+        Reply::NoSuchSlot,
+        Reply::SlotEmpty,
+        Reply::NoSuchSlot,
+        Reply::Opened {
+            slot: 63,
+            number: 0,
+        },
+        Reply::SlotInUse,
+    ];
+    assert_eq!(rt; answers_of_slots(&rt, rt.alloc()), (wanted, 1, 0));
+}
+
+/// What a session answers that creates and opens a service and closes one slot twice, and the table
+/// behind it.
+fn answers_before_the_end(rt: &impl Abort, alloc: Global) -> ([Reply; 5], Table) {
+    let mut session = started(alloc, Config::default());
+    let first = call(rt, alloc, &mut session, How::Create, (1, 0), "a");
+    let second = call(rt, alloc, &mut session, How::Open, (2, 1), "a");
+    let third = call(rt, alloc, &mut session, How::Open, (2, 2), "a");
+    let closed = close(&mut session, 1);
+    let again = close(&mut session, 1);
+    ([first, second, third, closed, again], finished(session))
+}
+
+/// Those answers, how many services the table lists, what nodes 1 and 2 hold, and its counter.
+fn after_the_end(rt: &impl Abort, alloc: Global) -> ([Reply; 5], usize, [(bool, u64); 2], u64) {
+    let (answers, table) = answers_before_the_end(rt, alloc);
+    let hash = hash_of_events(rt, alloc, "a");
+    let holds = [held(&table, 1, &hash), held(&table, 2, &hash)];
+    (answers, listed(rt, &table), holds, counter(&table))
+}
+
+#[test]
+fn finishing_closes_every_slot(rt: HostRuntime) {
+    let wanted = [
+        Reply::Opened { slot: 0, number: 0 },
+        Reply::Opened { slot: 1, number: 0 },
+        Reply::Opened { slot: 2, number: 0 },
+        Reply::Closed { slot: 1 },
+        Reply::SlotEmpty,
+    ];
+    let nothing = (false, 0);
+    assert_eq!(rt;
+        after_the_end(&rt, rt.alloc()),
+        (wanted, 0, [nothing, nothing], 3)
     );
-    let there = apply(&mut session, call(rt, alloc, How::Create, 1, 1, "a"));
-    let small = EventSetting::MaxNodes(2);
-    let small = apply(&mut session, call_with(rt, alloc, How::Open, 1, "a", small));
-    let full = apply(&mut session, call(rt, alloc, How::Open, 1, 1, "a"));
-    let _table = session.finish();
+}
+
+/// Settings, the last of which counts.
+const SETTINGS: [EventSetting; 5] = [
+    EventSetting::MaxNodes(9),
+    EventSetting::MaxNotifiers(3),
+    EventSetting::MaxListeners(4),
+    EventSetting::EventIdMaxValue(5),
+    EventSetting::MaxNodes(2),
+];
+
+/// What a create with several settings answers, a second one, and an open of what is missing; and
+/// for how many nodes the service is.
+fn answers_of_settings(rt: &impl Abort, alloc: Global) -> ([Reply; 3], u64) {
+    let mut session = started(alloc, Config::default());
+    let made = call_with(rt, alloc, &mut session, How::Create, (1, 0), &SETTINGS);
+    let (max_nodes, _) = seats(rt, session.table());
+    let refused = call(rt, alloc, &mut session, How::Create, (1, 1), "a");
+    let missing = call(rt, alloc, &mut session, How::Open, (1, 1), "b");
+    let _table = finished(session);
+    ([made, refused, missing], max_nodes)
+}
+
+#[test]
+fn settings_are_set_in_order(rt: HostRuntime) {
+    let wanted = [
+        Reply::Opened { slot: 0, number: 0 },
+        Reply::Refused(Refusal::EventCreate(EventCreateError::AlreadyExists)),
+        Reply::Refused(Refusal::EventOpen(EventOpenError::DoesNotExist)),
+    ];
+    assert_eq!(rt; answers_of_settings(&rt, rt.alloc()), (wanted, 2));
+}
+
+/// A configuration with a deadline of one second.
+fn with_deadline() -> Config {
+    let mut config = Config::default();
+    config.event.deadline = Duration::new(1, 0);
+    config
+}
+
+/// What creates and opens answer that are refused, each for its own reason.
+fn refusals(rt: &impl Abort, alloc: Global) -> [Reply; 6] {
+    let mut session = started(alloc, with_deadline());
+    let one = [EventSetting::MaxNodes(1)];
+    let two = [EventSetting::MaxNodes(2)];
+    let missing = call(rt, alloc, &mut session, How::Open, (1, 0), "a");
+    let untimed = create_without_time(rt, alloc, &mut session, 1);
+    let made = call_with(rt, alloc, &mut session, How::Create, (2, 0), &one);
+    let there = call(rt, alloc, &mut session, How::Create, (1, 1), "a");
+    let small = call_with(rt, alloc, &mut session, How::Open, (2, 1), &two);
+    let full = call(rt, alloc, &mut session, How::Open, (1, 1), "a");
+    let _table = finished(session);
     [missing, untimed, made, there, small, full]
 }
 
 #[test]
-fn each_refusal_has_its_own_name(rt: HostRuntime) -> Result<(), Fail> {
+fn each_refusal_has_its_own_name(rt: HostRuntime) {
     let wanted = [
         Reply::Refused(Refusal::EventOpen(EventOpenError::DoesNotExist)),
         Reply::Refused(Refusal::EventCreate(EventCreateError::InternalFailure)),
@@ -187,5 +228,4 @@ fn each_refusal_has_its_own_name(rt: HostRuntime) -> Result<(), Fail> {
         Reply::Refused(Refusal::EventOpen(EventOpenError::ExceedsMaxNumberOfNodes)),
     ];
     assert_eq!(rt; refusals(&rt, rt.alloc()), wanted);
-    Ok(())
 }

@@ -1,17 +1,32 @@
-//! What the tests share.
+//! What the tests share. A call of the layer stands here alone, in a function without a contract, so
+//! that a test that makes several of them sees answers and no contracts.
 
 use iceoryx2_access::storage::{ServiceNameHasher, Sha1Hasher};
 use iceoryx2_builder::builder::Node;
 use iceoryx2_builder::builder::event::Builder;
 use iceoryx2_data::config::Config;
 use iceoryx2_data::description::{ServiceHash, ServiceName};
-use iceoryx2_data::time::Time;
+use iceoryx2_data::event::StaticConfig;
+use iceoryx2_data::time::{ClockFault, Time};
 use iceoryx2_rounds::error::{EventCreateError, EventOpenError};
 use iceoryx2_rounds::port_factory::event::PortFactory;
 use iceoryx2_storage::local::Local;
 use iceoryx2_storage::table::Table;
+use iceoryx2_storage::table::listing::Entry;
 use std::alloc::Global;
 use std::process::Abort;
+
+/// What is published by default.
+pub const DEFAULTS: StaticConfig = StaticConfig {
+    max_notifiers: 16,
+    max_listeners: 16,
+    event_id_max_value: 255,
+    max_nodes: 36,
+    notifier_created_event: None,
+    notifier_dropped_event: None,
+    notifier_dead_event: None,
+    deadline: None,
+};
 
 /// A name.
 pub fn name(rt: &impl Abort, alloc: Global, text: &str) -> ServiceName {
@@ -21,10 +36,21 @@ pub fn name(rt: &impl Abort, alloc: Global, text: &str) -> ServiceName {
     }
 }
 
+/// The builder of a node with this configuration for events of this name.
+pub fn configured(
+    rt: &impl Abort,
+    alloc: Global,
+    node: u64,
+    config: Config,
+    text: &str,
+) -> Builder<Local> {
+    let node = Node::<Local>::new(node, config);
+    node.service_builder(name(rt, alloc, text)).event()
+}
+
 /// The builder of this node for events of this name, with the default settings.
 pub fn events(rt: &impl Abort, alloc: Global, node: u64, text: &str) -> Builder<Local> {
-    let node = Node::<Local>::new(node, Config::default());
-    node.service_builder(name(rt, alloc, text)).event()
+    configured(rt, alloc, node, Config::default(), text)
 }
 
 /// The hash of events of this name.
@@ -32,17 +58,49 @@ pub fn hash_of_events(rt: &impl Abort, alloc: Global, text: &str) -> ServiceHash
     Sha1Hasher::hash(b'e', &name(rt, alloc, text))
 }
 
-/// A service that is created at time zero.
-pub fn created(rt: &impl Abort, builder: Builder<Local>, table: &mut Table) -> PortFactory<Local> {
-    match builder.create(table, Ok(Time::default())) {
+/// A new table with its counter's first value.
+pub fn table_from(alloc: Global, counter: u64) -> Table {
+    Table::starting_at(alloc, counter)
+}
+
+/// What a create answers.
+pub fn create(
+    builder: Builder<Local>,
+    table: &mut Table,
+    now: Result<Time, ClockFault>,
+) -> Result<PortFactory<Local>, EventCreateError> {
+    builder.create(table, now)
+}
+
+/// What an open answers.
+pub fn open(
+    builder: Builder<Local>,
+    table: &mut Table,
+) -> Result<PortFactory<Local>, EventOpenError> {
+    builder.open(table)
+}
+
+/// A service that is created at this time.
+pub fn created_at(
+    rt: &impl Abort,
+    builder: Builder<Local>,
+    table: &mut Table,
+    now: Time,
+) -> PortFactory<Local> {
+    match create(builder, table, Ok(now)) {
         Ok(factory) => factory,
         Err(error) => panic!(rt; "refused: {error}"),
     }
 }
 
+/// A service that is created at time zero.
+pub fn created(rt: &impl Abort, builder: Builder<Local>, table: &mut Table) -> PortFactory<Local> {
+    created_at(rt, builder, table, Time::default())
+}
+
 /// A service that is opened.
 pub fn opened(rt: &impl Abort, builder: Builder<Local>, table: &mut Table) -> PortFactory<Local> {
-    match builder.open(table) {
+    match open(builder, table) {
         Ok(factory) => factory,
         Err(error) => panic!(rt; "refused: {error}"),
     }
@@ -53,8 +111,9 @@ pub fn create_refusal(
     rt: &impl Abort,
     builder: Builder<Local>,
     table: &mut Table,
+    now: Result<Time, ClockFault>,
 ) -> EventCreateError {
-    match builder.create(table, Ok(Time::default())) {
+    match create(builder, table, now) {
         Ok(factory) => {
             factory.abandon();
             panic!(rt; "created")
@@ -65,7 +124,7 @@ pub fn create_refusal(
 
 /// Why an open is refused.
 pub fn open_refusal(rt: &impl Abort, builder: Builder<Local>, table: &mut Table) -> EventOpenError {
-    match builder.open(table) {
+    match open(builder, table) {
         Ok(factory) => {
             factory.abandon();
             panic!(rt; "opened")
@@ -80,4 +139,44 @@ pub fn closed(rt: &impl Abort, factory: PortFactory<Local>, table: &mut Table) {
         Ok(()) => {}
         Err(_) => panic!(rt; "not closed"),
     }
+}
+
+/// The settings of a factory.
+pub fn settings(factory: &PortFactory<Local>) -> StaticConfig {
+    *factory.static_config()
+}
+
+/// What a table lists.
+pub fn entries(rt: &impl Abort, table: &Table) -> Vec<Entry> {
+    match table.list() {
+        Ok(entries) => entries,
+        Err(_) => panic!(rt; "no memory"),
+    }
+}
+
+/// How many services a table lists.
+pub fn listed(rt: &impl Abort, table: &Table) -> usize {
+    entries(rt, table).len()
+}
+
+/// The nodes for which the segment of the only service has room, and those that are in it.
+pub fn seats(rt: &impl Abort, table: &Table) -> (u64, u64) {
+    let entries = entries(rt, table);
+    let [entry] = entries.as_slice() else {
+        panic!(rt; "not one service")
+    };
+    match entry.segment {
+        Some(segment) => (segment.max_nodes, segment.participants),
+        None => panic!(rt; "no segment"),
+    }
+}
+
+/// Whether a node has a tag for a service, and how many tickets.
+pub fn held(table: &Table, node: u64, hash: &ServiceHash) -> (bool, u64) {
+    (table.has_tag(node, hash), table.tickets(node, hash))
+}
+
+/// The counter of a table.
+pub fn counter(table: &Table) -> u64 {
+    table.counter()
 }
