@@ -1,10 +1,10 @@
 //! Names, hashes, times and settings.
 
-use iceoryx2_data::config::{Config, Event};
-use iceoryx2_data::description::{MessagingPattern, ServiceHash, ServiceName, ServiceNameError};
-use iceoryx2_data::event;
-use iceoryx2_data::event::EventId;
-use iceoryx2_data::time::{Duration, Time};
+use iceoryx2_values::config::{Config, Event};
+use iceoryx2_values::description::{MessagingPattern, ServiceHash, ServiceName, ServiceNameError};
+use iceoryx2_values::event;
+use iceoryx2_values::event::EventId;
+use iceoryx2_values::time::{Duration, Time};
 use std::alloc::Global;
 use std::test::Fail;
 

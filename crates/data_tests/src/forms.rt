@@ -1,11 +1,11 @@
 //! The byte form.
 
 use iceoryx2_data::bytes::{DecodeError, decode, encode, laws};
-use iceoryx2_data::config::Config;
-use iceoryx2_data::description::{MessagingPattern, ServiceHash, ServiceName, StaticConfig};
-use iceoryx2_data::event;
-use iceoryx2_data::event::{Deadline, EventId};
-use iceoryx2_data::time::{Duration, Time};
+use iceoryx2_values::config::Config;
+use iceoryx2_values::description::{MessagingPattern, ServiceHash, ServiceName, StaticConfig};
+use iceoryx2_values::event;
+use iceoryx2_values::event::{Deadline, EventId};
+use iceoryx2_values::time::{Duration, Time};
 use std::alloc::Global;
 use std::test::Fail;
 

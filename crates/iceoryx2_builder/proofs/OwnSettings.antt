@@ -2,12 +2,12 @@
 use Rattle.std.proofs.Common.{◌≡◌, ℕ, Bool, true, false, cond, List, [], ◌∷◌, Ok, refl, ap, ◌∙◌, arith}
 use Rattle.std.specs.Prelude.{Result, nat_eq, nat_le}
 use Rattle.std.proofs.lemmas.Bool.Decides.{nat_tests}
-use Rattle.iceoryx2_data.specs.declared.description.ServiceHash.{ServiceHash}
-use Rattle.iceoryx2_data.specs.declared.time.ClockFault.{ClockFault}
-use Rattle.iceoryx2_data.specs.Span.{Span}
-use Rattle.iceoryx2_rounds.specs.Verdict.{SettingRow, verdict, marked_clauses, at_least, and_then}
+use Rattle.iceoryx2_values.specs.declared.description.ServiceHash.{ServiceHash}
+use Rattle.iceoryx2_values.specs.declared.time.ClockFault.{ClockFault}
+use Rattle.iceoryx2_values.specs.Span.{Span}
+use Rattle.iceoryx2_pattern.specs.Verdict.{SettingRow, verdict, marked_clauses, at_least, and_then}
 use Rattle.iceoryx2_rounds.specs.Creates.{description_of}
-use Rattle.iceoryx2_rounds.proofs.Verdicts.{row_decides, no_row}
+use Rattle.iceoryx2_pattern.proofs.Verdicts.{row_decides, no_row}
 use Rattle.iceoryx2_builder.specs.declared.builder.event.asked.Asked.{Asked}
 use Rattle.iceoryx2_builder.specs.Event.{event_meaning, event_adjusted, at_least_one}
 use Rattle.iceoryx2_builder.specs.OwnSettings.{AcceptsOwn}

@@ -1,24 +1,24 @@
 -- What a builder of events asks, and its errors.
 use Rattle.std.specs.Prelude.{ℕ, Bool, true, false, List, [], ◌∷◌, Option, Some, None, nat_eq, is_some, if◌then◌else◌}
 use Rattle.std.specs.Option.{option_map}
-use Rattle.iceoryx2_data.specs.Description.{Description}
-use Rattle.iceoryx2_data.specs.Span.{Span}
-use Rattle.iceoryx2_data.specs.declared.description.MessagingPattern.{MessagingPattern}
-use Rattle.iceoryx2_data.specs.declared.description.MessagingPattern.TheVariants as existing
-use Rattle.iceoryx2_data.specs.declared.event.StaticConfig.{StaticConfig as Settings}
-use Rattle.iceoryx2_data.specs.declared.event.Deadline.{Deadline}
-use Rattle.iceoryx2_rounds.specs.Verdict.{Clause, SettingRow, at_least, marked_clauses}
-use Rattle.iceoryx2_rounds.specs.Meaning.{Meaning}
+use Rattle.iceoryx2_values.specs.Description.{Description}
+use Rattle.iceoryx2_values.specs.Span.{Span}
+use Rattle.iceoryx2_values.specs.declared.description.MessagingPattern.{MessagingPattern}
+use Rattle.iceoryx2_values.specs.declared.description.MessagingPattern.TheVariants as existing
+use Rattle.iceoryx2_values.specs.declared.event.StaticConfig.{StaticConfig as Settings}
+use Rattle.iceoryx2_values.specs.declared.event.Deadline.{Deadline}
+use Rattle.iceoryx2_pattern.specs.Verdict.{Clause, SettingRow, at_least, marked_clauses}
+use Rattle.iceoryx2_pattern.specs.Meaning.{Meaning}
 use Rattle.iceoryx2_errors.specs.States.{open_error_of_state, create_error_of_state}
 use Rattle.iceoryx2_errors.specs.declared.error.ServiceState.{ServiceState}
 use Rattle.iceoryx2_errors.specs.declared.error.EventOpenError.{EventOpenError}
 use Rattle.iceoryx2_errors.specs.declared.error.EventOpenError.TheVariants as opening
 use Rattle.iceoryx2_errors.specs.declared.error.EventCreateError.{EventCreateError}
 use Rattle.iceoryx2_errors.specs.declared.error.EventCreateError.TheVariants as creating
-use Rattle.iceoryx2_rounds.specs.declared.pattern.OpenRefusal.{OpenRefusal}
-use Rattle.iceoryx2_rounds.specs.declared.pattern.OpenRefusal.TheVariants as open_refusal
-use Rattle.iceoryx2_rounds.specs.declared.pattern.CreateRefusal.{CreateRefusal}
-use Rattle.iceoryx2_rounds.specs.declared.pattern.CreateRefusal.TheVariants as create_refusal
+use Rattle.iceoryx2_pattern.specs.declared.pattern.OpenRefusal.{OpenRefusal}
+use Rattle.iceoryx2_pattern.specs.declared.pattern.OpenRefusal.TheVariants as open_refusal
+use Rattle.iceoryx2_pattern.specs.declared.pattern.CreateRefusal.{CreateRefusal}
+use Rattle.iceoryx2_pattern.specs.declared.pattern.CreateRefusal.TheVariants as create_refusal
 use Rattle.iceoryx2_builder.specs.declared.builder.event.asked.Asked.{Asked}
 use Rattle.iceoryx2_builder.specs.declared.builder.event.asked.Marks.{Marks}
 

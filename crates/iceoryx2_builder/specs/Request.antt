@@ -1,10 +1,10 @@
 -- What a node and its builders hold.
 use Rattle.std.specs.Prelude.{ℕ, List, Option, Some, None, false, true}
 use Rattle.std.specs.Option.{option_map}
-use Rattle.iceoryx2_data.specs.declared.config.Config.{Config}
-use Rattle.iceoryx2_data.specs.declared.config.Event.{Event as EventDefaults}
-use Rattle.iceoryx2_data.specs.declared.event.Deadline.{Deadline}
-use Rattle.iceoryx2_data.specs.Span.{Span, zero_span}
+use Rattle.iceoryx2_values.specs.declared.config.Config.{Config}
+use Rattle.iceoryx2_values.specs.declared.config.Event.{Event as EventDefaults}
+use Rattle.iceoryx2_values.specs.declared.event.Deadline.{Deadline}
+use Rattle.iceoryx2_values.specs.Span.{Span, zero_span}
 use Rattle.iceoryx2_builder.specs.declared.builder.event.TheConstants.{LETTER}
 use Rattle.iceoryx2_builder.specs.declared.builder.event.asked.Asked.{Asked}
 use Rattle.iceoryx2_builder.specs.declared.builder.event.setting.EventSetting.{EventSetting}

@@ -1,9 +1,9 @@
 //! Nodes, and where their builders begin.
 
 ghost use Rattle.std.specs.Prelude.{◌≡◌, ◌<◌, ◌^◌, ℕ, List, Result};
-ghost use Rattle.iceoryx2_data.specs.Span.{Span};
-ghost use Rattle.iceoryx2_data.specs.declared.description.ServiceHash.{ServiceHash};
-ghost use Rattle.iceoryx2_data.specs.declared.time.ClockFault.{ClockFault};
+ghost use Rattle.iceoryx2_values.specs.Span.{Span};
+ghost use Rattle.iceoryx2_values.specs.declared.description.ServiceHash.{ServiceHash};
+ghost use Rattle.iceoryx2_values.specs.declared.time.ClockFault.{ClockFault};
 ghost use Rattle.iceoryx2_builder.specs.Event.{event_meaning, event_adjusted};
 ghost use Rattle.iceoryx2_builder.specs.OwnSettings.{AcceptsOwn};
 ghost use Rattle.iceoryx2_builder.specs.Request.{fresh_request};
@@ -12,8 +12,8 @@ ghost use Rattle.iceoryx2_builder.specs.declared.builder.event.asked.Asked.{Aske
 pub mod event;
 
 use iceoryx2_access::storage::{Service, ServiceNameHasher};
-use iceoryx2_data::config::Config;
-use iceoryx2_data::description::{ServiceHash, ServiceName};
+use iceoryx2_values::config::Config;
+use iceoryx2_values::description::{ServiceHash, ServiceName};
 use std::marker::{Model, PhantomData};
 
 /// One that creates and opens services: a number, and the settings that its builders start from.

@@ -1,6 +1,6 @@
 -- What is said of whole calls: of the worlds that their accesses lead through, and of each access.
 use Rattle.std.specs.Prelude.{◌≡◌, ◌+◌, ℕ, List, [], ◌∷◌, ◌++◌}
-use Rattle.iceoryx2_data.specs.declared.description.ServiceHash.{ServiceHash}
+use Rattle.iceoryx2_values.specs.declared.description.ServiceHash.{ServiceHash}
 use Rattle.iceoryx2_world.specs.declared.world.Participant.TheVariants.{Node}
 use Rattle.iceoryx2_world.specs.World.{World, count_of}
 use Rattle.iceoryx2_access.specs.Letter.{Letter}

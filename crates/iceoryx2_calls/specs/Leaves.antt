@@ -1,6 +1,6 @@
 -- What a refused call leaves in the world.
 use Rattle.std.specs.Prelude.{◌≡◌, ◌≢◌, ◌⊎◌, ℕ, Bool, true, false, List, Some, Ok}
-use Rattle.iceoryx2_data.specs.declared.description.ServiceHash.{ServiceHash}
+use Rattle.iceoryx2_values.specs.declared.description.ServiceHash.{ServiceHash}
 use Rattle.iceoryx2_access.specs.Letter.{Letter}
 use Rattle.iceoryx2_access.specs.Letter as letter
 use Rattle.iceoryx2_world.specs.Sets as set
@@ -11,7 +11,7 @@ use Rattle.iceoryx2_world.specs.Orders.{tag_cmp}
 use Rattle.iceoryx2_world.specs.World.{World, Segment, row_of, segment_of, phase_of, begins, row_number}
 use Rattle.iceoryx2_world.specs.Agreement.{IsSpent}
 use Rattle.iceoryx2_access.specs.Run.{Each}
-use Rattle.iceoryx2_rounds.specs.Keeps.{KeptLock, NoLock, GivenBack}
+use Rattle.iceoryx2_words.specs.Keeps.{KeptLock, NoLock, GivenBack}
 
 -- A removal is granted.
 abbrev pub IsGranted : Letter → Type 0

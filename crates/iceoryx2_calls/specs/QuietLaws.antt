@@ -1,7 +1,7 @@
 -- What is told of the calls over a world that shows the quiet machine.
 use Rattle.std.specs.Prelude.{◌≡◌, ◌≢◌, ℕ, false, Option, Some, None, Result, Ok, Err, IfOk, unwrap_or}
 use Rattle.std.specs.FinMap as map
-use Rattle.iceoryx2_data.specs.declared.description.ServiceHash.{ServiceHash}
+use Rattle.iceoryx2_values.specs.declared.description.ServiceHash.{ServiceHash}
 use Rattle.iceoryx2_world.specs.declared.world.Participant.TheVariants.{Node}
 use Rattle.iceoryx2_world.specs.World.{World, row_of, segment_of, phase_of, Tickets, tag_of, join_count}
 use Rattle.iceoryx2_world.specs.Across.{Agrees}

@@ -1,8 +1,8 @@
 -- What the quiet machine lists.
 use Rattle.std.specs.Prelude.{false, List, Some, map}
 use Rattle.std.specs.FinMap as finite
-use Rattle.iceoryx2_data.specs.declared.description.ServiceHash.{ServiceHash}
-use Rattle.iceoryx2_data.specs.Description.{max_nodes_of}
+use Rattle.iceoryx2_values.specs.declared.description.ServiceHash.{ServiceHash}
+use Rattle.iceoryx2_values.specs.Description.{max_nodes_of}
 use Rattle.iceoryx2_data.specs.Form as form
 use Rattle.iceoryx2_world.specs.declared.listing.ListedRow.TheVariants as listed
 use Rattle.iceoryx2_world.specs.declared.listing.Entry.{Entry}

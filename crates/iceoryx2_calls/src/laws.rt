@@ -1,9 +1,9 @@
 //! What is true of whole calls over a table, whatever the pattern and whatever steps peers take.
 
 ghost use Rattle.std.specs.Prelude.{◌≡◌, ◌≢◌, ℕ, ◌≤◌, Bool, List, Result, Ok, Err, None};
-ghost use Rattle.iceoryx2_data.specs.Span.{Span};
-ghost use Rattle.iceoryx2_data.specs.declared.description.ServiceHash.{ServiceHash};
-ghost use Rattle.iceoryx2_data.specs.declared.time.ClockFault.{ClockFault};
+ghost use Rattle.iceoryx2_values.specs.Span.{Span};
+ghost use Rattle.iceoryx2_values.specs.declared.description.ServiceHash.{ServiceHash};
+ghost use Rattle.iceoryx2_values.specs.declared.time.ClockFault.{ClockFault};
 ghost use Rattle.iceoryx2_world.specs.World.{World, phase_of, ticket_of};
 ghost use Rattle.iceoryx2_access.specs.Letter.{Letter};
 ghost use Rattle.iceoryx2_access.specs.Run.{Run, Each};
@@ -15,16 +15,16 @@ ghost use Rattle.iceoryx2_access.specs.Factory.{Factory};
 ghost use Rattle.iceoryx2_world.specs.Standing.{Stands};
 ghost use Rattle.iceoryx2_errors.specs.declared.error.CloseError.{CloseError};
 ghost use Rattle.iceoryx2_errors.specs.declared.error.CloseError.TheVariants.{NotHere};
-ghost use Rattle.iceoryx2_rounds.specs.Closes.{IsCloseWord};
-ghost use Rattle.iceoryx2_rounds.specs.Counts.{IsWithin};
+ghost use Rattle.iceoryx2_port_factory.specs.Closes.{IsCloseWord};
+ghost use Rattle.iceoryx2_words.specs.Counts.{IsWithin};
 ghost use Rattle.iceoryx2_rounds.specs.Creates.{IsCreateWord, description_of};
-ghost use Rattle.iceoryx2_rounds.specs.Keeps.{GivesAllBack, Keeps, NoLock, NoTag, no_own_tag};
+ghost use Rattle.iceoryx2_words.specs.Keeps.{GivesAllBack, Keeps, NoLock, NoTag, no_own_tag};
 ghost use Rattle.iceoryx2_rounds.specs.Opens.{IsOpenWord};
-ghost use Rattle.iceoryx2_rounds.specs.Verdict.{verdict};
+ghost use Rattle.iceoryx2_pattern.specs.Verdict.{verdict};
 ghost use Rattle.iceoryx2_calls.specs.Calls.{Throughout, AtEach, ActsCalmly, ChangesLast};
 ghost use Rattle.iceoryx2_calls.specs.Leaves.{IsGranted, Leaves, LeavesNothing};
 
-use iceoryx2_rounds::pattern::Pattern;
+use iceoryx2_pattern::pattern::Pattern;
 
 /// Whatever a call does and whatever steps peers take within it, the world agrees after each
 /// access, and each open factory carries the one description of its service and stands there with

@@ -9,12 +9,12 @@ use Rattle.std.proofs.lemmas.Bool.{cases_lt, lt-ltb, le-ltb}
 use Rattle.std.proofs.lemmas.List.Elements.{All-from_recursion, recursion_from_All}
 use Rattle.std.proofs.lemmas.Str.{IsUtf8-from_is_utf8}
 use Rattle.std.proofs.Math.Utf8.{scalars, scalar_cases}
-use Rattle.iceoryx2_data.specs.declared.description.MessagingPattern.{MessagingPattern}
-use Rattle.iceoryx2_data.specs.declared.description.MessagingPattern.TheVariants.{Event}
-use Rattle.iceoryx2_data.specs.declared.event.StaticConfig.{StaticConfig as EventConfig}
-use Rattle.iceoryx2_data.specs.declared.event.Deadline.{Deadline}
-use Rattle.iceoryx2_data.specs.Span.{Span}
-use Rattle.iceoryx2_data.specs.Description.{Description}
+use Rattle.iceoryx2_values.specs.declared.description.MessagingPattern.{MessagingPattern}
+use Rattle.iceoryx2_values.specs.declared.description.MessagingPattern.TheVariants.{Event}
+use Rattle.iceoryx2_values.specs.declared.event.StaticConfig.{StaticConfig as EventConfig}
+use Rattle.iceoryx2_values.specs.declared.event.Deadline.{Deadline}
+use Rattle.iceoryx2_values.specs.Span.{Span}
+use Rattle.iceoryx2_values.specs.Description.{Description}
 use Rattle.iceoryx2_data.specs.Form.{text, number, option, span, deadline, event, pattern, magic, version, no_attributes, description, IsForm}
 
 record AreBytes (bytes : List ℕ) : Type 0 where

@@ -7,13 +7,13 @@ use Rattle.std.proofs.lemmas.List.{append-nil, nil_from_length}
 use Rattle.std.proofs.lemmas.Option.{none-some}
 use Rattle.iceoryx2_data.specs.declared.bytes.DecodeError.{DecodeError}
 use Rattle.iceoryx2_data.specs.declared.bytes.DecodeError.TheVariants.{Malformed, OutOfMemory}
-use Rattle.iceoryx2_data.specs.declared.description.MessagingPattern.{MessagingPattern}
-use Rattle.iceoryx2_data.specs.declared.description.MessagingPattern.TheVariants.{Event}
+use Rattle.iceoryx2_values.specs.declared.description.MessagingPattern.{MessagingPattern}
+use Rattle.iceoryx2_values.specs.declared.description.MessagingPattern.TheVariants.{Event}
 use Rattle.iceoryx2_data.specs.declared.bytes.TheConstants.{EVENT_BYTE}
-use Rattle.iceoryx2_data.specs.declared.description.TheConstants.{HASH_LENGTH, MIN_NAME_LENGTH, MAX_NAME_LENGTH}
-use Rattle.iceoryx2_data.specs.declared.time.TheConstants.{NANOSECONDS_PER_SECOND}
-use Rattle.iceoryx2_data.specs.Span.{IsSpan}
-use Rattle.iceoryx2_data.specs.Description.{Description, IsDeadline, IsEvent, IsPattern, IsDescription}
+use Rattle.iceoryx2_values.specs.declared.description.TheConstants.{HASH_LENGTH, MIN_NAME_LENGTH, MAX_NAME_LENGTH}
+use Rattle.iceoryx2_values.specs.declared.time.TheConstants.{NANOSECONDS_PER_SECOND}
+use Rattle.iceoryx2_values.specs.Span.{IsSpan}
+use Rattle.iceoryx2_values.specs.Description.{Description, IsDeadline, IsEvent, IsPattern, IsDescription}
 use Rattle.iceoryx2_data.specs.Form.{text, number, option, span, deadline, event, pattern, magic, version, no_attributes, description, IsForm}
 use Rattle.iceoryx2_data.specs.Reading.{◌>>=◌, then_at, where_at, number_at, option_at, span_from, span_at, deadline_from, deadline_at, event_from, event_at, pattern_at, description_from, description_at, all_of, IsReadBy}
 use Rattle.iceoryx2_data.proofs.Parts.{IsBytes, IsBytes-rest, bind_some, guard_is, some_is, Takes, Reads, Reads-then, Reads-as, Reads-where, Reads-form, Reads-each_byte, Reads-literal, Reads-number32, Reads-number64, Reads-text, Reads-option}

@@ -1,4 +1,3 @@
-pub mod Utf8
 pub mod Parts
 pub mod Fields
 pub mod EachByte

@@ -2,13 +2,7 @@
 use Rattle.std.specs.Prelude.{ℕ, List, codes}
 use Rattle.iceoryx2_data.specs.declared.bytes.DecodeError.{DecodeError}
 use Rattle.iceoryx2_data.specs.declared.bytes.DecodeError.TheVariants as decode
-use Rattle.iceoryx2_data.specs.declared.description.ServiceNameError.{ServiceNameError}
-use Rattle.iceoryx2_data.specs.declared.description.ServiceNameError.TheVariants as name
 
 abbrev pub decode_error_text : DecodeError → List ℕ
 decode_error_text decode.Malformed = codes "the bytes are no description"
 decode_error_text decode.OutOfMemory = codes "out of memory"
-
-abbrev pub service_name_error_text : ServiceNameError → List ℕ
-service_name_error_text name.Length = codes "a service's name has 1 to 255 bytes"
-service_name_error_text name.OutOfMemory = codes "out of memory"

@@ -2,12 +2,12 @@
 use Rattle.std.specs.Prelude.{ℕ, ◌≡◌, List, [], ◌∷◌, ◌++◌, length, codes, Option, Some, None}
 use Rattle.std.specs.Int.{w16, w32, w64, to_be_bytes}
 use Rattle.iceoryx2_data.specs.declared.bytes.TheConstants.{EVENT_BYTE}
-use Rattle.iceoryx2_data.specs.declared.description.MessagingPattern.{MessagingPattern}
-use Rattle.iceoryx2_data.specs.declared.description.MessagingPattern.TheVariants.{Event}
-use Rattle.iceoryx2_data.specs.declared.event.StaticConfig.{StaticConfig as EventConfig}
-use Rattle.iceoryx2_data.specs.declared.event.Deadline.{Deadline}
-use Rattle.iceoryx2_data.specs.Description.{Description, IsDescription}
-use Rattle.iceoryx2_data.specs.Span.{Span}
+use Rattle.iceoryx2_values.specs.declared.description.MessagingPattern.{MessagingPattern}
+use Rattle.iceoryx2_values.specs.declared.description.MessagingPattern.TheVariants.{Event}
+use Rattle.iceoryx2_values.specs.declared.event.StaticConfig.{StaticConfig as EventConfig}
+use Rattle.iceoryx2_values.specs.declared.event.Deadline.{Deadline}
+use Rattle.iceoryx2_values.specs.Description.{Description, IsDescription}
+use Rattle.iceoryx2_values.specs.Span.{Span}
 
 -- the length as two bytes, and the bytes
 abbrev pub text : List ℕ → List ℕ

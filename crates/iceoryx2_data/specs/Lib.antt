@@ -1,7 +1,3 @@
-pub mod Span
-pub mod Texts
-pub mod Defaults
-pub mod Description
 pub mod Form
 pub mod Reading
 pub mod Errors

@@ -6,14 +6,14 @@ use Rattle.std.specs.Str.{is_utf8}
 use Rattle.iceoryx2_data.specs.declared.bytes.DecodeError.{DecodeError}
 use Rattle.iceoryx2_data.specs.declared.bytes.DecodeError.TheVariants.{Malformed, OutOfMemory}
 use Rattle.iceoryx2_data.specs.declared.bytes.TheConstants.{EVENT_BYTE}
-use Rattle.iceoryx2_data.specs.declared.description.TheConstants.{HASH_LENGTH, MIN_NAME_LENGTH, MAX_NAME_LENGTH}
-use Rattle.iceoryx2_data.specs.declared.time.TheConstants.{NANOSECONDS_PER_SECOND}
-use Rattle.iceoryx2_data.specs.declared.description.MessagingPattern.{MessagingPattern}
-use Rattle.iceoryx2_data.specs.declared.description.MessagingPattern.TheVariants.{Event}
-use Rattle.iceoryx2_data.specs.declared.event.StaticConfig.{StaticConfig as EventConfig}
-use Rattle.iceoryx2_data.specs.declared.event.Deadline.{Deadline}
-use Rattle.iceoryx2_data.specs.Span.{Span}
-use Rattle.iceoryx2_data.specs.Description.{Description}
+use Rattle.iceoryx2_values.specs.declared.description.TheConstants.{HASH_LENGTH, MIN_NAME_LENGTH, MAX_NAME_LENGTH}
+use Rattle.iceoryx2_values.specs.declared.time.TheConstants.{NANOSECONDS_PER_SECOND}
+use Rattle.iceoryx2_values.specs.declared.description.MessagingPattern.{MessagingPattern}
+use Rattle.iceoryx2_values.specs.declared.description.MessagingPattern.TheVariants.{Event}
+use Rattle.iceoryx2_values.specs.declared.event.StaticConfig.{StaticConfig as EventConfig}
+use Rattle.iceoryx2_values.specs.declared.event.Deadline.{Deadline}
+use Rattle.iceoryx2_values.specs.Span.{Span}
+use Rattle.iceoryx2_values.specs.Description.{Description}
 use Rattle.iceoryx2_data.specs.Form.{magic, version, no_attributes}
 
 infixl 10 ◌>>=◌

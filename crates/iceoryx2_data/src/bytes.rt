@@ -1,14 +1,14 @@
 //! The bytes by which nodes tell each other of a service.
 
 ghost use Rattle.std.specs.Prelude.{◌≡◌, ◌<◌, ◌++◌, ℕ, List, [], All, IfOk, MatchResult};
-ghost use Rattle.iceoryx2_data.specs.Description.{Description, IsDescription};
+ghost use Rattle.iceoryx2_values.specs.Description.{Description, IsDescription};
 ghost use Rattle.iceoryx2_data.specs.Form.{IsForm};
 ghost use Rattle.iceoryx2_data.specs.declared.bytes.DecodeError.TheVariants.{OutOfMemory};
 
 mod reading;
 mod writing;
 
-use crate::description::StaticConfig;
+use iceoryx2_values::description::StaticConfig;
 use std::alloc::{AllocError, Global};
 use std::error::Error;
 use std::fmt;

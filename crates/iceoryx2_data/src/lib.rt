@@ -1,8 +1,6 @@
-//! What a service is: its name, its hash, its settings, and the bytes that nodes share.
+//! The bytes that nodes share, and the values that they tell of under one name.
 #![tactic(auto)]
 
 pub mod bytes;
-pub mod config;
-pub mod description;
-pub mod event;
-pub mod time;
+
+pub use iceoryx2_values::{config, description, event, time};

@@ -1,6 +1,6 @@
 use Rattle.std.proofs.Common.{◌≡◌, ◌⊎◌, ◌≢◌, ◌∙◌, Bool, true, false, not, nat_eq, inl, inr, refl, ap, subst, sym}
 use Rattle.std.specs.Cmp.Lexicographic.{pointwise, same_text, other_text}
-use Rattle.iceoryx2_data.specs.declared.description.ServiceHash.{ServiceHash}
+use Rattle.iceoryx2_values.specs.declared.description.ServiceHash.{ServiceHash}
 use Rattle.iceoryx2_access.specs.declared.storage.Existence.{Existence}
 use Rattle.iceoryx2_access.specs.declared.storage.Existence.TheVariants as existence
 use Rattle.iceoryx2_rounds.specs.Looks.{MayBeThere, yes, being_set_up}

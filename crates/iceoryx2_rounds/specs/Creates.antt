@@ -1,18 +1,18 @@
 -- The words of create, with their answers.
 use Rattle.std.specs.Prelude.{◌≡◌, ℕ, Bool, true, false, List, [], ◌∷◌, ◌++◌, Result, Ok, Err, Some, None}
-use Rattle.iceoryx2_data.specs.declared.description.ServiceHash.{ServiceHash}
-use Rattle.iceoryx2_data.specs.declared.time.ClockFault.{ClockFault}
-use Rattle.iceoryx2_data.specs.Description.{Description, max_nodes_of}
-use Rattle.iceoryx2_data.specs.Span.{Span, zero_span}
+use Rattle.iceoryx2_values.specs.declared.description.ServiceHash.{ServiceHash}
+use Rattle.iceoryx2_values.specs.declared.time.ClockFault.{ClockFault}
+use Rattle.iceoryx2_values.specs.Description.{Description, max_nodes_of}
+use Rattle.iceoryx2_values.specs.Span.{Span, zero_span}
 use Rattle.iceoryx2_access.specs.declared.storage.Tag.{Tag}
 use Rattle.iceoryx2_access.specs.declared.storage.TagError.{TagError}
 use Rattle.iceoryx2_access.specs.declared.storage.LockError.{LockError}
 use Rattle.iceoryx2_access.specs.declared.storage.PublishError.{PublishError}
 use Rattle.iceoryx2_access.specs.Letter.{Letter, Counts, MakeTag, Lock, Publish}
 use Rattle.iceoryx2_rounds.specs.declared.look.Outcome.TheVariants.{Nothing, Found, Faulty}
-use Rattle.iceoryx2_rounds.specs.declared.pattern.CreateRefusal.{CreateRefusal}
-use Rattle.iceoryx2_rounds.specs.declared.pattern.CreateRefusal.TheVariants as refusal
-use Rattle.iceoryx2_rounds.specs.Meaning.{Meaning}
+use Rattle.iceoryx2_pattern.specs.declared.pattern.CreateRefusal.{CreateRefusal}
+use Rattle.iceoryx2_pattern.specs.declared.pattern.CreateRefusal.TheVariants as refusal
+use Rattle.iceoryx2_pattern.specs.Meaning.{Meaning}
 use Rattle.iceoryx2_access.specs.Factory.{Factory}
 use Rattle.iceoryx2_rounds.specs.Looks.{IsLookWord}
 use Rattle.iceoryx2_rounds.specs.GivesBack.{GivesBack, OwnLock, OwnSegment, own_tag}

@@ -1,13 +1,7 @@
-pub mod Verdict
-pub mod Meaning
 pub mod Looks
 pub mod GivesBack
 pub mod Refusals
 pub mod Segments
 pub mod Creates
 pub mod Opens
-pub mod Closes
 pub mod Answers
-pub mod Counts
-pub mod Keeps
-pub mod Patterns

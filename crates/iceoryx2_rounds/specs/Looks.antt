@@ -1,14 +1,14 @@
 -- The words of a look, with what it finds: one row a line, the first that fits.
 use Rattle.std.specs.Prelude.{◌≡◌, ◌≢◌, ℕ, List, [], ◌∷◌, Result, Ok, Err, Some, None}
-use Rattle.iceoryx2_data.specs.declared.description.ServiceHash.{ServiceHash}
-use Rattle.iceoryx2_data.specs.Description.{Description}
+use Rattle.iceoryx2_values.specs.declared.description.ServiceHash.{ServiceHash}
+use Rattle.iceoryx2_values.specs.Description.{Description}
 use Rattle.iceoryx2_data.specs.Form.{IsForm}
 use Rattle.iceoryx2_access.specs.declared.storage.Existence.{Existence}
 use Rattle.iceoryx2_access.specs.declared.storage.Existence.TheVariants as existence
 use Rattle.iceoryx2_access.specs.declared.storage.FetchError.{FetchError}
 use Rattle.iceoryx2_access.specs.declared.storage.FetchError.TheVariants as fetch
 use Rattle.iceoryx2_access.specs.Letter.{Letter, Exists, Fetch}
-use Rattle.iceoryx2_rounds.specs.Meaning.{Meaning}
+use Rattle.iceoryx2_pattern.specs.Meaning.{Meaning}
 use Rattle.iceoryx2_errors.specs.declared.error.ServiceState.TheVariants as state
 use Rattle.iceoryx2_rounds.specs.declared.look.Outcome.{Outcome}
 use Rattle.iceoryx2_rounds.specs.declared.look.Outcome.TheVariants.{Nothing, Found, Faulty}

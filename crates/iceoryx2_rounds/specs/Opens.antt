@@ -1,7 +1,7 @@
 -- The words of open, with their answers.
 use Rattle.std.specs.Prelude.{◌≡◌, ◌≤◌, ◌+◌, ℕ, suc, List, [], ◌∷◌, ◌++◌, Result, Ok, Err, Option, Some, None}
-use Rattle.iceoryx2_data.specs.declared.description.ServiceHash.{ServiceHash}
-use Rattle.iceoryx2_data.specs.Description.{Description}
+use Rattle.iceoryx2_values.specs.declared.description.ServiceHash.{ServiceHash}
+use Rattle.iceoryx2_values.specs.Description.{Description}
 use Rattle.iceoryx2_access.specs.declared.storage.Tag.{Tag}
 use Rattle.iceoryx2_access.specs.declared.storage.TagError.{TagError}
 use Rattle.iceoryx2_access.specs.declared.storage.OpenSegmentError.{OpenSegmentError}
@@ -9,10 +9,10 @@ use Rattle.iceoryx2_access.specs.declared.storage.OpenSegmentError.TheVariants a
 use Rattle.iceoryx2_access.specs.Letter.{Letter, MakeTag, OpenSegment}
 use Rattle.iceoryx2_rounds.specs.declared.look.Outcome.TheVariants.{Nothing, Found, Faulty}
 use Rattle.iceoryx2_rounds.specs.declared.open.TheConstants.{RETRY_LIMIT}
-use Rattle.iceoryx2_rounds.specs.declared.pattern.OpenRefusal.{OpenRefusal}
-use Rattle.iceoryx2_rounds.specs.declared.pattern.OpenRefusal.TheVariants as refusal
-use Rattle.iceoryx2_rounds.specs.Meaning.{Meaning}
-use Rattle.iceoryx2_rounds.specs.Verdict.{verdict}
+use Rattle.iceoryx2_pattern.specs.declared.pattern.OpenRefusal.{OpenRefusal}
+use Rattle.iceoryx2_pattern.specs.declared.pattern.OpenRefusal.TheVariants as refusal
+use Rattle.iceoryx2_pattern.specs.Meaning.{Meaning}
+use Rattle.iceoryx2_pattern.specs.Verdict.{verdict}
 use Rattle.iceoryx2_access.specs.Factory.{Factory}
 use Rattle.iceoryx2_rounds.specs.Looks.{IsLookWord}
 use Rattle.iceoryx2_rounds.specs.GivesBack.{GivesBack, own_tag}

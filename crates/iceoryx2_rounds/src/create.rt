@@ -10,13 +10,13 @@ ghost use Rattle.iceoryx2_rounds.specs.Segments.{IsSegmentWord};
 
 use crate::give_back::{give_back_lock, give_back_segment, give_back_tag};
 use crate::look::{Outcome, look};
-use crate::pattern::{CreateRefusal, Pattern};
-use crate::port_factory::Registration;
 use iceoryx2_access::storage::{
     LockError, MakeSegmentError, PublishError, RemoveError, Storage, Tag, TagError,
 };
-use iceoryx2_data::description::{ServiceHash, ServiceName, StaticConfig};
-use iceoryx2_data::time::{ClockFault, Time};
+use iceoryx2_pattern::pattern::{CreateRefusal, Pattern};
+use iceoryx2_port_factory::port_factory::Registration;
+use iceoryx2_values::description::{ServiceHash, ServiceName, StaticConfig};
+use iceoryx2_values::time::{ClockFault, Time};
 use std::alloc::AllocError;
 
 /// How many segments of others a create removes before it gives up on making its own.

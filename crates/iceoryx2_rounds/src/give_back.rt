@@ -5,7 +5,7 @@ ghost use Rattle.iceoryx2_access.specs.Run.{Joins};
 ghost use Rattle.iceoryx2_rounds.specs.GivesBack.{GivesBack, OwnLock, OwnSegment, own_tag};
 
 use iceoryx2_access::storage::{Storage, Tag};
-use iceoryx2_data::description::ServiceHash;
+use iceoryx2_values::description::ServiceHash;
 
 /// Gives back a tag that the call made, whatever the removal answers. A tag that was there stays.
 pub(crate) fn give_back_tag<S: Storage>(node: u64, hash: &ServiceHash, tag: Tag, storage: &mut S)

@@ -1,13 +1,11 @@
-//! How a service is created, opened and closed: once, for any pattern and over any storage.
+//! How a service is created and opened: once, for any pattern and over any storage.
 #![tactic(auto)]
-
-pub use iceoryx2_errors::error;
 
 pub mod create;
 mod give_back;
-pub mod laws;
 pub mod look;
 pub mod open;
-pub mod pattern;
-pub mod port_factory;
-pub mod verdict;
+
+pub use iceoryx2_errors::error;
+pub use iceoryx2_pattern::{pattern, verdict};
+pub use iceoryx2_port_factory::port_factory;

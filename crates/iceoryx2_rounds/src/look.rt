@@ -5,11 +5,11 @@ ghost use Rattle.iceoryx2_access.specs.Letter.{fetched};
 ghost use Rattle.iceoryx2_access.specs.Run.{Joins};
 ghost use Rattle.iceoryx2_rounds.specs.Looks.{IsLookWord, LeadsTo};
 
-use crate::error::ServiceState;
-use crate::pattern::Pattern;
 use iceoryx2_access::storage::{Existence, FetchError, Storage};
 use iceoryx2_data::bytes::{DecodeError, decode};
-use iceoryx2_data::description::{ServiceHash, StaticConfig};
+use iceoryx2_errors::error::ServiceState;
+use iceoryx2_pattern::pattern::Pattern;
+use iceoryx2_values::description::{ServiceHash, StaticConfig};
 use std::alloc::Global;
 
 /// What a look finds.

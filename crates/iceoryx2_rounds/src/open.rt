@@ -7,10 +7,10 @@ ghost use Rattle.iceoryx2_rounds.specs.Refusals.{of_opening, of_tag_opening};
 
 use crate::give_back::give_back_tag;
 use crate::look::{Outcome, look};
-use crate::pattern::{OpenRefusal, Pattern};
-use crate::port_factory::Registration;
 use iceoryx2_access::storage::{OpenSegmentError, Storage, Tag, TagError};
-use iceoryx2_data::description::ServiceHash;
+use iceoryx2_pattern::pattern::{OpenRefusal, Pattern};
+use iceoryx2_port_factory::port_factory::Registration;
+use iceoryx2_values::description::ServiceHash;
 
 /// How often an open tries again after a round that failed.
 pub const RETRY_LIMIT: u64 = 5;

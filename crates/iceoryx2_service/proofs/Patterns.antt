@@ -1,8 +1,8 @@
 -- What the builder calls of all patterns have in common.
 use Rattle.std.proofs.Common.{ℕ, ◌<◌, List}
-use Rattle.iceoryx2_data.specs.declared.config.Config.{Config}
-use Rattle.iceoryx2_data.specs.Description.{max_nodes_of}
-use Rattle.iceoryx2_data.specs.Span.{Span}
+use Rattle.iceoryx2_values.specs.declared.config.Config.{Config}
+use Rattle.iceoryx2_values.specs.Description.{max_nodes_of}
+use Rattle.iceoryx2_values.specs.Span.{Span}
 use Rattle.iceoryx2_builder.specs.Request.{EventRequest, fresh_request}
 use Rattle.iceoryx2_builder.specs.Event.{event_adjusted}
 use Rattle.iceoryx2_calls.specs.QuietCalls.{IsRegular}

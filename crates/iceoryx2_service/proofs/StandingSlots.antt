@@ -1,9 +1,9 @@
 -- The factories of a session's slots stand, over any table whose world agrees.
 use Rattle.std.proofs.Common.{◌≡◌, ◌≢◌, ℕ, ◌<◌, ◌≤◌, List, Option, Some, None, Result, Ok, Err, inl, inr, replicate, refl, sym, ap, subst, ◌∙◌, arith}
 use Rattle.std.specs.Prelude.{slice_set, IfOk}
-use Rattle.iceoryx2_data.specs.declared.description.ServiceHash.{ServiceHash}
-use Rattle.iceoryx2_data.specs.declared.time.ClockFault.{ClockFault}
-use Rattle.iceoryx2_data.specs.Span.{Span}
+use Rattle.iceoryx2_values.specs.declared.description.ServiceHash.{ServiceHash}
+use Rattle.iceoryx2_values.specs.declared.time.ClockFault.{ClockFault}
+use Rattle.iceoryx2_values.specs.Span.{Span}
 use Rattle.iceoryx2_world.specs.World.{World}
 use Rattle.iceoryx2_world.specs.Access.{IsOwnPart}
 use Rattle.iceoryx2_world.specs.Across.{Agrees}
@@ -16,7 +16,7 @@ use Rattle.iceoryx2_world.specs.Tables.{TableState, IsTableAccess}
 use Rattle.iceoryx2_world.proofs.Tables.{run_of_worlds}
 use Rattle.iceoryx2_world.specs.Standing.{Stands, ticket_for}
 use Rattle.iceoryx2_world.proofs.agreement.Accesses.{with_refusals}
-use Rattle.iceoryx2_rounds.specs.Meaning.{Meaning}
+use Rattle.iceoryx2_pattern.specs.Meaning.{Meaning}
 use Rattle.iceoryx2_rounds.specs.Creates.{IsCreateWord}
 use Rattle.iceoryx2_rounds.specs.Opens.{IsOpenWord}
 use Rattle.iceoryx2_calls.specs.Calls.{Throughout}

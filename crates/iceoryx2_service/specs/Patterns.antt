@@ -1,6 +1,6 @@
 -- Which builder a command calls: the one place where the settings choose the pattern.
 use Rattle.std.specs.Prelude.{ℕ, List}
-use Rattle.iceoryx2_data.specs.declared.config.Config.{Config}
+use Rattle.iceoryx2_values.specs.declared.config.Config.{Config}
 use Rattle.iceoryx2_builder.specs.Request.{fresh_request}
 use Rattle.iceoryx2_service.specs.declared.command.Settings.{Settings}
 use Rattle.iceoryx2_service.specs.declared.command.Settings.TheVariants as settings

@@ -1,15 +1,15 @@
 -- What a command makes of a session.
 use Rattle.std.specs.Prelude.{◌≡◌, ◌≤◌, ℕ, List, Option, Some, None, Result, Ok, Err, slice_get, slice_set}
-use Rattle.iceoryx2_data.specs.declared.config.Config.{Config}
-use Rattle.iceoryx2_data.specs.declared.time.ClockFault.{ClockFault}
-use Rattle.iceoryx2_data.specs.Span.{Span}
+use Rattle.iceoryx2_values.specs.declared.config.Config.{Config}
+use Rattle.iceoryx2_values.specs.declared.time.ClockFault.{ClockFault}
+use Rattle.iceoryx2_values.specs.Span.{Span}
 use Rattle.iceoryx2_world.specs.Tables.{TableState, IsTableAccess}
 use Rattle.iceoryx2_access.specs.Run.{Run, Joins}
 use Rattle.iceoryx2_errors.specs.declared.error.CloseError.{CloseError}
 use Rattle.iceoryx2_access.specs.Factory.{Factory}
 use Rattle.iceoryx2_rounds.specs.Creates.{IsCreateWord}
 use Rattle.iceoryx2_rounds.specs.Opens.{IsOpenWord}
-use Rattle.iceoryx2_rounds.specs.Closes.{IsCloseWord}
+use Rattle.iceoryx2_port_factory.specs.Closes.{IsCloseWord}
 use Rattle.iceoryx2_service.specs.declared.command.Call.{Call}
 use Rattle.iceoryx2_service.specs.declared.command.How.{How}
 use Rattle.iceoryx2_service.specs.declared.command.How.TheVariants as how

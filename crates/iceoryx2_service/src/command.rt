@@ -1,9 +1,9 @@
 //! What a session is told, and what it answers.
 
 pub use iceoryx2_builder::builder::event::EventSetting;
-use iceoryx2_data::description::ServiceName;
-use iceoryx2_data::time::{ClockFault, Time};
-use iceoryx2_rounds::error::{EventCreateError, EventOpenError};
+use iceoryx2_errors::error::{EventCreateError, EventOpenError};
+use iceoryx2_values::description::ServiceName;
+use iceoryx2_values::time::{ClockFault, Time};
 
 /// How a service is wanted.
 #[derive(Clone, Copy, Debug, PartialEq, Eq)]

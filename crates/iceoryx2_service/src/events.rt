@@ -7,9 +7,9 @@ ghost use Rattle.iceoryx2_service.specs.Sessions.{Builds};
 use crate::command::{EventSetting, How, Refusal};
 use crate::open_service::OpenService;
 use iceoryx2_builder::builder::event::Builder;
-use iceoryx2_data::time::{ClockFault, Time};
 use iceoryx2_storage::local::Local;
 use iceoryx2_storage::table::Table;
+use iceoryx2_values::time::{ClockFault, Time};
 
 /// The builder after each setter, in order.
 #[tactic(auto, using(crate::proofs::Setters::with_settings_push), unfolding(crate::specs::Events::with_settings))]

@@ -13,4 +13,4 @@ pub use iceoryx2_access::storage;
 pub use iceoryx2_builder::builder;
 pub use iceoryx2_calls::{laws, quiet_laws};
 pub use iceoryx2_data::bytes;
-pub use iceoryx2_rounds::port_factory;
+pub use iceoryx2_port_factory::port_factory;

@@ -3,7 +3,7 @@
 ghost use Rattle.std.specs.Prelude.{◌≡◌};
 ghost use Rattle.iceoryx2_service.specs.Sessions.{ClosesFactory};
 
-use iceoryx2_rounds::port_factory::{CloseError, Registration, event};
+use iceoryx2_port_factory::port_factory::{CloseError, Registration, event};
 use iceoryx2_storage::local::Local;
 use iceoryx2_storage::table::Table;
 use std::marker::Model;

@@ -10,9 +10,9 @@ use crate::events;
 use crate::open_service::OpenService;
 use crate::slots::{SLOTS, Slots};
 use iceoryx2_builder::builder::Node;
-use iceoryx2_data::config::Config;
 use iceoryx2_storage::local::Local;
 use iceoryx2_storage::table::Table;
+use iceoryx2_values::config::Config;
 
 /// A table, and 64 slots for the factories that commands open over it. It has to be spent by
 /// `finish`.
@@ -53,7 +53,7 @@ fn close_slot(slots: &mut Slots, slot: usize, table: &mut Table)
 }
 
 impl Session {
-    ghost use Rattle.iceoryx2_data.specs.declared.description.ServiceHash.{ServiceHash};
+    ghost use Rattle.iceoryx2_values.specs.declared.description.ServiceHash.{ServiceHash};
     ghost use Rattle.iceoryx2_world.specs.Across.{Agrees};
     ghost use Rattle.iceoryx2_world.specs.World.{empty_world};
     ghost use Rattle.iceoryx2_service.specs.SessionStates.{state_of};

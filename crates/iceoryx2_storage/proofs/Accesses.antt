@@ -2,8 +2,8 @@
 use Rattle.std.proofs.Common.{◌≡◌, ℕ, ◌+◌, Bool, true, false, Option, Some, None, inl, inr, refl, sym, ap, subst, ◌∙◌}
 use Rattle.std.specs.Prelude.{Result, Ok, Err, is_some, nat_lt, ◌&&◌, ◌==◌, if◌then◌else◌}
 use Rattle.std.specs.FinMap as map
-use Rattle.iceoryx2_data.specs.declared.description.ServiceHash.{ServiceHash}
-use Rattle.iceoryx2_data.specs.Description.{Description}
+use Rattle.iceoryx2_values.specs.declared.description.ServiceHash.{ServiceHash}
+use Rattle.iceoryx2_values.specs.Description.{Description}
 use Rattle.iceoryx2_world.specs.Sets as set
 use Rattle.iceoryx2_world.specs.declared.world.Row.{Row}
 use Rattle.iceoryx2_world.specs.declared.world.Participant.TheVariants.{Node}
@@ -19,8 +19,8 @@ use Rattle.iceoryx2_world.specs.Steps.{Spot, spot_after, to_spot, row_for}
 use Rattle.iceoryx2_access.specs.Letter.{Letter, caller_of, service_of}
 use Rattle.iceoryx2_access.specs.declared.storage.OpenSegmentError.{OpenSegmentError}
 use Rattle.iceoryx2_world.specs.Access.{Seat, Change, nothing, spot_becomes_with, with_ticket, opening_of, read_change, publishing_of, has_made, has_lock, make_of, spot_becomes, or_refused, IsSeatAnswer, IsOwnPart, IsAnswer, IsSureAnswer, seat, write}
-use Rattle.iceoryx2_storage.proofs.Views.{both_true}
-use Rattle.iceoryx2_storage.specs.Book.{Book, TakesStep, step_at, world_with, segment_fits}
+use Rattle.iceoryx2_book.proofs.Views.{both_true}
+use Rattle.iceoryx2_book.specs.Book.{Book, TakesStep, step_at, world_with, segment_fits}
 
 -- what was shown of the fields, of the value
 pub part : {a w v : World} (l : Letter) (c : Change) → a ≡ w → IsSeatAnswer (caller_of l) (service_of l) (seat a (caller_of l) (service_of l)) l c → v ≡ write a (caller_of l) (service_of l) c → IsOwnPart w l v

@@ -5,9 +5,6 @@ ghost use Rattle.iceoryx2_world.specs.World.{tag_of, empty_world, ticket_count};
 ghost use Rattle.iceoryx2_world.specs.Across.{Agrees};
 ghost use Rattle.iceoryx2_world.specs.Listing.{Lists};
 
-mod merge;
-mod segments;
-mod services;
 mod stored;
 
 use self::listing::Entry;
@@ -16,7 +13,7 @@ use crate::storage::{
     Existence, FetchError, LockError, MakeSegmentError, OpenSegmentError, PublishError, Release,
     ReleaseError, RemoveError, Storage, Tag, TagError,
 };
-use iceoryx2_data::description::{ServiceHash, StaticConfig};
+use iceoryx2_values::description::{ServiceHash, StaticConfig};
 pub use iceoryx2_world::{listing, world};
 use std::alloc::{AllocError, Global};
 use std::marker::Model;

@@ -1,8 +1,8 @@
 //! What is true of every world of a table, whatever its nodes do and whatever steps peers take.
 
 ghost use Rattle.std.specs.Prelude.{◌≡◌, ◌≢◌, ℕ, ◌+◌, ◌≤◌, List, [], ◌∷◌, ◌++◌, Option, Some, None, Result, Ok, Err};
-ghost use Rattle.iceoryx2_data.specs.declared.description.ServiceHash.{ServiceHash};
-ghost use Rattle.iceoryx2_data.specs.Description.{Description};
+ghost use Rattle.iceoryx2_values.specs.declared.description.ServiceHash.{ServiceHash};
+ghost use Rattle.iceoryx2_values.specs.Description.{Description};
 ghost use Rattle.iceoryx2_data.specs.Form.{IsForm};
 ghost use Rattle.iceoryx2_world.specs.declared.world.Participant.{Participant};
 ghost use Rattle.iceoryx2_world.specs.declared.world.Participant.TheVariants.{Node, Peer};

@@ -1,12 +1,12 @@
 //! Commands of a session.
 
 use crate::support::*;
-use iceoryx2_data::config::Config;
-use iceoryx2_data::time::{ClockFault, Duration, Time};
-use iceoryx2_rounds::error::{EventCreateError, EventOpenError};
+use iceoryx2_errors::error::{EventCreateError, EventOpenError};
 use iceoryx2_service::command::{Call, Command, EventSetting, How, Refusal, Reply, Settings};
 use iceoryx2_service::session::Session;
 use iceoryx2_storage::table::Table;
+use iceoryx2_values::config::Config;
+use iceoryx2_values::time::{ClockFault, Duration, Time};
 use std::alloc::Global;
 use std::process::Abort;
 

@@ -4,15 +4,15 @@
 use iceoryx2_access::storage::{ServiceNameHasher, Sha1Hasher};
 use iceoryx2_builder::builder::Node;
 use iceoryx2_builder::builder::event::Builder;
-use iceoryx2_data::config::Config;
-use iceoryx2_data::description::{ServiceHash, ServiceName};
-use iceoryx2_data::event::StaticConfig;
-use iceoryx2_data::time::{ClockFault, Time};
-use iceoryx2_rounds::error::{EventCreateError, EventOpenError};
-use iceoryx2_rounds::port_factory::event::PortFactory;
+use iceoryx2_errors::error::{EventCreateError, EventOpenError};
+use iceoryx2_port_factory::port_factory::event::PortFactory;
 use iceoryx2_storage::local::Local;
 use iceoryx2_storage::table::Table;
 use iceoryx2_storage::table::listing::Entry;
+use iceoryx2_values::config::Config;
+use iceoryx2_values::description::{ServiceHash, ServiceName};
+use iceoryx2_values::event::StaticConfig;
+use iceoryx2_values::time::{ClockFault, Time};
 use std::alloc::Global;
 use std::process::Abort;
 

@@ -4,10 +4,10 @@ use iceoryx2_access::storage::{
     Existence, FetchError, LockError, MakeSegmentError, OpenSegmentError, PublishError, Release,
     ReleaseError, RemoveError, Service, Storage, Tag, TagError,
 };
-use iceoryx2_data::description::{MessagingPattern, ServiceHash, ServiceName, StaticConfig};
 use iceoryx2_data::{config, event};
 use iceoryx2_storage::local::Local;
 use iceoryx2_storage::table::Table;
+use iceoryx2_values::description::{MessagingPattern, ServiceHash, ServiceName, StaticConfig};
 use std::alloc::Global;
 use std::test::Fail;
 

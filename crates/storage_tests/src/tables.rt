@@ -5,9 +5,9 @@ use iceoryx2_access::storage::{
     Existence, FetchError, LockError, MakeSegmentError, OpenSegmentError, PublishError, Release,
     ReleaseError, RemoveError, Storage, Tag,
 };
-use iceoryx2_data::description::ServiceHash;
 use iceoryx2_storage::table::Table;
 use iceoryx2_storage::table::listing::{Entry, ListedRow, ListedSegment};
+use iceoryx2_values::description::ServiceHash;
 use std::alloc::Global;
 use std::test::Fail;
 

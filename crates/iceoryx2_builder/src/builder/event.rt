@@ -14,13 +14,13 @@ use crate::builder::BuilderWithServiceType;
 use crate::builder::event::asked::Asked;
 pub use crate::builder::event::setting::EventSetting;
 use iceoryx2_access::storage::Service;
-use iceoryx2_data::config;
-pub use iceoryx2_data::event::EventId;
-use iceoryx2_data::time::{ClockFault, Time};
 pub use iceoryx2_errors::error::{EventCreateError, EventOpenError};
+use iceoryx2_port_factory::port_factory::event::PortFactory;
 use iceoryx2_rounds::create::create;
 use iceoryx2_rounds::open::open;
-use iceoryx2_rounds::port_factory::event::PortFactory;
+use iceoryx2_values::config;
+pub use iceoryx2_values::event::EventId;
+use iceoryx2_values::time::{ClockFault, Time};
 use std::marker::Model;
 
 /// The letter that stands before a name in the hash of a service of events.

@@ -1,7 +1,7 @@
 -- A close of a factory that stands.
 use Rattle.std.proofs.Common.{◌≡◌, ◌≢◌, ℕ, inl, inr, List, None, Result, Ok, Err, refl, sym, ap, subst, ◌∙◌}
 use Rattle.std.specs.FinMap as map
-use Rattle.iceoryx2_data.specs.declared.description.ServiceHash.{ServiceHash}
+use Rattle.iceoryx2_values.specs.declared.description.ServiceHash.{ServiceHash}
 use Rattle.iceoryx2_world.specs.declared.world.Participant.TheVariants.{Node}
 use Rattle.iceoryx2_world.specs.declared.world.Phase.TheVariants as at
 use Rattle.iceoryx2_access.specs.declared.storage.RemoveError.{RemoveError}
@@ -25,7 +25,7 @@ use Rattle.iceoryx2_world.proofs.agreement.Closing.{released_last, tag_removed_p
 use Rattle.iceoryx2_errors.specs.declared.error.CloseError.{CloseError}
 use Rattle.iceoryx2_errors.specs.declared.error.CloseError.TheVariants as closing
 use Rattle.iceoryx2_access.specs.Factory.{Factory}
-use Rattle.iceoryx2_rounds.specs.Closes.{IsCloseWord, first_refused, not_here, still_counted, left, last as last_left}
+use Rattle.iceoryx2_port_factory.specs.Closes.{IsCloseWord, first_refused, not_here, still_counted, left, last as last_left}
 
 -- removals, which change no ticket
 abbrev IsRemoval : Letter → Type 0

@@ -1,7 +1,7 @@
 -- A create that answers Ok.
 use Rattle.std.proofs.Common.{◌≡◌, ℕ, ◌≤◌, Bool, List, Ok, refl, arith}
-use Rattle.iceoryx2_data.specs.declared.description.ServiceHash.{ServiceHash}
-use Rattle.iceoryx2_data.specs.Description.{Description}
+use Rattle.iceoryx2_values.specs.declared.description.ServiceHash.{ServiceHash}
+use Rattle.iceoryx2_values.specs.Description.{Description}
 use Rattle.iceoryx2_world.specs.World.{World}
 use Rattle.iceoryx2_access.specs.declared.storage.Tag.{Tag}
 use Rattle.iceoryx2_access.specs.Letter.{Letter}
@@ -12,7 +12,7 @@ use Rattle.iceoryx2_world.specs.Standing.{Stands}
 use Rattle.iceoryx2_access.proofs.Run.{split}
 use Rattle.iceoryx2_world.proofs.agreement.Accesses.{run_keeps}
 use Rattle.iceoryx2_world.proofs.agreement.Stands.{created_stands}
-use Rattle.iceoryx2_rounds.specs.Meaning.{Meaning}
+use Rattle.iceoryx2_pattern.specs.Meaning.{Meaning}
 use Rattle.iceoryx2_access.specs.Factory.{Factory}
 use Rattle.iceoryx2_rounds.specs.Creates.{IsServiceWord, IsCreating, made, published}
 

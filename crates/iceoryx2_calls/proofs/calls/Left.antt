@@ -3,7 +3,7 @@ use Rattle.std.proofs.Common.{◌≡◌, ℕ, ◌<◌, Bool, true, false, cond, 
 use Rattle.std.specs.Prelude.{is_some}
 use Rattle.std.specs.Ordering.{eq_by_cmp}
 use Rattle.std.specs.FinMap as map
-use Rattle.iceoryx2_data.specs.declared.description.ServiceHash.{ServiceHash}
+use Rattle.iceoryx2_values.specs.declared.description.ServiceHash.{ServiceHash}
 use Rattle.iceoryx2_access.specs.declared.storage.MakeSegmentError.TheVariants as make
 use Rattle.iceoryx2_access.specs.declared.storage.RemoveError.{RemoveError}
 use Rattle.iceoryx2_access.specs.declared.storage.Tag.TheVariants.{Made}
@@ -37,8 +37,8 @@ use Rattle.iceoryx2_world.proofs.agreement.Accesses.{peers_keep, own_keeps, acce
 use Rattle.iceoryx2_world.proofs.agreement.Granted.{peers_phase, tag_granted, segment_granted, description_granted, MayClear, MayEnd}
 use Rattle.iceoryx2_world.proofs.agreement.Spent.{world_segment, spent_own, spent_peers}
 use Rattle.iceoryx2_world.proofs.agreement.Stands.{own_row, own_phase, own_segment}
-use Rattle.iceoryx2_rounds.specs.Keeps as keeps
-use Rattle.iceoryx2_rounds.specs.Keeps.{KeptTag, NoTag, HasTag, KeptLock, NoLock, Locked, WithSegment, GivenBack, HasService, IsUnlocked, MakesNothing, Keeps, GivesAllBack}
+use Rattle.iceoryx2_words.specs.Keeps as keeps
+use Rattle.iceoryx2_words.specs.Keeps.{KeptTag, NoTag, HasTag, KeptLock, NoLock, Locked, WithSegment, GivenBack, HasService, IsUnlocked, MakesNothing, Keeps, GivesAllBack}
 use Rattle.iceoryx2_calls.specs.Leaves.{IsGranted, HasAtMostRead, LacksRow, LacksSegment, NodeHasRead, Leaves, LeavesOfLock, LeavesNothing, SpendsNumber, tags_after}
 use Rattle.iceoryx2_calls.proofs.calls.Plain.{IsPlain, Untouched, plain_untouched, read_both, step_tags, row_stays_away}
 

@@ -1,6 +1,6 @@
 -- An open that answers Ok.
 use Rattle.std.proofs.Common.{◌≡◌, ℕ, ◌≤◌, ◌∷◌, [], List, Ok, None, refl, arith}
-use Rattle.iceoryx2_data.specs.declared.description.ServiceHash.{ServiceHash}
+use Rattle.iceoryx2_values.specs.declared.description.ServiceHash.{ServiceHash}
 use Rattle.iceoryx2_world.specs.World.{World}
 use Rattle.iceoryx2_access.specs.Letter.{Letter}
 use Rattle.iceoryx2_access.specs.Letter as letter
@@ -11,9 +11,9 @@ use Rattle.iceoryx2_world.specs.Standing.{Stands}
 use Rattle.iceoryx2_access.proofs.Run.{split, head}
 use Rattle.iceoryx2_world.proofs.agreement.Accesses.{run_keeps, faulty_keeps}
 use Rattle.iceoryx2_world.proofs.agreement.Stands.{found_stands}
-use Rattle.iceoryx2_rounds.specs.Meaning.{Meaning}
+use Rattle.iceoryx2_pattern.specs.Meaning.{Meaning}
 use Rattle.iceoryx2_access.specs.Factory.{Factory}
-use Rattle.iceoryx2_rounds.specs.Verdict.{verdict}
+use Rattle.iceoryx2_pattern.specs.Verdict.{verdict}
 use Rattle.iceoryx2_rounds.specs.Looks.{fetched, fits}
 use Rattle.iceoryx2_rounds.specs.Opens.{ready, IsLastRound, opened, IsOpenWord, ended}
 

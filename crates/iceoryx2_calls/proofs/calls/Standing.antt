@@ -1,6 +1,6 @@
 -- What a standing factory carries.
 use Rattle.std.proofs.Common.{◌≡◌, Some, refl, sym, ap, subst, ◌∙◌}
-use Rattle.iceoryx2_data.specs.Description.{Description}
+use Rattle.iceoryx2_values.specs.Description.{Description}
 use Rattle.iceoryx2_data.specs.Form as form
 use Rattle.iceoryx2_data.proofs.Fields.{one_description}
 use Rattle.iceoryx2_world.specs.declared.world.Row.TheVariants as row

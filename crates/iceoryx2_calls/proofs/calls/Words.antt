@@ -1,7 +1,7 @@
 -- What the accesses of a call have in common.
 use Rattle.std.proofs.Common.{◌≡◌, ◌≢◌, ℕ, zero, suc, Bool, List, [], ◌∷◌, Result, Ok, Err, refl, sym, arith}
-use Rattle.iceoryx2_data.specs.declared.description.ServiceHash.{ServiceHash}
-use Rattle.iceoryx2_data.specs.Description.{Description}
+use Rattle.iceoryx2_values.specs.declared.description.ServiceHash.{ServiceHash}
+use Rattle.iceoryx2_values.specs.Description.{Description}
 use Rattle.iceoryx2_world.specs.World.{World}
 use Rattle.iceoryx2_access.specs.Letter.{Letter}
 use Rattle.iceoryx2_access.specs.Letter as letter
@@ -16,11 +16,11 @@ use Rattle.iceoryx2_access.specs.declared.storage.Tag.{Tag}
 use Rattle.iceoryx2_world.proofs.agreement.Accesses.{later_refl, later_trans, faulty_keeps}
 use Rattle.iceoryx2_world.proofs.agreement.Stands.{faulty_stands, each_append, each_map}
 use Rattle.iceoryx2_rounds.specs.declared.look.Outcome.{Outcome}
-use Rattle.iceoryx2_rounds.specs.declared.pattern.CreateRefusal.{CreateRefusal}
+use Rattle.iceoryx2_pattern.specs.declared.pattern.CreateRefusal.{CreateRefusal}
 use Rattle.iceoryx2_errors.specs.declared.error.CloseError.{CloseError}
 use Rattle.iceoryx2_errors.specs.declared.error.CloseError.TheVariants.{NotHere}
-use Rattle.iceoryx2_rounds.specs.Counts.{IsWithin}
-use Rattle.iceoryx2_rounds.specs.Meaning.{Meaning}
+use Rattle.iceoryx2_words.specs.Counts.{IsWithin}
+use Rattle.iceoryx2_pattern.specs.Meaning.{Meaning}
 use Rattle.iceoryx2_rounds.specs.Looks.{IsLookWord, absent, broken, fetched}
 use Rattle.iceoryx2_rounds.specs.GivesBack.{Thing, GivesBack, nothing_left, segment_back, lock_back, tag_back}
 use Rattle.iceoryx2_rounds.specs.Segments.{cleared, IsSegmentWord, made, not_made, not_removed, still_there}
@@ -28,8 +28,8 @@ use Rattle.iceoryx2_rounds.specs.Creates as creates
 use Rattle.iceoryx2_rounds.specs.Creates.{IsEntryWord, IsServiceWord, IsCreating, forbidden, not_entered, clock_fault, not_locked, no_segment, not_published, published, counted, no_copies, entered}
 use Rattle.iceoryx2_rounds.specs.Opens as opens
 use Rattle.iceoryx2_rounds.specs.Opens.{IsReady, ready, IsFailedRound, failed, IsLastRound, AreFailedRounds, no_round, one_more, IsOpenWord, ended, all_failed}
-use Rattle.iceoryx2_rounds.specs.Closes.{IsCloseWord, not_here, still_counted, left, last}
-use Rattle.iceoryx2_rounds.proofs.Carried.{removed_here}
+use Rattle.iceoryx2_port_factory.specs.Closes.{IsCloseWord, not_here, still_counted, left, last}
+use Rattle.iceoryx2_words.proofs.Carried.{removed_here}
 use Rattle.iceoryx2_calls.specs.Calls.{Throughout}
 
 -- what each access keeps is true throughout

@@ -5,8 +5,8 @@ use mathlib.Core.Bool.{true≢false}
 use Rattle.std.specs.FinMap as map
 use Rattle.std.specs.Ordering.{eq_by_cmp}
 use Rattle.std.proofs.lemmas.Bool.Decides.{nat_tests}
-use Rattle.iceoryx2_data.specs.declared.description.ServiceHash.{ServiceHash}
-use Rattle.iceoryx2_data.specs.Description.{Description, IsDescription, max_nodes_of}
+use Rattle.iceoryx2_values.specs.declared.description.ServiceHash.{ServiceHash}
+use Rattle.iceoryx2_values.specs.Description.{Description, IsDescription, max_nodes_of}
 use Rattle.iceoryx2_data.specs.Form as form
 use Rattle.iceoryx2_world.specs.declared.world.Participant.TheVariants.{Node}
 use Rattle.iceoryx2_world.specs.declared.world.Phase.{Phase}
@@ -34,9 +34,9 @@ use Rattle.iceoryx2_world.specs.Access.{Seat, Change, seat_after, or_refused, Is
 use Rattle.iceoryx2_access.proofs.Run.{head, split, last}
 use Rattle.iceoryx2_rounds.specs.declared.look.Outcome.{Outcome}
 use Rattle.iceoryx2_rounds.specs.declared.look.Outcome.TheVariants as outcome
-use Rattle.iceoryx2_rounds.specs.declared.pattern.CreateRefusal.{CreateRefusal}
-use Rattle.iceoryx2_rounds.specs.declared.pattern.CreateRefusal.TheVariants as refusal
-use Rattle.iceoryx2_rounds.specs.Meaning.{Meaning}
+use Rattle.iceoryx2_pattern.specs.declared.pattern.CreateRefusal.{CreateRefusal}
+use Rattle.iceoryx2_pattern.specs.declared.pattern.CreateRefusal.TheVariants as refusal
+use Rattle.iceoryx2_pattern.specs.Meaning.{Meaning}
 use Rattle.iceoryx2_access.specs.Factory.{Factory}
 use Rattle.iceoryx2_rounds.specs.Refusals.{of_tag, of_lock, of_make, of_publish}
 use Rattle.iceoryx2_rounds.specs.Looks.{IsLookWord}

@@ -3,10 +3,10 @@ use Rattle.std.proofs.Common.{◌≡◌, ℕ, ◌<◌, true, List, Some, None, R
 use Rattle.std.specs.Prelude.{nat_lt, IfOk}
 use Rattle.std.specs.FinMap as map
 use Rattle.std.proofs.lemmas.Bool.Decides.{nat_tests}
-use Rattle.iceoryx2_data.specs.declared.description.ServiceHash.{ServiceHash}
-use Rattle.iceoryx2_data.specs.declared.time.ClockFault.{ClockFault}
-use Rattle.iceoryx2_data.specs.Description.{max_nodes_of}
-use Rattle.iceoryx2_data.specs.Span.{Span}
+use Rattle.iceoryx2_values.specs.declared.description.ServiceHash.{ServiceHash}
+use Rattle.iceoryx2_values.specs.declared.time.ClockFault.{ClockFault}
+use Rattle.iceoryx2_values.specs.Description.{max_nodes_of}
+use Rattle.iceoryx2_values.specs.Span.{Span}
 use Rattle.iceoryx2_world.specs.Orders.{hash_cmp, hash_total, place_cmp, tag_cmp}
 use Rattle.iceoryx2_world.specs.Sets as set
 use Rattle.iceoryx2_world.specs.World.{World, or_idle, begins, empty_world, ticket_of}
@@ -20,8 +20,8 @@ use Rattle.iceoryx2_world.specs.Standing.{ticket_for}
 use Rattle.iceoryx2_world.proofs.agreement.Whole.{own_hash}
 use Rattle.iceoryx2_world.proofs.agreement.Accesses.{own_keeps, later_refl, later_trans}
 use Rattle.iceoryx2_errors.specs.declared.error.CloseError.{CloseError}
-use Rattle.iceoryx2_rounds.specs.Closes.{IsCloseWord}
-use Rattle.iceoryx2_rounds.specs.Meaning.{Meaning}
+use Rattle.iceoryx2_port_factory.specs.Closes.{IsCloseWord}
+use Rattle.iceoryx2_pattern.specs.Meaning.{Meaning}
 use Rattle.iceoryx2_access.specs.Factory.{Factory}
 use Rattle.iceoryx2_rounds.specs.Creates.{IsCreateWord, time_of, description_of}
 use Rattle.iceoryx2_rounds.specs.Opens.{IsOpenWord}

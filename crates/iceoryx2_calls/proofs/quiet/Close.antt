@@ -4,8 +4,8 @@ use Rattle.std.specs.Prelude.{nat_lt, is_some}
 use Rattle.std.specs.FinMap as map
 use Rattle.std.specs.Ordering.{nat_cmp}
 use Rattle.std.proofs.lemmas.Bool.Decides.{nat_tests}
-use Rattle.iceoryx2_data.specs.declared.description.ServiceHash.{ServiceHash}
-use Rattle.iceoryx2_data.specs.Description.{max_nodes_of}
+use Rattle.iceoryx2_values.specs.declared.description.ServiceHash.{ServiceHash}
+use Rattle.iceoryx2_values.specs.Description.{max_nodes_of}
 use Rattle.iceoryx2_data.specs.Form as form
 use Rattle.iceoryx2_world.specs.Sets as set
 use Rattle.iceoryx2_world.specs.declared.world.Participant.{Participant}
@@ -23,7 +23,7 @@ use Rattle.iceoryx2_world.proofs.agreement.Moved.{same_self}
 use Rattle.iceoryx2_world.proofs.agreement.Whole.{own_hash, get-set_to}
 use Rattle.iceoryx2_errors.specs.declared.error.CloseError.{CloseError}
 use Rattle.iceoryx2_access.specs.Factory.{Factory}
-use Rattle.iceoryx2_rounds.specs.Closes.{IsCloseWord}
+use Rattle.iceoryx2_port_factory.specs.Closes.{IsCloseWord}
 use Rattle.iceoryx2_calls.specs.Quiet.{NodeCounts, QuietService, Quiet, IsThere, ShowsService, Shows, CountIs, service_at, times_counted, is_counted}
 use Rattle.iceoryx2_calls.specs.QuietCalls.{Closes, closed, fewer_counts, with_counts, closed_by, with_service}
 use Rattle.iceoryx2_calls.proofs.quiet.Seats.{Apart, AtSeat}

@@ -2,10 +2,10 @@
 use Rattle.std.proofs.Common.{◌≡◌, ℕ, ◌<◌, true, false, cond, Some, refl, arith}
 use Rattle.std.specs.Prelude.{nat_eq}
 use Rattle.std.proofs.lemmas.Bool.Decides.{nat_tests}
-use Rattle.iceoryx2_data.specs.Description.{max_nodes_of}
-use Rattle.iceoryx2_data.specs.Span.{Span}
-use Rattle.iceoryx2_data.specs.declared.description.MessagingPattern.{MessagingPattern}
-use Rattle.iceoryx2_data.specs.declared.description.MessagingPattern.TheVariants as existing
+use Rattle.iceoryx2_values.specs.Description.{max_nodes_of}
+use Rattle.iceoryx2_values.specs.Span.{Span}
+use Rattle.iceoryx2_values.specs.declared.description.MessagingPattern.{MessagingPattern}
+use Rattle.iceoryx2_values.specs.declared.description.MessagingPattern.TheVariants as existing
 use Rattle.iceoryx2_errors.specs.declared.error.ServiceState.{ServiceState}
 use Rattle.iceoryx2_errors.specs.States.{create_error_of_state}
 use Rattle.iceoryx2_errors.specs.declared.error.EventCreateError.TheVariants as creating

@@ -1,13 +1,13 @@
 -- Every letter of a word is of its call's node and service.
 use Rattle.std.proofs.Common.{ℕ, zero, suc, Bool, List, Result, refl}
-use Rattle.iceoryx2_data.specs.declared.description.ServiceHash.{ServiceHash}
-use Rattle.iceoryx2_data.specs.Description.{Description}
+use Rattle.iceoryx2_values.specs.declared.description.ServiceHash.{ServiceHash}
+use Rattle.iceoryx2_values.specs.Description.{Description}
 use Rattle.iceoryx2_access.specs.declared.storage.Tag.{Tag}
 use Rattle.iceoryx2_access.specs.Letter.{Letter}
 use Rattle.iceoryx2_rounds.specs.declared.look.Outcome.{Outcome}
-use Rattle.iceoryx2_rounds.specs.declared.pattern.CreateRefusal.{CreateRefusal}
+use Rattle.iceoryx2_pattern.specs.declared.pattern.CreateRefusal.{CreateRefusal}
 use Rattle.iceoryx2_errors.specs.declared.error.CloseError.{CloseError}
-use Rattle.iceoryx2_rounds.specs.Meaning.{Meaning}
+use Rattle.iceoryx2_pattern.specs.Meaning.{Meaning}
 use Rattle.iceoryx2_access.specs.Factory.{Factory}
 use Rattle.iceoryx2_rounds.specs.Looks.{IsLookWord}
 use Rattle.iceoryx2_rounds.specs.Looks as look
@@ -19,8 +19,8 @@ use Rattle.iceoryx2_rounds.specs.Creates.{IsEntryWord, IsServiceWord, IsCreating
 use Rattle.iceoryx2_rounds.specs.Creates as create
 use Rattle.iceoryx2_rounds.specs.Opens.{IsReady, IsFailedRound, IsLastRound, AreFailedRounds, IsOpenWord}
 use Rattle.iceoryx2_rounds.specs.Opens as opening
-use Rattle.iceoryx2_rounds.specs.Closes.{IsCloseWord}
-use Rattle.iceoryx2_rounds.specs.Closes as closing
+use Rattle.iceoryx2_port_factory.specs.Closes.{IsCloseWord}
+use Rattle.iceoryx2_port_factory.specs.Closes as closing
 use Rattle.iceoryx2_calls.proofs.quiet.Seats.{AllHere, none, more, all_both}
 
 module _ {i : ℕ} {h : ServiceHash} where

@@ -3,7 +3,7 @@ use Rattle.std.proofs.Common.{◌≡◌, ℕ, ◌≤◌, ◌-◌, Bool, true, fa
 use Rattle.std.specs.Prelude.{nat_lt, ◌==◌}
 use Rattle.std.proofs.lemmas.Bool.Decides.{nat_tests}
 use Rattle.std.specs.FinMap as map
-use Rattle.iceoryx2_data.specs.declared.description.ServiceHash.{ServiceHash}
+use Rattle.iceoryx2_values.specs.declared.description.ServiceHash.{ServiceHash}
 use Rattle.iceoryx2_world.specs.Sets as set
 use Rattle.iceoryx2_world.specs.declared.world.Participant.TheVariants.{Node}
 use Rattle.iceoryx2_world.specs.declared.world.Phase.TheVariants as at
@@ -20,8 +20,8 @@ use Rattle.iceoryx2_world.specs.Access.{Seat, Change, seat_after, IsSureAnswer, 
 use Rattle.iceoryx2_access.proofs.Run.{head, last}
 use Rattle.iceoryx2_errors.specs.declared.error.CloseError.{CloseError}
 use Rattle.iceoryx2_access.specs.Factory.{Factory}
-use Rattle.iceoryx2_rounds.specs.Closes.{IsCloseWord, first_refused}
-use Rattle.iceoryx2_rounds.specs.Closes as close
+use Rattle.iceoryx2_port_factory.specs.Closes.{IsCloseWord, first_refused}
+use Rattle.iceoryx2_port_factory.specs.Closes as close
 use Rattle.iceoryx2_calls.proofs.quiet.Seats.{AtSeat}
 use Rattle.iceoryx2_calls.proofs.quiet.Absent.{at_seat, into, from}
 

@@ -3,8 +3,8 @@ use Rattle.std.proofs.Common.{◌≡◌, ℕ, ◌+◌, Bool, true, false, cond, 
 use Rattle.std.specs.Prelude.{nat_lt, is_some}
 use mathlib.Core.Bool.{true≢false}
 use Rattle.std.specs.FinMap as map
-use Rattle.iceoryx2_data.specs.declared.description.ServiceHash.{ServiceHash}
-use Rattle.iceoryx2_data.specs.Description.{Description, IsDescription}
+use Rattle.iceoryx2_values.specs.declared.description.ServiceHash.{ServiceHash}
+use Rattle.iceoryx2_values.specs.Description.{Description, IsDescription}
 use Rattle.iceoryx2_data.specs.Form as form
 use Rattle.iceoryx2_world.specs.Sets as set
 use Rattle.iceoryx2_world.specs.declared.world.Participant.TheVariants.{Node}
@@ -27,10 +27,10 @@ use Rattle.iceoryx2_world.specs.Access.{Seat, Change, seat_after, opening_of, Is
 use Rattle.iceoryx2_access.proofs.Run.{head, split, last}
 use Rattle.iceoryx2_rounds.specs.declared.look.Outcome.{Outcome}
 use Rattle.iceoryx2_rounds.specs.declared.look.Outcome.TheVariants as outcome
-use Rattle.iceoryx2_rounds.specs.declared.pattern.OpenRefusal.{OpenRefusal}
-use Rattle.iceoryx2_rounds.specs.declared.pattern.OpenRefusal.TheVariants as refusal
-use Rattle.iceoryx2_rounds.specs.Meaning.{Meaning}
-use Rattle.iceoryx2_rounds.specs.Verdict.{verdict}
+use Rattle.iceoryx2_pattern.specs.declared.pattern.OpenRefusal.{OpenRefusal}
+use Rattle.iceoryx2_pattern.specs.declared.pattern.OpenRefusal.TheVariants as refusal
+use Rattle.iceoryx2_pattern.specs.Meaning.{Meaning}
+use Rattle.iceoryx2_pattern.specs.Verdict.{verdict}
 use Rattle.iceoryx2_access.specs.Factory.{Factory}
 use Rattle.iceoryx2_rounds.specs.Refusals.{of_tag_opening, of_opening}
 use Rattle.iceoryx2_rounds.specs.Looks.{IsLookWord}

@@ -1,10 +1,10 @@
 -- A look at a service that stands, and create beside it.
 use Rattle.std.proofs.Common.{◌≡◌, ℕ, Bool, true, false, List, ◌++◌, Option, Some, None, Result, Ok, Err, inl, inr, refl, sym, ap, subst, ◌∙◌, arith}
-use Rattle.iceoryx2_data.specs.declared.description.ServiceHash.{ServiceHash}
-use Rattle.iceoryx2_data.specs.declared.time.ClockFault.{ClockFault}
-use Rattle.iceoryx2_data.specs.Description.{Description, IsDescription}
+use Rattle.iceoryx2_values.specs.declared.description.ServiceHash.{ServiceHash}
+use Rattle.iceoryx2_values.specs.declared.time.ClockFault.{ClockFault}
+use Rattle.iceoryx2_values.specs.Description.{Description, IsDescription}
 use Rattle.iceoryx2_data.specs.Form as form
-use Rattle.iceoryx2_data.specs.Span.{Span}
+use Rattle.iceoryx2_values.specs.Span.{Span}
 use Rattle.iceoryx2_data.proofs.Fields.{one_description}
 use Rattle.iceoryx2_world.specs.declared.world.Participant.TheVariants.{Node}
 use Rattle.iceoryx2_world.specs.declared.world.Phase.{Phase}
@@ -22,8 +22,8 @@ use Rattle.iceoryx2_access.proofs.Run.{head, split, last}
 use Rattle.iceoryx2_errors.specs.declared.error.ServiceState.TheVariants as state
 use Rattle.iceoryx2_rounds.specs.declared.look.Outcome.{Outcome}
 use Rattle.iceoryx2_rounds.specs.declared.look.Outcome.TheVariants as outcome
-use Rattle.iceoryx2_rounds.specs.declared.pattern.CreateRefusal.TheVariants as refusal
-use Rattle.iceoryx2_rounds.specs.Meaning.{Meaning}
+use Rattle.iceoryx2_pattern.specs.declared.pattern.CreateRefusal.TheVariants as refusal
+use Rattle.iceoryx2_pattern.specs.Meaning.{Meaning}
 use Rattle.iceoryx2_access.specs.Factory.{Factory}
 use Rattle.iceoryx2_rounds.specs.Looks.{LeadsTo, IsLookWord}
 use Rattle.iceoryx2_rounds.specs.Looks as look

@@ -4,18 +4,18 @@ ghost use Rattle.std.specs.Prelude.{◌≡◌, true, false, length, IfOk, MatchR
 ghost use Rattle.std.specs.Int.{w16, w32, w64};
 ghost use Rattle.std.specs.Str.{is_utf8};
 ghost use Rattle.iceoryx2_data.specs.declared.bytes.DecodeError.TheVariants.{Malformed};
-ghost use Rattle.iceoryx2_data.specs.Texts.{IsText};
+ghost use Rattle.iceoryx2_values.specs.Texts.{IsText};
 ghost use Rattle.iceoryx2_data.specs.Reading.{IsReadBy, number_at, bytes_at, literal_at, text_at, option_at, span_at};
 ghost use Rattle.iceoryx2_data.specs.Reading.{deadline_at, event_at, pattern_at, description_at, all_of};
 
 use super::{DecodeError, EVENT_BYTE, MAGIC, NO_ATTRIBUTES, VERSION};
-use crate::description::{
+use iceoryx2_values::description::{
     HASH_LENGTH, MAX_NAME_LENGTH, MIN_NAME_LENGTH, MessagingPattern, ServiceHash, ServiceName,
     StaticConfig,
 };
-use crate::event;
-use crate::event::{Deadline, EventId};
-use crate::time::{Duration, Time};
+use iceoryx2_values::event;
+use iceoryx2_values::event::{Deadline, EventId};
+use iceoryx2_values::time::{Duration, Time};
 use std::alloc::Global;
 
 fn u16_at(bytes: &[u8]) -> Result<(u16, &[u8]), DecodeError>
@@ -75,7 +75,7 @@ fn literal_of<'a>(literal: &[u8], bytes: &'a [u8]) -> Result<&'a [u8], DecodeErr
 }
 
 /// The bytes as a text, if they are UTF-8.
-#[tactic(auto, using(crate::proofs::Utf8::is_text, crate::proofs::Utf8::not_utf8))]
+#[tactic(auto, using(iceoryx2_values::proofs::Utf8::is_text, iceoryx2_values::proofs::Utf8::not_utf8))]
 fn utf8_of(bytes: &[u8]) -> Result<&str, DecodeError>
     ensures { MatchResult result
         (λ s. (s.now ≡ bytes.now) × (is_utf8 bytes.now ≡ true))

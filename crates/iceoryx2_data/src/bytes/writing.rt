@@ -1,14 +1,14 @@
 //! Writing the byte form, part by part, at the end of what was written.
 
 ghost use Rattle.std.specs.Prelude.{◌≡◌, ◌<◌, ◌^◌, ◌++◌, length, OnOk};
-ghost use Rattle.iceoryx2_data.specs.Description.{IsDescription};
+ghost use Rattle.iceoryx2_values.specs.Description.{IsDescription};
 ghost use Rattle.iceoryx2_data.specs.Form as form;
 
 use super::{EVENT_BYTE, MAGIC, NO_ATTRIBUTES, VERSION};
-use crate::description::{MessagingPattern, StaticConfig};
-use crate::event;
-use crate::event::{Deadline, EventId};
-use crate::time::{Duration, Time};
+use iceoryx2_values::description::{MessagingPattern, StaticConfig};
+use iceoryx2_values::event;
+use iceoryx2_values::event::{Deadline, EventId};
+use iceoryx2_values::time::{Duration, Time};
 use std::alloc::AllocError;
 
 fn put_number(out: &mut Vec<u8>, number: u64) -> Result<(), AllocError>

@@ -9,13 +9,13 @@ ghost use Rattle.iceoryx2_access.specs.Letter.{fetched};
 ghost use Rattle.iceoryx2_world.specs.Access.{IsOwnPart, has_lock, has_made as has_made_spec, is_ticket};
 
 use super::listing::Entry;
-use super::services::Services;
 use super::world::{Participant, Phase, Row, Ticket};
 use crate::storage::{
     Existence, FetchError, LockError, MakeSegmentError, OpenSegmentError, PublishError, Release,
     ReleaseError, RemoveError, Tag, TagError,
 };
-use iceoryx2_data::description::{ServiceHash, StaticConfig};
+use iceoryx2_book::services::Services;
+use iceoryx2_values::description::{ServiceHash, StaticConfig};
 use sorted_map::SortedVec;
 use std::alloc::{AllocError, Global};
 use std::marker::Model;
@@ -34,7 +34,7 @@ impl Model for StoredWorld {
     ghost use Rattle.iceoryx2_world.specs.Orders.{tag_cmp};
     ghost use Rattle.iceoryx2_world.specs.World.{World};
     ghost use Rattle.iceoryx2_world.specs.Codes.{coded_world};
-    ghost use Rattle.iceoryx2_storage.specs.Book.{world_with};
+    ghost use Rattle.iceoryx2_book.specs.Book.{world_with};
 
     ghost Value = { World };
 

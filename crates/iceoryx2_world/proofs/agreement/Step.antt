@@ -1,7 +1,7 @@
 -- Each step keeps what is true at its hash.
 use Rattle.std.proofs.Common.{◌≡◌, ℕ, ◌+◌, ◌-◌, ◌≤◌, List, Option, Some, None, refl, ap, ◌∙◌, arith}
 use Rattle.iceoryx2_world.specs.declared.world.Participant.{Participant}
-use Rattle.iceoryx2_data.specs.declared.description.ServiceHash.{ServiceHash}
+use Rattle.iceoryx2_values.specs.declared.description.ServiceHash.{ServiceHash}
 use Rattle.iceoryx2_world.specs.declared.world.Phase.{Phase}
 use Rattle.iceoryx2_world.specs.declared.world.Row.{Row}
 use Rattle.iceoryx2_world.specs.declared.world.Row.TheVariants as row

@@ -1,19 +1,19 @@
 //! What a builder of events asks, as the rounds see it.
 
 ghost use Rattle.std.specs.Prelude.{◌≡◌};
-ghost use Rattle.iceoryx2_rounds.specs.Verdict.{verdict, marked_clauses};
+ghost use Rattle.iceoryx2_pattern.specs.Verdict.{verdict, marked_clauses};
 ghost use Rattle.std.specs.Option.{option_map};
 ghost use Rattle.iceoryx2_builder.specs.Event.{setting_rows, at_least_one, created_deadline};
 ghost use Rattle.iceoryx2_builder.specs.Request.{fresh_asked, asked_with};
 
 use crate::builder::event::setting::EventSetting;
-use iceoryx2_data::config;
-use iceoryx2_data::description::{MessagingPattern, StaticConfig};
-use iceoryx2_data::event::{self, Deadline};
-use iceoryx2_data::time::Time;
-use iceoryx2_rounds::error::{EventCreateError, EventOpenError, ServiceState};
-use iceoryx2_rounds::pattern::{CreateRefusal, OpenRefusal, Pattern};
-use iceoryx2_rounds::verdict::need_at_least;
+use iceoryx2_errors::error::{EventCreateError, EventOpenError, ServiceState};
+use iceoryx2_pattern::pattern::{CreateRefusal, OpenRefusal, Pattern};
+use iceoryx2_pattern::verdict::need_at_least;
+use iceoryx2_values::config;
+use iceoryx2_values::description::{MessagingPattern, StaticConfig};
+use iceoryx2_values::event::{self, Deadline};
+use iceoryx2_values::time::Time;
 use std::alloc::AllocError;
 
 /// Which settings a builder of events requires.
@@ -112,7 +112,7 @@ fn deadline_at_creation(deadline: Option<Deadline>, now: Time) -> Option<Deadlin
 }
 
 /// Whether the existing settings offer what is marked.
-#[tactic(auto, using(iceoryx2_rounds::proofs::Verdicts::row_decides, iceoryx2_rounds::proofs::Verdicts::no_row))]
+#[tactic(auto, using(iceoryx2_pattern::proofs::Verdicts::row_decides, iceoryx2_pattern::proofs::Verdicts::no_row))]
 fn verify_settings(asked: &Asked, existing: &event::StaticConfig) -> Result<(), EventOpenError>
     ensures { result ≡ verdict (marked_clauses (setting_rows asked.now.settings asked.now.marks existing.now)) }
 {

@@ -1,13 +1,13 @@
 use Rattle.iceoryx2_world.proofs.agreement.Accesses.{with_refusals}
 use Rattle.iceoryx2_world.proofs.agreement.Stands.{older_ticket}
-use Rattle.iceoryx2_rounds.proofs.Counts.{create_within, open_within}
+use Rattle.iceoryx2_words.proofs.Counts.{create_within, open_within}
 use Rattle.iceoryx2_calls.proofs.calls.Words.{agrees_throughout, stands_throughout, create_letters, open_letters, all_spared, close_spares, not_here_means, close_within}
 use Rattle.iceoryx2_calls.proofs.calls.Created.{create_stands}
 use Rattle.iceoryx2_calls.proofs.calls.Opened.{open_stands}
 use Rattle.iceoryx2_calls.proofs.calls.Closed.{close_takes_out, close_ok, no_refusal}
 use Rattle.iceoryx2_calls.proofs.calls.Calm.{refused_create_calm, refused_open_calm, created_changes, opened_changes}
 use Rattle.iceoryx2_calls.proofs.calls.Standing.{stands_among, one_service}
-use Rattle.iceoryx2_rounds.proofs.Kept.{refused_create_keeps, refused_open_keeps}
+use Rattle.iceoryx2_words.proofs.Kept.{refused_create_keeps, refused_open_keeps}
 use Rattle.iceoryx2_calls.proofs.calls.Left.{only_tag, leaves_tag, gives_back, gives_all_back}
 use Rattle.iceoryx2_calls.proofs.laws.agreement.Goals as goal
 

@@ -11,7 +11,7 @@ use Rattle.iceoryx2_world.specs.Orders.{tag_cmp}
 use Rattle.iceoryx2_world.specs.Acts as act
 use Rattle.iceoryx2_world.specs.Access.{nothing, read_change, fetch_of}
 use Rattle.iceoryx2_world.specs.World.{Tickets}
-use Rattle.iceoryx2_storage.specs.Book.{Book, step_at, world_with}
+use Rattle.iceoryx2_book.specs.Book.{Book, step_at, world_with}
 use Rattle.iceoryx2_storage.proofs.Accesses.{part, spot_at, gives_refusal, gives_done, gives_starved, read_or_not}
 use Rattle.iceoryx2_storage.proofs.table.stored.StoredWorld.fetch.Goals as goal
 

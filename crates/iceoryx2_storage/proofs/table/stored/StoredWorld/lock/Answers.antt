@@ -10,7 +10,7 @@ use Rattle.iceoryx2_world.specs.Orders.{tag_cmp}
 use Rattle.iceoryx2_world.specs.Acts as act
 use Rattle.iceoryx2_world.specs.Access.{nothing, spot_becomes, or_refused, lock_of}
 use Rattle.iceoryx2_world.specs.World.{Tickets}
-use Rattle.iceoryx2_storage.specs.Book.{Book, MayTakeStep, world_with}
+use Rattle.iceoryx2_book.specs.Book.{Book, MayTakeStep, world_with}
 use Rattle.iceoryx2_storage.proofs.Accesses.{part, spot_at, gives_refusal, gives_done, gives_starved}
 use Rattle.iceoryx2_storage.proofs.table.stored.StoredWorld.lock.Goals as goal
 

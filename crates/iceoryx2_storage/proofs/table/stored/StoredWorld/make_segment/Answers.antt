@@ -12,8 +12,8 @@ use Rattle.iceoryx2_world.specs.Orders.{tag_cmp}
 use Rattle.iceoryx2_world.specs.Acts as act
 use Rattle.iceoryx2_world.specs.Access.{nothing, spot_becomes, has_lock, make_of}
 use Rattle.iceoryx2_world.specs.World.{Tickets}
-use Rattle.iceoryx2_storage.specs.declared.table.services.Position.{Position}
-use Rattle.iceoryx2_storage.specs.Book.{Book, MayTakeStep, world_with}
+use Rattle.iceoryx2_book.specs.declared.services.Position.{Position}
+use Rattle.iceoryx2_book.specs.Book.{Book, MayTakeStep, world_with}
 use Rattle.iceoryx2_storage.proofs.Accesses.{part, spot_at, gives_refusal, gives_done, gives_starved, make_refused, make_done}
 use Rattle.iceoryx2_storage.proofs.table.stored.StoredWorld.make_segment.Goals as goal
 

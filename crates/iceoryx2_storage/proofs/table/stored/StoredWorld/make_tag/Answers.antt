@@ -10,7 +10,7 @@ use Rattle.iceoryx2_world.specs.Sets as set
 use Rattle.iceoryx2_world.specs.Orders.{tag_cmp}
 use Rattle.iceoryx2_world.specs.Access.{nothing, tag_becomes, MakesTag}
 use Rattle.iceoryx2_world.specs.World.{Tickets}
-use Rattle.iceoryx2_storage.specs.Book.{Book, world_with}
+use Rattle.iceoryx2_book.specs.Book.{Book, world_with}
 use Rattle.iceoryx2_storage.proofs.Accesses.{part}
 use Rattle.iceoryx2_storage.proofs.table.stored.StoredWorld.make_tag.Goals as goal
 

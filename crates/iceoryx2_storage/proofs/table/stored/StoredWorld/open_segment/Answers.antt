@@ -15,9 +15,9 @@ use Rattle.iceoryx2_world.specs.Acts as act
 use Rattle.iceoryx2_world.specs.Steps.{Spot}
 use Rattle.iceoryx2_world.specs.Access.{nothing, spot_becomes_with, seat, with_ticket, opening_of, open_refusal}
 use Rattle.iceoryx2_world.specs.World.{Tickets}
-use Rattle.iceoryx2_storage.specs.declared.table.services.Position.{Position}
-use Rattle.iceoryx2_storage.specs.Book.{Book, MayTakeStep, step_at, world_with}
-use Rattle.iceoryx2_storage.proofs.Spots.{may_join, join_counter}
+use Rattle.iceoryx2_book.specs.declared.services.Position.{Position}
+use Rattle.iceoryx2_book.specs.Book.{Book, MayTakeStep, step_at, world_with}
+use Rattle.iceoryx2_book.proofs.Spots.{may_join, join_counter}
 use Rattle.iceoryx2_storage.proofs.Accesses.{part, spot_at, gives_refusal, gives_done, gives_starved, opens_by}
 use Rattle.iceoryx2_storage.proofs.table.stored.StoredWorld.open_segment.Goals as goal
 

@@ -12,8 +12,8 @@ use Rattle.iceoryx2_world.specs.Orders.{tag_cmp}
 use Rattle.iceoryx2_world.specs.Acts as act
 use Rattle.iceoryx2_world.specs.Access.{nothing, spot_becomes_with, with_ticket, has_made}
 use Rattle.iceoryx2_world.specs.World.{Tickets}
-use Rattle.iceoryx2_storage.specs.declared.table.services.Position.{Position}
-use Rattle.iceoryx2_storage.specs.Book.{Book, MayTakeStep, world_with, segment_fits}
+use Rattle.iceoryx2_book.specs.declared.services.Position.{Position}
+use Rattle.iceoryx2_book.specs.Book.{Book, MayTakeStep, world_with, segment_fits}
 use Rattle.iceoryx2_storage.proofs.Accesses.{part, spot_at, gives_refusal, gives_done, gives_starved, no_publish, may_publish, publishes_by}
 use Rattle.iceoryx2_storage.proofs.table.stored.StoredWorld.publish.Goals as goal
 

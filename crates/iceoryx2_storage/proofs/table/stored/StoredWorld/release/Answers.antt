@@ -13,7 +13,7 @@ use Rattle.iceoryx2_world.specs.Orders.{tag_cmp}
 use Rattle.iceoryx2_world.specs.Acts as act
 use Rattle.iceoryx2_world.specs.Access.{nothing, spot_becomes_with, release_of, is_ticket}
 use Rattle.iceoryx2_world.specs.World.{Tickets}
-use Rattle.iceoryx2_storage.specs.Book.{Book, step_at, world_with}
+use Rattle.iceoryx2_book.specs.Book.{Book, step_at, world_with}
 use Rattle.iceoryx2_storage.proofs.Accesses.{part, simply_refusal, simply_done}
 use Rattle.iceoryx2_storage.proofs.table.stored.StoredWorld.release.Goals as goal
 

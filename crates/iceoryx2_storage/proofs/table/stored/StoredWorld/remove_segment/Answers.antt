@@ -10,7 +10,7 @@ use Rattle.iceoryx2_world.specs.Orders.{tag_cmp}
 use Rattle.iceoryx2_world.specs.Acts as act
 use Rattle.iceoryx2_world.specs.Access.{nothing, spot_becomes, or_refused}
 use Rattle.iceoryx2_world.specs.World.{Tickets}
-use Rattle.iceoryx2_storage.specs.Book.{Book, TakesStep, world_with}
+use Rattle.iceoryx2_book.specs.Book.{Book, TakesStep, world_with}
 use Rattle.iceoryx2_storage.proofs.Accesses.{part, simply_refusal, simply_done}
 use Rattle.iceoryx2_storage.proofs.table.stored.StoredWorld.remove_segment.Goals as goal
 

@@ -7,7 +7,7 @@ use Rattle.iceoryx2_world.specs.Sets as set
 use Rattle.iceoryx2_world.specs.Orders.{tag_cmp, tag_exact}
 use Rattle.iceoryx2_world.specs.Access.{tag_becomes}
 use Rattle.iceoryx2_world.specs.World.{Tickets}
-use Rattle.iceoryx2_storage.specs.Book.{Book, world_with}
+use Rattle.iceoryx2_book.specs.Book.{Book, world_with}
 use Rattle.iceoryx2_storage.proofs.Accesses.{part}
 use Rattle.iceoryx2_storage.proofs.table.stored.StoredWorld.remove_tag.Goals as goal
 

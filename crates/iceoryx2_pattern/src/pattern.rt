@@ -1,0 +1,97 @@
+//! What a pattern has of its own in the rounds.
+
+ghost use Rattle.std.specs.Prelude.{◌≡◌, IfOk};
+ghost use Rattle.iceoryx2_pattern.specs.Meaning.{Meaning};
+ghost use Rattle.iceoryx2_pattern.specs.Verdict.{verdict};
+
+use iceoryx2_errors::error::ServiceState;
+use iceoryx2_values::description::{MessagingPattern, StaticConfig};
+use iceoryx2_values::time::Time;
+use std::alloc::AllocError;
+
+/// The refusals of an open that every pattern has, beside the faults of a look and the
+/// requirement.
+#[derive(Clone, Copy, Debug, PartialEq, Eq)]
+pub enum OpenRefusal {
+    DoesNotExist,
+    ServiceInCorruptedState,
+    InternalFailure,
+    ExceedsMaxNumberOfNodes,
+    IsMarkedForDestruction,
+    OutOfMemory,
+}
+
+/// The refusals of a create that every pattern has, beside the faults of a look.
+#[derive(Clone, Copy, Debug, PartialEq, Eq)]
+pub enum CreateRefusal {
+    ServiceInCorruptedState,
+    InternalFailure,
+    IsBeingCreatedByAnotherInstance,
+    AlreadyExists,
+    InsufficientPermissions,
+    OutOfMemory,
+}
+
+/// What a pattern's builder asks of a service, and how its calls name what goes wrong.
+///
+/// It stands for one call: its settings and marks, and the message types that it prepared.
+pub trait Pattern {
+    /// What a look finds wrong.
+    type Fault: Copy;
+
+    /// Why an open is refused.
+    type OpenError: Copy;
+
+    /// Why a create is refused.
+    type CreateError: Copy;
+
+    /// What it asks, and its errors.
+    ghost meaning: { Self → Meaning Self.Fault Self.OpenError Self.CreateError };
+
+    /// The same with each zero that a create raises replaced by one.
+    ghost adjusted: { Self → Self };
+
+    /// Raises the zeros that a create may not leave.
+    fn adjust(&mut self)
+        ensures { self.new ≡ adjusted self.old };
+
+    /// The fault of a state that every pattern has.
+    fn fault(&self, state: ServiceState) -> Self::Fault
+        ensures { result ≡ (meaning self.now).fault state };
+
+    /// Whether a service of the right hash is of another pattern, or of other message types.
+    fn misfit(&self, existing: &StaticConfig) -> Option<Self::Fault>
+        ensures { result ≡ (meaning self.now).misfit existing.now };
+
+    /// Whether an existing service meets the requirement, clause by clause.
+    fn verify(&self, existing: &StaticConfig) -> Result<(), Self::OpenError>
+        ensures { result ≡ verdict ((meaning self.now).requirement existing.now) };
+
+    /// The error of an open whose look found a fault.
+    fn open_error_of(&self, fault: Self::Fault) -> Self::OpenError
+        ensures { result ≡ (meaning self.now).open_error_of fault };
+
+    /// The error of a refused open.
+    fn open_refusal(&self, refusal: OpenRefusal) -> Self::OpenError
+        ensures { result ≡ (meaning self.now).open_refusal refusal };
+
+    /// The error of a create whose look found a fault.
+    fn create_error_of(&self, fault: Self::Fault) -> Self::CreateError
+        ensures { result ≡ (meaning self.now).create_error_of fault };
+
+    /// The error of a refused create.
+    fn create_refusal(&self, refusal: CreateRefusal) -> Self::CreateError
+        ensures { result ≡ (meaning self.now).create_refusal refusal };
+
+    /// The error of settings that no create may have, which is answered before any access.
+    fn history_refusal(&self) -> Option<Self::CreateError>
+        ensures { result ≡ (meaning self.now).history_refusal };
+
+    /// Whether a create has to know the time.
+    fn needs_clock(&self) -> bool
+        ensures { result ≡ (meaning self.now).needs_clock };
+
+    /// A copy of what a create at this time publishes of the pattern.
+    fn published(&self, now: Time) -> Result<MessagingPattern, AllocError>
+        ensures { IfOk result (λ pattern. pattern ≡ (meaning self.now).published now) };
+}

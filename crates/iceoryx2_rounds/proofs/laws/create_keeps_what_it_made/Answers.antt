@@ -1,5 +1,0 @@
-use Rattle.iceoryx2_rounds.proofs.Kept.{created_keeps}
-use Rattle.iceoryx2_rounds.proofs.laws.create_keeps_what_it_made.Goals as goal
-
-pub returns : goal.returns
-returns g c = λ p node hash name now word r w. created_keeps w

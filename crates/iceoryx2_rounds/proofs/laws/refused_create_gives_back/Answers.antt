@@ -1,5 +1,0 @@
-use Rattle.iceoryx2_rounds.proofs.Kept.{refused_create_keeps}
-use Rattle.iceoryx2_rounds.proofs.laws.refused_create_gives_back.Goals as goal
-
-pub returns : goal.returns
-returns g c = λ p node hash name now word error w. refused_create_keeps w

@@ -1,5 +1,0 @@
-use Rattle.iceoryx2_rounds.proofs.Kept.{refused_open_keeps}
-use Rattle.iceoryx2_rounds.proofs.laws.refused_open_gives_back.Goals as goal
-
-pub returns : goal.returns
-returns g c = λ p node hash word error w. refused_open_keeps w

@@ -1,0 +1,49 @@
+-- What a description is.
+use Rattle.std.specs.Prelude.{ℕ, ◌≡◌, ◌<◌, ◌^◌, List, length, All, IfSome}
+use Rattle.iceoryx2_values.specs.declared.description.TheConstants.{HASH_LENGTH}
+use Rattle.iceoryx2_values.specs.declared.description.ServiceHash.{ServiceHash}
+use Rattle.iceoryx2_values.specs.declared.description.MessagingPattern.{MessagingPattern}
+use Rattle.iceoryx2_values.specs.declared.description.MessagingPattern.TheVariants.{Event}
+use Rattle.iceoryx2_values.specs.declared.event.StaticConfig.{StaticConfig as EventConfig}
+use Rattle.iceoryx2_values.specs.declared.event.Deadline.{Deadline}
+use Rattle.iceoryx2_values.specs.Span.{IsSpan}
+use Rattle.iceoryx2_values.specs.Texts.{IsName}
+
+-- What nodes that share a service agree on.
+pub record Description : Type 0 where
+  pub hash : ServiceHash
+  pub name : List ℕ
+  pub pattern : MessagingPattern
+
+abbrev pub max_nodes_of : MessagingPattern → ℕ
+max_nodes_of (Event s) = s.max_nodes
+
+abbrev pub IsSamePattern : MessagingPattern → MessagingPattern → Type 0
+IsSamePattern (Event s) (Event t) = Unit {0}
+
+abbrev pub IsDeadline : Deadline → Type 0
+IsDeadline d = IsSpan d.value × IsSpan d.creation_time
+
+pub record IsEvent (s : EventConfig) : Type 0 where
+  pub max_notifiers : s.max_notifiers < 2 ^ 64
+  pub max_listeners : s.max_listeners < 2 ^ 64
+  pub event_id_max_value : s.event_id_max_value < 2 ^ 64
+  pub max_nodes : s.max_nodes < 2 ^ 64
+  pub created : IfSome s.notifier_created_event (λ id. id < 2 ^ 64)
+  pub dropped : IfSome s.notifier_dropped_event (λ id. id < 2 ^ 64)
+  pub dead : IfSome s.notifier_dead_event (λ id. id < 2 ^ 64)
+  pub deadline : IfSome s.deadline IsDeadline
+
+abbrev pub IsPattern : MessagingPattern → Type 0
+IsPattern (Event s) = IsEvent s
+
+-- as many bytes as a hash has
+pub record IsHash (h : ServiceHash) : Type 0 where
+  pub length : length h.0 ≡ HASH_LENGTH
+  pub bytes : All (λ b. b < 256) h.0
+
+-- The limits of a description.
+pub record IsDescription (d : Description) : Type 0 where
+  pub hash : IsHash d.hash
+  pub name : IsName d.name
+  pub pattern : IsPattern d.pattern

@@ -1,0 +1,67 @@
+//! The settings that builders start from.
+
+ghost use Rattle.iceoryx2_values.specs.Defaults.{default_event};
+
+use crate::event::EventId;
+use crate::time::Duration;
+
+/// The settings that an event builder starts from.
+#[derive(Clone, Copy, Debug, PartialEq, Eq)]
+pub struct Event {
+    /// For how many notifiers a service is.
+    pub max_notifiers: u64,
+    /// For how many listeners a service is.
+    pub max_listeners: u64,
+    /// The greatest number that an event may have.
+    pub event_id_max_value: u64,
+    /// For how many nodes a service is.
+    pub max_nodes: u64,
+    /// What is sent when a notifier is created, where something is.
+    pub notifier_created_event: Option<EventId>,
+    /// What is sent when a notifier goes, where something is.
+    pub notifier_dropped_event: Option<EventId>,
+    /// What is sent for a notifier whose process died, where something is.
+    pub notifier_dead_event: Option<EventId>,
+    /// Within what time a notifier has to notify again, where it has to.
+    pub deadline: Option<Duration>,
+}
+
+impl Default for Event {
+    ghost use Rattle.std.specs.Prelude.{◌≡◌};
+
+    ghost is_default = { λ settings. settings ≡ default_event };
+
+    /// 16 notifiers, 16 listeners, events up to 255, 36 nodes, and nothing else.
+    fn default() -> Event {
+        Event {
+            max_notifiers: 16,
+            max_listeners: 16,
+            event_id_max_value: 255,
+            max_nodes: 36,
+            notifier_created_event: None,
+            notifier_dropped_event: None,
+            notifier_dead_event: None,
+            deadline: None,
+        }
+    }
+}
+
+/// The settings that the builders of a node start from.
+#[derive(Clone, Copy, Debug, PartialEq, Eq)]
+pub struct Config {
+    /// What event builders start from.
+    pub event: Event,
+}
+
+impl Default for Config {
+    ghost use Rattle.std.specs.Prelude.{◌≡◌};
+
+    ghost is_default = { λ config. config.event ≡ default_event };
+
+    /// The defaults of each builder.
+    fn default() -> Config {
+        Config {
+            event: Event::default(),
+        }
+    }
+}

@@ -1,0 +1,273 @@
+//! What nodes that share a service agree on.
+
+ghost use Rattle.std.specs.Prelude.{◌≡◌, ◌<◌, ◌≤◌, ◌↔◌, ◌⊎◌, Err, IfOk, OnOk, IsTrue, All, length, string_bytes};
+ghost use Rattle.hex.specs.Hex.{encode_lower};
+ghost use Rattle.iceoryx2_values.specs.Texts.{IsName};
+ghost use Rattle.iceoryx2_values.specs.Description.{IsHash, IsPattern};
+
+use crate::event;
+use std::alloc::{AllocError, Global};
+use std::error::Error;
+use std::fmt;
+use std::marker::Model;
+
+/// The length of a hash, in bytes.
+pub const HASH_LENGTH: usize = 20;
+
+/// The length of the shortest name, in bytes.
+pub const MIN_NAME_LENGTH: usize = 1;
+
+/// The length of the longest name, in bytes.
+pub const MAX_NAME_LENGTH: usize = 255;
+
+/// A service's name: 1 to 255 bytes of UTF-8.
+#[derive(Debug, Drop)]
+pub struct ServiceName {
+    text: String,
+}
+
+impl Model for ServiceName {
+    ghost use Rattle.std.specs.Prelude.{List, ℕ, string_bytes};
+    ghost use Rattle.iceoryx2_values.specs.Texts.{IsName};
+
+    ghost Value = { List ℕ };
+
+    ghost view = { λ name. string_bytes name.text };
+
+    ghost invariant = { λ name. IsName (string_bytes name.text) };
+}
+
+/// Why a text is no service's name.
+#[derive(Clone, Copy, Debug, PartialEq, Eq)]
+pub enum ServiceNameError {
+    /// It is empty, or longer than 255 bytes.
+    Length,
+    /// There was no memory for a copy.
+    OutOfMemory,
+}
+
+impl fmt::Display for ServiceNameError {
+    ghost use Rattle.std.specs.Prelude.{Some};
+    ghost use Rattle.iceoryx2_values.specs.Errors.{service_name_error_text};
+
+    ghost output = { λ error. Some (service_name_error_text error) };
+
+    fn fmt<W: fmt::Write>(&self, f: &mut fmt::Formatter<W>) -> fmt::Result {
+        match self {
+            ServiceNameError::Length => write!(f, "a service's name has 1 to 255 bytes"),
+            ServiceNameError::OutOfMemory => write!(f, "out of memory"),
+        }
+    }
+}
+
+impl Error for ServiceNameError {}
+
+impl ServiceName {
+    /// A copy of the text as a name. `Length` where it has no byte or more than 255, which is
+    /// tested first, and `OutOfMemory` where the copy found no memory.
+    #[tactic(auto, using(crate::proofs::Utf8::is_text))]
+    pub fn new(alloc: Global, text: &str) -> Result<ServiceName, ServiceNameError>
+        ensures name { IfOk result (λ name. name ≡ text.now) }
+        ensures length { (result ≡ Err ServiceNameError.Length)
+            ↔ ((length text.now < MIN_NAME_LENGTH) ⊎ (MAX_NAME_LENGTH < length text.now)) }
+    {
+        if text.len() < MIN_NAME_LENGTH || text.len() > MAX_NAME_LENGTH {
+            return Err(ServiceNameError::Length);
+        }
+        match String::from_str(alloc, text) {
+            Ok(text) => Ok(ServiceName::from_text(text)),
+            Err(_) => Err(ServiceNameError::OutOfMemory),
+        }
+    }
+
+    /// A name of a text that has its length already.
+    pub fn from_text(text: String) -> ServiceName
+        requires { IsName (string_bytes text) }
+        ensures { result ≡ string_bytes text }
+    {
+        ServiceName { text }
+    }
+
+    /// The name as a text.
+    pub fn as_str(&self) -> &str
+        ensures value { result.now ≡ self.now }
+        ensures text { IsName self.now }
+    {
+        &self.text
+    }
+}
+
+impl PartialEq for ServiceName {
+    ghost use Rattle.std.specs.Prelude.{bytes_eq};
+    ghost use Rattle.std.proofs.Common.{rules};
+    ghost use Rattle.std.specs.Cmp.Rules.{comparing};
+
+    ghost eq = { bytes_eq };
+
+    ghost laws = { Prim.search (comparing, rules) };
+
+    fn eq(&self, other: &ServiceName) -> bool {
+        self.as_str() == other.as_str()
+    }
+}
+
+impl Eq for ServiceName {
+    ghost use Rattle.std.proofs.Common.{rules};
+    ghost use Rattle.std.specs.Cmp.Rules.{comparing};
+
+    ghost laws = { Prim.search (comparing, rules) };
+}
+
+impl fmt::Display for ServiceName {
+    ghost use Rattle.std.specs.Prelude.{Some};
+
+    ghost output = { λ name. Some name };
+
+    fn fmt<W: fmt::Write>(&self, f: &mut fmt::Formatter<W>) -> fmt::Result {
+        write!(f, "{}", self.as_str())
+    }
+}
+
+impl Clone for ServiceName {
+    fn clone(&self) -> Result<ServiceName, AllocError>
+        ensures { IfOk result (λ copy. copy ≡ self.now) }
+    {
+        Ok(ServiceName {
+            text: self.text.clone()?,
+        })
+    }
+}
+
+/// The hash by which a service is found.
+#[derive(Clone, Copy, Debug, PartialEq, Eq, PartialOrd, Ord)]
+pub struct ServiceHash(pub [u8; HASH_LENGTH]);
+
+impl ServiceHash {
+    /// The hash in 40 hexadecimal digits, in lower case.
+    pub fn to_text(&self, alloc: Global) -> Result<String, AllocError>
+        ensures { IfOk result (λ text. string_bytes text ≡ encode_lower self.now.0) }
+    {
+        hex::encode(alloc, self.as_bytes())
+    }
+
+    pub fn as_bytes(&self) -> &[u8]
+        ensures value { result.now ≡ self.now.0 }
+        ensures limits { IsHash self.now }
+    {
+        let bytes = self.0.as_slice();
+        are_bytes(bytes);
+        bytes
+    }
+}
+
+/// A service's pattern with its settings.
+#[derive(Clone, Copy, Debug, PartialEq, Eq)]
+pub enum MessagingPattern {
+    /// A service of events.
+    Event(event::StaticConfig),
+}
+
+impl MessagingPattern {
+    ghost use Rattle.iceoryx2_values.specs.Description.{IsSamePattern};
+
+    /// Whether both are of the same pattern, whatever their settings.
+    pub fn is_same_pattern(&self, other: &MessagingPattern) -> bool
+        ensures { IsTrue result ↔ IsSamePattern self.now other.now }
+    {
+        match (self, other) {
+            (MessagingPattern::Event(_), MessagingPattern::Event(_)) => true,
+        }
+    }
+}
+
+/// Each of them is a byte.
+fn are_bytes(bytes: &[u8])
+    ensures { All (λ b. b < 256) bytes.now }
+{
+    let _length = bytes.len();
+}
+
+/// Its numbers are within the limits of their types.
+fn pattern_fits(pattern: &MessagingPattern)
+    ensures { IsPattern pattern.now }
+{
+    match pattern {
+        MessagingPattern::Event(settings) => settings.fits(),
+    }
+}
+
+/// What nodes that share a service agree on: its hash, its name, and its pattern with the
+/// settings.
+#[derive(Debug, Drop, PartialEq, Eq)]
+pub struct StaticConfig {
+    hash: ServiceHash,
+    name: ServiceName,
+    pattern: MessagingPattern,
+}
+
+impl Model for StaticConfig {
+    ghost use Rattle.iceoryx2_values.specs.Description.{Description};
+
+    ghost Value = { Description };
+
+    ghost view = { λ d. record { hash = d.hash; name = d.name; pattern = d.pattern } };
+
+    ghost use Rattle.iceoryx2_values.specs.Description.{IsDescription};
+
+    ghost invariant = { λ d. IsDescription (record { hash = d.hash; name = d.name; pattern = d.pattern }) };
+
+    ghost inverse = { λ d. record { hash = d.hash; name = d.name; pattern = d.pattern } };
+}
+
+impl StaticConfig {
+    ghost use Rattle.iceoryx2_values.specs.Description.{IsDescription, max_nodes_of};
+
+    /// The description of these parts.
+    pub fn new(hash: ServiceHash, name: ServiceName, pattern: MessagingPattern) -> StaticConfig
+        ensures value { result ≡ (record { hash = hash; name = name; pattern = pattern }) }
+        ensures limits { IsDescription result }
+    {
+        let _bytes = hash.as_bytes();
+        let _text = name.as_str();
+        pattern_fits(&pattern);
+        StaticConfig {
+            hash,
+            name,
+            pattern,
+        }
+    }
+
+    /// The hash by which the service is found.
+    pub fn service_hash(&self) -> &ServiceHash
+        ensures value { result.now ≡ self.now.hash }
+        ensures limits { IsDescription self.now }
+    {
+        &self.hash
+    }
+
+    /// The service's name.
+    pub fn name(&self) -> &ServiceName
+        ensures value { result.now ≡ self.now.name }
+        ensures limits { IsDescription self.now }
+    {
+        &self.name
+    }
+
+    /// The service's pattern with its settings.
+    pub fn messaging_pattern(&self) -> &MessagingPattern
+        ensures value { result.now ≡ self.now.pattern }
+        ensures limits { IsDescription self.now }
+    {
+        &self.pattern
+    }
+
+    /// For how many nodes the service is.
+    pub fn max_nodes(&self) -> u64
+        ensures value { result ≡ max_nodes_of self.now.pattern }
+        ensures limits { IsDescription self.now }
+    {
+        match &self.pattern {
+            MessagingPattern::Event(settings) => settings.max_nodes,
+        }
+    }
+}

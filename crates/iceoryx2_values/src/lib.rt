@@ -1,0 +1,7 @@
+//! What a service is: its name, its hash, its pattern with the settings, and what these are made of.
+#![tactic(auto)]
+
+pub mod config;
+pub mod description;
+pub mod event;
+pub mod time;
