@@ -8,7 +8,7 @@ use Rattle.iceoryx2_values.specs.Span.{Span}
 use Rattle.iceoryx2_pattern.specs.Verdict.{SettingRow, verdict, marked_clauses, at_least, and_then}
 use Rattle.iceoryx2_rounds.specs.Creates.{description_of}
 use Rattle.iceoryx2_pattern.proofs.Verdicts.{row_decides, no_row}
-use Rattle.iceoryx2_builder.specs.declared.builder.event.asked.Asked.{Asked}
+use Rattle.iceoryx2_builder.specs.declared.builder.event.demand.EventDemand.{EventDemand}
 use Rattle.iceoryx2_builder.specs.Event.{event_meaning, event_adjusted, at_least_one}
 use Rattle.iceoryx2_builder.specs.OwnSettings.{AcceptsOwn}
 
@@ -31,14 +31,14 @@ not_below n = elim (nat_eq n 0) as (λ b. nat_eq n 0 ≡ b → nat_le n (cond b 
   | false ↦ λ e. same n
 ] refl
 
-meets : (asked : Asked) (hash : ServiceHash) (name : List ℕ) (now : Result Span ClockFault)
-    → verdict ((event_meaning asked).requirement (description_of (event_meaning (event_adjusted asked)) hash name now)) ≡ Ok tt
-meets asked hash name now =
-    then_more _ _ (offers _ _ _ _ (not_below asked.settings.max_notifiers))
-    (then_more _ _ (offers _ _ _ _ (not_below asked.settings.max_listeners))
-    (then_more _ _ (offers _ _ _ _ (same asked.settings.event_id_max_value))
-    (then_more _ [] (offers _ _ _ _ (not_below asked.settings.max_nodes)) no_row)))
+meets : (demand : EventDemand) (hash : ServiceHash) (name : List ℕ) (now : Result Span ClockFault)
+    → verdict ((event_meaning demand).requirement (description_of (event_meaning (event_adjusted demand)) hash name now)) ≡ Ok tt
+meets demand hash name now =
+    then_more _ _ (offers _ _ _ _ (not_below demand.settings.max_notifiers))
+    (then_more _ _ (offers _ _ _ _ (not_below demand.settings.max_listeners))
+    (then_more _ _ (offers _ _ _ _ (same demand.settings.event_id_max_value))
+    (then_more _ [] (offers _ _ _ _ (not_below demand.settings.max_nodes)) no_row)))
 
-pub own_settings : (asked : Asked) (hash : ServiceHash) (name : List ℕ) (now : Result Span ClockFault)
-    → AcceptsOwn (event_meaning (event_adjusted asked)) (event_meaning asked) hash name now
-own_settings asked hash name now = record { fits = refl; accepted = meets asked hash name now }
+pub own_settings : (demand : EventDemand) (hash : ServiceHash) (name : List ℕ) (now : Result Span ClockFault)
+    → AcceptsOwn (event_meaning (event_adjusted demand)) (event_meaning demand) hash name now
+own_settings demand hash name now = record { fits = refl; accepted = meets demand hash name now }

@@ -19,8 +19,8 @@ use Rattle.iceoryx2_pattern.specs.declared.pattern.OpenRefusal.{OpenRefusal}
 use Rattle.iceoryx2_pattern.specs.declared.pattern.OpenRefusal.TheVariants as open_refusal
 use Rattle.iceoryx2_pattern.specs.declared.pattern.CreateRefusal.{CreateRefusal}
 use Rattle.iceoryx2_pattern.specs.declared.pattern.CreateRefusal.TheVariants as create_refusal
-use Rattle.iceoryx2_builder.specs.declared.builder.event.asked.Asked.{Asked}
-use Rattle.iceoryx2_builder.specs.declared.builder.event.asked.Marks.{Marks}
+use Rattle.iceoryx2_builder.specs.declared.builder.event.demand.EventDemand.{EventDemand}
+use Rattle.iceoryx2_builder.specs.declared.builder.event.demand.Marks.{Marks}
 
 -- the settings in order, each with its test and its error
 abbrev pub setting_rows : Settings → Marks → Settings → List (SettingRow EventOpenError)
@@ -35,8 +35,8 @@ setting_rows required marks existing =
     opening.DoesNotSupportRequestedAmountOfNodes ∷
     []
 
-abbrev pub setting_clauses : Asked → MessagingPattern → List (Clause EventOpenError)
-setting_clauses asked (existing.Event settings) = marked_clauses (setting_rows asked.settings asked.marks settings)
+abbrev pub setting_clauses : EventDemand → MessagingPattern → List (Clause EventOpenError)
+setting_clauses demand (existing.Event settings) = marked_clauses (setting_rows demand.settings demand.marks settings)
 
 -- another pattern than events: so far there is no other
 abbrev pub misfit_of : MessagingPattern → Option ServiceState
@@ -62,12 +62,12 @@ abbrev pub at_least_one : ℕ → ℕ
 at_least_one n = if nat_eq n 0 then 1 else n
 
 -- zeros become one where a service has to have room for somebody
-abbrev pub event_adjusted : Asked → Asked
-event_adjusted asked = record asked {
-  settings = record asked.settings {
-    max_notifiers = at_least_one asked.settings.max_notifiers;
-    max_listeners = at_least_one asked.settings.max_listeners;
-    max_nodes = at_least_one asked.settings.max_nodes;
+abbrev pub event_adjusted : EventDemand → EventDemand
+event_adjusted demand = record demand {
+  settings = record demand.settings {
+    max_notifiers = at_least_one demand.settings.max_notifiers;
+    max_listeners = at_least_one demand.settings.max_listeners;
+    max_nodes = at_least_one demand.settings.max_nodes;
   };
 }
 
@@ -75,17 +75,17 @@ event_adjusted asked = record asked {
 abbrev pub created_deadline : Span → Deadline → Deadline
 created_deadline now deadline = record { value = deadline.value; creation_time = now }
 
-abbrev pub event_meaning : Asked → Meaning ServiceState EventOpenError EventCreateError
-event_meaning asked = record {
+abbrev pub event_meaning : EventDemand → Meaning ServiceState EventOpenError EventCreateError
+event_meaning demand = record {
   fault = λ state. state;
   misfit = λ d. misfit_of d.pattern;
-  requirement = λ d. setting_clauses asked d.pattern;
+  requirement = λ d. setting_clauses demand d.pattern;
   open_error_of = open_error_of_state;
   open_refusal = open_error_of_refusal;
   create_error_of = create_error_of_state;
   create_refusal = create_error_of_refusal;
   history_refusal = None;
-  needs_clock = is_some asked.settings.deadline;
+  needs_clock = is_some demand.settings.deadline;
   published = λ now.
-      existing.Event (record asked.settings { deadline = option_map (created_deadline now) asked.settings.deadline });
+      existing.Event (record demand.settings { deadline = option_map (created_deadline now) demand.settings.deadline });
 }

@@ -6,7 +6,7 @@ use Rattle.iceoryx2_values.specs.declared.config.Event.{Event as EventDefaults}
 use Rattle.iceoryx2_values.specs.declared.event.Deadline.{Deadline}
 use Rattle.iceoryx2_values.specs.Span.{Span, zero_span}
 use Rattle.iceoryx2_builder.specs.declared.builder.event.TheConstants.{LETTER}
-use Rattle.iceoryx2_builder.specs.declared.builder.event.asked.Asked.{Asked}
+use Rattle.iceoryx2_builder.specs.declared.builder.event.demand.EventDemand.{EventDemand}
 use Rattle.iceoryx2_builder.specs.declared.builder.event.setting.EventSetting.{EventSetting}
 use Rattle.iceoryx2_builder.specs.declared.builder.event.setting.EventSetting.TheVariants as set
 
@@ -28,7 +28,7 @@ pub record ServiceFacts : Type 0 where
 pub record EventRequest : Type 0 where
   pub node : ℕ
   pub name : List ℕ
-  pub asked : Asked
+  pub demand : EventDemand
 
 -- the letter of services of events
 abbrev pub letter_of_events : ℕ
@@ -39,8 +39,8 @@ abbrev pub configured_deadline : Span → Deadline
 configured_deadline value = record { value = value; creation_time = zero_span }
 
 -- the configured settings with nothing marked
-abbrev pub fresh_asked : EventDefaults → Asked
-fresh_asked defaults = record {
+abbrev pub fresh_demand : EventDefaults → EventDemand
+fresh_demand defaults = record {
   settings = record {
     max_notifiers = defaults.max_notifiers;
     max_listeners = defaults.max_listeners;
@@ -61,27 +61,27 @@ fresh_asked defaults = record {
 
 -- what a builder asks that no setter has changed
 abbrev pub fresh_request : ℕ → List ℕ → EventDefaults → EventRequest
-fresh_request node name defaults = record { node = node; name = name; asked = fresh_asked defaults }
+fresh_request node name defaults = record { node = node; name = name; demand = fresh_demand defaults }
 
 -- The settings after one setter: its value is set, and the setting is marked.
-abbrev pub asked_with : Asked → EventSetting → Asked
-asked_with a (set.MaxNotifiers n) = record {
-  settings = record a.settings { max_notifiers = n };
-  marks = record a.marks { max_notifiers = true };
+abbrev pub demand_with : EventDemand → EventSetting → EventDemand
+demand_with demand (set.MaxNotifiers n) = record {
+  settings = record demand.settings { max_notifiers = n };
+  marks = record demand.marks { max_notifiers = true };
 }
-asked_with a (set.MaxListeners n) = record {
-  settings = record a.settings { max_listeners = n };
-  marks = record a.marks { max_listeners = true };
+demand_with demand (set.MaxListeners n) = record {
+  settings = record demand.settings { max_listeners = n };
+  marks = record demand.marks { max_listeners = true };
 }
-asked_with a (set.EventIdMaxValue n) = record {
-  settings = record a.settings { event_id_max_value = n };
-  marks = record a.marks { event_id_max_value = true };
+demand_with demand (set.EventIdMaxValue n) = record {
+  settings = record demand.settings { event_id_max_value = n };
+  marks = record demand.marks { event_id_max_value = true };
 }
-asked_with a (set.MaxNodes n) = record {
-  settings = record a.settings { max_nodes = n };
-  marks = record a.marks { max_nodes = true };
+demand_with demand (set.MaxNodes n) = record {
+  settings = record demand.settings { max_nodes = n };
+  marks = record demand.marks { max_nodes = true };
 }
 
 -- a builder after one setter
 abbrev pub with_setting : EventRequest → EventSetting → EventRequest
-with_setting request setting = record request { asked = asked_with request.asked setting }
+with_setting request setting = record request { demand = demand_with request.demand setting }

@@ -7,7 +7,7 @@ ghost use Rattle.iceoryx2_values.specs.declared.time.ClockFault.{ClockFault};
 ghost use Rattle.iceoryx2_builder.specs.Event.{event_meaning, event_adjusted};
 ghost use Rattle.iceoryx2_builder.specs.OwnSettings.{AcceptsOwn};
 ghost use Rattle.iceoryx2_builder.specs.Request.{fresh_request};
-ghost use Rattle.iceoryx2_builder.specs.declared.builder.event.asked.Asked.{Asked};
+ghost use Rattle.iceoryx2_builder.specs.declared.builder.event.demand.EventDemand.{EventDemand};
 
 pub mod event;
 
@@ -182,6 +182,6 @@ impl<S: Service> BuilderWithServiceType<S> {
 /// A builder opens what the same builder creates: with its adjusted settings a create publishes
 /// what fits it and meets each setting that it requires, whatever the clock says.
 pub fn laws()
-    ensures { (asked : Asked) (hash : ServiceHash) (name : List ℕ) (now : Result Span ClockFault)
-        → AcceptsOwn (event_meaning (event_adjusted asked)) (event_meaning asked) hash name now }
+    ensures { (demand : EventDemand) (hash : ServiceHash) (name : List ℕ) (now : Result Span ClockFault)
+        → AcceptsOwn (event_meaning (event_adjusted demand)) (event_meaning demand) hash name now }
 {}

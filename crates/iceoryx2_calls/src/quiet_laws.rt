@@ -28,7 +28,7 @@ ghost use Rattle.iceoryx2_access.specs.Factory.{Factory};
 ghost use Rattle.iceoryx2_rounds.specs.Creates.{IsCreateWord, time_of};
 ghost use Rattle.iceoryx2_rounds.specs.Opens.{IsOpenWord};
 ghost use Rattle.iceoryx2_port_factory.specs.Closes.{IsCloseWord};
-ghost use Rattle.iceoryx2_builder.specs.declared.builder.event.asked.Asked.{Asked};
+ghost use Rattle.iceoryx2_builder.specs.declared.builder.event.demand.EventDemand.{EventDemand};
 ghost use Rattle.iceoryx2_builder.specs.Event.{event_meaning, event_adjusted};
 ghost use Rattle.iceoryx2_calls.specs.Quiet.{Quiet, QuietService, Shows, no_service, service_at, times_counted};
 ghost use Rattle.iceoryx2_calls.specs.QuietCalls.{IsRegular, Creates, Opens, Closes, HasPlace, HasNumber};
@@ -78,17 +78,17 @@ pub fn quiet_laws()
 
     // The meaning of each builder of events is regular, and with its adjusted settings a create
     // publishes for one node or more.
-    ensures events { (asked : Asked) → IsRegular (event_meaning asked) }
-    ensures events_take_nodes { (asked : Asked) (now : Span)
-        → 0 < max_nodes_of ((event_meaning (event_adjusted asked)).published now) }
+    ensures events { (demand : EventDemand) → IsRegular (event_meaning demand) }
+    ensures events_take_nodes { (demand : EventDemand) (now : Span)
+        → 0 < max_nodes_of ((event_meaning (event_adjusted demand)).published now) }
 
     // What a builder of events has created the same builder opens: while the service stands, with a
     // place and a number left, an open with the same settings is Ok or wants memory.
-    ensures own_settings { (asked : Asked) (hash : ServiceHash) (name : List ℕ) (now : Result Span ClockFault)
+    ensures own_settings { (demand : EventDemand) (hash : ServiceHash) (name : List ℕ) (now : Result Span ClockFault)
         (creator node : ℕ) (q p u z : Quiet) (f : Factory) (x : QuietService) (answer : Result Factory EventOpenError)
-        → Creates (event_meaning (event_adjusted asked)) q creator hash name now (Ok f) p
+        → Creates (event_meaning (event_adjusted demand)) q creator hash name now (Ok f) p
         → service_at u hash ≡ Some x → x.description ≡ f.description → HasPlace x node → HasNumber u
-        → Opens (event_meaning asked) u node hash answer z
+        → Opens (event_meaning demand) u node hash answer z
         → IfErr answer (λ e. e ≡ opening.OutOfMemory) }
 {}
 

@@ -21,9 +21,9 @@ pub record IsRegularCall (b : BuilderCall) : Type 0 where
 
 event_call_is_regular : (b : EventRequest) → IsRegularCall (event_call b)
 event_call_is_regular b = record {
-  creating = event_is_regular (event_adjusted b.asked);
-  opening = event_is_regular b.asked;
-  takes_nodes = event_takes_nodes b.asked;
+  creating = event_is_regular (event_adjusted b.demand);
+  opening = event_is_regular b.demand;
+  takes_nodes = event_takes_nodes b.demand;
 }
 
 -- one row a pattern

@@ -23,8 +23,8 @@ event_call b = record {
   node = b.node;
   hash = hash_for letter_of_events b.name;
   name = b.name;
-  creating = event_meaning (event_adjusted b.asked);
-  opening = event_meaning b.asked;
+  creating = event_meaning (event_adjusted b.demand);
+  opening = event_meaning b.demand;
   refusal_of_create = refusal.EventCreate;
   refusal_of_open = refusal.EventOpen;
 }

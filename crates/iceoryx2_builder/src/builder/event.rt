@@ -7,11 +7,11 @@ ghost use Rattle.iceoryx2_rounds.specs.Opens.{IsOpenWord};
 ghost use Rattle.iceoryx2_builder.specs.Event.{event_meaning, event_adjusted};
 ghost use Rattle.iceoryx2_builder.specs.Request.{fresh_request, letter_of_events, with_setting};
 
-pub mod asked;
+pub mod demand;
 pub mod setting;
 
 use crate::builder::BuilderWithServiceType;
-use crate::builder::event::asked::Asked;
+use crate::builder::event::demand::EventDemand;
 pub use crate::builder::event::setting::EventSetting;
 use iceoryx2_access::storage::Service;
 pub use iceoryx2_errors::error::{EventCreateError, EventOpenError};
@@ -37,7 +37,7 @@ pub fn letter_is_e()
 /// existing service has to offer as much to be opened. The last value that is set stands.
 pub struct Builder<S: Service> {
     base: BuilderWithServiceType<S>,
-    asked: Asked,
+    demand: EventDemand,
 }
 
 impl<S: Service> Model for Builder<S> {
@@ -45,12 +45,12 @@ impl<S: Service> Model for Builder<S> {
 
     ghost Value = { EventRequest };
 
-    ghost view = { λ builder. record { node = builder.base.node; name = builder.base.name; asked = builder.asked } };
+    ghost view = { λ builder. record { node = builder.base.node; name = builder.base.name; demand = builder.demand } };
 }
 
 impl<S: Service> Drop for Builder<S> {
     fn drop(self) {
-        let Builder { base: _, asked: _ } = self;
+        let Builder { base: _, demand: _ } = self;
     }
 }
 
@@ -60,7 +60,7 @@ impl<S: Service> Builder<S> {
     {
         Builder {
             base,
-            asked: Asked::start(defaults),
+            demand: EventDemand::start(defaults),
         }
     }
 
@@ -68,7 +68,7 @@ impl<S: Service> Builder<S> {
     pub fn with(mut self, setting: EventSetting) -> Self
         ensures { result ≡ with_setting self setting }
     {
-        self.asked.set(setting);
+        self.demand.set(setting);
         self
     }
 
@@ -114,13 +114,13 @@ impl<S: Service> Builder<S> {
         now: Result<Time, ClockFault>,
     ) -> Result<PortFactory<S>, EventCreateError>
         ensures { Joins S.Storage.step storage.old
-            (λ word. IsCreateWord (event_meaning (event_adjusted self.asked)) self.node
+            (λ word. IsCreateWord (event_meaning (event_adjusted self.demand)) self.node
             (S.ServiceNameHasher.hash_of letter_of_events self.name) self.name now word result)
             storage.new }
     {
-        let Builder { base, mut asked } = self;
+        let Builder { base, mut demand } = self;
         let hash = base.hash(LETTER);
-        match create(&mut asked, base.node(), &hash, base.name(), now, storage) {
+        match create(&mut demand, base.node(), &hash, base.name(), now, storage) {
             Ok(registration) => Ok(PortFactory::new(registration)),
             Err(error) => Err(error),
         }
@@ -137,13 +137,13 @@ impl<S: Service> Builder<S> {
     /// `IncompatibleMessagingPattern`, `InsufficientPermissions` or `OutOfMemory` as they say.
     pub fn open(self, storage: &mut S::Storage) -> Result<PortFactory<S>, EventOpenError>
         ensures { Joins S.Storage.step storage.old
-            (λ word. IsOpenWord (event_meaning self.asked) self.node
+            (λ word. IsOpenWord (event_meaning self.demand) self.node
             (S.ServiceNameHasher.hash_of letter_of_events self.name) word result)
             storage.new }
     {
-        let Builder { base, asked } = self;
+        let Builder { base, demand } = self;
         let hash = base.hash(LETTER);
-        match open(&asked, base.node(), &hash, storage) {
+        match open(&demand, base.node(), &hash, storage) {
             Ok(registration) => Ok(PortFactory::new(registration)),
             Err(error) => Err(error),
         }

@@ -9,15 +9,15 @@ use Rattle.iceoryx2_values.specs.declared.description.MessagingPattern.TheVarian
 use Rattle.iceoryx2_errors.specs.declared.error.ServiceState.{ServiceState}
 use Rattle.iceoryx2_errors.specs.States.{create_error_of_state}
 use Rattle.iceoryx2_errors.specs.declared.error.EventCreateError.TheVariants as creating
-use Rattle.iceoryx2_builder.specs.declared.builder.event.asked.Asked.{Asked}
+use Rattle.iceoryx2_builder.specs.declared.builder.event.demand.EventDemand.{EventDemand}
 use Rattle.iceoryx2_builder.specs.Event.{event_meaning, event_adjusted, misfit_of, at_least_one}
 use Rattle.iceoryx2_calls.specs.QuietCalls.{IsRegular}
 
 no_misfit : (pattern : MessagingPattern) (fault : ServiceState) → misfit_of pattern ≡ Some fault → create_error_of_state fault ≡ creating.AlreadyExists
 no_misfit (existing.Event s) fault e = absurd (cc)
 
-pub event_is_regular : (asked : Asked) → IsRegular (event_meaning asked)
-event_is_regular asked = record { create_memory = refl; open_memory = refl; misfit = λ d fault e. no_misfit d.pattern fault e }
+pub event_is_regular : (demand : EventDemand) → IsRegular (event_meaning demand)
+event_is_regular demand = record { create_memory = refl; open_memory = refl; misfit = λ d fault e. no_misfit d.pattern fault e }
 
 raised_above : (n : ℕ) → 0 < at_least_one n
 raised_above n = elim (nat_eq n 0) as (λ b. nat_eq n 0 ≡ b → 0 < cond b 1 n) [
@@ -25,5 +25,5 @@ raised_above n = elim (nat_eq n 0) as (λ b. nat_eq n 0 ≡ b → 0 < cond b 1 n
   | false ↦ λ e. grind (arith, nat_tests, e)
 ] refl
 
-pub event_takes_nodes : (asked : Asked) (now : Span) → 0 < max_nodes_of ((event_meaning (event_adjusted asked)).published now)
-event_takes_nodes asked now = raised_above asked.settings.max_nodes
+pub event_takes_nodes : (demand : EventDemand) (now : Span) → 0 < max_nodes_of ((event_meaning (event_adjusted demand)).published now)
+event_takes_nodes demand now = raised_above demand.settings.max_nodes

@@ -36,11 +36,11 @@ pub returns-clause-list : goal.returns-clause-list
 returns-clause-list c = λ w q entries s lists. lists_the_machine w q entries s lists
 
 pub returns-clause-events : goal.returns-clause-events
-returns-clause-events c = λ asked. event_is_regular asked
+returns-clause-events c = λ demand. event_is_regular demand
 
 pub returns-clause-events_take_nodes : goal.returns-clause-events_take_nodes
-returns-clause-events_take_nodes c = λ asked now. event_takes_nodes asked now
+returns-clause-events_take_nodes c = λ demand now. event_takes_nodes demand now
 
 pub returns-clause-own_settings : goal.returns-clause-own_settings
-returns-clause-own_settings c = λ asked hash name now creator node q p u z f x answer made there same place room opened.
-    opens_own (event_meaning (event_adjusted asked)) (event_meaning asked) hash name now (own_settings asked hash name now) creator node q p u z f x answer made there same place room opened
+returns-clause-own_settings c = λ demand hash name now creator node q p u z f x answer made there same place room opened.
+    opens_own (event_meaning (event_adjusted demand)) (event_meaning demand) hash name now (own_settings demand hash name now) creator node q p u z f x answer made there same place room opened

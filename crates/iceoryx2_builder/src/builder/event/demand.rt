@@ -4,7 +4,7 @@ ghost use Rattle.std.specs.Prelude.{◌≡◌};
 ghost use Rattle.iceoryx2_pattern.specs.Verdict.{verdict, marked_clauses};
 ghost use Rattle.std.specs.Option.{option_map};
 ghost use Rattle.iceoryx2_builder.specs.Event.{setting_rows, at_least_one, created_deadline};
-ghost use Rattle.iceoryx2_builder.specs.Request.{fresh_asked, asked_with};
+ghost use Rattle.iceoryx2_builder.specs.Request.{fresh_demand, demand_with};
 
 use crate::builder::event::setting::EventSetting;
 use iceoryx2_errors::error::{EventCreateError, EventOpenError, ServiceState};
@@ -27,15 +27,15 @@ pub struct Marks {
 
 /// What a builder of events asks of a service: settings, and which of them it requires.
 #[derive(Clone, Copy, Debug, PartialEq, Eq)]
-pub struct Asked {
+pub struct EventDemand {
     pub settings: event::StaticConfig,
     pub marks: Marks,
 }
 
-impl Asked {
+impl EventDemand {
     /// The configured settings, of which none is required.
-    pub(crate) fn start(defaults: config::Event) -> Asked
-        ensures { result ≡ fresh_asked defaults }
+    pub(crate) fn start(defaults: config::Event) -> EventDemand
+        ensures { result ≡ fresh_demand defaults }
     {
         let deadline = match defaults.deadline {
             None => None,
@@ -44,7 +44,7 @@ impl Asked {
                 creation_time: Time::default(),
             }),
         };
-        Asked {
+        EventDemand {
             settings: event::StaticConfig {
                 max_notifiers: defaults.max_notifiers,
                 max_listeners: defaults.max_listeners,
@@ -66,7 +66,7 @@ impl Asked {
 
     /// Carries out one setter: sets the value, and marks the setting.
     pub(crate) fn set(&mut self, setting: EventSetting)
-        ensures { self.new ≡ asked_with self.old setting }
+        ensures { self.new ≡ demand_with self.old setting }
     {
         let settings = &mut self.settings;
         let marks = &mut self.marks;
@@ -113,11 +113,14 @@ fn deadline_at_creation(deadline: Option<Deadline>, now: Time) -> Option<Deadlin
 
 /// Whether the existing settings offer what is marked.
 #[tactic(auto, using(iceoryx2_pattern::proofs::Verdicts::row_decides, iceoryx2_pattern::proofs::Verdicts::no_row))]
-fn verify_settings(asked: &Asked, existing: &event::StaticConfig) -> Result<(), EventOpenError>
-    ensures { result ≡ verdict (marked_clauses (setting_rows asked.now.settings asked.now.marks existing.now)) }
+fn verify_settings(
+    demand: &EventDemand,
+    existing: &event::StaticConfig,
+) -> Result<(), EventOpenError>
+    ensures { result ≡ verdict (marked_clauses (setting_rows demand.now.settings demand.now.marks existing.now)) }
 {
-    let marks = &asked.marks;
-    let required = &asked.settings;
+    let marks = &demand.marks;
+    let required = &demand.settings;
     need_at_least(
         marks.max_notifiers,
         existing.max_notifiers,
@@ -145,7 +148,7 @@ fn verify_settings(asked: &Asked, existing: &event::StaticConfig) -> Result<(), 
     Ok(())
 }
 
-impl Pattern for Asked {
+impl Pattern for EventDemand {
     ghost use Rattle.iceoryx2_builder.specs.Event.{event_meaning, event_adjusted};
 
     type Fault = ServiceState;
