@@ -51,6 +51,7 @@ fn created_for_none(rt: &impl Abort, alloc: Global) -> ((u64, u64, bool, bool), 
     let is = identity(&factory, "xample", &example(rt, alloc));
     let settings = settings(&factory);
     closed(rt, factory, &mut table);
+    drop_table(table);
     (is, settings)
 }
 
@@ -58,9 +59,10 @@ fn created_for_none(rt: &impl Abort, alloc: Global) -> ((u64, u64, bool, bool), 
 fn a_created_service_raises_zero_notifiers_to_one(rt: HostRuntime) {
     let mut wanted = DEFAULTS;
     wanted.max_notifiers = 1;
-    assert_eq!(rt;
+    assert_same(
+        &rt,
         created_for_none(&rt, rt.alloc()),
-        ((0, 1, true, true), wanted)
+        ((0, 1, true, true), wanted),
     );
 }
 
@@ -82,13 +84,15 @@ fn opened_by_its_creator(rt: &impl Abort, alloc: Global) -> (Has, u64, Has) {
     let (_, participants) = seats(rt, &table);
     closed(rt, first, &mut table);
     closed(rt, second, &mut table);
-    (before, participants, has(rt, alloc, &table))
+    let after = has(rt, alloc, &table);
+    drop_table(table);
+    (before, participants, after)
 }
 
 #[test]
 fn a_second_factory_of_a_node_takes_no_further_node_slot(rt: HostRuntime) {
     let wanted = ((1, (true, 2), 2), 1, (0, (false, 0), 2));
-    assert_eq!(rt; opened_by_its_creator(&rt, rt.alloc()), wanted);
+    assert_same(&rt, opened_by_its_creator(&rt, rt.alloc()), wanted);
 }
 
 /// Why opens of node 2 are refused that want more than 4 notifiers, 4 listeners, events up to 255
@@ -109,6 +113,7 @@ fn asking_for_more(rt: &impl Abort, alloc: Global) -> ([EventOpenError; 4], u64)
     let offered = settings(&second).max_notifiers;
     closed(rt, second, &mut table);
     closed(rt, factory, &mut table);
+    drop_table(table);
     ([notifiers, listeners, events, nodes], offered)
 }
 
@@ -120,7 +125,7 @@ fn the_first_setting_that_is_too_small_is_named(rt: HostRuntime) {
         EventOpenError::DoesNotSupportRequestedMaxEventId,
         EventOpenError::DoesNotSupportRequestedAmountOfNodes,
     ];
-    assert_eq!(rt; asking_for_more(&rt, rt.alloc()), (wanted, 4));
+    assert_same(&rt, asking_for_more(&rt, rt.alloc()), (wanted, 4));
 }
 
 /// Why node 2 doesn't open a service that node 1 creates for so many nodes, over a table with this
@@ -138,13 +143,14 @@ fn second_node(
     let error = open_refusal(rt, wanting(rt, alloc, 2), &mut table);
     let (has_tag, _) = held(&table, 2, &example(rt, alloc));
     closed(rt, factory, &mut table);
+    drop_table(table);
     (error, has_tag, number)
 }
 
 #[test]
 fn a_service_for_one_node_has_no_room_for_a_second(rt: HostRuntime) {
     let wanted = (EventOpenError::ExceedsMaxNumberOfNodes, false, 0);
-    assert_eq!(rt; second_node(&rt, rt.alloc(), 1, 0), wanted);
+    assert_same(&rt, second_node(&rt, rt.alloc(), 1, 0), wanted);
 }
 
 #[test]
@@ -154,20 +160,22 @@ fn the_last_number_creates_a_service_that_nobody_else_opens(rt: HostRuntime) {
         false,
         18_446_744_073_709_551_614,
     );
-    assert_eq!(rt; second_node(&rt, rt.alloc(), 36, u64::MAX - 1), wanted);
+    assert_same(&rt, second_node(&rt, rt.alloc(), 36, u64::MAX - 1), wanted);
 }
 
 /// Why nothing is created over a table whose counter is at its end, and what the table has then.
 fn without_numbers(rt: &impl Abort, alloc: Global) -> (EventCreateError, Has) {
     let mut table = table_from(alloc, u64::MAX);
     let error = create_at_zero(rt, wanting(rt, alloc, 1), &mut table);
-    (error, has(rt, alloc, &table))
+    let after = has(rt, alloc, &table);
+    drop_table(table);
+    (error, after)
 }
 
 #[test]
 fn a_table_without_numbers_creates_nothing(rt: HostRuntime) {
     let wanted = (EventCreateError::InternalFailure, (0, (false, 0), u64::MAX));
-    assert_eq!(rt; without_numbers(&rt, rt.alloc()), wanted);
+    assert_same(&rt, without_numbers(&rt, rt.alloc()), wanted);
 }
 
 /// Why an open is refused before a service is created and after it is closed, and a second create
@@ -182,6 +190,7 @@ fn missing_or_there(
     let again = create_at_zero(rt, wanting(rt, alloc, 2), &mut table);
     closed(rt, factory, &mut table);
     let after = open_refusal(rt, wanting(rt, alloc, 2), &mut table);
+    drop_table(table);
     (before, again, after)
 }
 
@@ -192,7 +201,7 @@ fn what_is_missing_or_there_is_named(rt: HostRuntime) {
         EventCreateError::AlreadyExists,
         EventOpenError::DoesNotExist,
     );
-    assert_eq!(rt; missing_or_there(&rt, rt.alloc()), wanted);
+    assert_same(&rt, missing_or_there(&rt, rt.alloc()), wanted);
 }
 
 /// The number of a lock.
@@ -212,6 +221,7 @@ fn under_a_lock(rt: &impl Abort, alloc: Global) -> (u64, EventOpenError, EventCr
     let opening = open_refusal(rt, wanting(rt, alloc, 1), &mut table);
     let creating = create_at_zero(rt, wanting(rt, alloc, 1), &mut table);
     let (has_tag, _) = held(&table, 1, &hash);
+    drop_table(table);
     (number, opening, creating, has_tag)
 }
 
@@ -223,7 +233,7 @@ fn a_lock_of_another_makes_calls_hang(rt: HostRuntime) {
         EventCreateError::HangsInCreation,
         false,
     );
-    assert_eq!(rt; under_a_lock(&rt, rt.alloc()), wanted);
+    assert_same(&rt, under_a_lock(&rt, rt.alloc()), wanted);
 }
 
 /// What a node holds of a service whose factory it abandons.
@@ -231,12 +241,14 @@ fn abandoned(rt: &impl Abort, alloc: Global) -> (bool, u64) {
     let mut table = table_from(alloc, 0);
     let factory = created(rt, wanting(rt, alloc, 1), &mut table);
     factory.abandon();
-    held(&table, 1, &example(rt, alloc))
+    let held = held(&table, 1, &example(rt, alloc));
+    drop_table(table);
+    held
 }
 
 #[test]
 fn an_abandoned_factory_leaves_its_ticket(rt: HostRuntime) {
-    assert_eq!(rt; abandoned(&rt, rt.alloc()), (true, 1));
+    assert_same(&rt, abandoned(&rt, rt.alloc()), (true, 1));
 }
 
 /// A configuration for 5 nodes, with an event of created notifiers.
@@ -260,6 +272,7 @@ fn created_by_it(rt: &impl Abort, alloc: Global) -> (u64, StaticConfig) {
     let factory = created(rt, builder, &mut table);
     let told = (factory.node(), settings(&factory));
     closed(rt, factory, &mut table);
+    drop_table(table);
     told
 }
 
@@ -269,7 +282,7 @@ fn a_node_tells_what_it_was_made_of(rt: HostRuntime) {
     wanted.max_nodes = 5;
     wanted.notifier_created_event = Some(EventId::new(9));
     let found = (node_of(3, for_five_nodes()), created_by_it(&rt, rt.alloc()));
-    assert_eq!(rt; found, ((3, true), (3, wanted)));
+    assert_same(&rt, found, ((3, true), (3, wanted)));
 }
 
 /// The digits of the hash of events of this name.
@@ -283,5 +296,9 @@ fn digits(rt: &impl Abort, alloc: Global, text: &str) -> String {
 #[test]
 fn the_hash_of_events_is_the_standard_one(rt: HostRuntime) {
     let text = digits(&rt, rt.alloc(), "xample");
-    assert_eq!(rt; text.as_str(), "c3499c2729730a7f807efb8676a92dcb6f8a3f8f");
+    assert_same(
+        &rt,
+        text.as_str(),
+        "c3499c2729730a7f807efb8676a92dcb6f8a3f8f",
+    );
 }

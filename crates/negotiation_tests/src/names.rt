@@ -37,6 +37,7 @@ fn share(
     let second = opened(rt, events(rt, alloc, 2, text), &mut table);
     let (made, is_first_named) = settings_of(rt, first, text, &mut table);
     let (read, is_second_named) = settings_of(rt, second, text, &mut table);
+    drop_table(table);
     (read, read == made, [is_first_named, is_second_named])
 }
 
@@ -70,14 +71,14 @@ fn stamped(rt: &impl Abort) -> Deadline {
 fn a_name_of_255_bytes_is_shared(rt: HostRuntime) {
     let text = longest_name(&rt, rt.alloc());
     let found = share(&rt, rt.alloc(), Config::default(), &text, Time::default());
-    assert_eq!(rt; found, (DEFAULTS, true, [true, true]));
+    assert_same(&rt, found, (DEFAULTS, true, [true, true]));
 }
 
 #[test]
 fn a_name_in_several_scripts_is_shared(rt: HostRuntime) {
     let text = "Straße/служба/サービス/שירות/🛰";
     let found = share(&rt, rt.alloc(), Config::default(), text, Time::default());
-    assert_eq!(rt; found, (DEFAULTS, true, [true, true]));
+    assert_same(&rt, found, (DEFAULTS, true, [true, true]));
 }
 
 #[test]
@@ -87,7 +88,7 @@ fn a_deadline_carries_the_time_of_the_creation(rt: HostRuntime) {
     let mut settings = DEFAULTS;
     settings.deadline = Some(deadline);
     let found = share(&rt, rt.alloc(), with_deadline(), "due", now);
-    assert_eq!(rt; found, (settings, true, [true, true]));
+    assert_same(&rt, found, (settings, true, [true, true]));
 }
 
 /// A configuration with that deadline and three events.
@@ -110,7 +111,7 @@ fn the_longest_description_is_read_by_another_node(rt: HostRuntime) {
     settings.deadline = Some(deadline);
     let text = longest_name(&rt, rt.alloc());
     let found = share(&rt, rt.alloc(), with_every_option(), &text, now);
-    assert_eq!(rt; found, (settings, true, [true, true]));
+    assert_same(&rt, found, (settings, true, [true, true]));
 }
 
 /// Why a create with a deadline is refused where there is no time, and what the table has then:
@@ -120,11 +121,13 @@ fn without_time(rt: &impl Abort, alloc: Global) -> (EventCreateError, bool, u64)
     let builder = configured(rt, alloc, 1, with_deadline(), "due");
     let error = create_refusal(rt, builder, &mut table, Err(ClockFault));
     let (has_tag, _) = held(&table, 1, &hash_of_events(rt, alloc, "due"));
-    (error, has_tag, counter(&table))
+    let counter = counter(&table);
+    drop_table(table);
+    (error, has_tag, counter)
 }
 
 #[test]
 fn a_deadline_needs_the_time(rt: HostRuntime) {
     let found = without_time(&rt, rt.alloc());
-    assert_eq!(rt; found, (EventCreateError::InternalFailure, false, 0));
+    assert_same(&rt, found, (EventCreateError::InternalFailure, false, 0));
 }

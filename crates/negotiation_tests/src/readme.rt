@@ -1,5 +1,6 @@
 //! The example of the README, word for word.
 
+use crate::support::{assert_same, drop_table, listed};
 use iceoryx2_service::builder::Node;
 use iceoryx2_service::description::{Config, ServiceName, Time};
 use iceoryx2_service::port_factory::CloseError;
@@ -23,6 +24,7 @@ fn the_example_creates_and_closes_a_service(rt: HostRuntime) -> Result<(), Fail>
             | CloseError::DescriptionNotRemoved,
         ) => {}
     }
-    assert_eq!(rt; table.list()?.len(), 0);
+    assert_same(&rt, listed(&rt, &table), 0);
+    drop_table(table);
     Ok(())
 }

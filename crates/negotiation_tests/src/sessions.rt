@@ -96,6 +96,13 @@ fn create_without_time(
     apply(session, Command::Call(call))
 }
 
+/// The counter of a table, and how many services it lists.
+fn left(rt: &impl Abort, table: Table) -> (u64, usize) {
+    let left = (counter(&table), listed(rt, &table));
+    drop_table(table);
+    left
+}
+
 /// What commands answer whose slot is past the last one, empty, free and taken, and the counter
 /// after them.
 fn answers_of_slots(rt: &impl Abort, alloc: Global) -> ([Reply; 5], u64, usize) {
@@ -105,12 +112,8 @@ fn answers_of_slots(rt: &impl Abort, alloc: Global) -> ([Reply; 5], u64, usize) 
     let past_call = call(rt, alloc, &mut session, How::Create, (1, 64), "a");
     let made = call(rt, alloc, &mut session, How::Create, (1, 63), "a");
     let taken = call(rt, alloc, &mut session, How::Create, (1, 63), "b");
-    let table = finished(session);
-    (
-        [past, empty, past_call, made, taken],
-        counter(&table),
-        listed(rt, &table),
-    )
+    let (counter, listed) = left(rt, finished(session));
+    ([past, empty, past_call, made, taken], counter, listed)
 }
 
 #[test]
@@ -125,7 +128,7 @@ fn slots_are_tested_before_anything_is_called(rt: HostRuntime) {
         },
         Reply::SlotInUse,
     ];
-    assert_eq!(rt; answers_of_slots(&rt, rt.alloc()), (wanted, 1, 0));
+    assert_same(&rt, answers_of_slots(&rt, rt.alloc()), (wanted, 1, 0));
 }
 
 /// What a session answers that creates and opens a service and closes one slot twice, and the table
@@ -145,7 +148,8 @@ fn after_the_end(rt: &impl Abort, alloc: Global) -> ([Reply; 5], usize, [(bool, 
     let (answers, table) = answers_before_the_end(rt, alloc);
     let hash = hash_of_events(rt, alloc, "a");
     let holds = [held(&table, 1, &hash), held(&table, 2, &hash)];
-    (answers, listed(rt, &table), holds, counter(&table))
+    let (counter, listed) = left(rt, table);
+    (answers, listed, holds, counter)
 }
 
 #[test]
@@ -158,9 +162,10 @@ fn finishing_closes_every_slot(rt: HostRuntime) {
         Reply::SlotEmpty,
     ];
     let nothing = (false, 0);
-    assert_eq!(rt;
+    assert_same(
+        &rt,
         after_the_end(&rt, rt.alloc()),
-        (wanted, 0, [nothing, nothing], 3)
+        (wanted, 0, [nothing, nothing], 3),
     );
 }
 
@@ -181,7 +186,7 @@ fn answers_of_settings(rt: &impl Abort, alloc: Global) -> ([Reply; 3], u64) {
     let (max_nodes, _) = seats(rt, session.table());
     let refused = call(rt, alloc, &mut session, How::Create, (1, 1), "a");
     let missing = call(rt, alloc, &mut session, How::Open, (1, 1), "b");
-    let _table = finished(session);
+    drop_table(finished(session));
     ([made, refused, missing], max_nodes)
 }
 
@@ -192,7 +197,7 @@ fn settings_are_set_in_order(rt: HostRuntime) {
         Reply::Refused(Refusal::EventCreate(EventCreateError::AlreadyExists)),
         Reply::Refused(Refusal::EventOpen(EventOpenError::DoesNotExist)),
     ];
-    assert_eq!(rt; answers_of_settings(&rt, rt.alloc()), (wanted, 2));
+    assert_same(&rt, answers_of_settings(&rt, rt.alloc()), (wanted, 2));
 }
 
 /// A configuration with a deadline of one second.
@@ -213,7 +218,7 @@ fn refusals(rt: &impl Abort, alloc: Global) -> [Reply; 6] {
     let there = call(rt, alloc, &mut session, How::Create, (1, 1), "a");
     let small = call_with(rt, alloc, &mut session, How::Open, (2, 1), &two);
     let full = call(rt, alloc, &mut session, How::Open, (1, 1), "a");
-    let _table = finished(session);
+    drop_table(finished(session));
     [missing, untimed, made, there, small, full]
 }
 
@@ -227,5 +232,5 @@ fn each_refusal_has_its_own_name(rt: HostRuntime) {
         Reply::Refused(Refusal::EventOpen(EventOpenError::DoesNotSupportRequestedAmountOfNodes)),
         Reply::Refused(Refusal::EventOpen(EventOpenError::ExceedsMaxNumberOfNodes)),
     ];
-    assert_eq!(rt; refusals(&rt, rt.alloc()), wanted);
+    assert_same(&rt, refusals(&rt, rt.alloc()), wanted);
 }

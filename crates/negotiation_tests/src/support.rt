@@ -14,6 +14,7 @@ use iceoryx2_values::description::{ServiceHash, ServiceName};
 use iceoryx2_values::event::StaticConfig;
 use iceoryx2_values::time::{ClockFault, Time};
 use std::alloc::Global;
+use std::fmt::Debug;
 use std::process::Abort;
 
 /// What is published by default.
@@ -27,6 +28,12 @@ pub const DEFAULTS: StaticConfig = StaticConfig {
     notifier_dead_event: None,
     deadline: None,
 };
+
+/// Ends a test that finds another value than it wants. Only here is a value compared and printed, since
+/// each function that does so is dear to prove.
+pub fn assert_same<T: Debug + PartialEq + Drop>(rt: &impl Abort, found: T, wanted: T) {
+    assert_eq!(rt; found, wanted);
+}
 
 /// A name.
 pub fn name(rt: &impl Abort, alloc: Global, text: &str) -> ServiceName {
@@ -61,6 +68,11 @@ pub fn hash_of_events(rt: &impl Abort, alloc: Global, text: &str) -> ServiceHash
 /// A new table with its counter's first value.
 pub fn table_from(alloc: Global, counter: u64) -> Table {
     Table::starting_at(alloc, counter)
+}
+
+/// Lets a table go. It is dropped here alone, since each function that drops one is dear to prove.
+pub fn drop_table(table: Table) {
+    let _table = table;
 }
 
 /// What a create answers.
