@@ -1,12 +1,13 @@
 //! Names, hashes, times and settings.
 
+use crate::support::*;
 use iceoryx2_values::config::{Config, Event};
 use iceoryx2_values::description::{MessagingPattern, ServiceHash, ServiceName, ServiceNameError};
 use iceoryx2_values::event;
 use iceoryx2_values::event::EventId;
 use iceoryx2_values::time::{Duration, Time};
 use std::alloc::Global;
-use std::test::Fail;
+use std::process::Abort;
 
 /// Lengths of texts, and whether such texts are names.
 const LENGTHS: [(usize, bool); 5] = [
@@ -32,83 +33,126 @@ const DEFAULTS: Event = Event {
     deadline: None,
 };
 
-/// Whether the text is a name. A name has to hold the text, and so has its copy.
-fn is_name(alloc: Global, text: &str) -> Result<bool, Fail> {
-    match ServiceName::new(alloc, text) {
-        Ok(name) => {
-            let copy = name.clone()?;
-            let printed = format!(in alloc; "{copy}")?;
-            Ok(name == copy && name.as_str() == text && printed.as_str() == text)
-        }
-        Err(ServiceNameError::Length) => Ok(false),
-        Err(ServiceNameError::OutOfMemory) => Err("out of memory")?,
+/// Whether a name, its copy and what is printed for it hold the text, and the two are equal.
+fn holds(rt: &impl Abort, alloc: Global, name: ServiceName, text: &str) -> bool {
+    let copy = copied(rt, &name);
+    name == copy && name.as_str() == text && printed(rt, alloc, &copy).as_str() == text
+}
+
+/// Whether the text is a name, and if so, whether the name holds it.
+fn is_name(rt: &impl Abort, alloc: Global, text: &str) -> (bool, bool) {
+    match named(rt, alloc, text) {
+        Some(name) => (true, holds(rt, alloc, name, text)),
+        None => (false, false),
     }
 }
 
+/// Whether a text of so many letters is a name.
+fn is_name_of(rt: &impl Abort, alloc: Global, length: usize) -> (bool, bool) {
+    is_name(rt, alloc, repeated(rt, alloc, "x", length).as_str())
+}
+
 #[test]
-fn names_have_1_to_255_bytes(rt: HostRuntime) -> Result<(), Fail> {
+fn names_have_1_to_255_bytes(rt: HostRuntime) {
     for (length, wanted) in LENGTHS {
-        let text = "x".repeat(rt.alloc(), length)?;
-        assert_eq!(rt; is_name(rt.alloc(), &text)?, wanted, "{length}");
+        let found = is_name_of(&rt, rt.alloc(), length);
+        assert_same(&rt, (length, found), (length, (wanted, wanted)));
     }
-    assert!(rt; is_name(rt.alloc(), SCRIPTS)?);
-    Ok(())
 }
 
 #[test]
-fn names_differ_by_their_texts(rt: HostRuntime) -> Result<(), Fail> {
-    let one = ServiceName::new(rt.alloc(), "a")?;
-    let other = ServiceName::new(rt.alloc(), "A")?;
-    assert!(rt; one != other);
-    Ok(())
+fn names_are_of_any_script(rt: HostRuntime) {
+    assert_same(&rt, is_name(&rt, rt.alloc(), SCRIPTS), (true, true));
+}
+
+/// Whether the names of two texts are equal.
+fn are_equal(rt: &impl Abort, alloc: Global, one: &str, other: &str) -> bool {
+    name(rt, alloc, one) == name(rt, alloc, other)
 }
 
 #[test]
-fn errors_of_names_have_texts(rt: HostRuntime) -> Result<(), Fail> {
-    let length = format!(in rt.alloc(); "{}", ServiceNameError::Length)?;
-    let memory = format!(in rt.alloc(); "{}", ServiceNameError::OutOfMemory)?;
-    assert_eq!(rt; length.as_str(), "a service's name has 1 to 255 bytes");
-    assert_eq!(rt; memory.as_str(), "out of memory");
-    Ok(())
+fn names_differ_by_their_texts(rt: HostRuntime) {
+    assert_same(&rt, are_equal(&rt, rt.alloc(), "a", "A"), false);
 }
 
 #[test]
-fn a_hash_has_40_lower_case_digits(rt: HostRuntime) -> Result<(), Fail> {
+fn errors_of_names_have_texts(rt: HostRuntime) {
+    let length = "a service's name has 1 to 255 bytes";
+    assert_prints(&rt, rt.alloc(), &ServiceNameError::Length, length);
+    assert_prints(
+        &rt,
+        rt.alloc(),
+        &ServiceNameError::OutOfMemory,
+        "out of memory",
+    );
+}
+
+/// Ends a test that finds other digits of a hash than it wants.
+fn assert_digits(rt: &impl Abort, alloc: Global, hash: ServiceHash, wanted: &str) {
+    match hash.to_text(alloc) {
+        Ok(digits) => assert_same(rt, digits.as_str(), wanted),
+        Err(_) => panic!(rt; "no memory"),
+    }
+}
+
+#[test]
+fn a_hash_has_40_lower_case_digits(rt: HostRuntime) {
     let bytes = [
         0xa9, 0x99, 0x3e, 0x36, 0x47, 0x06, 0x81, 0x6a, 0xba, 0x3e, 0x25, 0x71, 0x78, 0x50, 0xc2,
         0x6c, 0x9c, 0xd0, 0xd8, 0x9d,
     ];
-    let text = ServiceHash(bytes).to_text(rt.alloc())?;
-    assert_eq!(rt; text.as_str(), "a9993e364706816aba3e25717850c26c9cd0d89d");
-    Ok(())
+    let wanted = "a9993e364706816aba3e25717850c26c9cd0d89d";
+    assert_digits(&rt, rt.alloc(), ServiceHash(bytes), wanted);
+}
+
+/// The parts of a span, if it may be one.
+fn span(seconds: u64, nanoseconds: u32) -> Option<(u64, u32)> {
+    match Duration::new(seconds, nanoseconds) {
+        Some(span) => Some((span.seconds(), span.nanoseconds())),
+        None => None,
+    }
+}
+
+/// The parts of a time, if it may be one.
+fn time(seconds: u64, nanoseconds: u32) -> Option<(u64, u32)> {
+    match Time::new(seconds, nanoseconds) {
+        Some(time) => Some((time.seconds(), time.nanoseconds())),
+        None => None,
+    }
 }
 
 #[test]
-fn spans_have_fewer_than_a_billion_nanoseconds(rt: HostRuntime) -> Result<(), Fail> {
-    let last = Duration::new(3, 999_999_999).ok_or("in range")?;
-    assert_eq!(rt; (last.seconds(), last.nanoseconds()), (3, 999_999_999));
-    assert!(rt; Duration::new(3, 1_000_000_000).is_none());
-    let last = Time::new(u64::MAX, 999_999_999).ok_or("in range")?;
-    assert_eq!(rt;
-        (last.seconds(), last.nanoseconds()),
-        (u64::MAX, 999_999_999)
-    );
-    assert!(rt; Time::new(0, 1_000_000_000).is_none());
-    Ok(())
+fn spans_have_fewer_than_a_billion_nanoseconds(rt: HostRuntime) {
+    let found = [
+        span(3, 999_999_999),
+        span(3, 1_000_000_000),
+        time(u64::MAX, 999_999_999),
+        time(0, 1_000_000_000),
+    ];
+    let wanted = [
+        Some((3, 999_999_999)),
+        None,
+        Some((u64::MAX, 999_999_999)),
+        None,
+    ];
+    assert_same(&rt, found, wanted);
 }
 
 #[test]
 fn times_are_ordered_by_their_seconds_first(rt: HostRuntime) {
-    let zero = Time::default();
-    assert_eq!(rt; Some(zero), Time::new(0, 0));
-    assert!(rt; Some(zero) < Time::new(0, 1));
-    assert!(rt; Time::new(0, 999_999_999) < Time::new(1, 0));
-    assert!(rt; Duration::new(0, 999_999_999) < Duration::new(1, 0));
+    let zero = Some(Time::default());
+    let found = [
+        zero == Time::new(0, 0),
+        zero < Time::new(0, 1),
+        Time::new(0, 999_999_999) < Time::new(1, 0),
+        Duration::new(0, 999_999_999) < Duration::new(1, 0),
+    ];
+    assert_same(&rt, found, [true, true, true, true]);
 }
 
 #[test]
 fn builders_start_from_the_defaults(rt: HostRuntime) {
-    assert_eq!(rt; Config::default().event, DEFAULTS);
+    assert_same(&rt, Config::default().event, DEFAULTS);
 }
 
 fn event_for(max_nodes: u64) -> MessagingPattern {
@@ -126,7 +170,11 @@ fn event_for(max_nodes: u64) -> MessagingPattern {
 
 #[test]
 fn patterns_are_compared_without_their_settings(rt: HostRuntime) {
-    assert_eq!(rt; EventId::new(9).as_value(), 9);
-    assert!(rt; event_for(1).is_same_pattern(&event_for(2)));
-    assert!(rt; event_for(1) != event_for(2));
+    let is_same = event_for(1).is_same_pattern(&event_for(2));
+    let is_equal = event_for(1) == event_for(2);
+    assert_same(
+        &rt,
+        (EventId::new(9).as_value(), is_same, is_equal),
+        (9, true, false),
+    );
 }

@@ -1,22 +1,30 @@
 //! The byte form.
 
-use iceoryx2_data::bytes::{DecodeError, decode, encode, laws};
+use crate::support::*;
+use iceoryx2_data::bytes::{DecodeError, laws};
 use iceoryx2_values::config::Config;
-use iceoryx2_values::description::{MessagingPattern, ServiceHash, ServiceName, StaticConfig};
+use iceoryx2_values::description::{MessagingPattern, ServiceHash, StaticConfig};
 use iceoryx2_values::event;
 use iceoryx2_values::event::{Deadline, EventId};
 use iceoryx2_values::time::{Duration, Time};
 use std::alloc::Global;
-use std::test::Fail;
+use std::process::Abort;
 
-/// The service `a` of events with the default settings, up to the flag of its deadline.
-const FRONT: &str =
-    "494f58320111111111111111111111111111111111111111110001610000010000000000000010000000000000001000000000000000ff0000000000000024000000";
+/// The front of a form, up to its hash.
+const HASHED: &str = "494f5832011111111111111111111111111111111111111111";
+
+/// The name `a`, and events with the default settings, up to the flag of their deadline.
+const SETTINGS: &str =
+    "0001610000010000000000000010000000000000001000000000000000ff0000000000000024000000";
 
 /// A deadline of one second and 500 nanoseconds, created at the time zero.
 const DEADLINE: &str = "010000000000000001000001f4000000000000000000000000";
 
-/// Ends behind the front, and whether the whole is a form then: the nanoseconds of a deadline and
+/// Events with the numbers 1 to 7 as their settings, up to the flag of their deadline.
+const NUMBERED: &str =
+    "0000010000000000000001000000000000000200000000000000030000000000000004010000000000000005010000000000000006010000000000000007";
+
+/// Ends behind the settings, and whether the whole is a form then: the nanoseconds of a deadline and
 /// of its creation are at their limit, and past it.
 const NANOSECONDS: [(&str, bool); 4] = [
     ("0100000000000000013b9ac9ff000000000000000000000000", true),
@@ -25,88 +33,135 @@ const NANOSECONDS: [(&str, bool); 4] = [
     ("010000000000000001000001f400000000000000003b9aca00", false),
 ];
 
-fn form(alloc: Global, last: &str) -> Result<Vec<u8>, Fail> {
-    let mut bytes = hex::decode(alloc, FRONT)?;
-    bytes.extend_from_slice(&hex::decode(alloc, last)?)?;
-    Ok(bytes)
+/// The bytes of a front up to the hash, and of these digits behind it.
+fn hashed(rt: &impl Abort, alloc: Global, name: &str, settings: &str, last: &str) -> Vec<u8> {
+    match format!(in alloc; "{HASHED}{name}{settings}{last}") {
+        Ok(digits) => bytes_of(rt, alloc, &digits),
+        Err(_) => panic!(rt; "no memory"),
+    }
 }
 
-/// The service that the front and such a deadline tell of.
-fn description(alloc: Global, deadline: Option<Deadline>) -> Result<StaticConfig, Fail> {
-    let defaults = Config::default().event;
-    Ok(StaticConfig::new(
+/// The service `a` of events with the default settings, and these digits as its deadline.
+fn form(rt: &impl Abort, alloc: Global, last: &str) -> Vec<u8> {
+    hashed(rt, alloc, "", SETTINGS, last)
+}
+
+/// A description of events with this name and these settings.
+fn description(
+    rt: &impl Abort,
+    alloc: Global,
+    text: &str,
+    settings: event::StaticConfig,
+) -> StaticConfig {
+    StaticConfig::new(
         ServiceHash([0x11; 20]),
-        ServiceName::new(alloc, "a")?,
-        MessagingPattern::Event(event::StaticConfig {
-            max_notifiers: defaults.max_notifiers,
-            max_listeners: defaults.max_listeners,
-            event_id_max_value: defaults.event_id_max_value,
-            max_nodes: defaults.max_nodes,
-            notifier_created_event: defaults.notifier_created_event,
-            notifier_dropped_event: defaults.notifier_dropped_event,
-            notifier_dead_event: defaults.notifier_dead_event,
-            deadline,
-        }),
-    ))
+        name(rt, alloc, text),
+        MessagingPattern::Event(settings),
+    )
+}
+
+/// The default settings, with such a deadline.
+fn defaults(deadline: Option<Deadline>) -> event::StaticConfig {
+    let defaults = Config::default().event;
+    event::StaticConfig {
+        max_notifiers: defaults.max_notifiers,
+        max_listeners: defaults.max_listeners,
+        event_id_max_value: defaults.event_id_max_value,
+        max_nodes: defaults.max_nodes,
+        notifier_created_event: defaults.notifier_created_event,
+        notifier_dropped_event: defaults.notifier_dropped_event,
+        notifier_dead_event: defaults.notifier_dead_event,
+        deadline,
+    }
+}
+
+/// A deadline of one second and 500 nanoseconds, created at the time zero.
+fn deadline(rt: &impl Abort) -> Deadline {
+    match Duration::new(1, 500) {
+        Some(value) => Deadline {
+            value,
+            creation_time: Time::default(),
+        },
+        None => panic!(rt; "500 nanoseconds are in range"),
+    }
 }
 
 /// Whether the bytes are a form. What is read from a form has to be written as the form again.
-fn is_form(alloc: Global, bytes: &[u8]) -> Result<bool, Fail> {
-    match decode(alloc, bytes) {
-        Ok(read) => Ok(encode(alloc, &read)?.as_slice() == bytes),
-        Err(DecodeError::Malformed) => Ok(false),
-        Err(DecodeError::OutOfMemory) => Err("out of memory")?,
+fn is_form(rt: &impl Abort, alloc: Global, bytes: &[u8]) -> bool {
+    match read(rt, alloc, bytes) {
+        Some(found) => written(rt, alloc, &found).as_slice() == bytes,
+        None => false,
     }
 }
 
-/// Whether the bytes are the form of the description.
-fn is_form_of(alloc: Global, bytes: &[u8], made: &StaticConfig) -> Result<bool, Fail> {
-    let written = encode(alloc, made)?;
-    let read = decode(alloc, bytes)?;
-    Ok(written.as_slice() == bytes && read == *made)
+/// Whether the bytes are what is written for the description.
+fn are_written(rt: &impl Abort, alloc: Global, bytes: &[u8], made: &StaticConfig) -> bool {
+    written(rt, alloc, made).as_slice() == bytes
+}
+
+/// Whether the description is what is read from the bytes.
+fn are_read(rt: &impl Abort, alloc: Global, bytes: &[u8], made: &StaticConfig) -> bool {
+    match read(rt, alloc, bytes) {
+        Some(found) => found == *made,
+        None => false,
+    }
+}
+
+/// How many bytes there are, whether they are written for the description, whether it is read from
+/// them, and for how many nodes it is.
+fn compared(
+    rt: &impl Abort,
+    alloc: Global,
+    bytes: Vec<u8>,
+    made: StaticConfig,
+) -> (usize, bool, bool, u64) {
+    (
+        bytes.len(),
+        are_written(rt, alloc, &bytes, &made),
+        are_read(rt, alloc, &bytes, &made),
+        made.max_nodes(),
+    )
 }
 
 #[test]
-fn a_description_is_read_and_written(rt: HostRuntime) -> Result<(), Fail> {
-    let bytes = form(rt.alloc(), "00")?;
-    let made = description(rt.alloc(), None)?;
-    assert_eq!(rt; bytes.len(), 67);
-    assert!(rt; is_form_of(rt.alloc(), &bytes, &made)?);
-    assert_eq!(rt; made.max_nodes(), 36);
+fn a_description_is_read_and_written(rt: HostRuntime) {
+    let made = description(&rt, rt.alloc(), "a", defaults(None));
+    let found = compared(&rt, rt.alloc(), form(&rt, rt.alloc(), "00"), made);
+    assert_same(&rt, found, (67, true, true, 36));
     laws();
-    Ok(())
 }
 
 #[test]
-fn a_deadline_is_read_and_written(rt: HostRuntime) -> Result<(), Fail> {
-    let bytes = form(rt.alloc(), DEADLINE)?;
-    let deadline = Deadline {
-        value: Duration::new(1, 500).ok_or("500 nanoseconds are in range")?,
-        creation_time: Time::default(),
-    };
-    let made = description(rt.alloc(), Some(deadline))?;
-    assert_eq!(rt; bytes.len(), 91);
-    assert!(rt; is_form_of(rt.alloc(), &bytes, &made)?);
-    Ok(())
+fn a_deadline_is_read_and_written(rt: HostRuntime) {
+    let made = description(&rt, rt.alloc(), "a", defaults(Some(deadline(&rt))));
+    let found = compared(&rt, rt.alloc(), form(&rt, rt.alloc(), DEADLINE), made);
+    assert_same(&rt, found, (91, true, true, 36));
 }
 
 /// Whether the bytes without their last ones are malformed, however many are left out.
-fn has_no_form_in_front(alloc: Global, bytes: &[u8]) -> Result<bool, Fail> {
+fn has_no_form_in_front(rt: &impl Abort, alloc: Global, bytes: &[u8]) -> bool {
     for len in 0..bytes.len() {
-        if is_form(alloc, &bytes[..len])? {
-            return Ok(false);
+        if is_form(rt, alloc, &bytes[..len]) {
+            return false;
         }
     }
-    Ok(true)
+    true
+}
+
+/// Whether the whole is a form with these digits behind the settings.
+fn is_form_with(rt: &impl Abort, alloc: Global, last: &str) -> bool {
+    is_form(rt, alloc, form(rt, alloc, last).as_slice())
 }
 
 #[test]
-fn fronts_and_longer_lists_are_malformed(rt: HostRuntime) -> Result<(), Fail> {
-    let mut bytes = form(rt.alloc(), "00")?;
-    assert!(rt; has_no_form_in_front(rt.alloc(), &bytes)?);
-    bytes.push(0)?;
-    assert!(rt; !is_form(rt.alloc(), &bytes)?);
-    Ok(())
+fn fronts_are_malformed(rt: HostRuntime) {
+    let found = has_no_form_in_front(&rt, rt.alloc(), form(&rt, rt.alloc(), "00").as_slice());
+    assert_same(&rt, found, true);
+}
+
+#[test]
+fn a_longer_list_is_malformed(rt: HostRuntime) {
+    assert_same(&rt, is_form_with(&rt, rt.alloc(), "0000"), false);
 }
 
 /// Whether the form is still one with the byte in that place.
@@ -118,53 +173,56 @@ fn may_be(place: usize, byte: u8) -> bool {
     }
 }
 
+/// Whether a form is one with the byte in that place, if another one stands there.
+fn is_form_by(
+    rt: &impl Abort,
+    alloc: Global,
+    mut bytes: Vec<u8>,
+    place: usize,
+    byte: u8,
+) -> Option<bool> {
+    if place < bytes.len() && byte != bytes[place] {
+        bytes[place] = byte;
+        Some(is_form(rt, alloc, &bytes))
+    } else {
+        None
+    }
+}
+
 #[test]
-fn a_changed_byte_gives_another_description_or_none(rt: HostRuntime) -> Result<(), Fail> {
-    let original = form(rt.alloc(), "00")?;
-    for place in 0..original.len() {
+fn a_changed_byte_gives_another_description_or_none(rt: HostRuntime) {
+    for place in 0..67usize {
         for byte in [0x00u8, 0x01, 0x02, 0x11, 0x7f, 0x80, 0xff] {
-            let mut bytes = form(rt.alloc(), "00")?;
-            if place < bytes.len() && byte != bytes[place] {
-                bytes[place] = byte;
+            let original = form(&rt, rt.alloc(), "00");
+            if let Some(found) = is_form_by(&rt, rt.alloc(), original, place, byte) {
                 let wanted = may_be(place, byte);
-                assert_eq!(rt; is_form(rt.alloc(), &bytes)?, wanted, "{byte} at {place}");
+                assert_same(&rt, (place, byte, found), (place, byte, wanted));
             }
         }
     }
-    Ok(())
 }
 
 #[test]
-fn nanoseconds_have_a_limit(rt: HostRuntime) -> Result<(), Fail> {
+fn nanoseconds_have_a_limit(rt: HostRuntime) {
     for (last, wanted) in NANOSECONDS {
-        let bytes = form(rt.alloc(), last)?;
-        assert_eq!(rt; is_form(rt.alloc(), &bytes)?, wanted, "{last}");
+        let found = is_form_with(&rt, rt.alloc(), last);
+        assert_same(&rt, (last, found), (last, wanted));
     }
-    Ok(())
 }
 
-/// The form of events with a name of 255 bytes, the numbers 1 to 7 as its settings, and a deadline.
-fn longest_form(alloc: Global) -> Result<Vec<u8>, Fail> {
-    let mut bytes = form(alloc, "00")?;
-    bytes.truncate(25);
-    bytes.extend_from_slice(&[0, 255])?;
-    bytes.extend_from_slice("n".repeat(alloc, 255)?.as_bytes())?;
-    bytes.extend_from_slice(&[0, 0, 1])?;
-    for number in 1..=4u64 {
-        bytes.extend_from_slice(&number.to_be_bytes())?;
+/// The form of events with a name of 255 letters `n`, the numbers 1 to 7 as its settings, and a
+/// deadline.
+fn longest_form(rt: &impl Abort, alloc: Global) -> Vec<u8> {
+    let letters = repeated(rt, alloc, "6e", 255);
+    match format!(in alloc; "00ff{letters}") {
+        Ok(name) => hashed(rt, alloc, &name, NUMBERED, DEADLINE),
+        Err(_) => panic!(rt; "no memory"),
     }
-    for number in 5..=7u64 {
-        bytes.push(1)?;
-        bytes.extend_from_slice(&number.to_be_bytes())?;
-    }
-    bytes.extend_from_slice(&hex::decode(alloc, DEADLINE)?)?;
-    Ok(bytes)
 }
 
-#[test]
-fn the_longest_form_is_read_in_its_order(rt: HostRuntime) -> Result<(), Fail> {
-    let bytes = longest_form(rt.alloc())?;
-    let settings = event::StaticConfig {
+/// What that form tells of.
+fn numbered(deadline: Deadline) -> event::StaticConfig {
+    event::StaticConfig {
         max_notifiers: 1,
         max_listeners: 2,
         event_id_max_value: 3,
@@ -172,27 +230,26 @@ fn the_longest_form_is_read_in_its_order(rt: HostRuntime) -> Result<(), Fail> {
         notifier_created_event: Some(EventId::new(5)),
         notifier_dropped_event: Some(EventId::new(6)),
         notifier_dead_event: Some(EventId::new(7)),
-        deadline: Some(Deadline {
-            value: Duration::new(1, 500).ok_or("500 nanoseconds are in range")?,
-            creation_time: Time::default(),
-        }),
-    };
-    let name = ServiceName::new(rt.alloc(), &"n".repeat(rt.alloc(), 255)?)?;
-    let made = StaticConfig::new(
-        ServiceHash([0x11; 20]),
-        name,
-        MessagingPattern::Event(settings),
-    );
-    assert_eq!(rt; bytes.len(), 369);
-    assert!(rt; is_form_of(rt.alloc(), &bytes, &made)?);
-    Ok(())
+        deadline: Some(deadline),
+    }
+}
+
+/// The description of a name of 255 letters `n` and those settings.
+fn longest_description(rt: &impl Abort, alloc: Global) -> StaticConfig {
+    let text = repeated(rt, alloc, "n", 255);
+    description(rt, alloc, &text, numbered(deadline(rt)))
 }
 
 #[test]
-fn errors_have_texts(rt: HostRuntime) -> Result<(), Fail> {
-    let malformed = format!(in rt.alloc(); "{}", DecodeError::Malformed)?;
-    let out_of_memory = format!(in rt.alloc(); "{}", DecodeError::OutOfMemory)?;
-    assert_eq!(rt; malformed.as_str(), "the bytes are no description");
-    assert_eq!(rt; out_of_memory.as_str(), "out of memory");
-    Ok(())
+fn the_longest_form_is_read_in_its_order(rt: HostRuntime) {
+    let made = longest_description(&rt, rt.alloc());
+    let found = compared(&rt, rt.alloc(), longest_form(&rt, rt.alloc()), made);
+    assert_same(&rt, found, (369, true, true, 4));
+}
+
+#[test]
+fn errors_have_texts(rt: HostRuntime) {
+    let malformed = "the bytes are no description";
+    assert_prints(&rt, rt.alloc(), &DecodeError::Malformed, malformed);
+    assert_prints(&rt, rt.alloc(), &DecodeError::OutOfMemory, "out of memory");
 }

@@ -5,3 +5,5 @@
 mod descriptions;
 #[cfg(test)]
 mod forms;
+#[cfg(test)]
+mod support;

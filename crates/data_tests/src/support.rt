@@ -1,0 +1,85 @@
+//! What the tests share. A call of the layer stands here alone, in a function without a contract, so
+//! that a test that makes several of them sees answers and no contracts.
+
+use iceoryx2_data::bytes::{DecodeError, decode, encode};
+use iceoryx2_values::description::{ServiceName, ServiceNameError, StaticConfig};
+use std::alloc::Global;
+use std::fmt::{Debug, Display};
+use std::process::Abort;
+
+/// Ends a test that finds another value than it wants. Only here is a value compared and printed, since
+/// each function that does so is dear to prove.
+pub fn assert_same<T: Debug + PartialEq + Drop>(rt: &impl Abort, found: T, wanted: T) {
+    assert_eq!(rt; found, wanted);
+}
+
+/// Ends a test that finds another text printed for a value than it wants.
+pub fn assert_prints<D: Display>(rt: &impl Abort, alloc: Global, value: &D, wanted: &str) {
+    assert_same(rt, printed(rt, alloc, value).as_str(), wanted);
+}
+
+/// What is printed for a value.
+pub fn printed<D: Display>(rt: &impl Abort, alloc: Global, value: &D) -> String {
+    match format!(in alloc; "{value}") {
+        Ok(text) => text,
+        Err(_) => panic!(rt; "no memory"),
+    }
+}
+
+/// A text so many times.
+pub fn repeated(rt: &impl Abort, alloc: Global, text: &str, count: usize) -> String {
+    match text.repeat(alloc, count) {
+        Ok(text) => text,
+        Err(_) => panic!(rt; "no memory"),
+    }
+}
+
+/// The name of this text, if it may be one.
+pub fn named(rt: &impl Abort, alloc: Global, text: &str) -> Option<ServiceName> {
+    match ServiceName::new(alloc, text) {
+        Ok(name) => Some(name),
+        Err(ServiceNameError::Length) => None,
+        Err(ServiceNameError::OutOfMemory) => panic!(rt; "no memory"),
+    }
+}
+
+/// The name of a text that is one.
+pub fn name(rt: &impl Abort, alloc: Global, text: &str) -> ServiceName {
+    match named(rt, alloc, text) {
+        Some(name) => name,
+        None => panic!(rt; "no name"),
+    }
+}
+
+/// The copy of a name.
+pub fn copied(rt: &impl Abort, name: &ServiceName) -> ServiceName {
+    match name.clone() {
+        Ok(copy) => copy,
+        Err(_) => panic!(rt; "no memory"),
+    }
+}
+
+/// The bytes of hexadecimal digits.
+pub fn bytes_of(rt: &impl Abort, alloc: Global, digits: &str) -> Vec<u8> {
+    match hex::decode(alloc, digits) {
+        Ok(bytes) => bytes,
+        Err(_) => panic!(rt; "no digits, or no memory"),
+    }
+}
+
+/// The bytes that are written for a description.
+pub fn written(rt: &impl Abort, alloc: Global, made: &StaticConfig) -> Vec<u8> {
+    match encode(alloc, made) {
+        Ok(bytes) => bytes,
+        Err(_) => panic!(rt; "no memory"),
+    }
+}
+
+/// The description that is read from bytes, if they are a form.
+pub fn read(rt: &impl Abort, alloc: Global, bytes: &[u8]) -> Option<StaticConfig> {
+    match decode(alloc, bytes) {
+        Ok(found) => Some(found),
+        Err(DecodeError::Malformed) => None,
+        Err(DecodeError::OutOfMemory) => panic!(rt; "no memory"),
+    }
+}
