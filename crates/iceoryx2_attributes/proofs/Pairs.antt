@@ -1,8 +1,8 @@
 -- Pairs in their order.
-use Rattle.std.proofs.Common.{◌≡◌, ℕ, ◌<◌, ◌≤◌, Bool, true, false, List, ◌∷◌, [], ◌++◌, length, All, Result, Ok, Err, IfOk, IfErr, is_ok, if◌then◌else◌, refl, length-append, sym, ap, subst, ◌∙◌, arith}
-use Rattle.std.specs.List.{insert, list_any}
+use Rattle.std.proofs.Common.{◌≡◌, ℕ, ◌-◌, ◌<◌, ◌≤◌, Bool, true, false, List, ◌∷◌, [], ◌++◌, length, All, Option, Some, None, Result, Ok, Err, IfOk, IfErr, is_ok, if◌then◌else◌, refl, length-append, sym, ap, subst, ◌∙◌, arith}
+use Rattle.std.specs.List.{insert, list_any, slice_get}
 use Rattle.std.specs.List.Sorted.{IsSearchInRange, IsBinarySearchResult}
-use Rattle.std.specs.Ordering.{ordering_index, is_eq}
+use Rattle.std.specs.Ordering.{ordering_index, is_lt, is_eq}
 use Rattle.std.specs.declared.cmp.Ordering.{Ordering}
 use Rattle.std.specs.declared.cmp.Ordering.TheVariants.{Less, Equal, Greater}
 use Rattle.std.specs.Cmp.{IsTotalOrder, both_tied, tied_itself}
@@ -82,6 +82,20 @@ unfolding pair_before
 key_found ps key h r within is =
     let answers = ascending.searched pair_cmp pair_total (λ q. text_cmp q.key key) (keys_rise key) ps h r within is in
     found_or_not r _ answers.0 answers.1 ∙ sym (has_key_is ps key)
+
+-- ---- one more behind the others
+
+-- whether it may follow the last, if there is one
+abbrev pub may_follow : Option Pair → Pair → Bool
+may_follow None p = true
+may_follow (Some q) p = is_lt (pair_cmp q p)
+
+pub ascends_behind : (ps : List Pair) (p : Pair) → ascends ps ≡ true → ascends (ps ++ p ∷ []) ≡ may_follow (slice_get ps (length ps - 1)) p
+unfolding pair_before
+ascends_behind ps p h = elim (slice_get ps (length ps - 1)) as (λ o. o ≡ slice_get ps (length ps - 1) → ascends (ps ++ p ∷ []) ≡ may_follow o p) [
+  | None ↦ λ e. ascending.ascends_first pair_before ps p e
+  | Some q ↦ λ e. ascending.ascends_push pair_before ps q p e h
+] refl
 
 -- ---- limits
 

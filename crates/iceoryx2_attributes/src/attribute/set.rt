@@ -186,7 +186,8 @@ impl AttributeSet {
         if !has_key_length(key) || !has_value_length(value) {
             return false;
         }
-        self.pairs.len() < MAX_ATTRIBUTES && last_is_before(&self.pairs, key, value)
+        let has_room = self.pairs.len() < MAX_ATTRIBUTES;
+        has_room && last_is_before(&self.pairs, key, value)
     }
 
     /// Puts a pair in its place, which is found by halving. Refusals are tested in the order of
@@ -308,6 +309,7 @@ fn finds_key(pairs: &[Attribute], key: &str) -> bool
 }
 
 /// Whether a pair may follow the last one.
+#[tactic(auto, using(crate::proofs::Pairs::ascends_behind))]
 fn last_is_before(pairs: &[Attribute], key: &str, value: &str) -> bool
     requires { IsTrue (ascends pairs.now) }
     ensures { result ≡ ascends (pairs.now ++ pair_of key.now value.now ∷ []) }

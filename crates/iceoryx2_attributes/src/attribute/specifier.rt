@@ -57,7 +57,8 @@ impl AttributeSpecifier {
         ensures value { result ≡ self }
         ensures limits { AreAttributes result }
     {
-        let _pairs = self.set.pairs();
-        self.set
+        let set = self.set;
+        let _pairs = set.pairs();
+        set
     }
 }

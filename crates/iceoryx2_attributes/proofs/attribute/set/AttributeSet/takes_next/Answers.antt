@@ -5,8 +5,8 @@ use Rattle.iceoryx2_attributes.specs.declared.attribute.TheConstants.{MAX_ATTRIB
 use Rattle.iceoryx2_attributes.proofs.Pairs.{is_pair, next_fits}
 use Rattle.iceoryx2_attributes.proofs.attribute.set.AttributeSet.takes_next.Goals as goal
 
-pub returns-then-len-lt-MAX_ATTRIBUTES : goal.returns-then-len-lt-MAX_ATTRIBUTES
-returns-then-len-lt-MAX_ATTRIBUTES c =
+pub returns-then-has_room : goal.returns-then-has_room
+returns-then-has_room c =
     let ps = c.args.self.now in
     let p = pair_of c.args.key.now c.args.value.now in
     let key : HasKeyLength c.args.key.now = search rules in
