@@ -1,4 +1,5 @@
-//! Accesses of a table and what they answer.
+//! Accesses of a table and what they answer. What the tests share stands in functions without a
+//! contract, so that a test sees answers alone.
 
 use iceoryx2_access::storage::{
     Existence, FetchError, LockError, MakeSegmentError, OpenSegmentError, PublishError, Release,
@@ -9,7 +10,14 @@ use iceoryx2_storage::local::Local;
 use iceoryx2_storage::table::Table;
 use iceoryx2_values::description::{MessagingPattern, ServiceHash, ServiceName, StaticConfig};
 use std::alloc::Global;
-use std::test::Fail;
+use std::fmt::Debug;
+use std::process::Abort;
+
+/// Ends a test that finds another value than it wants. Only here is a value compared and printed, since
+/// each function that does so is dear to prove.
+pub fn assert_same<T: Debug + PartialEq + Drop>(rt: &impl Abort, found: T, wanted: T) {
+    assert_eq!(rt; found, wanted);
+}
 
 /// The service of all accesses.
 pub const SERVICE: ServiceHash = ServiceHash([0x11; 20]);
@@ -17,14 +25,10 @@ pub const SERVICE: ServiceHash = ServiceHash([0x11; 20]);
 /// A service whose hash is the lesser one.
 pub const OTHER: ServiceHash = ServiceHash([0x10; 20]);
 
-/// The service `a` of 36 nodes with the default settings, as other programs write it.
-pub const BYTES: [u8; 67] = [
-    0x49, 0x4f, 0x58, 0x32, 0x01, 0x11, 0x11, 0x11, 0x11, 0x11, 0x11, 0x11, 0x11, 0x11, 0x11, 0x11,
-    0x11, 0x11, 0x11, 0x11, 0x11, 0x11, 0x11, 0x11, 0x11, 0x00, 0x01, 0x61, 0x00, 0x00, 0x01, 0x00,
-    0x00, 0x00, 0x00, 0x00, 0x00, 0x00, 0x10, 0x00, 0x00, 0x00, 0x00, 0x00, 0x00, 0x00, 0x10, 0x00,
-    0x00, 0x00, 0x00, 0x00, 0x00, 0x00, 0xff, 0x00, 0x00, 0x00, 0x00, 0x00, 0x00, 0x00, 0x24, 0x00,
-    0x00, 0x00, 0x00,
-];
+/// The service `a` of 36 nodes with the default settings, as other programs write it, in hexadecimal
+/// digits.
+pub const BYTES: &str =
+    "494f58320111111111111111111111111111111111111111110001610000010000000000000010000000000000001000000000000000ff000000000000002400000000";
 
 /// An access of a node, with its arguments after the node.
 #[derive(Clone, Copy)]
@@ -46,7 +50,7 @@ pub enum Access {
 }
 
 /// An answer; of a fetch the number alone.
-#[derive(Clone, Copy, Debug, PartialEq, Eq)]
+#[derive(Clone, Copy, PartialEq, Eq)]
 pub enum Answer {
     Exists(Existence),
     Fetched(Result<u64, FetchError>),
@@ -61,7 +65,7 @@ pub enum Answer {
 }
 
 /// The service `a` of so many nodes with the default settings.
-fn description(alloc: Global, hash: ServiceHash, max_nodes: u64) -> Result<StaticConfig, Fail> {
+fn description(rt: &impl Abort, alloc: Global, hash: ServiceHash, max_nodes: u64) -> StaticConfig {
     let defaults = config::Event::default();
     let settings = event::StaticConfig {
         max_notifiers: defaults.max_notifiers,
@@ -73,17 +77,20 @@ fn description(alloc: Global, hash: ServiceHash, max_nodes: u64) -> Result<Stati
         notifier_dead_event: None,
         deadline: None,
     };
-    let name = ServiceName::new(alloc, "a")?;
-    Ok(StaticConfig::new(hash, name, MessagingPattern::Event(settings)))
+    match ServiceName::new(alloc, "a") {
+        Ok(name) => StaticConfig::new(hash, name, MessagingPattern::Event(settings)),
+        Err(_) => panic!(rt; "no name"),
+    }
 }
 
 /// What a storage answers, for the service of all accesses.
-fn try_access<S: Service>(
+fn ask<S: Service>(
+    rt: &impl Abort,
     storage: &mut S::Storage,
     alloc: Global,
     access: Access,
-) -> Result<Answer, Fail> {
-    Ok(match access {
+) -> Answer {
+    match access {
         Access::Exists => Answer::Exists(storage.exists(&SERVICE)),
         Access::Fetch(node) => Answer::Fetched(match storage.fetch(node, &SERVICE) {
             Ok((number, _)) => Ok(number),
@@ -101,7 +108,7 @@ fn try_access<S: Service>(
             node, &SERVICE,
         )),
         Access::Publish(node, number, hash, max_nodes) => {
-            let description = description(alloc, hash, max_nodes)?;
+            let description = description(rt, alloc, hash, max_nodes);
             Answer::Published(storage.publish(node, &SERVICE, number, &description))
         }
         Access::OpenSegment(node, number) => Answer::Opened(storage.open_segment(
@@ -110,19 +117,25 @@ fn try_access<S: Service>(
         Access::Release(node, ticket, number) => Answer::Released(storage.release(
             ticket, node, &SERVICE, number,
         )),
-    })
+    }
 }
 
-/// The place of the first row whose access has another answer.
-pub fn first_other(
-    table: &mut Table,
-    alloc: Global,
-    rows: &[(Access, Answer)],
-) -> Result<Option<usize>, Fail> {
+/// Lets a table go. It is dropped here alone, since each function that drops one is dear to prove.
+pub fn drop_table(table: Table) {
+    let _table = table;
+}
+
+/// A new table with its counter's first value.
+pub fn table_from(alloc: Global, counter: u64) -> Table {
+    Table::starting_at(alloc, counter)
+}
+
+/// A table with this counter that has answered each row as the row says.
+pub fn driven(rt: &impl Abort, alloc: Global, counter: u64, rows: &[(Access, Answer)]) -> Table {
+    let mut table = table_from(alloc, counter);
     for (row, (access, wanted)) in rows.iter().enumerate() {
-        if try_access::<Local>(table, alloc, *access)? != *wanted {
-            return Ok(Some(row));
-        }
+        let found = ask::<Local>(rt, &mut table, alloc, *access);
+        assert!(rt; found == *wanted, "row {row} has another answer");
     }
-    Ok(None)
+    table
 }

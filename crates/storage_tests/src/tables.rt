@@ -9,7 +9,7 @@ use iceoryx2_storage::table::Table;
 use iceoryx2_storage::table::listing::{Entry, ListedRow, ListedSegment};
 use iceoryx2_values::description::ServiceHash;
 use std::alloc::Global;
-use std::test::Fail;
+use std::process::Abort;
 
 /// A node locks a service and publishes it, and others are told so.
 const CREATED: [(Access, Answer); 25] = [
@@ -226,140 +226,171 @@ fn told(entry: &Entry) -> Told {
     (entry.hash, number, entry.segment)
 }
 
-/// What the table lists.
-fn listed(alloc: Global, table: &Table) -> Result<Vec<Told>, Fail> {
-    let entries = table.list()?;
+fn entries(rt: &impl Abort, table: &Table) -> Vec<Entry> {
+    match table.list() {
+        Ok(entries) => entries,
+        Err(_) => panic!(rt; "no memory"),
+    }
+}
+
+/// What a table lists, which is then let go.
+fn listed(rt: &impl Abort, alloc: Global, table: Table) -> Vec<Told> {
+    let all = all_told(rt, alloc, entries(rt, &table));
+    drop_table(table);
+    all
+}
+
+/// What these entries tell.
+fn all_told(rt: &impl Abort, alloc: Global, entries: Vec<Entry>) -> Vec<Told> {
     let mut all = Vec::new(alloc);
     for entry in &entries {
-        all.push(told(entry))?;
+        match all.push(told(entry)) {
+            Ok(()) => {}
+            Err(_) => panic!(rt; "no memory"),
+        }
     }
-    Ok(all)
+    all
+}
+
+/// Whether this is all that is told.
+fn are(all: Vec<Told>, wanted: &[Told]) -> bool {
+    all.as_slice() == wanted
 }
 
 /// What a table lists once it has answered these rows.
-fn listed_after(alloc: Global, rows: &[(Access, Answer)]) -> Result<Vec<Told>, Fail> {
-    let mut table = Table::new(alloc);
-    if first_other(&mut table, alloc, rows)?.is_some() {
-        Err("another answer")?;
+fn listed_after(rt: &impl Abort, alloc: Global, rows: &[(Access, Answer)]) -> Vec<Told> {
+    listed(rt, alloc, driven(rt, alloc, 0, rows))
+}
+
+/// Locks a service for node 3.
+fn lock(rt: &impl Abort, table: &mut Table, hash: &ServiceHash) {
+    match table.lock(3, hash) {
+        Ok(_) => {}
+        Err(_) => panic!(rt; "no lock"),
     }
-    listed(alloc, &table)
 }
 
-/// What is listed of the service between two that node 3 locks.
-fn listed_among_others(alloc: Global) -> Result<Vec<Told>, Fail> {
-    let mut table = Table::new(alloc);
-    table.lock(3, &GREATER)?;
-    table.lock(3, &OTHER)?;
-    table.lock(1, &SERVICE)?;
-    listed(alloc, &table)
+/// What is listed of three services that node 3 locks.
+fn listed_of_three(rt: &impl Abort, alloc: Global) -> Vec<Told> {
+    let mut table = table_from(alloc, 0);
+    lock(rt, &mut table, &GREATER);
+    lock(rt, &mut table, &OTHER);
+    lock(rt, &mut table, &SERVICE);
+    listed(rt, alloc, table)
 }
 
-/// The first of these rows that a table with this counter answers otherwise, and the counter after it.
-fn driven(
-    alloc: Global,
-    counter: u64,
-    rows: &[(Access, Answer)],
-) -> Result<(Option<usize>, u64), Fail> {
-    let mut table = Table::starting_at(alloc, counter);
-    let other = first_other(&mut table, alloc, rows)?;
-    Ok((other, table.counter()))
+/// The counter of a table that had this one and has answered these rows.
+fn counter_after(rt: &impl Abort, alloc: Global, counter: u64, rows: &[(Access, Answer)]) -> u64 {
+    let table = driven(rt, alloc, counter, rows);
+    let counter = table.counter();
+    drop_table(table);
+    counter
 }
 
-/// The bytes that node 2 fetches after these rows.
-fn fetched_after(alloc: Global, rows: &[(Access, Answer)]) -> Result<Vec<u8>, Fail> {
-    let mut table = Table::new(alloc);
-    if first_other(&mut table, alloc, rows)?.is_some() {
-        Err("another answer")?;
+/// The bytes that node 2 fetches.
+fn fetched(rt: &impl Abort, table: &mut Table) -> Vec<u8> {
+    match table.fetch(2, &SERVICE) {
+        Ok((_, bytes)) => bytes,
+        Err(_) => panic!(rt; "nothing is fetched"),
     }
-    let (_, bytes) = table.fetch(2, &SERVICE)?;
-    Ok(bytes)
 }
 
-/// Whether nodes 1 and 2 have a tag and how many tickets they have after these rows, for the service and another one.
-fn held_after(alloc: Global, rows: &[(Access, Answer)]) -> Result<[(bool, u64); 4], Fail> {
-    let mut table = Table::new(alloc);
-    if first_other(&mut table, alloc, rows)?.is_some() {
-        Err("another answer")?;
+/// Ends a test that finds other bytes than those of these hexadecimal digits.
+fn assert_bytes(rt: &impl Abort, alloc: Global, bytes: Vec<u8>, wanted: &str) {
+    match hex::encode(alloc, bytes) {
+        Ok(digits) => assert_same(rt, digits.as_str(), wanted),
+        Err(_) => panic!(rt; "no memory"),
     }
-    Ok([
-        (table.has_tag(1, &SERVICE), table.tickets(1, &SERVICE)),
-        (table.has_tag(2, &SERVICE), table.tickets(2, &SERVICE)),
-        (table.has_tag(1, &OTHER), table.tickets(1, &OTHER)),
-        (table.has_tag(2, &OTHER), table.tickets(2, &OTHER)),
-    ])
+}
+
+/// Whether a node has a tag for a service, and how many tickets.
+fn held(table: &Table, node: u64, hash: &ServiceHash) -> (bool, u64) {
+    (table.has_tag(node, hash), table.tickets(node, hash))
+}
+
+/// What nodes 1 and 2 hold after these rows, for the service and another one.
+fn held_after(rt: &impl Abort, alloc: Global, rows: &[(Access, Answer)]) -> [(bool, u64); 4] {
+    let table = driven(rt, alloc, 0, rows);
+    let all = [
+        held(&table, 1, &SERVICE),
+        held(&table, 2, &SERVICE),
+        held(&table, 1, &OTHER),
+        held(&table, 2, &OTHER),
+    ];
+    drop_table(table);
+    all
 }
 
 #[test]
-fn a_service_is_created_by_who_locks_it(rt: HostRuntime) -> Result<(), Fail> {
-    assert_eq!(rt; driven(rt.alloc(), 0, &CREATED)?, (None, 1));
-    Ok(())
+fn a_service_is_created_by_who_locks_it(rt: HostRuntime) {
+    assert_same(&rt, counter_after(&rt, rt.alloc(), 0, &CREATED), 1);
 }
 
 #[test]
-fn what_is_published_is_fetched(rt: HostRuntime) -> Result<(), Fail> {
-    assert_eq!(rt;
-        fetched_after(rt.alloc(), &CREATED)?.as_slice(),
-        BYTES.as_slice()
+fn what_is_published_is_fetched(rt: HostRuntime) {
+    let mut table = driven(&rt, rt.alloc(), 0, &CREATED);
+    assert_bytes(&rt, rt.alloc(), fetched(&rt, &mut table), BYTES);
+    drop_table(table);
+}
+
+#[test]
+fn nodes_open_a_service_and_the_last_one_removes_it(rt: HostRuntime) {
+    assert_same(
+        &rt,
+        counter_after(&rt, rt.alloc(), 0, &OPENED_AND_REMOVED),
+        3,
     );
-    Ok(())
 }
 
 #[test]
-fn nodes_open_a_service_and_the_last_one_removes_it(rt: HostRuntime) -> Result<(), Fail> {
-    assert_eq!(rt; driven(rt.alloc(), 0, &OPENED_AND_REMOVED)?, (None, 3));
-    Ok(())
+fn nothing_is_listed_of_what_is_removed(rt: HostRuntime) {
+    let found = listed_after(&rt, rt.alloc(), &OPENED_AND_REMOVED);
+    assert!(rt; are(found, &[]));
 }
 
 #[test]
-fn nothing_is_listed_of_what_is_removed(rt: HostRuntime) -> Result<(), Fail> {
-    assert_eq!(rt; listed_after(rt.alloc(), &OPENED_AND_REMOVED)?.len(), 0);
-    Ok(())
+fn no_number_is_left_at_the_counters_end(rt: HostRuntime) {
+    let found = [
+        counter_after(&rt, rt.alloc(), u64::MAX, &NO_NUMBER),
+        counter_after(&rt, rt.alloc(), u64::MAX - 1, &LAST_NUMBER),
+    ];
+    assert_same(&rt, found, [u64::MAX, u64::MAX]);
 }
 
 #[test]
-fn no_number_is_left_at_the_counters_end(rt: HostRuntime) -> Result<(), Fail> {
-    assert_eq!(rt; driven(rt.alloc(), u64::MAX, &NO_NUMBER)?, (None, u64::MAX));
-    assert_eq!(rt;
-        driven(rt.alloc(), u64::MAX - 1, &LAST_NUMBER)?,
-        (None, u64::MAX)
+fn who_has_read_may_lock_what_is_gone(rt: HostRuntime) {
+    assert_same(
+        &rt,
+        counter_after(&rt, rt.alloc(), 0, &LOCKED_AFTER_READING),
+        2,
     );
-    Ok(())
 }
 
 #[test]
-fn who_has_read_may_lock_what_is_gone(rt: HostRuntime) -> Result<(), Fail> {
-    assert_eq!(rt; driven(rt.alloc(), 0, &LOCKED_AFTER_READING)?, (None, 2));
-    Ok(())
+fn rows_and_segments_are_listed_together(rt: HostRuntime) {
+    let found = listed_after(&rt, rt.alloc(), &LEFT_OF_A_LOCK);
+    assert!(rt; are(found, &[(SERVICE, Some(1), Some(LEFT))]));
 }
 
 #[test]
-fn rows_and_segments_are_listed_together(rt: HostRuntime) -> Result<(), Fail> {
-    let wanted = [(SERVICE, Some(1), Some(LEFT))];
-    assert!(rt; listed_after(rt.alloc(), &LEFT_OF_A_LOCK)?.as_slice() == wanted.as_slice());
-    Ok(())
-}
-
-#[test]
-fn services_are_listed_in_the_order_of_their_hashes(rt: HostRuntime) -> Result<(), Fail> {
+fn services_are_listed_in_the_order_of_their_hashes(rt: HostRuntime) {
+    let found = listed_of_three(&rt, rt.alloc());
     let wanted = [
         (OTHER, Some(1), None),
         (SERVICE, Some(2), None),
         (GREATER, Some(0), None),
     ];
-    assert!(rt; listed_among_others(rt.alloc())?.as_slice() == wanted.as_slice());
-    Ok(())
+    assert!(rt; are(found, &wanted));
 }
 
 #[test]
-fn a_segment_alone_is_listed(rt: HostRuntime) -> Result<(), Fail> {
-    let wanted = [(SERVICE, None, Some(LEFT))];
-    assert!(rt; listed_after(rt.alloc(), &LEFT_ALONE)?.as_slice() == wanted.as_slice());
-    Ok(())
+fn a_segment_alone_is_listed(rt: HostRuntime) {
+    let found = listed_after(&rt, rt.alloc(), &LEFT_ALONE);
+    assert!(rt; are(found, &[(SERVICE, None, Some(LEFT))]));
 }
 
 #[test]
-fn tags_and_tickets_are_a_nodes_for_a_service(rt: HostRuntime) -> Result<(), Fail> {
+fn tags_and_tickets_are_a_nodes_for_a_service(rt: HostRuntime) {
     let wanted = [(true, 2), (false, 0), (false, 0), (false, 0)];
-    assert!(rt; held_after(rt.alloc(), &OPENED_TWICE)? == wanted);
-    Ok(())
+    assert_same(&rt, held_after(&rt, rt.alloc(), &OPENED_TWICE), wanted);
 }
