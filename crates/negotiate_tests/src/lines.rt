@@ -1,8 +1,7 @@
 //! What a line says.
 
-use crate::support::answers;
+use crate::support::*;
 use std::alloc::{AllocError, Global};
-use std::test::Fail;
 
 /// Lines that are no command.
 const NO_COMMANDS: [&str; 32] = [
@@ -65,34 +64,29 @@ const BLANKS: [&str; 6] = ["", "\n", "\r\n", " \n", "   \r\n", "\r"];
 #[test]
 fn what_is_no_command_ends_the_program(rt: HostRuntime) {
     for line in NO_COMMANDS {
-        assert!(rt;
-            answers(rt.alloc(), line.as_bytes(), "line 1: not a command\n", 2),
-            "{line}"
-        );
+        assert_answers(&rt, rt.alloc(), line, "line 1: not a command\n", 2);
     }
 }
 
 #[test]
 fn what_is_no_text_ends_the_program(rt: HostRuntime) {
     for line in NO_TEXTS {
-        assert!(rt; answers(rt.alloc(), line, "line 1: not a command\n", 2));
+        let found = answers(rt.alloc(), line, 1000, "line 1: not a command\n");
+        assert_same(&rt, (line, found), (line, (true, 2)));
     }
 }
 
 #[test]
 fn a_command_is_written_in_many_ways(rt: HostRuntime) {
     for line in CREATIONS {
-        assert!(rt;
-            answers(rt.alloc(), line.as_bytes(), "ok 1 number=0\n", 0),
-            "{line}"
-        );
+        assert_answers(&rt, rt.alloc(), line, "ok 1 number=0\n", 0);
     }
 }
 
 #[test]
 fn lines_without_words_are_skipped(rt: HostRuntime) {
     for line in BLANKS {
-        assert!(rt; answers(rt.alloc(), line.as_bytes(), "", 0));
+        assert_answers(&rt, rt.alloc(), line, "", 0);
     }
 }
 
@@ -104,30 +98,24 @@ fn naming(alloc: Global, length: usize) -> Result<String, AllocError> {
 }
 
 #[test]
-fn names_have_at_most_255_bytes(rt: HostRuntime) -> Result<(), Fail> {
-    let longest = naming(rt.alloc(), 255)?;
-    let longer = naming(rt.alloc(), 256)?;
-    assert!(rt; answers(rt.alloc(), longest.as_bytes(), "ok 0 number=0\n", 0));
-    assert!(rt; answers(rt.alloc(), longer.as_bytes(), "line 1: not a command\n", 2));
-    Ok(())
+fn names_have_at_most_255_bytes(rt: HostRuntime) {
+    let alloc = rt.alloc();
+    assert_built(&rt, alloc, naming(alloc, 255), "ok 0 number=0\n", 0);
+    assert_built(&rt, alloc, naming(alloc, 256), "line 1: not a command\n", 2);
+}
+
+/// Two lines, one of this text alone and one of a command, with this text around each word.
+fn spaced_by(alloc: Global, spaces: &str) -> Result<String, AllocError> {
+    format!(in alloc; "{spaces}\n{spaces}event{spaces}create{spaces}1{spaces}0{spaces}a{spaces}")
 }
 
 /// Two lines, one of spaces alone and one of a command, with 2,000 spaces around each word.
 fn spaced(alloc: Global) -> Result<String, AllocError> {
     let spaces = " ".repeat(alloc, 2000)?;
-    let mut lines = spaces.clone()?;
-    lines.push('\n')?;
-    for word in ["event", "create", "1", "0", "a"] {
-        lines.push_str(&spaces)?;
-        lines.push_str(word)?;
-    }
-    lines.push_str(&spaces)?;
-    Ok(lines)
+    spaced_by(alloc, &spaces)
 }
 
 #[test]
-fn words_stand_apart_by_any_number_of_spaces(rt: HostRuntime) -> Result<(), Fail> {
-    let lines = spaced(rt.alloc())?;
-    assert!(rt; answers(rt.alloc(), lines.as_bytes(), "ok 0 number=0\n", 0));
-    Ok(())
+fn words_stand_apart_by_any_number_of_spaces(rt: HostRuntime) {
+    assert_built(&rt, rt.alloc(), spaced(rt.alloc()), "ok 0 number=0\n", 0);
 }

@@ -1,8 +1,7 @@
 //! Lines that follow each other.
 
-use crate::support::{answered, answers};
+use crate::support::*;
 use std::alloc::{AllocError, Global};
-use std::test::Fail;
 
 /// Inputs, what is printed for them, and the status.
 const SCRIPTS: [(&str, &str, u8); 11] = [
@@ -73,10 +72,7 @@ const SCRIPTS: [(&str, &str, u8); 11] = [
 #[test]
 fn lines_are_answered_in_their_order(rt: HostRuntime) {
     for (input, wanted, status) in SCRIPTS {
-        assert!(rt;
-            answers(rt.alloc(), input.as_bytes(), wanted, status),
-            "{input}"
-        );
+        assert_answers(&rt, rt.alloc(), input, wanted, status);
     }
 }
 
@@ -85,9 +81,8 @@ fn two_nodes_share_a_service(rt: HostRuntime) {
     let lines = "event create 1 0 xample\nevent open 2 1 xample\nclose 1\nclose 0\n";
     let wanted = "ok 0 number=0\nok 1 number=0\nclosed 1\nclosed 0\n";
     for piece in [1, 3, 1000] {
-        let (text, status) = answered(rt.alloc(), lines.as_bytes(), piece);
-        assert_eq!(rt; text.as_slice(), wanted.as_bytes());
-        assert_eq!(rt; status, 0);
+        let found = answers(rt.alloc(), lines.as_bytes(), piece, wanted);
+        assert_same(&rt, (piece, found), (piece, (true, 0)));
     }
 }
 
@@ -99,19 +94,12 @@ fn bad_line_behind(alloc: Global, blank: usize) -> Result<String, AllocError> {
 }
 
 #[test]
-fn a_bad_line_far_down_is_told_by_its_number(rt: HostRuntime) -> Result<(), Fail> {
-    let ten = bad_line_behind(rt.alloc(), 9)?;
-    let thousands = bad_line_behind(rt.alloc(), 70_000)?;
-    assert!(rt; answers(rt.alloc(), ten.as_bytes(), "line 10: not a command\n", 2));
-    assert!(rt;
-        answers(
-            rt.alloc(),
-            thousands.as_bytes(),
-            "line 70001: not a command\n",
-            2
-        )
-    );
-    Ok(())
+fn a_bad_line_far_down_is_told_by_its_number(rt: HostRuntime) {
+    let alloc = rt.alloc();
+    let tenth = "line 10: not a command\n";
+    let last = "line 70001: not a command\n";
+    assert_built(&rt, alloc, bad_line_behind(alloc, 9), tenth, 2);
+    assert_built(&rt, alloc, bad_line_behind(alloc, 70_000), last, 2);
 }
 
 /// Lines that create and close a service, 50 times, and what is to be printed for them.
@@ -127,10 +115,8 @@ fn pairs(alloc: Global) -> Result<(String, String), AllocError> {
 }
 
 #[test]
-fn a_hundred_lines_are_answered(rt: HostRuntime) -> Result<(), Fail> {
-    let (lines, wanted) = pairs(rt.alloc())?;
-    assert!(rt; answers(rt.alloc(), lines.as_bytes(), &wanted, 0));
-    Ok(())
+fn a_hundred_lines_are_answered(rt: HostRuntime) {
+    assert_pair(&rt, rt.alloc(), pairs(rt.alloc()));
 }
 
 /// Lines by which the nodes 0 to 36 want one service, for which there are 36 places, and what is
@@ -148,8 +134,6 @@ fn nodes(alloc: Global) -> Result<(String, String), AllocError> {
 }
 
 #[test]
-fn a_service_has_places_for_36_nodes(rt: HostRuntime) -> Result<(), Fail> {
-    let (lines, wanted) = nodes(rt.alloc())?;
-    assert!(rt; answers(rt.alloc(), lines.as_bytes(), &wanted, 0));
-    Ok(())
+fn a_service_has_places_for_36_nodes(rt: HostRuntime) {
+    assert_pair(&rt, rt.alloc(), nodes(rt.alloc()));
 }

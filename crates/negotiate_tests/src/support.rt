@@ -1,8 +1,10 @@
-//! A reader and a writer that tests hand to the program.
+//! A reader and a writer that tests hand to the program, and what it answers then.
 
 use negotiate_lines::serve::serve;
-use std::alloc::Global;
+use std::alloc::{AllocError, Global};
+use std::fmt::Debug;
 use std::io::{self, ErrorKind, Read, Write};
+use std::process::Abort;
 
 /// A reader that gives bytes piece by piece, and then ends, or fails where it has a fault.
 #[derive(Drop)]
@@ -83,8 +85,44 @@ pub fn answered(alloc: Global, input: &[u8], piece: usize) -> (Vec<u8>, u8) {
     (page.text, status)
 }
 
-/// Whether an input is answered by this text and ends with this status.
-pub fn answers(alloc: Global, input: &[u8], wanted: &str, status: u8) -> bool {
-    let (text, ended) = answered(alloc, input, 1000);
-    text.as_slice() == wanted.as_bytes() && ended == status
+/// Whether an input that comes in pieces of this length is answered by this text, and the status.
+pub fn answers(alloc: Global, input: &[u8], piece: usize, wanted: &str) -> (bool, u8) {
+    let (text, status) = answered(alloc, input, piece);
+    (text.as_slice() == wanted.as_bytes(), status)
+}
+
+/// Ends a test that finds another value than it wants. Only here is a value compared and printed, since
+/// each function that does so is dear to prove.
+pub fn assert_same<T: Debug + PartialEq + Drop>(rt: &impl Abort, found: T, wanted: T) {
+    assert_eq!(rt; found, wanted);
+}
+
+/// Ends a test whose input isn't answered by this text, or doesn't end with this status.
+pub fn assert_answers(rt: &impl Abort, alloc: Global, input: &str, wanted: &str, status: u8) {
+    let found = answers(alloc, input.as_bytes(), 1000, wanted);
+    assert_same(rt, (input, found), (input, (true, status)));
+}
+
+/// Ends a test whose input can't be built, isn't answered by this text, or doesn't end with this
+/// status.
+pub fn assert_built(
+    rt: &impl Abort,
+    alloc: Global,
+    input: Result<String, AllocError>,
+    wanted: &str,
+    status: u8,
+) {
+    match input {
+        Ok(input) => assert_answers(rt, alloc, &input, wanted, status),
+        Err(_) => panic!(rt; "no memory"),
+    }
+}
+
+/// Ends a test whose input and text can't be built, or whose input isn't answered by the text with the
+/// status 0.
+pub fn assert_pair(rt: &impl Abort, alloc: Global, pair: Result<(String, String), AllocError>) {
+    match pair {
+        Ok((input, wanted)) => assert_answers(rt, alloc, &input, &wanted, 0),
+        Err(_) => panic!(rt; "no memory"),
+    }
 }
