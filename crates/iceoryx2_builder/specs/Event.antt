@@ -1,13 +1,12 @@
 -- What a builder of events asks, and its errors.
-use Rattle.std.specs.Prelude.{ℕ, Bool, true, false, List, [], ◌∷◌, Option, Some, None, nat_eq, is_some, if◌then◌else◌}
+use Rattle.std.specs.Prelude.{ℕ, List, [], ◌∷◌, Option, None, nat_eq, is_some, if◌then◌else◌}
 use Rattle.std.specs.Option.{option_map}
-use Rattle.iceoryx2_values.specs.Description.{Description}
 use Rattle.iceoryx2_values.specs.Span.{Span}
 use Rattle.iceoryx2_values.specs.declared.description.MessagingPattern.{MessagingPattern}
 use Rattle.iceoryx2_values.specs.declared.description.MessagingPattern.TheVariants as existing
 use Rattle.iceoryx2_values.specs.declared.event.StaticConfig.{StaticConfig as Settings}
 use Rattle.iceoryx2_values.specs.declared.event.Deadline.{Deadline}
-use Rattle.iceoryx2_pattern.specs.Verdict.{Clause, SettingRow, at_least, marked_clauses}
+use Rattle.iceoryx2_pattern.specs.Verdict.{Clause, SettingRow, at_least, number_is, span_is, marked_clauses}
 use Rattle.iceoryx2_pattern.specs.Meaning.{Meaning}
 use Rattle.iceoryx2_errors.specs.States.{open_error_of_state, create_error_of_state}
 use Rattle.iceoryx2_errors.specs.declared.error.ServiceState.{ServiceState}
@@ -22,6 +21,10 @@ use Rattle.iceoryx2_pattern.specs.declared.pattern.CreateRefusal.TheVariants as 
 use Rattle.iceoryx2_builder.specs.declared.builder.event.demand.EventDemand.{EventDemand}
 use Rattle.iceoryx2_builder.specs.declared.builder.event.demand.Marks.{Marks}
 
+-- the length of a deadline: when the service was created is not compared
+abbrev pub deadline_value : Option Deadline → Option Span
+deadline_value deadline = option_map (λ d. d.value) deadline
+
 -- the settings in order, each with its test and its error
 abbrev pub setting_rows : Settings → Marks → Settings → List (SettingRow EventOpenError)
 setting_rows required marks existing =
@@ -33,6 +36,14 @@ setting_rows required marks existing =
     opening.DoesNotSupportRequestedMaxEventId ∷
     at_least marks.max_nodes existing.max_nodes required.max_nodes
     opening.DoesNotSupportRequestedAmountOfNodes ∷
+    number_is marks.notifier_created_event existing.notifier_created_event required.notifier_created_event
+    opening.IncompatibleNotifierCreatedEvent ∷
+    number_is marks.notifier_dropped_event existing.notifier_dropped_event required.notifier_dropped_event
+    opening.IncompatibleNotifierDroppedEvent ∷
+    number_is marks.notifier_dead_event existing.notifier_dead_event required.notifier_dead_event
+    opening.IncompatibleNotifierDeadEvent ∷
+    span_is marks.deadline (deadline_value existing.deadline) (deadline_value required.deadline)
+    opening.IncompatibleDeadline ∷
     []
 
 abbrev pub setting_clauses : EventDemand → MessagingPattern → List (Clause EventOpenError)

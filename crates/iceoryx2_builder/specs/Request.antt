@@ -1,5 +1,5 @@
 -- What a node and its builders hold.
-use Rattle.std.specs.Prelude.{ℕ, List, Option, Some, None, false, true}
+use Rattle.std.specs.Prelude.{ℕ, List, false, true}
 use Rattle.std.specs.Option.{option_map}
 use Rattle.iceoryx2_values.specs.declared.config.Config.{Config}
 use Rattle.iceoryx2_values.specs.declared.config.Event.{Event as EventDefaults}
@@ -34,9 +34,9 @@ pub record EventRequest : Type 0 where
 abbrev pub letter_of_events : ℕ
 letter_of_events = LETTER
 
--- a configured deadline, of a service that isn't created yet
-abbrev pub configured_deadline : Span → Deadline
-configured_deadline value = record { value = value; creation_time = zero_span }
+-- a deadline as a builder asks for it: when the service is created is still to come
+abbrev pub demanded_deadline : Span → Deadline
+demanded_deadline value = record { value = value; creation_time = zero_span }
 
 -- the configured settings with nothing marked
 abbrev pub fresh_demand : EventDefaults → EventDemand
@@ -49,13 +49,17 @@ fresh_demand defaults = record {
     notifier_created_event = defaults.notifier_created_event;
     notifier_dropped_event = defaults.notifier_dropped_event;
     notifier_dead_event = defaults.notifier_dead_event;
-    deadline = option_map configured_deadline defaults.deadline;
+    deadline = option_map demanded_deadline defaults.deadline;
   };
   marks = record {
     max_notifiers = false;
     max_listeners = false;
     event_id_max_value = false;
     max_nodes = false;
+    notifier_created_event = false;
+    notifier_dropped_event = false;
+    notifier_dead_event = false;
+    deadline = false;
   };
 }
 
@@ -80,6 +84,22 @@ demand_with demand (set.EventIdMaxValue n) = record {
 demand_with demand (set.MaxNodes n) = record {
   settings = record demand.settings { max_nodes = n };
   marks = record demand.marks { max_nodes = true };
+}
+demand_with demand (set.NotifierCreatedEvent id) = record {
+  settings = record demand.settings { notifier_created_event = id };
+  marks = record demand.marks { notifier_created_event = true };
+}
+demand_with demand (set.NotifierDroppedEvent id) = record {
+  settings = record demand.settings { notifier_dropped_event = id };
+  marks = record demand.marks { notifier_dropped_event = true };
+}
+demand_with demand (set.NotifierDeadEvent id) = record {
+  settings = record demand.settings { notifier_dead_event = id };
+  marks = record demand.marks { notifier_dead_event = true };
+}
+demand_with demand (set.Deadline value) = record {
+  settings = record demand.settings { deadline = option_map demanded_deadline value };
+  marks = record demand.marks { deadline = true };
 }
 
 -- a builder after one setter

@@ -1,6 +1,6 @@
 //! The builder of services of events.
 
-ghost use Rattle.std.specs.Prelude.{◌≡◌};
+ghost use Rattle.std.specs.Prelude.{◌≡◌, Some, None};
 ghost use Rattle.iceoryx2_access.specs.Run.{Joins};
 ghost use Rattle.iceoryx2_rounds.specs.Creates.{IsCreateWord};
 ghost use Rattle.iceoryx2_rounds.specs.Opens.{IsOpenWord};
@@ -20,7 +20,7 @@ use iceoryx2_rounds::create::create;
 use iceoryx2_rounds::open::open;
 use iceoryx2_values::config;
 pub use iceoryx2_values::event::EventId;
-use iceoryx2_values::time::{ClockFault, Time};
+use iceoryx2_values::time::{ClockFault, Duration, Time};
 use std::marker::Model;
 
 /// The letter that stands before a name in the hash of a service of events.
@@ -100,6 +100,63 @@ impl<S: Service> Builder<S> {
         self.with(EventSetting::MaxNodes(value))
     }
 
+    /// What is sent when a notifier is created. An existing service has to send the same.
+    pub fn notifier_created_event(self, value: EventId) -> Self
+        ensures { result ≡ with_setting self (EventSetting.NotifierCreatedEvent (Some value)) }
+    {
+        self.with(EventSetting::NotifierCreatedEvent(Some(value)))
+    }
+
+    /// Nothing is sent when a notifier is created, and nothing by an existing service either.
+    pub fn disable_notifier_created_event(self) -> Self
+        ensures { result ≡ with_setting self (EventSetting.NotifierCreatedEvent None) }
+    {
+        self.with(EventSetting::NotifierCreatedEvent(None))
+    }
+
+    /// What is sent when a notifier goes. An existing service has to send the same.
+    pub fn notifier_dropped_event(self, value: EventId) -> Self
+        ensures { result ≡ with_setting self (EventSetting.NotifierDroppedEvent (Some value)) }
+    {
+        self.with(EventSetting::NotifierDroppedEvent(Some(value)))
+    }
+
+    /// Nothing is sent when a notifier goes, and nothing by an existing service either.
+    pub fn disable_notifier_dropped_event(self) -> Self
+        ensures { result ≡ with_setting self (EventSetting.NotifierDroppedEvent None) }
+    {
+        self.with(EventSetting::NotifierDroppedEvent(None))
+    }
+
+    /// What is sent for a notifier whose process died. An existing service has to send the same.
+    pub fn notifier_dead_event(self, value: EventId) -> Self
+        ensures { result ≡ with_setting self (EventSetting.NotifierDeadEvent (Some value)) }
+    {
+        self.with(EventSetting::NotifierDeadEvent(Some(value)))
+    }
+
+    /// Nothing is sent for a notifier whose process died, and nothing by an existing service either.
+    pub fn disable_notifier_dead_event(self) -> Self
+        ensures { result ≡ with_setting self (EventSetting.NotifierDeadEvent None) }
+    {
+        self.with(EventSetting::NotifierDeadEvent(None))
+    }
+
+    /// Within what time a notifier has to notify again. An existing service has to have the same
+    /// deadline, whenever it was created.
+    pub fn deadline(self, value: Duration) -> Self
+        ensures { result ≡ with_setting self (EventSetting.Deadline (Some value)) }
+    {
+        self.with(EventSetting::Deadline(Some(value)))
+    }
+
+    /// A notifier need not notify again, and an existing service has no deadline either.
+    pub fn disable_deadline(self) -> Self
+        ensures { result ≡ with_setting self (EventSetting.Deadline None) }
+    {
+        self.with(EventSetting::Deadline(None))
+    }
+
     /// Creates the service, with the settings as they are but for zeros, which become one, and at
     /// the time `now` where it has a deadline.
     ///
@@ -130,11 +187,12 @@ impl<S: Service> Builder<S> {
     /// which the service was created.
     ///
     /// Refused with `DoesNotExist` where there is no service, with the setting's error where it
-    /// offers less than is required, with `ExceedsMaxNumberOfNodes` where no further node has room,
-    /// with `IsMarkedForDestruction` where the last node has left, with `HangsInCreation` while it is
-    /// created, with `ServiceInCorruptedState` where its description can't be read or the service
-    /// is replaced again and again, with `InternalFailure` where the storage fails, and with
-    /// `IncompatibleMessagingPattern`, `InsufficientPermissions` or `OutOfMemory` as they say.
+    /// offers less than is required or another event or deadline, with `ExceedsMaxNumberOfNodes`
+    /// where no further node has room, with `IsMarkedForDestruction` where the last node has left,
+    /// with `HangsInCreation` while it is created, with `ServiceInCorruptedState` where its
+    /// description can't be read or the service is replaced again and again, with
+    /// `InternalFailure` where the storage fails, and with `IncompatibleMessagingPattern`,
+    /// `InsufficientPermissions` or `OutOfMemory` as they say.
     pub fn open(self, storage: &mut S::Storage) -> Result<PortFactory<S>, EventOpenError>
         ensures { Joins S.Storage.step storage.old
             (λ word. IsOpenWord (event_meaning self.demand) self.node

@@ -1,19 +1,20 @@
 //! What a builder of events asks, as the rounds see it.
 
-ghost use Rattle.std.specs.Prelude.{◌≡◌};
+ghost use Rattle.std.specs.Prelude.{◌≡◌, drop};
 ghost use Rattle.iceoryx2_pattern.specs.Verdict.{verdict, marked_clauses};
 ghost use Rattle.std.specs.Option.{option_map};
 ghost use Rattle.iceoryx2_builder.specs.Event.{setting_rows, at_least_one, created_deadline};
-ghost use Rattle.iceoryx2_builder.specs.Request.{fresh_demand, demand_with};
+ghost use Rattle.iceoryx2_builder.specs.Event.{deadline_value as value_of};
+ghost use Rattle.iceoryx2_builder.specs.Request.{fresh_demand, demand_with, demanded_deadline};
 
 use crate::builder::event::setting::EventSetting;
 use iceoryx2_errors::error::{EventCreateError, EventOpenError, ServiceState};
 use iceoryx2_pattern::pattern::{CreateRefusal, OpenRefusal, Pattern};
-use iceoryx2_pattern::verdict::need_at_least;
+use iceoryx2_pattern::verdict::{need_at_least, need_duration, need_event};
 use iceoryx2_values::config;
 use iceoryx2_values::description::{MessagingPattern, StaticConfig};
 use iceoryx2_values::event::{self, Deadline};
-use iceoryx2_values::time::Time;
+use iceoryx2_values::time::{Duration, Time};
 use std::alloc::AllocError;
 
 /// Which settings a builder of events requires.
@@ -23,6 +24,10 @@ pub struct Marks {
     pub max_listeners: bool,
     pub event_id_max_value: bool,
     pub max_nodes: bool,
+    pub notifier_created_event: bool,
+    pub notifier_dropped_event: bool,
+    pub notifier_dead_event: bool,
+    pub deadline: bool,
 }
 
 /// What a builder of events asks of a service: settings, and which of them it requires.
@@ -37,13 +42,6 @@ impl EventDemand {
     pub(crate) fn start(defaults: config::Event) -> EventDemand
         ensures { result ≡ fresh_demand defaults }
     {
-        let deadline = match defaults.deadline {
-            None => None,
-            Some(value) => Some(Deadline {
-                value,
-                creation_time: Time::default(),
-            }),
-        };
         EventDemand {
             settings: event::StaticConfig {
                 max_notifiers: defaults.max_notifiers,
@@ -53,13 +51,17 @@ impl EventDemand {
                 notifier_created_event: defaults.notifier_created_event,
                 notifier_dropped_event: defaults.notifier_dropped_event,
                 notifier_dead_event: defaults.notifier_dead_event,
-                deadline,
+                deadline: deadline_before_creation(defaults.deadline),
             },
             marks: Marks {
                 max_notifiers: false,
                 max_listeners: false,
                 event_id_max_value: false,
                 max_nodes: false,
+                notifier_created_event: false,
+                notifier_dropped_event: false,
+                notifier_dead_event: false,
+                deadline: false,
             },
         }
     }
@@ -68,24 +70,38 @@ impl EventDemand {
     pub(crate) fn set(&mut self, setting: EventSetting)
         ensures { self.new ≡ demand_with self.old setting }
     {
-        let settings = &mut self.settings;
-        let marks = &mut self.marks;
         match setting {
             EventSetting::MaxNotifiers(value) => {
-                settings.max_notifiers = value;
-                marks.max_notifiers = true;
+                self.settings.max_notifiers = value;
+                self.marks.max_notifiers = true;
             }
             EventSetting::MaxListeners(value) => {
-                settings.max_listeners = value;
-                marks.max_listeners = true;
+                self.settings.max_listeners = value;
+                self.marks.max_listeners = true;
             }
             EventSetting::EventIdMaxValue(value) => {
-                settings.event_id_max_value = value;
-                marks.event_id_max_value = true;
+                self.settings.event_id_max_value = value;
+                self.marks.event_id_max_value = true;
             }
             EventSetting::MaxNodes(value) => {
-                settings.max_nodes = value;
-                marks.max_nodes = true;
+                self.settings.max_nodes = value;
+                self.marks.max_nodes = true;
+            }
+            EventSetting::NotifierCreatedEvent(id) => {
+                self.settings.notifier_created_event = id;
+                self.marks.notifier_created_event = true;
+            }
+            EventSetting::NotifierDroppedEvent(id) => {
+                self.settings.notifier_dropped_event = id;
+                self.marks.notifier_dropped_event = true;
+            }
+            EventSetting::NotifierDeadEvent(id) => {
+                self.settings.notifier_dead_event = id;
+                self.marks.notifier_dead_event = true;
+            }
+            EventSetting::Deadline(value) => {
+                self.settings.deadline = deadline_before_creation(value);
+                self.marks.deadline = true;
             }
         }
     }
@@ -96,6 +112,19 @@ fn raised(value: u64) -> u64
     ensures { result ≡ at_least_one value }
 {
     if value == 0 { 1 } else { value }
+}
+
+/// A deadline as a builder asks for it. A create sets the time.
+fn deadline_before_creation(value: Option<Duration>) -> Option<Deadline>
+    ensures { result ≡ option_map demanded_deadline value }
+{
+    match value {
+        None => None,
+        Some(value) => Some(Deadline {
+            value,
+            creation_time: Time::default(),
+        }),
+    }
 }
 
 /// The deadline of a service that is created at this time.
@@ -111,7 +140,18 @@ fn deadline_at_creation(deadline: Option<Deadline>, now: Time) -> Option<Deadlin
     }
 }
 
-/// Whether the existing settings offer what is marked.
+/// A deadline's length, without the time of creation.
+fn deadline_value(deadline: Option<Deadline>) -> Option<Duration>
+    ensures { result ≡ value_of deadline }
+{
+    match deadline {
+        None => None,
+        Some(deadline) => Some(deadline.value),
+    }
+}
+
+/// Whether the existing settings offer what is marked: first the numbers, then the events and the
+/// deadline.
 #[tactic(auto, using(iceoryx2_pattern::proofs::Verdicts::row_decides, iceoryx2_pattern::proofs::Verdicts::no_row))]
 fn verify_settings(
     demand: &EventDemand,
@@ -145,7 +185,41 @@ fn verify_settings(
         required.max_nodes,
         EventOpenError::DoesNotSupportRequestedAmountOfNodes,
     )?;
-    Ok(())
+    verify_events(demand, existing)
+}
+
+/// Whether the existing events and deadline are what is marked: the rows after the four numbers.
+#[tactic(auto, using(iceoryx2_pattern::proofs::Verdicts::row_decides, iceoryx2_pattern::proofs::Verdicts::no_row))]
+fn verify_events(demand: &EventDemand, existing: &event::StaticConfig) -> Result<(), EventOpenError>
+    ensures { result ≡
+        verdict (marked_clauses (drop 4 (setting_rows demand.now.settings demand.now.marks existing.now))) }
+{
+    let marks = &demand.marks;
+    let required = &demand.settings;
+    need_event(
+        marks.notifier_created_event,
+        existing.notifier_created_event,
+        required.notifier_created_event,
+        EventOpenError::IncompatibleNotifierCreatedEvent,
+    )?;
+    need_event(
+        marks.notifier_dropped_event,
+        existing.notifier_dropped_event,
+        required.notifier_dropped_event,
+        EventOpenError::IncompatibleNotifierDroppedEvent,
+    )?;
+    need_event(
+        marks.notifier_dead_event,
+        existing.notifier_dead_event,
+        required.notifier_dead_event,
+        EventOpenError::IncompatibleNotifierDeadEvent,
+    )?;
+    need_duration(
+        marks.deadline,
+        deadline_value(existing.deadline),
+        deadline_value(required.deadline),
+        EventOpenError::IncompatibleDeadline,
+    )
 }
 
 impl Pattern for EventDemand {

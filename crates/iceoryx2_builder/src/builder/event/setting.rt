@@ -1,5 +1,8 @@
 //! The setters of the builder of events, by name.
 
+use iceoryx2_values::event::EventId;
+use iceoryx2_values::time::Duration;
+
 /// One setter of the builder of events, with its value.
 #[derive(Clone, Copy, Debug, PartialEq, Eq)]
 pub enum EventSetting {
@@ -11,4 +14,12 @@ pub enum EventSetting {
     EventIdMaxValue(u64),
     /// For how many nodes the service is.
     MaxNodes(u64),
+    /// What is sent when a notifier is created, or that nothing is.
+    NotifierCreatedEvent(Option<EventId>),
+    /// What is sent when a notifier goes, or that nothing is.
+    NotifierDroppedEvent(Option<EventId>),
+    /// What is sent for a notifier whose process died, or that nothing is.
+    NotifierDeadEvent(Option<EventId>),
+    /// Within what time a notifier has to notify again, or that it need not.
+    Deadline(Option<Duration>),
 }
