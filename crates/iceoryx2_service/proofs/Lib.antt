@@ -5,5 +5,6 @@ pub mod Setters
 pub mod Commands
 pub mod StandingSlots
 pub mod QuietSessions
+pub mod CommandLists
 pub mod Finishing
 pub mod Finished

@@ -1,5 +1,5 @@
 -- One command of a session over a table that nobody else uses.
-use Rattle.std.proofs.Common.{◌≡◌, ℕ, List, Option, Some, None, Result, Ok, Err, inl, inr, refl, sym, ap, subst, ◌∙◌}
+use Rattle.std.proofs.Common.{◌≡◌, ℕ, Some, None, Result, Ok, Err, inl, inr, refl, sym, ap, subst, ◌∙◌}
 use Rattle.std.specs.FinMap as map
 use Rattle.std.specs.Ordering.{nat_cmp}
 use Rattle.std.proofs.lemmas.Cmp.{nat_cmp_total}
@@ -17,7 +17,10 @@ use Rattle.iceoryx2_world.proofs.agreement.Maps.{set_cases}
 use Rattle.iceoryx2_rounds.specs.Creates.{time_of}
 use Rattle.iceoryx2_access.specs.Factory.{Factory}
 use Rattle.iceoryx2_calls.specs.Quiet.{Quiet, Shows, no_service}
-use Rattle.iceoryx2_calls.specs.QuietLaws.{tickets_after}
+use Rattle.iceoryx2_calls.specs.QuietCalls.{Creates, Opens}
+use Rattle.iceoryx2_calls.specs.QuietLaws.{HoldsTheSame, tickets_after}
+use Rattle.iceoryx2_calls.proofs.quiet.After.{refused_create, refused_open}
+use Rattle.iceoryx2_calls.proofs.quiet.Listing.{lists_the_machine}
 use Rattle.iceoryx2_calls.proofs.quiet.Calls.{create_follows, open_follows, close_follows, empty_shows}
 use Rattle.iceoryx2_service.specs.declared.command.How.{How}
 use Rattle.iceoryx2_service.specs.declared.command.How.TheVariants as how
@@ -28,8 +31,8 @@ use Rattle.iceoryx2_service.specs.BuilderCalls.{BuilderCall, with_refusal}
 use Rattle.iceoryx2_service.specs.Patterns.{builder_call}
 use Rattle.iceoryx2_service.specs.Sessions.{SessionState, Builds, Goes}
 use Rattle.iceoryx2_service.specs.Sessions as goes
-use Rattle.iceoryx2_service.specs.StandingSlots.{SlotsStand, HasTicket, OwnsTickets}
-use Rattle.iceoryx2_service.specs.QuietSessions.{IsQuiet, Answers, Moves, IsMoved}
+use Rattle.iceoryx2_service.specs.StandingSlots.{SlotsStand, OwnsTickets}
+use Rattle.iceoryx2_service.specs.QuietSessions.{IsQuiet, Answers, Moves, IsMoved, TellsNoChange, IsUnchanged}
 use Rattle.iceoryx2_service.specs.QuietSessions as moves
 use Rattle.iceoryx2_service.proofs.Patterns.{IsRegularCall, call_is_regular}
 use Rattle.iceoryx2_service.proofs.SlotLists.{set_here, set_there, not_free, same_slot}
@@ -89,6 +92,9 @@ moved q old slots (goes.close_empty free) = record { state = q; moves = moves.cl
 moved {s = s} q old slots (goes.closed {slot = k} f {t = t} at is) =
     let c = close_follows f s.table.world t.world q is.1.word is.0 old.shows old.agrees (slots.stand k f at).ticket is.1.is_word (run_of_worlds is.1.run) in
     record { state = c.1.state; moves = moves.closed f at c.1.call; quiet = quiet_after _ c.1.state c.1.shows c.1.agrees; configured = refl }
+moved {s = s} q old slots (goes.listed {entries = entries} lists) =
+    record { state = q; moves = moves.listed (lists_the_machine s.table.world q entries.items old.shows lists); quiet = old; configured = refl }
+moved q old slots goes.not_listed = record { state = q; moves = moves.not_listed; quiet = old; configured = refl }
 
 -- ---- the tickets are those of the slots
 
@@ -123,6 +129,46 @@ owns_after {s = s} q old slots (goes.closed {slot = slot} f {t = t} at is) owned
           let elsewhere : (o.slot ≡ slot) → ⊥ = λ same. k.0 (sym o.ticket ∙ ap (λ u. u.ticket) (same_slot s.slots o.slot slot o.factory f o.holds at same)) in
           record { slot = o.slot; factory = o.factory; holds = set_there s.slots slot o.slot None elsewhere ∙ o.holds; ticket = o.ticket }
     ]
+owns_after q old slots (goes.listed lists) owned = owned
+owns_after q old slots goes.not_listed owned = owned
+
+-- ---- a command that opens and closes nothing
+
+not_ok : (e : Refusal) (f : Factory) → let answer : Result Factory Refusal = Err e in answer ≡ Ok f → ⊥
+not_ok e f is = absurd cc
+
+refused_answer : {E : Type 0} (carry : E → Refusal) (e : Refusal) (a : Result Factory E) (P : Type 0) → Err e ≡ with_refusal carry a
+    → ((x : E) → a ≡ Err x → P) → P
+refused_answer carry e (Ok f) P is then = absurd (not_ok e f is)
+refused_answer carry e (Err x) P is then = then x refl
+
+-- a refused call leaves what there was
+refusal_keeps : (h : How) (b : BuilderCall) (now : Result Span ClockFault) (e : Refusal) (w v : World) (q p : Quiet)
+    → Shows w q → Shows v p → Answers q b h now (Err e) p → HoldsTheSame w v
+refusal_keeps how.Create b now e w v q p s t is =
+    refused_answer b.refusal_of_create e is.0 (HoldsTheSame w v) is.1 (λ x same.
+    refused_create b.creating b.node b.hash b.name now w v q p x s t (subst (λ (a : Result Factory b.create_error). Creates b.creating q b.node b.hash b.name now a p) same is.2))
+refusal_keeps how.Open b now e w v q p s t is =
+    refused_answer b.refusal_of_open e is.0 (HoldsTheSame w v) is.1 (λ x same.
+    refused_open b.opening b.node b.hash w v q p x s t (subst (λ (a : Result Factory b.open_error). Opens b.opening q b.node b.hash a p) same is.2))
+
+pub itself : (s : SessionState) → IsUnchanged s s
+itself s = record { slots = refl; services = record { rows = λ h. refl; segments = λ h. refl; tags = λ i h. refl; counts = λ i h. refl } }
+
+pub unchanged_by : {s : SessionState} {c : Command} {a : Reply} {n : SessionState} (q : Quiet) → IsQuiet s q → Goes s c a n → TellsNoChange a
+    → IsUnchanged s n
+unchanged_by {s = s} q old (goes.call_past le) still = itself s
+unchanged_by {s = s} q old (goes.call_taken t) still = itself s
+unchanged_by q old (goes.called f free is) still = absurd still
+unchanged_by {s = s} q old (goes.refused {call = call} {e = e} {t = t} free is) still =
+    let b = builder_call s.config call in
+    let c = built call.how b call.now (Err e) s.table t q (call_is_regular s.config call.node call.name call.settings) old.shows old.agrees is in
+    record { slots = refl; services = refusal_keeps call.how b call.now e s.table.world t.world q c.state old.shows c.shows c.call }
+unchanged_by {s = s} q old (goes.close_past le) still = itself s
+unchanged_by {s = s} q old (goes.close_empty free) still = itself s
+unchanged_by q old (goes.closed f at is) still = absurd still
+unchanged_by {s = s} q old (goes.listed lists) still = itself s
+unchanged_by {s = s} q old goes.not_listed still = itself s
 
 -- ---- a session over a new table
 

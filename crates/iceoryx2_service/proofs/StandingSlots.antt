@@ -1,5 +1,5 @@
 -- The factories of a session's slots stand, over any table whose world agrees.
-use Rattle.std.proofs.Common.{◌≡◌, ◌≢◌, ℕ, ◌<◌, ◌≤◌, List, Option, Some, None, Result, Ok, Err, inl, inr, replicate, refl, sym, ap, subst, ◌∙◌, arith}
+use Rattle.std.proofs.Common.{◌≡◌, ◌≢◌, ℕ, ◌<◌, ◌≤◌, List, Option, Some, None, Result, Ok, Err, inl, inr, replicate, sym, ap, subst, ◌∙◌, arith}
 use Rattle.std.specs.Prelude.{slice_set, IfOk}
 use Rattle.iceoryx2_values.specs.declared.description.ServiceHash.{ServiceHash}
 use Rattle.iceoryx2_values.specs.declared.time.ClockFault.{ClockFault}
@@ -176,3 +176,5 @@ stand_after (goes.close_past le) agrees old = (agrees, old)
 stand_after (goes.close_empty free) agrees old = (agrees, old)
 stand_after {s = s} (goes.closed {slot = k} f {t = t} at is) agrees old =
     (agrees_after is.1.word is.1.run agrees, take_stands s t k f old at (kept_by_close s.table t f agrees is))
+stand_after (goes.listed lists) agrees old = (agrees, old)
+stand_after goes.not_listed agrees old = (agrees, old)

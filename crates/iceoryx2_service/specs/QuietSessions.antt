@@ -1,8 +1,13 @@
 -- A session over a table that nobody else uses, and what a command makes of it: one step of a map.
-use Rattle.std.specs.Prelude.{◌≡◌, ◌≤◌, ℕ, List, Option, Some, None, Result, Ok, Err, slice_set}
+use Rattle.std.specs.Prelude.{◌≡◌, ◌≤◌, ◌↔◌, ℕ, List, Vec, Option, Some, None, Result, Ok, Err}
+use Rattle.std.specs.Prelude.{IsTrue, slice_set}
+use Rattle.std.specs.declared.alloc.Global.{Global}
+use Rattle.iceoryx2_values.specs.declared.description.ServiceHash.{ServiceHash}
 use Rattle.iceoryx2_values.specs.declared.config.Config.{Config}
 use Rattle.iceoryx2_values.specs.declared.time.ClockFault.{ClockFault}
 use Rattle.iceoryx2_values.specs.Span.{Span}
+use Rattle.iceoryx2_world.specs.declared.listing.Entry.{Entry}
+use Rattle.iceoryx2_world.specs.World.{tag_of}
 use Rattle.iceoryx2_world.specs.Tables.{TableState}
 use Rattle.iceoryx2_world.specs.Across.{Agrees}
 use Rattle.iceoryx2_access.specs.Run.{Run}
@@ -19,8 +24,11 @@ use Rattle.iceoryx2_service.specs.BuilderCalls.{BuilderCall, with_refusal}
 use Rattle.iceoryx2_service.specs.Slots.{slot_count, FreeAt, HoldsAt, TakenAt}
 use Rattle.iceoryx2_service.specs.Patterns.{builder_call}
 use Rattle.iceoryx2_service.specs.Sessions.{SessionState}
+use Rattle.iceoryx2_service.specs.CommandLists.{CarriesOut}
 use Rattle.iceoryx2_calls.specs.Quiet.{Quiet, Shows}
 use Rattle.iceoryx2_calls.specs.QuietCalls.{Creates, Opens, Closes}
+use Rattle.iceoryx2_calls.specs.QuietLaws.{HoldsTheSame, times_opened}
+use Rattle.iceoryx2_calls.specs.QuietLists.{listing}
 
 -- The session's table shows the machine's state, and its world agrees.
 pub record IsQuiet (s : SessionState) (q : Quiet) : Type 0 where
@@ -56,6 +64,9 @@ pub data Moves (config : Config) (q : Quiet) (slots : List (Option Factory))
   close_empty : {slot : ℕ} → FreeAt slots slot → Moves config q slots (command.Close slot) reply.SlotEmpty q slots
   closed : {slot : ℕ} (f : Factory) {p : Quiet} → HoldsAt slots slot f → Closes q f.node f.description.hash p
       → Moves config q slots (command.Close slot) (reply.Closed slot) p (slice_set slots slot None)
+  listed : {entries : Vec Entry Global} → entries.items ≡ listing q
+      → Moves config q slots command.List (reply.Listing entries) q slots
+  not_listed : Moves config q slots command.List reply.OutOfMemory q slots
 
 -- The machine's state after a command, which the session is quiet with again.
 pub record IsMoved (old : SessionState) (q : Quiet) (c : Command) (a : Reply) (new : SessionState) : Type 0 where
@@ -63,6 +74,38 @@ pub record IsMoved (old : SessionState) (q : Quiet) (c : Command) (a : Reply) (n
   pub moves : Moves old.config q old.slots c a state new.slots
   pub quiet : IsQuiet new state
   pub configured : new.config ≡ old.config
+
+-- The machine beside the slots.
+pub record MachineState : Type 0 where
+  pub machine : Quiet
+  pub slots : List (Option Factory)
+
+abbrev pub MovesBoth : Config → MachineState → Command → Reply → MachineState → Type 0
+MovesBoth config u c a v = Moves config u.machine u.slots c a v.machine v.slots
+
+-- The machine's state after commands that were carried out in order, which the session is quiet with
+-- again. The table's tags are exactly those of the nodes that the machine counts.
+pub record AreMoved (old : SessionState) (q : Quiet) (commands : List Command) (replies : List Reply)
+    (new : SessionState) : Type 0 where
+  pub state : Quiet
+  pub moves : CarriesOut (MovesBoth old.config)
+      (record { machine = q; slots = old.slots }) commands replies
+      (record { machine = state; slots = new.slots })
+  pub quiet : IsQuiet new state
+  pub tags : (node : ℕ) (hash : ServiceHash)
+      → IsTrue (tag_of new.table.world node hash) ↔ (1 ≤ times_opened state node hash)
+  pub configured : new.config ≡ old.config
+
+-- The reply tells of no factory that was opened or closed.
+abbrev pub TellsNoChange : Reply → Type 0
+TellsNoChange (reply.Opened slot number) = ⊥
+TellsNoChange (reply.Closed slot) = ⊥
+TellsNoChange _ = Unit {0}
+
+-- The slots hold what they held, and the table has the same descriptions, segments, tags and counts.
+pub record IsUnchanged (old new : SessionState) : Type 0 where
+  pub slots : new.slots ≡ old.slots
+  pub services : HoldsTheSame old.table.world new.table.world
 
 -- the machine's state after what a slot holds is closed, if it holds something
 abbrev pub LeavesPlace : Quiet → Option Factory → Quiet → Type 0

@@ -1,8 +1,12 @@
 -- What a command makes of a session.
-use Rattle.std.specs.Prelude.{◌≡◌, ◌≤◌, ℕ, List, Option, Some, None, Result, Ok, Err, slice_get, slice_set}
+use Rattle.std.specs.Prelude.{◌≡◌, ◌≤◌, ℕ, List, Vec, Option, Some, None, Result, Ok, Err}
+use Rattle.std.specs.Prelude.{slice_get, slice_set}
+use Rattle.std.specs.declared.alloc.Global.{Global}
 use Rattle.iceoryx2_values.specs.declared.config.Config.{Config}
 use Rattle.iceoryx2_values.specs.declared.time.ClockFault.{ClockFault}
 use Rattle.iceoryx2_values.specs.Span.{Span}
+use Rattle.iceoryx2_world.specs.declared.listing.Entry.{Entry}
+use Rattle.iceoryx2_world.specs.Listing.{Lists}
 use Rattle.iceoryx2_world.specs.Tables.{TableState, IsTableAccess}
 use Rattle.iceoryx2_access.specs.Run.{Run, Joins}
 use Rattle.iceoryx2_errors.specs.declared.error.CloseError.{CloseError}
@@ -81,3 +85,6 @@ pub data Goes (old : SessionState) : Command → Reply → SessionState → Type
   closed : {slot : ℕ} (f : Factory) {t : TableState} → HoldsAt old.slots slot f → ClosesFactory old.table f t
       → Goes old (command.Close slot) (reply.Closed slot)
       (record old { table = t; slots = slice_set old.slots slot None })
+  listed : {entries : Vec Entry Global} → Lists old.table.world entries.items
+      → Goes old command.List (reply.Listing entries) old
+  not_listed : Goes old command.List reply.OutOfMemory old

@@ -4,6 +4,7 @@ pub use iceoryx2_builder::builder::event::EventSetting;
 use iceoryx2_errors::error::{EventCreateError, EventOpenError};
 use iceoryx2_values::description::ServiceName;
 use iceoryx2_values::time::{ClockFault, Time};
+use iceoryx2_world::listing::Entry;
 
 /// How a service is wanted.
 #[derive(Clone, Copy, Debug, PartialEq, Eq)]
@@ -36,6 +37,8 @@ pub enum Command {
     Call(Call),
     /// Closes the factory of a slot.
     Close { slot: usize },
+    /// Lists the table's services.
+    List,
 }
 
 /// Why a builder call was refused.
@@ -46,7 +49,7 @@ pub enum Refusal {
 }
 
 /// What a session answers.
-#[derive(Clone, Copy, Debug, PartialEq, Eq)]
+#[derive(Debug, Drop, PartialEq, Eq)]
 pub enum Reply {
     /// The slot holds the factory of the service of this number.
     Opened { slot: usize, number: u64 },
@@ -60,4 +63,8 @@ pub enum Reply {
     SlotEmpty,
     /// There are only the slots 0 to 63.
     NoSuchSlot,
+    /// Each service with a row or a segment, in the order of the hashes' bytes.
+    Listing(Vec<Entry>),
+    /// There was no memory for the listing.
+    OutOfMemory,
 }

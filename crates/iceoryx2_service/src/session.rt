@@ -1,6 +1,6 @@
 //! Commands over a table, with places for what they open.
 
-ghost use Rattle.std.specs.Prelude.{◌≡◌, ◌<◌, ℕ, replicate, slice_set, None};
+ghost use Rattle.std.specs.Prelude.{◌≡◌, ◌<◌, ℕ, IfOk, OnErr, replicate, slice_set, None};
 ghost use Rattle.iceoryx2_service.specs.Patterns.{builder_call};
 ghost use Rattle.iceoryx2_service.specs.Sessions.{Builds, ClosesSlot};
 ghost use Rattle.iceoryx2_service.specs.Slots.{slot_count};
@@ -13,6 +13,7 @@ use iceoryx2_builder::builder::Node;
 use iceoryx2_storage::local::Local;
 use iceoryx2_storage::table::Table;
 use iceoryx2_values::config::Config;
+use std::alloc::AllocError;
 
 /// A table, and 64 slots for the factories that commands open over it. It has to be spent by
 /// `finish`.
@@ -58,10 +59,13 @@ impl Session {
     ghost use Rattle.iceoryx2_world.specs.World.{empty_world};
     ghost use Rattle.iceoryx2_service.specs.SessionStates.{state_of};
     ghost use Rattle.iceoryx2_service.specs.Sessions.{AreClosed, ClosesSlots, Goes};
-    ghost use Rattle.iceoryx2_service.specs.StandingSlots.{OwnsTickets, SlotsStand};
+    ghost use Rattle.iceoryx2_service.specs.CommandLists.{CarriesOut};
+    ghost use Rattle.iceoryx2_service.specs.StandingSlots.{GoesStanding, OwnsTickets, SlotsStand};
     ghost use Rattle.iceoryx2_calls.specs.Quiet.{Quiet, no_service};
     ghost use Rattle.iceoryx2_calls.specs.QuietLaws.{HasNothingAt};
-    ghost use Rattle.iceoryx2_service.specs.QuietSessions.{IsFinished, IsMoved, IsQuiet};
+    ghost use Rattle.iceoryx2_service.specs.QuietSessions.{AreMoved, IsFinished, IsMoved, IsQuiet};
+    ghost use Rattle.iceoryx2_service.specs.QuietSessions.{IsUnchanged, TellsNoChange};
+    ghost use Rattle.iceoryx2_access.specs.Run.{Each};
     ghost use Rattle.iceoryx2_service.specs.declared.command.Command.TheVariants as command;
 
     /// A session whose nodes have this configuration. All its slots are free.
@@ -104,7 +108,49 @@ impl Session {
         match command {
             Command::Call(call) => self.call(call),
             Command::Close { slot } => self.close(slot),
+            Command::List => self.list(),
         }
+    }
+
+    /// Carries out commands in order, and gives as many replies, each the one to its command. Room for
+    /// all replies is asked for first.
+    pub fn run(&mut self, commands: Vec<Command>) -> Result<Vec<Reply>, AllocError>
+        // Where there is no room, nothing is carried out.
+        ensures refused { OnErr result (state_of self.new ≡ state_of self.old) }
+
+        // Over any table each command goes as it does by itself, from the state that the one before it left.
+        ensures goes { IfOk result (λ replies.
+            CarriesOut Goes (state_of self.old) commands.items replies.items (state_of self.new)) }
+
+        // Over any table whose world agrees, the world agrees afterwards, and the factories of all
+        // slots stand, each with a ticket of its own,
+        ensures stands { Agrees (state_of self.old).table.world → SlotsStand (state_of self.old)
+            → Agrees (state_of self.new).table.world × SlotsStand (state_of self.new) }
+
+        // and so it is after each of the commands.
+        ensures between { Agrees (state_of self.old).table.world → SlotsStand (state_of self.old)
+            → IfOk result (λ replies.
+            CarriesOut GoesStanding (state_of self.old) commands.items replies.items (state_of self.new)) }
+
+        // Over a table that nobody else uses the commands are as many steps of the quiet machine.
+        ensures quiet { (q : Quiet) → IsQuiet (state_of self.old) q → SlotsStand (state_of self.old)
+            → IfOk result (λ replies.
+            AreMoved (state_of self.old) q commands.items replies.items (state_of self.new)) }
+
+        // There the table's tickets stay those of the slots.
+        ensures owns { (q : Quiet) → IsQuiet (state_of self.old) q → SlotsStand (state_of self.old)
+            → OwnsTickets (state_of self.old) → OwnsTickets (state_of self.new) }
+
+        // And there nothing changes where no reply tells of a factory that was opened or closed.
+        ensures unchanged { (q : Quiet) → IsQuiet (state_of self.old) q → SlotsStand (state_of self.old)
+            → IfOk result (λ replies.
+            Each TellsNoChange replies.items → IsUnchanged (state_of self.old) (state_of self.new)) }
+    {
+        let mut replies = Vec::with_capacity(*commands.allocator(), commands.len())?;
+        for command in commands {
+            replies.push_reserved(self.apply(command));
+        }
+        Ok(replies)
     }
 
     fn call(&mut self, call: Call) -> Reply
@@ -139,6 +185,15 @@ impl Session {
                 Reply::Closed { slot }
             }
             None => Reply::SlotEmpty,
+        }
+    }
+
+    fn list(&self) -> Reply
+        ensures { Goes (state_of self.now) command.List result (state_of self.now) }
+    {
+        match self.table.list() {
+            Ok(entries) => Reply::Listing(entries),
+            Err(_) => Reply::OutOfMemory,
         }
     }
 

@@ -3,3 +3,4 @@
 pub use iceoryx2_storage::local::Local;
 pub use iceoryx2_storage::table::Table;
 pub use iceoryx2_world::listing::{Entry, ListedRow, ListedSegment};
+pub use iceoryx2_world::world::Bytes;

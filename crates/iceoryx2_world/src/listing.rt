@@ -4,7 +4,7 @@ use crate::world::Bytes;
 use iceoryx2_values::description::ServiceHash;
 
 /// What is written under a hash, as it is listed.
-#[derive(Drop)]
+#[derive(Debug, Drop, PartialEq, Eq)]
 pub enum ListedRow {
     Absent,
     /// Somebody is creating the service of this number.
@@ -26,7 +26,7 @@ pub struct ListedSegment {
 }
 
 /// What there is of one service.
-#[derive(Drop)]
+#[derive(Debug, Drop, PartialEq, Eq)]
 pub struct Entry {
     pub hash: ServiceHash,
     pub row: ListedRow,

@@ -34,7 +34,7 @@ pub enum Phase {
 }
 
 /// Bytes that are kept.
-#[derive(Drop)]
+#[derive(Debug, Drop)]
 pub struct Bytes {
     bytes: Vec<u8>,
 }
@@ -66,6 +66,27 @@ impl Bytes {
     {
         self.bytes.clone()
     }
+}
+
+impl PartialEq for Bytes {
+    ghost use Rattle.std.specs.Prelude.{bytes_eq};
+    ghost use Rattle.std.proofs.Common.{rules};
+    ghost use Rattle.std.specs.Cmp.Rules.{comparing};
+
+    ghost eq = { bytes_eq };
+
+    ghost laws = { Prim.search (comparing, rules) };
+
+    fn eq(&self, other: &Bytes) -> bool {
+        self.as_slice() == other.as_slice()
+    }
+}
+
+impl Eq for Bytes {
+    ghost use Rattle.std.proofs.Common.{rules};
+    ghost use Rattle.std.specs.Cmp.Rules.{comparing};
+
+    ghost laws = { Prim.search (comparing, rules) };
 }
 
 /// What is written under a hash.

@@ -14,6 +14,7 @@ use Rattle.negotiate_lines.specs.Lines.{Says, AreLine, IsLine}
 says_few : (words : List (List ℕ)) (said : Command) → Says words said → length words < 6
 says_few words (command.Call call) is = omega (arith, ap (λ (ws : List (List ℕ)). length ws) is.are)
 says_few words (command.Close slot) is = omega (arith, ap (λ (ws : List (List ℕ)). length ws) is.are)
+says_few words command.List is = omega (arith, ap (λ (ws : List (List ℕ)). length ws) is)
 
 many : (words : List (List ℕ)) (told : Line) → 6 ≤ length words → AreLine (take 6 words) told → AreLine words told
 many words line.Blank le are = absurd (omega (arith, length-take-le 6 words le, ap (λ (ws : List (List ℕ)). length ws) are))

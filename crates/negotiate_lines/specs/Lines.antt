@@ -49,6 +49,7 @@ pub record SaysClose (words : List (List ℕ)) (closed : ℕ) : Type 0 where
 abbrev pub Says : List (List ℕ) → Command → Type 0
 Says words (command.Call call) = SaysCall words call
 Says words (command.Close slot) = SaysClose words slot
+Says words command.List = words ≡ codes "list" ∷ []
 
 -- The words are what the line is told to be: nothing, a command, or words that are no command.
 abbrev pub AreLine : List (List ℕ) → Line → Type 0

@@ -2,4 +2,5 @@
 #![tactic(auto)]
 
 pub mod line;
+pub mod reply;
 pub mod serve;

@@ -73,6 +73,7 @@ fn said(alloc: Global, words: &[&str]) -> Result<Line, AllocError>
 {
     match words {
         [] => Ok(Line::Blank),
+        ["list"] => Ok(Line::Command(Command::List)),
         ["close", slot] => Ok(close(slot)),
         ["event", how, node, slot, name] => event(alloc, how, node, slot, name),
         _ => Ok(Line::NotACommand),

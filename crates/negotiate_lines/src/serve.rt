@@ -1,7 +1,8 @@
 //! Lines in, replies out.
 
 use crate::line::{self, Line};
-use iceoryx2_service::command::{Command, Refusal, Reply};
+use crate::reply::describe;
+use iceoryx2_service::command::Command;
 use iceoryx2_service::description::Config;
 use iceoryx2_service::session::Session;
 use iceoryx2_service::table::Table;
@@ -85,28 +86,17 @@ fn answer_line(
         }
         Line::Command(command) => {
             let slot = slot_of(&command);
-            describe(session.apply(command), slot, text)?;
+            describe(&session.apply(command), slot, text)?;
             Ok(true)
         }
     }
 }
 
+/// The slot that a command names. A list names none, and no reply to it tells one.
 fn slot_of(command: &Command) -> usize {
     match command {
         Command::Call(call) => call.slot,
         Command::Close { slot } => *slot,
-    }
-}
-
-/// Writes the line for a reply to a command for this slot.
-pub fn describe(reply: Reply, slot: usize, text: &mut String) -> Result<(), AllocError> {
-    match reply {
-        Reply::Opened { slot, number } => writeln!(text, "ok {slot} number={number}"),
-        Reply::Refused(Refusal::EventOpen(error)) => writeln!(text, "{error}"),
-        Reply::Refused(Refusal::EventCreate(error)) => writeln!(text, "{error}"),
-        Reply::Closed { slot } => writeln!(text, "closed {slot}"),
-        Reply::SlotInUse => writeln!(text, "slot {slot} in use"),
-        Reply::SlotEmpty => writeln!(text, "slot {slot} empty"),
-        Reply::NoSuchSlot => writeln!(text, "no slot {slot}"),
+        Command::List => 0,
     }
 }

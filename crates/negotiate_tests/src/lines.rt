@@ -4,7 +4,7 @@ use crate::support::*;
 use std::alloc::{AllocError, Global};
 
 /// Lines that are no command.
-const NO_COMMANDS: [&str; 32] = [
+const NO_COMMANDS: [&str; 34] = [
     "close 64",
     "close",
     "close 0 0",
@@ -19,7 +19,9 @@ const NO_COMMANDS: [&str; 32] = [
     "Close 0",
     "clos 0",
     "closed 0",
-    "list",
+    "list 0",
+    "lists",
+    "List",
     "\t",
     "\0",
     "\r\r\n",

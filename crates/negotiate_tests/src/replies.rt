@@ -3,7 +3,7 @@
 use crate::support::assert_same;
 use iceoryx2_service::builder::event::{EventCreateError, EventOpenError};
 use iceoryx2_service::command::{Refusal, Reply};
-use negotiate_lines::serve::describe;
+use negotiate_lines::reply::describe;
 use std::alloc::Global;
 use std::process::Abort;
 
@@ -46,7 +46,7 @@ const REPLIES: [(Reply, &str); 11] = [
 /// Ends a test that finds another line for a reply than it wants.
 fn assert_line(rt: &impl Abort, alloc: Global, reply: Reply, wanted: &str) {
     let mut text = String::new(alloc);
-    match describe(reply, 9, &mut text) {
+    match describe(&reply, 9, &mut text) {
         Ok(()) => assert_same(rt, text.as_str(), wanted),
         Err(_) => panic!(rt; "no memory"),
     }

@@ -4,7 +4,7 @@ use crate::support::*;
 use std::alloc::{AllocError, Global};
 
 /// Inputs, what is printed for them, and the status.
-const SCRIPTS: [(&str, &str, u8); 11] = [
+const SCRIPTS: [(&str, &str, u8); 14] = [
     // Blank lines are counted.
     ("\nevent jump 1 0 a", "line 2: not a command\n", 2),
     // A missing service is no fault of the line.
@@ -15,7 +15,7 @@ const SCRIPTS: [(&str, &str, u8); 11] = [
     ),
     // What comes behind a line that is no command is not answered.
     (
-        "event create 1 0 a\nlist\nclose 0\nevent create 1 1 b\n",
+        "event create 1 0 a\nlisten\nclose 0\nevent create 1 1 b\n",
         "ok 0 number=0\nline 2: not a command\n",
         2,
     ),
@@ -61,6 +61,24 @@ const SCRIPTS: [(&str, &str, u8); 11] = [
         "EventOpenError::DoesNotExist\nok 0 number=0\nEventCreateError::AlreadyExists\nslot 1 empty\n",
         0,
     ),
+    // A service is listed while it stands.
+    (
+        "event create 1 0 xample\nlist\nclose 0\nlist\n",
+        "ok 0 number=0\nevent xample c3499c2729730a7f807efb8676a92dcb6f8a3f8f number=0 nodes=1/36\n1 services\nclosed 0\n0 services\n",
+        0,
+    ),
+    // Each node is listed once, however often it has opened.
+    (
+        "event create 1 0 a\nevent open 2 1 a\nevent open 2 2 a\n list \r\n",
+        "ok 0 number=0\nok 1 number=0\nok 2 number=0\nevent a 2c80b2a2bbaf51fb8c37a202457e983be837343e number=0 nodes=2/36\n1 services\n",
+        0,
+    ),
+    // Services are listed ascending by hash.
+    (
+        "event create 1 0 b\nevent create 1 1 c\nevent create 1 2 a\nlist",
+        "ok 0 number=0\nok 1 number=1\nok 2 number=2\nevent a 2c80b2a2bbaf51fb8c37a202457e983be837343e number=2 nodes=1/36\nevent c 7dd84750ee8571116cd2b06f62f56f472df8bf0a number=1 nodes=1/36\nevent b 97a02664f35ad0c9cbf2121dceebca2d7373e34a number=0 nodes=1/36\n3 services\n",
+        0,
+    ),
     // A closed slot is free.
     (
         "event create 1 0 a\nclose 0\nclose 0\nevent create 1 0 a",
@@ -89,7 +107,7 @@ fn two_nodes_share_a_service(rt: HostRuntime) {
 /// So many blank lines, and then one that is no command.
 fn bad_line_behind(alloc: Global, blank: usize) -> Result<String, AllocError> {
     let mut lines = "\n".repeat(alloc, blank)?;
-    lines.push_str("list\nclose 0\n")?;
+    lines.push_str("listen\nclose 0\n")?;
     Ok(lines)
 }
 

@@ -1,4 +1,3 @@
-use Rattle.iceoryx2_service.specs.SessionStates.{state_of}
 use Rattle.iceoryx2_service.proofs.StandingSlots.{stand_after}
 use Rattle.iceoryx2_service.proofs.QuietSessions.{moved, owns_after}
 use Rattle.iceoryx2_service.proofs.session.Session.apply.Goals as goal
@@ -20,3 +19,6 @@ returns-in-Call-clause-owns c = λ q quiet old owned. owns_after q quiet old c.c
 
 pub returns-in-Close-clause-owns : goal.returns-in-Close-clause-owns
 returns-in-Close-clause-owns c = λ q quiet old owned. owns_after q quiet old c.close.ensures owned
+
+pub returns-in-List-clause-quiet : goal.returns-in-List-clause-quiet
+returns-in-List-clause-quiet c = λ q quiet old. moved q quiet old (rw c.in-List.is c.list.ensures)
