@@ -5,10 +5,12 @@ use iceoryx2_errors::error::{EventCreateError, EventOpenError};
 use iceoryx2_service::command::{Call, Command, EventSetting, How, Refusal, Reply, Settings};
 use iceoryx2_service::session::Session;
 use iceoryx2_storage::table::Table;
+use iceoryx2_storage::table::listing::{Entry, ListedRow};
 use iceoryx2_values::config::Config;
 use iceoryx2_values::time::{ClockFault, Duration, Time};
-use std::alloc::Global;
+use std::alloc::{AllocError, Global};
 use std::process::Abort;
+use std::test::Fail;
 
 /// A session over a new table.
 fn started(alloc: Global, config: Config) -> Session {
@@ -198,6 +200,122 @@ fn settings_are_set_in_order(rt: HostRuntime) {
         Reply::Refused(Refusal::EventOpen(EventOpenError::DoesNotExist)),
     ];
     assert_same(&rt, answers_of_settings(&rt, rt.alloc()), (wanted, 2));
+}
+
+/// What a reply tells, without hashes and bytes.
+#[derive(Clone, Copy, Debug, PartialEq, Eq)]
+enum Told {
+    Opened(u64),
+    Closed(usize),
+    Listed(usize),
+    Other,
+}
+
+fn in_short(reply: &Reply) -> Told {
+    match reply {
+        Reply::Opened { slot: _, number } => Told::Opened(*number),
+        Reply::Closed { slot } => Told::Closed(*slot),
+        Reply::Listing(entries) => Told::Listed(entries.len()),
+        _ => Told::Other,
+    }
+}
+
+/// Commands that create the service `a`, close it and ask for a listing before, between and after.
+fn commands(rt: &impl Abort, alloc: Global) -> Vec<Command> {
+    let create = Call {
+        how: How::Create,
+        node: 1,
+        slot: 9,
+        name: name(rt, alloc, "a"),
+        settings: Settings::Event(Vec::new(alloc)),
+        now: Ok(Time::default()),
+    };
+    let commands = vec![in alloc;
+        Command::List,
+        Command::Call(create),
+        Command::List,
+        Command::Close { slot: 9 },
+        Command::List,
+        Command::Close { slot: 9 },
+    ];
+    match commands {
+        Ok(commands) => commands,
+        Err(_) => panic!(rt; "no memory"),
+    }
+}
+
+/// What a session answers to commands in one go.
+fn run(session: &mut Session, commands: Vec<Command>) -> Result<Vec<Reply>, AllocError> {
+    session.run(commands)
+}
+
+/// What is told to those commands, one after the other, and to none.
+fn told_in_a_run(rt: &impl Abort, alloc: Global) -> Result<(Vec<Told>, usize), AllocError> {
+    let mut session = started(alloc, Config::default());
+    let replies = run(&mut session, commands(rt, alloc));
+    let nothing = run(&mut session, Vec::new(alloc));
+    let _table = finished(session);
+    Ok((
+        replies?.iter().map(in_short).collect(alloc)?,
+        nothing?.len(),
+    ))
+}
+
+#[test]
+fn commands_are_carried_out_one_after_the_other(rt: HostRuntime) -> Result<(), Fail> {
+    let wanted = [
+        Told::Listed(0),
+        Told::Opened(0),
+        Told::Listed(1),
+        Told::Closed(9),
+        Told::Listed(0),
+        Told::Other,
+    ];
+    let (told, nothing) = told_in_a_run(&rt, rt.alloc())?;
+    assert_eq!(rt; (told.as_slice(), nothing), (wanted.as_slice(), 0));
+    Ok(())
+}
+
+/// What a session lists in which three services are open, and what its table does.
+fn listings(rt: &impl Abort, alloc: Global) -> (Reply, Result<Vec<Entry>, AllocError>) {
+    let mut session = started(alloc, Config::default());
+    for (slot, text) in [(0, "a"), (1, "b"), (2, "c")] {
+        let _opened = call(rt, alloc, &mut session, How::Create, (1, slot), text);
+    }
+    let listing = apply(&mut session, Command::List);
+    let listed = session.table().list();
+    let _table = finished(session);
+    (listing, listed)
+}
+
+/// The first byte of each hash of a listing, with the service's number.
+fn first_bytes(
+    rt: &impl Abort,
+    alloc: Global,
+    listing: &Reply,
+) -> Result<Vec<(u8, u64)>, AllocError> {
+    let Reply::Listing(entries) = listing else {
+        panic!(rt; "no listing")
+    };
+    let mut bytes = Vec::new(alloc);
+    for entry in entries {
+        if let ListedRow::Published(number, _) = entry.row {
+            bytes.push((entry.hash.0[0], number))?;
+        }
+    }
+    Ok(bytes)
+}
+
+#[test]
+fn services_are_listed_ascending_by_hash(rt: HostRuntime) -> Result<(), Fail> {
+    let (listing, listed) = listings(&rt, rt.alloc());
+    let bytes = first_bytes(&rt, rt.alloc(), &listing)?;
+    assert_eq!(rt;
+        bytes.as_slice(),
+        [(0x2c, 0), (0x7d, 2), (0x97, 1)].as_slice()
+    );
+    assert_eq!(rt; listing, Reply::Listing(listed?));
+    Ok(())
 }
 
 /// A configuration with a deadline of one second.
