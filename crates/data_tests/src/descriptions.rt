@@ -10,7 +10,7 @@ use std::alloc::Global;
 use std::process::Abort;
 
 /// Lengths of texts, and whether such texts are names.
-const LENGTHS: [(usize, bool); 5] = [
+const LENGTHS: &[(usize, bool)] = &[
     (0, false),
     (1, true),
     (255, true),
@@ -54,7 +54,7 @@ fn is_name_of(rt: &impl Abort, alloc: Global, length: usize) -> (bool, bool) {
 
 #[test]
 fn names_have_1_to_255_bytes(rt: HostRuntime) {
-    for (length, wanted) in LENGTHS {
+    for &(length, wanted) in LENGTHS {
         let found = is_name_of(&rt, rt.alloc(), length);
         assert_same(&rt, (length, found), (length, (wanted, wanted)));
     }

@@ -26,7 +26,7 @@ const NUMBERED: &str =
 
 /// Ends behind the settings, and whether the whole is a form then: the nanoseconds of a deadline and
 /// of its creation are at their limit, and past it.
-const NANOSECONDS: [(&str, bool); 4] = [
+const NANOSECONDS: &[(&str, bool)] = &[
     ("0100000000000000013b9ac9ff000000000000000000000000", true),
     ("0100000000000000013b9aca00000000000000000000000000", false),
     ("010000000000000001000001f400000000000000003b9ac9ff", true),
@@ -204,7 +204,7 @@ fn a_changed_byte_gives_another_description_or_none(rt: HostRuntime) {
 
 #[test]
 fn nanoseconds_have_a_limit(rt: HostRuntime) {
-    for (last, wanted) in NANOSECONDS {
+    for &(last, wanted) in NANOSECONDS {
         let found = is_form_with(&rt, rt.alloc(), last);
         assert_same(&rt, (last, found), (last, wanted));
     }

@@ -12,7 +12,7 @@ use std::alloc::Global;
 use std::process::Abort;
 
 /// A node locks a service and publishes it, and others are told so.
-const CREATED: [(Access, Answer); 25] = [
+const CREATED: &[(Access, Answer)] = &[
     (Access::Exists, Answer::Exists(Existence::No)),
     (
         Access::Fetch(1),
@@ -83,7 +83,7 @@ const CREATED: [(Access, Answer); 25] = [
 ];
 
 /// Nodes open a service until it is full, and the last one that leaves removes it.
-const OPENED_AND_REMOVED: [(Access, Answer); 23] = [
+const OPENED_AND_REMOVED: &[(Access, Answer)] = &[
     (Access::MakeTag(1), Answer::Tagged(Ok(Tag::Made))),
     (Access::MakeTag(1), Answer::Tagged(Ok(Tag::Found))),
     (Access::Lock(1), Answer::Locked(Ok(0))),
@@ -140,7 +140,7 @@ const OPENED_AND_REMOVED: [(Access, Answer); 23] = [
 ];
 
 /// A service takes the last number.
-const LAST_NUMBER: [(Access, Answer); 5] = [
+const LAST_NUMBER: &[(Access, Answer)] = &[
     (Access::Lock(1), Answer::Locked(Ok(18446744073709551614))),
     (
         Access::MakeSegment(1, 18446744073709551614, 36),
@@ -158,7 +158,7 @@ const LAST_NUMBER: [(Access, Answer); 5] = [
 ];
 
 /// A lock that left its segment, and the next lock.
-const LEFT_OF_A_LOCK: [(Access, Answer); 5] = [
+const LEFT_OF_A_LOCK: &[(Access, Answer)] = &[
     (Access::Lock(1), Answer::Locked(Ok(0))),
     (Access::MakeSegment(1, 0, 5), Answer::Made(Ok(()))),
     (Access::RemoveDescription(1), Answer::Removed(Ok(()))),
@@ -170,17 +170,17 @@ const LEFT_OF_A_LOCK: [(Access, Answer); 5] = [
 ];
 
 /// A lock that left its segment.
-const LEFT_ALONE: [(Access, Answer); 3] = [
+const LEFT_ALONE: &[(Access, Answer)] = &[
     (Access::Lock(1), Answer::Locked(Ok(0))),
     (Access::MakeSegment(1, 0, 5), Answer::Made(Ok(()))),
     (Access::RemoveDescription(1), Answer::Removed(Ok(()))),
 ];
 
 /// No number is left.
-const NO_NUMBER: [(Access, Answer); 1] = [(Access::Lock(1), Answer::Locked(Err(LockError::Other)))];
+const NO_NUMBER: &[(Access, Answer)] = &[(Access::Lock(1), Answer::Locked(Err(LockError::Other)))];
 
 /// The creator tags its service and opens it once more.
-const OPENED_TWICE: [(Access, Answer); 5] = [
+const OPENED_TWICE: &[(Access, Answer)] = &[
     (Access::MakeTag(1), Answer::Tagged(Ok(Tag::Made))),
     (Access::Lock(1), Answer::Locked(Ok(0))),
     (Access::MakeSegment(1, 0, 36), Answer::Made(Ok(()))),
@@ -189,7 +189,7 @@ const OPENED_TWICE: [(Access, Answer); 5] = [
 ];
 
 /// A node reads a service that its creator then removes, and locks it.
-const LOCKED_AFTER_READING: [(Access, Answer); 9] = [
+const LOCKED_AFTER_READING: &[(Access, Answer)] = &[
     (Access::Lock(1), Answer::Locked(Ok(0))),
     (Access::MakeSegment(1, 0, 36), Answer::Made(Ok(()))),
     (Access::Publish(1, 0, SERVICE, 36), Answer::Published(Ok(0))),
@@ -323,12 +323,12 @@ fn held_after(rt: &impl Abort, alloc: Global, rows: &[(Access, Answer)]) -> [(bo
 
 #[test]
 fn a_service_is_created_by_who_locks_it(rt: HostRuntime) {
-    assert_same(&rt, counter_after(&rt, rt.alloc(), 0, &CREATED), 1);
+    assert_same(&rt, counter_after(&rt, rt.alloc(), 0, CREATED), 1);
 }
 
 #[test]
 fn what_is_published_is_fetched(rt: HostRuntime) {
-    let mut table = driven(&rt, rt.alloc(), 0, &CREATED);
+    let mut table = driven(&rt, rt.alloc(), 0, CREATED);
     assert_bytes(&rt, rt.alloc(), fetched(&rt, &mut table), BYTES);
     drop_table(table);
 }
@@ -337,22 +337,22 @@ fn what_is_published_is_fetched(rt: HostRuntime) {
 fn nodes_open_a_service_and_the_last_one_removes_it(rt: HostRuntime) {
     assert_same(
         &rt,
-        counter_after(&rt, rt.alloc(), 0, &OPENED_AND_REMOVED),
+        counter_after(&rt, rt.alloc(), 0, OPENED_AND_REMOVED),
         3,
     );
 }
 
 #[test]
 fn nothing_is_listed_of_what_is_removed(rt: HostRuntime) {
-    let found = listed_after(&rt, rt.alloc(), &OPENED_AND_REMOVED);
+    let found = listed_after(&rt, rt.alloc(), OPENED_AND_REMOVED);
     assert!(rt; are(found, &[]));
 }
 
 #[test]
 fn no_number_is_left_at_the_counters_end(rt: HostRuntime) {
     let found = [
-        counter_after(&rt, rt.alloc(), u64::MAX, &NO_NUMBER),
-        counter_after(&rt, rt.alloc(), u64::MAX - 1, &LAST_NUMBER),
+        counter_after(&rt, rt.alloc(), u64::MAX, NO_NUMBER),
+        counter_after(&rt, rt.alloc(), u64::MAX - 1, LAST_NUMBER),
     ];
     assert_same(&rt, found, [u64::MAX, u64::MAX]);
 }
@@ -361,14 +361,14 @@ fn no_number_is_left_at_the_counters_end(rt: HostRuntime) {
 fn who_has_read_may_lock_what_is_gone(rt: HostRuntime) {
     assert_same(
         &rt,
-        counter_after(&rt, rt.alloc(), 0, &LOCKED_AFTER_READING),
+        counter_after(&rt, rt.alloc(), 0, LOCKED_AFTER_READING),
         2,
     );
 }
 
 #[test]
 fn rows_and_segments_are_listed_together(rt: HostRuntime) {
-    let found = listed_after(&rt, rt.alloc(), &LEFT_OF_A_LOCK);
+    let found = listed_after(&rt, rt.alloc(), LEFT_OF_A_LOCK);
     assert!(rt; are(found, &[(SERVICE, Some(1), Some(LEFT))]));
 }
 
@@ -385,12 +385,12 @@ fn services_are_listed_in_the_order_of_their_hashes(rt: HostRuntime) {
 
 #[test]
 fn a_segment_alone_is_listed(rt: HostRuntime) {
-    let found = listed_after(&rt, rt.alloc(), &LEFT_ALONE);
+    let found = listed_after(&rt, rt.alloc(), LEFT_ALONE);
     assert!(rt; are(found, &[(SERVICE, None, Some(LEFT))]));
 }
 
 #[test]
 fn tags_and_tickets_are_a_nodes_for_a_service(rt: HostRuntime) {
     let wanted = [(true, 2), (false, 0), (false, 0), (false, 0)];
-    assert_same(&rt, held_after(&rt, rt.alloc(), &OPENED_TWICE), wanted);
+    assert_same(&rt, held_after(&rt, rt.alloc(), OPENED_TWICE), wanted);
 }
