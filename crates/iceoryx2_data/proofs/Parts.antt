@@ -8,7 +8,7 @@ use Rattle.std.proofs.lemmas.List.{take_at, drop_at, take-append-drop, length-ap
 use Rattle.std.proofs.lemmas.Nat.{be_bytes_2, be_bytes_4, be_bytes_8, from_be_bytes-to_be_bytes_2, from_be_bytes-to_be_bytes_4, from_be_bytes-to_be_bytes_8}
 use Rattle.std.specs.Str.{bytes_eq}
 use Rattle.std.proofs.lemmas.Slice.Eq.{bytes_eq-Decides}
-use Rattle.iceoryx2_values.specs.Texts.{IsText}
+use Rattle.iceoryx2_attributes.specs.Texts.{IsText}
 use Rattle.iceoryx2_data.specs.Form.{text, option}
 use Rattle.iceoryx2_data.specs.Reading.{◌>>=◌, Part, then_at, as_at, where_at, number_at, bytes_at, literal_at, text_at, option_at}
 

@@ -6,13 +6,16 @@ use Rattle.iceoryx2_values.specs.declared.description.MessagingPattern.{Messagin
 use Rattle.iceoryx2_values.specs.declared.description.MessagingPattern.TheVariants.{Event}
 use Rattle.iceoryx2_values.specs.declared.event.StaticConfig.{StaticConfig as EventConfig}
 use Rattle.iceoryx2_values.specs.declared.event.Deadline.{Deadline}
+use Rattle.iceoryx2_attributes.specs.Attributes.{Pair, AreAttributes}
 use Rattle.iceoryx2_values.specs.Span.{IsSpan}
-use Rattle.iceoryx2_values.specs.Texts.{IsName}
+use Rattle.iceoryx2_values.specs.Names.{IsName}
 
 -- What nodes that share a service agree on.
 pub record Description : Type 0 where
   pub hash : ServiceHash
   pub name : List ℕ
+  -- strictly ascending
+  pub attributes : List Pair
   pub pattern : MessagingPattern
 
 abbrev pub max_nodes_of : MessagingPattern → ℕ
@@ -46,4 +49,5 @@ pub record IsHash (h : ServiceHash) : Type 0 where
 pub record IsDescription (d : Description) : Type 0 where
   pub hash : IsHash d.hash
   pub name : IsName d.name
+  pub attributes : AreAttributes d.attributes
   pub pattern : IsPattern d.pattern

@@ -1,5 +1,5 @@
 pub mod Span
-pub mod Texts
+pub mod Names
 pub mod Defaults
 pub mod Description
 pub mod Errors

@@ -2,10 +2,11 @@
 
 ghost use Rattle.std.specs.Prelude.{◌≡◌, ◌<◌, ◌≤◌, ◌↔◌, ◌⊎◌, Err, IfOk, OnOk, IsTrue, All, length, string_bytes};
 ghost use Rattle.hex.specs.Hex.{encode_lower};
-ghost use Rattle.iceoryx2_values.specs.Texts.{IsName};
+ghost use Rattle.iceoryx2_values.specs.Names.{IsName};
 ghost use Rattle.iceoryx2_values.specs.Description.{IsHash, IsPattern};
 
 use crate::event;
+use iceoryx2_attributes::attribute::AttributeSet;
 use std::alloc::{AllocError, Global};
 use std::error::Error;
 use std::fmt;
@@ -28,7 +29,7 @@ pub struct ServiceName {
 
 impl Model for ServiceName {
     ghost use Rattle.std.specs.Prelude.{List, ℕ, string_bytes};
-    ghost use Rattle.iceoryx2_values.specs.Texts.{IsName};
+    ghost use Rattle.iceoryx2_values.specs.Names.{IsName};
 
     ghost Value = { List ℕ };
 
@@ -196,12 +197,13 @@ fn pattern_fits(pattern: &MessagingPattern)
     }
 }
 
-/// What nodes that share a service agree on: its hash, its name, and its pattern with the
-/// settings.
+/// What nodes that share a service agree on: its hash, its name, its attributes, and its pattern
+/// with the settings.
 #[derive(Debug, Drop, PartialEq, Eq)]
 pub struct StaticConfig {
     hash: ServiceHash,
     name: ServiceName,
+    attributes: AttributeSet,
     pattern: MessagingPattern,
 }
 
@@ -210,29 +212,52 @@ impl Model for StaticConfig {
 
     ghost Value = { Description };
 
-    ghost view = { λ d. record { hash = d.hash; name = d.name; pattern = d.pattern } };
+    ghost view = { λ d. record {
+      hash = d.hash;
+      name = d.name;
+      attributes = d.attributes;
+      pattern = d.pattern;
+    } };
 
     ghost use Rattle.iceoryx2_values.specs.Description.{IsDescription};
 
-    ghost invariant = { λ d. IsDescription (record { hash = d.hash; name = d.name; pattern = d.pattern }) };
+    ghost invariant = { λ d. IsDescription (record {
+      hash = d.hash;
+      name = d.name;
+      attributes = d.attributes;
+      pattern = d.pattern;
+    }) };
 
-    ghost inverse = { λ d. record { hash = d.hash; name = d.name; pattern = d.pattern } };
+    ghost inverse = { λ d. record {
+      hash = d.hash;
+      name = d.name;
+      attributes = d.attributes;
+      pattern = d.pattern;
+    } };
 }
 
 impl StaticConfig {
     ghost use Rattle.iceoryx2_values.specs.Description.{IsDescription, max_nodes_of};
 
     /// The description of these parts.
-    pub fn new(hash: ServiceHash, name: ServiceName, pattern: MessagingPattern) -> StaticConfig
-        ensures value { result ≡ (record { hash = hash; name = name; pattern = pattern }) }
+    pub fn new(
+        hash: ServiceHash,
+        name: ServiceName,
+        attributes: AttributeSet,
+        pattern: MessagingPattern,
+    ) -> StaticConfig
+        ensures value { result
+            ≡ (record { hash = hash; name = name; attributes = attributes; pattern = pattern }) }
         ensures limits { IsDescription result }
     {
         let _bytes = hash.as_bytes();
         let _text = name.as_str();
+        let _pairs = attributes.pairs();
         pattern_fits(&pattern);
         StaticConfig {
             hash,
             name,
+            attributes,
             pattern,
         }
     }
@@ -251,6 +276,14 @@ impl StaticConfig {
         ensures limits { IsDescription self.now }
     {
         &self.name
+    }
+
+    /// The service's attributes.
+    pub fn attributes(&self) -> &AttributeSet
+        ensures value { result.now ≡ self.now.attributes }
+        ensures limits { IsDescription self.now }
+    {
+        &self.attributes
     }
 
     /// The service's pattern with its settings.

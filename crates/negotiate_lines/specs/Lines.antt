@@ -2,7 +2,7 @@
 use Rattle.std.specs.Prelude.{ℕ, ◌≡◌, ◌≢◌, ◌^◌, List, [], ◌∷◌, Option, MatchOption, Ok, codes}
 use Rattle.std.specs.Str.{IsUtf8}
 use Rattle.iceoryx2_values.specs.Span.{zero_span}
-use Rattle.iceoryx2_values.specs.Texts.{IsName}
+use Rattle.iceoryx2_values.specs.Names.{IsName}
 use Rattle.iceoryx2_service.specs.declared.command.Command.{Command}
 use Rattle.iceoryx2_service.specs.declared.command.Command.TheVariants as command
 use Rattle.iceoryx2_service.specs.declared.command.Call.{Call}

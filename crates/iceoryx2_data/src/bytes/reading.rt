@@ -4,7 +4,7 @@ ghost use Rattle.std.specs.Prelude.{◌≡◌, true, false, length, IfOk, MatchR
 ghost use Rattle.std.specs.Int.{w16, w32, w64};
 ghost use Rattle.std.specs.Str.{is_utf8};
 ghost use Rattle.iceoryx2_data.specs.declared.bytes.DecodeError.TheVariants.{Malformed};
-ghost use Rattle.iceoryx2_values.specs.Texts.{IsText};
+ghost use Rattle.iceoryx2_attributes.specs.Texts.{IsText};
 ghost use Rattle.iceoryx2_data.specs.Reading.{IsReadBy, number_at, bytes_at, literal_at, text_at, option_at, span_at};
 ghost use Rattle.iceoryx2_data.specs.Reading.{deadline_at, event_at, pattern_at, description_at, all_of};
 
