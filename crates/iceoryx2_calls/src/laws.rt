@@ -20,11 +20,11 @@ ghost use Rattle.iceoryx2_words.specs.Counts.{IsWithin};
 ghost use Rattle.iceoryx2_rounds.specs.Creates.{IsCreateWord, description_of};
 ghost use Rattle.iceoryx2_words.specs.Keeps.{GivesAllBack, Keeps, NoLock, NoTag, no_own_tag};
 ghost use Rattle.iceoryx2_rounds.specs.Opens.{IsOpenWord};
+ghost use Rattle.iceoryx2_pattern.specs.Meaning.{Meaning};
 ghost use Rattle.iceoryx2_pattern.specs.Verdict.{verdict};
 ghost use Rattle.iceoryx2_calls.specs.Calls.{Throughout, AtEach, ActsCalmly, ChangesLast};
 ghost use Rattle.iceoryx2_calls.specs.Leaves.{IsGranted, Leaves, LeavesNothing};
 
-use iceoryx2_pattern::pattern::Pattern;
 
 /// Whatever a call does and whatever steps peers take within it, the world agrees after each
 /// access, and each open factory carries the one description of its service and stands there with
@@ -32,7 +32,7 @@ use iceoryx2_pattern::pattern::Pattern;
 ///
 /// A call is a word of its accesses. Where nothing else is said, any access of it may be refused
 /// by a fault.
-pub fn agreement<P: Pattern>()
+pub fn agreement<F: Copy, E: Copy, C: Copy>()
     // Before, between and after the accesses of any word, so within each call and from call to
     // call, the world agrees and is later than the first one.
     ensures agrees { (word : List Letter) (w : World)
@@ -52,32 +52,35 @@ pub fn agreement<P: Pattern>()
     // A create that answers Ok leaves its factory standing. It carries the published description:
     // the builder's hash and name, and the settings that this create publishes. Its ticket is not
     // below the counter that the call found, so no factory that stood has it.
-    ensures created { (p : P) (node : ℕ) (hash : ServiceHash) (name : List ℕ) (now : Result Span ClockFault)
+    ensures created { (m : Meaning F E C) (node : ℕ) (hash : ServiceHash)
+        (name : List ℕ) (now : Result Span ClockFault)
         (word : List Letter) (r : Factory) (w v : World)
-        → IsCreateWord (P.meaning p) node hash name now word (Ok r) → Run IsFaulty w word v → Agrees w
-        → Stands v r × (r.node ≡ node) × (r.description ≡ description_of (P.meaning p) hash name now)
+        → IsCreateWord m node hash name now word (Ok r) → Run IsFaulty w word v → Agrees w
+        → Stands v r × (r.node ≡ node) × (r.description ≡ description_of m hash name now)
         × (w.counter ≤ r.ticket) × ((f : Factory) → Stands w f → f.ticket ≢ r.ticket) }
 
     // An open that answers Ok leaves its factory standing. It carries the description that is
     // published for the builder's hash, of the builder's pattern and message types, and the
     // requirement was accepted on it. Its ticket is new.
-    ensures opened { (p : P) (node : ℕ) (hash : ServiceHash) (word : List Letter) (r : Factory) (w v : World)
-        → IsOpenWord (P.meaning p) node hash word (Ok r) → Run IsFaulty w word v → Agrees w
+    ensures opened { (m : Meaning F E C) (node : ℕ) (hash : ServiceHash)
+        (word : List Letter) (r : Factory) (w v : World)
+        → IsOpenWord m node hash word (Ok r) → Run IsFaulty w word v → Agrees w
         → Stands v r × (r.node ≡ node) × (r.description.hash ≡ hash)
-        × ((P.meaning p).misfit r.description ≡ None)
-        × (verdict ((P.meaning p).requirement r.description) ≡ Ok tt)
+        × (m.misfit r.description ≡ None)
+        × (verdict (m.requirement r.description) ≡ Ok tt)
         × (w.counter ≤ r.ticket) × ((f : Factory) → Stands w f → f.ticket ≢ r.ticket) }
 
     // Each factory that stands before a create stands throughout it, whatever it answers.
-    ensures create_spares { (p : P) (node : ℕ) (hash : ServiceHash) (name : List ℕ) (now : Result Span ClockFault)
-        (word : List Letter) (answer : Result Factory P.CreateError) (w : World) (f : Factory)
-        → IsCreateWord (P.meaning p) node hash name now word answer → Agrees w
+    ensures create_spares { (m : Meaning F E C) (node : ℕ) (hash : ServiceHash)
+        (name : List ℕ) (now : Result Span ClockFault)
+        (word : List Letter) (answer : Result Factory C) (w : World) (f : Factory)
+        → IsCreateWord m node hash name now word answer → Agrees w
         → Stands w f → Throughout IsFaulty (λ v. Stands v f) w word }
 
     // So does each that stands before an open.
-    ensures open_spares { (p : P) (node : ℕ) (hash : ServiceHash) (word : List Letter)
-        (answer : Result Factory P.OpenError) (w : World) (f : Factory)
-        → IsOpenWord (P.meaning p) node hash word answer → Agrees w
+    ensures open_spares { (m : Meaning F E C) (node : ℕ) (hash : ServiceHash) (word : List Letter)
+        (answer : Result Factory E) (w : World) (f : Factory)
+        → IsOpenWord m node hash word answer → Agrees w
         → Stands w f → Throughout IsFaulty (λ v. Stands v f) w word }
 
     // So does each with another ticket that stands before a close.
@@ -106,67 +109,72 @@ pub fn agreement<P: Pattern>()
 
     // Without the steps of peers, a refused create changes no published description and no count
     // in any of its accesses.
-    ensures refused_create { (p : P) (node : ℕ) (hash : ServiceHash) (name : List ℕ) (now : Result Span ClockFault)
-        (word : List Letter) (error : P.CreateError) (w : World)
-        → IsCreateWord (P.meaning p) node hash name now word (Err error) → Agrees w
+    ensures refused_create { (m : Meaning F E C) (node : ℕ) (hash : ServiceHash)
+        (name : List ℕ) (now : Result Span ClockFault)
+        (word : List Letter) (error : C) (w : World)
+        → IsCreateWord m node hash name now word (Err error) → Agrees w
         → AtEach IsFaulty ActsCalmly w word }
 
     // Nor does a refused open.
-    ensures refused_open { (p : P) (node : ℕ) (hash : ServiceHash) (word : List Letter) (error : P.OpenError)
+    ensures refused_open { (m : Meaning F E C) (node : ℕ) (hash : ServiceHash) (word : List Letter) (error : E)
         (w : World)
-        → IsOpenWord (P.meaning p) node hash word (Err error) → Agrees w
+        → IsOpenWord m node hash word (Err error) → Agrees w
         → AtEach IsFaulty ActsCalmly w word }
 
     // A granted create does so in exactly one access, its last, where it publishes.
-    ensures granted_create { (p : P) (node : ℕ) (hash : ServiceHash) (name : List ℕ) (now : Result Span ClockFault)
+    ensures granted_create { (m : Meaning F E C) (node : ℕ) (hash : ServiceHash)
+        (name : List ℕ) (now : Result Span ClockFault)
         (word : List Letter) (r : Factory) (w : World)
-        → IsCreateWord (P.meaning p) node hash name now word (Ok r) → Agrees w
+        → IsCreateWord m node hash name now word (Ok r) → Agrees w
         → ChangesLast node hash w word }
 
     // So does a granted open, where it opens the segment.
-    ensures granted_open { (p : P) (node : ℕ) (hash : ServiceHash) (word : List Letter) (r : Factory) (w : World)
-        → IsOpenWord (P.meaning p) node hash word (Ok r) → Agrees w
+    ensures granted_open { (m : Meaning F E C) (node : ℕ) (hash : ServiceHash)
+        (word : List Letter) (r : Factory) (w : World)
+        → IsOpenWord m node hash word (Ok r) → Agrees w
         → ChangesLast node hash w word }
 
     // A refused create leaves nothing of its own but that for which a removal was refused. What its
     // removals left is read off its word; beside that every tag and ticket is as it was, its node has
     // read at most, and its lock and the segment of the lock's number are gone.
-    ensures refused_create_leaves { (p : P) (node : ℕ) (hash : ServiceHash) (name : List ℕ)
-        (now : Result Span ClockFault) (word : List Letter) (error : P.CreateError) (w v : World)
-        → IsCreateWord (P.meaning p) node hash name now word (Err error) → Run IsFaulty w word v → Agrees w
+    ensures refused_create_leaves { (m : Meaning F E C) (node : ℕ) (hash : ServiceHash) (name : List ℕ)
+        (now : Result Span ClockFault) (word : List Letter) (error : C) (w v : World)
+        → IsCreateWord m node hash name now word (Err error) → Run IsFaulty w word v → Agrees w
         → (g : GivesAllBack node hash word) × Leaves node hash g.is_tag_left g.lock w v }
 
     // A refused open leaves at most a tag, where its removal was refused.
-    ensures refused_open_leaves { (p : P) (node : ℕ) (hash : ServiceHash) (word : List Letter) (error : P.OpenError)
+    ensures refused_open_leaves { (m : Meaning F E C) (node : ℕ) (hash : ServiceHash)
+        (word : List Letter) (error : E)
         (w v : World)
-        → IsOpenWord (P.meaning p) node hash word (Err error) → Run IsFaulty w word v → Agrees w
+        → IsOpenWord m node hash word (Err error) → Run IsFaulty w word v → Agrees w
         → (is_left : Bool) × Keeps node hash no_own_tag NoLock word (NoTag is_left) NoLock
         × Leaves node hash is_left NoLock w v }
 
     // Where nothing is refused by a fault, each removal of a refused create answers Ok, whatever peers
     // do, and nothing of its own stays but the phase Read and spent numbers.
-    ensures refused_create_gives_back { (p : P) (node : ℕ) (hash : ServiceHash) (name : List ℕ)
-        (now : Result Span ClockFault) (word : List Letter) (error : P.CreateError) (w v : World)
-        → IsCreateWord (P.meaning p) node hash name now word (Err error) → Run IsAccess w word v → Agrees w
+    ensures refused_create_gives_back { (m : Meaning F E C) (node : ℕ) (hash : ServiceHash) (name : List ℕ)
+        (now : Result Span ClockFault) (word : List Letter) (error : C) (w v : World)
+        → IsCreateWord m node hash name now word (Err error) → Run IsAccess w word v → Agrees w
         → Each IsGranted word × LeavesNothing node hash word w v }
 
     // And so it is with a refused open.
-    ensures refused_open_gives_back { (p : P) (node : ℕ) (hash : ServiceHash) (word : List Letter)
-        (error : P.OpenError) (w v : World)
-        → IsOpenWord (P.meaning p) node hash word (Err error) → Run IsAccess w word v → Agrees w
+    ensures refused_open_gives_back { (m : Meaning F E C) (node : ℕ) (hash : ServiceHash) (word : List Letter)
+        (error : E) (w v : World)
+        → IsOpenWord m node hash word (Err error) → Run IsAccess w word v → Agrees w
         → Each IsGranted word × LeavesNothing node hash word w v }
 
     // A create looks at most once and opens nothing. It makes a segment in at most six attempts,
     // with at most six removals of one.
-    ensures create_is_short { (p : P) (node : ℕ) (hash : ServiceHash) (name : List ℕ) (now : Result Span ClockFault)
-        (word : List Letter) (answer : Result Factory P.CreateError)
-        → IsCreateWord (P.meaning p) node hash name now word answer → IsWithin word 1 0 6 6 }
+    ensures create_is_short { (m : Meaning F E C) (node : ℕ) (hash : ServiceHash)
+        (name : List ℕ) (now : Result Span ClockFault)
+        (word : List Letter) (answer : Result Factory C)
+        → IsCreateWord m node hash name now word answer → IsWithin word 1 0 6 6 }
 
     // An open looks at most twelve times and opens at most six times. It makes and removes no
     // segment.
-    ensures open_is_short { (p : P) (node : ℕ) (hash : ServiceHash) (word : List Letter)
-        (answer : Result Factory P.OpenError)
-        → IsOpenWord (P.meaning p) node hash word answer → IsWithin word 12 6 0 0 }
+    ensures open_is_short { (m : Meaning F E C) (node : ℕ) (hash : ServiceHash) (word : List Letter)
+        (answer : Result Factory E)
+        → IsOpenWord m node hash word answer → IsWithin word 12 6 0 0 }
 
     // A close looks nowhere and opens nothing. It removes at most one segment.
     ensures close_is_short { (r : Factory) (word : List Letter) (answer : Result (Unit {0}) (CloseError Factory))

@@ -1,5 +1,6 @@
 -- What a pattern's builder asks, and how its calls name what goes wrong.
 use Rattle.std.specs.Prelude.{Bool, List, Option}
+use Rattle.iceoryx2_attributes.specs.Attributes.{Pair}
 use Rattle.iceoryx2_values.specs.Description.{Description}
 use Rattle.iceoryx2_values.specs.Span.{Span}
 use Rattle.iceoryx2_values.specs.declared.description.MessagingPattern.{MessagingPattern}
@@ -24,4 +25,5 @@ pub record Meaning (F E C : Type 0) : Type 0 where
   pub history_refusal : Option C
   -- whether a create wants the time, and what it publishes
   pub needs_clock : Bool
+  pub attributes : List Pair
   pub published : Span → MessagingPattern

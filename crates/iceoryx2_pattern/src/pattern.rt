@@ -14,6 +14,7 @@ use std::alloc::AllocError;
 #[derive(Clone, Copy, Debug, PartialEq, Eq)]
 pub enum OpenRefusal {
     DoesNotExist,
+    IncompatibleAttributes,
     ServiceInCorruptedState,
     InternalFailure,
     ExceedsMaxNumberOfNodes,

@@ -3,7 +3,9 @@
 ghost use Rattle.std.specs.Prelude.{◌≡◌, ◌∷◌, [], List};
 ghost use Rattle.iceoryx2_pattern.specs.Verdict.{Clause, IsVerdict, at_least, marked_clauses};
 ghost use Rattle.iceoryx2_pattern.specs.Verdict.{number_is, span_is, verdict};
+ghost use Rattle.iceoryx2_pattern.specs.OwnAttributes.{attribute_clauses};
 
+use iceoryx2_attributes::attribute::{AttributeSet, AttributeVerifier};
 use iceoryx2_values::event::EventId;
 use iceoryx2_values::time::Duration;
 
@@ -56,6 +58,20 @@ pub fn need_duration<E: Copy>(
         Err(error)
     } else {
         Ok(())
+    }
+}
+
+/// Refuses attributes that lack a required pair, or that have no value for a required key.
+pub fn need_attributes<E: Copy>(
+    verifier: &AttributeVerifier,
+    existing: &AttributeSet,
+    error: E,
+) -> Result<(), E>
+    ensures { result ≡ verdict (attribute_clauses error verifier.now existing.now) }
+{
+    match verifier.verify_requirements(existing) {
+        Ok(()) => Ok(()),
+        Err(_) => Err(error),
     }
 }
 

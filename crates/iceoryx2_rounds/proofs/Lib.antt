@@ -1,2 +1,3 @@
 pub mod LookSteps
 pub mod OpenSteps
+pub mod OwnAttributes

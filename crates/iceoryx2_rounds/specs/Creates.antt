@@ -33,7 +33,12 @@ time_of (Err fault) = zero_span
 -- what a create publishes, and carries
 abbrev pub description_of : {F E C : Type 0} → Meaning F E C → ServiceHash → List ℕ → Result Span ClockFault
     → Description
-description_of m hash name now = record { hash = hash; name = name; pattern = m.published (time_of now) }
+description_of m hash name now = record {
+  hash = hash;
+  name = name;
+  attributes = m.attributes;
+  pattern = m.published (time_of now);
+}
 
 module _ {F E C : Type 0} (m : Meaning F E C) (node : ℕ) (hash : ServiceHash) where
   -- The words up to the tag: nothing is found, the node isn't counted, and it has its tag; or what is in the way.

@@ -2,6 +2,7 @@
 
 ghost use Rattle.std.specs.Prelude.{◌≡◌, IfOk};
 ghost use Rattle.iceoryx2_access.specs.Run.{Joins};
+ghost use Rattle.iceoryx2_pattern.specs.OwnAttributes.{defining};
 ghost use Rattle.iceoryx2_rounds.specs.Answers.{map_ok};
 ghost use Rattle.iceoryx2_rounds.specs.Creates as creates;
 ghost use Rattle.iceoryx2_rounds.specs.Creates.{IsCreateWord, IsEntryWord, IsServiceWord, description_of};
@@ -13,6 +14,7 @@ use crate::look::{Outcome, look};
 use iceoryx2_access::storage::{
     LockError, MakeSegmentError, PublishError, RemoveError, Storage, Tag, TagError,
 };
+use iceoryx2_attributes::attribute::AttributeSet;
 use iceoryx2_pattern::pattern::{CreateRefusal, Pattern};
 use iceoryx2_port_factory::port_factory::Registration;
 use iceoryx2_values::description::{ServiceHash, ServiceName, StaticConfig};
@@ -87,17 +89,20 @@ fn describe<P: Pattern>(
     pattern: &P,
     hash: &ServiceHash,
     name: &ServiceName,
+    attributes: &AttributeSet,
     now: Result<Time, ClockFault>,
 ) -> Result<StaticConfig, AllocError>
-    ensures { IfOk result (λ copy. copy ≡ description_of (P.meaning pattern.now) hash.now name.now now) }
+    ensures { let meaning = defining attributes.now (P.meaning pattern.now) in
+        IfOk result (λ copy. copy ≡ description_of meaning hash.now name.now now) }
 {
     let time = match now {
         Ok(time) => time,
         Err(_) => Time::default(),
     };
     let name = name.clone()?;
+    let attributes = attributes.clone()?;
     let published = pattern.published(time)?;
-    Ok(StaticConfig::new(*hash, name, published))
+    Ok(StaticConfig::new(*hash, name, attributes, published))
 }
 
 /// Makes the segment, and before each further attempt removes what was left of another.
@@ -146,13 +151,15 @@ fn enter<P: Pattern, S: Storage>(
     node: u64,
     hash: &ServiceHash,
     name: &ServiceName,
+    attributes: &AttributeSet,
     now: Result<Time, ClockFault>,
     storage: &mut S,
 ) -> Result<Entered, P::CreateError>
-    ensures word { let tag = map_ok (λ entered. entered.tag) result in
-        Joins S.step storage.old (λ word. IsEntryWord (P.meaning pattern.now) node hash.now word tag) storage.new }
-    ensures copies { IfOk result (λ entered.
-        entered.description ≡ description_of (P.meaning pattern.now) hash.now name.now now) }
+    ensures word { let meaning = defining attributes.now (P.meaning pattern.now) in
+        let tag = map_ok (λ entered. entered.tag) result in
+        Joins S.step storage.old (λ word. IsEntryWord meaning node hash.now word tag) storage.new }
+    ensures copies { let meaning = defining attributes.now (P.meaning pattern.now) in
+        IfOk result (λ entered. entered.description ≡ description_of meaning hash.now name.now now) }
 {
     match look(pattern, node, hash, storage) {
         Outcome::Faulty(fault) => return Err(pattern.create_error_of(fault)),
@@ -162,7 +169,7 @@ fn enter<P: Pattern, S: Storage>(
     if storage.counts(node, hash) {
         return Err(pattern.create_refusal(CreateRefusal::ServiceInCorruptedState));
     }
-    let description = match describe(pattern, hash, name, now) {
+    let description = match describe(pattern, hash, name, attributes, now) {
         Ok(description) => description,
         Err(_) => return Err(pattern.create_refusal(CreateRefusal::OutOfMemory)),
     };
@@ -172,7 +179,7 @@ fn enter<P: Pattern, S: Storage>(
     }
 }
 
-/// Creates a service of this hash and name.
+/// Creates a service of this hash and name, with these attributes.
 ///
 /// Zeros that a create raises become one first. `now` is the creation time of a pattern that has
 /// one. A refused create gives back, in this order, the segment, the lock and the tag that it
@@ -182,15 +189,16 @@ pub fn create<P: Pattern, S: Storage>(
     node: u64,
     hash: &ServiceHash,
     name: &ServiceName,
+    attributes: &AttributeSet,
     now: Result<Time, ClockFault>,
     storage: &mut S,
 ) -> Result<Registration, P::CreateError>
     ensures adjusted { pattern.new ≡ P.adjusted pattern.old }
-    ensures word { let meaning = P.meaning (P.adjusted pattern.old) in
+    ensures word { let meaning = defining attributes.now (P.meaning (P.adjusted pattern.old)) in
         Joins S.step storage.old (λ word. IsCreateWord meaning node hash.now name.now now word result) storage.new }
 {
     pattern.adjust();
-    create_adjusted(pattern, node, hash, name, now, storage)
+    create_adjusted(pattern, node, hash, name, attributes, now, storage)
 }
 
 /// Creates a service with settings as they are.
@@ -199,17 +207,18 @@ fn create_adjusted<P: Pattern, S: Storage>(
     node: u64,
     hash: &ServiceHash,
     name: &ServiceName,
+    attributes: &AttributeSet,
     now: Result<Time, ClockFault>,
     storage: &mut S,
 ) -> Result<Registration, P::CreateError>
-    ensures { Joins S.step storage.old
-        (λ word. IsCreateWord (P.meaning pattern.now) node hash.now name.now now word result) storage.new }
+    ensures { let meaning = defining attributes.now (P.meaning pattern.now) in
+        Joins S.step storage.old (λ word. IsCreateWord meaning node hash.now name.now now word result) storage.new }
 {
     match pattern.history_refusal() {
         Some(error) => return Err(error),
         None => {}
     }
-    let entered = match enter(pattern, node, hash, name, now, storage) {
+    let entered = match enter(pattern, node, hash, name, attributes, now, storage) {
         Ok(entered) => entered,
         Err(error) => return Err(error),
     };

@@ -2,15 +2,19 @@
 
 ghost use Rattle.std.specs.Prelude.{◌≡◌, Option};
 ghost use Rattle.iceoryx2_access.specs.Run.{Joins};
+ghost use Rattle.iceoryx2_pattern.specs.OwnAttributes.{requiring};
+ghost use Rattle.iceoryx2_pattern.specs.Verdict.{verdict};
 ghost use Rattle.iceoryx2_rounds.specs.Opens.{IsOpenWord, IsRound, IsSecondLook};
 ghost use Rattle.iceoryx2_rounds.specs.Refusals.{of_opening, of_tag_opening};
 
 use crate::give_back::give_back_tag;
 use crate::look::{Outcome, look};
 use iceoryx2_access::storage::{OpenSegmentError, Storage, Tag, TagError};
+use iceoryx2_attributes::attribute::AttributeVerifier;
 use iceoryx2_pattern::pattern::{OpenRefusal, Pattern};
+use iceoryx2_pattern::verdict::need_attributes;
 use iceoryx2_port_factory::port_factory::Registration;
-use iceoryx2_values::description::ServiceHash;
+use iceoryx2_values::description::{ServiceHash, StaticConfig};
 
 /// How often an open tries again after a round that failed.
 pub const RETRY_LIMIT: u64 = 5;
@@ -38,6 +42,24 @@ fn opening_refusal(error: OpenSegmentError) -> Option<OpenRefusal>
     }
 }
 
+/// Whether an existing service has the required attributes, and then meets the pattern's own
+/// requirement.
+#[tactic(auto, using(iceoryx2_pattern::proofs::Verdicts::verdict_append))]
+fn verify<P: Pattern>(
+    pattern: &P,
+    verifier: &AttributeVerifier,
+    existing: &StaticConfig,
+) -> Result<(), P::OpenError>
+    ensures { result ≡ verdict ((requiring verifier.now (P.meaning pattern.now)).requirement existing.now) }
+{
+    need_attributes(
+        verifier,
+        existing.attributes(),
+        pattern.open_refusal(OpenRefusal::IncompatibleAttributes),
+    )?;
+    pattern.verify(existing)
+}
+
 /// Looks again after a failed opening, and gives the tag back. `None` asks for another round.
 fn look_again<P: Pattern, S: Storage>(
     pattern: &P,
@@ -63,17 +85,18 @@ fn try_open<P: Pattern, S: Storage>(
     pattern: &P,
     node: u64,
     hash: &ServiceHash,
+    verifier: &AttributeVerifier,
     storage: &mut S,
 ) -> Option<Result<Registration, P::OpenError>>
-    ensures { Joins S.step storage.old
-        (λ word. IsRound (P.meaning pattern.now) node hash.now word result) storage.new }
+    ensures { let meaning = requiring verifier.now (P.meaning pattern.now) in
+        Joins S.step storage.old (λ word. IsRound meaning node hash.now word result) storage.new }
 {
     let (number, description) = match look(pattern, node, hash, storage) {
         Outcome::Faulty(fault) => return Some(Err(pattern.open_error_of(fault))),
         Outcome::Nothing => return Some(Err(pattern.open_refusal(OpenRefusal::DoesNotExist))),
         Outcome::Found(number, description) => (number, description),
     };
-    match pattern.verify(&description) {
+    match verify(pattern, verifier, &description) {
         Ok(()) => {}
         Err(error) => return Some(Err(error)),
     }
@@ -98,19 +121,20 @@ fn try_open<P: Pattern, S: Storage>(
 
 /// Opens the service of this hash, in at most six rounds.
 ///
-/// The settings are required as they are. The registration carries the description that was read
+/// The attributes are required first, and then the settings as they are. The registration carries the description that was read
 /// and accepted in the round that opened.
 pub fn open<P: Pattern, S: Storage>(
     pattern: &P,
     node: u64,
     hash: &ServiceHash,
+    verifier: &AttributeVerifier,
     storage: &mut S,
 ) -> Result<Registration, P::OpenError>
-    ensures { Joins S.step storage.old
-        (λ word. IsOpenWord (P.meaning pattern.now) node hash.now word result) storage.new }
+    ensures { let meaning = requiring verifier.now (P.meaning pattern.now) in
+        Joins S.step storage.old (λ word. IsOpenWord meaning node hash.now word result) storage.new }
 {
     for _round in 0..RETRY_LIMIT + 1 {
-        match try_open(pattern, node, hash, storage) {
+        match try_open(pattern, node, hash, verifier, storage) {
             Some(answer) => return answer,
             None => {}
         }

@@ -89,6 +89,11 @@ impl ServiceName {
         ServiceName { text }
     }
 
+    /// What its memory comes from.
+    pub fn allocator(&self) -> Global {
+        *self.text.allocator()
+    }
+
     /// The name as a text.
     pub fn as_str(&self) -> &str
         ensures value { result.now ≡ self.now }

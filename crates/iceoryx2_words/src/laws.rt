@@ -16,9 +16,9 @@ ghost use Rattle.iceoryx2_words.specs.Keeps.{GivesAllBack, HasService, Keeps, No
 ghost use Rattle.iceoryx2_rounds.specs.Opens.{IsOpenWord};
 ghost use Rattle.iceoryx2_access.specs.Factory.{Factory};
 ghost use Rattle.iceoryx2_rounds.specs.Segments.{IsSegmentWord};
+ghost use Rattle.iceoryx2_pattern.specs.Meaning.{Meaning};
 ghost use Rattle.iceoryx2_pattern.specs.Verdict.{verdict};
 
-use iceoryx2_pattern::pattern::Pattern;
 use iceoryx2_rounds::create::CLEARING_LIMIT;
 use iceoryx2_rounds::open::RETRY_LIMIT;
 
@@ -30,10 +30,10 @@ pub fn limits()
 
 /// A create looks at most once and opens nothing. It makes a segment in at most six attempts, and
 /// removes one at most six times, the last time to give its own back.
-pub fn create_is_short<P: Pattern>()
-    ensures { (p : P) (node : ℕ) (hash : ServiceHash) (name : List ℕ) (now : Result Span ClockFault)
-        (word : List Letter) (answer : Result Factory P.CreateError)
-        → IsCreateWord (P.meaning p) node hash name now word answer → IsWithin word 1 0 6 6 }
+pub fn create_is_short<F: Copy, E: Copy, C: Copy>()
+    ensures { (m : Meaning F E C) (node : ℕ) (hash : ServiceHash) (name : List ℕ) (now : Result Span ClockFault)
+        (word : List Letter) (answer : Result Factory C)
+        → IsCreateWord m node hash name now word answer → IsWithin word 1 0 6 6 }
 {}
 
 /// The part of a create that makes its segment does so in at most six attempts, with at most five
@@ -45,63 +45,63 @@ pub fn segment_part_is_short()
 {}
 
 /// An open looks at most twelve times and opens at most six times. It makes and removes no segment.
-pub fn open_is_short<P: Pattern>()
-    ensures { (p : P) (node : ℕ) (hash : ServiceHash)
-        (word : List Letter) (answer : Result Factory P.OpenError)
-        → IsOpenWord (P.meaning p) node hash word answer → IsWithin word 12 6 0 0 }
+pub fn open_is_short<F: Copy, E: Copy, C: Copy>()
+    ensures { (m : Meaning F E C) (node : ℕ) (hash : ServiceHash)
+        (word : List Letter) (answer : Result Factory E)
+        → IsOpenWord m node hash word answer → IsWithin word 12 6 0 0 }
 {}
 
 /// A refused create has given back what it made: each tag that wasn't there, its lock and its
 /// segment have had one removal each, the last thing first. It leaves only that for which this
 /// removal was refused.
-pub fn refused_create_gives_back<P: Pattern>()
-    ensures { (p : P) (node : ℕ) (hash : ServiceHash) (name : List ℕ) (now : Result Span ClockFault)
-        (word : List Letter) (error : P.CreateError)
-        → IsCreateWord (P.meaning p) node hash name now word (Err error) → GivesAllBack node hash word }
+pub fn refused_create_gives_back<F: Copy, E: Copy, C: Copy>()
+    ensures { (m : Meaning F E C) (node : ℕ) (hash : ServiceHash) (name : List ℕ) (now : Result Span ClockFault)
+        (word : List Letter) (error : C)
+        → IsCreateWord m node hash name now word (Err error) → GivesAllBack node hash word }
 {}
 
 /// A refused open has given back each tag that it made, and took away none that was there. It
 /// leaves a tag only where the removal of its last one was refused, and locks nothing.
-pub fn refused_open_gives_back<P: Pattern>()
-    ensures { (p : P) (node : ℕ) (hash : ServiceHash) (word : List Letter) (error : P.OpenError)
-        → IsOpenWord (P.meaning p) node hash word (Err error)
+pub fn refused_open_gives_back<F: Copy, E: Copy, C: Copy>()
+    ensures { (m : Meaning F E C) (node : ℕ) (hash : ServiceHash) (word : List Letter) (error : E)
+        → IsOpenWord m node hash word (Err error)
         → (is_left : Bool) × Keeps node hash no_own_tag NoLock word (NoTag is_left) NoLock }
 {}
 
 /// A create that succeeds keeps its segment and its lock, under whose number the description now
 /// stands, and its tag, which may have been there. It has given back nothing of its own.
-pub fn create_keeps_what_it_made<P: Pattern>()
-    ensures { (p : P) (node : ℕ) (hash : ServiceHash) (name : List ℕ) (now : Result Span ClockFault)
+pub fn create_keeps_what_it_made<F: Copy, E: Copy, C: Copy>()
+    ensures { (m : Meaning F E C) (node : ℕ) (hash : ServiceHash) (name : List ℕ) (now : Result Span ClockFault)
         (word : List Letter) (r : Factory)
-        → IsCreateWord (P.meaning p) node hash name now word (Ok r)
+        → IsCreateWord m node hash name now word (Ok r)
         → (tag : Tag) × Keeps node hash no_own_tag NoLock word (with_tag no_own_tag tag) (HasService r.number) }
 {}
 
 /// An open that succeeds keeps the tag of its last round, which may have been there, and has given
 /// back the tags that it made in failed rounds.
-pub fn open_keeps_its_tag<P: Pattern>()
-    ensures { (p : P) (node : ℕ) (hash : ServiceHash) (word : List Letter) (r : Factory)
-        → IsOpenWord (P.meaning p) node hash word (Ok r)
+pub fn open_keeps_its_tag<F: Copy, E: Copy, C: Copy>()
+    ensures { (m : Meaning F E C) (node : ℕ) (hash : ServiceHash) (word : List Letter) (r : Factory)
+        → IsOpenWord m node hash word (Ok r)
         → (is_left : Bool) × (tag : Tag)
         × Keeps node hash no_own_tag NoLock word (with_tag (NoTag is_left) tag) (HasService r.number) }
 {}
 
 /// A create that succeeds carries its node and what it published.
-pub fn granted_create_carries<P: Pattern>()
-    ensures { (p : P) (node : ℕ) (hash : ServiceHash) (name : List ℕ) (now : Result Span ClockFault)
+pub fn granted_create_carries<F: Copy, E: Copy, C: Copy>()
+    ensures { (m : Meaning F E C) (node : ℕ) (hash : ServiceHash) (name : List ℕ) (now : Result Span ClockFault)
         (word : List Letter) (r : Factory)
-        → IsCreateWord (P.meaning p) node hash name now word (Ok r)
-        → (r.node ≡ node) × (r.description ≡ description_of (P.meaning p) hash name now) }
+        → IsCreateWord m node hash name now word (Ok r)
+        → (r.node ≡ node) × (r.description ≡ description_of m hash name now) }
 {}
 
 /// An open that succeeds carries its node and a description of the builder's hash that is of the
 /// builder's pattern and message types, and on which the requirement was accepted.
-pub fn granted_open_carries<P: Pattern>()
-    ensures { (p : P) (node : ℕ) (hash : ServiceHash) (word : List Letter) (r : Factory)
-        → IsOpenWord (P.meaning p) node hash word (Ok r)
+pub fn granted_open_carries<F: Copy, E: Copy, C: Copy>()
+    ensures { (m : Meaning F E C) (node : ℕ) (hash : ServiceHash) (word : List Letter) (r : Factory)
+        → IsOpenWord m node hash word (Ok r)
         → (r.node ≡ node) × (r.description.hash ≡ hash)
-        × ((P.meaning p).misfit r.description ≡ None)
-        × (verdict ((P.meaning p).requirement r.description) ≡ Ok tt) }
+        × (m.misfit r.description ≡ None)
+        × (verdict (m.requirement r.description) ≡ Ok tt) }
 {}
 
 /// What a close hands back is what was to be closed.

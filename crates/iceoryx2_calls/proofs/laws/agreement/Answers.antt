@@ -21,16 +21,16 @@ pub returns-clause-one_description : goal.returns-clause-one_description
 returns-clause-one_description g c = λ w f g s t same. one_service w f g s t same
 
 pub returns-clause-created : goal.returns-clause-created
-returns-clause-created g c = λ p node hash name now word r w v is run old. let o = create_stands is run old in (o.0, o.1, o.2, o.3, λ f s. older_ticket w f r.ticket old s o.3)
+returns-clause-created g c = λ m node hash name now word r w v is run old. let o = create_stands is run old in (o.0, o.1, o.2, o.3, λ f s. older_ticket w f r.ticket old s o.3)
 
 pub returns-clause-opened : goal.returns-clause-opened
-returns-clause-opened g c = λ p node hash word r w v is run old. let o = open_stands is run old in (o.stands, o.node_is, o.hash_is, o.no_misfit, o.accepted, o.new_ticket, λ f s. older_ticket w f r.ticket old s o.new_ticket)
+returns-clause-opened g c = λ m node hash word r w v is run old. let o = open_stands is run old in (o.stands, o.node_is, o.hash_is, o.no_misfit, o.accepted, o.new_ticket, λ f s. older_ticket w f r.ticket old s o.new_ticket)
 
 pub returns-clause-create_spares : goal.returns-clause-create_spares
-returns-clause-create_spares g c = λ p node hash name now word answer w f is old s. stands_throughout w word f (all_spared f word (create_letters is)) old s
+returns-clause-create_spares g c = λ m node hash name now word answer w f is old s. stands_throughout w word f (all_spared f word (create_letters is)) old s
 
 pub returns-clause-open_spares : goal.returns-clause-open_spares
-returns-clause-open_spares g c = λ p node hash word answer w f is old s. stands_throughout w word f (all_spared f word (open_letters is)) old s
+returns-clause-open_spares g c = λ m node hash word answer w f is old s. stands_throughout w word f (all_spared f word (open_letters is)) old s
 
 pub returns-clause-close_spares : goal.returns-clause-close_spares
 returns-clause-close_spares g c = λ r word answer w f is old apart s. stands_throughout w word f (close_spares f apart is) old s
@@ -45,34 +45,34 @@ pub returns-clause-closed : goal.returns-clause-closed
 returns-clause-closed g c = λ r word answer w v is run old s. let ok = close_ok is run old s in (ok, close_takes_out is (no_refusal ok) (with_refusals run))
 
 pub returns-clause-refused_create : goal.returns-clause-refused_create
-returns-clause-refused_create g c = λ p node hash name now word error w is old. refused_create_calm w is old
+returns-clause-refused_create g c = λ m node hash name now word error w is old. refused_create_calm w is old
 
 pub returns-clause-refused_open : goal.returns-clause-refused_open
-returns-clause-refused_open g c = λ p node hash word error w is old. refused_open_calm w is old
+returns-clause-refused_open g c = λ m node hash word error w is old. refused_open_calm w is old
 
 pub returns-clause-granted_create : goal.returns-clause-granted_create
-returns-clause-granted_create g c = λ p node hash name now word r w is old. created_changes w is old
+returns-clause-granted_create g c = λ m node hash name now word r w is old. created_changes w is old
 
 pub returns-clause-granted_open : goal.returns-clause-granted_open
-returns-clause-granted_open g c = λ p node hash word r w is old. opened_changes w is old
+returns-clause-granted_open g c = λ m node hash word r w is old. opened_changes w is old
 
 pub returns-clause-refused_create_leaves : goal.returns-clause-refused_create_leaves
-returns-clause-refused_create_leaves g c = λ p node hash name now word error w v is run old. let back = refused_create_keeps is in (back, gives_back node hash back run old)
+returns-clause-refused_create_leaves g c = λ m node hash name now word error w v is run old. let back = refused_create_keeps is in (back, gives_back node hash back run old)
 
 pub returns-clause-refused_open_leaves : goal.returns-clause-refused_open_leaves
-returns-clause-refused_open_leaves g c = λ p node hash word error w v is run old. let back = refused_open_keeps is in leaves_tag node hash back.0 back.1 run old
+returns-clause-refused_open_leaves g c = λ m node hash word error w v is run old. let back = refused_open_keeps is in leaves_tag node hash back.0 back.1 run old
 
 pub returns-clause-refused_create_gives_back : goal.returns-clause-refused_create_gives_back
-returns-clause-refused_create_gives_back g c = λ p node hash name now word error w v is run old. gives_all_back node hash (refused_create_keeps is) run old
+returns-clause-refused_create_gives_back g c = λ m node hash name now word error w v is run old. gives_all_back node hash (refused_create_keeps is) run old
 
 pub returns-clause-refused_open_gives_back : goal.returns-clause-refused_open_gives_back
-returns-clause-refused_open_gives_back g c = λ p node hash word error w v is run old. let back = refused_open_keeps is in gives_all_back node hash (only_tag back.0 back.1) run old
+returns-clause-refused_open_gives_back g c = λ m node hash word error w v is run old. let back = refused_open_keeps is in gives_all_back node hash (only_tag back.0 back.1) run old
 
 pub returns-clause-create_is_short : goal.returns-clause-create_is_short
-returns-clause-create_is_short g c = λ p node hash name now word answer w. create_within (g.P.Pattern.meaning p) node hash w
+returns-clause-create_is_short g c = λ m node hash name now word answer w. create_within m node hash w
 
 pub returns-clause-open_is_short : goal.returns-clause-open_is_short
-returns-clause-open_is_short g c = λ p node hash word answer w. open_within (g.P.Pattern.meaning p) node hash w
+returns-clause-open_is_short g c = λ m node hash word answer w. open_within m node hash w
 
 pub returns-clause-close_is_short : goal.returns-clause-close_is_short
 returns-clause-close_is_short g c = λ r word answer is. close_within is

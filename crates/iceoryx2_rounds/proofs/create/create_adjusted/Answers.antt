@@ -1,6 +1,7 @@
 use Rattle.std.proofs.Common.{sym, ◌∙◌}
 use Rattle.iceoryx2_access.proofs.Run.{joins, both}
 use Rattle.iceoryx2_access.specs.Run.{done}
+use Rattle.iceoryx2_rounds.proofs.OwnAttributes.{serves}
 use Rattle.iceoryx2_rounds.specs.Creates.{forbidden, not_entered, clock_fault, made}
 use Rattle.iceoryx2_rounds.proofs.create.create_adjusted.Goals as goal
 
@@ -22,4 +23,4 @@ returns g c =
     let first = c.in-Ok.ensures.word in
     let rest = rw c.in-Ok.ensures.copies at c.make_service.ensures in
     let goes_on = rw c.needs_clock.ensures at (sym c.clock_stops.ensures ∙ c.if-clock_stops.false) in
-    joins (made (sym c.in-None.ensures) goes_on first.is_word rest.is_word) (both first.run rest.run)
+    joins (made (sym c.in-None.ensures) goes_on first.is_word (serves _ _ _ rest.is_word)) (both first.run rest.run)

@@ -2,4 +2,4 @@ use Rattle.iceoryx2_words.proofs.Counts.{create_within}
 use Rattle.iceoryx2_words.proofs.laws.create_is_short.Goals as goal
 
 pub returns : goal.returns
-returns g c = λ p node hash name now word answer w. create_within (g.P.Pattern.meaning p) node hash w
+returns g c = λ m node hash name now word answer w. create_within m node hash w

@@ -2,4 +2,4 @@ use Rattle.iceoryx2_words.proofs.Carried.{created_carries}
 use Rattle.iceoryx2_words.proofs.laws.granted_create_carries.Goals as goal
 
 pub returns : goal.returns
-returns g c = λ p node hash name now word r w. created_carries w
+returns g c = λ m node hash name now word r w. created_carries w

@@ -2,4 +2,4 @@ use Rattle.iceoryx2_words.proofs.Counts.{open_within}
 use Rattle.iceoryx2_words.proofs.laws.open_is_short.Goals as goal
 
 pub returns : goal.returns
-returns g c = λ p node hash word answer w. open_within (g.P.Pattern.meaning p) node hash w
+returns g c = λ m node hash word answer w. open_within m node hash w

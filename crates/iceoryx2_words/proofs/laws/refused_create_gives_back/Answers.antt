@@ -2,4 +2,4 @@ use Rattle.iceoryx2_words.proofs.Kept.{refused_create_keeps}
 use Rattle.iceoryx2_words.proofs.laws.refused_create_gives_back.Goals as goal
 
 pub returns : goal.returns
-returns g c = λ p node hash name now word error w. refused_create_keeps w
+returns g c = λ m node hash name now word error w. refused_create_keeps w
