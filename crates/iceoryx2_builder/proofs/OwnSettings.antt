@@ -12,7 +12,9 @@ use Rattle.iceoryx2_pattern.specs.Verdict.{is_same_number, is_same_span}
 use Rattle.iceoryx2_rounds.specs.Creates.{description_of, time_of}
 use Rattle.iceoryx2_pattern.proofs.Verdicts.{row_decides, no_row}
 use Rattle.iceoryx2_builder.specs.declared.builder.event.demand.EventDemand.{EventDemand}
-use Rattle.iceoryx2_builder.specs.Event.{event_meaning, event_adjusted, at_least_one, created_deadline, deadline_value}
+use Rattle.iceoryx2_attributes.specs.Attributes.{Pair}
+use Rattle.iceoryx2_attributes.specs.Requirements.{no_requirements}
+use Rattle.iceoryx2_builder.specs.Event.{event_meaning, event_adjusted, event_creating, event_opening, at_least_one, created_deadline, deadline_value}
 use Rattle.iceoryx2_builder.specs.OwnSettings.{AcceptsOwn}
 
 offers : {E : Type 0} (marked : Bool) (existing required : ℕ) (e : E) → nat_le required existing ≡ true
@@ -71,6 +73,6 @@ meets demand hash name now =
     (then_more _ _ (sends _ _ _ _ (same_event demand.settings.notifier_dead_event))
     (then_more _ [] (lasts _ _ _ _ (same_deadline (time_of now) demand.settings.deadline)) no_row)))))))
 
-pub own_settings : (demand : EventDemand) (hash : ServiceHash) (name : List ℕ) (now : Result Span ClockFault)
-    → AcceptsOwn (event_meaning (event_adjusted demand)) (event_meaning demand) hash name now
-own_settings demand hash name now = record { fits = refl; accepted = meets demand hash name now }
+pub own_settings : (demand : EventDemand) (given : List Pair) (hash : ServiceHash) (name : List ℕ) (now : Result Span ClockFault)
+    → AcceptsOwn (event_creating demand given) (event_opening demand no_requirements) hash name now
+own_settings demand given hash name now = record { fits = refl; accepted = meets demand hash name now }

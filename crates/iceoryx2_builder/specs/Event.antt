@@ -1,6 +1,8 @@
 -- What a builder of events asks, and its errors.
 use Rattle.std.specs.Prelude.{ℕ, List, [], ◌∷◌, Option, None, nat_eq, is_some, if◌then◌else◌}
 use Rattle.std.specs.Option.{option_map}
+use Rattle.iceoryx2_attributes.specs.Attributes.{Pair}
+use Rattle.iceoryx2_attributes.specs.Requirements.{Requirements}
 use Rattle.iceoryx2_values.specs.Span.{Span}
 use Rattle.iceoryx2_values.specs.declared.description.MessagingPattern.{MessagingPattern}
 use Rattle.iceoryx2_values.specs.declared.description.MessagingPattern.TheVariants as existing
@@ -8,6 +10,7 @@ use Rattle.iceoryx2_values.specs.declared.event.StaticConfig.{StaticConfig as Se
 use Rattle.iceoryx2_values.specs.declared.event.Deadline.{Deadline}
 use Rattle.iceoryx2_pattern.specs.Verdict.{Clause, SettingRow, at_least, number_is, span_is, marked_clauses}
 use Rattle.iceoryx2_pattern.specs.Meaning.{Meaning}
+use Rattle.iceoryx2_pattern.specs.OwnAttributes.{defining, requiring}
 use Rattle.iceoryx2_errors.specs.States.{open_error_of_state, create_error_of_state}
 use Rattle.iceoryx2_errors.specs.declared.error.ServiceState.{ServiceState}
 use Rattle.iceoryx2_errors.specs.declared.error.EventOpenError.{EventOpenError}
@@ -55,6 +58,7 @@ misfit_of (existing.Event settings) = None
 
 abbrev pub open_error_of_refusal : OpenRefusal → EventOpenError
 open_error_of_refusal open_refusal.DoesNotExist = opening.DoesNotExist
+open_error_of_refusal open_refusal.IncompatibleAttributes = opening.IncompatibleAttributes
 open_error_of_refusal open_refusal.ServiceInCorruptedState = opening.ServiceInCorruptedState
 open_error_of_refusal open_refusal.InternalFailure = opening.InternalFailure
 open_error_of_refusal open_refusal.ExceedsMaxNumberOfNodes = opening.ExceedsMaxNumberOfNodes
@@ -97,6 +101,15 @@ event_meaning demand = record {
   create_refusal = create_error_of_refusal;
   history_refusal = None;
   needs_clock = is_some demand.settings.deadline;
+  attributes = [];
   published = λ now.
       existing.Event (record demand.settings { deadline = option_map (created_deadline now) demand.settings.deadline });
 }
+
+-- a create: zeros are raised, and these attributes are defined
+abbrev pub event_creating : EventDemand → List Pair → Meaning ServiceState EventOpenError EventCreateError
+event_creating demand given = defining given (event_meaning (event_adjusted demand))
+
+-- an open: these attributes are required before the settings
+abbrev pub event_opening : EventDemand → Requirements → Meaning ServiceState EventOpenError EventCreateError
+event_opening demand required = requiring required (event_meaning demand)

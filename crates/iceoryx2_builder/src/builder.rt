@@ -4,7 +4,9 @@ ghost use Rattle.std.specs.Prelude.{◌≡◌, ◌<◌, ◌^◌, ℕ, List, Resu
 ghost use Rattle.iceoryx2_values.specs.Span.{Span};
 ghost use Rattle.iceoryx2_values.specs.declared.description.ServiceHash.{ServiceHash};
 ghost use Rattle.iceoryx2_values.specs.declared.time.ClockFault.{ClockFault};
-ghost use Rattle.iceoryx2_builder.specs.Event.{event_meaning, event_adjusted};
+ghost use Rattle.iceoryx2_attributes.specs.Attributes.{Pair};
+ghost use Rattle.iceoryx2_attributes.specs.Requirements.{no_requirements};
+ghost use Rattle.iceoryx2_builder.specs.Event.{event_creating, event_opening};
 ghost use Rattle.iceoryx2_builder.specs.OwnSettings.{AcceptsOwn};
 ghost use Rattle.iceoryx2_builder.specs.Request.{fresh_request};
 ghost use Rattle.iceoryx2_builder.specs.declared.builder.event.demand.EventDemand.{EventDemand};
@@ -180,8 +182,10 @@ impl<S: Service> BuilderWithServiceType<S> {
 /// What holds of the builders of each pattern.
 ///
 /// A builder opens what the same builder creates: with its adjusted settings a create publishes
-/// what fits it and meets each setting that it requires, whatever the clock says.
+/// what fits it and meets each setting that it requires, whatever attributes are defined and
+/// whatever the clock says.
 pub fn laws()
-    ensures { (demand : EventDemand) (hash : ServiceHash) (name : List ℕ) (now : Result Span ClockFault)
-        → AcceptsOwn (event_meaning (event_adjusted demand)) (event_meaning demand) hash name now }
+    ensures { (demand : EventDemand) (given : List Pair) (hash : ServiceHash) (name : List ℕ)
+        (now : Result Span ClockFault)
+        → AcceptsOwn (event_creating demand given) (event_opening demand no_requirements) hash name now }
 {}

@@ -29,7 +29,9 @@ ghost use Rattle.iceoryx2_rounds.specs.Creates.{IsCreateWord, time_of};
 ghost use Rattle.iceoryx2_rounds.specs.Opens.{IsOpenWord};
 ghost use Rattle.iceoryx2_port_factory.specs.Closes.{IsCloseWord};
 ghost use Rattle.iceoryx2_builder.specs.declared.builder.event.demand.EventDemand.{EventDemand};
-ghost use Rattle.iceoryx2_builder.specs.Event.{event_meaning, event_adjusted};
+ghost use Rattle.iceoryx2_attributes.specs.Attributes.{Pair};
+ghost use Rattle.iceoryx2_attributes.specs.Requirements.{Requirements, no_requirements};
+ghost use Rattle.iceoryx2_builder.specs.Event.{event_creating, event_opening};
 ghost use Rattle.iceoryx2_calls.specs.Quiet.{Quiet, QuietService, Shows, no_service, service_at, times_counted};
 ghost use Rattle.iceoryx2_calls.specs.QuietCalls.{IsRegular, Creates, Opens, Closes, HasPlace, HasNumber};
 ghost use Rattle.iceoryx2_calls.specs.QuietLists.{listing};
@@ -76,19 +78,23 @@ pub fn quiet_laws()
     ensures list { (w : World) (q : Quiet) (entries : List Entry)
         → Shows w q → Lists w entries → entries ≡ listing q }
 
-    // The meaning of each builder of events is regular, and with its adjusted settings a create
+    // The meanings of each builder of events are regular, and with its adjusted settings a create
     // publishes for one node or more.
-    ensures events { (demand : EventDemand) → IsRegular (event_meaning demand) }
-    ensures events_take_nodes { (demand : EventDemand) (now : Span)
-        → 0 < max_nodes_of ((event_meaning (event_adjusted demand)).published now) }
+    ensures creating_events { (demand : EventDemand) (given : List Pair) → IsRegular (event_creating demand given) }
+    ensures opening_events { (demand : EventDemand) (required : Requirements)
+        → IsRegular (event_opening demand required) }
+    ensures events_take_nodes { (demand : EventDemand) (given : List Pair) (now : Span)
+        → 0 < max_nodes_of ((event_creating demand given).published now) }
 
-    // What a builder of events has created the same builder opens: while the service stands, with a
-    // place and a number left, an open with the same settings is Ok or wants memory.
-    ensures own_settings { (demand : EventDemand) (hash : ServiceHash) (name : List ℕ) (now : Result Span ClockFault)
-        (creator node : ℕ) (q p u z : Quiet) (f : Factory) (x : QuietService) (answer : Result Factory EventOpenError)
-        → Creates (event_meaning (event_adjusted demand)) q creator hash name now (Ok f) p
+    // What a builder of events has created the same builder opens, whatever attributes it defined:
+    // while the service stands, with a place and a number left, an open with the same settings that
+    // requires no attributes is Ok or wants memory.
+    ensures own_settings { (demand : EventDemand) (given : List Pair) (hash : ServiceHash) (name : List ℕ)
+        (now : Result Span ClockFault) (creator node : ℕ) (q p u z : Quiet) (f : Factory) (x : QuietService)
+        (answer : Result Factory EventOpenError)
+        → Creates (event_creating demand given) q creator hash name now (Ok f) p
         → service_at u hash ≡ Some x → x.description ≡ f.description → HasPlace x node → HasNumber u
-        → Opens (event_meaning demand) u node hash answer z
+        → Opens (event_opening demand no_requirements) u node hash answer z
         → IfErr answer (λ e. e ≡ opening.OutOfMemory) }
 {}
 

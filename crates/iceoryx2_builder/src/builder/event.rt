@@ -1,10 +1,11 @@
 //! The builder of services of events.
 
-ghost use Rattle.std.specs.Prelude.{◌≡◌, Some, None};
+ghost use Rattle.std.specs.Prelude.{◌≡◌, [], Some, None};
 ghost use Rattle.iceoryx2_access.specs.Run.{Joins};
 ghost use Rattle.iceoryx2_rounds.specs.Creates.{IsCreateWord};
 ghost use Rattle.iceoryx2_rounds.specs.Opens.{IsOpenWord};
-ghost use Rattle.iceoryx2_builder.specs.Event.{event_meaning, event_adjusted};
+ghost use Rattle.iceoryx2_attributes.specs.Requirements.{no_requirements};
+ghost use Rattle.iceoryx2_builder.specs.Event.{event_creating, event_opening};
 ghost use Rattle.iceoryx2_builder.specs.Request.{fresh_request, letter_of_events, with_setting};
 
 pub mod demand;
@@ -14,6 +15,7 @@ use crate::builder::BuilderWithServiceType;
 use crate::builder::event::demand::EventDemand;
 pub use crate::builder::event::setting::EventSetting;
 use iceoryx2_access::storage::Service;
+use iceoryx2_attributes::attribute::{AttributeSpecifier, AttributeVerifier};
 pub use iceoryx2_errors::error::{EventCreateError, EventOpenError};
 use iceoryx2_port_factory::port_factory::event::PortFactory;
 use iceoryx2_rounds::create::create;
@@ -157,51 +159,86 @@ impl<S: Service> Builder<S> {
         self.with(EventSetting::Deadline(None))
     }
 
-    /// Creates the service, with the settings as they are but for zeros, which become one, and at
-    /// the time `now` where it has a deadline.
-    ///
-    /// Refused with `AlreadyExists` where the service exists, with `HangsInCreation` or
-    /// `IsBeingCreatedByAnotherInstance` while somebody else creates it, with
-    /// `ServiceInCorruptedState` where the storage contradicts itself, with `InternalFailure`
-    /// where the storage fails or there is no time, and with `InsufficientPermissions` or
-    /// `OutOfMemory` as they say. What a refused call made is given back.
+    /// Creates the service without attributes: `create_with_attributes` of a specifier that
+    /// defines none.
     pub fn create(
         self,
         storage: &mut S::Storage,
         now: Result<Time, ClockFault>,
     ) -> Result<PortFactory<S>, EventCreateError>
         ensures { Joins S.Storage.step storage.old
-            (λ word. IsCreateWord (event_meaning (event_adjusted self.demand)) self.node
+            (λ word. IsCreateWord (event_creating self.demand []) self.node
+            (S.ServiceNameHasher.hash_of letter_of_events self.name) self.name now word result)
+            storage.new }
+    {
+        let specifier = AttributeSpecifier::new(self.base.name().allocator());
+        self.create_with_attributes(&specifier, storage, now)
+    }
+
+    /// Creates the service with these attributes, with the settings as they are but for zeros,
+    /// which become one, and at the time `now` where it has a deadline.
+    ///
+    /// Refused with `AlreadyExists` where the service exists, with `HangsInCreation` or
+    /// `IsBeingCreatedByAnotherInstance` while somebody else creates it, with
+    /// `ServiceInCorruptedState` where the storage contradicts itself, with `InternalFailure`
+    /// where the storage fails or there is no time, and with `InsufficientPermissions` or
+    /// `OutOfMemory` as they say. What a refused call made is given back.
+    pub fn create_with_attributes(
+        self,
+        specifier: &AttributeSpecifier,
+        storage: &mut S::Storage,
+        now: Result<Time, ClockFault>,
+    ) -> Result<PortFactory<S>, EventCreateError>
+        ensures { Joins S.Storage.step storage.old
+            (λ word. IsCreateWord (event_creating self.demand specifier.now) self.node
             (S.ServiceNameHasher.hash_of letter_of_events self.name) self.name now word result)
             storage.new }
     {
         let Builder { base, mut demand } = self;
         let hash = base.hash(LETTER);
-        match create(&mut demand, base.node(), &hash, base.name(), now, storage) {
+        let attributes = specifier.attributes();
+        match create(&mut demand, base.node(), &hash, base.name(), attributes, now, storage) {
             Ok(registration) => Ok(PortFactory::new(registration)),
             Err(error) => Err(error),
         }
     }
 
-    /// Opens the service, if it offers each marked setting. The factory carries the settings with
-    /// which the service was created.
+    /// Opens the service, whatever its attributes: `open_with_attributes` of a verifier that
+    /// requires none.
+    pub fn open(self, storage: &mut S::Storage) -> Result<PortFactory<S>, EventOpenError>
+        ensures { Joins S.Storage.step storage.old
+            (λ word. IsOpenWord (event_opening self.demand no_requirements) self.node
+            (S.ServiceNameHasher.hash_of letter_of_events self.name) word result)
+            storage.new }
+    {
+        let verifier = AttributeVerifier::new(self.base.name().allocator());
+        self.open_with_attributes(&verifier, storage)
+    }
+
+    /// Opens the service, if it has the required attributes and offers each marked setting. The
+    /// factory carries the attributes and the settings with which the service was created.
     ///
-    /// Refused with `DoesNotExist` where there is no service, with the setting's error where it
+    /// Refused with `DoesNotExist` where there is no service, with `IncompatibleAttributes` where it
+    /// lacks a required pair or has no value for a required key, with the setting's error where it
     /// offers less than is required or another event or deadline, with `ExceedsMaxNumberOfNodes`
     /// where no further node has room, with `IsMarkedForDestruction` where the last node has left,
     /// with `HangsInCreation` while it is created, with `ServiceInCorruptedState` where its
     /// description can't be read or the service is replaced again and again, with
     /// `InternalFailure` where the storage fails, and with `IncompatibleMessagingPattern`,
     /// `InsufficientPermissions` or `OutOfMemory` as they say.
-    pub fn open(self, storage: &mut S::Storage) -> Result<PortFactory<S>, EventOpenError>
+    pub fn open_with_attributes(
+        self,
+        verifier: &AttributeVerifier,
+        storage: &mut S::Storage,
+    ) -> Result<PortFactory<S>, EventOpenError>
         ensures { Joins S.Storage.step storage.old
-            (λ word. IsOpenWord (event_meaning self.demand) self.node
+            (λ word. IsOpenWord (event_opening self.demand verifier.now) self.node
             (S.ServiceNameHasher.hash_of letter_of_events self.name) word result)
             storage.new }
     {
         let Builder { base, demand } = self;
         let hash = base.hash(LETTER);
-        match open(&demand, base.node(), &hash, storage) {
+        match open(&demand, base.node(), &hash, verifier, storage) {
             Ok(registration) => Ok(PortFactory::new(registration)),
             Err(error) => Err(error),
         }

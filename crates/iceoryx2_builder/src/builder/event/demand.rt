@@ -264,6 +264,7 @@ impl Pattern for EventDemand {
     fn open_refusal(&self, refusal: OpenRefusal) -> EventOpenError {
         match refusal {
             OpenRefusal::DoesNotExist => EventOpenError::DoesNotExist,
+            OpenRefusal::IncompatibleAttributes => EventOpenError::IncompatibleAttributes,
             OpenRefusal::ServiceInCorruptedState => EventOpenError::ServiceInCorruptedState,
             OpenRefusal::InternalFailure => EventOpenError::InternalFailure,
             OpenRefusal::ExceedsMaxNumberOfNodes => EventOpenError::ExceedsMaxNumberOfNodes,
