@@ -62,3 +62,14 @@ impl AttributeSpecifier {
         set
     }
 }
+
+impl From<AttributeSet> for AttributeSpecifier {
+    ghost use Rattle.std.specs.Prelude.{◌≡◌};
+
+    ghost from_gives = { λ set specifier. specifier ≡ set };
+
+    /// One that defines these attributes. Takes no memory.
+    fn from(set: AttributeSet) -> AttributeSpecifier {
+        AttributeSpecifier { set }
+    }
+}

@@ -69,6 +69,13 @@ impl AttributeVerifier {
         &self.pairs
     }
 
+    /// The required pairs, handed out.
+    pub fn into_required_attributes(self) -> AttributeSet
+        ensures { result ≡ self.pairs }
+    {
+        self.pairs
+    }
+
     /// The required keys, ascending by their bytes.
     pub fn required_keys(&self) -> &[Key]
         ensures value { result.now ≡ self.now.keys }
