@@ -2,20 +2,22 @@
 use Rattle.std.proofs.Common.{◌≡◌, ℕ, ◌<◌, Bool, true, false, ◌&&◌, refl, List, [], ◌∷◌, ◌++◌, Option, Some, None, sym, subst, arith, inl, inr}
 use Rattle.std.specs.Prelude.{All}
 use Rattle.std.specs.Int.{w32, to_be_bytes}
-use Rattle.std.specs.List.{AllByRecursion}
+use Rattle.std.specs.List.{AllByRecursion, flat_map}
+use Rattle.std.proofs.lemmas.List.Concat.{flat_map-cons}
 use Rattle.std.specs.Char.{IsScalar, encode_utf8}
 use Rattle.std.specs.Str.{encode_utf8_all, IsUtf8, is_utf8}
 use Rattle.std.proofs.lemmas.Bool.{cases_lt, lt-ltb, le-ltb}
-use Rattle.std.proofs.lemmas.List.Elements.{All-from_recursion, recursion_from_All}
+use Rattle.std.proofs.lemmas.List.Elements.{All-from_recursion, recursion_from_All, All-head, All-tail}
 use Rattle.std.proofs.lemmas.Str.{IsUtf8-from_is_utf8}
 use Rattle.std.proofs.Math.Utf8.{scalars, scalar_cases}
 use Rattle.iceoryx2_values.specs.declared.description.MessagingPattern.{MessagingPattern}
 use Rattle.iceoryx2_values.specs.declared.description.MessagingPattern.TheVariants.{Event}
 use Rattle.iceoryx2_values.specs.declared.event.StaticConfig.{StaticConfig as EventConfig}
 use Rattle.iceoryx2_values.specs.declared.event.Deadline.{Deadline}
+use Rattle.iceoryx2_attributes.specs.Attributes.{Pair, IsPair, AreAttributes}
 use Rattle.iceoryx2_values.specs.Span.{Span}
 use Rattle.iceoryx2_values.specs.Description.{Description}
-use Rattle.iceoryx2_data.specs.Form.{text, number, option, span, deadline, event, pattern, magic, version, no_attributes, description, IsForm}
+use Rattle.iceoryx2_data.specs.Form.{text, number, option, span, deadline, event, pattern, pair, attributes, magic, version, description, IsForm}
 
 record AreBytes (bytes : List ℕ) : Type 0 where
   each : AllByRecursion (λ b. b < 256) bytes
@@ -103,12 +105,19 @@ magic_bytes = more (omega arith) (more (omega arith) (more (omega arith) (more (
 version_bytes : AreBytes version
 version_bytes = more (omega arith) none
 
-no_attributes_bytes : AreBytes no_attributes
-no_attributes_bytes = more (omega arith) (more (omega arith) none)
+pair_bytes : (p : Pair) → IsPair p → AreBytes (pair p)
+pair_bytes p fits = both (text_bytes p.key fits.key.utf8) (text_bytes p.value fits.value.utf8)
+
+pairs_bytes : (ps : List Pair) → All IsPair ps → AreBytes (flat_map pair ps)
+pairs_bytes [] fits = none
+pairs_bytes (p ∷ ps) fits = rw flat_map-cons (both (pair_bytes p (All-head IsPair p ps fits)) (pairs_bytes ps (All-tail IsPair p ps fits)))
+
+attributes_bytes : (ps : List Pair) → AreAttributes ps → AreBytes (attributes ps)
+attributes_bytes ps fits = more (omega arith) (more (omega arith) (pairs_bytes ps fits.each))
 
 pub form_bytes : (d : Description) (bytes : List ℕ) → IsForm d bytes → All (λ b. b < 256) bytes
 form_bytes d bytes form =
     let hash : AreBytes d.hash.0 = record { each = recursion_from_All (λ b. b < 256) d.hash.0 form.0.hash.bytes } in
-    let whole : AreBytes (description d) = both (both (both (both (both magic_bytes version_bytes) hash) (text_bytes d.name form.0.name.utf8)) no_attributes_bytes) (pattern_bytes d.pattern) in
+    let whole : AreBytes (description d) = both (both (both (both (both magic_bytes version_bytes) hash) (text_bytes d.name form.0.name.utf8)) (attributes_bytes d.attributes form.0.attributes)) (pattern_bytes d.pattern) in
     let all : All (λ b. b < 256) (description d) = All-from_recursion (λ b. b < 256) (description d) whole.each in
     subst (λ (bs : List ℕ). All (λ b. b < 256) bs) (sym form.1) all

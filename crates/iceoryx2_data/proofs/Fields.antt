@@ -12,14 +12,30 @@ use Rattle.iceoryx2_values.specs.declared.description.MessagingPattern.TheVarian
 use Rattle.iceoryx2_data.specs.declared.bytes.TheConstants.{EVENT_BYTE}
 use Rattle.iceoryx2_values.specs.declared.description.TheConstants.{HASH_LENGTH, MIN_NAME_LENGTH, MAX_NAME_LENGTH}
 use Rattle.iceoryx2_values.specs.declared.time.TheConstants.{NANOSECONDS_PER_SECOND}
+use Rattle.iceoryx2_attributes.specs.declared.attribute.TheConstants.{MIN_KEY_LENGTH, MAX_KEY_LENGTH, MAX_VALUE_LENGTH, MAX_ATTRIBUTES}
+use Rattle.iceoryx2_attributes.specs.Attributes.{ascends, IsPair, AreAttributes}
 use Rattle.iceoryx2_values.specs.Span.{IsSpan}
 use Rattle.iceoryx2_values.specs.Description.{Description, IsDeadline, IsEvent, IsPattern, IsDescription}
-use Rattle.iceoryx2_data.specs.Form.{text, number, option, span, deadline, event, pattern, magic, version, no_attributes, description, IsForm}
-use Rattle.iceoryx2_data.specs.Reading.{◌>>=◌, then_at, where_at, number_at, option_at, span_from, span_at, deadline_from, deadline_at, event_from, event_at, pattern_at, description_from, description_at, all_of, IsReadBy}
-use Rattle.iceoryx2_data.proofs.Parts.{IsBytes, IsBytes-rest, bind_some, guard_is, some_is, Takes, Reads, Reads-then, Reads-as, Reads-where, Reads-form, Reads-each_byte, Reads-literal, Reads-number32, Reads-number64, Reads-text, Reads-option}
+use Rattle.iceoryx2_data.specs.Form.{text, number, option, span, deadline, event, pattern, pair, attributes, magic, version, description, IsForm}
+use Rattle.iceoryx2_data.specs.Reading.{◌>>=◌, then_at, where_at, number_at, option_at, counted_at, pair_from, pair_at, attributes_at, span_from, span_at, deadline_from, deadline_at, event_from, event_at, pattern_at, description_from, description_at, all_of, IsReadBy}
+use Rattle.iceoryx2_data.proofs.Parts.{IsBytes, IsBytes-rest, bind_some, guard_is, some_is, Takes, Reads, Reads-then, Reads-as, Reads-where, Reads-form, Reads-fits, Reads-each_byte, Reads-literal, Reads-number32, Reads-number64, Reads-text, Reads-option, Reads-counted}
 
 abbrev Below64 : ℕ → Type 0
 Below64 n = n < 2 ^ 64
+
+-- ---- attributes
+
+pub Reads-pair : Reads pair_at pair IsPair
+unfolding pair_at
+Reads-pair = Reads-as pair_from (λ p. (p.key, p.value)) _ _ _ IsPair (λ b. refl) (λ a. refl) (λ a h. record { key = h.0; value = h.1 }) (λ b h. (h.key, h.value))
+    (Reads-then _ _ _ _ _ _ (Reads-text MIN_KEY_LENGTH MAX_KEY_LENGTH (omega arith)) (Reads-text 0 MAX_VALUE_LENGTH (omega arith)))
+
+pub Reads-attributes : Reads attributes_at attributes AreAttributes
+unfolding attributes_at
+Reads-attributes = Reads-fits _ attributes _ AreAttributes
+    (λ a h. record { few = h.0.0; each = h.0.1; ascending = h.1 })
+    (λ a h. ((h.few, h.each), h.ascending))
+    (Reads-where ascends (counted_at MAX_ATTRIBUTES pair_at) attributes _ (Reads-counted pair_at pair IsPair MAX_ATTRIBUTES (omega arith) Reads-pair))
 
 -- ---- the settings of events
 
@@ -76,11 +92,11 @@ regroup a b c d e f = simp append_assoc
 
 pub Reads-description : Reads description_at description IsDescription
 unfolding description_at
-Reads-description = Reads-form _ _ description IsDescription (Reads-as description_from (λ d. (tt, (tt, (d.hash.0, (d.name, (tt, d.pattern)))))) _ _ _ IsDescription (λ b. refl) (λ a. refl)
-    (λ a h. record { hash = record { length = h.1.1.0.0; bytes = h.1.1.0.1 }; name = h.1.1.1.0; pattern = h.1.1.1.1.1 })
-    (λ d h. (tt, (tt, ((h.hash.length, h.hash.bytes), (h.name, (tt, h.pattern))))))
-    (Reads-then _ _ _ _ _ _ (Reads-literal magic) (Reads-then _ _ _ _ _ _ (Reads-literal version) (Reads-then _ _ _ _ _ _ (Reads-each_byte HASH_LENGTH) (Reads-then _ _ _ _ _ _ (Reads-text MIN_NAME_LENGTH MAX_NAME_LENGTH (omega arith)) (Reads-then _ _ _ _ _ _ (Reads-literal no_attributes) Reads-pattern))))))
-    (λ d. regroup magic version d.hash.0 (text d.name) no_attributes (pattern d.pattern))
+Reads-description = Reads-form _ _ description IsDescription (Reads-as description_from (λ d. (tt, (tt, (d.hash.0, (d.name, (d.attributes, d.pattern)))))) _ _ _ IsDescription (λ b. refl) (λ a. refl)
+    (λ a h. record { hash = record { length = h.1.1.0.0; bytes = h.1.1.0.1 }; name = h.1.1.1.0; attributes = h.1.1.1.1.0; pattern = h.1.1.1.1.1 })
+    (λ d h. (tt, (tt, ((h.hash.length, h.hash.bytes), (h.name, (h.attributes, h.pattern))))))
+    (Reads-then _ _ _ _ _ _ (Reads-literal magic) (Reads-then _ _ _ _ _ _ (Reads-literal version) (Reads-then _ _ _ _ _ _ (Reads-each_byte HASH_LENGTH) (Reads-then _ _ _ _ _ _ (Reads-text MIN_NAME_LENGTH MAX_NAME_LENGTH (omega arith)) (Reads-then _ _ _ _ _ _ Reads-attributes Reads-pattern))))))
+    (λ d. regroup magic version d.hash.0 (text d.name) (attributes d.attributes) (pattern d.pattern))
 
 pub all_takes : (bytes : List ℕ) (d : Description) → IsBytes bytes → all_of bytes ≡ Some d → IsForm d bytes
 unfolding all_of

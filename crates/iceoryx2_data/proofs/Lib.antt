@@ -1,3 +1,4 @@
 pub mod Parts
 pub mod Fields
+pub mod Pairs
 pub mod EachByte

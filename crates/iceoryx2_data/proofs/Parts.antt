@@ -1,16 +1,19 @@
 -- A part that is read is the part that was written, and what was written is read again.
 use Rattle.std.proofs.Common.{◌≡◌, ℕ, zero, suc, ◌+◌, ◌^◌, ◌<◌, ◌≤◌, Bool, true, false, cond, ltb, List, [], ◌∷◌, ◌++◌, length, get_or, take, drop, Option, Some, None, refl, sym, ap, subst, ◌∙◌, append_assoc, arith, inl, inr}
 use Rattle.std.specs.Prelude.{All, IfSome, IsTrue}
+use Rattle.std.specs.List.{flat_map}
 use Rattle.std.specs.Int.{Width, w16, w32, w64, byte_len, from_be_bytes, to_be_bytes}
 use Rattle.std.specs.Str.{is_utf8}
 use Rattle.std.proofs.lemmas.Bool.{cases_lt, ltb-false, le-ltb}
 use Rattle.std.proofs.lemmas.List.{take_at, drop_at, take-append-drop, length-append, length-take, get_or-drop, get_or-take, get_or_past, get_or_default, get_or_append_left}
 use Rattle.std.proofs.lemmas.Nat.{be_bytes_2, be_bytes_4, be_bytes_8, from_be_bytes-to_be_bytes_2, from_be_bytes-to_be_bytes_4, from_be_bytes-to_be_bytes_8}
 use Rattle.std.specs.Str.{bytes_eq}
+use Rattle.std.proofs.lemmas.List.Concat.{flat_map-cons}
+use Rattle.std.proofs.lemmas.List.Elements.{All-nil, All-cons, All-head, All-tail}
 use Rattle.std.proofs.lemmas.Slice.Eq.{bytes_eq-Decides}
 use Rattle.iceoryx2_attributes.specs.Texts.{IsText}
 use Rattle.iceoryx2_data.specs.Form.{text, option}
-use Rattle.iceoryx2_data.specs.Reading.{◌>>=◌, Part, then_at, as_at, where_at, number_at, bytes_at, literal_at, text_at, option_at}
+use Rattle.iceoryx2_data.specs.Reading.{◌>>=◌, Part, then_at, as_at, where_at, number_at, bytes_at, literal_at, text_at, option_at, list_at, counted_at}
 
 abbrev pub IsBytes : List ℕ → Type 0
 IsBytes bytes = (i : ℕ) → get_or bytes i 0 < 256
@@ -106,6 +109,13 @@ pub Reads-form : {A : Type 0} (r : Part A) (f g : A → List ℕ) (P : A → Typ
 Reads-form r f g P h same = record {
   takes = λ bytes x fits e. let t = h.takes bytes x fits e in (subst (λ (y : List ℕ). Takes bytes y x.1) (same x.0) t.0, t.1);
   again = λ x rest fits. ap (λ (y : List ℕ). r (y ++ rest)) (sym (same x)) ∙ h.again x rest fits;
+}
+
+-- the same with other words for what fits
+pub Reads-fits : {A : Type 0} (r : Part A) (f : A → List ℕ) (P Q : A → Type 0) → ((a : A) → P a → Q a) → ((a : A) → Q a → P a) → Reads r f P → Reads r f Q
+Reads-fits r f P Q to from h = record {
+  takes = λ bytes x fits e. let t = h.takes bytes x fits e in (t.0, to x.0 t.1);
+  again = λ x rest fits. h.again x rest (from x fits);
 }
 
 -- ---- numbers
@@ -251,3 +261,46 @@ option_again r f P h (Some x) rest fits = rw (h.again x rest fits) refl
 
 pub Reads-option : {A : Type 0} (r : Part A) (f : A → List ℕ) (P : A → Type 0) → Reads r f P → Reads (option_at r) (option f) (λ o. IfSome o P)
 Reads-option r f P h = record { takes = option_takes r f P h; again = option_again r f P h }
+
+-- ---- one behind the other
+
+abbrev pub Are : {A : Type 0} → (A → Type 0) → ℕ → List A → Type 0
+Are P n xs = (length xs ≡ n) × All P xs
+
+list_takes : {A : Type 0} (r : Part A) (f : A → List ℕ) (P : A → Type 0) (h : Reads r f P) (n : ℕ) (bytes : List ℕ) (x : List A × List ℕ) → IsBytes bytes → list_at r n bytes ≡ Some x → Takes bytes (flat_map f x.0) x.1 × Are P n x.0
+unfolding list_at
+list_takes {A} r f P h zero bytes x fits e =
+    subst (λ (y : List A × List ℕ). Takes bytes (flat_map f y.0) y.1 × Are P 0 y.0) (some_is ([], bytes) x e) (record { parts = refl; rest_fits = fits }, (refl, All-nil P))
+list_takes {A} r f P h (suc n) bytes x fits e =
+    let a = bind_some (r bytes) (λ first. list_at r n first.1 >>= λ others. Some (first.0 ∷ others.0, others.1)) x e in
+    let b = bind_some (list_at r n a.0.1) (λ others. Some (a.0.0 ∷ others.0, others.1)) x a.2 in
+    let first = h.takes bytes a.0 fits a.1 in
+    let second = list_takes r f P h n a.0.1 b.0 first.0.rest_fits b.1 in
+    let both = Takes-then bytes (f a.0.0) a.0.1 (flat_map f b.0.0) b.0.1 first.0 second.0 in
+    let made : List A × List ℕ = (a.0.0 ∷ b.0.0, b.0.1) in
+    subst (λ (y : List A × List ℕ). Takes bytes (flat_map f y.0) y.1 × Are P (suc n) y.0) (some_is made x b.2) (rw flat_map-cons both, (ap suc second.1.0, All-cons P a.0.0 b.0.0 first.1 second.1.1))
+
+list_again : {A : Type 0} (r : Part A) (f : A → List ℕ) (P : A → Type 0) (h : Reads r f P) (xs : List A) (rest : List ℕ) → All P xs → list_at r (length xs) (flat_map f xs ++ rest) ≡ Some (xs, rest)
+unfolding list_at
+list_again r f P h [] rest fits = refl
+list_again r f P h (x ∷ xs) rest fits =
+    let regrouped : flat_map f (x ∷ xs) ++ rest ≡ f x ++ (flat_map f xs ++ rest) = ap (λ (y : List ℕ). y ++ rest) (flat_map-cons f x xs) ∙ append_assoc (f x) (flat_map f xs) rest in
+    ap (list_at r (suc (length xs))) regrouped ∙ rw (h.again x (flat_map f xs ++ rest) (All-head P x xs fits), list_again r f P h xs rest (All-tail P x xs fits)) refl
+
+abbrev counted : {A : Type 0} → (A → List ℕ) → List A → List ℕ
+counted f xs = to_be_bytes w16 (length xs) ++ flat_map f xs
+
+pub Reads-counted : {A : Type 0} (r : Part A) (f : A → List ℕ) (P : A → Type 0) (hi : ℕ) → hi < 2 ^ 16 → Reads r f P → Reads (counted_at hi r) (counted f) (λ xs. (length xs ≤ hi) × All P xs)
+unfolding counted_at
+Reads-counted {A} r f P hi small h = record {
+  takes = λ bytes x fits e.
+      let b = bind_some (number_at w16 bytes) (λ n. cond (ltb hi n.0) None (list_at r n.0 n.1)) x e in
+      let g = guard_not (ltb hi b.0.0) (list_at r b.0.0 b.0.1) x b.2 in
+      let t0 = Reads-number16.takes bytes b.0 fits b.1 in
+      let t1 = list_takes r f P h b.0.0 b.0.1 x t0.0.rest_fits g.1 in
+      let whole : Takes bytes (counted f x.0) x.1 = subst (λ (j : ℕ). Takes bytes (to_be_bytes w16 j ++ flat_map f x.0) x.1) (sym t1.1.0) (Takes-then bytes (to_be_bytes w16 b.0.0) b.0.1 (flat_map f x.0) x.1 t0.0 t1.0) in
+      (whole, (omega (arith, t1.1.0, ltb-false _ _ g.0), t1.1.1));
+  again = λ xs rest fits.
+      let b : ltb hi (length xs) ≡ false = le-ltb _ _ fits.0 in
+      ap (counted_at hi r) (append_assoc (to_be_bytes w16 (length xs)) (flat_map f xs) rest) ∙ rw (Reads-number16.again (length xs) (flat_map f xs ++ rest) (omega (arith, fits.0)), b, list_again r f P h xs rest fits.1) refl;
+}

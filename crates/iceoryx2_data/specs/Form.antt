@@ -1,6 +1,8 @@
 -- The byte form of a description, part by part. All numbers are big-endian.
 use Rattle.std.specs.Prelude.{ℕ, ◌≡◌, List, [], ◌∷◌, ◌++◌, length, codes, Option, Some, None}
 use Rattle.std.specs.Int.{w16, w32, w64, to_be_bytes}
+use Rattle.std.specs.List.{flat_map}
+use Rattle.iceoryx2_attributes.specs.Attributes.{Pair}
 use Rattle.iceoryx2_data.specs.declared.bytes.TheConstants.{EVENT_BYTE}
 use Rattle.iceoryx2_values.specs.declared.description.MessagingPattern.{MessagingPattern}
 use Rattle.iceoryx2_values.specs.declared.description.MessagingPattern.TheVariants.{Event}
@@ -12,6 +14,14 @@ use Rattle.iceoryx2_values.specs.Span.{Span}
 -- the length as two bytes, and the bytes
 abbrev pub text : List ℕ → List ℕ
 text t = to_be_bytes w16 (length t) ++ t
+
+-- the key, then the value
+abbrev pub pair : Pair → List ℕ
+pair p = text p.key ++ text p.value
+
+-- how many there are as two bytes, then each in its order
+abbrev pub attributes : List Pair → List ℕ
+attributes ps = to_be_bytes w16 (length ps) ++ flat_map pair ps
 
 -- eight bytes
 abbrev pub number : ℕ → List ℕ
@@ -47,12 +57,8 @@ magic = codes "IOX2"
 abbrev pub version : List ℕ
 version = 1 ∷ []
 
--- so far no service has attributes: their count alone is written
-abbrev pub no_attributes : List ℕ
-no_attributes = to_be_bytes w16 0
-
 abbrev pub description : Description → List ℕ
-description d = magic ++ version ++ d.hash.0 ++ text d.name ++ no_attributes ++ pattern d.pattern
+description d = magic ++ version ++ d.hash.0 ++ text d.name ++ attributes d.attributes ++ pattern d.pattern
 
 -- The bytes are the byte form of the description, nothing before them or behind.
 abbrev pub IsForm : Description → List ℕ → Type 0

@@ -1,5 +1,6 @@
 -- Reading the byte form from left to right, part by part.
-use Rattle.std.specs.Prelude.{◌≡◌, ℕ, zero, suc, Bool, List, [], ◌∷◌, length, take, drop, bytes_eq}
+use Rattle.std.specs.Prelude.{◌≡◌, ℕ, zero, suc, Bool, List, [], ◌∷◌, ◌++◌}
+use Rattle.std.specs.Prelude.{length, take, drop, bytes_eq}
 use Rattle.std.specs.Prelude.{Option, Some, None, Result, Ok, Err, nat_lt, ◌==◌, if◌then◌else◌}
 use Rattle.std.specs.Int.{Width, w16, w32, w64, byte_len, from_be_bytes}
 use Rattle.std.specs.Str.{is_utf8}
@@ -12,9 +13,12 @@ use Rattle.iceoryx2_values.specs.declared.description.MessagingPattern.{Messagin
 use Rattle.iceoryx2_values.specs.declared.description.MessagingPattern.TheVariants.{Event}
 use Rattle.iceoryx2_values.specs.declared.event.StaticConfig.{StaticConfig as EventConfig}
 use Rattle.iceoryx2_values.specs.declared.event.Deadline.{Deadline}
+use Rattle.iceoryx2_attributes.specs.declared.attribute.TheConstants.{MIN_KEY_LENGTH, MAX_KEY_LENGTH}
+use Rattle.iceoryx2_attributes.specs.declared.attribute.TheConstants.{MAX_VALUE_LENGTH, MAX_ATTRIBUTES}
+use Rattle.iceoryx2_attributes.specs.Attributes.{Pair, pair_of, ascends}
 use Rattle.iceoryx2_values.specs.Span.{Span}
 use Rattle.iceoryx2_values.specs.Description.{Description}
-use Rattle.iceoryx2_data.specs.Form.{magic, version, no_attributes}
+use Rattle.iceoryx2_data.specs.Form.{magic, version}
 
 infixl 10 ◌>>=◌
 abbrev pub ◌>>=◌ : {A B : Type 0} → Option A → (A → Option B) → Option B
@@ -36,7 +40,7 @@ as_at to part bytes = part bytes >>= λ a. Some (to a.0, a.1)
 abbrev pub where_at : {A : Type 0} → (A → Bool) → Part A → Part A
 where_at test part bytes = part bytes >>= λ a. if test a.0 then Some a else None
 
--- ---- numbers, bytes, texts and options
+-- ---- numbers, bytes, texts, options and lists
 
 abbrev pub number_at : Width → Part ℕ
 number_at w bytes = if nat_lt (length bytes) (byte_len w) then None
@@ -60,6 +64,34 @@ option_at part [] = None
 option_at part (zero ∷ rest) = Some (None, rest)
 option_at part (suc zero ∷ rest) = part rest >>= λ x. Some (Some x.0, x.1)
 option_at part (suc (suc b) ∷ rest) = None
+
+-- n parts, one behind the other
+unfoldable pub list_at : {A : Type 0} → Part A → ℕ → Part (List A)
+list_at part zero bytes = Some ([], bytes)
+list_at part (suc n) bytes = part bytes >>= λ x. list_at part n x.1 >>= λ xs. Some (x.0 ∷ xs.0, xs.1)
+
+-- their number, hi at most, and so many parts
+unfoldable pub counted_at : {A : Type 0} → ℕ → Part A → Part (List A)
+counted_at hi part bytes = number_at w16 bytes >>= λ n. if nat_lt hi n.0 then None else list_at part n.0 n.1
+
+-- ---- attributes
+
+abbrev pub pair_from : List ℕ × List ℕ → Pair
+pair_from p = pair_of p.0 p.1
+
+unfoldable pub pair_at : Part Pair
+pair_at = as_at pair_from (then_at (text_at MIN_KEY_LENGTH MAX_KEY_LENGTH) (text_at 0 MAX_VALUE_LENGTH))
+
+-- so many pairs, each before the next
+abbrev pub pairs_at : ℕ → Part (List Pair)
+pairs_at n = where_at ascends (list_at pair_at n)
+
+-- these pairs with one behind them that the last of them stands before
+unfoldable pub more_at : List Pair → Part (List Pair)
+more_at ps = where_at ascends (as_at (λ p. ps ++ p ∷ []) pair_at)
+
+unfoldable pub attributes_at : Part (List Pair)
+attributes_at = where_at ascends (counted_at MAX_ATTRIBUTES pair_at)
 
 -- ---- the settings of events
 
@@ -102,15 +134,20 @@ pattern_at [] = None
 pattern_at (b ∷ rest) = if b == EVENT_BYTE then (event_at rest >>= λ x. Some (Event x.0, x.1)) else None
 
 abbrev pub DescriptionParts : Type 0
-DescriptionParts = Unit {0} × (Unit {0} × (List ℕ × (List ℕ × (Unit {0} × MessagingPattern))))
+DescriptionParts = Unit {0} × (Unit {0} × (List ℕ × (List ℕ × (List Pair × MessagingPattern))))
 
 abbrev pub description_from : DescriptionParts → Description
-description_from p = record { hash = record { 0 = p.1.1.0 }; name = p.1.1.1.0; pattern = p.1.1.1.1.1 }
+description_from p = record {
+  hash = record { 0 = p.1.1.0 };
+  name = p.1.1.1.0;
+  attributes = p.1.1.1.1.0;
+  pattern = p.1.1.1.1.1;
+}
 
 unfoldable pub description_at : Part Description
 description_at = as_at description_from (then_at (literal_at magic) (then_at (literal_at version)
     (then_at (bytes_at HASH_LENGTH) (then_at (text_at MIN_NAME_LENGTH MAX_NAME_LENGTH)
-    (then_at (literal_at no_attributes) pattern_at)))))
+    (then_at attributes_at pattern_at)))))
 
 -- all of the bytes
 unfoldable pub all_of : List ℕ → Option Description

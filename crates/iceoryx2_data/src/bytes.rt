@@ -22,9 +22,6 @@ pub const VERSION: u8 = 1;
 /// The byte that says that a service is one of events.
 pub const EVENT_BYTE: u8 = 1;
 
-/// The count of attributes. So far no service has any.
-const NO_ATTRIBUTES: [u8; 2] = [0, 0];
-
 /// Why bytes give no description.
 #[derive(Clone, Copy, Debug, PartialEq, Eq)]
 pub enum DecodeError {
@@ -68,7 +65,7 @@ pub fn encode(alloc: Global, description: &StaticConfig) -> Result<Vec<u8>, Allo
 }
 
 /// The description whose byte form the bytes are: `Malformed` where there is none, and
-/// `OutOfMemory` where the name found no memory.
+/// `OutOfMemory` where the name or an attribute found no memory.
 pub fn decode(alloc: Global, bytes: &[u8]) -> Result<StaticConfig, DecodeError>
     // What is found has the bytes as its form.
     ensures found { IfOk result (λ d. IsForm d bytes.now) }

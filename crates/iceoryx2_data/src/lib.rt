@@ -3,4 +3,5 @@
 
 pub mod bytes;
 
+pub use iceoryx2_attributes::attribute;
 pub use iceoryx2_values::{config, description, event, time};

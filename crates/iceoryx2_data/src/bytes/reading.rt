@@ -1,14 +1,20 @@
 //! Reading the byte form from left to right: each part gives its value and the bytes after it.
 
-ghost use Rattle.std.specs.Prelude.{◌≡◌, true, false, length, IfOk, MatchResult, string_bytes};
+ghost use Rattle.std.specs.Prelude.{◌≡◌, ◌<◌, ◌≤◌, true, false, length, string_bytes};
+ghost use Rattle.std.specs.Prelude.{IfOk, OnOk, MatchResult};
 ghost use Rattle.std.specs.Int.{w16, w32, w64};
 ghost use Rattle.std.specs.Str.{is_utf8};
 ghost use Rattle.iceoryx2_data.specs.declared.bytes.DecodeError.TheVariants.{Malformed};
 ghost use Rattle.iceoryx2_attributes.specs.Texts.{IsText};
+ghost use Rattle.iceoryx2_attributes.specs.Attributes.{AreAttributes};
 ghost use Rattle.iceoryx2_data.specs.Reading.{IsReadBy, number_at, bytes_at, literal_at, text_at, option_at, span_at};
+ghost use Rattle.iceoryx2_data.specs.Reading.{pairs_at, more_at, attributes_at};
 ghost use Rattle.iceoryx2_data.specs.Reading.{deadline_at, event_at, pattern_at, description_at, all_of};
 
-use super::{DecodeError, EVENT_BYTE, MAGIC, NO_ATTRIBUTES, VERSION};
+use super::{DecodeError, EVENT_BYTE, MAGIC, VERSION};
+use iceoryx2_attributes::attribute::{
+    AttributeSet, MAX_ATTRIBUTES, MAX_KEY_LENGTH, MAX_VALUE_LENGTH, MIN_KEY_LENGTH, PushError,
+};
 use iceoryx2_values::description::{
     HASH_LENGTH, MAX_NAME_LENGTH, MIN_NAME_LENGTH, MessagingPattern, ServiceHash, ServiceName,
     StaticConfig,
@@ -254,6 +260,52 @@ fn name_of(alloc: Global, bytes: &[u8]) -> Result<(ServiceName, &[u8]), DecodeEr
     Ok((ServiceName::from_text(text), rest))
 }
 
+/// Reads a pair and puts it behind the others. `Malformed` also where they would not ascend then.
+#[tactic(auto, unfolding(crate::specs::Reading::pair_at, crate::specs::Reading::more_at))]
+fn push_pair_of<'a>(
+    alloc: Global,
+    pairs: &mut AttributeSet,
+    bytes: &'a [u8],
+) -> Result<&'a [u8], DecodeError>
+    requires room { length pairs.old < MAX_ATTRIBUTES }
+    requires limits { AreAttributes pairs.old }
+    ensures pushed { IsReadBy (λ rest. (pairs.new, rest.now)) result (more_at pairs.old bytes.now) }
+    ensures still { OnOk result (AreAttributes pairs.new) }
+{
+    let (key, rest) = text_of(alloc, MIN_KEY_LENGTH, MAX_KEY_LENGTH, bytes)?;
+    let (value, rest) = text_of(alloc, 0, MAX_VALUE_LENGTH, rest)?;
+    match pairs.push_ascending(key, value) {
+        Ok(()) => Ok(rest),
+        Err(PushError::Refused) => Err(DecodeError::Malformed),
+        Err(PushError::OutOfMemory) => Err(DecodeError::OutOfMemory),
+    }
+}
+
+/// So many pairs, each put behind those before it.
+fn pairs_of(alloc: Global, count: usize, bytes: &[u8]) -> Result<(AttributeSet, &[u8]), DecodeError>
+    requires { count ≤ MAX_ATTRIBUTES }
+    ensures { IsReadBy (λ x. (x.0, x.1.now)) result (pairs_at count bytes.now) }
+{
+    let mut pairs = AttributeSet::new(alloc);
+    let mut rest = bytes;
+    for _ in 0..count {
+        rest = push_pair_of(alloc, &mut pairs, rest)?;
+    }
+    Ok((pairs, rest))
+}
+
+#[tactic(auto, unfolding(crate::specs::Reading::counted_at, crate::specs::Reading::attributes_at))]
+fn attributes_of(alloc: Global, bytes: &[u8]) -> Result<(AttributeSet, &[u8]), DecodeError>
+    ensures { IsReadBy (λ x. (x.0, x.1.now)) result (attributes_at bytes.now) }
+{
+    let (count, rest) = u16_at(bytes)?;
+    let count = count as usize;
+    if MAX_ATTRIBUTES < count {
+        return Err(DecodeError::Malformed);
+    }
+    pairs_of(alloc, count, rest)
+}
+
 #[tactic(auto, unfolding(crate::specs::Reading::description_at))]
 fn description_of(alloc: Global, bytes: &[u8]) -> Result<(StaticConfig, &[u8]), DecodeError>
     ensures { IsReadBy (λ x. (x.0, x.1.now)) result (description_at bytes.now) }
@@ -265,7 +317,7 @@ fn description_of(alloc: Global, bytes: &[u8]) -> Result<(StaticConfig, &[u8]), 
         Err(error) => return Err(error),
         Ok(found) => found,
     };
-    let rest = match literal_of(&NO_ATTRIBUTES, rest) {
+    let (attributes, rest) = match attributes_of(alloc, rest) {
         Err(error) => return Err(error),
         Ok(found) => found,
     };
@@ -273,7 +325,7 @@ fn description_of(alloc: Global, bytes: &[u8]) -> Result<(StaticConfig, &[u8]), 
         Err(error) => return Err(error),
         Ok(found) => found,
     };
-    Ok((StaticConfig::new(hash, name, pattern), rest))
+    Ok((StaticConfig::new(hash, name, attributes, pattern), rest))
 }
 
 /// The description that all of the bytes are.

@@ -1,10 +1,12 @@
 //! Writing the byte form, part by part, at the end of what was written.
 
 ghost use Rattle.std.specs.Prelude.{◌≡◌, ◌<◌, ◌^◌, ◌++◌, length, OnOk};
+ghost use Rattle.std.specs.List.{flat_map};
 ghost use Rattle.iceoryx2_values.specs.Description.{IsDescription};
 ghost use Rattle.iceoryx2_data.specs.Form as form;
 
-use super::{EVENT_BYTE, MAGIC, NO_ATTRIBUTES, VERSION};
+use super::{EVENT_BYTE, MAGIC, VERSION};
+use iceoryx2_attributes::attribute::{Attribute, AttributeSet};
 use iceoryx2_values::description::{MessagingPattern, StaticConfig};
 use iceoryx2_values::event;
 use iceoryx2_values::event::{Deadline, EventId};
@@ -23,6 +25,34 @@ fn put_text(out: &mut Vec<u8>, text: &str) -> Result<(), AllocError>
 {
     out.extend_from_slice(&(text.len() as u16).to_be_bytes())?;
     out.extend_from_slice(text.as_bytes())?;
+    Ok(())
+}
+
+/// The key, and then the value.
+fn put_pair(out: &mut Vec<u8>, pair: &Attribute) -> Result<(), AllocError>
+    ensures { OnOk result (out.new.items ≡ out.old.items ++ form.pair pair.now) }
+{
+    put_text(out, pair.key())?;
+    put_text(out, pair.value())?;
+    Ok(())
+}
+
+fn put_pairs(out: &mut Vec<u8>, pairs: &[Attribute]) -> Result<(), AllocError>
+    ensures { OnOk result (out.new.items ≡ out.old.items ++ flat_map form.pair pairs.now) }
+{
+    for pair in pairs {
+        put_pair(out, pair)?;
+    }
+    Ok(())
+}
+
+/// How many there are, and then each of them.
+fn put_attributes(out: &mut Vec<u8>, attributes: &AttributeSet) -> Result<(), AllocError>
+    ensures { OnOk result (out.new.items ≡ out.old.items ++ form.attributes attributes.now) }
+{
+    let pairs = attributes.pairs();
+    out.extend_from_slice(&(pairs.len() as u16).to_be_bytes())?;
+    put_pairs(out, pairs)?;
     Ok(())
 }
 
@@ -109,7 +139,7 @@ pub fn put_description(out: &mut Vec<u8>, description: &StaticConfig) -> Result<
     out.push(VERSION)?;
     out.extend_from_slice(description.service_hash().as_bytes())?;
     put_text(out, description.name().as_str())?;
-    out.extend_from_slice(&NO_ATTRIBUTES)?;
+    put_attributes(out, description.attributes())?;
     put_pattern(out, description.messaging_pattern())?;
     Ok(())
 }
