@@ -82,10 +82,10 @@ pub moved : {s : SessionState} {c : Command} {a : Reply} {n : SessionState} (q :
 moved q old slots (goes.call_past le) = record { state = q; moves = moves.call_past le; quiet = old; configured = refl }
 moved q old slots (goes.call_taken t) = record { state = q; moves = moves.call_taken t; quiet = old; configured = refl }
 moved {s = s} q old slots (goes.called {call = call} f {t = t} free is) =
-    let c = built call.how (builder_call s.config call) call.now (Ok f) s.table t q (call_is_regular s.config call.node call.name call.settings) old.shows old.agrees is in
+    let c = built call.how (builder_call s.config call) call.now (Ok f) s.table t q (call_is_regular s.config call) old.shows old.agrees is in
     record { state = c.state; moves = moves.called f free c.call; quiet = quiet_after _ c.state c.shows c.agrees; configured = refl }
 moved {s = s} q old slots (goes.refused {call = call} {e = e} {t = t} free is) =
-    let c = built call.how (builder_call s.config call) call.now (Err e) s.table t q (call_is_regular s.config call.node call.name call.settings) old.shows old.agrees is in
+    let c = built call.how (builder_call s.config call) call.now (Err e) s.table t q (call_is_regular s.config call) old.shows old.agrees is in
     record { state = c.state; moves = moves.refused free c.call; quiet = quiet_after _ c.state c.shows c.agrees; configured = refl }
 moved q old slots (goes.close_past le) = record { state = q; moves = moves.close_past le; quiet = old; configured = refl }
 moved q old slots (goes.close_empty free) = record { state = q; moves = moves.close_empty free; quiet = old; configured = refl }
@@ -103,7 +103,7 @@ pub owns_after : {s : SessionState} {c : Command} {a : Reply} {n : SessionState}
 owns_after q old slots (goes.call_past le) owned = owned
 owns_after q old slots (goes.call_taken t) owned = owned
 owns_after {s = s} q old slots (goes.called {call = call} f {t = t} free is) owned =
-    let c = built call.how (builder_call s.config call) call.now (Ok f) s.table t q (call_is_regular s.config call.node call.name call.settings) old.shows old.agrees is in
+    let c = built call.how (builder_call s.config call) call.now (Ok f) s.table t q (call_is_regular s.config call) old.shows old.agrees is in
     λ i x e. elim (set_cases nat_cmp_total exact_unsigned s.table.world.tickets f.ticket (Some (ticket_for f)) i) [
       | inl k ↦ record { slot = call.slot; factory = f; holds = set_here s.slots call.slot (Some f) None free; ticket = sym k.0 }
       | inr k ↦
@@ -116,7 +116,7 @@ owns_after {s = s} q old slots (goes.called {call = call} f {t = t} free is) own
           }
     ]
 owns_after {s = s} q old slots (goes.refused {call = call} {e = err} {t = t} free is) owned =
-    let c = built call.how (builder_call s.config call) call.now (Err err) s.table t q (call_is_regular s.config call.node call.name call.settings) old.shows old.agrees is in
+    let c = built call.how (builder_call s.config call) call.now (Err err) s.table t q (call_is_regular s.config call) old.shows old.agrees is in
     λ i x e. owned i x (sym (ap (λ m. map.get m i) c.tickets) ∙ e)
 owns_after q old slots (goes.close_past le) owned = owned
 owns_after q old slots (goes.close_empty free) owned = owned
@@ -162,7 +162,7 @@ unchanged_by {s = s} q old (goes.call_taken t) still = itself s
 unchanged_by q old (goes.called f free is) still = absurd still
 unchanged_by {s = s} q old (goes.refused {call = call} {e = e} {t = t} free is) still =
     let b = builder_call s.config call in
-    let c = built call.how b call.now (Err e) s.table t q (call_is_regular s.config call.node call.name call.settings) old.shows old.agrees is in
+    let c = built call.how b call.now (Err e) s.table t q (call_is_regular s.config call) old.shows old.agrees is in
     record { slots = refl; services = refusal_keeps call.how b call.now e s.table.world t.world q c.state old.shows c.shows c.call }
 unchanged_by {s = s} q old (goes.close_past le) still = itself s
 unchanged_by {s = s} q old (goes.close_empty free) still = itself s

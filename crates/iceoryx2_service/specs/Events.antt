@@ -5,7 +5,8 @@ use Rattle.iceoryx2_errors.specs.declared.error.EventOpenError.{EventOpenError}
 use Rattle.iceoryx2_errors.specs.declared.error.EventCreateError.{EventCreateError}
 use Rattle.iceoryx2_builder.specs.declared.builder.event.setting.EventSetting.{EventSetting}
 use Rattle.iceoryx2_builder.specs.Request.{EventRequest, letter_of_events, with_setting}
-use Rattle.iceoryx2_builder.specs.Event.{event_meaning, event_adjusted}
+use Rattle.iceoryx2_attributes.specs.Requirements.{Requirements}
+use Rattle.iceoryx2_builder.specs.Event.{event_creating, event_opening}
 use Rattle.iceoryx2_service.specs.declared.command.Refusal.TheVariants as refusal
 use Rattle.iceoryx2_service.specs.BuilderCalls.{BuilderCall, hash_for}
 
@@ -14,17 +15,17 @@ unfoldable pub with_settings : EventRequest → List EventSetting → EventReque
 with_settings b [] = b
 with_settings b (x ∷ xs) = with_settings (with_setting b x) xs
 
--- what the calls of this builder ask
-abbrev pub event_call : EventRequest → BuilderCall
-event_call b = record {
+-- what the calls of this builder ask: a create defines the pairs, and an open requires pairs and keys
+abbrev pub event_call : EventRequest → Requirements → BuilderCall
+event_call b attributes = record {
   fault = ServiceState;
   open_error = EventOpenError;
   create_error = EventCreateError;
   node = b.node;
   hash = hash_for letter_of_events b.name;
   name = b.name;
-  creating = event_meaning (event_adjusted b.demand);
-  opening = event_meaning b.demand;
+  creating = event_creating b.demand attributes.pairs;
+  opening = event_opening b.demand attributes;
   refusal_of_create = refusal.EventCreate;
   refusal_of_open = refusal.EventOpen;
 }

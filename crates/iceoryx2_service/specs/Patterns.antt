@@ -1,5 +1,6 @@
 -- Which builder a command calls: the one place where the settings choose the pattern.
 use Rattle.std.specs.Prelude.{ℕ, List}
+use Rattle.iceoryx2_attributes.specs.Requirements.{Requirements}
 use Rattle.iceoryx2_values.specs.declared.config.Config.{Config}
 use Rattle.iceoryx2_builder.specs.Request.{fresh_request}
 use Rattle.iceoryx2_service.specs.declared.command.Settings.{Settings}
@@ -9,10 +10,10 @@ use Rattle.iceoryx2_service.specs.BuilderCalls.{BuilderCall}
 use Rattle.iceoryx2_service.specs.Events.{event_call, with_settings}
 
 -- by the pattern of the settings, one row each
-abbrev pub call_by : Config → ℕ → List ℕ → Settings → BuilderCall
-call_by config node name (settings.Event xs) =
-    event_call (with_settings (fresh_request node name config.event) xs.items)
+abbrev pub call_by : Config → ℕ → List ℕ → Requirements → Settings → BuilderCall
+call_by config node name attributes (settings.Event xs) =
+    event_call (with_settings (fresh_request node name config.event) xs.items) attributes
 
 -- what a command's call asks
 abbrev pub builder_call : Config → Call → BuilderCall
-builder_call config call = call_by config call.node call.name call.settings
+builder_call config call = call_by config call.node call.name call.attributes call.settings

@@ -1,5 +1,6 @@
 //! What a session is told, and what it answers.
 
+use iceoryx2_attributes::attribute::AttributeVerifier;
 pub use iceoryx2_builder::builder::event::EventSetting;
 use iceoryx2_errors::error::{EventCreateError, EventOpenError};
 use iceoryx2_values::description::ServiceName;
@@ -27,6 +28,8 @@ pub struct Call {
     pub slot: usize,
     pub name: ServiceName,
     pub settings: Settings,
+    /// What an open requires. A create defines the required pairs, and ignores the keys.
+    pub attributes: AttributeVerifier,
     /// The time, for what is created with a deadline.
     pub now: Result<Time, ClockFault>,
 }

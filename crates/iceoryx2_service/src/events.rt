@@ -6,6 +6,7 @@ ghost use Rattle.iceoryx2_service.specs.Sessions.{Builds};
 
 use crate::command::{EventSetting, How, Refusal};
 use crate::open_service::OpenService;
+use iceoryx2_attributes::attribute::{AttributeSpecifier, AttributeVerifier};
 use iceoryx2_builder::builder::event::Builder;
 use iceoryx2_storage::local::Local;
 use iceoryx2_storage::table::Table;
@@ -22,23 +23,27 @@ fn with_settings(mut builder: Builder<Local>, settings: &[EventSetting]) -> Buil
     builder
 }
 
-/// The builder call, after each setter.
+/// The builder call, after each setter. A create defines the required pairs.
 pub fn call(
     builder: Builder<Local>,
     settings: &[EventSetting],
+    attributes: AttributeVerifier,
     how: How,
     now: Result<Time, ClockFault>,
     table: &mut Table,
 ) -> Result<OpenService, Refusal>
-    ensures { Builds (event_call (set_all builder settings.now)) how now table.old result table.new }
+    ensures { Builds (event_call (set_all builder settings.now) attributes) how now table.old result table.new }
 {
     let builder = with_settings(builder, settings);
     match how {
-        How::Create => match builder.create(table, now) {
-            Ok(factory) => Ok(OpenService::event(factory)),
-            Err(error) => Err(Refusal::EventCreate(error)),
-        },
-        How::Open => match builder.open(table) {
+        How::Create => {
+            let specifier = AttributeSpecifier::from(attributes.into_required_attributes());
+            match builder.create_with_attributes(&specifier, table, now) {
+                Ok(factory) => Ok(OpenService::event(factory)),
+                Err(error) => Err(Refusal::EventCreate(error)),
+            }
+        }
+        How::Open => match builder.open_with_attributes(&attributes, table) {
             Ok(factory) => Ok(OpenService::event(factory)),
             Err(error) => Err(Refusal::EventOpen(error)),
         },

@@ -10,6 +10,7 @@ mod slots;
 pub mod table;
 
 pub use iceoryx2_access::storage;
+pub use iceoryx2_attributes::attribute;
 pub use iceoryx2_builder::builder;
 pub use iceoryx2_calls::{laws, quiet_laws};
 pub use iceoryx2_data::bytes;

@@ -33,11 +33,14 @@ fn build(config: Config, call: Call, table: &mut Table) -> Result<OpenService, R
         slot: _,
         name,
         settings,
+        attributes,
         now,
     } = call;
     let builder = Node::<Local>::new(node, config).service_builder(name);
     match settings {
-        Settings::Event(settings) => events::call(builder.event(), &settings, how, now, table),
+        Settings::Event(settings) => {
+            events::call(builder.event(), &settings, attributes, how, now, table)
+        }
     }
 }
 

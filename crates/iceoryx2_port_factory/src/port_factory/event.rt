@@ -8,6 +8,7 @@ ghost use Rattle.iceoryx2_port_factory.specs.Patterns.{is_events};
 
 use crate::port_factory::{CloseError, Registration};
 use iceoryx2_access::storage::Service;
+use iceoryx2_attributes::attribute::AttributeSet;
 use iceoryx2_values::description::{MessagingPattern, ServiceHash, ServiceName};
 use iceoryx2_values::event::StaticConfig;
 use std::marker::{Model, PhantomData};
@@ -54,6 +55,13 @@ impl<S: Service> PortFactory<S> {
         ensures { result.now ≡ self.now.description.hash }
     {
         self.registration.description().service_hash()
+    }
+
+    /// The service's attributes.
+    pub fn attributes(&self) -> &AttributeSet
+        ensures { result.now ≡ self.now.description.attributes }
+    {
+        self.registration.description().attributes()
     }
 
     /// The service's settings.
