@@ -1,6 +1,7 @@
 //! The byte form.
 
 use crate::support::*;
+use iceoryx2_attributes::attribute::AttributeSet;
 use iceoryx2_data::bytes::{DecodeError, laws};
 use iceoryx2_values::config::Config;
 use iceoryx2_values::description::{MessagingPattern, ServiceHash, StaticConfig};
@@ -9,6 +10,8 @@ use iceoryx2_values::event::{Deadline, EventId};
 use iceoryx2_values::time::{Duration, Time};
 use std::alloc::Global;
 use std::process::Abort;
+
+mod attributes;
 
 /// The front of a form, up to its hash.
 const HASHED: &str = "494f5832011111111111111111111111111111111111111111";
@@ -56,6 +59,7 @@ fn description(
     StaticConfig::new(
         ServiceHash([0x11; 20]),
         name(rt, alloc, text),
+        AttributeSet::new(alloc),
         MessagingPattern::Event(settings),
     )
 }

@@ -5,6 +5,7 @@ use iceoryx2_access::storage::{
     Existence, FetchError, LockError, MakeSegmentError, OpenSegmentError, PublishError, Release,
     ReleaseError, RemoveError, Service, Storage, Tag, TagError,
 };
+use iceoryx2_attributes::attribute::AttributeSet;
 use iceoryx2_data::{config, event};
 use iceoryx2_storage::local::Local;
 use iceoryx2_storage::table::Table;
@@ -78,7 +79,12 @@ fn description(rt: &impl Abort, alloc: Global, hash: ServiceHash, max_nodes: u64
         deadline: None,
     };
     match ServiceName::new(alloc, "a") {
-        Ok(name) => StaticConfig::new(hash, name, MessagingPattern::Event(settings)),
+        Ok(name) => StaticConfig::new(
+            hash,
+            name,
+            AttributeSet::new(alloc),
+            MessagingPattern::Event(settings),
+        ),
         Err(_) => panic!(rt; "no name"),
     }
 }
