@@ -1,6 +1,7 @@
 -- What a line says.
 use Rattle.std.specs.Prelude.{ℕ, ◌≡◌, ◌≢◌, ◌^◌, List, [], ◌∷◌, Option, MatchOption, Ok, codes}
 use Rattle.std.specs.Str.{IsUtf8}
+use Rattle.iceoryx2_attributes.specs.Requirements.{no_requirements}
 use Rattle.iceoryx2_values.specs.Span.{zero_span}
 use Rattle.iceoryx2_values.specs.Names.{IsName}
 use Rattle.iceoryx2_service.specs.declared.command.Command.{Command}
@@ -37,6 +38,7 @@ pub record SaysCall (words : List (List ℕ)) (call : Call) : Type 0 where
   pub slot_is : IsNumber SLOTS slot call.slot
   pub name_is : IsName call.name
   pub settings : HasNoSettings call.settings
+  pub attributes : call.attributes ≡ no_requirements
   pub now : call.now ≡ Ok zero_span
 
 -- The words close a slot.

@@ -4,6 +4,7 @@ ghost use Rattle.std.specs.Prelude.{◌≡◌, ◌≢◌, ◌+◌, ◌^◌, [], 
 ghost use Rattle.negotiate_lines.specs.Words.{without_end_of, words_of};
 ghost use Rattle.negotiate_lines.specs.Lines.{AreLine, IsLine, IsNumberOf, how_word};
 
+use iceoryx2_service::attribute::AttributeVerifier;
 use iceoryx2_service::command::{Call, Command, How, Settings};
 use iceoryx2_service::description::{ServiceName, ServiceNameError, Time};
 use std::alloc::{AllocError, Global};
@@ -143,6 +144,7 @@ fn event(alloc: Global, how: &str, node: &str, slot: &str, name: &str) -> Result
             slot,
             name,
             settings: Settings::Event(Vec::new(alloc)),
+            attributes: AttributeVerifier::new(alloc),
             now: Ok(Time::default()),
         }))),
         Err(ServiceNameError::Length) => Ok(Line::NotACommand),

@@ -2,6 +2,7 @@
 
 use crate::support::*;
 use iceoryx2_errors::error::{EventCreateError, EventOpenError};
+use iceoryx2_service::attribute::AttributeVerifier;
 use iceoryx2_service::command::{Call, Command, EventSetting, How, Refusal, Reply, Settings};
 use iceoryx2_service::session::Session;
 use iceoryx2_storage::table::Table;
@@ -46,6 +47,7 @@ fn call(
         slot,
         name: name(rt, alloc, text),
         settings: Settings::Event(Vec::new(alloc)),
+        attributes: AttributeVerifier::new(alloc),
         now: Ok(Time::default()),
     };
     apply(session, Command::Call(call))
@@ -75,6 +77,7 @@ fn call_with(
         slot,
         name: name(rt, alloc, "a"),
         settings: Settings::Event(listed_settings(rt, alloc, settings)),
+        attributes: AttributeVerifier::new(alloc),
         now: Ok(Time::default()),
     };
     apply(session, Command::Call(call))
@@ -93,6 +96,7 @@ fn create_without_time(
         slot,
         name: name(rt, alloc, "a"),
         settings: Settings::Event(Vec::new(alloc)),
+        attributes: AttributeVerifier::new(alloc),
         now: Err(ClockFault),
     };
     apply(session, Command::Call(call))
@@ -228,6 +232,7 @@ fn commands(rt: &impl Abort, alloc: Global) -> Vec<Command> {
         slot: 9,
         name: name(rt, alloc, "a"),
         settings: Settings::Event(Vec::new(alloc)),
+        attributes: AttributeVerifier::new(alloc),
         now: Ok(Time::default()),
     };
     let commands = vec![in alloc;
