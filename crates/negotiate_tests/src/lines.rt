@@ -4,7 +4,7 @@ use crate::support::*;
 use std::alloc::{AllocError, Global};
 
 /// Lines that are no command.
-const NO_COMMANDS: [&str; 34] = [
+const NO_COMMANDS: &[&str] = &[
     "close 64",
     "close",
     "close 0 0",
@@ -42,10 +42,10 @@ const NO_COMMANDS: [&str; 34] = [
 ];
 
 /// Lines that are not UTF-8.
-const NO_TEXTS: [&[u8]; 2] = [b"\xff", b"event create 1 0 \xc3\x28"];
+const NO_TEXTS: &[&[u8]] = &[b"\xff", b"event create 1 0 \xc3\x28"];
 
 /// Lines that create a service in slot 1, however they are written.
-const CREATIONS: [&str; 12] = [
+const CREATIONS: &[&str] = &[
     "event create 1 1 a",
     "event create 1 1 a\n",
     "event create 1 1 a\r\n",
@@ -61,18 +61,18 @@ const CREATIONS: [&str; 12] = [
 ];
 
 /// Lines without a word.
-const BLANKS: [&str; 6] = ["", "\n", "\r\n", " \n", "   \r\n", "\r"];
+const BLANKS: &[&str] = &["", "\n", "\r\n", " \n", "   \r\n", "\r"];
 
 #[test]
 fn what_is_no_command_ends_the_program(rt: HostRuntime) {
-    for line in NO_COMMANDS {
+    for &line in NO_COMMANDS {
         assert_answers(&rt, rt.alloc(), line, "line 1: not a command\n", 2);
     }
 }
 
 #[test]
 fn what_is_no_text_ends_the_program(rt: HostRuntime) {
-    for line in NO_TEXTS {
+    for &line in NO_TEXTS {
         let found = answers(rt.alloc(), line, 1000, "line 1: not a command\n");
         assert_same(&rt, (line, found), (line, (true, 2)));
     }
@@ -80,14 +80,14 @@ fn what_is_no_text_ends_the_program(rt: HostRuntime) {
 
 #[test]
 fn a_command_is_written_in_many_ways(rt: HostRuntime) {
-    for line in CREATIONS {
+    for &line in CREATIONS {
         assert_answers(&rt, rt.alloc(), line, "ok 1 number=0\n", 0);
     }
 }
 
 #[test]
 fn lines_without_words_are_skipped(rt: HostRuntime) {
-    for line in BLANKS {
+    for &line in BLANKS {
         assert_answers(&rt, rt.alloc(), line, "", 0);
     }
 }

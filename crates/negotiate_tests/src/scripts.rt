@@ -4,7 +4,7 @@ use crate::support::*;
 use std::alloc::{AllocError, Global};
 
 /// Inputs, what is printed for them, and the status.
-const SCRIPTS: [(&str, &str, u8); 14] = [
+const SCRIPTS: &[(&str, &str, u8)] = &[
     // Blank lines are counted.
     ("\nevent jump 1 0 a", "line 2: not a command\n", 2),
     // A missing service is no fault of the line.
@@ -89,7 +89,7 @@ const SCRIPTS: [(&str, &str, u8); 14] = [
 
 #[test]
 fn lines_are_answered_in_their_order(rt: HostRuntime) {
-    for (input, wanted, status) in SCRIPTS {
+    for &(input, wanted, status) in SCRIPTS {
         assert_answers(&rt, rt.alloc(), input, wanted, status);
     }
 }
