@@ -126,7 +126,11 @@ fn may_remove_description(phase: Phase) -> bool
     }
 }
 
+/// Each step is a method. It answers true where the step was allowed and has had its effect, and false
+/// where it is forbidden, and then nothing has changed. `AllocError` comes only where it was allowed and
+/// found no memory, and nothing has changed then either.
 impl Services {
+    /// Nothing yet, with the counter's first value. Takes no memory.
     pub fn starting_at(alloc: Global, counter: u64) -> Services
         ensures { result
             ≡ (record { rows = map.empty; segments = map.empty; phases = map.empty; counter = counter }) }
@@ -287,6 +291,7 @@ impl Services {
         Ok(true)
     }
 
+    /// Takes the segment away. Takes no memory.
     pub fn remove_segment(&mut self, participant: Participant, hash: &ServiceHash) -> bool
         ensures { TakesStep self.old participant hash.now act.RemoveSegment result self.new }
     {
@@ -300,6 +305,7 @@ impl Services {
         true
     }
 
+    /// Takes the row away, whatever the segment. Takes no memory.
     pub fn remove_description(&mut self, participant: Participant, hash: &ServiceHash) -> bool
         ensures { TakesStep self.old participant hash.now act.RemoveDescription result self.new }
     {
@@ -424,6 +430,7 @@ impl Services {
         }
     }
 
+    /// Leaves once, and tells what is left, or `None` where it is forbidden. Takes no memory.
     pub fn leave(&mut self, participant: Participant, hash: &ServiceHash) -> Option<Release>
         ensures { TakesLeave self.old participant hash.now result self.new }
     {
