@@ -1,6 +1,8 @@
-//! Tests of names, settings and the byte form, with values from outside the program.
+//! Tests of attributes, names, settings and the byte form, with values from outside the program.
 #![tactic(auto)]
 
+#[cfg(test)]
+mod attributes;
 #[cfg(test)]
 mod descriptions;
 #[cfg(test)]
