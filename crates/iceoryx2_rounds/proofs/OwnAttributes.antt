@@ -7,8 +7,6 @@ use Rattle.iceoryx2_access.specs.declared.storage.FetchError.{FetchError}
 use Rattle.iceoryx2_access.specs.declared.storage.Tag.{Tag}
 use Rattle.iceoryx2_access.specs.Factory.{Factory}
 use Rattle.iceoryx2_access.specs.Letter.{Letter}
-use Rattle.iceoryx2_access.specs.Run.{Joins}
-use Rattle.iceoryx2_access.proofs.Run.{joins}
 use Rattle.iceoryx2_pattern.specs.Meaning.{Meaning}
 use Rattle.iceoryx2_pattern.specs.Verdict.{Clause}
 use Rattle.iceoryx2_rounds.specs.declared.look.Outcome.{Outcome}

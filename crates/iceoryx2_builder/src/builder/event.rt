@@ -197,7 +197,9 @@ impl<S: Service> Builder<S> {
         let Builder { base, mut demand } = self;
         let hash = base.hash(LETTER);
         let attributes = specifier.attributes();
-        match create(&mut demand, base.node(), &hash, base.name(), attributes, now, storage) {
+        let node = base.node();
+        let name = base.name();
+        match create(&mut demand, node, &hash, name, attributes, now, storage) {
             Ok(registration) => Ok(PortFactory::new(registration)),
             Err(error) => Err(error),
         }
