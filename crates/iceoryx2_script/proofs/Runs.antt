@@ -1,0 +1,87 @@
+-- What a run makes of the answers and the counts.
+use Rattle.std.proofs.Common.{◌≡◌, ℕ, suc, ◌+◌, ◌-◌, ◌^◌, ◌≤◌, min, Bool, true, false, List, [], ◌∷◌, length, length-append, refl, sym, ap, ◌∙◌, subst, inl, inr, arith}
+use Rattle.iceoryx2_access.specs.Letter.{Letter}
+use Rattle.iceoryx2_access.specs.MayRefuse.{MayRefuse}
+use Rattle.iceoryx2_access.specs.Run.{Run, done, next}
+use Rattle.iceoryx2_script.specs.declared.script.Answer.{Answer}
+use Rattle.iceoryx2_script.specs.Counters.{counters_along}
+use Rattle.iceoryx2_script.specs.Faults.{FaultyState, IsFaultyAccess, Reaches, is_refused}
+use Rattle.iceoryx2_script.specs.Plays.{Lacks, Plays, PlaysFront, end, takes, fails}
+use Rattle.iceoryx2_script.specs.Script.{ScriptState, IsScriptAccess, Takes, MeetsFront, is_for}
+
+-- an access before a word that takes a front
+met : (b : Bool) (l : Letter) (front : Answer) (rest mid : List Answer) {word : List Letter} {left : List Answer} → is_for l front ≡ b → MeetsFront b l front rest mid → PlaysFront mid word left → PlaysFront (front ∷ rest) (l ∷ word) left
+met true l front rest mid e h p = record {
+  taken = front ∷ p.taken;
+  front = ap (λ xs. front ∷ xs) (sym h.1 ∙ p.front);
+  plays = takes h.0 p.plays;
+}
+met false l front rest mid {left} e h p = record {
+  taken = p.taken;
+  front = sym h.1 ∙ p.front;
+  plays = fails (subst (Lacks l) (sym h.1 ∙ p.front) e) h.0 p.plays;
+}
+
+before : (old mid : List Answer) (l : Letter) {word : List Letter} {left : List Answer} → Takes old l mid → PlaysFront mid word left → PlaysFront old (l ∷ word) left
+before [] mid l {left} h p = record {
+  taken = p.taken;
+  front = sym h.1 ∙ p.front;
+  plays = fails (subst (Lacks l) (sym h.1 ∙ p.front) tt) h.0 p.plays;
+}
+before (front ∷ rest) mid l h p = met (is_for l front) l front rest mid refl h p
+
+pub plays_front : {a b : ScriptState} {word : List Letter} → Run IsScriptAccess a word b → PlaysFront a.left word b.left
+plays_front done = record { taken = []; front = refl; plays = end }
+plays_front (next h run) = before _ _ _ h.takes (plays_front run)
+
+at_most : {left : List Answer} {word : List Letter} {taken : List Answer} → Plays left word taken → length taken ≤ length word
+at_most end = omega arith
+at_most (takes h p) = let e = at_most p in omega arith
+at_most (fails h f p) = let e = at_most p in omega arith
+
+pub few : {old left : List Answer} {word : List Letter} → PlaysFront old word left → length old ≤ length word + length left
+few {left} p =
+    let e = at_most p.plays in
+    let l = ap length p.front ∙ length-append p.taken left in omega arith
+
+pub script_counters : {a b : ScriptState} {word : List Letter} → Run IsScriptAccess a word b → b.counters ≡ counters_along word a.counters
+script_counters done = refl
+script_counters (next {letter} {word} h run) = script_counters run ∙ ap (counters_along word) h.counters
+
+reached : {S : Type 0} (step : S → Letter → S → Type 0) (b : Bool) {old new : S} {l : Letter} → Reaches b step old l new → MayRefuse step old l new
+reached step true h = inr h
+reached step false h = inl h
+
+min_twice : (n k : ℕ) → min (min (n + 1) (2 ^ 64 - 1) + k) (2 ^ 64 - 1) ≡ min (n + suc k) (2 ^ 64 - 1)
+min_twice n k = omega arith
+
+stops : (n : ℕ) → min (n + 1) (2 ^ 64 - 1) ≤ 2 ^ 64 - 1
+stops n = omega arith
+
+stopped : (n : ℕ) → n ≤ 2 ^ 64 - 1 → n ≡ min (n + 0) (2 ^ 64 - 1)
+stopped n h = omega arith
+
+module _ {S : Type 0} {step : S → Letter → S → Type 0} where
+  pub refusable : {a b : FaultyState S} {word : List Letter} → Run (IsFaultyAccess step) a word b → Run (MayRefuse step) a.inner word b.inner
+  refusable done = done
+  refusable (next h run) = next (reached step _ h.inside) (refusable run)
+
+  pub same_list : {a b : FaultyState S} {word : List Letter} → Run (IsFaultyAccess step) a word b → b.refused ≡ a.refused
+  same_list done = refl
+  same_list (next h run) = same_list run ∙ h.refused
+
+  pub faultless : {a b : FaultyState S} {word : List Letter} → Run (IsFaultyAccess step) a word b → a.refused ≡ [] → Run step a.inner word b.inner
+  faultless done e = done
+  faultless (next {old} {mid} {new} {letter} h run) e =
+      next (subst (λ xs. Reaches (is_refused mid.accesses xs) step old.inner letter mid.inner) e h.inside)
+      (faultless run (h.refused ∙ e))
+
+  pub fault_counters : {a b : FaultyState S} {word : List Letter} → Run (IsFaultyAccess step) a word b → b.counters ≡ counters_along word a.counters
+  fault_counters done = refl
+  fault_counters (next {word} h run) = fault_counters run ∙ ap (counters_along word) h.counters
+
+  pub fault_accesses : {a b : FaultyState S} {word : List Letter} → Run (IsFaultyAccess step) a word b → a.accesses ≤ 2 ^ 64 - 1 → b.accesses ≡ min (a.accesses + length word) (2 ^ 64 - 1)
+  fault_accesses (done {s}) h = stopped s.accesses h
+  fault_accesses (next {old} {word} h run) le =
+      fault_accesses run (subst (λ n. n ≤ 2 ^ 64 - 1) (sym h.accesses) (stops old.accesses))
+      ∙ ap (λ n. min (n + length word) (2 ^ 64 - 1)) h.accesses ∙ min_twice old.accesses (length word)

@@ -1,0 +1,21 @@
+-- How often three of the accesses were asked for.
+use Rattle.std.specs.Prelude.{List, [], ◌∷◌, ℕ, ◌+◌, ◌-◌, ◌^◌, min}
+use Rattle.iceoryx2_script.specs.declared.script.counters.Counters.{Counters}
+use Rattle.iceoryx2_access.specs.Letter.{Letter}
+use Rattle.iceoryx2_access.specs.Letter as letter
+
+-- a count that stops at the last number
+abbrev pub one_more : ℕ → ℕ
+one_more n = min (n + 1) (2 ^ 64 - 1)
+
+-- what an access makes of the counts
+abbrev pub counters_after : Letter → Counters → Counters
+counters_after (letter.Exists h a) c = record c { looks = one_more c.looks }
+counters_after (letter.MakeSegment i h n m a) c = record c { makings = one_more c.makings }
+counters_after (letter.OpenSegment i h n a) c = record c { openings = one_more c.openings }
+counters_after _ c = c
+
+-- what a word of accesses makes of them
+abbrev pub counters_along : List Letter → Counters → Counters
+counters_along [] c = c
+counters_along (l ∷ word) c = counters_along word (counters_after l c)

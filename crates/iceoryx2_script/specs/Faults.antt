@@ -1,0 +1,30 @@
+-- A storage that refuses chosen accesses of another.
+use Rattle.std.specs.Prelude.{◌≡◌, ℕ, Bool, true, false, List, nat_eq}
+use Rattle.std.specs.List.{list_any}
+use Rattle.iceoryx2_access.specs.Letter.{Letter}
+use Rattle.iceoryx2_access.specs.MayRefuse.{IsFault}
+use Rattle.iceoryx2_script.specs.declared.script.counters.Counters.{Counters}
+use Rattle.iceoryx2_script.specs.Counters.{one_more, counters_after}
+
+-- the storage inside, the numbers of the accesses that are refused, and how often was asked
+pub record FaultyState (S : Type 0) : Type 0 where
+  pub inner : S
+  pub refused : List ℕ
+  pub accesses : ℕ
+  pub counters : Counters
+
+-- The access of this number is refused.
+abbrev pub is_refused : ℕ → List ℕ → Bool
+is_refused number refused = list_any (nat_eq number) refused
+
+-- A refused access answers its general fault and leaves what is inside; any other is an access of it.
+abbrev pub Reaches : {S : Type 0} → Bool → (S → Letter → S → Type 0) → S → Letter → S → Type 0
+Reaches true step old l new = IsFault l × (new ≡ old)
+Reaches false step old l new = step old l new
+
+pub record IsFaultyAccess {S : Type 0} (step : S → Letter → S → Type 0) (old : FaultyState S) (l : Letter)
+    (new : FaultyState S) : Type 0 where
+  pub accesses : new.accesses ≡ one_more old.accesses
+  pub inside : Reaches (is_refused new.accesses old.refused) step old.inner l new.inner
+  pub refused : new.refused ≡ old.refused
+  pub counters : new.counters ≡ counters_after l old.counters

@@ -1,0 +1,26 @@
+-- What a word of accesses takes of a script.
+use Rattle.std.specs.Prelude.{◌≡◌, false, List, [], ◌∷◌, ◌++◌}
+use Rattle.iceoryx2_access.specs.Letter.{Letter}
+use Rattle.iceoryx2_access.specs.MayRefuse.{IsFault}
+use Rattle.iceoryx2_script.specs.declared.script.Answer.{Answer}
+use Rattle.iceoryx2_script.specs.Script.{Carries, is_for}
+
+-- No answer is left, or the front is of another kind.
+abbrev pub Lacks : Letter → List Answer → Type 0
+Lacks l [] = Unit {0}
+Lacks l (front ∷ rest) = is_for l front ≡ false
+
+-- Each access has taken the next of these answers, or has found none of its kind in front and failed. `left` is
+-- what stands behind them.
+pub data Plays (left : List Answer) : List Letter → List Answer → Type 0 where
+  end : Plays left [] []
+  takes : {l : Letter} {word : List Letter} {front : Answer} {taken : List Answer}
+      → Carries l front → Plays left word taken → Plays left (l ∷ word) (front ∷ taken)
+  fails : {l : Letter} {word : List Letter} {taken : List Answer}
+      → Lacks l (taken ++ left) → IsFault l → Plays left word taken → Plays left (l ∷ word) taken
+
+-- The answers before are those that the word took, and behind them those that are left.
+pub record PlaysFront (old : List Answer) (word : List Letter) (left : List Answer) : Type 0 where
+  pub taken : List Answer
+  pub front : old ≡ taken ++ left
+  pub plays : Plays left word taken

@@ -1,0 +1,60 @@
+-- A storage that answers from a list.
+use Rattle.std.specs.Prelude.{◌≡◌, Bool, true, false, List, [], ◌∷◌}
+use Rattle.iceoryx2_access.specs.Letter.{Letter, fetched}
+use Rattle.iceoryx2_access.specs.Letter as letter
+use Rattle.iceoryx2_access.specs.MayRefuse.{IsFault}
+use Rattle.iceoryx2_script.specs.declared.script.Answer.{Answer}
+use Rattle.iceoryx2_script.specs.declared.script.Answer.TheVariants as answer
+use Rattle.iceoryx2_script.specs.declared.script.counters.Counters.{Counters}
+use Rattle.iceoryx2_script.specs.Counters.{counters_after}
+
+-- the answers that weren't taken, in order, and how often was asked
+pub record ScriptState : Type 0 where
+  pub left : List Answer
+  pub counters : Counters
+
+-- The answer is of the access's kind.
+abbrev pub is_for : Letter → Answer → Bool
+is_for (letter.Exists h a) (answer.Exists b) = true
+is_for (letter.Fetch i h a) (answer.Fetch b) = true
+is_for (letter.Counts i h a) (answer.Counts b) = true
+is_for (letter.MakeTag i h a) (answer.MakeTag b) = true
+is_for (letter.RemoveTag i h a) (answer.RemoveTag b) = true
+is_for (letter.Lock i h a) (answer.Lock b) = true
+is_for (letter.MakeSegment i h n m a) (answer.MakeSegment b) = true
+is_for (letter.RemoveSegment i h a) (answer.RemoveSegment b) = true
+is_for (letter.RemoveDescription i h a) (answer.RemoveDescription b) = true
+is_for (letter.Publish i h n d a) (answer.Publish b) = true
+is_for (letter.OpenSegment i h n a) (answer.OpenSegment b) = true
+is_for (letter.Release t i h n a) (answer.Release b) = true
+is_for _ _ = false
+
+-- The access answers this.
+abbrev pub Carries : Letter → Answer → Type 0
+Carries (letter.Exists h a) (answer.Exists b) = a ≡ b
+Carries (letter.Fetch i h a) (answer.Fetch b) = a ≡ fetched b
+Carries (letter.Counts i h a) (answer.Counts b) = a ≡ b
+Carries (letter.MakeTag i h a) (answer.MakeTag b) = a ≡ b
+Carries (letter.RemoveTag i h a) (answer.RemoveTag b) = a ≡ b
+Carries (letter.Lock i h a) (answer.Lock b) = a ≡ b
+Carries (letter.MakeSegment i h n m a) (answer.MakeSegment b) = a ≡ b
+Carries (letter.RemoveSegment i h a) (answer.RemoveSegment b) = a ≡ b
+Carries (letter.RemoveDescription i h a) (answer.RemoveDescription b) = a ≡ b
+Carries (letter.Publish i h n d a) (answer.Publish b) = a ≡ b
+Carries (letter.OpenSegment i h n a) (answer.OpenSegment b) = a ≡ b
+Carries (letter.Release t i h n a) (answer.Release b) = a ≡ b
+Carries _ _ = ⊥
+
+-- A front of the access's kind is answered and taken; at another the access fails, and it stays.
+abbrev pub MeetsFront : Bool → Letter → Answer → List Answer → List Answer → Type 0
+MeetsFront true l front rest left = Carries l front × (left ≡ rest)
+MeetsFront false l front rest left = IsFault l × (left ≡ front ∷ rest)
+
+-- What an access leaves of the answers.
+abbrev pub Takes : List Answer → Letter → List Answer → Type 0
+Takes [] l left = IsFault l × (left ≡ [])
+Takes (front ∷ rest) l left = MeetsFront (is_for l front) l front rest left
+
+pub record IsScriptAccess (old : ScriptState) (l : Letter) (new : ScriptState) : Type 0 where
+  pub takes : Takes old.left l new.left
+  pub counters : new.counters ≡ counters_after l old.counters
