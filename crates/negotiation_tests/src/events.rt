@@ -43,10 +43,10 @@ fn identity(
     )
 }
 
-/// Who a factory is that is created for zero notifiers, and its settings.
+/// Who a factory is that is created for zero notifiers and without deadline, and its settings.
 fn created_for_none(rt: &impl Abort, alloc: Global) -> ((u64, u64, bool, bool), StaticConfig) {
     let mut table = table_from(alloc, 0);
-    let builder = wanting(rt, alloc, 1).max_notifiers(0);
+    let builder = wanting(rt, alloc, 1).max_notifiers(0).disable_deadline();
     let factory = created(rt, builder, &mut table);
     let is = identity(&factory, "xample", &example(rt, alloc));
     let settings = settings(&factory);

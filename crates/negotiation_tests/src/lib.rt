@@ -2,11 +2,17 @@
 #![tactic(auto)]
 
 #[cfg(test)]
+mod attributes;
+#[cfg(test)]
+mod deadlines;
+#[cfg(test)]
 mod events;
 #[cfg(test)]
 mod names;
 #[cfg(test)]
 mod readme;
+#[cfg(test)]
+mod runs;
 #[cfg(test)]
 mod sessions;
 #[cfg(test)]

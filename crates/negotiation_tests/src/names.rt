@@ -1,9 +1,8 @@
 //! Services with long names, with a deadline, and with every option.
 
 use crate::support::*;
-use iceoryx2_service::builder::event::EventCreateError;
 use iceoryx2_service::description::event::StaticConfig;
-use iceoryx2_service::description::{ClockFault, Config, Deadline, Duration, EventId, Time};
+use iceoryx2_service::description::{Config, Deadline, Duration, EventId, Time};
 use iceoryx2_service::port_factory::event::PortFactory;
 use iceoryx2_service::table::{Local, Table};
 use std::alloc::Global;
@@ -58,13 +57,7 @@ fn with_deadline() -> Config {
 
 /// What the deadline is in a service that is created at 7 seconds and 9 nanoseconds.
 fn stamped(rt: &impl Abort) -> Deadline {
-    let (Some(value), Some(creation_time)) = (Duration::new(2, 5), Time::new(7, 9)) else {
-        panic!(rt; "no time")
-    };
-    Deadline {
-        value,
-        creation_time,
-    }
+    deadline(rt, (2, 5), (7, 9))
 }
 
 #[test]
@@ -112,22 +105,4 @@ fn the_longest_description_is_read_by_another_node(rt: HostRuntime) {
     let text = longest_name(&rt, rt.alloc());
     let found = share(&rt, rt.alloc(), with_every_option(), &text, now);
     assert_same(&rt, found, (settings, true, [true, true]));
-}
-
-/// Why a create with a deadline is refused where there is no time, and what the table has then:
-/// whether there is a tag, and its counter.
-fn without_time(rt: &impl Abort, alloc: Global) -> (EventCreateError, bool, u64) {
-    let mut table = table_from(alloc, 0);
-    let builder = configured(rt, alloc, 1, with_deadline(), "due");
-    let error = create_refusal(rt, builder, &mut table, Err(ClockFault));
-    let (has_tag, _) = held(&table, 1, &hash_of_events(rt, alloc, "due"));
-    let counter = counter(&table);
-    drop_table(table);
-    (error, has_tag, counter)
-}
-
-#[test]
-fn a_deadline_needs_the_time(rt: HostRuntime) {
-    let found = without_time(&rt, rt.alloc());
-    assert_same(&rt, found, (EventCreateError::InternalFailure, false, 0));
 }

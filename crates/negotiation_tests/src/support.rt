@@ -2,6 +2,7 @@
 //! that a test that makes several of them sees answers and no contracts.
 
 use iceoryx2_access::storage::{ServiceNameHasher, Sha1Hasher};
+use iceoryx2_attributes::attribute::{AttributeError, AttributeSpecifier, AttributeVerifier};
 use iceoryx2_builder::builder::Node;
 use iceoryx2_builder::builder::event::Builder;
 use iceoryx2_errors::error::{EventCreateError, EventOpenError};
@@ -11,11 +12,14 @@ use iceoryx2_storage::table::Table;
 use iceoryx2_storage::table::listing::Entry;
 use iceoryx2_values::config::Config;
 use iceoryx2_values::description::{ServiceHash, ServiceName};
-use iceoryx2_values::event::StaticConfig;
-use iceoryx2_values::time::{ClockFault, Time};
+use iceoryx2_values::event::{Deadline, StaticConfig};
+use iceoryx2_values::time::{ClockFault, Duration, Time};
 use std::alloc::Global;
 use std::fmt::Debug;
 use std::process::Abort;
+
+/// Pairs of a key and a value.
+pub type Pairs = &'static [(&'static str, &'static str)];
 
 /// What is published by default.
 pub const DEFAULTS: StaticConfig = StaticConfig {
@@ -33,6 +37,21 @@ pub const DEFAULTS: StaticConfig = StaticConfig {
 /// each function that does so is dear to prove.
 pub fn assert_same<T: Debug + PartialEq + Drop>(rt: &impl Abort, found: T, wanted: T) {
     assert_eq!(rt; found, wanted);
+}
+
+/// A deadline of such a time, in a service that is created at such a time, each in seconds and
+/// nanoseconds.
+pub fn deadline(rt: &impl Abort, value: (u64, u32), creation: (u64, u32)) -> Deadline {
+    match (
+        Duration::new(value.0, value.1),
+        Time::new(creation.0, creation.1),
+    ) {
+        (Some(value), Some(creation_time)) => Deadline {
+            value,
+            creation_time,
+        },
+        _ => panic!(rt; "no time"),
+    }
 }
 
 /// A name.
@@ -134,6 +153,21 @@ pub fn create_refusal(
     }
 }
 
+/// Why a service isn't opened. Where it is, it is closed again.
+pub fn refusal(
+    rt: &impl Abort,
+    builder: Builder<Local>,
+    table: &mut Table,
+) -> Option<EventOpenError> {
+    match open(builder, table) {
+        Ok(factory) => {
+            closed(rt, factory, table);
+            None
+        }
+        Err(error) => Some(error),
+    }
+}
+
 /// Why an open is refused.
 pub fn open_refusal(rt: &impl Abort, builder: Builder<Local>, table: &mut Table) -> EventOpenError {
     match open(builder, table) {
@@ -142,6 +176,80 @@ pub fn open_refusal(rt: &impl Abort, builder: Builder<Local>, table: &mut Table)
             panic!(rt; "opened")
         }
         Err(error) => error,
+    }
+}
+
+/// What a specifier answers to a pair.
+fn define(
+    specifier: &mut AttributeSpecifier,
+    key: &str,
+    value: &str,
+) -> Result<(), AttributeError> {
+    specifier.define(key, value)
+}
+
+/// What a verifier answers to a pair.
+fn require(verifier: &mut AttributeVerifier, key: &str, value: &str) -> Result<(), AttributeError> {
+    verifier.require(key, value)
+}
+
+/// What a verifier answers to a key.
+fn require_key(verifier: &mut AttributeVerifier, key: &str) -> Result<(), AttributeError> {
+    verifier.require_key(key)
+}
+
+/// A specifier of these pairs.
+pub fn specifier(alloc: Global, pairs: Pairs) -> AttributeSpecifier {
+    let mut specifier = AttributeSpecifier::new(alloc);
+    for &(key, value) in pairs {
+        let _answer = define(&mut specifier, key, value);
+    }
+    specifier
+}
+
+/// Requires these keys.
+fn require_keys(verifier: &mut AttributeVerifier, keys: &[&str]) {
+    for key in keys {
+        let _answer = require_key(verifier, key);
+    }
+}
+
+/// A verifier of these pairs and keys.
+pub fn verifier(alloc: Global, pairs: Pairs, keys: &[&str]) -> AttributeVerifier {
+    let mut verifier = AttributeVerifier::new(alloc);
+    require_keys(&mut verifier, keys);
+    for &(key, value) in pairs {
+        let _answer = require(&mut verifier, key, value);
+    }
+    verifier
+}
+
+/// A service that is created with these attributes, at time zero.
+pub fn created_with(
+    rt: &impl Abort,
+    builder: Builder<Local>,
+    specifier: &AttributeSpecifier,
+    table: &mut Table,
+) -> PortFactory<Local> {
+    match builder.create_with_attributes(specifier, table, Ok(Time::default())) {
+        Ok(factory) => factory,
+        Err(error) => panic!(rt; "refused: {error}"),
+    }
+}
+
+/// Why a service isn't opened with these requirements. Where it is, it is closed again.
+pub fn opened_with(
+    rt: &impl Abort,
+    builder: Builder<Local>,
+    verifier: &AttributeVerifier,
+    table: &mut Table,
+) -> Option<EventOpenError> {
+    match builder.open_with_attributes(verifier, table) {
+        Ok(factory) => {
+            closed(rt, factory, table);
+            None
+        }
+        Err(error) => Some(error),
     }
 }
 
