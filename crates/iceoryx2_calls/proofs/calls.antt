@@ -6,3 +6,5 @@ pub mod Calm
 pub mod Standing
 pub mod Plain
 pub mod Left
+pub mod CloseLeft
+pub mod NoRow

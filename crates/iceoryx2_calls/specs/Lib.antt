@@ -4,3 +4,5 @@ pub mod QuietCalls
 pub mod QuietLists
 pub mod QuietLaws
 pub mod Leaves
+pub mod CloseLeaves
+pub mod OverNoRow

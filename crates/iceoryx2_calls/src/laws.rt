@@ -25,7 +25,6 @@ ghost use Rattle.iceoryx2_pattern.specs.Verdict.{verdict};
 ghost use Rattle.iceoryx2_calls.specs.Calls.{Throughout, AtEach, ActsCalmly, ChangesLast};
 ghost use Rattle.iceoryx2_calls.specs.Leaves.{IsGranted, Leaves, LeavesNothing};
 
-
 /// Whatever a call does and whatever steps peers take within it, the world agrees after each
 /// access, and each open factory carries the one description of its service and stands there with
 /// its node, until its ticket is released.

@@ -12,6 +12,6 @@ pub mod table;
 pub use iceoryx2_access::storage;
 pub use iceoryx2_attributes::attribute;
 pub use iceoryx2_builder::builder;
-pub use iceoryx2_calls::{laws, quiet_laws};
+pub use iceoryx2_calls::{fault_laws, laws, quiet_laws};
 pub use iceoryx2_data::bytes;
 pub use iceoryx2_port_factory::port_factory;

@@ -28,7 +28,7 @@ use Rattle.iceoryx2_access.specs.Factory.{Factory}
 use Rattle.iceoryx2_port_factory.specs.Closes.{IsCloseWord, first_refused, not_here, still_counted, left, last as last_left}
 
 -- removals, which change no ticket
-abbrev IsRemoval : Letter → Type 0
+abbrev pub IsRemoval : Letter → Type 0
 IsRemoval (letter.RemoveTag i h a) = Unit {0}
 IsRemoval (letter.RemoveSegment i h a) = Unit {0}
 IsRemoval (letter.RemoveDescription i h a) = Unit {0}
@@ -47,7 +47,7 @@ part_tickets w l v ok (publishes i h n d t is p) = absurd (subst IsRemoval is ok
 part_tickets w l v ok (joins i h n t is p) = absurd (subst IsRemoval is ok)
 part_tickets w l v ok (releases t i h n a is p) = absurd (subst IsRemoval is ok)
 
-removal_tickets : (w : World) (l : Letter) (v : World) → IsRemoval l → IsFaulty w l v → v.tickets ≡ w.tickets
+pub removal_tickets : (w : World) (l : Letter) (v : World) → IsRemoval l → IsFaulty w l v → v.tickets ≡ w.tickets
 removal_tickets w l v ok (inl a) = part_tickets a.between l v ok (own_part a.between l v a.own) ∙ peers_tickets a.peers
 removal_tickets w l v ok (inr f) = ap (λ (z : World). z.tickets) f.1
 

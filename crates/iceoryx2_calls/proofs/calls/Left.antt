@@ -220,12 +220,12 @@ clear_row row_clears = record { segment = refl; lock = λ n l. l }
 clear_row unmakes = record { segment = refl; lock = λ n l. l }
 clear_row clears_last = record { segment = refl; lock = λ n l. absurd (cc) }
 
-record Unlocked (s : Option Segment) (new : Spot) : Type 0 where
+pub record Unlocked (s : Option Segment) (new : Spot) : Type 0 where
   pub row : new.row ≡ None
   pub segment : new.segment ≡ s
   pub phase : new.phase ≡ at.Idle
 
-unlock_row : {p : Participant} {h : ServiceHash} {x : Phase} {r : Option Row} {s : Option Segment} {c : ℕ} {new : Spot} → IsStep p h act.RemoveDescription x r s c new → Unlocked s new
+pub unlock_row : {p : Participant} {h : ServiceHash} {x : Phase} {r : Option Row} {s : Option Segment} {c : ℕ} {new : Spot} → IsStep p h act.RemoveDescription x r s c new → Unlocked s new
 unlock_row (row_unlocks lock) = record { row = refl; segment = refl; phase = refl }
 unlock_row (row_ends last) = record { row = refl; segment = refl; phase = refl }
 

@@ -66,11 +66,19 @@ same_number n = grind (arith, nat_tests)
 abbrev pub at_seat : Phase → Option Row → Option Segment → ℕ → Bool → Tickets → Seat
 at_seat x r s c g k = record { spot = record { phase = x; row = r; segment = s; counter = c }; tag = g; tickets = k }
 
+-- without a row, where a segment may have been left; and with nothing
+abbrev pub over : Phase → Option Segment → ℕ → Bool → Tickets → Seat
+over x s c g k = at_seat x None s c g k
+
 abbrev pub bare : Phase → ℕ → Bool → Tickets → Seat
-bare x c g k = at_seat x None None c g k
+bare x c g k = over x None c g k
+
+-- with the lock
+abbrev pub at_lock : ℕ → Option Segment → ℕ → Tickets → Seat
+at_lock n s c k = at_seat (at.Locked n) (Some (row.Locked n)) s c true k
 
 abbrev pub locked : ℕ → ℕ → Tickets → Seat
-locked n c k = at_seat (at.Locked n) (Some (row.Locked n)) None c true k
+locked n c k = at_lock n None c k
 
 module _ (i : ℕ) (h : ServiceHash) where
   abbrev pub with_segment : ℕ → ℕ → ℕ → Tickets → Seat
@@ -79,33 +87,33 @@ module _ (i : ℕ) (h : ServiceHash) where
   abbrev pub joined : ℕ → ℕ → List ℕ → ℕ → Tickets → Seat
   joined n m b c k = at_seat (at.Joined n 1) (Some (row.Published n b)) (Some (new_segment (Node i) n m)) c true (map.insert k n (record { node = i; hash = h; number = n }))
 
-  counts_bare : (x : Phase) (c : ℕ) (g : Bool) (k : Tickets) {a : Bool} {t : Seat} → begins x ≡ true → AtSeat i h (bare x c g k) (letter.Counts i h a) t → (a ≡ false) × (t ≡ bare x c g k)
-  counts_bare at.Idle c g k b r = (r.own.0, r.is ∙ ap (seat_after _) r.own.1)
-  counts_bare (at.Read n) c g k b r = (r.own.0, r.is ∙ ap (seat_after _) r.own.1)
-  counts_bare _ c g k b r = absurd (cc)
+  pub counts_over : (x : Phase) (s : Option Segment) (c : ℕ) (g : Bool) (k : Tickets) {a : Bool} {t : Seat} → begins x ≡ true → AtSeat i h (over x s c g k) (letter.Counts i h a) t → (a ≡ false) × (t ≡ over x s c g k)
+  counts_over at.Idle s c g k b r = (r.own.0, r.is ∙ ap (seat_after _) r.own.1)
+  counts_over (at.Read n) s c g k b r = (r.own.0, r.is ∙ ap (seat_after _) r.own.1)
+  counts_over _ s c g k b r = absurd (cc)
 
-  tag_bare : (x : Phase) (c : ℕ) (k : Tickets) {a : Result Tag TagError} {t : Seat} → AtSeat i h (bare x c false k) (letter.MakeTag i h a) t → ((a ≡ Ok Made) × (t ≡ bare x c true k)) ⊎ ((a ≡ Err Tagging.OutOfMemory) × (t ≡ bare x c false k))
-  tag_bare x c k r = elim (r.own) [ inl y ↦ inl (y.0, r.is ∙ ap (seat_after _) y.1) | inr y ↦ inr (y.0, r.is ∙ ap (seat_after _) y.1) ]
+  pub tag_over : (x : Phase) (s : Option Segment) (c : ℕ) (k : Tickets) {a : Result Tag TagError} {t : Seat} → AtSeat i h (over x s c false k) (letter.MakeTag i h a) t → ((a ≡ Ok Made) × (t ≡ over x s c true k)) ⊎ ((a ≡ Err Tagging.OutOfMemory) × (t ≡ over x s c false k))
+  tag_over x s c k r = elim (r.own) [ inl y ↦ inl (y.0, r.is ∙ ap (seat_after _) y.1) | inr y ↦ inr (y.0, r.is ∙ ap (seat_after _) y.1) ]
 
-  pub data Locks (x : Phase) (c : ℕ) (k : Tickets) : Result ℕ LockError → Seat → Type 0 where
-    locks : nat_lt c last_number ≡ true → Locks x c k (Ok c) (locked c (c + 1) k)
-    starved : nat_lt c last_number ≡ true → Locks x c k (Err Locking.OutOfMemory) (bare x c true k)
-    at_end : nat_lt c last_number ≡ false → Locks x c k (Err Locking.Other) (bare x c true k)
+  pub data Locks (x : Phase) (s : Option Segment) (c : ℕ) (k : Tickets) : Result ℕ LockError → Seat → Type 0 where
+    locks : nat_lt c last_number ≡ true → Locks x s c k (Ok c) (at_lock c s (c + 1) k)
+    starved : nat_lt c last_number ≡ true → Locks x s c k (Err Locking.OutOfMemory) (over x s c true k)
+    at_end : nat_lt c last_number ≡ false → Locks x s c k (Err Locking.Other) (over x s c true k)
 
-  lock_by : (x : Phase) (c : ℕ) (k : Tickets) (b : Bool) (a : Result ℕ LockError) (o : Change) (t : Seat) → nat_lt c last_number ≡ b → IsAnswer Locking.OutOfMemory (or_refused Locking.Other c (cond b (Some (record { phase = at.Locked c; row = Some (row.Locked c); segment = None; counter = c + 1 })) None)) a o → t ≡ seat_after (bare x c true k) o → Locks x c k a t
-  lock_by x c k true a o t e (inl y) is = into (Locks x c k) y.0 (is ∙ ap (seat_after _) y.1) (locks e)
-  lock_by x c k true a o t e (inr y) is = into (Locks x c k) y.0 (is ∙ ap (seat_after _) y.1) (starved e)
-  lock_by x c k false a o t e y is = into (Locks x c k) y.0 (is ∙ ap (seat_after _) y.1) (at_end e)
+  lock_by : (x : Phase) (s : Option Segment) (c : ℕ) (k : Tickets) (b : Bool) (a : Result ℕ LockError) (o : Change) (t : Seat) → nat_lt c last_number ≡ b → IsAnswer Locking.OutOfMemory (or_refused Locking.Other c (cond b (Some (record { phase = at.Locked c; row = Some (row.Locked c); segment = s; counter = c + 1 })) None)) a o → t ≡ seat_after (over x s c true k) o → Locks x s c k a t
+  lock_by x s c k true a o t e (inl y) is = into (Locks x s c k) y.0 (is ∙ ap (seat_after _) y.1) (locks e)
+  lock_by x s c k true a o t e (inr y) is = into (Locks x s c k) y.0 (is ∙ ap (seat_after _) y.1) (starved e)
+  lock_by x s c k false a o t e y is = into (Locks x s c k) y.0 (is ∙ ap (seat_after _) y.1) (at_end e)
 
-  lock_bare : (x : Phase) (c : ℕ) (k : Tickets) (a : Result ℕ LockError) (t : Seat) → begins x ≡ true → AtSeat i h (bare x c true k) (letter.Lock i h a) t → Locks x c k a t
-  lock_bare at.Idle c k a t b r = lock_by at.Idle c k _ a r.change t refl r.own r.is
-  lock_bare (at.Read n) c k a t b r = lock_by (at.Read n) c k _ a r.change t refl r.own r.is
-  lock_bare _ c k a t b r = absurd (cc)
+  pub lock_over : (x : Phase) (s : Option Segment) (c : ℕ) (k : Tickets) (a : Result ℕ LockError) (t : Seat) → begins x ≡ true → AtSeat i h (over x s c true k) (letter.Lock i h a) t → Locks x s c k a t
+  lock_over at.Idle s c k a t b r = lock_by at.Idle s c k _ a r.change t refl r.own r.is
+  lock_over (at.Read n) s c k a t b r = lock_by (at.Read n) s c k _ a r.change t refl r.own r.is
+  lock_over _ s c k a t b r = absurd (cc)
 
   make_locked : (n m c : ℕ) (k : Tickets) (a : Result (Unit {0}) MakeSegmentError) (t : Seat) → nat_lt 0 m ≡ true → AtSeat i h (locked n c k) (letter.MakeSegment i h n m a) t → ((a ≡ Ok tt) × (t ≡ with_segment n m c k)) ⊎ ((a ≡ Err Making.OutOfMemory) × (t ≡ locked n c k))
   make_locked n m c k a t positive r = elim (rw (same_number n, positive) at r.own) [ inl y ↦ inl (y.0, r.is ∙ ap (seat_after _) y.1) | inr y ↦ inr (y.0, r.is ∙ ap (seat_after _) y.1) ]
 
-  publish_made : (d : Description) (n c : ℕ) (k : Tickets) (a : Result ℕ PublishError) (t : Seat) → eq_by_cmp hash_cmp d.hash h ≡ true → AtSeat i h (with_segment n (max_nodes_of d.pattern) c k) (letter.Publish i h n d a) t
+  pub publish_made : (d : Description) (n c : ℕ) (k : Tickets) (a : Result ℕ PublishError) (t : Seat) → eq_by_cmp hash_cmp d.hash h ≡ true → AtSeat i h (with_segment n (max_nodes_of d.pattern) c k) (letter.Publish i h n d a) t
       → ((a ≡ Ok n) × (t ≡ joined n (max_nodes_of d.pattern) (form.description d) c k)) ⊎ ((a ≡ Err Publishing.OutOfMemory) × (t ≡ with_segment n (max_nodes_of d.pattern) c k))
   publish_made d n c k a t own r = elim (rw (same_number n, own, same_number (max_nodes_of d.pattern)) at r.own.1) [ inl y ↦ inl (y.0, r.is ∙ ap (seat_after _) y.1) | inr y ↦ inr (y.0, r.is ∙ ap (seat_after _) y.1) ]
 
@@ -128,7 +136,7 @@ module _ (i : ℕ) (h : ServiceHash) where
   back_segment : (n m c : ℕ) (k : Tickets) {w : List Letter} {t : Seat} → GivesBack i h (OwnSegment ∷ OwnLock ∷ OwnTag ∷ []) w → Run (AtSeat i h) (with_segment n m c k) w t → t ≡ bare at.Idle c false k
   back_segment n m c k (back.segment_back a g) r = let f = head r in back_lock n c k g (from (unmake n m c k f.first) f.rest)
 
-  make_and : (n m c : ℕ) (k : Tickets) {a : Result (Unit {0}) MakeSegmentError} {w : List Letter} {t : Seat} → nat_lt 0 m ≡ true → Run (AtSeat i h) (locked n c k) (letter.MakeSegment i h n m a ∷ w) t → ((a ≡ Ok tt) × Run (AtSeat i h) (with_segment n m c k) w t) ⊎ ((a ≡ Err Making.OutOfMemory) × Run (AtSeat i h) (locked n c k) w t)
+  pub make_and : (n m c : ℕ) (k : Tickets) {a : Result (Unit {0}) MakeSegmentError} {w : List Letter} {t : Seat} → nat_lt 0 m ≡ true → Run (AtSeat i h) (locked n c k) (letter.MakeSegment i h n m a ∷ w) t → ((a ≡ Ok tt) × Run (AtSeat i h) (with_segment n m c k) w t) ⊎ ((a ≡ Err Making.OutOfMemory) × Run (AtSeat i h) (locked n c k) w t)
   make_and n m c k {a = a} positive r = let f = head r in elim (make_locked n m c k a f.mid positive f.first) [ inl y ↦ inl (y.0, from y.1 f.rest) | inr y ↦ inr (y.0, from y.1 f.rest) ]
 
   -- the segment is made at the first try
@@ -145,23 +153,23 @@ module _ (i : ℕ) (h : ServiceHash) where
     makes : Makes n m c k (Ok tt) (with_segment n m c k)
     makes_none : Makes n m c k (Err refusal.OutOfMemory) (locked n c k)
 
-  segment_part : (n m c : ℕ) (k : Tickets) {a : Result (Unit {0}) CreateRefusal} {w : List Letter} {t : Seat} → nat_lt 0 m ≡ true → IsSegmentWord i h n m w a → Run (AtSeat i h) (locked n c k) w t → Makes n m c k a t
+  pub segment_part : (n m c : ℕ) (k : Tickets) {a : Result (Unit {0}) CreateRefusal} {w : List Letter} {t : Seat} → nat_lt 0 m ≡ true → IsSegmentWord i h n m w a → Run (AtSeat i h) (locked n c k) w t → Makes n m c k a t
   segment_part n m c k positive (segment.made j le) r = elim (make_after n m c k j positive r) [ inl y ↦ into (Makes n m c k) refl (ended y.1) makes | inr y ↦ absurd (grind (arith, y.0)) ]
   segment_part n m c k positive (segment.not_made j e le other) r = elim (make_after n m c k j positive r) [ inl y ↦ absurd (grind (arith, y.0)) | inr y ↦ let is : e ≡ Making.OutOfMemory = cc in into (Makes n m c k) (ap (λ x. Err (of_make x)) is) (ended y.1) makes_none ]
   segment_part n m c k positive (segment.not_removed j e lt) r = elim (make_after n m c k j positive r) [ inl y ↦ absurd (grind (arith, y.0)) | inr y ↦ absurd (grind (arith, y.0)) ]
   segment_part n m c k positive segment.still_there r = elim (make_after n m c k 5 positive r) [ inl y ↦ absurd (grind (arith, y.0)) | inr y ↦ absurd (grind (arith, y.0)) ]
 
-  segment_refused : {n m c : ℕ} {k : Tickets} {e : CreateRefusal} {t : Seat} → Makes n m c k (Err e) t → (e ≡ refusal.OutOfMemory) × (t ≡ locked n c k)
+  pub segment_refused : {n m c : ℕ} {k : Tickets} {e : CreateRefusal} {t : Seat} → Makes n m c k (Err e) t → (e ≡ refusal.OutOfMemory) × (t ≡ locked n c k)
   segment_refused makes_none = (refl, refl)
 
-  segment_there : {n m c : ℕ} {k : Tickets} {t : Seat} → Makes n m c k (Ok tt) t → t ≡ with_segment n m c k
+  pub segment_there : {n m c : ℕ} {k : Tickets} {t : Seat} → Makes n m c k (Ok tt) t → t ≡ with_segment n m c k
   segment_there makes = refl
 
-  lock_refused : {x : Phase} {c : ℕ} {k : Tickets} {z : LockError} {t : Seat} → Locks x c k (Err z) t → ((z ≡ Locking.OutOfMemory) × (t ≡ bare x c true k)) ⊎ ((z ≡ Locking.Other) × (t ≡ bare x c true k) × (nat_lt c last_number ≡ false))
+  pub lock_refused : {x : Phase} {s : Option Segment} {c : ℕ} {k : Tickets} {z : LockError} {t : Seat} → Locks x s c k (Err z) t → ((z ≡ Locking.OutOfMemory) × (t ≡ over x s c true k)) ⊎ ((z ≡ Locking.Other) × (t ≡ over x s c true k) × (nat_lt c last_number ≡ false))
   lock_refused (starved e) = inl (refl, refl)
   lock_refused (at_end e) = inr (refl, refl, e)
 
-  lock_given : {x : Phase} {c n : ℕ} {k : Tickets} {t : Seat} → Locks x c k (Ok n) t → (n ≡ c) × (t ≡ locked n (c + 1) k) × (nat_lt c last_number ≡ true)
+  pub lock_given : {x : Phase} {s : Option Segment} {c n : ℕ} {k : Tickets} {t : Seat} → Locks x s c k (Ok n) t → (n ≡ c) × (t ≡ at_lock n s (c + 1) k) × (nat_lt c last_number ≡ true)
   lock_given (locks e) = (refl, refl, e)
 
   own_tag_back : {tag : Tag} {w : List Letter} → tag ≡ Made → GivesBack i h (own_tag tag) w → GivesBack i h (OwnTag ∷ []) w
@@ -174,11 +182,14 @@ module _ (i : ℕ) (h : ServiceHash) where
   own_segment_back {w = w} e g = subst (λ z. GivesBack i h (OwnSegment ∷ OwnLock ∷ own_tag z) w) e g
 
 module _ {F E C : Type 0} (m : Meaning F E C) (i : ℕ) (h : ServiceHash) where
+  pub look_over : (x : Phase) (s : Option Segment) (c : ℕ) (g : Bool) (k : Tickets) {o : Outcome F} {w : List Letter} {t : Seat} → IsLookWord m i h w o → Run (AtSeat i h) (over x s c g k) w t → (o ≡ outcome.Nothing) × (t ≡ over x s c g k)
+  look_over x s c g k look.absent r = let l = last r in (refl, l.is ∙ ap (seat_after _) l.own.1)
+  look_over x s c g k look.broken r = let l = last r in absurd (grind (arith, l.own.0))
+  look_over x s c g k (look.fetched look.yes leads) r = let l = (head r).first in absurd (grind (arith, l.own.0))
+  look_over x s c g k (look.fetched look.being_set_up leads) r = let l = (head r).first in absurd (grind (arith, l.own.0))
+
   pub look_bare : (x : Phase) (c : ℕ) (g : Bool) (k : Tickets) {o : Outcome F} {w : List Letter} {t : Seat} → IsLookWord m i h w o → Run (AtSeat i h) (bare x c g k) w t → (o ≡ outcome.Nothing) × (t ≡ bare x c g k)
-  look_bare x c g k look.absent r = let l = last r in (refl, l.is ∙ ap (seat_after _) l.own.1)
-  look_bare x c g k look.broken r = let l = last r in absurd (grind (arith, l.own.0))
-  look_bare x c g k (look.fetched look.yes leads) r = let l = (head r).first in absurd (grind (arith, l.own.0))
-  look_bare x c g k (look.fetched look.being_set_up leads) r = let l = (head r).first in absurd (grind (arith, l.own.0))
+  look_bare x c g k l r = look_over x None c g k l r
 
   pub data Enters (x : Phase) (c : ℕ) (k : Tickets) : Result Tag C → Seat → Type 0 where
     enters : Enters x c k (Ok Made) (bare x c true k)
@@ -189,21 +200,21 @@ module _ {F E C : Type 0} (m : Meaning F E C) (i : ℕ) (h : ServiceHash) where
   entry x c k b (create.look_found l) r = let y = look_bare x c false k l r in absurd (cc)
   entry x c k b (create.counted {u = u} l) r =
       let s = split u _ r in
-      absurd (true≢false (counts_bare i h x c false k b (last (from (look_bare x c false k l s.first).1 s.second))).0)
+      absurd (true≢false (counts_over i h x None c false k b (last (from (look_bare x c false k l s.first).1 s.second))).0)
   entry x c k b (create.no_copies {u = u} l) r =
       let s = split u _ r in
-      into (Enters x c k) refl (counts_bare i h x c false k b (last (from (look_bare x c false k l s.first).1 s.second))).1 enters_not
+      into (Enters x c k) refl (counts_over i h x None c false k b (last (from (look_bare x c false k l s.first).1 s.second))).1 enters_not
   entry x c k b (create.no_tag {u = u} e l) r =
       let s = split u _ r in
       let f = head (from (look_bare x c false k l s.first).1 s.second) in
-      elim (tag_bare i h x c k (last (from (counts_bare i h x c false k b f.first).1 f.rest))) [
+      elim (tag_over i h x None c k (last (from (counts_over i h x None c false k b f.first).1 f.rest))) [
         | inl y ↦ absurd (grind (arith, y.0))
         | inr y ↦ let is : e ≡ Tagging.OutOfMemory = cc in into (Enters x c k) (ap (λ z. Err (m.create_refusal (of_tag z))) is) y.1 enters_not
       ]
   entry x c k b (create.entered {u = u} tag l) r =
       let s = split u _ r in
       let f = head (from (look_bare x c false k l s.first).1 s.second) in
-      elim (tag_bare i h x c k (last (from (counts_bare i h x c false k b f.first).1 f.rest))) [
+      elim (tag_over i h x None c k (last (from (counts_over i h x None c false k b f.first).1 f.rest))) [
         | inl y ↦ let is : tag ≡ Made = cc in into (Enters x c k) (ap Ok is) y.1 enters
         | inr y ↦ absurd (grind (arith, y.0))
       ]
@@ -241,13 +252,13 @@ module _ {F E C : Type 0} (m : Meaning F E C) (i : ℕ) (h : ServiceHash) where
       locked_first : {tag : Tag} {w : List Letter} {n : ℕ} {t : Seat} → tag ≡ Made → Run (AtSeat i h) (bare x c true k) (letter.Lock i h (Ok n) ∷ w) t → Begun tag n w t
       locked_first {n = n} own r =
           let f = head r in
-          let y = lock_given i h (lock_bare i h x c k (Ok n) f.mid b f.first) in
+          let y = lock_given i h (lock_over i h x None c k (Ok n) f.mid b f.first) in
           record { own = own; number = y.0; counter = y.2; rest = from y.1 f.rest }
 
       serving : {tag : Tag} {a : Result Factory C} {w : List Letter} {t : Seat} → m.history_refusal ≡ None → stops ≡ false → tag ≡ Made → IsServiceWord m i h d tag w a → Run (AtSeat i h) (bare x c true k) w t → Founds c k a t
       serving fits runs own (create.not_locked z g) r =
           let f = head r in
-          elim (lock_refused i h (lock_bare i h x c k _ _ b f.first)) [
+          elim (lock_refused i h (lock_over i h x None c k _ _ b f.first)) [
             | inl y ↦ into FoundsHere (ap (λ q. Err (m.create_refusal (of_lock q))) y.0) (back_tag i h x c k (own_tag_back i h own g) (from y.1 f.rest)) (forgets b fits)
             | inr y ↦ into FoundsHere (ap (λ q. Err (m.create_refusal (of_lock q))) y.0) (back_tag i h x c k (own_tag_back i h own g) (from y.1 f.rest)) (no_number b fits runs y.2)
           ]
