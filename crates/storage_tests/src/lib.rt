@@ -1,8 +1,10 @@
-//! Tests of maps and tables, with values from outside the program.
+//! Tests of maps, tables, scripts and faults, with values from outside the program.
 #![tactic(auto)]
 
 #[cfg(test)]
 mod maps;
+#[cfg(test)]
+mod scripts;
 #[cfg(test)]
 mod support;
 #[cfg(test)]

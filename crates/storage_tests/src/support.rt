@@ -136,12 +136,22 @@ pub fn table_from(alloc: Global, counter: u64) -> Table {
     Table::starting_at(alloc, counter)
 }
 
+/// Asks a storage row by row, each of which it has to answer as the row says.
+pub fn drive<S: Service>(
+    rt: &impl Abort,
+    storage: &mut S::Storage,
+    alloc: Global,
+    rows: &[(Access, Answer)],
+) {
+    for (row, (access, wanted)) in rows.iter().enumerate() {
+        let found = ask::<S>(rt, storage, alloc, *access);
+        assert!(rt; found == *wanted, "row {row} has another answer");
+    }
+}
+
 /// A table with this counter that has answered each row as the row says.
 pub fn driven(rt: &impl Abort, alloc: Global, counter: u64, rows: &[(Access, Answer)]) -> Table {
     let mut table = table_from(alloc, counter);
-    for (row, (access, wanted)) in rows.iter().enumerate() {
-        let found = ask::<Local>(rt, &mut table, alloc, *access);
-        assert!(rt; found == *wanted, "row {row} has another answer");
-    }
+    drive::<Local>(rt, &mut table, alloc, rows);
     table
 }
