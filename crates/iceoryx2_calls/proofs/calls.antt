@@ -8,3 +8,4 @@ pub mod Plain
 pub mod Left
 pub mod CloseLeft
 pub mod NoRow
+pub mod Tickets

@@ -6,3 +6,4 @@ pub mod QuietLaws
 pub mod Leaves
 pub mod CloseLeaves
 pub mod OverNoRow
+pub mod Tickets

@@ -1,19 +1,15 @@
 -- What is told of the calls over a world that shows the quiet machine.
-use Rattle.std.specs.Prelude.{◌≡◌, ◌≢◌, ℕ, false, Option, Some, None, Result, Ok, Err, IfOk, unwrap_or}
+use Rattle.std.specs.Prelude.{◌≡◌, ◌≢◌, ℕ, false, Option, Some, None, Result, IfOk, unwrap_or}
 use Rattle.std.specs.FinMap as map
 use Rattle.iceoryx2_values.specs.declared.description.ServiceHash.{ServiceHash}
 use Rattle.iceoryx2_world.specs.declared.world.Participant.TheVariants.{Node}
-use Rattle.iceoryx2_world.specs.World.{World, row_of, segment_of, phase_of, Tickets, tag_of, join_count}
+use Rattle.iceoryx2_world.specs.World.{World, row_of, segment_of, phase_of, tag_of, join_count}
 use Rattle.iceoryx2_world.specs.Across.{Agrees}
 use Rattle.iceoryx2_access.specs.Factory.{Factory}
-use Rattle.iceoryx2_world.specs.Standing.{Stands, ticket_for}
+use Rattle.iceoryx2_world.specs.Standing.{Stands}
 use Rattle.iceoryx2_calls.specs.Quiet.{Quiet, QuietService, Shows, service_at, times_counted}
 use Rattle.iceoryx2_calls.specs.QuietCalls.{Closes}
-
--- the tickets after a create or an open: one more where it gave a factory
-abbrev pub tickets_after : {E : Type 0} → Tickets → Result Factory E → Tickets
-tickets_after k (Ok r) = map.insert k r.ticket (ticket_for r)
-tickets_after k (Err e) = k
+use Rattle.iceoryx2_calls.specs.Tickets.{tickets_after}
 
 -- After a create or an open from w to v, which is one of these calls of the machine.
 pub record IsCall {E : Type 0} (w : World) (Calls : Quiet → Type 0) (answer : Result Factory E) (v : World)

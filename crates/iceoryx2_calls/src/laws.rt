@@ -24,6 +24,7 @@ ghost use Rattle.iceoryx2_pattern.specs.Meaning.{Meaning};
 ghost use Rattle.iceoryx2_pattern.specs.Verdict.{verdict};
 ghost use Rattle.iceoryx2_calls.specs.Calls.{Throughout, AtEach, ActsCalmly, ChangesLast};
 ghost use Rattle.iceoryx2_calls.specs.Leaves.{IsGranted, Leaves, LeavesNothing};
+ghost use Rattle.iceoryx2_calls.specs.Tickets.{tickets_after, tickets_after_close};
 
 /// Whatever a call does and whatever steps peers take within it, the world agrees after each
 /// access, and each open factory carries the one description of its service and stands there with
@@ -93,11 +94,24 @@ pub fn agreement<F: Copy, E: Copy, C: Copy>()
         → IsCloseWord r word (Err (NotHere s)) → Agrees w
         → (s ≡ r) × (Stands w r → Throughout IsFaulty (λ v. Stands v r) w word) }
 
-    // Any other close takes its ticket out.
-    ensures taken_out { (r : Factory) (word : List Letter) (answer : Result (Unit {0}) (CloseError Factory))
+    // A create that answers Ok adds exactly its factory's ticket, and one that is refused changes no
+    // ticket.
+    ensures create_tickets { (m : Meaning F E C) (node : ℕ) (hash : ServiceHash) (name : List ℕ)
+        (now : Result Span ClockFault) (word : List Letter) (answer : Result Factory C) (w v : World)
+        → IsCreateWord m node hash name now word answer → Run IsFaulty w word v
+        → v.tickets ≡ tickets_after w.tickets answer }
+
+    // And so it is with an open.
+    ensures open_tickets { (m : Meaning F E C) (node : ℕ) (hash : ServiceHash)
+        (word : List Letter) (answer : Result Factory E) (w v : World)
+        → IsOpenWord m node hash word answer → Run IsFaulty w word v
+        → v.tickets ≡ tickets_after w.tickets answer }
+
+    // A close that hands its factory back changes no ticket, and any other takes exactly its own out.
+    ensures close_tickets { (r : Factory) (word : List Letter) (answer : Result (Unit {0}) (CloseError Factory))
         (w v : World)
-        → IsCloseWord r word answer → ((s : Factory) → answer ≢ Err (NotHere s)) → Run IsFaulty w word v
-        → ticket_of v r.ticket ≡ None }
+        → IsCloseWord r word answer → Run IsFaulty w word v
+        → v.tickets ≡ tickets_after_close w.tickets r answer }
 
     // Where nothing is refused by a fault, the close of a standing factory answers Ok, and its
     // ticket is gone.

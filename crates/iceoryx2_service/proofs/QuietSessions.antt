@@ -18,7 +18,8 @@ use Rattle.iceoryx2_rounds.specs.Creates.{time_of}
 use Rattle.iceoryx2_access.specs.Factory.{Factory}
 use Rattle.iceoryx2_calls.specs.Quiet.{Quiet, Shows, no_service}
 use Rattle.iceoryx2_calls.specs.QuietCalls.{Creates, Opens}
-use Rattle.iceoryx2_calls.specs.QuietLaws.{HoldsTheSame, tickets_after}
+use Rattle.iceoryx2_calls.specs.QuietLaws.{HoldsTheSame}
+use Rattle.iceoryx2_calls.specs.Tickets.{tickets_after}
 use Rattle.iceoryx2_calls.proofs.quiet.After.{refused_create, refused_open}
 use Rattle.iceoryx2_calls.proofs.quiet.Listing.{lists_the_machine}
 use Rattle.iceoryx2_calls.proofs.quiet.Calls.{create_follows, open_follows, close_follows, empty_shows}

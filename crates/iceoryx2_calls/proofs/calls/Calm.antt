@@ -66,7 +66,7 @@ module _ {node : ℕ} {hash : ServiceHash} where
   cleared_tame number max_nodes zero = ends
   cleared_tame number max_nodes (suc k) = tame_both (cleared_tame number max_nodes k) (goes tt (goes tt ends))
 
-  making_tame : {number max_nodes : ℕ} {w : List Letter} {r : Result (Unit {0}) CreateRefusal} → IsSegmentWord node hash number max_nodes w r → Tame node hash true w true
+  pub making_tame : {number max_nodes : ℕ} {w : List Letter} {r : Result (Unit {0}) CreateRefusal} → IsSegmentWord node hash number max_nodes w r → Tame node hash true w true
   making_tame {number} {max_nodes} (made k _) = tame_both (cleared_tame number max_nodes k) (goes tt ends)
   making_tame {number} {max_nodes} (not_made k e _ _) = tame_both (cleared_tame number max_nodes k) (goes tt ends)
   making_tame {number} {max_nodes} (not_removed k e _) = tame_both (cleared_tame number max_nodes k) (goes tt (goes tt ends))
@@ -78,7 +78,7 @@ module _ {F E C : Type 0} {m : Meaning F E C} {node : ℕ} {hash : ServiceHash} 
   look_tame broken = goes tt ends
   look_tame (fetched there read) = goes tt (goes tt ends)
 
-  entry_tame : {b : Bool} {w : List Letter} {r : Result Tag C} → IsEntryWord m node hash w r → Tame node hash b w b
+  pub entry_tame : {b : Bool} {w : List Letter} {r : Result Tag C} → IsEntryWord m node hash w r → Tame node hash b w b
   entry_tame (creates.look_faulty l) = look_tame l
   entry_tame (creates.look_found l) = look_tame l
   entry_tame (counted l) = tame_both (look_tame l) (goes tt ends)
@@ -91,13 +91,13 @@ module _ {F E C : Type 0} {m : Meaning F E C} {node : ℕ} {hash : ServiceHash} 
   service_tame {tag = tag} (no_segment s b) = locks (tame_both (making_tame s) (lock_tame tag b))
   service_tame {tag = tag} (not_published x s b) = locks (tame_both (making_tame s) (goes tt (segment_tame tag b)))
 
-  create_tame : {stops : Bool} {d : Description} {w : List Letter} {error : C} → IsCreating m node hash stops d w (Err error) → Tame node hash false w false
+  pub create_tame : {stops : Bool} {d : Description} {w : List Letter} {error : C} → IsCreating m node hash stops d w (Err error) → Tame node hash false w false
   create_tame (forbidden _) = ends
   create_tame (not_entered _ e) = entry_tame e
   create_tame (clock_fault {tag} _ _ e b) = tame_both (entry_tame e) (tag_tame tag b)
   create_tame (creates.made _ _ e s) = tame_both (entry_tame e) (service_tame s)
 
-  ready_tame : {n : ℕ} {d : Description} {tag : Tag} {w : List Letter} → IsReady m node hash n d tag w → Tame node hash false w false
+  pub ready_tame : {n : ℕ} {d : Description} {tag : Tag} {w : List Letter} → IsReady m node hash n d tag w → Tame node hash false w false
   ready_tame (ready tag l _) = tame_both (look_tame l) (goes tt ends)
 
   failed_tame : {w : List Letter} → IsFailedRound m node hash w → Tame node hash false w false
@@ -112,11 +112,11 @@ module _ {F E C : Type 0} {m : Meaning F E C} {node : ℕ} {hash : ServiceHash} 
   last_tame (opens.then_faulty {tag} r l b) = tame_both (ready_tame r) (goes tt (tame_both (look_tame l) (tag_tame tag b)))
   last_tame (opens.then_none {tag} r l b) = tame_both (ready_tame r) (goes tt (tame_both (look_tame l) (tag_tame tag b)))
 
-  rounds_tame : {k : ℕ} {w : List Letter} → AreFailedRounds m node hash k w → Tame node hash false w false
+  pub rounds_tame : {k : ℕ} {w : List Letter} → AreFailedRounds m node hash k w → Tame node hash false w false
   rounds_tame no_round = ends
   rounds_tame (one_more before r) = tame_both (rounds_tame before) (failed_tame r)
 
-  open_tame : {w : List Letter} {error : E} → IsOpenWord m node hash w (Err error) → Tame node hash false w false
+  pub open_tame : {w : List Letter} {error : E} → IsOpenWord m node hash w (Err error) → Tame node hash false w false
   open_tame (ended small before l) = tame_both (rounds_tame before) (last_tame l)
   open_tame (all_failed before) = rounds_tame before
 

@@ -39,7 +39,7 @@ use Rattle.iceoryx2_port_factory.specs.Closes.{IsCloseWord, not_here, still_coun
 use Rattle.iceoryx2_calls.specs.CloseLeaves.{tags_without, SegmentAfter, RowAfter, last_phase, phase_after, CloseLeaves, counts_less, leaves_others, leaves_nobody}
 use Rattle.iceoryx2_calls.proofs.calls.Plain.{step_tags}
 use Rattle.iceoryx2_calls.proofs.calls.Left.{peers_leave, unlock_row}
-use Rattle.iceoryx2_calls.proofs.calls.Closed.{removal_tickets}
+use Rattle.iceoryx2_calls.proofs.calls.Tickets.{same_tickets}
 
 -- where a release leads from where, by its answer
 abbrev LeadsTo : ℕ → Released → (old new : Phase) → Type 0
@@ -180,7 +180,7 @@ close_leaves {r} {w = w} {v = v} (left tag) here run old =
     let k = release_to r leave.Left w first.mid first.first old in
     let x = last first.rest in
     leaves_others (record {
-      tickets = removal_tickets first.mid (letter.RemoveTag i h tag) v tt x ∙ k.tickets;
+      tickets = same_tickets first.mid (letter.RemoveTag i h tag) v tt x ∙ k.tickets;
       tags = tags_after i h first.mid v tag x ∙ ap (λ s. tags_without tag s (i, h)) k.tags;
       phase = tag_removed_phase first.mid v i h tag x ∙ k.phase;
     })
@@ -200,7 +200,7 @@ close_leaves {r} {w = w} {v = v} (last_left tag segment description) here run ol
     let cleared = segment_removed i h second.mid third.mid n segment (tag_removed_phase first.mid second.mid i h tag second.first ∙ k.phase) third.first in
     let e = ended i h third.mid v n segment description kept_3.0 cleared.phase x in
     leaves_nobody (record {
-      tickets = removal_tickets third.mid (letter.RemoveDescription i h description) v tt x ∙ removal_tickets second.mid (letter.RemoveSegment i h segment) third.mid tt third.first ∙ removal_tickets first.mid (letter.RemoveTag i h tag) second.mid tt second.first ∙ k.tickets;
+      tickets = same_tickets third.mid (letter.RemoveDescription i h description) v tt x ∙ same_tickets second.mid (letter.RemoveSegment i h segment) third.mid tt third.first ∙ same_tickets first.mid (letter.RemoveTag i h tag) second.mid tt second.first ∙ k.tickets;
       tags = e.tags ∙ cleared.tags ∙ tags_after i h first.mid second.mid tag second.first ∙ ap (λ s. tags_without tag s (i, h)) k.tags;
       segment_after = e.segment_after;
       row = row_from i h w third.mid v n description later k.row (still i h third.mid n segment kept_3.0 cleared.phase).row e.row;

@@ -28,7 +28,8 @@ use Rattle.iceoryx2_rounds.specs.Opens.{IsOpenWord}
 use Rattle.iceoryx2_calls.specs.Quiet.{QuietService, Quiet, ShowsService, Shows, no_service, service_at}
 use Rattle.iceoryx2_calls.specs.QuietCalls.{IsRegular, Creates, Opens, created_by, opened_by, with_service, spend}
 use Rattle.iceoryx2_calls.specs.QuietCalls as call
-use Rattle.iceoryx2_calls.specs.QuietLaws.{tickets_after, IsCall, IsClose}
+use Rattle.iceoryx2_calls.specs.QuietLaws.{IsCall, IsClose}
+use Rattle.iceoryx2_calls.specs.Tickets.{tickets_after}
 use Rattle.iceoryx2_calls.proofs.quiet.Seats.{move_all}
 use Rattle.iceoryx2_calls.proofs.quiet.Here.{create_here, open_here, close_here}
 use Rattle.iceoryx2_calls.proofs.quiet.Create.{Made, create_absent}

@@ -25,7 +25,7 @@ use Rattle.iceoryx2_rounds.specs.Creates.{IsCreateWord, clock_stops, description
 use Rattle.iceoryx2_calls.specs.Quiet.{Quiet, IsAbsent, ShowsService, Shows, service_at, is_counted}
 use Rattle.iceoryx2_calls.specs.QuietCalls.{Creates, created_by, with_service, spend}
 use Rattle.iceoryx2_calls.specs.QuietCalls as call
-use Rattle.iceoryx2_calls.specs.QuietLaws.{tickets_after}
+use Rattle.iceoryx2_calls.specs.Tickets.{tickets_after}
 use Rattle.iceoryx2_calls.proofs.quiet.Seats.{Apart, AtSeat}
 use Rattle.iceoryx2_calls.proofs.quiet.Absent.{from, bare, joined, Founds, forbids, no_time, no_number, forgets, forgets_locked, founds, founding}
 use Rattle.iceoryx2_calls.proofs.quiet.Lift.{services_after, same_services, phase_beside, tag_beside, equal_or_not, not_same, other_node, no_node}

@@ -27,7 +27,7 @@ use Rattle.iceoryx2_rounds.specs.Opens.{IsOpenWord}
 use Rattle.iceoryx2_calls.specs.Quiet.{NodeCounts, QuietService, Quiet, IsThere, Shows, CountIs, service_at, times_counted, is_counted}
 use Rattle.iceoryx2_calls.specs.QuietCalls.{IsRegular, Opens, HasPlace, more_counts, opened_by, with_service, spend}
 use Rattle.iceoryx2_calls.specs.QuietCalls as call
-use Rattle.iceoryx2_calls.specs.QuietLaws.{tickets_after}
+use Rattle.iceoryx2_calls.specs.Tickets.{tickets_after}
 use Rattle.iceoryx2_calls.proofs.quiet.Seats.{Apart, AtSeat}
 use Rattle.iceoryx2_calls.proofs.quiet.Absent.{at_seat, from}
 use Rattle.iceoryx2_calls.proofs.quiet.Lift.{services_after, phase_beside, tag_beside, equal_or_not, not_same, other_node, no_node}

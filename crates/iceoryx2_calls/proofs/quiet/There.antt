@@ -32,7 +32,7 @@ use Rattle.iceoryx2_rounds.specs.Creates as create
 use Rattle.iceoryx2_calls.specs.Quiet.{QuietService, Quiet, IsThere, ShowsService, Shows, CountIs, service_at, times_counted}
 use Rattle.iceoryx2_calls.specs.QuietCalls.{IsRegular, Creates}
 use Rattle.iceoryx2_calls.specs.QuietCalls as call
-use Rattle.iceoryx2_calls.specs.QuietLaws.{tickets_after}
+use Rattle.iceoryx2_calls.specs.Tickets.{tickets_after}
 use Rattle.iceoryx2_calls.proofs.quiet.Seats.{Apart, AtSeat}
 use Rattle.iceoryx2_calls.proofs.quiet.Absent.{at_seat, ended, from}
 use Rattle.iceoryx2_calls.proofs.quiet.Lift.{services_after, same_services, phase_beside, tag_beside, equal_or_not}

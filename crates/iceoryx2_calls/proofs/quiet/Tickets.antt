@@ -20,7 +20,8 @@ use Rattle.iceoryx2_world.proofs.agreement.Accesses.{later_refl}
 use Rattle.iceoryx2_world.proofs.agreement.Maps.{set_cases}
 use Rattle.iceoryx2_world.proofs.agreement.Stands.{stands_by_ticket, older_ticket}
 use Rattle.iceoryx2_calls.specs.Quiet.{QuietService, Quiet, ShowsService, Shows, CountIs, service_at, times_counted}
-use Rattle.iceoryx2_calls.specs.QuietLaws.{HasOpened, tickets_after}
+use Rattle.iceoryx2_calls.specs.QuietLaws.{HasOpened}
+use Rattle.iceoryx2_calls.specs.Tickets.{tickets_after}
 
 not_begun : (x : Phase) (n : ℕ) → begins x ≡ true → joined_number x ≡ Some n → ⊥
 not_begun at.Idle n b e = absurd (cc)

@@ -3,7 +3,7 @@ use Rattle.iceoryx2_words.proofs.Kept.{refused_create_keeps, refused_open_keeps}
 use Rattle.iceoryx2_calls.proofs.calls.Words.{agrees_throughout, stands_throughout, create_letters, open_letters, all_spared, close_spares, not_here_means}
 use Rattle.iceoryx2_calls.proofs.calls.Created.{create_stands}
 use Rattle.iceoryx2_calls.proofs.calls.Opened.{open_stands}
-use Rattle.iceoryx2_calls.proofs.calls.Closed.{close_takes_out}
+use Rattle.iceoryx2_calls.proofs.calls.Tickets.{close_takes_out}
 use Rattle.iceoryx2_calls.proofs.calls.Left.{leaves_tag, gives_back}
 use Rattle.iceoryx2_calls.proofs.calls.CloseLeft.{close_leaves}
 use Rattle.iceoryx2_calls.proofs.calls.NoRow.{create_over_no_row}

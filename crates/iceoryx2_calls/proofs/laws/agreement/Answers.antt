@@ -1,10 +1,12 @@
+use Rattle.std.proofs.Common.{refl}
 use Rattle.iceoryx2_world.proofs.agreement.Accesses.{with_refusals}
 use Rattle.iceoryx2_world.proofs.agreement.Stands.{older_ticket}
 use Rattle.iceoryx2_words.proofs.Counts.{create_within, open_within}
 use Rattle.iceoryx2_calls.proofs.calls.Words.{agrees_throughout, stands_throughout, create_letters, open_letters, all_spared, close_spares, not_here_means, close_within}
 use Rattle.iceoryx2_calls.proofs.calls.Created.{create_stands}
 use Rattle.iceoryx2_calls.proofs.calls.Opened.{open_stands}
-use Rattle.iceoryx2_calls.proofs.calls.Closed.{close_takes_out, close_ok, no_refusal}
+use Rattle.iceoryx2_calls.proofs.calls.Closed.{close_ok}
+use Rattle.iceoryx2_calls.proofs.calls.Tickets.{create_tickets, open_tickets, close_tickets, close_takes_out, no_refusal}
 use Rattle.iceoryx2_calls.proofs.calls.Calm.{refused_create_calm, refused_open_calm, created_changes, opened_changes}
 use Rattle.iceoryx2_calls.proofs.calls.Standing.{stands_among, one_service}
 use Rattle.iceoryx2_words.proofs.Kept.{refused_create_keeps, refused_open_keeps}
@@ -38,8 +40,14 @@ returns-clause-close_spares g c = λ r word answer w f is old apart s. stands_th
 pub returns-clause-not_here : goal.returns-clause-not_here
 returns-clause-not_here g c = λ r s word w is old. let m = not_here_means is in (m.0, λ t. stands_throughout w word r (m.1 r) old t)
 
-pub returns-clause-taken_out : goal.returns-clause-taken_out
-returns-clause-taken_out g c = λ r word answer w v is here run. close_takes_out is here run
+pub returns-clause-create_tickets : goal.returns-clause-create_tickets
+returns-clause-create_tickets g c = λ m node hash name now word answer w v is run. create_tickets answer refl is run
+
+pub returns-clause-open_tickets : goal.returns-clause-open_tickets
+returns-clause-open_tickets g c = λ m node hash word answer w v is run. open_tickets answer is run
+
+pub returns-clause-close_tickets : goal.returns-clause-close_tickets
+returns-clause-close_tickets g c = λ r word answer w v is run. close_tickets is run
 
 pub returns-clause-closed : goal.returns-clause-closed
 returns-clause-closed g c = λ r word answer w v is run old s. let ok = close_ok is run old s in (ok, close_takes_out is (no_refusal ok) (with_refusals run))
