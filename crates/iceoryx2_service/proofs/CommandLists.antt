@@ -12,7 +12,8 @@ use Rattle.iceoryx2_service.specs.CommandLists.{CarriesOut, none, first}
 use Rattle.iceoryx2_service.specs.StandingSlots.{GoesStanding, SlotsStand, OwnsTickets}
 use Rattle.iceoryx2_service.specs.QuietSessions.{IsQuiet, MachineState, MovesBoth, AreMoved, TellsNoChange, IsUnchanged}
 use Rattle.iceoryx2_service.proofs.StandingSlots.{stand_after}
-use Rattle.iceoryx2_service.proofs.QuietSessions.{moved, owns_after, itself, unchanged_by}
+use Rattle.iceoryx2_service.proofs.QuietSessions.{moved, itself, unchanged_by}
+use Rattle.iceoryx2_service.proofs.OwnedTickets.{owns_after}
 
 -- one more command after those
 pub one_more : {S C A : Type 0} {step : S → C → A → S → Type 0} {u v w : S} {commands : List C} {replies : List A} {c : C} {a : A}
@@ -33,6 +34,12 @@ stand_between none agrees old = none
 stand_between (first one rest) agrees old =
     let after = stand_after one agrees old in first (one, after.0, after.1) (stand_between rest after.0 after.1)
 
+pub all_own : {s n : SessionState} {commands : List Command} {replies : List Reply} → CarriesOut Goes s commands replies n
+    → Agrees s.table.world → SlotsStand s → OwnsTickets s → OwnsTickets n
+all_own none agrees old owned = owned
+all_own (first one rest) agrees old owned =
+    let after = stand_after one agrees old in all_own rest after.0 after.1 (owns_after one agrees old owned)
+
 -- ---- over a table that nobody else uses
 
 pub all_moved : (q : Quiet) {s n : SessionState} {commands : List Command} {replies : List Reply} → IsQuiet s q → SlotsStand s
@@ -51,13 +58,6 @@ all_moved q {n = n} quiet old (first {old = s} {mid = m} {commands = commands} {
       tags = after.tags;
       configured = after.configured ∙ now.configured;
     }
-
-pub all_own : (q : Quiet) {s n : SessionState} {commands : List Command} {replies : List Reply} → IsQuiet s q → SlotsStand s
-    → CarriesOut Goes s commands replies n → OwnsTickets s → OwnsTickets n
-all_own q quiet old none owned = owned
-all_own q quiet old (first one rest) owned =
-    let now = moved q quiet old one in
-    all_own now.state now.quiet (stand_after one quiet.agrees old).1 rest (owns_after q quiet old one owned)
 
 then_unchanged : (s m n : SessionState) → IsUnchanged s m → IsUnchanged m n → IsUnchanged s n
 then_unchanged s m n a b = record {

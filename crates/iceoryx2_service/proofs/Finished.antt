@@ -1,11 +1,10 @@
 -- A session that is finished: its slots are closed one after the other.
-use Rattle.std.proofs.Common.{◌≡◌, ◌≢◌, ℕ, zero, suc, List, [], ◌∷◌, Option, Some, None, Ok, ◌⊎◌, inl, inr, refl, sym, ap, subst, ◌∙◌, arith}
+use Rattle.std.proofs.Common.{◌≡◌, ℕ, zero, suc, List, [], ◌∷◌, Option, Some, None, Ok, ◌⊎◌, inl, inr, refl, sym, ap, subst, ◌∙◌, arith}
 use Rattle.std.specs.FinMap as map
 use Rattle.std.proofs.lemmas.Cmp.{nat_cmp_total}
 use Rattle.std.proofs.lemmas.Map.Lookups.{exact_unsigned}
 use Rattle.iceoryx2_values.specs.declared.config.Config.{Config}
 use Rattle.iceoryx2_values.specs.declared.description.ServiceHash.{ServiceHash}
-use Rattle.iceoryx2_world.specs.declared.world.Ticket.{Ticket}
 use Rattle.iceoryx2_world.specs.Tables.{TableState, IsTableAccess}
 use Rattle.iceoryx2_world.proofs.Tables.{run_of_worlds}
 use Rattle.iceoryx2_world.specs.Across.{Agrees}
@@ -24,6 +23,7 @@ use Rattle.iceoryx2_service.specs.Slots.{HoldsAt}
 use Rattle.iceoryx2_service.specs.Sessions.{SessionState, ClosesFactory, ClosesSlots, AreClosed}
 use Rattle.iceoryx2_service.specs.StandingSlots.{SlotsStand, HasTicket, OwnsTickets}
 use Rattle.iceoryx2_service.specs.QuietSessions.{IsQuiet, IsFinished}
+use Rattle.iceoryx2_service.proofs.OwnedTickets.{taken_by_close}
 use Rattle.iceoryx2_service.proofs.StandingSlots.{accesses, agrees_after, kept_by_close}
 
 abbrev state : Config → TableState → List (Option Factory) → SessionState
@@ -63,22 +63,7 @@ all_closed config agrees old (next {old = u} {mid = v} {letter = Some f} {word =
     let more = all_closed config (agrees_after is.1.word is.1.run agrees) (past_taken config u v f slots agrees is old) rest in
     (more.0, next (ok u v f agrees (old.stand 0 f refl) is) more.1)
 
--- ---- over a table that nobody else uses
-
-pub all_left : (config : Config) (q : Quiet) {u w : TableState} {slots : List (Option Factory)} → IsQuiet (state config u slots) q
-    → SlotsStand (state config u slots) → ClosesSlots u slots w → IsFinished q slots w
-all_left config q quiet old done = record { state = q; moves = done; shows = quiet.shows; agrees = quiet.agrees }
-all_left config q quiet old (next {old = u} {mid = v} {letter = None} {word = slots} is rest) =
-    let after : IsQuiet (state config v slots) q = record { shows = subst (λ (s : TableState). Shows s.world q) (sym is) quiet.shows; agrees = subst (λ (s : TableState). Agrees s.world) (sym is) quiet.agrees } in
-    let more = all_left config q after (past_free config u v slots is old) rest in
-    record { state = more.state; moves = next refl more.moves; shows = more.shows; agrees = more.agrees }
-all_left config q quiet old (next {old = u} {mid = v} {letter = Some f} {word = slots} is rest) =
-    let c = close_follows f u.world v.world q is.1.word is.0 quiet.shows quiet.agrees (old.stand 0 f refl).ticket is.1.is_word (run_of_worlds is.1.run) in
-    let after : IsQuiet (state config v slots) c.1.state = record { shows = c.1.shows; agrees = c.1.agrees } in
-    let more = all_left config c.1.state after (past_taken config u v f slots quiet.agrees is old) rest in
-    record { state = more.state; moves = next c.1.call more.moves; shows = more.shows; agrees = more.agrees }
-
--- ---- and all of its tickets are those of the slots
+-- ---- where all tickets are those of the slots
 
 none_if : {X : Type 0} (o : Option X) → ((x : X) → o ≡ Some x → ⊥) → o ≡ None
 none_if None never = refl
@@ -114,13 +99,32 @@ past_taken_owns config u v f slots tickets owned t x e =
           ]
     ]
 
-pub emptied : (config : Config) (q : Quiet) {u w : TableState} {slots : List (Option Factory)} → IsQuiet (state config u slots) q
-    → SlotsStand (state config u slots) → OwnsTickets (state config u slots) → ClosesSlots u slots w → (h : ServiceHash) → HasNothingAt w.world h
-emptied config q quiet old owned (done {s = u}) = λ h. (all_gone u.world q quiet.shows quiet.agrees (λ t. none_if (ticket_of u.world t) (λ x e. no_owner t (owned t x e)))).1 h
-emptied config q quiet old owned (next {old = u} {mid = v} {letter = None} {word = slots} is rest) =
+pub all_taken_out : (config : Config) {u w : TableState} {slots : List (Option Factory)} → Agrees u.world → SlotsStand (state config u slots)
+    → OwnsTickets (state config u slots) → ClosesSlots u slots w → (t : ℕ) → ticket_of w.world t ≡ None
+all_taken_out config agrees old owned (done {s = u}) = λ t. none_if (ticket_of u.world t) (λ x e. no_owner t (owned t x e))
+all_taken_out config agrees old owned (next {old = u} {mid = v} {letter = None} {word = slots} is rest) =
+    all_taken_out config (subst (λ (s : TableState). Agrees s.world) (sym is) agrees) (past_free config u v slots is old) (past_free_owns config u v slots is owned) rest
+all_taken_out config agrees old owned (next {old = u} {mid = v} {letter = Some f} {word = slots} is rest) =
+    all_taken_out config (agrees_after is.1.word is.1.run agrees) (past_taken config u v f slots agrees is old)
+    (past_taken_owns config u v f slots (taken_by_close u v f agrees (old.stand 0 f refl) is) owned) rest
+
+-- ---- over a table that nobody else uses
+
+pub all_left : (config : Config) (q : Quiet) {u w : TableState} {slots : List (Option Factory)} → IsQuiet (state config u slots) q
+    → SlotsStand (state config u slots) → ClosesSlots u slots w → IsFinished q slots w
+all_left config q quiet old done = record { state = q; moves = done; shows = quiet.shows; agrees = quiet.agrees }
+all_left config q quiet old (next {old = u} {mid = v} {letter = None} {word = slots} is rest) =
     let after : IsQuiet (state config v slots) q = record { shows = subst (λ (s : TableState). Shows s.world q) (sym is) quiet.shows; agrees = subst (λ (s : TableState). Agrees s.world) (sym is) quiet.agrees } in
-    emptied config q after (past_free config u v slots is old) (past_free_owns config u v slots is owned) rest
-emptied config q quiet old owned (next {old = u} {mid = v} {letter = Some f} {word = slots} is rest) =
+    let more = all_left config q after (past_free config u v slots is old) rest in
+    record { state = more.state; moves = next refl more.moves; shows = more.shows; agrees = more.agrees }
+all_left config q quiet old (next {old = u} {mid = v} {letter = Some f} {word = slots} is rest) =
     let c = close_follows f u.world v.world q is.1.word is.0 quiet.shows quiet.agrees (old.stand 0 f refl).ticket is.1.is_word (run_of_worlds is.1.run) in
     let after : IsQuiet (state config v slots) c.1.state = record { shows = c.1.shows; agrees = c.1.agrees } in
-    emptied config c.1.state after (past_taken config u v f slots quiet.agrees is old) (past_taken_owns config u v f slots c.1.tickets owned) rest
+    let more = all_left config c.1.state after (past_taken config u v f slots quiet.agrees is old) rest in
+    record { state = more.state; moves = next c.1.call more.moves; shows = more.shows; agrees = more.agrees }
+
+pub emptied : (config : Config) (q : Quiet) {u w : TableState} {slots : List (Option Factory)} → IsQuiet (state config u slots) q
+    → SlotsStand (state config u slots) → OwnsTickets (state config u slots) → ClosesSlots u slots w → (h : ServiceHash) → HasNothingAt w.world h
+emptied config q {w = w} quiet old owned closes =
+    let end = all_left config q quiet old closes in
+    (all_gone w.world end.state end.shows end.agrees (all_taken_out config quiet.agrees old owned closes)).1

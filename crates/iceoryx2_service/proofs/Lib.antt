@@ -4,6 +4,7 @@ pub mod Patterns
 pub mod Setters
 pub mod Commands
 pub mod StandingSlots
+pub mod OwnedTickets
 pub mod QuietSessions
 pub mod CommandLists
 pub mod Finishing

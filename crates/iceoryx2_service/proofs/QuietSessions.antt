@@ -1,9 +1,7 @@
 -- One command of a session over a table that nobody else uses.
-use Rattle.std.proofs.Common.{◌≡◌, ℕ, Some, None, Result, Ok, Err, inl, inr, refl, sym, ap, subst, ◌∙◌}
+use Rattle.std.proofs.Common.{◌≡◌, ℕ, Some, None, Result, Ok, Err, refl, sym, ap, subst, ◌∙◌}
 use Rattle.std.specs.FinMap as map
 use Rattle.std.specs.Ordering.{nat_cmp}
-use Rattle.std.proofs.lemmas.Cmp.{nat_cmp_total}
-use Rattle.std.proofs.lemmas.Map.Lookups.{exact_unsigned}
 use Rattle.iceoryx2_values.specs.declared.time.ClockFault.{ClockFault}
 use Rattle.iceoryx2_values.specs.Span.{Span}
 use Rattle.iceoryx2_world.specs.declared.world.Ticket.{Ticket}
@@ -11,15 +9,12 @@ use Rattle.iceoryx2_world.specs.World.{World, ticket_of, empty_world}
 use Rattle.iceoryx2_world.specs.Across.{Agrees}
 use Rattle.iceoryx2_world.specs.Tables.{TableState}
 use Rattle.iceoryx2_world.proofs.Tables.{run_of_worlds}
-use Rattle.iceoryx2_world.specs.Standing.{ticket_for}
 use Rattle.iceoryx2_world.proofs.agreement.Empty.{empty_agrees}
-use Rattle.iceoryx2_world.proofs.agreement.Maps.{set_cases}
 use Rattle.iceoryx2_rounds.specs.Creates.{time_of}
 use Rattle.iceoryx2_access.specs.Factory.{Factory}
 use Rattle.iceoryx2_calls.specs.Quiet.{Quiet, Shows, no_service}
 use Rattle.iceoryx2_calls.specs.QuietCalls.{Creates, Opens}
 use Rattle.iceoryx2_calls.specs.QuietLaws.{HoldsTheSame}
-use Rattle.iceoryx2_calls.specs.Tickets.{tickets_after}
 use Rattle.iceoryx2_calls.proofs.quiet.After.{refused_create, refused_open}
 use Rattle.iceoryx2_calls.proofs.quiet.Listing.{lists_the_machine}
 use Rattle.iceoryx2_calls.proofs.quiet.Calls.{create_follows, open_follows, close_follows, empty_shows}
@@ -36,7 +31,6 @@ use Rattle.iceoryx2_service.specs.StandingSlots.{SlotsStand, OwnsTickets}
 use Rattle.iceoryx2_service.specs.QuietSessions.{IsQuiet, Answers, Moves, IsMoved, TellsNoChange, IsUnchanged}
 use Rattle.iceoryx2_service.specs.QuietSessions as moves
 use Rattle.iceoryx2_service.proofs.Patterns.{IsRegularCall, call_is_regular}
-use Rattle.iceoryx2_service.proofs.SlotLists.{set_here, set_there, not_free, same_slot}
 
 -- what a builder call makes of the machine
 record IsBuilt (q : Quiet) (b : BuilderCall) (h : How) (now : Result Span ClockFault) (w : World) (answer : Result Factory Refusal) (v : World) : Type 0 where
@@ -44,13 +38,6 @@ record IsBuilt (q : Quiet) (b : BuilderCall) (h : How) (now : Result Span ClockF
   call : Answers q b h now answer state
   shows : Shows v state
   agrees : Agrees v
-  tickets : v.tickets ≡ tickets_after w.tickets answer
-
--- the tickets are the same however an error is carried
-same_tickets : {E : Type 0} (w v : World) (carry : E → Refusal) (a : Result Factory E) → v.tickets ≡ tickets_after w.tickets a
-    → v.tickets ≡ tickets_after w.tickets (with_refusal carry a)
-same_tickets w v carry (Ok f) e = e
-same_tickets w v carry (Err x) e = e
 
 built : (h : How) (b : BuilderCall) (now : Result Span ClockFault) (answer : Result Factory Refusal) (s t : TableState) (q : Quiet)
     → IsRegularCall b → Shows s.world q → Agrees s.world → Builds b h now s answer t → IsBuilt q b h now s.world answer t.world
@@ -61,7 +48,6 @@ built how.Create b now answer s t q regular shows agrees is =
       call = (is.0, is.1, c.call);
       shows = c.shows;
       agrees = c.agrees;
-      tickets = rw is.1 (same_tickets s.world t.world b.refusal_of_create is.0 c.tickets);
     }
 built how.Open b now answer s t q regular shows agrees is =
     let c = open_follows b.opening b.node b.hash s.world t.world q is.2.word is.0 regular.opening shows agrees is.2.is_word (run_of_worlds is.2.run) in
@@ -70,7 +56,6 @@ built how.Open b now answer s t q regular shows agrees is =
       call = (is.0, is.1, c.call);
       shows = c.shows;
       agrees = c.agrees;
-      tickets = rw is.1 (same_tickets s.world t.world b.refusal_of_open is.0 c.tickets);
     }
 
 -- ---- commands
@@ -96,42 +81,6 @@ moved {s = s} q old slots (goes.closed {slot = k} f {t = t} at is) =
 moved {s = s} q old slots (goes.listed {entries = entries} lists) =
     record { state = q; moves = moves.listed (lists_the_machine s.table.world q entries.items old.shows lists); quiet = old; configured = refl }
 moved q old slots goes.not_listed = record { state = q; moves = moves.not_listed; quiet = old; configured = refl }
-
--- ---- the tickets are those of the slots
-
-pub owns_after : {s : SessionState} {c : Command} {a : Reply} {n : SessionState} (q : Quiet) → IsQuiet s q → SlotsStand s → Goes s c a n
-    → OwnsTickets s → OwnsTickets n
-owns_after q old slots (goes.call_past le) owned = owned
-owns_after q old slots (goes.call_taken t) owned = owned
-owns_after {s = s} q old slots (goes.called {call = call} f {t = t} free is) owned =
-    let c = built call.how (builder_call s.config call) call.now (Ok f) s.table t q (call_is_regular s.config call) old.shows old.agrees is in
-    λ i x e. elim (set_cases nat_cmp_total exact_unsigned s.table.world.tickets f.ticket (Some (ticket_for f)) i) [
-      | inl k ↦ record { slot = call.slot; factory = f; holds = set_here s.slots call.slot (Some f) None free; ticket = sym k.0 }
-      | inr k ↦
-          let o = owned i x (sym k.1 ∙ sym (ap (λ m. map.get m i) c.tickets) ∙ e) in
-          record {
-            slot = o.slot;
-            factory = o.factory;
-            holds = set_there s.slots call.slot o.slot (Some f) (not_free s.slots call.slot o.slot o.factory free o.holds) ∙ o.holds;
-            ticket = o.ticket;
-          }
-    ]
-owns_after {s = s} q old slots (goes.refused {call = call} {e = err} {t = t} free is) owned =
-    let c = built call.how (builder_call s.config call) call.now (Err err) s.table t q (call_is_regular s.config call) old.shows old.agrees is in
-    λ i x e. owned i x (sym (ap (λ m. map.get m i) c.tickets) ∙ e)
-owns_after q old slots (goes.close_past le) owned = owned
-owns_after q old slots (goes.close_empty free) owned = owned
-owns_after {s = s} q old slots (goes.closed {slot = slot} f {t = t} at is) owned =
-    let c = close_follows f s.table.world t.world q is.1.word is.0 old.shows old.agrees (slots.stand slot f at).ticket is.1.is_word (run_of_worlds is.1.run) in
-    λ i x e. elim (set_cases nat_cmp_total exact_unsigned s.table.world.tickets f.ticket None i) [
-      | inl k ↦ let here = sym e ∙ ap (λ m. map.get m i) c.1.tickets ∙ k.1 in absurd cc
-      | inr k ↦
-          let o = owned i x (sym k.1 ∙ sym (ap (λ m. map.get m i) c.1.tickets) ∙ e) in
-          let elsewhere : (o.slot ≡ slot) → ⊥ = λ same. k.0 (sym o.ticket ∙ ap (λ u. u.ticket) (same_slot s.slots o.slot slot o.factory f o.holds at same)) in
-          record { slot = o.slot; factory = o.factory; holds = set_there s.slots slot o.slot None elsewhere ∙ o.holds; ticket = o.ticket }
-    ]
-owns_after q old slots (goes.listed lists) owned = owned
-owns_after q old slots goes.not_listed owned = owned
 
 -- ---- a command that opens and closes nothing
 

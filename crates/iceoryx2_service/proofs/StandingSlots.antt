@@ -1,5 +1,5 @@
 -- The factories of a session's slots stand, over any table whose world agrees.
-use Rattle.std.proofs.Common.{◌≡◌, ◌≢◌, ℕ, ◌<◌, ◌≤◌, List, Option, Some, None, Result, Ok, Err, inl, inr, replicate, sym, ap, subst, ◌∙◌, arith}
+use Rattle.std.proofs.Common.{◌≡◌, ◌≢◌, ℕ, ◌<◌, ◌≤◌, List, Option, Some, None, Result, Ok, Err, inl, inr, replicate, refl, sym, ap, subst, ◌∙◌, arith}
 use Rattle.std.specs.Prelude.{slice_set, IfOk}
 use Rattle.iceoryx2_values.specs.declared.description.ServiceHash.{ServiceHash}
 use Rattle.iceoryx2_values.specs.declared.time.ClockFault.{ClockFault}
@@ -20,6 +20,8 @@ use Rattle.iceoryx2_pattern.specs.Meaning.{Meaning}
 use Rattle.iceoryx2_rounds.specs.Creates.{IsCreateWord}
 use Rattle.iceoryx2_rounds.specs.Opens.{IsOpenWord}
 use Rattle.iceoryx2_calls.specs.Calls.{Throughout}
+use Rattle.iceoryx2_calls.specs.Tickets.{tickets_after}
+use Rattle.iceoryx2_calls.proofs.calls.Tickets.{create_tickets, open_tickets}
 use Rattle.iceoryx2_calls.proofs.calls.Words.{agrees_throughout, stands_throughout, create_letters, open_letters, all_spared, close_spares}
 use Rattle.iceoryx2_calls.proofs.calls.Created.{create_stands}
 use Rattle.iceoryx2_calls.proofs.calls.Opened.{open_stands}
@@ -46,7 +48,7 @@ shared (next {old = u} own rest) = next (record { between = u; peers = none; own
 pub accesses : {s t : TableState} {word : List Letter} → Run IsTableAccess s word t → Run IsAccess s.world word t.world
 accesses run = shared (run_of_worlds run)
 
-faulty : {s t : TableState} {word : List Letter} → Run IsTableAccess s word t → Run IsFaulty s.world word t.world
+pub faulty : {s t : TableState} {word : List Letter} → Run IsTableAccess s word t → Run IsFaulty s.world word t.world
 faulty run = with_refusals (accesses run)
 
 -- what is so throughout a word is so after it
@@ -60,16 +62,24 @@ agrees_after {s = s} word run old = (at_end _ (agrees_throughout s.world word ol
 
 -- ---- calls
 
--- what a builder call leaves: its factory stands, with a ticket that none had, and what stood before does
+-- what a builder call leaves: its factory stands, with a ticket that none had, what stood before does, and no other
+-- ticket comes or goes
 pub record Leaves (w : World) (answer : Result Factory Refusal) (v : World) : Type 0 where
   pub agrees : Agrees v
   pub given : IfOk answer (λ f. Stands v f × (w.counter ≤ f.ticket))
   pub kept : (f : Factory) → Stands w f → Stands v f
+  pub tickets : v.tickets ≡ tickets_after w.tickets answer
 
 -- what is so of an Ok answer is so however its error is carried
 carried : {E : Type 0} (P : Factory → Type 0) (carry : E → Refusal) (a : Result Factory E) → IfOk a P → IfOk (with_refusal carry a) P
 carried P carry (Ok f) so = so
 carried P carry (Err e) so = tt
+
+-- the tickets are the same however its error is carried
+carried_tickets : {E : Type 0} (w v : World) (carry : E → Refusal) (a : Result Factory E) → v.tickets ≡ tickets_after w.tickets a
+    → v.tickets ≡ tickets_after w.tickets (with_refusal carry a)
+carried_tickets w v carry (Ok f) e = e
+carried_tickets w v carry (Err x) e = e
 
 module _ {F E C : Type 0} (m : Meaning F E C) (node : ℕ) (hash : ServiceHash) where
   created : (name : List ℕ) (now : Result Span ClockFault) {word : List Letter} (a : Result Factory C) {w v : World}
@@ -92,6 +102,7 @@ leaves how.Create b now answer s t old is =
       agrees = agrees_after is.2.word is.2.run old;
       given = rw is.1 (carried (λ f. Stands t.world f × (s.world.counter ≤ f.ticket)) b.refusal_of_create is.0 (created b.creating b.node b.hash b.name now is.0 is.2.is_word run old));
       kept = λ f at. at_end _ (stands_throughout s.world is.2.word f (all_spared f is.2.word (create_letters is.2.is_word)) old at) run;
+      tickets = rw is.1 (carried_tickets s.world t.world b.refusal_of_create is.0 (create_tickets is.0 refl is.2.is_word run));
     }
 leaves how.Open b now answer s t old is =
     let run = faulty is.2.run in
@@ -99,6 +110,7 @@ leaves how.Open b now answer s t old is =
       agrees = agrees_after is.2.word is.2.run old;
       given = rw is.1 (carried (λ f. Stands t.world f × (s.world.counter ≤ f.ticket)) b.refusal_of_open is.0 (opened b.opening b.node b.hash is.0 is.2.is_word run old));
       kept = λ f at. at_end _ (stands_throughout s.world is.2.word f (all_spared f is.2.word (open_letters is.2.is_word)) old at) run;
+      tickets = rw is.1 (carried_tickets s.world t.world b.refusal_of_open is.0 (open_tickets is.0 is.2.is_word run));
     }
 
 -- a close leaves each other factory standing

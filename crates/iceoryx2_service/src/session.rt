@@ -59,7 +59,7 @@ fn close_slot(slots: &mut Slots, slot: usize, table: &mut Table)
 impl Session {
     ghost use Rattle.iceoryx2_values.specs.declared.description.ServiceHash.{ServiceHash};
     ghost use Rattle.iceoryx2_world.specs.Across.{Agrees};
-    ghost use Rattle.iceoryx2_world.specs.World.{empty_world};
+    ghost use Rattle.iceoryx2_world.specs.World.{empty_world, ticket_of};
     ghost use Rattle.iceoryx2_service.specs.SessionStates.{state_of};
     ghost use Rattle.iceoryx2_service.specs.Sessions.{AreClosed, ClosesSlots, Goes};
     ghost use Rattle.iceoryx2_service.specs.CommandLists.{CarriesOut};
@@ -100,13 +100,13 @@ impl Session {
         ensures stands { Agrees (state_of self.old).table.world → SlotsStand (state_of self.old)
             → Agrees (state_of self.new).table.world × SlotsStand (state_of self.new) }
 
+        // There the table's tickets stay those of the slots.
+        ensures owns { Agrees (state_of self.old).table.world → SlotsStand (state_of self.old)
+            → OwnsTickets (state_of self.old) → OwnsTickets (state_of self.new) }
+
         // Over a table that nobody else uses it is one step of the quiet machine.
         ensures quiet { (q : Quiet) → IsQuiet (state_of self.old) q → SlotsStand (state_of self.old)
             → IsMoved (state_of self.old) q command result (state_of self.new) }
-
-        // There the table's tickets stay those of the slots.
-        ensures owns { (q : Quiet) → IsQuiet (state_of self.old) q → SlotsStand (state_of self.old)
-            → OwnsTickets (state_of self.old) → OwnsTickets (state_of self.new) }
     {
         match command {
             Command::Call(call) => self.call(call),
@@ -135,16 +135,16 @@ impl Session {
             → IfOk result (λ replies.
             CarriesOut GoesStanding (state_of self.old) commands.items replies.items (state_of self.new)) }
 
+        // There the table's tickets stay those of the slots.
+        ensures owns { Agrees (state_of self.old).table.world → SlotsStand (state_of self.old)
+            → OwnsTickets (state_of self.old) → OwnsTickets (state_of self.new) }
+
         // Over a table that nobody else uses the commands are as many steps of the quiet machine.
         ensures quiet { (q : Quiet) → IsQuiet (state_of self.old) q → SlotsStand (state_of self.old)
             → IfOk result (λ replies.
             AreMoved (state_of self.old) q commands.items replies.items (state_of self.new)) }
 
-        // There the table's tickets stay those of the slots.
-        ensures owns { (q : Quiet) → IsQuiet (state_of self.old) q → SlotsStand (state_of self.old)
-            → OwnsTickets (state_of self.old) → OwnsTickets (state_of self.new) }
-
-        // And there nothing changes where no reply tells of a factory that was opened or closed.
+        // There nothing changes where no reply tells of a factory that was opened or closed.
         ensures unchanged { (q : Quiet) → IsQuiet (state_of self.old) q → SlotsStand (state_of self.old)
             → IfOk result (λ replies.
             Each TellsNoChange replies.items → IsUnchanged (state_of self.old) (state_of self.new)) }
@@ -215,6 +215,10 @@ impl Session {
         // Over any table whose world agrees each of these closes is Ok, so no factory comes back.
         ensures stands { Agrees (state_of self).table.world → SlotsStand (state_of self)
             → Agrees result.world × AreClosed (state_of self).table (state_of self).slots result }
+
+        // There, where the table's tickets are those of the slots, no ticket is left.
+        ensures no_tickets { Agrees (state_of self).table.world → SlotsStand (state_of self)
+            → OwnsTickets (state_of self) → (ticket : ℕ) → ticket_of result.world ticket ≡ None }
 
         // Over a table that nobody else uses each is the machine's close.
         ensures quiet { (q : Quiet) → IsQuiet (state_of self) q → SlotsStand (state_of self)

@@ -1,5 +1,6 @@
 use Rattle.iceoryx2_service.proofs.StandingSlots.{stand_after}
-use Rattle.iceoryx2_service.proofs.QuietSessions.{moved, owns_after}
+use Rattle.iceoryx2_service.proofs.QuietSessions.{moved}
+use Rattle.iceoryx2_service.proofs.OwnedTickets.{owns_after}
 use Rattle.iceoryx2_service.proofs.session.Session.apply.Goals as goal
 
 pub returns-in-Call-clause-stands : goal.returns-in-Call-clause-stands
@@ -15,10 +16,10 @@ pub returns-in-Close-clause-quiet : goal.returns-in-Close-clause-quiet
 returns-in-Close-clause-quiet c = λ q quiet old. moved q quiet old (rw c.in-Close.is c.close.ensures)
 
 pub returns-in-Call-clause-owns : goal.returns-in-Call-clause-owns
-returns-in-Call-clause-owns c = λ q quiet old owned. owns_after q quiet old c.call.ensures owned
+returns-in-Call-clause-owns c = λ agrees old owned. owns_after c.call.ensures agrees old owned
 
 pub returns-in-Close-clause-owns : goal.returns-in-Close-clause-owns
-returns-in-Close-clause-owns c = λ q quiet old owned. owns_after q quiet old c.close.ensures owned
+returns-in-Close-clause-owns c = λ agrees old owned. owns_after c.close.ensures agrees old owned
 
 pub returns-in-List-clause-quiet : goal.returns-in-List-clause-quiet
 returns-in-List-clause-quiet c = λ q quiet old. moved q quiet old (rw c.in-List.is c.list.ensures)

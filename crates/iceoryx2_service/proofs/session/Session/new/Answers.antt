@@ -1,4 +1,3 @@
-use Rattle.iceoryx2_service.specs.SessionStates.{state_of}
 use Rattle.iceoryx2_service.proofs.StandingSlots.{none_stand}
 use Rattle.iceoryx2_service.proofs.QuietSessions.{is_fresh}
 use Rattle.iceoryx2_service.proofs.session.Session.new.Goals as goal

@@ -72,7 +72,7 @@ pub returns-clause-quiet : goal.returns-clause-quiet
 returns-clause-quiet c = λ q quiet old. all_moved q quiet old (returns-clause-goes c)
 
 pub returns-clause-owns : goal.returns-clause-owns
-returns-clause-owns c = λ q quiet old owned. all_own q quiet old c.loop-command.invariant.so_far owned
+returns-clause-owns c = λ agrees old owned. all_own c.loop-command.invariant.so_far agrees old owned
 
 pub returns-clause-unchanged : goal.returns-clause-unchanged
 returns-clause-unchanged c = λ q quiet old still. all_unchanged q quiet old c.loop-command.invariant.so_far still
