@@ -3,7 +3,7 @@
 use crate::maps::Maps;
 use crate::plain::data::{EventConfig, ServiceName};
 use crate::plain::lines::serve;
-use crate::plain::rounds::{Asked, create};
+use crate::plain::rounds::{EventDemand, create};
 use crate::plain::session::{Call, Command, How, Reply, Session};
 use crate::plain::table::Table;
 use std::time::Duration;
@@ -112,7 +112,7 @@ fn name_of(bytes: &[u8]) -> Option<ServiceName> {
 fn stand_all<M: Maps>(table: &mut Table<M>, names: &[u8]) -> u64 {
     let mut sum = 0;
     for name in names.chunks(NAME_LENGTH).filter_map(name_of) {
-        let answer = match create(Asked::default(), 1, &name, Duration::ZERO, table) {
+        let answer = match create(EventDemand::default(), 1, &name, Duration::ZERO, table) {
             Ok(factory) => factory.number.wrapping_add(10),
             Err(_) => 1,
         };

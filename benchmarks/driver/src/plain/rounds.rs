@@ -74,12 +74,12 @@ pub struct Marks {
 
 /// What a builder of events asks of a service.
 #[derive(Clone, Copy, Debug, Default)]
-pub struct Asked {
+pub struct EventDemand {
     pub settings: EventConfig,
     pub marks: Marks,
 }
 
-impl Asked {
+impl EventDemand {
     fn verify(&self, existing: &StaticConfig) -> Result<(), EventOpenError> {
         let MessagingPattern::Event(offered) = &existing.pattern;
         let wanted = &self.settings;
@@ -152,7 +152,7 @@ fn give_back_tag<M: Maps>(node: u64, hash: &ServiceHash, tag: Tag, table: &mut T
 
 /// Creates the service of this name.
 pub fn create<M: Maps>(
-    asked: Asked,
+    asked: EventDemand,
     node: u64,
     name: &ServiceName,
     now: Duration,
@@ -241,7 +241,7 @@ fn make_segment<M: Maps>(
 
 /// Opens the service of this name, in at most six rounds.
 pub fn open<M: Maps>(
-    asked: &Asked,
+    asked: &EventDemand,
     node: u64,
     name: &ServiceName,
     table: &mut Table<M>,
@@ -257,7 +257,7 @@ pub fn open<M: Maps>(
 
 /// One round. `None` asks for another one.
 fn try_open<M: Maps>(
-    asked: &Asked,
+    asked: &EventDemand,
     node: u64,
     hash: &ServiceHash,
     table: &mut Table<M>,

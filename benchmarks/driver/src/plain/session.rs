@@ -1,7 +1,7 @@
 //! Commands over a table, with places for what they open.
 
 use super::data::{EventConfig, ServiceName};
-use super::rounds::{Asked, EventCreateError, EventOpenError, PortFactory, create, open};
+use super::rounds::{EventCreateError, EventDemand, EventOpenError, PortFactory, create, open};
 use super::table::Table;
 use crate::maps::Maps;
 use std::time::Duration;
@@ -60,7 +60,7 @@ pub struct Session<M: Maps> {
     slots: [Option<PortFactory>; SLOTS],
 }
 
-fn with_settings(mut asked: Asked, settings: &[EventSetting]) -> Asked {
+fn with_settings(mut asked: EventDemand, settings: &[EventSetting]) -> EventDemand {
     for setting in settings {
         match *setting {
             EventSetting::MaxNotifiers(value) => {
@@ -108,9 +108,9 @@ impl<M: Maps> Session<M> {
         if place.is_some() {
             return Reply::SlotInUse;
         }
-        let asked = Asked {
+        let asked = EventDemand {
             settings: self.config,
-            ..Asked::default()
+            ..EventDemand::default()
         };
         let asked = with_settings(asked, &call.settings);
         let table = &mut self.table;
