@@ -12,7 +12,7 @@ use Rattle.iceoryx2_access.specs.Run.{Run}
 use Rattle.iceoryx2_batches.specs.declared.batches.Act.TheVariants as stored
 use Rattle.iceoryx2_batches.specs.declared.batches.Step.{Step}
 use Rattle.iceoryx2_batches.specs.Batches.{act_of, effect, needs_room, may_starve, one_more, IsPeerStep, forbidden, acts, starves}
-use Rattle.iceoryx2_batches.specs.BatchedStates.{BatchedState, IsBatchedAccess}
+use Rattle.iceoryx2_batches.specs.Tables.{TableState, IsTableAccess}
 use Rattle.iceoryx2_batches.proofs.Runs as runs
 
 -- at least k, and at most the last number
@@ -30,11 +30,11 @@ step_counts k s t x (forbidden e is) c = subst (IsCount k) (sym (ap (λ p. p.1) 
 step_counts k s t x (acts ok e same) c = subst (IsCount k) (sym same) c
 step_counts k s t x (starves v e wants is) c = subst (IsCount k) (sym (ap (λ p. p.1) is)) (one_more_counts k s.1 c)
 
-access_counts : (k : ℕ) (s t : BatchedState) (l : Letter) → MayRefuse IsBatchedAccess s l t → IsCount k s.skipped → IsCount k t.skipped
+access_counts : (k : ℕ) (s t : TableState) (l : Letter) → MayRefuse IsTableAccess s l t → IsCount k s.skipped → IsCount k t.skipped
 access_counts k s t l (inl a) c = runs.run_keeps (λ p. IsCount k p.1) (step_counts k) a.batch c
 access_counts k s t l (inr e) c = subst (λ u. IsCount k u.skipped) (sym e.1) c
 
-pub run_counts : {s t : BatchedState} {word : List Letter} → Run (MayRefuse IsBatchedAccess) s word t → s.skipped ≤ last_number → (s.skipped ≤ t.skipped) × (t.skipped ≤ last_number)
+pub run_counts : {s t : TableState} {word : List Letter} → Run (MayRefuse IsTableAccess) s word t → s.skipped ≤ last_number → (s.skipped ≤ t.skipped) × (t.skipped ≤ last_number)
 run_counts {s = s} r small = runs.run_keeps (λ u. IsCount s.skipped u.skipped) (access_counts s.skipped) r (omega arith, small)
 
 pub sure_step : (s t : World × ℕ) (x : Step) → may_starve s.0 x ≡ false → IsPeerStep s x t → t ≡ (unwrap_or (effect s.0 x) s.0, s.1)

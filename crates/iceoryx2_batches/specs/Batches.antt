@@ -1,6 +1,7 @@
 -- A batch: steps of peers, one after the other, of which any may find no memory.
 use Rattle.std.specs.Prelude.{◌≡◌, ℕ, ◌+◌, Bool, true, false, nat_lt, if◌then◌else◌}
-use Rattle.std.specs.Prelude.{List, Option, Some, None}
+use Rattle.std.specs.Prelude.{List, Option, Some, None, Result, Ok, Err}
+use Rattle.std.specs.declared.alloc.AllocError.{AllocError}
 use Rattle.iceoryx2_world.specs.declared.world.Participant.TheVariants.{Peer}
 use Rattle.iceoryx2_world.specs.declared.world.Phase.{Phase}
 use Rattle.iceoryx2_world.specs.declared.world.Phase.TheVariants as at
@@ -44,6 +45,11 @@ may_starve w x = needs_room (act_of x.act) (phase_of w (Peer x.peer) x.hash)
 -- the count of skipped steps stops at the last number
 abbrev pub one_more : ℕ → ℕ
 one_more k = if nat_lt k last_number then k + 1 else k
+
+-- the count after a step that answered this: one that found no memory is counted
+abbrev pub counted : Result Bool AllocError → ℕ → ℕ
+counted (Ok done) k = k
+counted (Err e) k = one_more k
 
 -- A step of a batch, with the world and the count of skipped steps before and after.
 pub data IsPeerStep (s : World × ℕ) (x : Step) (t : World × ℕ) : Type 0 where

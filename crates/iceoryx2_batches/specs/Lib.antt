@@ -1,2 +1,2 @@
 pub mod Batches
-pub mod BatchedStates
+pub mod Tables

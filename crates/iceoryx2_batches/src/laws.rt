@@ -16,7 +16,7 @@ ghost use Rattle.iceoryx2_access.specs.Run.{Run};
 ghost use Rattle.iceoryx2_batches.specs.declared.batches.Act.TheVariants as act;
 ghost use Rattle.iceoryx2_batches.specs.declared.batches.Step.{Step};
 ghost use Rattle.iceoryx2_batches.specs.Batches.{effect, IsPeerStep, IsBatch};
-ghost use Rattle.iceoryx2_batches.specs.BatchedStates.{BatchedState, IsBatchedAccess};
+ghost use Rattle.iceoryx2_batches.specs.Tables.{TableState, IsTableAccess};
 
 /// What waits at a table is steps of peers and nothing else: its accesses are accesses of its
 /// world, and nodes' own parts alone where nothing waits. So what is true of runs of these is true
@@ -26,47 +26,47 @@ pub fn batches()
     ensures batch { (s t : World × ℕ) (batch : List Step) → IsBatch s batch t → Peers s.0 t.0 }
 
     // An access with its batch is one of the world, after any steps of peers.
-    ensures access { (s t : BatchedState) (l : Letter) → IsBatchedAccess s l t → IsAccess s.world l t.world }
+    ensures access { (s t : TableState) (l : Letter) → IsTableAccess s l t → IsAccess s.world l t.world }
 
     // So is each of a run.
-    ensures run { (s t : BatchedState) (word : List Letter)
-        → Run IsBatchedAccess s word t → Run IsAccess s.world word t.world }
+    ensures run { (s t : TableState) (word : List Letter)
+        → Run IsTableAccess s word t → Run IsAccess s.world word t.world }
 
     // A run of which any access may be refused is such a run of the world.
-    ensures refusable { (s t : BatchedState) (word : List Letter)
-        → Run (MayRefuse IsBatchedAccess) s word t → Run IsFaulty s.world word t.world }
+    ensures refusable { (s t : TableState) (word : List Letter)
+        → Run (MayRefuse IsTableAccess) s word t → Run IsFaulty s.world word t.world }
 
     // Where nothing waits there are the nodes' own parts alone, nothing waits afterwards, and
     // nothing was skipped.
-    ensures quiet { (s t : BatchedState) (word : List Letter)
-        → s.waiting ≡ [] → Run IsBatchedAccess s word t
+    ensures quiet { (s t : TableState) (word : List Letter)
+        → s.waiting ≡ [] → Run IsTableAccess s word t
         → Run IsOwnPart s.world word t.world × (t.waiting ≡ []) × (t.skipped ≡ s.skipped) }
 
     // And each own part is an access there.
-    ensures own { (s : BatchedState) (l : Letter) (w : World)
-        → s.waiting ≡ [] → IsOwnPart s.world l w → IsBatchedAccess s l (record s { world = w }) }
+    ensures own { (s : TableState) (l : Letter) (w : World)
+        → s.waiting ≡ [] → IsOwnPart s.world l w → IsTableAccess s l (record s { world = w }) }
 
     // Each access takes one batch off, in order.
-    ensures taken { (s t : BatchedState) (word : List Letter)
-        → Run IsBatchedAccess s word t → t.waiting ≡ drop (length word) s.waiting }
+    ensures taken { (s t : TableState) (word : List Letter)
+        → Run IsTableAccess s word t → t.waiting ≡ drop (length word) s.waiting }
 
     // A batch keeps the agreement and gives a later world.
     ensures batch_keeps { (s t : World × ℕ) (batch : List Step)
         → IsBatch s batch t → Agrees s.0 → Agrees t.0 × Later s.0 t.0 }
 
     // So does an access with its batch.
-    ensures access_keeps { (s t : BatchedState) (l : Letter)
-        → IsBatchedAccess s l t → Agrees s.world → Agrees t.world × Later s.world t.world }
+    ensures access_keeps { (s t : TableState) (l : Letter)
+        → IsTableAccess s l t → Agrees s.world → Agrees t.world × Later s.world t.world }
 
     // So does any run of these, also where any access may be refused.
-    ensures run_keeps { (s t : BatchedState) (word : List Letter)
-        → Run IsBatchedAccess s word t → Agrees s.world → Agrees t.world × Later s.world t.world }
-    ensures refusable_keeps { (s t : BatchedState) (word : List Letter)
-        → Run (MayRefuse IsBatchedAccess) s word t → Agrees s.world → Agrees t.world × Later s.world t.world }
+    ensures run_keeps { (s t : TableState) (word : List Letter)
+        → Run IsTableAccess s word t → Agrees s.world → Agrees t.world × Later s.world t.world }
+    ensures refusable_keeps { (s t : TableState) (word : List Letter)
+        → Run (MayRefuse IsTableAccess) s word t → Agrees s.world → Agrees t.world × Later s.world t.world }
 
     // The count of skipped steps never falls, and stops at the last number.
-    ensures counts { (s t : BatchedState) (word : List Letter)
-        → Run (MayRefuse IsBatchedAccess) s word t → s.skipped ≤ last_number
+    ensures counts { (s t : TableState) (word : List Letter)
+        → Run (MayRefuse IsTableAccess) s word t → s.skipped ≤ last_number
         → (s.skipped ≤ t.skipped) × (t.skipped ≤ last_number) }
 
     // These are never skipped: where they are allowed they have their effect. What takes something away,

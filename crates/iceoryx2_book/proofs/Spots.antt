@@ -14,7 +14,8 @@ use Rattle.iceoryx2_world.specs.Acts as act
 use Rattle.iceoryx2_world.specs.declared.world.Row.TheVariants as row
 use Rattle.iceoryx2_values.specs.Description.{Description}
 use Rattle.iceoryx2_world.specs.Steps.{Spot, spot_after, to_spot, fits, has_room, last_number, with_one, row_for}
-use Rattle.iceoryx2_book.specs.Book.{Book, step_at, with_spot, needs_room, HasEffect, Starves, TakesLeave, published_number, segment_fits}
+use Rattle.iceoryx2_batches.specs.Batches.{needs_room}
+use Rattle.iceoryx2_book.specs.Book.{Book, step_at, with_spot, HasEffect, Starves, TakesLeave, published_number, segment_fits}
 use Rattle.iceoryx2_access.specs.declared.storage.OpenSegmentError.TheVariants as Opening
 use Rattle.iceoryx2_access.specs.declared.storage.Release.{Release as Released}
 use Rattle.iceoryx2_world.specs.Access.{release_answer, open_refusal}

@@ -20,6 +20,7 @@ use Rattle.iceoryx2_world.specs.World.{World, Segment, set_to, or_idle, unless_i
 use Rattle.iceoryx2_world.specs.Acts.{Act}
 use Rattle.iceoryx2_world.specs.Acts as act
 use Rattle.iceoryx2_world.specs.Steps.{Spot, spot_after, fits, has_room, has_others, with_one, without_one, without_any}
+use Rattle.iceoryx2_batches.specs.Batches.{needs_room}
 use Rattle.iceoryx2_world.specs.Codes.{coded_hash, coded_row, coded_segment, coded_participant, coded_phase}
 use Rattle.iceoryx2_world.specs.Access.{release_answer}
 
@@ -74,15 +75,6 @@ HasEffect b p h a c = (s : Spot) × (step_at b p h a ≡ Some s) × (c ≡ with_
 abbrev pub TakesStep : Book → Participant → ServiceHash → Act → Bool → Book → Type 0
 TakesStep b p h a true c = HasEffect b p h a c
 TakesStep b p h a false c = (step_at b p h a ≡ None) × (c ≡ b)
-
--- what can want memory: something is kept that wasn't
-abbrev pub needs_room : Act → Phase → Bool
-needs_room act.Read at.Idle = true
-needs_room act.Lock f = true
-needs_room (act.Make m) f = true
-needs_room (act.Publish d) f = true
-needs_room act.Join (at.Read n) = true
-needs_room _ _ = false
 
 -- the step is allowed, and found no memory
 abbrev pub Starves : Book → Participant → ServiceHash → Act → Book → Type 0

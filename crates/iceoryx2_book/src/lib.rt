@@ -4,3 +4,4 @@
 pub mod merge;
 pub mod segments;
 pub mod services;
+pub mod steps;

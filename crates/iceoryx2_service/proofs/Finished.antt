@@ -5,8 +5,8 @@ use Rattle.std.proofs.lemmas.Cmp.{nat_cmp_total}
 use Rattle.std.proofs.lemmas.Map.Lookups.{exact_unsigned}
 use Rattle.iceoryx2_values.specs.declared.config.Config.{Config}
 use Rattle.iceoryx2_values.specs.declared.description.ServiceHash.{ServiceHash}
-use Rattle.iceoryx2_world.specs.Tables.{TableState, IsTableAccess}
-use Rattle.iceoryx2_world.proofs.Tables.{run_of_worlds}
+use Rattle.iceoryx2_batches.specs.Tables.{TableState, IsTableAccess}
+use Rattle.iceoryx2_batches.proofs.Waiting.{idle_run}
 use Rattle.iceoryx2_world.specs.Across.{Agrees}
 use Rattle.iceoryx2_world.specs.World.{ticket_of}
 use Rattle.iceoryx2_access.specs.Run.{Joins, done, next}
@@ -112,16 +112,16 @@ all_taken_out config agrees old owned (next {old = u} {mid = v} {letter = Some f
 
 pub all_left : (config : Config) (q : Quiet) {u w : TableState} {slots : List (Option Factory)} → IsQuiet (state config u slots) q
     → SlotsStand (state config u slots) → ClosesSlots u slots w → IsFinished q slots w
-all_left config q quiet old done = record { state = q; moves = done; shows = quiet.shows; agrees = quiet.agrees }
+all_left config q quiet old done = record { state = q; moves = done; shows = quiet.shows; agrees = quiet.agrees; waiting = quiet.waiting }
 all_left config q quiet old (next {old = u} {mid = v} {letter = None} {word = slots} is rest) =
-    let after : IsQuiet (state config v slots) q = record { shows = subst (λ (s : TableState). Shows s.world q) (sym is) quiet.shows; agrees = subst (λ (s : TableState). Agrees s.world) (sym is) quiet.agrees } in
+    let after : IsQuiet (state config v slots) q = record { shows = subst (λ (s : TableState). Shows s.world q) (sym is) quiet.shows; agrees = subst (λ (s : TableState). Agrees s.world) (sym is) quiet.agrees; waiting = subst (λ (s : TableState). s.waiting ≡ []) (sym is) quiet.waiting } in
     let more = all_left config q after (past_free config u v slots is old) rest in
-    record { state = more.state; moves = next refl more.moves; shows = more.shows; agrees = more.agrees }
+    record { state = more.state; moves = next refl more.moves; shows = more.shows; agrees = more.agrees; waiting = more.waiting }
 all_left config q quiet old (next {old = u} {mid = v} {letter = Some f} {word = slots} is rest) =
-    let c = close_follows f u.world v.world q is.1.word is.0 quiet.shows quiet.agrees (old.stand 0 f refl).ticket is.1.is_word (run_of_worlds is.1.run) in
-    let after : IsQuiet (state config v slots) c.1.state = record { shows = c.1.shows; agrees = c.1.agrees } in
+    let c = close_follows f u.world v.world q is.1.word is.0 quiet.shows quiet.agrees (old.stand 0 f refl).ticket is.1.is_word (idle_run quiet.waiting is.1.run).0 in
+    let after : IsQuiet (state config v slots) c.1.state = record { shows = c.1.shows; agrees = c.1.agrees; waiting = (idle_run quiet.waiting is.1.run).1.0 } in
     let more = all_left config c.1.state after (past_taken config u v f slots quiet.agrees is old) rest in
-    record { state = more.state; moves = next c.1.call more.moves; shows = more.shows; agrees = more.agrees }
+    record { state = more.state; moves = next c.1.call more.moves; shows = more.shows; agrees = more.agrees; waiting = more.waiting }
 
 pub emptied : (config : Config) (q : Quiet) {u w : TableState} {slots : List (Option Factory)} → IsQuiet (state config u slots) q
     → SlotsStand (state config u slots) → OwnsTickets (state config u slots) → ClosesSlots u slots w → (h : ServiceHash) → HasNothingAt w.world h

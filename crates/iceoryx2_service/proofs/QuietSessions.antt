@@ -1,5 +1,5 @@
 -- One command of a session over a table that nobody else uses.
-use Rattle.std.proofs.Common.{◌≡◌, ℕ, Some, None, Result, Ok, Err, refl, sym, ap, subst, ◌∙◌}
+use Rattle.std.proofs.Common.{◌≡◌, ℕ, [], Some, None, Result, Ok, Err, refl, sym, ap, subst, ◌∙◌}
 use Rattle.std.specs.FinMap as map
 use Rattle.std.specs.Ordering.{nat_cmp}
 use Rattle.iceoryx2_values.specs.declared.time.ClockFault.{ClockFault}
@@ -7,8 +7,8 @@ use Rattle.iceoryx2_values.specs.Span.{Span}
 use Rattle.iceoryx2_world.specs.declared.world.Ticket.{Ticket}
 use Rattle.iceoryx2_world.specs.World.{World, ticket_of, empty_world}
 use Rattle.iceoryx2_world.specs.Across.{Agrees}
-use Rattle.iceoryx2_world.specs.Tables.{TableState}
-use Rattle.iceoryx2_world.proofs.Tables.{run_of_worlds}
+use Rattle.iceoryx2_batches.specs.Tables.{TableState}
+use Rattle.iceoryx2_batches.proofs.Waiting.{idle_run}
 use Rattle.iceoryx2_world.proofs.agreement.Empty.{empty_agrees}
 use Rattle.iceoryx2_rounds.specs.Creates.{time_of}
 use Rattle.iceoryx2_access.specs.Factory.{Factory}
@@ -40,17 +40,17 @@ record IsBuilt (q : Quiet) (b : BuilderCall) (h : How) (now : Result Span ClockF
   agrees : Agrees v
 
 built : (h : How) (b : BuilderCall) (now : Result Span ClockFault) (answer : Result Factory Refusal) (s t : TableState) (q : Quiet)
-    → IsRegularCall b → Shows s.world q → Agrees s.world → Builds b h now s answer t → IsBuilt q b h now s.world answer t.world
-built how.Create b now answer s t q regular shows agrees is =
-    let c = create_follows b.creating b.node b.hash b.name now s.world t.world q is.2.word is.0 regular.creating (regular.takes_nodes (time_of now)) shows agrees is.2.is_word (run_of_worlds is.2.run) in
+    → IsRegularCall b → Shows s.world q → Agrees s.world → s.waiting ≡ [] → Builds b h now s answer t → IsBuilt q b h now s.world answer t.world
+built how.Create b now answer s t q regular shows agrees waiting is =
+    let c = create_follows b.creating b.node b.hash b.name now s.world t.world q is.2.word is.0 regular.creating (regular.takes_nodes (time_of now)) shows agrees is.2.is_word (idle_run waiting is.2.run).0 in
     record {
       state = c.state;
       call = (is.0, is.1, c.call);
       shows = c.shows;
       agrees = c.agrees;
     }
-built how.Open b now answer s t q regular shows agrees is =
-    let c = open_follows b.opening b.node b.hash s.world t.world q is.2.word is.0 regular.opening shows agrees is.2.is_word (run_of_worlds is.2.run) in
+built how.Open b now answer s t q regular shows agrees waiting is =
+    let c = open_follows b.opening b.node b.hash s.world t.world q is.2.word is.0 regular.opening shows agrees is.2.is_word (idle_run waiting is.2.run).0 in
     record {
       state = c.state;
       call = (is.0, is.1, c.call);
@@ -60,24 +60,30 @@ built how.Open b now answer s t q regular shows agrees is =
 
 -- ---- commands
 
-quiet_after : (n : SessionState) (q : Quiet) → Shows n.table.world q → Agrees n.table.world → IsQuiet n q
-quiet_after n q shows agrees = record { shows = shows; agrees = agrees }
+-- nothing waits after a builder call, where nothing waited
+none_waits : (h : How) (b : BuilderCall) (now : Result Span ClockFault) (answer : Result Factory Refusal) (s t : TableState)
+    → s.waiting ≡ [] → Builds b h now s answer t → t.waiting ≡ []
+none_waits how.Create b now answer s t waiting is = (idle_run waiting is.2.run).1.0
+none_waits how.Open b now answer s t waiting is = (idle_run waiting is.2.run).1.0
+
+quiet_after : (n : SessionState) (q : Quiet) → Shows n.table.world q → Agrees n.table.world → n.table.waiting ≡ [] → IsQuiet n q
+quiet_after n q shows agrees waiting = record { shows = shows; agrees = agrees; waiting = waiting }
 
 pub moved : {s : SessionState} {c : Command} {a : Reply} {n : SessionState} (q : Quiet) → IsQuiet s q → SlotsStand s → Goes s c a n
     → IsMoved s q c a n
 moved q old slots (goes.call_past le) = record { state = q; moves = moves.call_past le; quiet = old; configured = refl }
 moved q old slots (goes.call_taken t) = record { state = q; moves = moves.call_taken t; quiet = old; configured = refl }
 moved {s = s} q old slots (goes.called {call = call} f {t = t} free is) =
-    let c = built call.how (builder_call s.config call) call.now (Ok f) s.table t q (call_is_regular s.config call) old.shows old.agrees is in
-    record { state = c.state; moves = moves.called f free c.call; quiet = quiet_after _ c.state c.shows c.agrees; configured = refl }
+    let c = built call.how (builder_call s.config call) call.now (Ok f) s.table t q (call_is_regular s.config call) old.shows old.agrees old.waiting is in
+    record { state = c.state; moves = moves.called f free c.call; quiet = quiet_after _ c.state c.shows c.agrees (none_waits call.how (builder_call s.config call) call.now (Ok f) s.table t old.waiting is); configured = refl }
 moved {s = s} q old slots (goes.refused {call = call} {e = e} {t = t} free is) =
-    let c = built call.how (builder_call s.config call) call.now (Err e) s.table t q (call_is_regular s.config call) old.shows old.agrees is in
-    record { state = c.state; moves = moves.refused free c.call; quiet = quiet_after _ c.state c.shows c.agrees; configured = refl }
+    let c = built call.how (builder_call s.config call) call.now (Err e) s.table t q (call_is_regular s.config call) old.shows old.agrees old.waiting is in
+    record { state = c.state; moves = moves.refused free c.call; quiet = quiet_after _ c.state c.shows c.agrees (none_waits call.how (builder_call s.config call) call.now (Err e) s.table t old.waiting is); configured = refl }
 moved q old slots (goes.close_past le) = record { state = q; moves = moves.close_past le; quiet = old; configured = refl }
 moved q old slots (goes.close_empty free) = record { state = q; moves = moves.close_empty free; quiet = old; configured = refl }
 moved {s = s} q old slots (goes.closed {slot = k} f {t = t} at is) =
-    let c = close_follows f s.table.world t.world q is.1.word is.0 old.shows old.agrees (slots.stand k f at).ticket is.1.is_word (run_of_worlds is.1.run) in
-    record { state = c.1.state; moves = moves.closed f at c.1.call; quiet = quiet_after _ c.1.state c.1.shows c.1.agrees; configured = refl }
+    let c = close_follows f s.table.world t.world q is.1.word is.0 old.shows old.agrees (slots.stand k f at).ticket is.1.is_word (idle_run old.waiting is.1.run).0 in
+    record { state = c.1.state; moves = moves.closed f at c.1.call; quiet = quiet_after _ c.1.state c.1.shows c.1.agrees (idle_run old.waiting is.1.run).1.0; configured = refl }
 moved {s = s} q old slots (goes.listed {entries = entries} lists) =
     record { state = q; moves = moves.listed (lists_the_machine s.table.world q entries.items old.shows lists); quiet = old; configured = refl }
 moved q old slots goes.not_listed = record { state = q; moves = moves.not_listed; quiet = old; configured = refl }
@@ -112,7 +118,7 @@ unchanged_by {s = s} q old (goes.call_taken t) still = itself s
 unchanged_by q old (goes.called f free is) still = absurd still
 unchanged_by {s = s} q old (goes.refused {call = call} {e = e} {t = t} free is) still =
     let b = builder_call s.config call in
-    let c = built call.how b call.now (Err e) s.table t q (call_is_regular s.config call) old.shows old.agrees is in
+    let c = built call.how b call.now (Err e) s.table t q (call_is_regular s.config call) old.shows old.agrees old.waiting is in
     record { slots = refl; services = refusal_keeps call.how b call.now e s.table.world t.world q c.state old.shows c.shows c.call }
 unchanged_by {s = s} q old (goes.close_past le) still = itself s
 unchanged_by {s = s} q old (goes.close_empty free) still = itself s
@@ -125,11 +131,12 @@ unchanged_by {s = s} q old goes.not_listed still = itself s
 no_ticket : (t : ℕ) (x : Ticket) → Some x ≡ None → ⊥
 no_ticket t x e = absurd cc
 
-pub is_fresh : (s : SessionState) (n : ℕ) → s.table.world ≡ empty_world n → IsQuiet s (no_service n) × OwnsTickets s
-is_fresh s n e = (
+pub is_fresh : (s : SessionState) (n : ℕ) → s.table.world ≡ empty_world n → s.table.waiting ≡ [] → IsQuiet s (no_service n) × OwnsTickets s
+is_fresh s n e waiting = (
   record {
     shows = subst (λ w. Shows w (no_service n)) (sym e) (empty_shows n);
     agrees = subst (λ w. Agrees w) (sym e) (empty_agrees n);
+    waiting = waiting;
   },
   λ t x at. absurd (no_ticket t x (sym at ∙ ap (λ w. ticket_of w t) e ∙ map.get-empty nat_cmp t)),
 )

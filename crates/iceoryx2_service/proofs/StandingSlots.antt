@@ -5,15 +5,14 @@ use Rattle.iceoryx2_values.specs.declared.description.ServiceHash.{ServiceHash}
 use Rattle.iceoryx2_values.specs.declared.time.ClockFault.{ClockFault}
 use Rattle.iceoryx2_values.specs.Span.{Span}
 use Rattle.iceoryx2_world.specs.World.{World}
-use Rattle.iceoryx2_world.specs.Access.{IsOwnPart}
 use Rattle.iceoryx2_world.specs.Across.{Agrees}
 use Rattle.iceoryx2_world.specs.Faulty.{IsFaulty}
 use Rattle.iceoryx2_access.specs.Letter.{Letter}
-use Rattle.iceoryx2_world.specs.Peers.{IsAccess, none}
+use Rattle.iceoryx2_world.specs.Peers.{IsAccess}
 use Rattle.iceoryx2_access.specs.Run.{Run, done, next}
 use Rattle.iceoryx2_access.specs.Factory.{Factory}
-use Rattle.iceoryx2_world.specs.Tables.{TableState, IsTableAccess}
-use Rattle.iceoryx2_world.proofs.Tables.{run_of_worlds}
+use Rattle.iceoryx2_batches.specs.Tables.{TableState, IsTableAccess}
+use Rattle.iceoryx2_batches.proofs.Waiting.{table_run}
 use Rattle.iceoryx2_world.specs.Standing.{Stands, ticket_for}
 use Rattle.iceoryx2_world.proofs.agreement.Accesses.{with_refusals}
 use Rattle.iceoryx2_pattern.specs.Meaning.{Meaning}
@@ -41,12 +40,8 @@ use Rattle.iceoryx2_service.proofs.SlotLists.{same_factory, no_factory, set_case
 -- ---- runs of the session's table
 
 -- each access of a table is one of a world that peers may share
-shared : {w v : World} {word : List Letter} → Run IsOwnPart w word v → Run IsAccess w word v
-shared done = done
-shared (next {old = u} own rest) = next (record { between = u; peers = none; own = own }) (shared rest)
-
 pub accesses : {s t : TableState} {word : List Letter} → Run IsTableAccess s word t → Run IsAccess s.world word t.world
-accesses run = shared (run_of_worlds run)
+accesses run = table_run run
 
 pub faulty : {s t : TableState} {word : List Letter} → Run IsTableAccess s word t → Run IsFaulty s.world word t.world
 faulty run = with_refusals (accesses run)

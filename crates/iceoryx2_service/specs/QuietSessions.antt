@@ -1,5 +1,5 @@
 -- A session over a table that nobody else uses, and what a command makes of it: one step of a map.
-use Rattle.std.specs.Prelude.{◌≡◌, ◌≤◌, ◌↔◌, ℕ, List, Vec, Option, Some, None, Result, Ok, Err}
+use Rattle.std.specs.Prelude.{◌≡◌, ◌≤◌, ◌↔◌, ℕ, List, [], Vec, Option, Some, None, Result, Ok, Err}
 use Rattle.std.specs.Prelude.{IsTrue, slice_set}
 use Rattle.std.specs.declared.alloc.Global.{Global}
 use Rattle.iceoryx2_values.specs.declared.description.ServiceHash.{ServiceHash}
@@ -8,7 +8,7 @@ use Rattle.iceoryx2_values.specs.declared.time.ClockFault.{ClockFault}
 use Rattle.iceoryx2_values.specs.Span.{Span}
 use Rattle.iceoryx2_world.specs.declared.listing.Entry.{Entry}
 use Rattle.iceoryx2_world.specs.World.{tag_of}
-use Rattle.iceoryx2_world.specs.Tables.{TableState}
+use Rattle.iceoryx2_batches.specs.Tables.{TableState}
 use Rattle.iceoryx2_world.specs.Across.{Agrees}
 use Rattle.iceoryx2_access.specs.Run.{Run}
 use Rattle.iceoryx2_access.specs.Factory.{Factory}
@@ -30,10 +30,11 @@ use Rattle.iceoryx2_calls.specs.QuietCalls.{Creates, Opens, Closes}
 use Rattle.iceoryx2_calls.specs.QuietLaws.{HoldsTheSame, times_opened}
 use Rattle.iceoryx2_calls.specs.QuietLists.{listing}
 
--- The session's table shows the machine's state, and its world agrees.
+-- The session's table shows the machine's state, its world agrees, and no steps of peers wait at it.
 pub record IsQuiet (s : SessionState) (q : Quiet) : Type 0 where
   pub shows : Shows s.table.world q
   pub agrees : Agrees s.table.world
+  pub waiting : s.table.waiting ≡ []
 
 -- What the machine answers to a builder call, and its state after it.
 abbrev pub Answers : Quiet → BuilderCall → How → Result Span ClockFault → Result Factory Refusal
@@ -119,3 +120,4 @@ pub record IsFinished (q : Quiet) (slots : List (Option Factory)) (t : TableStat
   pub moves : Run LeavesPlace q slots state
   pub shows : Shows t.world state
   pub agrees : Agrees t.world
+  pub waiting : t.waiting ≡ []

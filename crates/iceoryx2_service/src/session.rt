@@ -1,6 +1,6 @@
 //! Commands over a table, with places for what they open.
 
-ghost use Rattle.std.specs.Prelude.{◌≡◌, ◌<◌, ℕ, IfOk, OnErr, replicate, slice_set, None};
+ghost use Rattle.std.specs.Prelude.{◌≡◌, ◌<◌, ℕ, IfOk, OnErr, replicate, slice_set, None, []};
 ghost use Rattle.iceoryx2_service.specs.Patterns.{builder_call};
 ghost use Rattle.iceoryx2_service.specs.Sessions.{Builds, ClosesSlot};
 ghost use Rattle.iceoryx2_service.specs.Slots.{slot_count};
@@ -80,7 +80,7 @@ impl Session {
         ensures stands { SlotsStand (state_of result) }
 
         // Over a new table it is quiet: the table shows the machine that has no service yet.
-        ensures fresh { (n : ℕ) → table.world ≡ empty_world n
+        ensures fresh { (n : ℕ) → table.world ≡ empty_world n → table.waiting ≡ []
             → IsQuiet (state_of result) (no_service n) × OwnsTickets (state_of result) }
     {
         Session {

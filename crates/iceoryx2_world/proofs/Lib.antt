@@ -1,2 +1,1 @@
 pub mod agreement
-pub mod Tables

@@ -13,4 +13,3 @@ pub mod Faulty
 pub mod Standing
 pub mod Listing
 pub mod Calm
-pub mod Tables

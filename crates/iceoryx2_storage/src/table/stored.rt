@@ -4,6 +4,7 @@ ghost use Rattle.std.specs.Prelude.{◌≡◌, ◌&&◌, IfOk, nat_lt, filter, l
 ghost use Rattle.iceoryx2_world.specs.World.{belongs, empty_world, ticket_count, tag_of};
 ghost use Rattle.iceoryx2_world.specs.Listing.{Lists};
 ghost use Rattle.std.specs.Option.{option_copied};
+ghost use Rattle.iceoryx2_batches.specs.Batches.{counted, IsBatch, IsPeerStep};
 ghost use Rattle.iceoryx2_access.specs.Letter as letter;
 ghost use Rattle.iceoryx2_access.specs.Letter.{fetched};
 ghost use Rattle.iceoryx2_world.specs.Access.{IsOwnPart, has_lock, has_made as has_made_spec, is_ticket};
@@ -14,6 +15,7 @@ use crate::storage::{
     Existence, FetchError, LockError, MakeSegmentError, OpenSegmentError, PublishError, Release,
     ReleaseError, RemoveError, Tag, TagError,
 };
+use iceoryx2_batches::batches::Step;
 use iceoryx2_book::services::Services;
 use iceoryx2_values::description::{ServiceHash, StaticConfig};
 use sorted_map::SortedVec;
@@ -83,7 +85,43 @@ fn may_make(phase: Phase, number: u64, max_nodes: u64) -> bool
     }
 }
 
+// The count of skipped steps after one that answered this.
+fn count_after(taken: Result<bool, AllocError>, skipped: u64) -> u64
+    ensures { result ≡ counted taken skipped }
+{
+    match taken {
+        Ok(_) => skipped,
+        Err(_) => {
+            if skipped < u64::MAX {
+                return skipped + 1;
+            }
+            skipped
+        }
+    }
+}
+
 impl StoredWorld {
+    // Takes a step of a peer, and gives the count of skipped steps after it.
+    fn take(&mut self, step: &Step, skipped: u64) -> u64
+        ensures { IsPeerStep (self.old, skipped) step.now (self.new, result) }
+    {
+        let taken = self
+            .services
+            .take(Participant::Peer(step.peer), &step.hash, &step.act);
+        count_after(taken, skipped)
+    }
+
+    /// Takes a batch's steps in order, and gives the count of skipped steps after them.
+    pub fn take_all(&mut self, batch: &[Step], skipped: u64) -> u64
+        ensures { IsBatch (self.old, skipped) batch.now (self.new, result) }
+    {
+        let mut count = skipped;
+        for step in batch {
+            count = self.take(step, count);
+        }
+        count
+    }
+
     pub fn starting_at(alloc: Global, counter: u64) -> StoredWorld
         ensures { result ≡ empty_world counter }
     {

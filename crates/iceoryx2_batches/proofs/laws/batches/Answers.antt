@@ -1,4 +1,4 @@
-use Rattle.iceoryx2_batches.proofs.Waiting.{batch_peers, batched_access, batched_run, idle_run, own_access, waiting_after, refusable_run, batch_keeps, batched_keeps, batched_run_keeps, refusable_run_keeps}
+use Rattle.iceoryx2_batches.proofs.Waiting.{batch_peers, table_access, table_run, idle_run, own_access, waiting_after, refusable_run, batch_keeps, table_keeps, table_run_keeps, refusable_run_keeps}
 use Rattle.iceoryx2_batches.proofs.Counting.{run_counts, removing_step, reading_step, joining_step}
 use Rattle.iceoryx2_batches.proofs.laws.batches.Goals as goal
 
@@ -6,10 +6,10 @@ pub returns-clause-batch : goal.returns-clause-batch
 returns-clause-batch g = λ s t batch r. batch_peers r
 
 pub returns-clause-access : goal.returns-clause-access
-returns-clause-access g = λ s t l a. batched_access s t l a
+returns-clause-access g = λ s t l a. table_access s t l a
 
 pub returns-clause-run : goal.returns-clause-run
-returns-clause-run g = λ s t word r. batched_run r
+returns-clause-run g = λ s t word r. table_run r
 
 pub returns-clause-refusable : goal.returns-clause-refusable
 returns-clause-refusable g = λ s t word r. refusable_run r
@@ -27,10 +27,10 @@ pub returns-clause-batch_keeps : goal.returns-clause-batch_keeps
 returns-clause-batch_keeps g = λ s t batch r old. batch_keeps r old
 
 pub returns-clause-access_keeps : goal.returns-clause-access_keeps
-returns-clause-access_keeps g = λ s t l a old. batched_keeps s t l a old
+returns-clause-access_keeps g = λ s t l a old. table_keeps s t l a old
 
 pub returns-clause-run_keeps : goal.returns-clause-run_keeps
-returns-clause-run_keeps g = λ s t word r old. batched_run_keeps r old
+returns-clause-run_keeps g = λ s t word r old. table_run_keeps r old
 
 pub returns-clause-refusable_keeps : goal.returns-clause-refusable_keeps
 returns-clause-refusable_keeps g = λ s t word r old. refusable_run_keeps r old

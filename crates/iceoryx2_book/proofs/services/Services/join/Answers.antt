@@ -10,7 +10,8 @@ use Rattle.iceoryx2_world.specs.World.{Segment}
 use Rattle.iceoryx2_world.specs.Acts as act
 use Rattle.iceoryx2_world.specs.Steps.{to_spot, last_number, with_one}
 use Rattle.iceoryx2_book.specs.declared.services.Position.{Position}
-use Rattle.iceoryx2_book.specs.Book.{Admits, needs_room}
+use Rattle.iceoryx2_book.specs.Book.{Admits}
+use Rattle.iceoryx2_batches.specs.Batches.{needs_room}
 use Rattle.iceoryx2_book.proofs.Views.{kept}
 use Rattle.iceoryx2_book.proofs.Spots.{by_phase, by_both, did, refused, starved}
 use Rattle.iceoryx2_book.proofs.services.Services.join.Goals as goal

@@ -7,7 +7,7 @@ use Rattle.iceoryx2_world.specs.Orders.{hash_cmp, hash_total, hash_exact, place_
 use Rattle.iceoryx2_world.specs.World.{or_idle}
 use Rattle.iceoryx2_world.specs.Acts as act
 use Rattle.iceoryx2_book.specs.declared.services.Position.{Position}
-use Rattle.iceoryx2_book.specs.Book.{needs_room}
+use Rattle.iceoryx2_batches.specs.Batches.{needs_room}
 use Rattle.iceoryx2_book.proofs.Views.{kept, when_err}
 use Rattle.iceoryx2_book.proofs.Spots.{did, starved, read_tried, published_row}
 use Rattle.iceoryx2_book.proofs.services.Services.read.Goals as goal

@@ -6,4 +6,4 @@ pub returns-clause-stands : goal.returns-clause-stands
 returns-clause-stands c = none_stand _ c.new.ensures
 
 pub returns-clause-fresh : goal.returns-clause-fresh
-returns-clause-fresh c = λ n e. is_fresh _ n e
+returns-clause-fresh c = λ n e waiting. is_fresh _ n e waiting

@@ -1,8 +1,11 @@
-use Rattle.iceoryx2_storage.proofs.States.{agrees_after, later_after}
+use Rattle.iceoryx2_storage.proofs.States.{part, agrees, later}
 use Rattle.iceoryx2_storage.proofs.table.TableStorage.lock.Goals as goal
 
+pub returns-clause-part : goal.returns-clause-part
+returns-clause-part c = part _ c.self.view_is c.run_batch.ensures c.lock.ensures
+
 pub returns-clause-agrees : goal.returns-clause-agrees
-returns-clause-agrees c = agrees_after _ _ c.self.view_is c.lock.ensures
+returns-clause-agrees c = agrees _ c.self.view_is c.run_batch.ensures c.lock.ensures
 
 pub returns-clause-later : goal.returns-clause-later
-returns-clause-later c = later_after _ _ c.self.view_is c.lock.ensures
+returns-clause-later c = later _ c.self.view_is c.run_batch.ensures c.lock.ensures
