@@ -28,12 +28,17 @@ fn require_key(verifier: &mut AttributeVerifier, key: &str) -> Answer {
     verifier.require_key(key)
 }
 
+/// Defines these pairs.
+fn define_all(specifier: &mut AttributeSpecifier, pairs: Pairs) {
+    for &(key, value) in pairs {
+        let _answer = define(specifier, key, value);
+    }
+}
+
 /// A specifier of these pairs.
 fn specifier(alloc: Global, pairs: Pairs) -> AttributeSpecifier {
     let mut specifier = AttributeSpecifier::new(alloc);
-    for &(key, value) in pairs {
-        let _answer = define(&mut specifier, key, value);
-    }
+    define_all(&mut specifier, pairs);
     specifier
 }
 
@@ -167,16 +172,30 @@ const FULL: &[(&str, &str, Answer, Answer)] = &[
     ),
 ];
 
+/// Adds the key `k` with a value to both, and the value as a key.
+fn add(specifier: &mut AttributeSpecifier, verifier: &mut AttributeVerifier, value: &str) {
+    let _answer = define(specifier, "k", value);
+    let _answer = require(verifier, "k", value);
+    let _answer = require_key(verifier, value);
+}
+
+/// Adds texts of 1 to 64 letters `k`.
+fn fill(
+    rt: &impl Abort,
+    alloc: Global,
+    specifier: &mut AttributeSpecifier,
+    verifier: &mut AttributeVerifier,
+) {
+    for length in 1..65 {
+        add(specifier, verifier, &repeated(rt, alloc, "k", length));
+    }
+}
+
 /// What is told of a pair and a key where there are 64.
 fn told_where_full(rt: &impl Abort, alloc: Global, key: &str, value: &str) -> Told {
     let mut specifier = AttributeSpecifier::new(alloc);
     let mut verifier = AttributeVerifier::new(alloc);
-    for length in 1..65 {
-        let text = repeated(rt, alloc, "k", length);
-        let _answer = define(&mut specifier, "k", &text);
-        let _answer = require(&mut verifier, "k", &text);
-        let _answer = require_key(&mut verifier, &text);
-    }
+    fill(rt, alloc, &mut specifier, &mut verifier);
     told(specifier, verifier, key, value)
 }
 
@@ -220,13 +239,18 @@ fn require_keys(verifier: &mut AttributeVerifier, keys: &[&str]) {
     }
 }
 
+/// Requires these pairs.
+fn require_pairs(verifier: &mut AttributeVerifier, pairs: Pairs) {
+    for &(key, value) in pairs {
+        let _answer = require(verifier, key, value);
+    }
+}
+
 /// A verifier of these pairs and keys.
 fn verifier(alloc: Global, pairs: Pairs, keys: &[&str]) -> AttributeVerifier {
     let mut verifier = AttributeVerifier::new(alloc);
     require_keys(&mut verifier, keys);
-    for &(key, value) in pairs {
-        let _answer = require(&mut verifier, key, value);
-    }
+    require_pairs(&mut verifier, pairs);
     verifier
 }
 

@@ -36,17 +36,9 @@ const NANOSECONDS: &[(&str, bool)] = &[
     ("010000000000000001000001f400000000000000003b9aca00", false),
 ];
 
-/// The bytes of a front up to the hash, and of these digits behind it.
-fn hashed(rt: &impl Abort, alloc: Global, name: &str, settings: &str, last: &str) -> Vec<u8> {
-    match format!(in alloc; "{HASHED}{name}{settings}{last}") {
-        Ok(digits) => bytes_of(rt, alloc, &digits),
-        Err(_) => panic!(rt; "no memory"),
-    }
-}
-
 /// The service `a` of events with the default settings, and these digits as its deadline.
 fn form(rt: &impl Abort, alloc: Global, last: &str) -> Vec<u8> {
-    hashed(rt, alloc, "", SETTINGS, last)
+    bytes_of(rt, alloc, &[HASHED, SETTINGS, last])
 }
 
 /// A description of events with this name and these settings.
@@ -218,10 +210,7 @@ fn nanoseconds_have_a_limit(rt: HostRuntime) {
 /// deadline.
 fn longest_form(rt: &impl Abort, alloc: Global) -> Vec<u8> {
     let letters = repeated(rt, alloc, "6e", 255);
-    match format!(in alloc; "00ff{letters}") {
-        Ok(name) => hashed(rt, alloc, &name, NUMBERED, DEADLINE),
-        Err(_) => panic!(rt; "no memory"),
-    }
+    bytes_of(rt, alloc, &[HASHED, "00ff", &letters, NUMBERED, DEADLINE])
 }
 
 /// What that form tells of.

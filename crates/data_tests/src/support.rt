@@ -59,9 +59,20 @@ pub fn copied(rt: &impl Abort, name: &ServiceName) -> ServiceName {
     }
 }
 
-/// The bytes of hexadecimal digits.
-pub fn bytes_of(rt: &impl Abort, alloc: Global, digits: &str) -> Vec<u8> {
-    match hex::decode(alloc, digits) {
+/// Texts, one behind the other.
+pub fn joined(rt: &impl Abort, alloc: Global, parts: &[&str]) -> String {
+    let mut text = String::new(alloc);
+    for part in parts {
+        if text.push_str(part).is_err() {
+            panic!(rt; "no memory")
+        }
+    }
+    text
+}
+
+/// The bytes of hexadecimal digits, whose parts stand one behind the other.
+pub fn bytes_of(rt: &impl Abort, alloc: Global, parts: &[&str]) -> Vec<u8> {
+    match hex::decode(alloc, &joined(rt, alloc, parts)) {
         Ok(bytes) => bytes,
         Err(_) => panic!(rt; "no digits, or no memory"),
     }

@@ -198,13 +198,25 @@ fn require_key(verifier: &mut AttributeVerifier, key: &str) -> Result<(), Attrib
     verifier.require_key(key)
 }
 
+/// Defines these pairs.
+fn define_all(specifier: &mut AttributeSpecifier, pairs: Pairs) {
+    for &(key, value) in pairs {
+        let _answer = define(specifier, key, value);
+    }
+}
+
 /// A specifier of these pairs.
 pub fn specifier(alloc: Global, pairs: Pairs) -> AttributeSpecifier {
     let mut specifier = AttributeSpecifier::new(alloc);
-    for &(key, value) in pairs {
-        let _answer = define(&mut specifier, key, value);
-    }
+    define_all(&mut specifier, pairs);
     specifier
+}
+
+/// Requires these pairs.
+fn require_pairs(verifier: &mut AttributeVerifier, pairs: Pairs) {
+    for &(key, value) in pairs {
+        let _answer = require(verifier, key, value);
+    }
 }
 
 /// Requires these keys.
@@ -217,10 +229,8 @@ fn require_keys(verifier: &mut AttributeVerifier, keys: &[&str]) {
 /// A verifier of these pairs and keys.
 pub fn verifier(alloc: Global, pairs: Pairs, keys: &[&str]) -> AttributeVerifier {
     let mut verifier = AttributeVerifier::new(alloc);
+    require_pairs(&mut verifier, pairs);
     require_keys(&mut verifier, keys);
-    for &(key, value) in pairs {
-        let _answer = require(&mut verifier, key, value);
-    }
     verifier
 }
 

@@ -45,10 +45,7 @@ const COUNTS: [(&str, u8, bool); 2] = [("0040", 64, true), ("0041", 65, false)];
 
 /// The service `a` of events with the default settings and these digits of attributes.
 fn form_with(rt: &impl Abort, alloc: Global, attributes: &str) -> Vec<u8> {
-    match format!(in alloc; "{NAMED}{attributes}{EVENTS}") {
-        Ok(digits) => bytes_of(rt, alloc, &digits),
-        Err(_) => panic!(rt; "no memory"),
-    }
+    bytes_of(rt, alloc, &[NAMED, attributes, EVENTS])
 }
 
 /// Whether there is a form with these digits of attributes.
@@ -68,10 +65,7 @@ fn attributes_ascend_and_are_counted(rt: HostRuntime) {
 fn one_pair(rt: &impl Abort, alloc: Global, row: &(&str, usize, &str, usize, bool)) -> String {
     let key = repeated(rt, alloc, "6b", row.1);
     let value = repeated(rt, alloc, "76", row.3);
-    match format!(in alloc; "0001{}{key}{}{value}", row.0, row.2) {
-        Ok(digits) => digits,
-        Err(_) => panic!(rt; "no memory"),
-    }
+    joined(rt, alloc, &["0001", row.0, &key, row.2, &value])
 }
 
 /// Whether a pair of texts of so many letters has a form.
