@@ -12,6 +12,8 @@ ghost use Rattle.iceoryx2_world.specs.Access.{IsOwnPart};
 ghost use Rattle.iceoryx2_world.specs.Agreement.{Later};
 ghost use Rattle.iceoryx2_world.specs.Across.{Agrees};
 ghost use Rattle.iceoryx2_world.specs.Faulty.{IsFaulty};
+ghost use Rattle.iceoryx2_batches.specs.Tables.{TableState, IsTableAccess};
+ghost use Rattle.iceoryx2_script.specs.Faults.{FaultyState, IsFaultyAccess};
 ghost use Rattle.iceoryx2_access.specs.Factory.{Factory};
 ghost use Rattle.iceoryx2_world.specs.Standing.{Stands};
 ghost use Rattle.iceoryx2_errors.specs.declared.error.CloseError.{CloseError};
@@ -34,6 +36,12 @@ ghost use Rattle.iceoryx2_calls.specs.OverNoRow.{AnswersOverNoRow};
 /// An access that is refused answers its general fault and changes nothing. A call is a word of its
 /// accesses.
 pub fn agreement_under_faults<F: Copy, E: Copy, C: Copy>()
+    // The accesses of a faulty storage with a table inside, whichever are refused and whatever batches
+    // wait, are accesses of the table's world of which any may be refused. So what is said of runs over
+    // worlds is true of each run over such a storage.
+    ensures of_tables { (s t : FaultyState TableState) (word : List Letter)
+        → Run (IsFaultyAccess IsTableAccess) s word t → Run IsFaulty s.inner.world word t.inner.world }
+
     // After each access the world agrees and is later than the first one.
     ensures agrees { (word : List Letter) (w : World)
         → Agrees w → Throughout IsFaulty (λ v. Agrees v × Later w v) w word }

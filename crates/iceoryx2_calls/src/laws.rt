@@ -11,6 +11,7 @@ ghost use Rattle.iceoryx2_world.specs.Agreement.{Later, IsSegmentOf};
 ghost use Rattle.iceoryx2_world.specs.Across.{Agrees};
 ghost use Rattle.iceoryx2_world.specs.Peers.{IsAccess};
 ghost use Rattle.iceoryx2_world.specs.Faulty.{IsFaulty};
+ghost use Rattle.iceoryx2_batches.specs.Tables.{TableState, IsTableAccess};
 ghost use Rattle.iceoryx2_access.specs.Factory.{Factory};
 ghost use Rattle.iceoryx2_world.specs.Standing.{Stands};
 ghost use Rattle.iceoryx2_errors.specs.declared.error.CloseError.{CloseError};
@@ -33,6 +34,11 @@ ghost use Rattle.iceoryx2_calls.specs.Tickets.{tickets_after, tickets_after_clos
 /// A call is a word of its accesses. Where nothing else is said, any access of it may be refused
 /// by a fault.
 pub fn agreement<F: Copy, E: Copy, C: Copy>()
+    // A table's own accesses, whatever batches wait before them, are accesses of its world after any
+    // steps of peers. So what is said of runs over worlds is true of each run over a table.
+    ensures of_tables { (s t : TableState) (word : List Letter)
+        → Run IsTableAccess s word t → Run IsAccess s.world word t.world }
+
     // Before, between and after the accesses of any word, so within each call and from call to
     // call, the world agrees and is later than the first one.
     ensures agrees { (word : List Letter) (w : World)

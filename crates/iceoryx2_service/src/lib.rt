@@ -15,3 +15,4 @@ pub use iceoryx2_builder::builder;
 pub use iceoryx2_calls::{fault_laws, laws, quiet_laws};
 pub use iceoryx2_data::bytes;
 pub use iceoryx2_port_factory::port_factory;
+pub use iceoryx2_script::script;

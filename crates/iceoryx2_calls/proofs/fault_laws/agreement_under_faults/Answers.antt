@@ -7,7 +7,12 @@ use Rattle.iceoryx2_calls.proofs.calls.Tickets.{close_takes_out}
 use Rattle.iceoryx2_calls.proofs.calls.Left.{leaves_tag, gives_back}
 use Rattle.iceoryx2_calls.proofs.calls.CloseLeft.{close_leaves}
 use Rattle.iceoryx2_calls.proofs.calls.NoRow.{create_over_no_row}
+use Rattle.iceoryx2_batches.proofs.Waiting.{refusable_run}
+use Rattle.iceoryx2_script.proofs.Runs.{refusable}
 use Rattle.iceoryx2_calls.proofs.fault_laws.agreement_under_faults.Goals as goal
+
+pub returns-clause-of_tables : goal.returns-clause-of_tables
+returns-clause-of_tables g c = λ s t word run. refusable_run (refusable run)
 
 pub returns-clause-agrees : goal.returns-clause-agrees
 returns-clause-agrees g c = λ word w old. agrees_throughout w word old

@@ -11,7 +11,11 @@ use Rattle.iceoryx2_calls.proofs.calls.Calm.{refused_create_calm, refused_open_c
 use Rattle.iceoryx2_calls.proofs.calls.Standing.{stands_among, one_service}
 use Rattle.iceoryx2_words.proofs.Kept.{refused_create_keeps, refused_open_keeps}
 use Rattle.iceoryx2_calls.proofs.calls.Left.{only_tag, leaves_tag, gives_back, gives_all_back}
+use Rattle.iceoryx2_batches.proofs.Waiting.{table_run}
 use Rattle.iceoryx2_calls.proofs.laws.agreement.Goals as goal
+
+pub returns-clause-of_tables : goal.returns-clause-of_tables
+returns-clause-of_tables g c = λ s t word run. table_run run
 
 pub returns-clause-agrees : goal.returns-clause-agrees
 returns-clause-agrees g c = λ word w old. agrees_throughout w word old
