@@ -5,8 +5,7 @@ use Rattle.std.specs.Char.{digit_value}
 use Rattle.std.specs.Result.{result_ok}
 use Rattle.std.specs.Str.Parse.{ParsesUnsigned, without_leading_plus}
 use Rattle.std.proofs.lemmas.Bool.{eqb-true}
-use Rattle.negotiate_lines.specs.Words.{IsNumber}
-use Rattle.negotiate_lines.specs.Lines.{IsNumberOf}
+use Rattle.negotiate_lines.specs.Words.{IsNumber, IsNumberOf}
 
 -- without a plus in front nothing is dropped
 no_plus : (bs : List ℕ) → nat_eq (slice_index bs 0) 43 ≡ false → without_leading_plus bs ≡ bs
@@ -38,4 +37,4 @@ too_great limit other word n is past m small = absurd (omega (arith, is.value, s
 
 pub ruleset numbers = (parsed_number, plus_is_no_number)
 
-pub ruleset slot_numbers = (smaller_number, too_great)
+pub ruleset limited_numbers = (smaller_number, too_great)

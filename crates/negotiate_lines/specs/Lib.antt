@@ -1,3 +1,5 @@
 pub mod Words
+pub mod EventWords
+pub mod CallWords
 pub mod Lines
 pub mod Replies

@@ -1,9 +1,8 @@
 -- What a line says.
-use Rattle.std.specs.Prelude.{ℕ, ◌≡◌, ◌≢◌, ◌^◌, List, [], ◌∷◌, Option, MatchOption, Ok, codes}
+use Rattle.std.specs.Prelude.{ℕ, ◌≡◌, ◌≢◌, ◌^◌, List, [], ◌∷◌, codes}
 use Rattle.std.specs.Str.{IsUtf8}
-use Rattle.iceoryx2_attributes.specs.Requirements.{no_requirements}
-use Rattle.iceoryx2_values.specs.Span.{zero_span}
 use Rattle.iceoryx2_values.specs.Names.{IsName}
+use Rattle.iceoryx2_builder.specs.declared.builder.event.setting.EventSetting.{EventSetting}
 use Rattle.iceoryx2_service.specs.declared.command.Command.{Command}
 use Rattle.iceoryx2_service.specs.declared.command.Command.TheVariants as command
 use Rattle.iceoryx2_service.specs.declared.command.Call.{Call}
@@ -15,31 +14,32 @@ use Rattle.negotiate_lines.specs.declared.line.Line.{Line}
 use Rattle.negotiate_lines.specs.declared.line.Line.TheVariants as line
 use Rattle.negotiate_lines.specs.declared.line.TheConstants.{SLOTS}
 use Rattle.negotiate_lines.specs.Words.{words_of, IsNumber}
-
--- what is found is the word's number, and nothing is found where it has none
-abbrev pub IsNumberOf : ℕ → List ℕ → Option ℕ → Type 0
-IsNumberOf limit word found = MatchOption found ((n : ℕ) → IsNumber limit word n → ⊥) (IsNumber limit word)
+use Rattle.negotiate_lines.specs.CallWords.{Particulars, no_particulars, TakesWords}
 
 -- the word that says how a service is wanted
 abbrev pub how_word : How → List ℕ
 how_word how.Create = codes "create"
 how_word how.Open = codes "open"
 
--- nothing but what every builder starts from
-abbrev pub HasNoSettings : Settings → Type 0
-HasNoSettings (settings.Event setters) = setters.items ≡ []
+-- the setters of a call, in order
+abbrev pub setters_of : Settings → List EventSetting
+setters_of (settings.Event setters) = setters.items
 
--- The words are a builder call.
+-- what it has beside its place and its name
+abbrev pub particulars_of : Call → Particulars
+particulars_of call =
+    record { settings = setters_of call.settings; requirements = call.attributes; now = call.now }
+
+-- The words are a builder call. Those behind the name make all of it that the first five don't.
 pub record SaysCall (words : List (List ℕ)) (call : Call) : Type 0 where
   pub node : List ℕ
   pub slot : List ℕ
-  pub are : words ≡ codes "event" ∷ how_word call.how ∷ node ∷ slot ∷ call.name ∷ []
+  pub others : List (List ℕ)
+  pub are : words ≡ codes "event" ∷ how_word call.how ∷ node ∷ slot ∷ call.name ∷ others
   pub node_is : IsNumber (2 ^ 64) node call.node
   pub slot_is : IsNumber SLOTS slot call.slot
   pub name_is : IsName call.name
-  pub settings : HasNoSettings call.settings
-  pub attributes : call.attributes ≡ no_requirements
-  pub now : call.now ≡ Ok zero_span
+  pub taken : TakesWords call.how no_particulars others (particulars_of call)
 
 -- The words close a slot.
 pub record SaysClose (words : List (List ℕ)) (closed : ℕ) : Type 0 where

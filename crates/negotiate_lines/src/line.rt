@@ -1,19 +1,17 @@
 //! What a line says.
 
-ghost use Rattle.std.specs.Prelude.{◌≡◌, ◌≢◌, ◌+◌, ◌^◌, [], ◌∷◌, IfOk, MatchOption, codes, map, take};
-ghost use Rattle.negotiate_lines.specs.Words.{without_end_of, words_of};
-ghost use Rattle.negotiate_lines.specs.Lines.{AreLine, IsLine, IsNumberOf, how_word};
+ghost use Rattle.std.specs.Prelude.{◌≡◌, ◌≢◌, [], ◌∷◌, IfOk, MatchOption, codes};
+ghost use Rattle.negotiate_lines.specs.Words.{IsNumberOf, without_end_of, words_of};
+ghost use Rattle.negotiate_lines.specs.Lines.{AreLine, IsLine, how_word, particulars_of};
 
-use iceoryx2_service::attribute::AttributeVerifier;
+use crate::particulars::{CallParts, call_parts};
+use crate::word::{next_word, number, number_below};
 use iceoryx2_service::command::{Call, Command, How, Settings};
-use iceoryx2_service::description::{ServiceName, ServiceNameError, Time};
+use iceoryx2_service::description::{ServiceName, ServiceNameError};
 use std::alloc::{AllocError, Global};
 
 /// The number of slots. A line may name the slots below it.
 pub const SLOTS: u64 = 64;
-
-/// The number of words of the longest command.
-const MOST_WORDS: usize = 5;
 
 /// What a line says.
 #[derive(Debug, Drop)]
@@ -42,81 +40,80 @@ pub fn without_end(line: &[u8]) -> &[u8]
 
 /// Reads a line, without its end. Its words are separated by one or more spaces.
 ///
-/// No more words are kept than the longest command has, and one that tells that there are more.
-/// Where there is no memory for them, or for a service's name, nothing is read.
+/// Its words are read one by one, and none is kept. Memory is taken for a service's name and for
+/// what the words behind it say; where there is none, nothing is read.
 pub fn parse(alloc: Global, line: &[u8]) -> Result<Line, AllocError>
     ensures { IfOk result (IsLine line.now) }
 {
     match std::str::from_utf8(line) {
-        Ok(text) => {
-            let words = words(alloc, text)?;
-            said(alloc, &words)
-        }
+        Ok(text) => said(alloc, text),
         Err(_) => Ok(Line::NotACommand),
     }
 }
 
-/// The first words of a text: as many as the longest command has, and one.
-fn words<'a>(alloc: Global, text: &'a str) -> Result<Vec<&'a str>, AllocError>
-    ensures { IfOk result (λ words. map (λ word. word.now) words.items
-        ≡ take (MOST_WORDS + 1) (words_of text.now)) }
+/// What a text says.
+fn said(alloc: Global, text: &str) -> Result<Line, AllocError>
+    ensures { IfOk result (AreLine (words_of text.now)) }
 {
-    text.split(' ')
-        .filter(|word| !word.is_empty())
-        .take(MOST_WORDS + 1)
-        .collect(alloc)
+    match next_word(text) {
+        None => Ok(Line::Blank),
+        Some((first, others)) => said_behind(alloc, first, others),
+    }
 }
 
-/// What words say.
-#[tactic(auto, using(crate::proofs::Saying::five_words))]
-fn said(alloc: Global, words: &[&str]) -> Result<Line, AllocError>
-    ensures { IfOk result (AreLine (map (λ word. word.now) words.now)) }
+/// What a word and those behind it say.
+fn said_behind(alloc: Global, first: &str, others: &str) -> Result<Line, AllocError>
+    ensures { IfOk result (AreLine (first.now ∷ words_of others.now)) }
 {
-    match words {
-        [] => Ok(Line::Blank),
-        ["list"] => Ok(Line::Command(Command::List)),
-        ["close", slot] => Ok(close(slot)),
-        ["event", how, node, slot, name] => event(alloc, how, node, slot, name),
+    match first {
+        "list" => Ok(list(others)),
+        "close" => Ok(close(others)),
+        "event" => event(alloc, others),
         _ => Ok(Line::NotACommand),
     }
 }
 
-/// One or more decimal digits with a value that fits. Leading zeros are allowed, a sign is not.
-#[tactic(auto, using(crate::proofs::Numbers::numbers))]
-fn number(word: &str) -> Option<u64>
-    ensures { IsNumberOf (2 ^ 64) word.now result }
+/// What the word `list` says before others.
+fn list(others: &str) -> Line
+    ensures { AreLine (codes "list" ∷ words_of others.now) result }
 {
-    if word.starts_with('+') {
-        None
-    } else {
-        word.parse::<u64>().ok()
+    match next_word(others) {
+        None => Line::Command(Command::List),
+        Some(_) => Line::NotACommand,
     }
 }
 
-/// The number of a slot.
-#[tactic(auto, using(crate::proofs::Numbers::slot_numbers))]
-fn slot_number(word: &str) -> Option<usize>
-    ensures { IsNumberOf SLOTS word.now result }
+/// What the word `close` says before others.
+fn close(others: &str) -> Line
+    ensures { AreLine (codes "close" ∷ words_of others.now) result }
 {
-    match number(word) {
-        Some(slot) => {
-            if slot < SLOTS {
-                Some(slot as usize)
-            } else {
-                None
-            }
-        }
-        None => None,
+    let Some((slot, others)) = next_word(others) else {
+        return Line::NotACommand;
+    };
+    match next_word(others) {
+        None => close_of(slot),
+        Some(_) => Line::NotACommand,
     }
 }
 
 /// What the word `close` says before another one.
-fn close(slot: &str) -> Line
+fn close_of(slot: &str) -> Line
     ensures { AreLine (codes "close" ∷ slot.now ∷ []) result }
 {
     match slot_number(slot) {
         Some(slot) => Line::Command(Command::Close { slot }),
         None => Line::NotACommand,
+    }
+}
+
+/// The number of a slot.
+#[tactic(auto, using(crate::proofs::Numbers::numbers))]
+fn slot_number(word: &str) -> Option<usize>
+    ensures { IsNumberOf SLOTS word.now result }
+{
+    match number_below(word, SLOTS) {
+        Some(slot) => Some(slot as usize),
+        None => None,
     }
 }
 
@@ -130,24 +127,73 @@ fn how_of(word: &str) -> Option<How>
     }
 }
 
-/// What the word `event` says before four others.
-fn event(alloc: Global, how: &str, node: &str, slot: &str, name: &str) -> Result<Line, AllocError>
-    ensures { IfOk result (AreLine (codes "event" ∷ how.now ∷ node.now ∷ slot.now ∷ name.now ∷ [])) }
+/// What the word `event` says before others.
+fn event(alloc: Global, others: &str) -> Result<Line, AllocError>
+    ensures { IfOk result (AreLine (codes "event" ∷ words_of others.now)) }
+{
+    let Some((how, others)) = next_word(others) else {
+        return Ok(Line::NotACommand);
+    };
+    let Some((node, others)) = next_word(others) else {
+        return Ok(Line::NotACommand);
+    };
+    let Some((slot, others)) = next_word(others) else {
+        return Ok(Line::NotACommand);
+    };
+    let Some((name, others)) = next_word(others) else {
+        return Ok(Line::NotACommand);
+    };
+    event_call(alloc, how, node, slot, name, others)
+}
+
+/// What it says before these four and others.
+fn event_call(
+    alloc: Global,
+    how: &str,
+    node: &str,
+    slot: &str,
+    name: &str,
+    others: &str,
+) -> Result<Line, AllocError>
+    ensures { IfOk result (AreLine
+        (codes "event" ∷ how.now ∷ node.now ∷ slot.now ∷ name.now ∷ words_of others.now)) }
 {
     let (Some(how), Some(node), Some(slot)) = (how_of(how), number(node), slot_number(slot)) else {
         return Ok(Line::NotACommand);
     };
     match ServiceName::new(alloc, name) {
-        Ok(name) => Ok(Line::Command(Command::Call(Call {
-            how,
-            node,
-            slot,
-            name,
-            settings: Settings::Event(Vec::new(alloc)),
-            attributes: AttributeVerifier::new(alloc),
-            now: Ok(Time::default()),
-        }))),
+        Ok(name) => match call_parts(alloc, how, others) {
+            Ok(Some(parts)) => {
+                let call = call_of(how, node, slot, name, parts);
+                Ok(Line::Command(Command::Call(call)))
+            }
+            Ok(None) => Ok(Line::NotACommand),
+            Err(_) => Err(AllocError),
+        },
         Err(ServiceNameError::Length) => Ok(Line::NotACommand),
         Err(ServiceNameError::OutOfMemory) => Err(AllocError),
+    }
+}
+
+fn call_of(how: How, node: u64, slot: usize, name: ServiceName, parts: CallParts) -> Call
+    ensures how { result.how ≡ how }
+    ensures node { result.node ≡ node }
+    ensures slot { result.slot ≡ slot }
+    ensures name { result.name ≡ name }
+    ensures parts { particulars_of result ≡ parts }
+{
+    let CallParts {
+        settings,
+        attributes,
+        now,
+    } = parts;
+    Call {
+        how,
+        node,
+        slot,
+        name,
+        settings: Settings::Event(settings),
+        attributes,
+        now,
     }
 }

@@ -27,7 +27,6 @@ const NO_COMMANDS: &[&str] = &[
     "\r\r\n",
     "event",
     "event create 1 0",
-    "event create 1 0 a max_nodes=1",
     "event create 1 0 a a a a a a a a a",
     "event create 1 64 a",
     "event create 1 18446744073709551616 a",
