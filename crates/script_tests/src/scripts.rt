@@ -281,7 +281,11 @@ const NAME_OF_ANOTHER: Parts = &[&[
 /// The number of what an open gives there, and whether its name is `a`.
 fn number_and_name(rt: &impl Abort, alloc: Global) -> (u64, bool) {
     let mut script = script(rt, alloc, NAME_OF_ANOTHER);
-    let factory = opened::<Scripted>(rt, alloc, &mut script);
+    let (_, given) = open(events::<Scripted>(rt, alloc, 1), &mut script);
+    let factory = match given {
+        Some(factory) => factory,
+        None => panic!(rt; "refused"),
+    };
     let found = (factory.number(), factory.name().as_str() == "a");
     factory.abandon();
     found

@@ -85,7 +85,7 @@ fn create<S: Service>(
 }
 
 /// What an open answers and gives.
-fn open<S: Service>(
+pub fn open<S: Service>(
     builder: Builder<S>,
     storage: &mut S::Storage,
 ) -> (Answer, Option<PortFactory<S>>) {
@@ -149,16 +149,4 @@ pub fn drive<S: Service>(
         assert!(rt; found == *wanted, "call {row} has another answer");
     }
     abandon(held);
-}
-
-/// What an open of node 1 gives.
-pub fn opened<S: Service>(
-    rt: &impl Abort,
-    alloc: Global,
-    storage: &mut S::Storage,
-) -> PortFactory<S> {
-    match events::<S>(rt, alloc, 1).open(storage) {
-        Ok(factory) => factory,
-        Err(error) => panic!(rt; "refused: {error}"),
-    }
 }
