@@ -12,7 +12,7 @@ use Rattle.iceoryx2_service.specs.declared.command.Settings.{Settings}
 use Rattle.iceoryx2_service.specs.declared.command.Settings.TheVariants as settings
 use Rattle.negotiate_lines.specs.declared.line.Line.{Line}
 use Rattle.negotiate_lines.specs.declared.line.Line.TheVariants as line
-use Rattle.negotiate_lines.specs.declared.line.TheConstants.{SLOTS}
+use Rattle.iceoryx2_service.specs.Slots.{slot_count}
 use Rattle.negotiate_lines.specs.Words.{words_of, IsNumber}
 use Rattle.negotiate_lines.specs.CallWords.{Particulars, no_particulars, TakesWords}
 
@@ -37,7 +37,7 @@ pub record SaysCall (words : List (List ℕ)) (call : Call) : Type 0 where
   pub others : List (List ℕ)
   pub are : words ≡ codes "event" ∷ how_word call.how ∷ node ∷ slot ∷ call.name ∷ others
   pub node_is : IsNumber (2 ^ 64) node call.node
-  pub slot_is : IsNumber SLOTS slot call.slot
+  pub slot_is : IsNumber slot_count slot call.slot
   pub name_is : IsName call.name
   pub taken : TakesWords call.how no_particulars others (particulars_of call)
 
@@ -45,7 +45,7 @@ pub record SaysCall (words : List (List ℕ)) (call : Call) : Type 0 where
 pub record SaysClose (words : List (List ℕ)) (closed : ℕ) : Type 0 where
   pub slot : List ℕ
   pub are : words ≡ codes "close" ∷ slot ∷ []
-  pub slot_is : IsNumber SLOTS slot closed
+  pub slot_is : IsNumber slot_count slot closed
 
 -- The words are the command.
 abbrev pub Says : List (List ℕ) → Command → Type 0

@@ -2,16 +2,15 @@
 
 ghost use Rattle.std.specs.Prelude.{◌≡◌, ◌≢◌, [], ◌∷◌, IfOk, MatchOption, codes};
 ghost use Rattle.negotiate_lines.specs.Words.{IsNumberOf, without_end_of, words_of};
+ghost use Rattle.iceoryx2_service.specs.Slots.{slot_count};
 ghost use Rattle.negotiate_lines.specs.Lines.{AreLine, IsLine, how_word, particulars_of};
 
 use crate::particulars::{CallParts, call_parts};
 use crate::word::{next_word, number, number_below};
 use iceoryx2_service::command::{Call, Command, How, Settings};
 use iceoryx2_service::description::{ServiceName, ServiceNameError};
+use iceoryx2_service::session::SLOTS;
 use std::alloc::{AllocError, Global};
-
-/// The number of slots. A line may name the slots below it.
-pub const SLOTS: u64 = 64;
 
 /// What a line says.
 #[derive(Debug, Drop)]
@@ -109,9 +108,9 @@ fn close_of(slot: &str) -> Line
 /// The number of a slot.
 #[tactic(auto, using(crate::proofs::Numbers::numbers))]
 fn slot_number(word: &str) -> Option<usize>
-    ensures { IsNumberOf SLOTS word.now result }
+    ensures { IsNumberOf slot_count word.now result }
 {
-    match number_below(word, SLOTS) {
+    match number_below(word, SLOTS as u64) {
         Some(slot) => Some(slot as usize),
         None => None,
     }
