@@ -1,0 +1,4 @@
+-- What a contract sees of types of messages.
+pub mod Types
+pub mod Errors
+pub mod Alignments

@@ -1,0 +1,242 @@
+//! What is told of a type.
+
+ghost use Rattle.std.specs.Prelude.{◌≡◌, ◌<◌, ◌^◌, ◌↔◌, Err, IfOk, IsTrue, string_bytes};
+ghost use Rattle.iceoryx2_types.specs.Types.{HasNameLength, IsAlignment, IsDetail, IsTypeName};
+ghost use Rattle.iceoryx2_types.specs.Types.{Fits, detail_of, fits, same_detail, with_variant};
+
+use super::{Alignment, TypeDetailError, TypeVariant, ZeroCopySend, has_name_length};
+use std::alloc::{AllocError, Global};
+use std::marker::Model;
+
+/// A type's name: 1 to 256 bytes of UTF-8.
+#[derive(Debug, Drop)]
+struct TypeName {
+    text: String,
+}
+
+impl Model for TypeName {
+    ghost use Rattle.std.specs.Prelude.{List, ℕ, string_bytes};
+    ghost use Rattle.iceoryx2_types.specs.Types.{IsTypeName};
+
+    ghost Value = { List ℕ };
+
+    ghost view = { λ name. string_bytes name.text };
+
+    ghost invariant = { λ name. IsTypeName (string_bytes name.text) };
+}
+
+impl TypeName {
+    /// The name of a text that has its length already.
+    fn from_text(text: String) -> TypeName
+        requires { IsTypeName (string_bytes text) }
+        ensures { result ≡ string_bytes text }
+    {
+        TypeName { text }
+    }
+
+    /// The name as a text.
+    fn as_str(&self) -> &str
+        ensures value { result.now ≡ self.now }
+        ensures limits { IsTypeName self.now }
+    {
+        &self.text
+    }
+}
+
+impl PartialEq for TypeName {
+    ghost use Rattle.std.specs.Prelude.{bytes_eq};
+    ghost use Rattle.std.proofs.Common.{rules};
+    ghost use Rattle.std.specs.Cmp.Rules.{comparing};
+
+    ghost eq = { bytes_eq };
+
+    ghost laws = { Prim.search (comparing, rules) };
+
+    fn eq(&self, other: &TypeName) -> bool {
+        self.as_str() == other.as_str()
+    }
+}
+
+impl Eq for TypeName {
+    ghost use Rattle.std.proofs.Common.{rules};
+    ghost use Rattle.std.specs.Cmp.Rules.{comparing};
+
+    ghost laws = { Prim.search (comparing, rules) };
+}
+
+impl Clone for TypeName {
+    ghost use Rattle.std.specs.Prelude.{◌≡◌};
+
+    ghost is_clone = { λ name copy. copy ≡ name };
+
+    fn clone(&self) -> Result<TypeName, AllocError> {
+        Ok(TypeName {
+            text: self.text.clone()?,
+        })
+    }
+}
+
+/// What is told of a type: whether a message holds one value or a number of them, and the name, the
+/// size and the alignment of one.
+#[derive(Debug, Drop, PartialEq, Eq)]
+pub struct TypeDetail {
+    variant: TypeVariant,
+    type_name: TypeName,
+    size: u64,
+    alignment: Alignment,
+}
+
+impl Model for TypeDetail {
+    ghost use Rattle.iceoryx2_types.specs.Types.{Detail, IsDetail, detail_of};
+
+    ghost Value = { Detail };
+
+    ghost view = { λ d. detail_of d.variant d.type_name d.size d.alignment };
+
+    ghost invariant = { λ d. IsDetail (detail_of d.variant d.type_name d.size d.alignment) };
+
+    ghost inverse = { λ d. record {
+      variant = d.variant;
+      type_name = d.name;
+      size = d.size;
+      alignment = d.alignment;
+    } };
+}
+
+impl TypeDetail {
+    /// The details of a type whose name has 1 to 256 bytes, else `NameLength`, and whose alignment
+    /// in bytes is a power of two, else `Alignment`; `OutOfMemory` where the copy of the name found
+    /// no memory. They are tested in this order. The size is in bytes, and any.
+    #[tactic(auto, using(crate::proofs::Utf8::is_text))]
+    pub fn new(
+        alloc: Global,
+        variant: TypeVariant,
+        type_name: &str,
+        size: u64,
+        alignment: u64,
+    ) -> Result<TypeDetail, TypeDetailError>
+        ensures made { IfOk result (λ made. made ≡ detail_of variant type_name.now size alignment) }
+        ensures limits { IfOk result (λ made. IsDetail made) }
+        ensures name_length { (result ≡ Err TypeDetailError.NameLength)
+            ↔ (HasNameLength type_name.now → ⊥) }
+        ensures alignment { (result ≡ Err TypeDetailError.Alignment)
+            ↔ (HasNameLength type_name.now × (IsAlignment alignment → ⊥)) }
+    {
+        if !has_name_length(type_name) {
+            return Err(TypeDetailError::NameLength);
+        }
+        let Some(alignment) = Alignment::new(alignment) else {
+            return Err(TypeDetailError::Alignment);
+        };
+        let Ok(text) = String::from_str(alloc, type_name) else {
+            return Err(TypeDetailError::OutOfMemory);
+        };
+        let type_name = TypeName::from_text(text);
+        Ok(TypeDetail::from_parts(variant, type_name, size, alignment))
+    }
+
+    /// The details that a type says of itself, of one value or a number of them.
+    #[tactic(auto, using(crate::proofs::Utf8::is_text))]
+    pub(super) fn from_type<T: ZeroCopySend>(
+        alloc: Global,
+        variant: TypeVariant,
+    ) -> Result<TypeDetail, AllocError>
+        ensures { IfOk result (λ made. made ≡ with_variant T.detail variant) }
+    {
+        let text = String::from_str(alloc, T::type_name())?;
+        let alignment = Alignment::of_type::<T>();
+        let type_name = TypeName::from_text(text);
+        Ok(TypeDetail::from_parts(variant, type_name, T::size(), alignment))
+    }
+
+    /// The details of parts that are within their limits.
+    fn from_parts(
+        variant: TypeVariant,
+        type_name: TypeName,
+        size: u64,
+        alignment: Alignment,
+    ) -> TypeDetail
+        ensures value { result ≡ detail_of variant type_name size alignment }
+        ensures limits { IsDetail result }
+    {
+        let _name = type_name.as_str();
+        let _bytes = alignment.value();
+        TypeDetail {
+            variant,
+            type_name,
+            size,
+            alignment,
+        }
+    }
+
+    /// Whether a message holds one value or a number of them.
+    pub fn variant(&self) -> TypeVariant
+        ensures value { result ≡ self.now.variant }
+        ensures limits { IsDetail self.now }
+    {
+        self.variant
+    }
+
+    /// The name, of 1 to 256 bytes.
+    pub fn type_name(&self) -> &str
+        ensures value { result.now ≡ self.now.name }
+        ensures limits { IsDetail self.now }
+    {
+        self.type_name.as_str()
+    }
+
+    /// The size of one value in bytes.
+    pub fn size(&self) -> u64
+        ensures value { result ≡ self.now.size }
+        ensures below { result < 2 ^ 64 }
+        ensures limits { IsDetail self.now }
+    {
+        self.size
+    }
+
+    /// The alignment in bytes, a power of two.
+    pub fn alignment(&self) -> u64
+        ensures value { result ≡ self.now.alignment }
+        ensures below { result < 2 ^ 64 }
+        ensures limits { IsDetail self.now }
+    {
+        self.alignment.value()
+    }
+
+    /// Whether they are the same in all fields.
+    pub(super) fn is_same(&self, other: &TypeDetail) -> bool
+        ensures exact { IsTrue result ↔ (self.now ≡ other.now) }
+        ensures value { result ≡ same_detail self.now other.now }
+    {
+        self.variant() == other.variant()
+            && self.type_name() == other.type_name()
+            && self.size() == other.size()
+            && self.alignment() == other.alignment()
+    }
+
+    /// Whether this is the other's type, aligned at most as far.
+    pub(super) fn fits(&self, other: &TypeDetail) -> bool
+        ensures exact { IsTrue result ↔ Fits self.now other.now }
+        ensures value { result ≡ fits self.now other.now }
+    {
+        self.variant() == other.variant()
+            && self.type_name() == other.type_name()
+            && self.size() == other.size()
+            && self.alignment() <= other.alignment()
+    }
+}
+
+impl Clone for TypeDetail {
+    ghost use Rattle.std.specs.Prelude.{◌≡◌};
+
+    ghost is_clone = { λ detail copy. copy ≡ detail };
+
+    fn clone(&self) -> Result<TypeDetail, AllocError> {
+        Ok(TypeDetail {
+            variant: self.variant,
+            type_name: self.type_name.clone()?,
+            size: self.size,
+            alignment: self.alignment,
+        })
+    }
+}

@@ -1,0 +1,120 @@
+//! What a message is made of.
+
+ghost use Rattle.std.specs.Prelude.{◌≡◌, ◌↔◌, IfOk, IsTrue};
+ghost use Rattle.iceoryx2_types.specs.Types.{IsCompatible, IsDetail, compatible, message_of, with_variant};
+ghost use Rattle.iceoryx2_types.specs.declared.types.TypeVariant.TheVariants.{FixedSize};
+
+use super::{TypeDetail, TypeVariant, ZeroCopySend};
+use std::alloc::{AllocError, Global};
+use std::marker::Model;
+
+/// The types of a message: of its header, of its user header and of its payload.
+#[derive(Debug, Drop, PartialEq, Eq)]
+pub struct MessageTypeDetails {
+    header: TypeDetail,
+    user_header: TypeDetail,
+    payload: TypeDetail,
+}
+
+impl Model for MessageTypeDetails {
+    ghost use Rattle.iceoryx2_types.specs.Types.{Message, IsMessage, message_of};
+
+    ghost Value = { Message };
+
+    ghost view = { λ m. message_of m.header m.user_header m.payload };
+
+    ghost invariant = { λ m. IsMessage (message_of m.header m.user_header m.payload) };
+
+    ghost inverse = { λ m. record {
+      header = m.header;
+      user_header = m.user_header;
+      payload = m.payload;
+    } };
+}
+
+impl MessageTypeDetails {
+    /// A message of these types.
+    pub fn new(
+        header: TypeDetail,
+        user_header: TypeDetail,
+        payload: TypeDetail,
+    ) -> MessageTypeDetails
+        ensures { result ≡ message_of header user_header payload }
+    {
+        let _header = header.size();
+        let _user_header = user_header.size();
+        let _payload = payload.size();
+        MessageTypeDetails {
+            header,
+            user_header,
+            payload,
+        }
+    }
+
+    /// What the three types say of themselves: one header, one user header, and a payload of one
+    /// value or a number of them. `AllocError` where there was no memory for their names.
+    pub fn from<H: ZeroCopySend, U: ZeroCopySend, P: ZeroCopySend>(
+        alloc: Global,
+        variant: TypeVariant,
+    ) -> Result<MessageTypeDetails, AllocError>
+        ensures header { IfOk result (λ made. made.header ≡ with_variant H.detail FixedSize) }
+        ensures user_header { IfOk result (λ made. made.user_header ≡ with_variant U.detail FixedSize) }
+        ensures payload { IfOk result (λ made. made.payload ≡ with_variant P.detail variant) }
+    {
+        let header = TypeDetail::from_type::<H>(alloc, TypeVariant::FixedSize)?;
+        let user_header = TypeDetail::from_type::<U>(alloc, TypeVariant::FixedSize)?;
+        let payload = TypeDetail::from_type::<P>(alloc, variant)?;
+        Ok(MessageTypeDetails::new(header, user_header, payload))
+    }
+
+    /// The header's type.
+    pub fn header(&self) -> &TypeDetail
+        ensures value { result.now ≡ self.now.header }
+        ensures limits { IsDetail self.now.header }
+    {
+        &self.header
+    }
+
+    /// The user header's type.
+    pub fn user_header(&self) -> &TypeDetail
+        ensures value { result.now ≡ self.now.user_header }
+        ensures limits { IsDetail self.now.user_header }
+    {
+        &self.user_header
+    }
+
+    /// The payload's type.
+    pub fn payload(&self) -> &TypeDetail
+        ensures value { result.now ≡ self.now.payload }
+        ensures limits { IsDetail self.now.payload }
+    {
+        &self.payload
+    }
+
+    /// Whether messages of these types may be sent where those of the other are: the headers are
+    /// the same, and user header and payload are each the same but for the alignment, which is at
+    /// most the other's.
+    #[tactic(auto, unfolding(crate::specs::Types::compatible))]
+    pub fn is_compatible_to(&self, other: &MessageTypeDetails) -> bool
+        ensures exact { IsTrue result ↔ IsCompatible self.now other.now }
+        ensures value { result ≡ compatible self.now other.now }
+    {
+        self.header.is_same(&other.header)
+            && self.user_header.fits(&other.user_header)
+            && self.payload.fits(&other.payload)
+    }
+}
+
+impl Clone for MessageTypeDetails {
+    ghost use Rattle.std.specs.Prelude.{◌≡◌};
+
+    ghost is_clone = { λ message copy. copy ≡ message };
+
+    fn clone(&self) -> Result<MessageTypeDetails, AllocError> {
+        Ok(MessageTypeDetails {
+            header: self.header.clone()?,
+            user_header: self.user_header.clone()?,
+            payload: self.payload.clone()?,
+        })
+    }
+}
