@@ -6,6 +6,8 @@ mod accesses;
 #[cfg(test)]
 mod creates;
 #[cfg(test)]
+mod drawn;
+#[cfg(test)]
 mod opens;
 #[cfg(test)]
 mod sessions;

@@ -87,7 +87,7 @@ fn described(rt: &impl Abort, alloc: Global, settings: Settings) -> StaticConfig
 }
 
 /// Puts something behind the rest.
-fn push<T: Drop>(rt: &impl Abort, all: &mut Vec<T>, last: T) {
+pub fn push<T: Drop>(rt: &impl Abort, all: &mut Vec<T>, last: T) {
     match all.push(last) {
         Ok(()) => {}
         Err(_) => panic!(rt; "no memory"),
@@ -109,7 +109,13 @@ fn act(rt: &impl Abort, alloc: Global, deed: Deed) -> Act {
 }
 
 /// Puts the steps of a peer behind others.
-fn push_steps(rt: &impl Abort, alloc: Global, steps: &mut Vec<Step>, peer: u64, deeds: &[Deed]) {
+pub fn push_steps(
+    rt: &impl Abort,
+    alloc: Global,
+    steps: &mut Vec<Step>,
+    peer: u64,
+    deeds: &[Deed],
+) {
     for &deed in deeds {
         let step = Step {
             peer,

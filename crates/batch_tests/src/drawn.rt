@@ -1,0 +1,283 @@
+//! Batches that are drawn by chance, at a table and at a model of it in a few lines.
+
+use crate::support::*;
+use iceoryx2_access::storage::{Existence, Storage};
+use iceoryx2_storage::table::{Step, Table};
+use std::alloc::Global;
+use std::process::Abort;
+
+/// Where a peer is with the service.
+#[derive(Clone, Copy)]
+enum Phase {
+    Idle,
+    Read(u64),
+    Locked(u64),
+    Made(u64),
+    Joined(u64, u64),
+    Leaving(u64),
+    Cleared(u64),
+}
+
+/// What there is of the service, and the next number.
+#[derive(Clone, Copy)]
+struct Service {
+    row: Row,
+    segment: Segment,
+    counter: u64,
+}
+
+/// What a peer that holds nothing makes of the service, and where it is then.
+fn outside(service: Service, phase: Phase, deed: Deed) -> (Service, Phase) {
+    match (deed, service.row) {
+        (Deed::Read, Row::Published(number)) => (service, Phase::Read(number)),
+        (Deed::Lock, Row::Absent) => {
+            let locked = Service {
+                row: Row::Locked(service.counter),
+                segment: service.segment,
+                counter: service.counter.wrapping_add(1),
+            };
+            (locked, Phase::Locked(service.counter))
+        }
+        _ => (service, phase),
+    }
+}
+
+/// The service with this segment.
+fn with_segment(service: Service, segment: Segment) -> Service {
+    Service {
+        row: service.row,
+        segment,
+        counter: service.counter,
+    }
+}
+
+/// The service with this row.
+fn with_row(service: Service, row: Row) -> Service {
+    Service {
+        row,
+        segment: service.segment,
+        counter: service.counter,
+    }
+}
+
+/// What a peer makes of it that has read what is published.
+fn reader(service: Service, number: u64, deed: Deed) -> (Service, Phase) {
+    match (deed, service.segment) {
+        (Deed::Join, Some((made, room, inside, false))) => {
+            if made == number && inside < room {
+                let segment = Some((made, room, inside.wrapping_add(1), false));
+                return (with_segment(service, segment), Phase::Joined(number, 1));
+            }
+            (service, Phase::Read(number))
+        }
+        _ => outside(service, Phase::Read(number), deed),
+    }
+}
+
+/// What one makes of it that has locked it.
+fn locker(service: Service, number: u64, deed: Deed) -> (Service, Phase) {
+    match (deed, service.segment) {
+        (Deed::RemoveSegment, _) => (with_segment(service, None), Phase::Locked(number)),
+        (Deed::RemoveDescription, _) => (with_row(service, Row::Absent), Phase::Idle),
+        (Deed::Make(room), None) => {
+            if room == 0 {
+                return (service, Phase::Locked(number));
+            }
+            let segment = Some((number, room, 1, false));
+            (with_segment(service, segment), Phase::Made(number))
+        }
+        _ => (service, Phase::Locked(number)),
+    }
+}
+
+/// What one makes of it that has made its segment.
+fn maker(service: Service, number: u64, deed: Deed) -> (Service, Phase) {
+    match (deed, service.segment) {
+        (Deed::RemoveSegment, _) => (with_segment(service, None), Phase::Locked(number)),
+        (Deed::RemoveDescription, _) => (with_row(service, Row::Absent), Phase::Idle),
+        (Deed::Publish(settings), Some((_, room, _, _))) => {
+            let [_, _, _, max_nodes] = settings;
+            if max_nodes != room {
+                return (service, Phase::Made(number));
+            }
+            let row = Row::Published(number);
+            (with_row(service, row), Phase::Joined(number, 1))
+        }
+        _ => (service, Phase::Made(number)),
+    }
+}
+
+/// What one makes of it that is registered so many times.
+fn member(service: Service, number: u64, times: u64, deed: Deed) -> (Service, Phase) {
+    match (deed, service.segment) {
+        (Deed::Join, _) => (service, Phase::Joined(number, times.wrapping_add(1))),
+        (Deed::Leave, Some((made, room, inside, marked))) => {
+            if times > 1 {
+                return (service, Phase::Joined(number, times.wrapping_sub(1)));
+            }
+            if inside > 1 {
+                let segment = Some((made, room, inside.wrapping_sub(1), marked));
+                return (with_segment(service, segment), Phase::Idle);
+            }
+            let segment = Some((made, room, 0, true));
+            (with_segment(service, segment), Phase::Leaving(number))
+        }
+        _ => (service, Phase::Joined(number, times)),
+    }
+}
+
+/// What one makes of it that was the last to leave.
+fn last_one(service: Service, phase: Phase, number: u64, deed: Deed) -> (Service, Phase) {
+    match (deed, phase) {
+        (Deed::RemoveDescription, _) => (with_row(service, Row::Absent), Phase::Idle),
+        (Deed::RemoveSegment, Phase::Leaving(_)) => {
+            (with_segment(service, None), Phase::Cleared(number))
+        }
+        _ => (service, phase),
+    }
+}
+
+/// What a peer makes of the service, and where it is then.
+fn stepped(service: Service, phase: Phase, deed: Deed) -> (Service, Phase) {
+    match phase {
+        Phase::Idle => outside(service, phase, deed),
+        Phase::Read(number) => reader(service, number, deed),
+        Phase::Locked(number) => locker(service, number, deed),
+        Phase::Made(number) => maker(service, number, deed),
+        Phase::Joined(number, times) => member(service, number, times, deed),
+        Phase::Leaving(number) | Phase::Cleared(number) => last_one(service, phase, number, deed),
+    }
+}
+
+/// The service and its three peers.
+#[derive(Clone, Copy)]
+struct World {
+    service: Service,
+    first: Phase,
+    second: Phase,
+    third: Phase,
+}
+
+/// Takes a step of a peer.
+fn take(world: &mut World, peer: u64, deed: Deed) {
+    match peer {
+        0 => {
+            let (service, phase) = stepped(world.service, world.first, deed);
+            world.service = service;
+            world.first = phase;
+        }
+        1 => {
+            let (service, phase) = stepped(world.service, world.second, deed);
+            world.service = service;
+            world.second = phase;
+        }
+        _ => {
+            let (service, phase) = stepped(world.service, world.third, deed);
+            world.service = service;
+            world.third = phase;
+        }
+    }
+}
+
+/// Draws a number.
+fn draw(seed: &mut u64) -> u64 {
+    let next = seed
+        .wrapping_mul(6364136223846793005)
+        .wrapping_add(1442695040888963407);
+    *seed = next;
+    next >> 33
+}
+
+/// Draws a deed. Segments are for two, or for none.
+fn deed(seed: &mut u64) -> Deed {
+    match draw(seed) % 10 {
+        0 => Deed::Read,
+        1 => Deed::Lock,
+        2 => Deed::RemoveSegment,
+        3 => Deed::RemoveDescription,
+        4 => Deed::Make(0),
+        5 => Deed::Make(2),
+        6 => Deed::Publish(DEFAULTS),
+        7 => Deed::Publish(FOR_TWO),
+        8 => Deed::Join,
+        _ => Deed::Leave,
+    }
+}
+
+/// Draws a batch, whose steps the model takes.
+fn drawn(rt: &impl Abort, alloc: Global, world: &mut World, seed: &mut u64) -> Vec<Step> {
+    let mut steps = Vec::new(alloc);
+    for _ in 0..8 {
+        let peer = draw(seed) % 3;
+        let deed = deed(seed);
+        take(world, peer, deed);
+        push_steps(rt, alloc, &mut steps, peer, &[deed]);
+    }
+    steps
+}
+
+/// Runs a batch at a table. Whether the service is there then, and what is left.
+fn ran(rt: &impl Abort, alloc: Global, table: &mut Table, batch: Vec<Step>) -> (Existence, Left) {
+    let mut batches = Vec::new(alloc);
+    push(rt, &mut batches, batch);
+    table.schedule(batches);
+    let existence = table.exists(&SERVICE);
+    (existence, left(rt, table))
+}
+
+/// The same at the model.
+fn wanted(service: Service) -> (Existence, Left) {
+    let existence = match service.row {
+        Row::Absent => Existence::No,
+        Row::Locked(_) => Existence::BeingSetUp,
+        Row::Published(_) => Existence::Yes,
+    };
+    let left = (service.row, service.segment, (false, 0), service.counter, 0);
+    (existence, left)
+}
+
+/// A service of which there is nothing.
+fn empty() -> World {
+    World {
+        service: Service {
+            row: Row::Absent,
+            segment: None,
+            counter: 0,
+        },
+        first: Phase::Idle,
+        second: Phase::Idle,
+        third: Phase::Idle,
+    }
+}
+
+/// Whether a published service was seen with two peers in it, and one that its last peer has left.
+type Seen = (bool, bool);
+
+/// What was seen once this is seen too.
+fn seen_also(seen: Seen, service: Service) -> Seen {
+    match (service.row, service.segment) {
+        (Row::Published(_), Some((_, _, 2, _))) => (true, seen.1),
+        (Row::Published(_), Some((_, _, 0, true))) => (seen.0, true),
+        _ => seen,
+    }
+}
+
+/// Compares a table with the model after each of many batches. What was seen.
+fn compared(rt: &impl Abort, alloc: Global) -> Seen {
+    let (mut table, mut world) = (planned(rt, alloc, &[]), empty());
+    let mut seed = 7;
+    let mut seen = (false, false);
+    for row in 0..500u64 {
+        let batch = drawn(rt, alloc, &mut world, &mut seed);
+        let found = ran(rt, alloc, &mut table, batch);
+        assert_same(rt, (row, found), (row, wanted(world.service)));
+        seen = seen_also(seen, world.service);
+    }
+    drop_table(table);
+    seen
+}
+
+#[test]
+fn drawn_batches_do_what_the_model_does(rt: HostRuntime) {
+    assert_same(&rt, compared(&rt, rt.alloc()), (true, true));
+}
