@@ -1,2 +1,3 @@
 pub mod Utf8
+pub mod Powers
 pub mod Compatible

@@ -1,7 +1,8 @@
 //! Types of messages: what nodes have to know of them, and which types say it of themselves.
 
-ghost use Rattle.std.specs.Prelude.{◌≡◌, ◌↔◌, IsTrue};
-ghost use Rattle.iceoryx2_types.specs.Types.{Message, HasNameLength, IsCompatible};
+ghost use Rattle.std.specs.Prelude.{◌≡◌, ◌↔◌, ℕ, IsTrue};
+ghost use Rattle.std.specs.Int.{IsPowerOfTwo};
+ghost use Rattle.iceoryx2_types.specs.Types.{Message, HasNameLength, IsAlignment, IsCompatible, compatible};
 
 use std::error::Error;
 use std::fmt;
@@ -71,11 +72,14 @@ impl fmt::Display for TypeDetailError {
 impl Error for TypeDetailError {}
 
 /// What compatibility is as a relation: each message is compatible to itself, and to what one is
-/// compatible to that it is compatible to.
+/// compatible to that it is compatible to. The test for it decides it, and what is taken for an
+/// alignment is 2 to some power.
 #[tactic(auto, using(crate::proofs::Compatible::reflexive, crate::proofs::Compatible::transitive))]
 pub fn laws()
     ensures reflexive { (a : Message) → IsCompatible a a }
     ensures transitive { (a b c : Message) → IsCompatible a b → IsCompatible b c → IsCompatible a c }
+    ensures decided { (a b : Message) → IsTrue (compatible a b) ↔ IsCompatible a b }
+    ensures alignments { (n : ℕ) → IsAlignment n ↔ IsPowerOfTwo n }
 {}
 
 /// Whether a text has as many bytes as a type's name may have.
