@@ -1,6 +1,8 @@
-//! Tests of maps, tables, scripts and faults, with values from outside the program.
+//! Tests of maps, tables, batches of steps, scripts and faults, with values from outside the program.
 #![tactic(auto)]
 
+#[cfg(test)]
+mod batches;
 #[cfg(test)]
 mod maps;
 #[cfg(test)]
