@@ -95,7 +95,12 @@ fn batch(rt: &impl Abort, alloc: Global, rows: &[(u64, Does)]) -> Vec<Step> {
 }
 
 /// The batches before the first two accesses.
-fn two(rt: &impl Abort, alloc: Global, first: &[(u64, Does)], second: &[(u64, Does)]) -> Vec<Vec<Step>> {
+fn two(
+    rt: &impl Abort,
+    alloc: Global,
+    first: &[(u64, Does)],
+    second: &[(u64, Does)],
+) -> Vec<Vec<Step>> {
     match vec![in alloc; batch(rt, alloc, first), batch(rt, alloc, second)] {
         Ok(batches) => batches,
         Err(_) => panic!(rt; "no memory"),

@@ -66,7 +66,12 @@ pub enum Answer {
 }
 
 /// The service `a` of so many nodes with the default settings.
-pub fn description(rt: &impl Abort, alloc: Global, hash: ServiceHash, max_nodes: u64) -> StaticConfig {
+pub fn description(
+    rt: &impl Abort,
+    alloc: Global,
+    hash: ServiceHash,
+    max_nodes: u64,
+) -> StaticConfig {
     let defaults = config::Event::default();
     let settings = event::StaticConfig {
         max_notifiers: defaults.max_notifiers,
