@@ -24,6 +24,11 @@ use std::alloc::AllocError;
 /// How many segments of others a create removes before it gives up on making its own.
 pub const CLEARING_LIMIT: u64 = 5;
 
+/// The limit is five.
+pub fn clearing_limit_is_five()
+    ensures { CLEARING_LIMIT ≡ 5 }
+{}
+
 fn tag_refusal(error: TagError) -> CreateRefusal
     ensures { result ≡ of_tag error }
 {

@@ -19,6 +19,11 @@ use iceoryx2_values::description::{ServiceHash, StaticConfig};
 /// How often an open tries again after a round that failed.
 pub const RETRY_LIMIT: u64 = 5;
 
+/// The limit is five.
+pub fn retry_limit_is_five()
+    ensures { RETRY_LIMIT ≡ 5 }
+{}
+
 fn tag_refusal(error: TagError) -> OpenRefusal
     ensures { result ≡ of_tag_opening error }
 {

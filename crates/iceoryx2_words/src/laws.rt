@@ -19,15 +19,6 @@ ghost use Rattle.iceoryx2_rounds.specs.Segments.{IsSegmentWord};
 ghost use Rattle.iceoryx2_pattern.specs.Meaning.{Meaning};
 ghost use Rattle.iceoryx2_pattern.specs.Verdict.{verdict};
 
-use iceoryx2_rounds::create::CLEARING_LIMIT;
-use iceoryx2_rounds::open::RETRY_LIMIT;
-
-/// An open tries again at most five times, and a create removes at most five segments of others.
-pub fn limits()
-    ensures retries { RETRY_LIMIT ≡ 5 }
-    ensures clearings { CLEARING_LIMIT ≡ 5 }
-{}
-
 /// A create looks at most once and opens nothing. It makes a segment in at most six attempts, and
 /// removes one at most six times, the last time to give its own back.
 pub fn create_is_short<F: Copy, E: Copy, C: Copy>()
