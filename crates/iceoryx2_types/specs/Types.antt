@@ -1,5 +1,5 @@
 -- Types of messages: what is told of one, and when what one message is made of fits another.
-use Rattle.std.specs.Prelude.{ℕ, ◌≡◌, ◌≤◌, ◌*◌, List, length}
+use Rattle.std.specs.Prelude.{ℕ, ◌≡◌, ◌≤◌, ◌*◌, List, length, max, Option, Some, None}
 use Rattle.std.specs.Prelude.{Bool, true, false, ◌&&◌, IsTrue, bytes_eq, nat_eq, nat_le}
 use Rattle.std.specs.Int.{is_power_of_two}
 use Rattle.iceoryx2_attributes.specs.Texts.{IsText}
@@ -63,6 +63,23 @@ pub record IsMessage (m : Message) : Type 0 where
   pub header : IsDetail m.header
   pub user_header : IsDetail m.user_header
   pub payload : IsDetail m.payload
+
+-- ---- a message as it is sent: other types in place of its own, and a further alignment
+
+-- what is told of a type, or what is told in its place
+abbrev pub overridden : Detail → Option Detail → Detail
+overridden own None = own
+overridden own (Some other) = other
+
+-- aligned as far as it is, and at least as far as is asked
+abbrev pub aligned : Detail → Option ℕ → Detail
+aligned d None = d
+aligned d (Some asked) = detail_of d.variant d.name d.size (max d.alignment asked)
+
+-- the header as it is, and what is told in place of user header and payload; the payload is then aligned
+unfoldable pub prepared : Message → Option Detail → Option Detail → Option ℕ → Message
+prepared m user_header payload alignment = message_of m.header (overridden m.user_header user_header)
+    (aligned (overridden m.payload payload) alignment)
 
 -- ---- compatibility: one's own, and what is there
 

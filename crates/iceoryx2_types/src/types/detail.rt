@@ -2,7 +2,8 @@
 
 ghost use Rattle.std.specs.Prelude.{◌≡◌, ◌<◌, ◌^◌, ◌↔◌, Err, IfOk, IsTrue, string_bytes};
 ghost use Rattle.iceoryx2_types.specs.Types.{HasNameLength, IsAlignment, IsDetail, IsTypeName};
-ghost use Rattle.iceoryx2_types.specs.Types.{Fits, detail_of, fits, same_detail, with_variant};
+ghost use Rattle.iceoryx2_types.specs.Types.{Fits, aligned as aligned_as, detail_of, fits, same_detail};
+ghost use Rattle.iceoryx2_types.specs.Types.{with_variant};
 
 use super::{Alignment, TypeDetailError, TypeVariant, ZeroCopySend, has_name_length};
 use std::alloc::{AllocError, Global};
@@ -201,6 +202,21 @@ impl TypeDetail {
         ensures limits { IsDetail self.now }
     {
         self.alignment.value()
+    }
+
+    /// The same type, aligned at least as far as is asked.
+    pub(super) fn aligned(self, asked: Option<Alignment>) -> TypeDetail
+        ensures value { result ≡ aligned_as self asked }
+        ensures limits { IsDetail result }
+    {
+        let own = self.alignment();
+        let Some(asked) = asked else {
+            return self;
+        };
+        if asked.value() <= own {
+            return self;
+        }
+        TypeDetail::from_parts(self.variant, self.type_name, self.size, asked)
     }
 
     /// Whether they are the same in all fields.

@@ -1,10 +1,11 @@
 //! What a message is made of.
 
 ghost use Rattle.std.specs.Prelude.{◌≡◌, ◌↔◌, IfOk, IsTrue};
-ghost use Rattle.iceoryx2_types.specs.Types.{IsCompatible, IsDetail, compatible, message_of, with_variant};
+ghost use Rattle.iceoryx2_types.specs.Types.{IsCompatible, IsDetail, IsMessage};
+ghost use Rattle.iceoryx2_types.specs.Types.{compatible, message_of, prepared as prepared_from, with_variant};
 ghost use Rattle.iceoryx2_types.specs.declared.types.TypeVariant.TheVariants.{FixedSize};
 
-use super::{TypeDetail, TypeVariant, ZeroCopySend};
+use super::{Alignment, TypeDetail, TypeVariant, ZeroCopySend};
 use std::alloc::{AllocError, Global};
 use std::marker::Model;
 
@@ -65,6 +66,24 @@ impl MessageTypeDetails {
         let user_header = TypeDetail::from_type::<U>(alloc, TypeVariant::FixedSize)?;
         let payload = TypeDetail::from_type::<P>(alloc, variant)?;
         Ok(MessageTypeDetails::new(header, user_header, payload))
+    }
+
+    /// These types as a call asks for them: where a user header or a payload is given, it takes
+    /// the place of its own, and the payload is then aligned at least as far as is asked. So a
+    /// payload that is given and an alignment that is asked come to the same in either order.
+    #[tactic(auto, unfolding(crate::specs::Types::prepared))]
+    pub fn prepared(
+        self,
+        user_header: Option<TypeDetail>,
+        payload: Option<TypeDetail>,
+        alignment: Option<Alignment>,
+    ) -> MessageTypeDetails
+        ensures value { result ≡ prepared_from self user_header payload alignment }
+        ensures limits { IsMessage result }
+    {
+        let user_header = user_header.unwrap_or(self.user_header);
+        let payload = payload.unwrap_or(self.payload).aligned(alignment);
+        MessageTypeDetails::new(self.header, user_header, payload)
     }
 
     /// The header's type.
