@@ -1,3 +1,4 @@
 pub mod LookSteps
 pub mod OpenSteps
 pub mod OwnAttributes
+pub mod Prepared

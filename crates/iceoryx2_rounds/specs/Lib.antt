@@ -5,3 +5,4 @@ pub mod Segments
 pub mod Creates
 pub mod Opens
 pub mod Answers
+pub mod Prepared
