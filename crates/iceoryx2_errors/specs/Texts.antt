@@ -1,9 +1,17 @@
 -- The names of the errors' variants.
 use Rattle.std.specs.Prelude.{ℕ, List, codes}
-use Rattle.iceoryx2_errors.specs.declared.error.EventOpenError.{EventOpenError}
-use Rattle.iceoryx2_errors.specs.declared.error.EventOpenError.TheVariants as opening
-use Rattle.iceoryx2_errors.specs.declared.error.EventCreateError.{EventCreateError}
-use Rattle.iceoryx2_errors.specs.declared.error.EventCreateError.TheVariants as creating
+use Rattle.iceoryx2_errors.specs.declared.error.events.EventOpenError.{EventOpenError}
+use Rattle.iceoryx2_errors.specs.declared.error.events.EventOpenError.TheVariants as opening
+use Rattle.iceoryx2_errors.specs.declared.error.events.EventCreateError.{EventCreateError}
+use Rattle.iceoryx2_errors.specs.declared.error.events.EventCreateError.TheVariants as creating
+use Rattle.iceoryx2_errors.specs.declared.error.publish_subscribe.PublishSubscribeOpenError.{PublishSubscribeOpenError}
+use Rattle.iceoryx2_errors.specs.declared.error.publish_subscribe.PublishSubscribeOpenError.TheVariants as subscribe_opening
+use Rattle.iceoryx2_errors.specs.declared.error.publish_subscribe.PublishSubscribeCreateError.{PublishSubscribeCreateError}
+use Rattle.iceoryx2_errors.specs.declared.error.publish_subscribe.PublishSubscribeCreateError.TheVariants as subscribe_creating
+use Rattle.iceoryx2_errors.specs.declared.error.request_response.RequestResponseOpenError.{RequestResponseOpenError}
+use Rattle.iceoryx2_errors.specs.declared.error.request_response.RequestResponseOpenError.TheVariants as request_opening
+use Rattle.iceoryx2_errors.specs.declared.error.request_response.RequestResponseCreateError.{RequestResponseCreateError}
+use Rattle.iceoryx2_errors.specs.declared.error.request_response.RequestResponseCreateError.TheVariants as request_creating
 use Rattle.iceoryx2_errors.specs.declared.error.CloseError.{CloseError}
 use Rattle.iceoryx2_errors.specs.declared.error.CloseError.TheVariants as closing
 
@@ -37,6 +45,88 @@ event_create_error_name creating.AlreadyExists = codes "AlreadyExists"
 event_create_error_name creating.HangsInCreation = codes "HangsInCreation"
 event_create_error_name creating.InsufficientPermissions = codes "InsufficientPermissions"
 event_create_error_name creating.OutOfMemory = codes "OutOfMemory"
+
+abbrev pub publish_subscribe_open_error_name : PublishSubscribeOpenError → List ℕ
+publish_subscribe_open_error_name subscribe_opening.DoesNotExist = codes "DoesNotExist"
+publish_subscribe_open_error_name subscribe_opening.InternalFailure = codes "InternalFailure"
+publish_subscribe_open_error_name subscribe_opening.IncompatibleTypes = codes "IncompatibleTypes"
+publish_subscribe_open_error_name subscribe_opening.IncompatibleMessagingPattern = codes "IncompatibleMessagingPattern"
+publish_subscribe_open_error_name subscribe_opening.IncompatibleAttributes = codes "IncompatibleAttributes"
+publish_subscribe_open_error_name subscribe_opening.DoesNotSupportRequestedMinBufferSize =
+    codes "DoesNotSupportRequestedMinBufferSize"
+publish_subscribe_open_error_name subscribe_opening.DoesNotSupportRequestedMinHistorySize =
+    codes "DoesNotSupportRequestedMinHistorySize"
+publish_subscribe_open_error_name subscribe_opening.DoesNotSupportRequestedMinSubscriberBorrowedSamples =
+    codes "DoesNotSupportRequestedMinSubscriberBorrowedSamples"
+publish_subscribe_open_error_name subscribe_opening.DoesNotSupportRequestedAmountOfPublishers =
+    codes "DoesNotSupportRequestedAmountOfPublishers"
+publish_subscribe_open_error_name subscribe_opening.DoesNotSupportRequestedAmountOfSubscribers =
+    codes "DoesNotSupportRequestedAmountOfSubscribers"
+publish_subscribe_open_error_name subscribe_opening.DoesNotSupportRequestedAmountOfNodes =
+    codes "DoesNotSupportRequestedAmountOfNodes"
+publish_subscribe_open_error_name subscribe_opening.IncompatibleOverflowBehavior = codes "IncompatibleOverflowBehavior"
+publish_subscribe_open_error_name subscribe_opening.InsufficientPermissions = codes "InsufficientPermissions"
+publish_subscribe_open_error_name subscribe_opening.ServiceInCorruptedState = codes "ServiceInCorruptedState"
+publish_subscribe_open_error_name subscribe_opening.HangsInCreation = codes "HangsInCreation"
+publish_subscribe_open_error_name subscribe_opening.ExceedsMaxNumberOfNodes = codes "ExceedsMaxNumberOfNodes"
+publish_subscribe_open_error_name subscribe_opening.IsMarkedForDestruction = codes "IsMarkedForDestruction"
+publish_subscribe_open_error_name subscribe_opening.OutOfMemory = codes "OutOfMemory"
+
+abbrev pub publish_subscribe_create_error_name : PublishSubscribeCreateError → List ℕ
+publish_subscribe_create_error_name subscribe_creating.ServiceInCorruptedState = codes "ServiceInCorruptedState"
+publish_subscribe_create_error_name subscribe_creating.SubscriberBufferMustBeLargerThanHistorySize =
+    codes "SubscriberBufferMustBeLargerThanHistorySize"
+publish_subscribe_create_error_name subscribe_creating.AlreadyExists = codes "AlreadyExists"
+publish_subscribe_create_error_name subscribe_creating.InsufficientPermissions = codes "InsufficientPermissions"
+publish_subscribe_create_error_name subscribe_creating.InternalFailure = codes "InternalFailure"
+publish_subscribe_create_error_name subscribe_creating.IsBeingCreatedByAnotherInstance =
+    codes "IsBeingCreatedByAnotherInstance"
+publish_subscribe_create_error_name subscribe_creating.HangsInCreation = codes "HangsInCreation"
+publish_subscribe_create_error_name subscribe_creating.OutOfMemory = codes "OutOfMemory"
+
+abbrev pub request_response_open_error_name : RequestResponseOpenError → List ℕ
+request_response_open_error_name request_opening.DoesNotExist = codes "DoesNotExist"
+request_response_open_error_name request_opening.DoesNotSupportRequestedAmountOfClientRequestLoans =
+    codes "DoesNotSupportRequestedAmountOfClientRequestLoans"
+request_response_open_error_name request_opening.DoesNotSupportRequestedAmountOfActiveRequestsPerClient =
+    codes "DoesNotSupportRequestedAmountOfActiveRequestsPerClient"
+request_response_open_error_name request_opening.DoesNotSupportRequestedResponseBufferSize =
+    codes "DoesNotSupportRequestedResponseBufferSize"
+request_response_open_error_name request_opening.DoesNotSupportRequestedAmountOfServers =
+    codes "DoesNotSupportRequestedAmountOfServers"
+request_response_open_error_name request_opening.DoesNotSupportRequestedAmountOfClients =
+    codes "DoesNotSupportRequestedAmountOfClients"
+request_response_open_error_name request_opening.DoesNotSupportRequestedAmountOfNodes =
+    codes "DoesNotSupportRequestedAmountOfNodes"
+request_response_open_error_name request_opening.DoesNotSupportRequestedAmountOfBorrowedResponsesPerPendingResponse =
+    codes "DoesNotSupportRequestedAmountOfBorrowedResponsesPerPendingResponse"
+request_response_open_error_name request_opening.ExceedsMaxNumberOfNodes = codes "ExceedsMaxNumberOfNodes"
+request_response_open_error_name request_opening.HangsInCreation = codes "HangsInCreation"
+request_response_open_error_name request_opening.IncompatibleRequestType = codes "IncompatibleRequestType"
+request_response_open_error_name request_opening.IncompatibleResponseType = codes "IncompatibleResponseType"
+request_response_open_error_name request_opening.IncompatibleAttributes = codes "IncompatibleAttributes"
+request_response_open_error_name request_opening.IncompatibleMessagingPattern = codes "IncompatibleMessagingPattern"
+request_response_open_error_name request_opening.IncompatibleOverflowBehaviorForRequests =
+    codes "IncompatibleOverflowBehaviorForRequests"
+request_response_open_error_name request_opening.IncompatibleOverflowBehaviorForResponses =
+    codes "IncompatibleOverflowBehaviorForResponses"
+request_response_open_error_name request_opening.IncompatibleBehaviorForFireAndForgetRequests =
+    codes "IncompatibleBehaviorForFireAndForgetRequests"
+request_response_open_error_name request_opening.InsufficientPermissions = codes "InsufficientPermissions"
+request_response_open_error_name request_opening.InternalFailure = codes "InternalFailure"
+request_response_open_error_name request_opening.IsMarkedForDestruction = codes "IsMarkedForDestruction"
+request_response_open_error_name request_opening.ServiceInCorruptedState = codes "ServiceInCorruptedState"
+request_response_open_error_name request_opening.OutOfMemory = codes "OutOfMemory"
+
+abbrev pub request_response_create_error_name : RequestResponseCreateError → List ℕ
+request_response_create_error_name request_creating.AlreadyExists = codes "AlreadyExists"
+request_response_create_error_name request_creating.InternalFailure = codes "InternalFailure"
+request_response_create_error_name request_creating.IsBeingCreatedByAnotherInstance =
+    codes "IsBeingCreatedByAnotherInstance"
+request_response_create_error_name request_creating.InsufficientPermissions = codes "InsufficientPermissions"
+request_response_create_error_name request_creating.HangsInCreation = codes "HangsInCreation"
+request_response_create_error_name request_creating.ServiceInCorruptedState = codes "ServiceInCorruptedState"
+request_response_create_error_name request_creating.OutOfMemory = codes "OutOfMemory"
 
 -- of one that hands something back too
 abbrev pub close_error_name : {F : Type 0} → CloseError F → List ℕ

@@ -1,11 +1,18 @@
 //! Why calls are refused, and what their texts are.
 
 ghost use Rattle.std.specs.Prelude.{◌≡◌, ◌++◌, codes, Some};
-ghost use Rattle.iceoryx2_errors.specs.Texts.{close_error_name, event_create_error_name, event_open_error_name};
-ghost use Rattle.iceoryx2_errors.specs.States.{create_error_of_state, open_error_of_state};
+ghost use Rattle.iceoryx2_errors.specs.Texts.{close_error_name};
 
 use std::error::Error;
 use std::fmt;
+
+mod events;
+pub mod publish_subscribe;
+pub mod request_response;
+
+pub use events::{EventCreateError, EventOpenError};
+pub use publish_subscribe::{PublishSubscribeCreateError, PublishSubscribeOpenError};
+pub use request_response::{RequestResponseCreateError, RequestResponseOpenError};
 
 /// What a look finds wrong, whatever the pattern.
 #[derive(Debug, Clone, Copy, PartialEq, Eq, Hash)]
@@ -20,169 +27,6 @@ pub enum ServiceState {
     Corrupted,
     /// There was no memory for the description.
     OutOfMemory,
-}
-
-/// Why a service of events isn't opened.
-#[derive(Debug, Clone, Copy, PartialEq, Eq, Hash)]
-pub enum EventOpenError {
-    /// There is no such service.
-    DoesNotExist,
-    /// The service may not be read.
-    InsufficientPermissions,
-    /// The storage is at fault, or the service's segment is missing, or the opening failed six
-    /// times.
-    ServiceInCorruptedState,
-    /// The service is of another pattern.
-    IncompatibleMessagingPattern,
-    /// The service lacks a required attribute.
-    IncompatibleAttributes,
-    /// The node can't be tagged, or there is no ticket left.
-    InternalFailure,
-    /// The service has another deadline, or none where one is required.
-    IncompatibleDeadline,
-    /// Another event is sent when a notifier is created.
-    IncompatibleNotifierCreatedEvent,
-    /// Another event is sent when a notifier goes.
-    IncompatibleNotifierDroppedEvent,
-    /// Another event is sent for a notifier whose process died.
-    IncompatibleNotifierDeadEvent,
-    /// Somebody is creating the service.
-    HangsInCreation,
-    /// The service is for fewer notifiers.
-    DoesNotSupportRequestedAmountOfNotifiers,
-    /// The service is for fewer listeners.
-    DoesNotSupportRequestedAmountOfListeners,
-    /// The service's greatest event number is smaller.
-    DoesNotSupportRequestedMaxEventId,
-    /// The service is for fewer nodes.
-    DoesNotSupportRequestedAmountOfNodes,
-    /// As many nodes as the service is for have opened it.
-    ExceedsMaxNumberOfNodes,
-    /// The last node has left, and the service is being removed.
-    IsMarkedForDestruction,
-    /// There was no memory.
-    OutOfMemory,
-}
-
-impl EventOpenError {
-    /// The variant's name.
-    pub fn name(&self) -> &'static str
-        ensures { result.now ≡ event_open_error_name self.now }
-    {
-        match self {
-            EventOpenError::DoesNotExist => "DoesNotExist",
-            EventOpenError::InsufficientPermissions => "InsufficientPermissions",
-            EventOpenError::ServiceInCorruptedState => "ServiceInCorruptedState",
-            EventOpenError::IncompatibleMessagingPattern => "IncompatibleMessagingPattern",
-            EventOpenError::IncompatibleAttributes => "IncompatibleAttributes",
-            EventOpenError::InternalFailure => "InternalFailure",
-            EventOpenError::IncompatibleDeadline => "IncompatibleDeadline",
-            EventOpenError::IncompatibleNotifierCreatedEvent => "IncompatibleNotifierCreatedEvent",
-            EventOpenError::IncompatibleNotifierDroppedEvent => "IncompatibleNotifierDroppedEvent",
-            EventOpenError::IncompatibleNotifierDeadEvent => "IncompatibleNotifierDeadEvent",
-            EventOpenError::HangsInCreation => "HangsInCreation",
-            EventOpenError::DoesNotSupportRequestedAmountOfNotifiers =>
-                "DoesNotSupportRequestedAmountOfNotifiers",
-            EventOpenError::DoesNotSupportRequestedAmountOfListeners =>
-                "DoesNotSupportRequestedAmountOfListeners",
-            EventOpenError::DoesNotSupportRequestedMaxEventId =>
-                "DoesNotSupportRequestedMaxEventId",
-            EventOpenError::DoesNotSupportRequestedAmountOfNodes =>
-                "DoesNotSupportRequestedAmountOfNodes",
-            EventOpenError::ExceedsMaxNumberOfNodes => "ExceedsMaxNumberOfNodes",
-            EventOpenError::IsMarkedForDestruction => "IsMarkedForDestruction",
-            EventOpenError::OutOfMemory => "OutOfMemory",
-        }
-    }
-}
-
-impl fmt::Display for EventOpenError {
-    ghost output = { λ error. Some (codes "EventOpenError::" ++ event_open_error_name error) };
-
-    fn fmt<W: fmt::Write>(&self, f: &mut fmt::Formatter<W>) -> fmt::Result {
-        let name = self.name();
-        write!(f, "EventOpenError::{name}")
-    }
-}
-
-impl Error for EventOpenError {}
-
-impl From<ServiceState> for EventOpenError {
-    ghost from_gives = { λ state outcome. outcome ≡ open_error_of_state state };
-
-    fn from(state: ServiceState) -> EventOpenError {
-        match state {
-            ServiceState::IncompatibleMessagingPattern => {
-                EventOpenError::IncompatibleMessagingPattern
-            }
-            ServiceState::InsufficientPermissions => EventOpenError::InsufficientPermissions,
-            ServiceState::HangsInCreation => EventOpenError::HangsInCreation,
-            ServiceState::Corrupted => EventOpenError::ServiceInCorruptedState,
-            ServiceState::OutOfMemory => EventOpenError::OutOfMemory,
-        }
-    }
-}
-
-/// Why a service of events isn't created.
-#[derive(Debug, Clone, Copy, PartialEq, Eq, Hash)]
-pub enum EventCreateError {
-    /// The storage is at fault, or the node is registered at a service that isn't there, or an
-    /// earlier segment can't be cleared away, or the description can't be published.
-    ServiceInCorruptedState,
-    /// The storage is at fault, or the time can't be read.
-    InternalFailure,
-    /// Somebody else is creating the service.
-    IsBeingCreatedByAnotherInstance,
-    /// There is such a service, maybe of another pattern.
-    AlreadyExists,
-    /// Somebody had begun to create the service before the call looked.
-    HangsInCreation,
-    /// The service may not be read, or not be made.
-    InsufficientPermissions,
-    /// There was no memory.
-    OutOfMemory,
-}
-
-impl EventCreateError {
-    /// The variant's name.
-    pub fn name(&self) -> &'static str
-        ensures { result.now ≡ event_create_error_name self.now }
-    {
-        match self {
-            EventCreateError::ServiceInCorruptedState => "ServiceInCorruptedState",
-            EventCreateError::InternalFailure => "InternalFailure",
-            EventCreateError::IsBeingCreatedByAnotherInstance => "IsBeingCreatedByAnotherInstance",
-            EventCreateError::AlreadyExists => "AlreadyExists",
-            EventCreateError::HangsInCreation => "HangsInCreation",
-            EventCreateError::InsufficientPermissions => "InsufficientPermissions",
-            EventCreateError::OutOfMemory => "OutOfMemory",
-        }
-    }
-}
-
-impl fmt::Display for EventCreateError {
-    ghost output = { λ error. Some (codes "EventCreateError::" ++ event_create_error_name error) };
-
-    fn fmt<W: fmt::Write>(&self, f: &mut fmt::Formatter<W>) -> fmt::Result {
-        let name = self.name();
-        write!(f, "EventCreateError::{name}")
-    }
-}
-
-impl Error for EventCreateError {}
-
-impl From<ServiceState> for EventCreateError {
-    ghost from_gives = { λ state outcome. outcome ≡ create_error_of_state state };
-
-    fn from(state: ServiceState) -> EventCreateError {
-        match state {
-            ServiceState::IncompatibleMessagingPattern => EventCreateError::AlreadyExists,
-            ServiceState::InsufficientPermissions => EventCreateError::InsufficientPermissions,
-            ServiceState::HangsInCreation => EventCreateError::HangsInCreation,
-            ServiceState::Corrupted => EventCreateError::ServiceInCorruptedState,
-            ServiceState::OutOfMemory => EventCreateError::OutOfMemory,
-        }
-    }
 }
 
 /// Why something isn't closed, or not wholly.

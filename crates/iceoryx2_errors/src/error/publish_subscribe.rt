@@ -1,0 +1,200 @@
+//! Why calls of builders of publish-subscribe are refused.
+
+ghost use Rattle.std.specs.Prelude.{◌≡◌, ◌++◌, codes, Some};
+ghost use Rattle.iceoryx2_errors.specs.Texts.{publish_subscribe_create_error_name, publish_subscribe_open_error_name};
+ghost use Rattle.iceoryx2_errors.specs.States.{publish_subscribe_create_error_of_state, publish_subscribe_open_error_of_state};
+
+use super::ServiceState;
+use std::error::Error;
+use std::fmt;
+
+/// What a look of a builder of publish-subscribe finds wrong.
+#[derive(Debug, Clone, Copy, PartialEq, Eq, Hash)]
+pub enum ServiceAvailabilityState {
+    /// What may be wrong whatever the pattern.
+    ServiceState(ServiceState),
+    /// The builder's message isn't compatible to the service's.
+    IncompatibleTypes,
+}
+
+/// Why a service of publish-subscribe isn't opened.
+#[derive(Debug, Clone, Copy, PartialEq, Eq, Hash)]
+pub enum PublishSubscribeOpenError {
+    /// There is no such service.
+    DoesNotExist,
+    /// The node can't be tagged, or there is no ticket left.
+    InternalFailure,
+    /// The builder's message isn't compatible to the service's.
+    IncompatibleTypes,
+    /// The service is of another pattern.
+    IncompatibleMessagingPattern,
+    /// The service lacks a required attribute.
+    IncompatibleAttributes,
+    /// The service's subscribers buffer fewer samples.
+    DoesNotSupportRequestedMinBufferSize,
+    /// The service's history is shorter.
+    DoesNotSupportRequestedMinHistorySize,
+    /// The service's subscribers may borrow fewer samples.
+    DoesNotSupportRequestedMinSubscriberBorrowedSamples,
+    /// The service is for fewer publishers.
+    DoesNotSupportRequestedAmountOfPublishers,
+    /// The service is for fewer subscribers.
+    DoesNotSupportRequestedAmountOfSubscribers,
+    /// The service is for fewer nodes.
+    DoesNotSupportRequestedAmountOfNodes,
+    /// The service overflows safely and is required not to, or the other way round.
+    IncompatibleOverflowBehavior,
+    /// The service may not be read.
+    InsufficientPermissions,
+    /// The storage is at fault, or the service's segment is missing, or the opening failed six
+    /// times.
+    ServiceInCorruptedState,
+    /// Somebody is creating the service.
+    HangsInCreation,
+    /// As many nodes as the service is for have opened it.
+    ExceedsMaxNumberOfNodes,
+    /// The last node has left, and the service is being removed.
+    IsMarkedForDestruction,
+    /// There was no memory.
+    OutOfMemory,
+}
+
+impl PublishSubscribeOpenError {
+    /// The variant's name.
+    pub fn name(&self) -> &'static str
+        ensures { result.now ≡ publish_subscribe_open_error_name self.now }
+    {
+        match self {
+            PublishSubscribeOpenError::DoesNotExist => "DoesNotExist",
+            PublishSubscribeOpenError::InternalFailure => "InternalFailure",
+            PublishSubscribeOpenError::IncompatibleTypes => "IncompatibleTypes",
+            PublishSubscribeOpenError::IncompatibleMessagingPattern =>
+                "IncompatibleMessagingPattern",
+            PublishSubscribeOpenError::IncompatibleAttributes => "IncompatibleAttributes",
+            PublishSubscribeOpenError::DoesNotSupportRequestedMinBufferSize =>
+                "DoesNotSupportRequestedMinBufferSize",
+            PublishSubscribeOpenError::DoesNotSupportRequestedMinHistorySize =>
+                "DoesNotSupportRequestedMinHistorySize",
+            PublishSubscribeOpenError::DoesNotSupportRequestedMinSubscriberBorrowedSamples =>
+                "DoesNotSupportRequestedMinSubscriberBorrowedSamples",
+            PublishSubscribeOpenError::DoesNotSupportRequestedAmountOfPublishers =>
+                "DoesNotSupportRequestedAmountOfPublishers",
+            PublishSubscribeOpenError::DoesNotSupportRequestedAmountOfSubscribers =>
+                "DoesNotSupportRequestedAmountOfSubscribers",
+            PublishSubscribeOpenError::DoesNotSupportRequestedAmountOfNodes =>
+                "DoesNotSupportRequestedAmountOfNodes",
+            PublishSubscribeOpenError::IncompatibleOverflowBehavior =>
+                "IncompatibleOverflowBehavior",
+            PublishSubscribeOpenError::InsufficientPermissions => "InsufficientPermissions",
+            PublishSubscribeOpenError::ServiceInCorruptedState => "ServiceInCorruptedState",
+            PublishSubscribeOpenError::HangsInCreation => "HangsInCreation",
+            PublishSubscribeOpenError::ExceedsMaxNumberOfNodes => "ExceedsMaxNumberOfNodes",
+            PublishSubscribeOpenError::IsMarkedForDestruction => "IsMarkedForDestruction",
+            PublishSubscribeOpenError::OutOfMemory => "OutOfMemory",
+        }
+    }
+}
+
+impl fmt::Display for PublishSubscribeOpenError {
+    ghost output = { λ error. Some (codes "PublishSubscribeOpenError::" ++ publish_subscribe_open_error_name error) };
+
+    fn fmt<W: fmt::Write>(&self, f: &mut fmt::Formatter<W>) -> fmt::Result {
+        let name = self.name();
+        write!(f, "PublishSubscribeOpenError::{name}")
+    }
+}
+
+impl Error for PublishSubscribeOpenError {}
+
+impl From<ServiceAvailabilityState> for PublishSubscribeOpenError {
+    ghost from_gives = { λ state outcome. outcome ≡ publish_subscribe_open_error_of_state state };
+
+    fn from(state: ServiceAvailabilityState) -> PublishSubscribeOpenError {
+        match state {
+            ServiceAvailabilityState::ServiceState(state) => match state {
+                ServiceState::IncompatibleMessagingPattern =>
+                    PublishSubscribeOpenError::IncompatibleMessagingPattern,
+                ServiceState::InsufficientPermissions =>
+                    PublishSubscribeOpenError::InsufficientPermissions,
+                ServiceState::HangsInCreation => PublishSubscribeOpenError::HangsInCreation,
+                ServiceState::Corrupted => PublishSubscribeOpenError::ServiceInCorruptedState,
+                ServiceState::OutOfMemory => PublishSubscribeOpenError::OutOfMemory,
+            },
+            ServiceAvailabilityState::IncompatibleTypes =>
+                PublishSubscribeOpenError::IncompatibleTypes,
+        }
+    }
+}
+
+/// Why a service of publish-subscribe isn't created.
+#[derive(Debug, Clone, Copy, PartialEq, Eq, Hash)]
+pub enum PublishSubscribeCreateError {
+    /// The storage is at fault, or the node is registered at a service that isn't there, or an
+    /// earlier segment can't be cleared away, or the description can't be published.
+    ServiceInCorruptedState,
+    /// Without safe overflow subscribers would buffer fewer samples than the history has.
+    SubscriberBufferMustBeLargerThanHistorySize,
+    /// There is such a service, maybe of another pattern or of types that are not compatible.
+    AlreadyExists,
+    /// The service may not be read, or not be made.
+    InsufficientPermissions,
+    /// The storage is at fault.
+    InternalFailure,
+    /// Somebody else is creating the service.
+    IsBeingCreatedByAnotherInstance,
+    /// Somebody had begun to create the service before the call looked.
+    HangsInCreation,
+    /// There was no memory.
+    OutOfMemory,
+}
+
+impl PublishSubscribeCreateError {
+    /// The variant's name.
+    pub fn name(&self) -> &'static str
+        ensures { result.now ≡ publish_subscribe_create_error_name self.now }
+    {
+        match self {
+            PublishSubscribeCreateError::ServiceInCorruptedState => "ServiceInCorruptedState",
+            PublishSubscribeCreateError::SubscriberBufferMustBeLargerThanHistorySize =>
+                "SubscriberBufferMustBeLargerThanHistorySize",
+            PublishSubscribeCreateError::AlreadyExists => "AlreadyExists",
+            PublishSubscribeCreateError::InsufficientPermissions => "InsufficientPermissions",
+            PublishSubscribeCreateError::InternalFailure => "InternalFailure",
+            PublishSubscribeCreateError::IsBeingCreatedByAnotherInstance =>
+                "IsBeingCreatedByAnotherInstance",
+            PublishSubscribeCreateError::HangsInCreation => "HangsInCreation",
+            PublishSubscribeCreateError::OutOfMemory => "OutOfMemory",
+        }
+    }
+}
+
+impl fmt::Display for PublishSubscribeCreateError {
+    ghost output = { λ error. Some (codes "PublishSubscribeCreateError::" ++ publish_subscribe_create_error_name error) };
+
+    fn fmt<W: fmt::Write>(&self, f: &mut fmt::Formatter<W>) -> fmt::Result {
+        let name = self.name();
+        write!(f, "PublishSubscribeCreateError::{name}")
+    }
+}
+
+impl Error for PublishSubscribeCreateError {}
+
+impl From<ServiceAvailabilityState> for PublishSubscribeCreateError {
+    ghost from_gives = { λ state outcome. outcome ≡ publish_subscribe_create_error_of_state state };
+
+    fn from(state: ServiceAvailabilityState) -> PublishSubscribeCreateError {
+        match state {
+            ServiceAvailabilityState::ServiceState(state) => match state {
+                ServiceState::IncompatibleMessagingPattern =>
+                    PublishSubscribeCreateError::AlreadyExists,
+                ServiceState::InsufficientPermissions =>
+                    PublishSubscribeCreateError::InsufficientPermissions,
+                ServiceState::HangsInCreation => PublishSubscribeCreateError::HangsInCreation,
+                ServiceState::Corrupted => PublishSubscribeCreateError::ServiceInCorruptedState,
+                ServiceState::OutOfMemory => PublishSubscribeCreateError::OutOfMemory,
+            },
+            ServiceAvailabilityState::IncompatibleTypes =>
+                PublishSubscribeCreateError::AlreadyExists,
+        }
+    }
+}

@@ -1,0 +1,219 @@
+//! Why calls of builders of request-response are refused.
+
+ghost use Rattle.std.specs.Prelude.{◌≡◌, ◌++◌, codes, Some};
+ghost use Rattle.iceoryx2_errors.specs.Texts.{request_response_create_error_name, request_response_open_error_name};
+ghost use Rattle.iceoryx2_errors.specs.States.{request_response_create_error_of_state, request_response_open_error_of_state};
+
+use super::ServiceState;
+use std::error::Error;
+use std::fmt;
+
+/// What a look of a builder of request-response finds wrong.
+#[derive(Debug, Clone, Copy, PartialEq, Eq, Hash)]
+pub enum ServiceAvailabilityState {
+    /// What may be wrong whatever the pattern.
+    ServiceState(ServiceState),
+    /// The builder's request isn't compatible to the service's.
+    IncompatibleRequestType,
+    /// The builder's response isn't compatible to the service's, and its request is.
+    IncompatibleResponseType,
+}
+
+/// Why a service of request-response isn't opened.
+#[derive(Debug, Clone, Copy, PartialEq, Eq, Hash)]
+pub enum RequestResponseOpenError {
+    /// There is no such service.
+    DoesNotExist,
+    /// The service's clients may loan fewer requests.
+    DoesNotSupportRequestedAmountOfClientRequestLoans,
+    /// The service's clients may have fewer active requests.
+    DoesNotSupportRequestedAmountOfActiveRequestsPerClient,
+    /// The service buffers fewer responses.
+    DoesNotSupportRequestedResponseBufferSize,
+    /// The service is for fewer servers.
+    DoesNotSupportRequestedAmountOfServers,
+    /// The service is for fewer clients.
+    DoesNotSupportRequestedAmountOfClients,
+    /// The service is for fewer nodes.
+    DoesNotSupportRequestedAmountOfNodes,
+    /// The service's clients may borrow fewer responses of one request.
+    DoesNotSupportRequestedAmountOfBorrowedResponsesPerPendingResponse,
+    /// As many nodes as the service is for have opened it.
+    ExceedsMaxNumberOfNodes,
+    /// Somebody is creating the service.
+    HangsInCreation,
+    /// The builder's request isn't compatible to the service's.
+    IncompatibleRequestType,
+    /// The builder's response isn't compatible to the service's.
+    IncompatibleResponseType,
+    /// The service lacks a required attribute.
+    IncompatibleAttributes,
+    /// The service is of another pattern.
+    IncompatibleMessagingPattern,
+    /// The service overflows safely with requests and is required not to, or the other way round.
+    IncompatibleOverflowBehaviorForRequests,
+    /// The service overflows safely with responses and is required not to, or the other way
+    /// round.
+    IncompatibleOverflowBehaviorForResponses,
+    /// The service takes requests whose responses nobody awaits and is required not to, or the
+    /// other way round.
+    IncompatibleBehaviorForFireAndForgetRequests,
+    /// The service may not be read.
+    InsufficientPermissions,
+    /// The node can't be tagged, or there is no ticket left.
+    InternalFailure,
+    /// The last node has left, and the service is being removed.
+    IsMarkedForDestruction,
+    /// The storage is at fault, or the service's segment is missing, or the opening failed six
+    /// times.
+    ServiceInCorruptedState,
+    /// There was no memory.
+    OutOfMemory,
+}
+
+impl RequestResponseOpenError {
+    /// The variant's name.
+    pub fn name(&self) -> &'static str
+        ensures { result.now ≡ request_response_open_error_name self.now }
+    {
+        match self {
+            RequestResponseOpenError::DoesNotExist => "DoesNotExist",
+            RequestResponseOpenError::DoesNotSupportRequestedAmountOfClientRequestLoans =>
+                "DoesNotSupportRequestedAmountOfClientRequestLoans",
+            RequestResponseOpenError::DoesNotSupportRequestedAmountOfActiveRequestsPerClient =>
+                "DoesNotSupportRequestedAmountOfActiveRequestsPerClient",
+            RequestResponseOpenError::DoesNotSupportRequestedResponseBufferSize =>
+                "DoesNotSupportRequestedResponseBufferSize",
+            RequestResponseOpenError::DoesNotSupportRequestedAmountOfServers =>
+                "DoesNotSupportRequestedAmountOfServers",
+            RequestResponseOpenError::DoesNotSupportRequestedAmountOfClients =>
+                "DoesNotSupportRequestedAmountOfClients",
+            RequestResponseOpenError::DoesNotSupportRequestedAmountOfNodes =>
+                "DoesNotSupportRequestedAmountOfNodes",
+            RequestResponseOpenError::DoesNotSupportRequestedAmountOfBorrowedResponsesPerPendingResponse =>
+                "DoesNotSupportRequestedAmountOfBorrowedResponsesPerPendingResponse",
+            RequestResponseOpenError::ExceedsMaxNumberOfNodes => "ExceedsMaxNumberOfNodes",
+            RequestResponseOpenError::HangsInCreation => "HangsInCreation",
+            RequestResponseOpenError::IncompatibleRequestType => "IncompatibleRequestType",
+            RequestResponseOpenError::IncompatibleResponseType => "IncompatibleResponseType",
+            RequestResponseOpenError::IncompatibleAttributes => "IncompatibleAttributes",
+            RequestResponseOpenError::IncompatibleMessagingPattern =>
+                "IncompatibleMessagingPattern",
+            RequestResponseOpenError::IncompatibleOverflowBehaviorForRequests =>
+                "IncompatibleOverflowBehaviorForRequests",
+            RequestResponseOpenError::IncompatibleOverflowBehaviorForResponses =>
+                "IncompatibleOverflowBehaviorForResponses",
+            RequestResponseOpenError::IncompatibleBehaviorForFireAndForgetRequests =>
+                "IncompatibleBehaviorForFireAndForgetRequests",
+            RequestResponseOpenError::InsufficientPermissions => "InsufficientPermissions",
+            RequestResponseOpenError::InternalFailure => "InternalFailure",
+            RequestResponseOpenError::IsMarkedForDestruction => "IsMarkedForDestruction",
+            RequestResponseOpenError::ServiceInCorruptedState => "ServiceInCorruptedState",
+            RequestResponseOpenError::OutOfMemory => "OutOfMemory",
+        }
+    }
+}
+
+impl fmt::Display for RequestResponseOpenError {
+    ghost output = { λ error. Some (codes "RequestResponseOpenError::" ++ request_response_open_error_name error) };
+
+    fn fmt<W: fmt::Write>(&self, f: &mut fmt::Formatter<W>) -> fmt::Result {
+        let name = self.name();
+        write!(f, "RequestResponseOpenError::{name}")
+    }
+}
+
+impl Error for RequestResponseOpenError {}
+
+impl From<ServiceAvailabilityState> for RequestResponseOpenError {
+    ghost from_gives = { λ state outcome. outcome ≡ request_response_open_error_of_state state };
+
+    fn from(state: ServiceAvailabilityState) -> RequestResponseOpenError {
+        match state {
+            ServiceAvailabilityState::ServiceState(state) => match state {
+                ServiceState::IncompatibleMessagingPattern =>
+                    RequestResponseOpenError::IncompatibleMessagingPattern,
+                ServiceState::InsufficientPermissions =>
+                    RequestResponseOpenError::InsufficientPermissions,
+                ServiceState::HangsInCreation => RequestResponseOpenError::HangsInCreation,
+                ServiceState::Corrupted => RequestResponseOpenError::ServiceInCorruptedState,
+                ServiceState::OutOfMemory => RequestResponseOpenError::OutOfMemory,
+            },
+            ServiceAvailabilityState::IncompatibleRequestType =>
+                RequestResponseOpenError::IncompatibleRequestType,
+            ServiceAvailabilityState::IncompatibleResponseType =>
+                RequestResponseOpenError::IncompatibleResponseType,
+        }
+    }
+}
+
+/// Why a service of request-response isn't created.
+#[derive(Debug, Clone, Copy, PartialEq, Eq, Hash)]
+pub enum RequestResponseCreateError {
+    /// There is such a service, maybe of another pattern or of types that are not compatible.
+    AlreadyExists,
+    /// The storage is at fault.
+    InternalFailure,
+    /// Somebody else is creating the service.
+    IsBeingCreatedByAnotherInstance,
+    /// The service may not be read, or not be made.
+    InsufficientPermissions,
+    /// Somebody had begun to create the service before the call looked.
+    HangsInCreation,
+    /// The storage is at fault, or the node is registered at a service that isn't there, or an
+    /// earlier segment can't be cleared away, or the description can't be published.
+    ServiceInCorruptedState,
+    /// There was no memory.
+    OutOfMemory,
+}
+
+impl RequestResponseCreateError {
+    /// The variant's name.
+    pub fn name(&self) -> &'static str
+        ensures { result.now ≡ request_response_create_error_name self.now }
+    {
+        match self {
+            RequestResponseCreateError::AlreadyExists => "AlreadyExists",
+            RequestResponseCreateError::InternalFailure => "InternalFailure",
+            RequestResponseCreateError::IsBeingCreatedByAnotherInstance =>
+                "IsBeingCreatedByAnotherInstance",
+            RequestResponseCreateError::InsufficientPermissions => "InsufficientPermissions",
+            RequestResponseCreateError::HangsInCreation => "HangsInCreation",
+            RequestResponseCreateError::ServiceInCorruptedState => "ServiceInCorruptedState",
+            RequestResponseCreateError::OutOfMemory => "OutOfMemory",
+        }
+    }
+}
+
+impl fmt::Display for RequestResponseCreateError {
+    ghost output = { λ error. Some (codes "RequestResponseCreateError::" ++ request_response_create_error_name error) };
+
+    fn fmt<W: fmt::Write>(&self, f: &mut fmt::Formatter<W>) -> fmt::Result {
+        let name = self.name();
+        write!(f, "RequestResponseCreateError::{name}")
+    }
+}
+
+impl Error for RequestResponseCreateError {}
+
+impl From<ServiceAvailabilityState> for RequestResponseCreateError {
+    ghost from_gives = { λ state outcome. outcome ≡ request_response_create_error_of_state state };
+
+    fn from(state: ServiceAvailabilityState) -> RequestResponseCreateError {
+        match state {
+            ServiceAvailabilityState::ServiceState(state) => match state {
+                ServiceState::IncompatibleMessagingPattern =>
+                    RequestResponseCreateError::AlreadyExists,
+                ServiceState::InsufficientPermissions =>
+                    RequestResponseCreateError::InsufficientPermissions,
+                ServiceState::HangsInCreation => RequestResponseCreateError::HangsInCreation,
+                ServiceState::Corrupted => RequestResponseCreateError::ServiceInCorruptedState,
+                ServiceState::OutOfMemory => RequestResponseCreateError::OutOfMemory,
+            },
+            ServiceAvailabilityState::IncompatibleRequestType =>
+                RequestResponseCreateError::AlreadyExists,
+            ServiceAvailabilityState::IncompatibleResponseType =>
+                RequestResponseCreateError::AlreadyExists,
+        }
+    }
+}
