@@ -7,6 +7,7 @@ use Rattle.iceoryx2_access.specs.declared.storage.Tag.TheVariants.{Made, Found}
 use Rattle.iceoryx2_access.specs.Letter.{Letter}
 use Rattle.iceoryx2_rounds.specs.declared.look.Outcome.{Outcome}
 use Rattle.iceoryx2_pattern.specs.declared.pattern.CreateRefusal.{CreateRefusal}
+use Rattle.iceoryx2_pattern.specs.declared.pattern.CreateRefusal.TheVariants.{OutOfMemory}
 use Rattle.iceoryx2_words.specs.Counts.{IsWithin}
 use Rattle.iceoryx2_pattern.specs.Meaning.{Meaning}
 use Rattle.iceoryx2_access.specs.Factory.{Factory}
@@ -16,6 +17,8 @@ use Rattle.iceoryx2_rounds.specs.Segments.{cleared, IsSegmentWord, made, not_mad
 use Rattle.iceoryx2_rounds.specs.Creates as creates
 use Rattle.iceoryx2_rounds.specs.Creates.{IsEntryWord, IsServiceWord, IsCreating, forbidden, not_entered, clock_fault, not_locked, no_segment, not_published, published, counted, no_copies, entered}
 use Rattle.iceoryx2_rounds.specs.Opens as opens
+use Rattle.iceoryx2_rounds.specs.Prepared.{IsPrepared, IsOpenCall}
+use Rattle.iceoryx2_rounds.proofs.Prepared.{each_call}
 use Rattle.iceoryx2_rounds.specs.Opens.{IsReady, ready, IsFailedRound, failed, IsLastRound, AreFailedRounds, no_round, one_more, IsOpenWord, ended, all_failed}
 
 within_append : {v w : List Letter} {a b c d e f g h : ℕ} → IsWithin v a b c d → IsWithin w e f g h → IsWithin (v ++ w) (a + e) (b + f) (c + g) (d + h)
@@ -149,3 +152,10 @@ module _ {F E C : Type 0} (m : Meaning F E C) (node : ℕ) (hash : ServiceHash) 
   pub open_within : {w : List Letter} {r : Result Factory E} → IsOpenWord m node hash w r → IsWithin w 12 6 0 0
   open_within (ended small before l) = within_more _ _ _ _ (omega arith) (omega arith) (omega arith) (omega arith) (within_append (rounds_within before) (last_within l))
   open_within (all_failed before) = rounds_within before
+
+  -- and so it is where they may prepare their types first
+  pub create_call_within : {stops : Bool} {d : Description} {w : List Letter} {r : Result Factory C} → IsPrepared (m.create_refusal OutOfMemory) (IsCreating m node hash stops d) w r → IsWithin w 1 0 6 6
+  create_call_within = each_call (λ w r. IsWithin w 1 0 6 6) (within_more _ _ _ _ (omega arith) (omega arith) (omega arith) (omega arith) none_within) (λ w r is. create_within is)
+
+  pub open_call_within : {w : List Letter} {r : Result Factory E} → IsOpenCall m node hash w r → IsWithin w 12 6 0 0
+  open_call_within = each_call (λ w r. IsWithin w 12 6 0 0) (within_more _ _ _ _ (omega arith) (omega arith) (omega arith) (omega arith) none_within) (λ w r is. open_within is)

@@ -10,6 +10,7 @@ use Rattle.iceoryx2_access.specs.Letter.{Letter}
 use Rattle.iceoryx2_rounds.specs.declared.create.TheConstants.{CLEARING_LIMIT}
 use Rattle.iceoryx2_rounds.specs.declared.look.Outcome.{Outcome}
 use Rattle.iceoryx2_pattern.specs.declared.pattern.CreateRefusal.{CreateRefusal}
+use Rattle.iceoryx2_pattern.specs.declared.pattern.CreateRefusal.TheVariants.{OutOfMemory}
 use Rattle.iceoryx2_pattern.specs.Meaning.{Meaning}
 use Rattle.iceoryx2_access.specs.Factory.{Factory}
 use Rattle.iceoryx2_rounds.specs.Looks.{IsLookWord, absent, broken, fetched}
@@ -19,6 +20,8 @@ use Rattle.iceoryx2_rounds.specs.Segments.{cleared, IsSegmentWord, not_made, not
 use Rattle.iceoryx2_rounds.specs.Creates as creates
 use Rattle.iceoryx2_rounds.specs.Creates.{IsEntryWord, IsServiceWord, IsCreating, forbidden, not_entered, clock_fault, made, not_locked, no_segment, not_published, published, counted, no_copies, entered}
 use Rattle.iceoryx2_rounds.specs.Opens as opens
+use Rattle.iceoryx2_rounds.specs.Prepared.{IsPrepared, IsOpenCall}
+use Rattle.iceoryx2_rounds.proofs.Prepared.{refused_call}
 use Rattle.iceoryx2_rounds.specs.Opens.{IsReady, ready, IsFailedRound, failed, IsLastRound, AreFailedRounds, no_round, one_more, IsOpenWord, ended, all_failed}
 use Rattle.iceoryx2_words.specs.Keeps as keeps
 use Rattle.iceoryx2_words.specs.Keeps.{KeptTag, NoTag, KeptLock, NoLock, Locked, WithSegment, GivenBack, HasService, IsUnlocked, no_own_tag, with_tag, Keeps, ends, makes_tag, locks, makes_segment, publishes, removes_segment, unlocks, removes_tag, clears, goes_on, GivesAllBack}
@@ -167,3 +170,10 @@ module _ {F E C : Type 0} {m : Meaning F E C} {node : ℕ} {hash : ServiceHash} 
   -- an open that succeeds keeps at most the tag of its last round
   pub opened_keeps : {w : List Letter} {r : Factory} → IsOpenWord m node hash w (Ok r) → (is_left : Bool) × (tag : Tag) × Keeps node hash no_own_tag NoLock w (with_tag (NoTag is_left) tag) (HasService r.number)
   opened_keeps (ended small before l) = let first = rounds_leave before in let last = last_kept first.is_left l in (first.is_left, last.0, then_keeps first.keeps last.1)
+
+  -- and so it is where they may prepare their types first
+  pub refused_create_call_keeps : {stops : Bool} {d : Description} {w : List Letter} {error : C} → IsPrepared (m.create_refusal OutOfMemory) (IsCreating m node hash stops d) w (Err error) → GivesAllBack node hash w
+  refused_create_call_keeps = refused_call (GivesAllBack node hash) (record { is_tag_left = false; lock = NoLock; is_unlocked = tt; keeps = ends }) (λ w error is. refused_create_keeps is)
+
+  pub refused_open_call_keeps : {w : List Letter} {error : E} → IsOpenCall m node hash w (Err error) → (is_left : Bool) × Keeps node hash no_own_tag NoLock w (NoTag is_left) NoLock
+  refused_open_call_keeps = refused_call (λ w. (is_left : Bool) × Keeps node hash no_own_tag NoLock w (NoTag is_left) NoLock) (false, ends) (λ w error is. refused_open_keeps is)

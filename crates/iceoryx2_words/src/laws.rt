@@ -1,4 +1,7 @@
 //! What holds of every word of a call, whatever the pattern and the storage.
+//!
+//! A create and an open may prepare the types of their messages first. One that doesn't goes along a word of its
+//! grammar, which is a word of such a call too.
 
 ghost use Rattle.std.specs.Prelude.{◌≡◌, ℕ, Bool, List, Result, Ok, Err, None};
 ghost use Rattle.iceoryx2_values.specs.Span.{Span};
@@ -11,9 +14,9 @@ ghost use Rattle.iceoryx2_errors.specs.declared.error.CloseError.{CloseError};
 ghost use Rattle.iceoryx2_errors.specs.declared.error.CloseError.TheVariants.{NotHere};
 ghost use Rattle.iceoryx2_port_factory.specs.Closes.{IsCloseWord};
 ghost use Rattle.iceoryx2_words.specs.Counts.{IsWithin};
-ghost use Rattle.iceoryx2_rounds.specs.Creates.{IsCreateWord, description_of};
+ghost use Rattle.iceoryx2_rounds.specs.Creates.{description_of};
 ghost use Rattle.iceoryx2_words.specs.Keeps.{GivesAllBack, HasService, Keeps, NoLock, NoTag, no_own_tag, with_tag};
-ghost use Rattle.iceoryx2_rounds.specs.Opens.{IsOpenWord};
+ghost use Rattle.iceoryx2_rounds.specs.Prepared.{IsCreateCall, IsOpenCall};
 ghost use Rattle.iceoryx2_access.specs.Factory.{Factory};
 ghost use Rattle.iceoryx2_rounds.specs.Segments.{IsSegmentWord};
 ghost use Rattle.iceoryx2_pattern.specs.Meaning.{Meaning};
@@ -24,7 +27,7 @@ ghost use Rattle.iceoryx2_pattern.specs.Verdict.{verdict};
 pub fn create_is_short<F: Copy, E: Copy, C: Copy>()
     ensures { (m : Meaning F E C) (node : ℕ) (hash : ServiceHash) (name : List ℕ) (now : Result Span ClockFault)
         (word : List Letter) (answer : Result Factory C)
-        → IsCreateWord m node hash name now word answer → IsWithin word 1 0 6 6 }
+        → IsCreateCall m node hash name now word answer → IsWithin word 1 0 6 6 }
 {}
 
 /// The part of a create that makes its segment does so in at most six attempts, with at most five
@@ -39,7 +42,7 @@ pub fn segment_part_is_short()
 pub fn open_is_short<F: Copy, E: Copy, C: Copy>()
     ensures { (m : Meaning F E C) (node : ℕ) (hash : ServiceHash)
         (word : List Letter) (answer : Result Factory E)
-        → IsOpenWord m node hash word answer → IsWithin word 12 6 0 0 }
+        → IsOpenCall m node hash word answer → IsWithin word 12 6 0 0 }
 {}
 
 /// A refused create has given back what it made: each tag that wasn't there, its lock and its
@@ -48,14 +51,14 @@ pub fn open_is_short<F: Copy, E: Copy, C: Copy>()
 pub fn refused_create_gives_back<F: Copy, E: Copy, C: Copy>()
     ensures { (m : Meaning F E C) (node : ℕ) (hash : ServiceHash) (name : List ℕ) (now : Result Span ClockFault)
         (word : List Letter) (error : C)
-        → IsCreateWord m node hash name now word (Err error) → GivesAllBack node hash word }
+        → IsCreateCall m node hash name now word (Err error) → GivesAllBack node hash word }
 {}
 
 /// A refused open has given back each tag that it made, and took away none that was there. It
 /// leaves a tag only where the removal of its last one was refused, and locks nothing.
 pub fn refused_open_gives_back<F: Copy, E: Copy, C: Copy>()
     ensures { (m : Meaning F E C) (node : ℕ) (hash : ServiceHash) (word : List Letter) (error : E)
-        → IsOpenWord m node hash word (Err error)
+        → IsOpenCall m node hash word (Err error)
         → (is_left : Bool) × Keeps node hash no_own_tag NoLock word (NoTag is_left) NoLock }
 {}
 
@@ -64,7 +67,7 @@ pub fn refused_open_gives_back<F: Copy, E: Copy, C: Copy>()
 pub fn create_keeps_what_it_made<F: Copy, E: Copy, C: Copy>()
     ensures { (m : Meaning F E C) (node : ℕ) (hash : ServiceHash) (name : List ℕ) (now : Result Span ClockFault)
         (word : List Letter) (r : Factory)
-        → IsCreateWord m node hash name now word (Ok r)
+        → IsCreateCall m node hash name now word (Ok r)
         → (tag : Tag) × Keeps node hash no_own_tag NoLock word (with_tag no_own_tag tag) (HasService r.number) }
 {}
 
@@ -72,7 +75,7 @@ pub fn create_keeps_what_it_made<F: Copy, E: Copy, C: Copy>()
 /// back the tags that it made in failed rounds.
 pub fn open_keeps_its_tag<F: Copy, E: Copy, C: Copy>()
     ensures { (m : Meaning F E C) (node : ℕ) (hash : ServiceHash) (word : List Letter) (r : Factory)
-        → IsOpenWord m node hash word (Ok r)
+        → IsOpenCall m node hash word (Ok r)
         → (is_left : Bool) × (tag : Tag)
         × Keeps node hash no_own_tag NoLock word (with_tag (NoTag is_left) tag) (HasService r.number) }
 {}
@@ -81,7 +84,7 @@ pub fn open_keeps_its_tag<F: Copy, E: Copy, C: Copy>()
 pub fn granted_create_carries<F: Copy, E: Copy, C: Copy>()
     ensures { (m : Meaning F E C) (node : ℕ) (hash : ServiceHash) (name : List ℕ) (now : Result Span ClockFault)
         (word : List Letter) (r : Factory)
-        → IsCreateWord m node hash name now word (Ok r)
+        → IsCreateCall m node hash name now word (Ok r)
         → (r.node ≡ node) × (r.description ≡ description_of m hash name now) }
 {}
 
@@ -89,7 +92,7 @@ pub fn granted_create_carries<F: Copy, E: Copy, C: Copy>()
 /// builder's pattern and message types, and on which the requirement was accepted.
 pub fn granted_open_carries<F: Copy, E: Copy, C: Copy>()
     ensures { (m : Meaning F E C) (node : ℕ) (hash : ServiceHash) (word : List Letter) (r : Factory)
-        → IsOpenWord m node hash word (Ok r)
+        → IsOpenCall m node hash word (Ok r)
         → (r.node ≡ node) × (r.description.hash ≡ hash)
         × (m.misfit r.description ≡ None)
         × (verdict (m.requirement r.description) ≡ Ok tt) }
