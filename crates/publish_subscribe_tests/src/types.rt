@@ -1,0 +1,289 @@
+//! Types of messages.
+
+ghost use Rattle.std.specs.Prelude.{codes, refl};
+ghost use Rattle.std.proofs.Common.{lit≤};
+ghost use Rattle.iceoryx2_types.specs.Alignments.{eight};
+ghost use Rattle.iceoryx2_types.specs.Types.{fixed_size};
+
+use self::TypeVariant::*;
+use crate::support::*;
+use iceoryx2_types::types::publish_subscribe::Header;
+use iceoryx2_types::types::request_response::{RequestHeader, ResponseHeader};
+use iceoryx2_types::types::{
+    Alignment, CustomHeaderMarker, CustomKeyMarker, CustomPayloadMarker, MessageTypeDetails, Slice,
+    TypeDetail, TypeDetailError, TypeVariant, ZeroCopySend,
+};
+use std::alloc::Global;
+use std::process::Abort;
+
+/// What is told of a type: its variant, its name, its size and its alignment.
+type Told<'a> = (TypeVariant, &'a str, u64, u64);
+
+/// What each type says of itself.
+const TYPES: [Told<'static>; 22] = [
+    (FixedSize, "()", 0, 1),
+    (FixedSize, "bool", 1, 1),
+    (FixedSize, "u8", 1, 1),
+    (FixedSize, "i8", 1, 1),
+    (FixedSize, "u16", 2, 2),
+    (FixedSize, "i16", 2, 2),
+    (FixedSize, "u32", 4, 4),
+    (FixedSize, "i32", 4, 4),
+    (FixedSize, "u64", 8, 8),
+    (FixedSize, "i64", 8, 8),
+    (FixedSize, "usize", 8, 8),
+    (FixedSize, "isize", 8, 8),
+    (FixedSize, "u128", 16, 16),
+    (FixedSize, "i128", 16, 16),
+    (FixedSize, "CustomHeaderMarker", 0, 1),
+    (FixedSize, "CustomPayloadMarker", 1, 1),
+    (FixedSize, "CustomKeyMarker", 1, 1),
+    (FixedSize, "publish_subscribe::Header", 32, 8),
+    (FixedSize, "request_response::RequestHeader", 32, 8),
+    (FixedSize, "request_response::ResponseHeader", 32, 8),
+    (Dynamic, "u16", 2, 2),
+    (Dynamic, "CustomPayloadMarker", 1, 1),
+];
+
+/// What a type says of itself.
+fn said<T: ZeroCopySend>() -> Told<'static> {
+    (T::variant(), T::type_name(), T::size(), T::alignment())
+}
+
+#[test]
+fn each_type_says_its_constants(rt: HostRuntime) {
+    let found = [
+        said::<()>(),
+        said::<bool>(),
+        said::<u8>(),
+        said::<i8>(),
+        said::<u16>(),
+        said::<i16>(),
+        said::<u32>(),
+        said::<i32>(),
+        said::<u64>(),
+        said::<i64>(),
+        said::<usize>(),
+        said::<isize>(),
+        said::<u128>(),
+        said::<i128>(),
+        said::<CustomHeaderMarker>(),
+        said::<CustomPayloadMarker>(),
+        said::<CustomKeyMarker>(),
+        said::<Header>(),
+        said::<RequestHeader>(),
+        said::<ResponseHeader>(),
+        said::<Slice<u16>>(),
+        said::<Slice<CustomPayloadMarker>>(),
+    ];
+    assert_same(&rt, found, TYPES);
+}
+
+/// A type of the tests' own.
+struct MyPayload;
+
+impl ZeroCopySend for MyPayload {
+    ghost detail = { fixed_size (codes "MyPayload") 16 8 };
+
+    ghost has_name_length = { (lit≤ tt, lit≤ tt) };
+
+    ghost is_aligned = { eight };
+
+    ghost fills_its_place = { (2, refl) };
+
+    fn variant() -> TypeVariant {
+        FixedSize
+    }
+
+    fn type_name() -> &'static str {
+        "MyPayload"
+    }
+
+    fn size() -> u64 {
+        16
+    }
+
+    fn alignment() -> u64 {
+        8
+    }
+}
+
+/// The types of a message.
+fn from<H: ZeroCopySend, U: ZeroCopySend, P: ZeroCopySend>(
+    rt: &impl Abort,
+    alloc: Global,
+    variant: TypeVariant,
+) -> MessageTypeDetails {
+    match MessageTypeDetails::from::<H, U, P>(alloc, variant) {
+        Ok(message) => message,
+        Err(_) => panic!(rt; "no memory"),
+    }
+}
+
+/// What is told of a type.
+fn told(detail: &TypeDetail) -> Told {
+    (
+        detail.variant(),
+        detail.type_name(),
+        detail.size(),
+        detail.alignment(),
+    )
+}
+
+/// Whether this is told of a message's header, user header and payload.
+fn consists_of(message: &MessageTypeDetails, wanted: [Told; 3]) -> bool {
+    let found = [
+        told(message.header()),
+        told(message.user_header()),
+        told(message.payload()),
+    ];
+    found == wanted
+}
+
+/// What a message of one value of the tests' own type is made of.
+const OWN: [Told<'static>; 3] = [
+    (FixedSize, "i32", 4, 4),
+    (FixedSize, "i64", 8, 8),
+    (FixedSize, "MyPayload", 16, 8),
+];
+
+/// What a message of a number of values is made of.
+const MANY: [Told<'static>; 3] = [
+    (FixedSize, "i32", 4, 4),
+    (FixedSize, "bool", 1, 1),
+    (Dynamic, "i64", 8, 8),
+];
+
+#[test]
+fn a_message_holds_what_its_types_say(rt: HostRuntime) {
+    let own = from::<i32, i64, MyPayload>(&rt, rt.alloc(), FixedSize);
+    let many = from::<i32, bool, i64>(&rt, rt.alloc(), Dynamic);
+    let found = (consists_of(&own, OWN), consists_of(&many, MANY));
+    assert_same(&rt, found, (true, true));
+}
+
+/// The details of a type.
+fn detail(rt: &impl Abort, alloc: Global, told: Told) -> TypeDetail {
+    let (variant, name, size, alignment) = told;
+    match TypeDetail::new(alloc, variant, name, size, alignment) {
+        Ok(detail) => detail,
+        Err(_) => panic!(rt; "no details, or no memory"),
+    }
+}
+
+/// The types of a message with these alignments.
+fn of_i64(rt: &impl Abort, alloc: Global, alignments: [u64; 3]) -> MessageTypeDetails {
+    let [header, user_header, payload] = alignments;
+    MessageTypeDetails::new(
+        detail(rt, alloc, (FixedSize, "i64", 8, header)),
+        detail(rt, alloc, (FixedSize, "i64", 8, user_header)),
+        detail(rt, alloc, (FixedSize, "i64", 8, payload)),
+    )
+}
+
+/// Alignments of the header, the user header and the payload of two messages, and whether the first is
+/// compatible to the second.
+const COMPATIBLE: &[([u64; 3], [u64; 3], bool)] = &[
+    ([8, 8, 8], [8, 8, 8], true),
+    ([8, 8, 8], [8, 16, 16], true),
+    ([8, 16, 16], [8, 8, 8], false),
+    ([8, 8, 16], [8, 16, 8], false),
+    ([8, 8, 8], [16, 8, 8], false),
+];
+
+/// Whether the message of some alignments is compatible to that of others.
+fn is_compatible(rt: &impl Abort, alloc: Global, own: [u64; 3], other: [u64; 3]) -> bool {
+    of_i64(rt, alloc, own).is_compatible_to(&of_i64(rt, alloc, other))
+}
+
+#[test]
+fn a_message_fits_one_that_is_aligned_further(rt: HostRuntime) {
+    for &(own, other, wanted) in COMPATIBLE {
+        let found = is_compatible(&rt, rt.alloc(), own, other);
+        assert_same(&rt, (own, other, found), (own, other, wanted));
+    }
+}
+
+/// Payloads in place of an `i64`, alignments that are asked, and what the payload is then.
+const PREPARED: &[(Option<Told<'static>>, u64, Told<'static>)] = &[
+    (None, 4, (FixedSize, "i64", 8, 8)),
+    (None, 16, (FixedSize, "i64", 8, 16)),
+    (
+        Some((FixedSize, "Img", 24, 8)),
+        64,
+        (FixedSize, "Img", 24, 64),
+    ),
+    (Some((Dynamic, "Img", 24, 8)), 4, (Dynamic, "Img", 24, 8)),
+];
+
+/// Whether a message whose payload is an `i64` has the wanted one when this payload and this alignment
+/// are asked for, and its header and its user header as before.
+fn is_prepared(
+    rt: &impl Abort,
+    alloc: Global,
+    payload: Option<Told>,
+    alignment: u64,
+    wanted: Told,
+) -> bool {
+    let payload = match payload {
+        Some(told) => Some(detail(rt, alloc, told)),
+        None => None,
+    };
+    let message = from::<Header, (), i64>(rt, alloc, FixedSize);
+    let prepared = message.prepared(None, payload, Alignment::new(alignment));
+    consists_of(&prepared, [said::<Header>(), said::<()>(), wanted])
+}
+
+#[test]
+fn a_payload_is_aligned_as_far_as_it_is_and_as_is_asked(rt: HostRuntime) {
+    for &(payload, alignment, wanted) in PREPARED {
+        let found = is_prepared(&rt, rt.alloc(), payload, alignment, wanted);
+        assert_same(&rt, (wanted, found), (wanted, true));
+    }
+}
+
+/// Lengths of names and alignments, whether there is such an alignment, and whether and why a type has
+/// no such details.
+const LIMITS: &[(usize, u64, bool, Result<(), TypeDetailError>)] = &[
+    (0, 8, true, Err(TypeDetailError::NameLength)),
+    (1, 8, true, Ok(())),
+    (256, 8, true, Ok(())),
+    (257, 8, true, Err(TypeDetailError::NameLength)),
+    (0, 3, false, Err(TypeDetailError::NameLength)),
+    (1, 0, false, Err(TypeDetailError::Alignment)),
+    (1, 1, true, Ok(())),
+    (1, 3, false, Err(TypeDetailError::Alignment)),
+    (1, 1 << 63, true, Ok(())),
+    (1, u64::MAX, false, Err(TypeDetailError::Alignment)),
+];
+
+/// Whether there is this alignment, and whether and why a type with it and a name of this length has no
+/// details.
+fn refusal(
+    rt: &impl Abort,
+    alloc: Global,
+    length: usize,
+    alignment: u64,
+) -> (bool, Result<(), TypeDetailError>) {
+    let name = match "n".repeat(alloc, length) {
+        Ok(name) => name,
+        Err(_) => panic!(rt; "no memory"),
+    };
+    let refusal = match TypeDetail::new(alloc, FixedSize, &name, 8, alignment) {
+        Ok(_) => Ok(()),
+        Err(error) => Err(error),
+    };
+    (Alignment::new(alignment).is_some(), refusal)
+}
+
+#[test]
+fn names_have_1_to_256_bytes_and_alignments_are_powers_of_two(rt: HostRuntime) {
+    for &(length, alignment, is_one, wanted) in LIMITS {
+        let found = refusal(&rt, rt.alloc(), length, alignment);
+        assert_same(
+            &rt,
+            (length, alignment, found),
+            (length, alignment, (is_one, wanted)),
+        );
+    }
+}
