@@ -9,3 +9,4 @@ pub mod Left
 pub mod CloseLeft
 pub mod NoRow
 pub mod Tickets
+pub mod Prepared

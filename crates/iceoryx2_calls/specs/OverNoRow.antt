@@ -31,5 +31,5 @@ module _ {F E C : Type 0} (m : Meaning F E C) (node : ℕ) (hash : ServiceHash) 
     -- the counter's end
     no_number : m.history_refusal ≡ None → stops ≡ false → last_number ≤ counter
         → AnswersOverNoRow (Err (m.create_refusal InternalFailure))
-    -- want of memory
-    no_memory : m.history_refusal ≡ None → AnswersOverNoRow (Err (m.create_refusal OutOfMemory))
+    -- want of memory, for the types of messages also before the history rule
+    no_memory : AnswersOverNoRow (Err (m.create_refusal OutOfMemory))

@@ -19,8 +19,8 @@ ghost use Rattle.iceoryx2_world.specs.Standing.{Stands};
 ghost use Rattle.iceoryx2_errors.specs.declared.error.CloseError.{CloseError};
 ghost use Rattle.iceoryx2_errors.specs.declared.error.CloseError.TheVariants.{NotHere};
 ghost use Rattle.iceoryx2_port_factory.specs.Closes.{IsCloseWord};
-ghost use Rattle.iceoryx2_rounds.specs.Creates.{IsCreateWord, time_of, description_of};
-ghost use Rattle.iceoryx2_rounds.specs.Opens.{IsOpenWord};
+ghost use Rattle.iceoryx2_rounds.specs.Creates.{time_of, description_of};
+ghost use Rattle.iceoryx2_rounds.specs.Prepared.{IsCreateCall, IsOpenCall};
 ghost use Rattle.iceoryx2_words.specs.Keeps.{GivesAllBack, Keeps, NoLock, NoTag, no_own_tag};
 ghost use Rattle.iceoryx2_pattern.specs.Meaning.{Meaning};
 ghost use Rattle.iceoryx2_pattern.specs.Verdict.{verdict};
@@ -34,7 +34,7 @@ ghost use Rattle.iceoryx2_calls.specs.OverNoRow.{AnswersOverNoRow};
 /// stand, and of a call that was refused or closed only that stays for which a removal was refused.
 ///
 /// An access that is refused answers its general fault and changes nothing. A call is a word of its
-/// accesses.
+/// accesses; a create and an open may prepare the types of their messages first.
 pub fn agreement_under_faults<F: Copy, E: Copy, C: Copy>()
     // The accesses of a faulty storage with a table inside, whichever are refused and whatever batches
     // wait, are accesses of the table's world of which any may be refused. So what is said of runs over
@@ -50,14 +50,14 @@ pub fn agreement_under_faults<F: Copy, E: Copy, C: Copy>()
     ensures created { (m : Meaning F E C) (node : ℕ) (hash : ServiceHash)
         (name : List ℕ) (now : Result Span ClockFault)
         (word : List Letter) (r : Factory) (w v : World)
-        → IsCreateWord m node hash name now word (Ok r) → Run IsFaulty w word v → Agrees w
+        → IsCreateCall m node hash name now word (Ok r) → Run IsFaulty w word v → Agrees w
         → Stands v r × (r.node ≡ node) × (r.description ≡ description_of m hash name now)
         × (w.counter ≤ r.ticket) × ((f : Factory) → Stands w f → f.ticket ≢ r.ticket) }
 
     // So does an open, with a description on which its requirement was accepted.
     ensures opened { (m : Meaning F E C) (node : ℕ) (hash : ServiceHash)
         (word : List Letter) (r : Factory) (w v : World)
-        → IsOpenWord m node hash word (Ok r) → Run IsFaulty w word v → Agrees w
+        → IsOpenCall m node hash word (Ok r) → Run IsFaulty w word v → Agrees w
         → Stands v r × (r.node ≡ node) × (r.description.hash ≡ hash)
         × (m.misfit r.description ≡ None)
         × (verdict (m.requirement r.description) ≡ Ok tt)
@@ -68,11 +68,11 @@ pub fn agreement_under_faults<F: Copy, E: Copy, C: Copy>()
     ensures create_spares { (m : Meaning F E C) (node : ℕ) (hash : ServiceHash)
         (name : List ℕ) (now : Result Span ClockFault)
         (word : List Letter) (answer : Result Factory C) (w : World) (f : Factory)
-        → IsCreateWord m node hash name now word answer → Agrees w
+        → IsCreateCall m node hash name now word answer → Agrees w
         → Stands w f → Throughout IsFaulty (λ v. Stands v f) w word }
     ensures open_spares { (m : Meaning F E C) (node : ℕ) (hash : ServiceHash) (word : List Letter)
         (answer : Result Factory E) (w : World) (f : Factory)
-        → IsOpenWord m node hash word answer → Agrees w
+        → IsOpenCall m node hash word answer → Agrees w
         → Stands w f → Throughout IsFaulty (λ v. Stands v f) w word }
     ensures close_spares { (r : Factory) (word : List Letter) (answer : Result (Unit {0}) (CloseError Factory))
         (w : World) (f : Factory)
@@ -88,11 +88,11 @@ pub fn agreement_under_faults<F: Copy, E: Copy, C: Copy>()
     // was refused, as its word tells; a refused open leaves at most the phase Read and its tag.
     ensures refused_create_leaves { (m : Meaning F E C) (node : ℕ) (hash : ServiceHash) (name : List ℕ)
         (now : Result Span ClockFault) (word : List Letter) (error : C) (w v : World)
-        → IsCreateWord m node hash name now word (Err error) → Run IsFaulty w word v → Agrees w
+        → IsCreateCall m node hash name now word (Err error) → Run IsFaulty w word v → Agrees w
         → (g : GivesAllBack node hash word) × Leaves node hash g.is_tag_left g.lock w v }
     ensures refused_open_leaves { (m : Meaning F E C) (node : ℕ) (hash : ServiceHash)
         (word : List Letter) (error : E) (w v : World)
-        → IsOpenWord m node hash word (Err error) → Run IsFaulty w word v → Agrees w
+        → IsOpenCall m node hash word (Err error) → Run IsFaulty w word v → Agrees w
         → (is_left : Bool) × Keeps node hash no_own_tag NoLock word (NoTag is_left) NoLock
         × Leaves node hash is_left NoLock w v }
 
@@ -115,6 +115,6 @@ pub fn agreement_under_faults<F: Copy, E: Copy, C: Copy>()
         (name : List ℕ) (now : Result Span ClockFault)
         (word : List Letter) (answer : Result Factory C) (w v : World)
         → 0 < max_nodes_of (m.published (time_of now)) → Agrees w → row_of w hash ≡ None
-        → IsCreateWord m node hash name now word answer → Run IsOwnPart w word v
+        → IsCreateCall m node hash name now word answer → Run IsOwnPart w word v
         → AnswersOverNoRow m node hash name now w.counter answer }
 {}

@@ -18,9 +18,9 @@ ghost use Rattle.iceoryx2_errors.specs.declared.error.CloseError.{CloseError};
 ghost use Rattle.iceoryx2_errors.specs.declared.error.CloseError.TheVariants.{NotHere};
 ghost use Rattle.iceoryx2_port_factory.specs.Closes.{IsCloseWord};
 ghost use Rattle.iceoryx2_words.specs.Counts.{IsWithin};
-ghost use Rattle.iceoryx2_rounds.specs.Creates.{IsCreateWord, description_of};
+ghost use Rattle.iceoryx2_rounds.specs.Creates.{description_of};
 ghost use Rattle.iceoryx2_words.specs.Keeps.{GivesAllBack, Keeps, NoLock, NoTag, no_own_tag};
-ghost use Rattle.iceoryx2_rounds.specs.Opens.{IsOpenWord};
+ghost use Rattle.iceoryx2_rounds.specs.Prepared.{IsCreateCall, IsOpenCall};
 ghost use Rattle.iceoryx2_pattern.specs.Meaning.{Meaning};
 ghost use Rattle.iceoryx2_pattern.specs.Verdict.{verdict};
 ghost use Rattle.iceoryx2_calls.specs.Calls.{Throughout, AtEach, ActsCalmly, ChangesLast};
@@ -31,8 +31,9 @@ ghost use Rattle.iceoryx2_calls.specs.Tickets.{tickets_after, tickets_after_clos
 /// access, and each open factory carries the one description of its service and stands there with
 /// its node, until its ticket is released.
 ///
-/// A call is a word of its accesses. Where nothing else is said, any access of it may be refused
-/// by a fault.
+/// A call is a word of its accesses. A create and an open may prepare the types of their messages
+/// first; one that doesn't goes along a word of its grammar, which is a word of such a call too.
+/// Where nothing else is said, any access may be refused by a fault.
 pub fn agreement<F: Copy, E: Copy, C: Copy>()
     // A table's own accesses, whatever batches wait before them, are accesses of its world after any
     // steps of peers. So what is said of runs over worlds is true of each run over a table.
@@ -61,7 +62,7 @@ pub fn agreement<F: Copy, E: Copy, C: Copy>()
     ensures created { (m : Meaning F E C) (node : ℕ) (hash : ServiceHash)
         (name : List ℕ) (now : Result Span ClockFault)
         (word : List Letter) (r : Factory) (w v : World)
-        → IsCreateWord m node hash name now word (Ok r) → Run IsFaulty w word v → Agrees w
+        → IsCreateCall m node hash name now word (Ok r) → Run IsFaulty w word v → Agrees w
         → Stands v r × (r.node ≡ node) × (r.description ≡ description_of m hash name now)
         × (w.counter ≤ r.ticket) × ((f : Factory) → Stands w f → f.ticket ≢ r.ticket) }
 
@@ -70,7 +71,7 @@ pub fn agreement<F: Copy, E: Copy, C: Copy>()
     // requirement was accepted on it. Its ticket is new.
     ensures opened { (m : Meaning F E C) (node : ℕ) (hash : ServiceHash)
         (word : List Letter) (r : Factory) (w v : World)
-        → IsOpenWord m node hash word (Ok r) → Run IsFaulty w word v → Agrees w
+        → IsOpenCall m node hash word (Ok r) → Run IsFaulty w word v → Agrees w
         → Stands v r × (r.node ≡ node) × (r.description.hash ≡ hash)
         × (m.misfit r.description ≡ None)
         × (verdict (m.requirement r.description) ≡ Ok tt)
@@ -80,13 +81,13 @@ pub fn agreement<F: Copy, E: Copy, C: Copy>()
     ensures create_spares { (m : Meaning F E C) (node : ℕ) (hash : ServiceHash)
         (name : List ℕ) (now : Result Span ClockFault)
         (word : List Letter) (answer : Result Factory C) (w : World) (f : Factory)
-        → IsCreateWord m node hash name now word answer → Agrees w
+        → IsCreateCall m node hash name now word answer → Agrees w
         → Stands w f → Throughout IsFaulty (λ v. Stands v f) w word }
 
     // So does each that stands before an open.
     ensures open_spares { (m : Meaning F E C) (node : ℕ) (hash : ServiceHash) (word : List Letter)
         (answer : Result Factory E) (w : World) (f : Factory)
-        → IsOpenWord m node hash word answer → Agrees w
+        → IsOpenCall m node hash word answer → Agrees w
         → Stands w f → Throughout IsFaulty (λ v. Stands v f) w word }
 
     // So does each with another ticket that stands before a close.
@@ -104,13 +105,13 @@ pub fn agreement<F: Copy, E: Copy, C: Copy>()
     // ticket.
     ensures create_tickets { (m : Meaning F E C) (node : ℕ) (hash : ServiceHash) (name : List ℕ)
         (now : Result Span ClockFault) (word : List Letter) (answer : Result Factory C) (w v : World)
-        → IsCreateWord m node hash name now word answer → Run IsFaulty w word v
+        → IsCreateCall m node hash name now word answer → Run IsFaulty w word v
         → v.tickets ≡ tickets_after w.tickets answer }
 
     // And so it is with an open.
     ensures open_tickets { (m : Meaning F E C) (node : ℕ) (hash : ServiceHash)
         (word : List Letter) (answer : Result Factory E) (w v : World)
-        → IsOpenWord m node hash word answer → Run IsFaulty w word v
+        → IsOpenCall m node hash word answer → Run IsFaulty w word v
         → v.tickets ≡ tickets_after w.tickets answer }
 
     // A close that hands its factory back changes no ticket, and any other takes exactly its own out.
@@ -131,26 +132,26 @@ pub fn agreement<F: Copy, E: Copy, C: Copy>()
     ensures refused_create { (m : Meaning F E C) (node : ℕ) (hash : ServiceHash)
         (name : List ℕ) (now : Result Span ClockFault)
         (word : List Letter) (error : C) (w : World)
-        → IsCreateWord m node hash name now word (Err error) → Agrees w
+        → IsCreateCall m node hash name now word (Err error) → Agrees w
         → AtEach IsFaulty ActsCalmly w word }
 
     // Nor does a refused open.
     ensures refused_open { (m : Meaning F E C) (node : ℕ) (hash : ServiceHash) (word : List Letter) (error : E)
         (w : World)
-        → IsOpenWord m node hash word (Err error) → Agrees w
+        → IsOpenCall m node hash word (Err error) → Agrees w
         → AtEach IsFaulty ActsCalmly w word }
 
     // A granted create does so in exactly one access, its last, where it publishes.
     ensures granted_create { (m : Meaning F E C) (node : ℕ) (hash : ServiceHash)
         (name : List ℕ) (now : Result Span ClockFault)
         (word : List Letter) (r : Factory) (w : World)
-        → IsCreateWord m node hash name now word (Ok r) → Agrees w
+        → IsCreateCall m node hash name now word (Ok r) → Agrees w
         → ChangesLast node hash w word }
 
     // So does a granted open, where it opens the segment.
     ensures granted_open { (m : Meaning F E C) (node : ℕ) (hash : ServiceHash)
         (word : List Letter) (r : Factory) (w : World)
-        → IsOpenWord m node hash word (Ok r) → Agrees w
+        → IsOpenCall m node hash word (Ok r) → Agrees w
         → ChangesLast node hash w word }
 
     // A refused create leaves nothing of its own but that for which a removal was refused. What its
@@ -158,14 +159,14 @@ pub fn agreement<F: Copy, E: Copy, C: Copy>()
     // read at most, and its lock and the segment of the lock's number are gone.
     ensures refused_create_leaves { (m : Meaning F E C) (node : ℕ) (hash : ServiceHash) (name : List ℕ)
         (now : Result Span ClockFault) (word : List Letter) (error : C) (w v : World)
-        → IsCreateWord m node hash name now word (Err error) → Run IsFaulty w word v → Agrees w
+        → IsCreateCall m node hash name now word (Err error) → Run IsFaulty w word v → Agrees w
         → (g : GivesAllBack node hash word) × Leaves node hash g.is_tag_left g.lock w v }
 
     // A refused open leaves at most a tag, where its removal was refused.
     ensures refused_open_leaves { (m : Meaning F E C) (node : ℕ) (hash : ServiceHash)
         (word : List Letter) (error : E)
         (w v : World)
-        → IsOpenWord m node hash word (Err error) → Run IsFaulty w word v → Agrees w
+        → IsOpenCall m node hash word (Err error) → Run IsFaulty w word v → Agrees w
         → (is_left : Bool) × Keeps node hash no_own_tag NoLock word (NoTag is_left) NoLock
         × Leaves node hash is_left NoLock w v }
 
@@ -173,13 +174,13 @@ pub fn agreement<F: Copy, E: Copy, C: Copy>()
     // do, and nothing of its own stays but the phase Read and spent numbers.
     ensures refused_create_gives_back { (m : Meaning F E C) (node : ℕ) (hash : ServiceHash) (name : List ℕ)
         (now : Result Span ClockFault) (word : List Letter) (error : C) (w v : World)
-        → IsCreateWord m node hash name now word (Err error) → Run IsAccess w word v → Agrees w
+        → IsCreateCall m node hash name now word (Err error) → Run IsAccess w word v → Agrees w
         → Each IsGranted word × LeavesNothing node hash word w v }
 
     // And so it is with a refused open.
     ensures refused_open_gives_back { (m : Meaning F E C) (node : ℕ) (hash : ServiceHash) (word : List Letter)
         (error : E) (w v : World)
-        → IsOpenWord m node hash word (Err error) → Run IsAccess w word v → Agrees w
+        → IsOpenCall m node hash word (Err error) → Run IsAccess w word v → Agrees w
         → Each IsGranted word × LeavesNothing node hash word w v }
 
     // A create looks at most once and opens nothing. It makes a segment in at most six attempts,
@@ -187,13 +188,13 @@ pub fn agreement<F: Copy, E: Copy, C: Copy>()
     ensures create_is_short { (m : Meaning F E C) (node : ℕ) (hash : ServiceHash)
         (name : List ℕ) (now : Result Span ClockFault)
         (word : List Letter) (answer : Result Factory C)
-        → IsCreateWord m node hash name now word answer → IsWithin word 1 0 6 6 }
+        → IsCreateCall m node hash name now word answer → IsWithin word 1 0 6 6 }
 
     // An open looks at most twelve times and opens at most six times. It makes and removes no
     // segment.
     ensures open_is_short { (m : Meaning F E C) (node : ℕ) (hash : ServiceHash) (word : List Letter)
         (answer : Result Factory E)
-        → IsOpenWord m node hash word answer → IsWithin word 12 6 0 0 }
+        → IsOpenCall m node hash word answer → IsWithin word 12 6 0 0 }
 
     // A close looks nowhere and opens nothing. It removes at most one segment.
     ensures close_is_short { (r : Factory) (word : List Letter) (answer : Result (Unit {0}) (CloseError Factory))

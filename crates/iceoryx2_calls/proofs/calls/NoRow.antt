@@ -104,8 +104,8 @@ module _ {F E C : Type 0} (m : Meaning F E C) (i : ℕ) (h : ServiceHash) (name 
   abbrev Answers : Result Factory C → Type 0
   Answers a = AnswersOverNoRow m i h name now c a
 
-  answers : {e : CreateRefusal} → e ≡ refusal.OutOfMemory → m.history_refusal ≡ None → Answers (Err (m.create_refusal e))
-  answers is fits = subst (λ z. Answers (Err (m.create_refusal z))) (sym is) (no_memory fits)
+  answers : {e : CreateRefusal} → e ≡ refusal.OutOfMemory → Answers (Err (m.create_refusal e))
+  answers is = subst (λ z. Answers (Err (m.create_refusal z))) (sym is) no_memory
 
   data Enters : Result Tag C → Seat → Type 0 where
     enters : {tag : Tag} → Enters (Ok tag) (over x s c true k)
@@ -156,20 +156,20 @@ module _ {F E C : Type 0} (m : Meaning F E C) (i : ℕ) (h : ServiceHash) (name 
     serving fits runs (create.not_locked z g) r =
         let f = head r in
         elim (lock_refused i h (lock_over i h x s c k _ _ b f.first)) [
-          | inl y ↦ answers (ap of_lock y.0) fits
+          | inl y ↦ answers (ap of_lock y.0)
           | inr y ↦ subst (λ q. Answers (Err (m.create_refusal (of_lock q)))) (sym y.0) (no_number fits runs (grind (arith, nat_tests, y.2)))
         ]
     serving fits runs (create.no_segment {v = v} {n = n} is g) r =
         let f = begun r in
         let p = split v _ f.rest in
-        answers (segment_refused i h (any_part i h n (max_nodes_of d.pattern) (c + 1) k s positive is p.first)).0 fits
+        answers (segment_refused i h (any_part i h n (max_nodes_of d.pattern) (c + 1) k s positive is p.first)).0
     serving fits runs (create.not_published {v = v} {n = n} z is g) r =
         let f = begun r in
         let p = split v _ f.rest in
         let q = head (from (segment_there i h (any_part i h n (max_nodes_of d.pattern) (c + 1) k s positive is p.first)) p.second) in
         elim (publish_made i h d n (c + 1) k _ _ (own_hash h) q.first) [
           | inl y ↦ absurd (grind (arith, y.0))
-          | inr y ↦ let why : z ≡ Publishing.OutOfMemory = cc in answers (ap of_publish why) fits
+          | inr y ↦ let why : z ≡ Publishing.OutOfMemory = cc in answers (ap of_publish why)
         ]
     serving fits runs (create.published {v = v} n j is) r =
         let f = begun r in
@@ -182,7 +182,7 @@ module _ {F E C : Type 0} (m : Meaning F E C) (i : ℕ) (h : ServiceHash) (name 
 
     answering : (g : Bool) {a : Result Factory C} {w : List Letter} {t : Seat} → IsCreateWord m i h name now w a → Run (AtSeat i h) (over x s c g k) w t → Answers a
     answering g (create.forbidden bad) r = forbidden bad
-    answering g (create.not_entered fits e) r = subst (λ z. Answers (Err z)) (sym (entry_refused (entry g e r))) (no_memory fits)
+    answering g (create.not_entered fits e) r = subst (λ z. Answers (Err z)) (sym (entry_refused (entry g e r))) no_memory
     answering g (create.clock_fault fits stopped e back) r = no_time fits stopped
     answering g (create.made {u = u} fits runs e is) r =
         let p = split u _ r in
