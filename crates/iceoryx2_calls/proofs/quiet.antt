@@ -11,6 +11,7 @@ pub mod Tickets
 pub mod Open
 pub mod Opened
 pub mod Calls
+pub mod Prepared
 pub mod Same
 pub mod After
 pub mod Listing

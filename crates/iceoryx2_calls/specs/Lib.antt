@@ -1,6 +1,7 @@
 pub mod Calls
 pub mod Quiet
 pub mod QuietCalls
+pub mod QuietPrepared
 pub mod QuietLists
 pub mod QuietLaws
 pub mod Leaves

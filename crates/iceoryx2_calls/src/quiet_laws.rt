@@ -27,6 +27,7 @@ ghost use Rattle.iceoryx2_pattern.specs.Verdict.{verdict};
 ghost use Rattle.iceoryx2_access.specs.Factory.{Factory};
 ghost use Rattle.iceoryx2_rounds.specs.Creates.{IsCreateWord, time_of};
 ghost use Rattle.iceoryx2_rounds.specs.Opens.{IsOpenWord};
+ghost use Rattle.iceoryx2_rounds.specs.Prepared.{IsCreateCall, IsOpenCall};
 ghost use Rattle.iceoryx2_port_factory.specs.Closes.{IsCloseWord};
 ghost use Rattle.iceoryx2_builder.specs.declared.builder.event.demand.EventDemand.{EventDemand};
 ghost use Rattle.iceoryx2_attributes.specs.Attributes.{Pair};
@@ -34,6 +35,7 @@ ghost use Rattle.iceoryx2_attributes.specs.Requirements.{Requirements, no_requir
 ghost use Rattle.iceoryx2_builder.specs.Event.{event_creating, event_opening};
 ghost use Rattle.iceoryx2_calls.specs.Quiet.{Quiet, QuietService, Shows, no_service, service_at, times_counted};
 ghost use Rattle.iceoryx2_calls.specs.QuietCalls.{IsRegular, Creates, Opens, Closes, HasPlace, HasNumber};
+ghost use Rattle.iceoryx2_calls.specs.QuietPrepared.{CreatesPrepared, OpensPrepared};
 ghost use Rattle.iceoryx2_calls.specs.QuietLists.{listing};
 ghost use Rattle.iceoryx2_calls.specs.QuietLaws.{IsCall, IsClose, HasOpened, HoldsTheSame, HasNothingAt, times_opened};
 
@@ -114,20 +116,33 @@ pub fn quiet_calls<F: Copy, E: Copy, C: Copy>()
         → IsOpenWord m node hash word answer → Run IsOwnPart w word v
         → IsCall w (Opens m q node hash answer) answer v }
 
-    // A refused call changes no description, segment, tag or count.
+    // Where they may prepare their types first, they are the machine's, or want memory and change nothing.
+    ensures prepared_create { (m : Meaning F E C) (node : ℕ) (hash : ServiceHash) (name : List ℕ)
+        (now : Result Span ClockFault) (w v : World) (q : Quiet) (word : List Letter) (answer : Result Factory C)
+        → IsRegular m → 0 < max_nodes_of (m.published (time_of now)) → Shows w q → Agrees w
+        → IsCreateCall m node hash name now word answer → Run IsOwnPart w word v
+        → IsCall w (CreatesPrepared m q node hash name now answer) answer v }
+    ensures prepared_open { (m : Meaning F E C) (node : ℕ) (hash : ServiceHash)
+        (w v : World) (q : Quiet) (word : List Letter) (answer : Result Factory E)
+        → IsRegular m → Shows w q → Agrees w
+        → IsOpenCall m node hash word answer → Run IsOwnPart w word v
+        → IsCall w (OpensPrepared m q node hash answer) answer v }
+
+    // A refused call changes no description, segment, tag or count. This and what follows is said of calls that
+    // may prepare their types first; each call of the machine is one of these too.
     ensures refused_create { (m : Meaning F E C) (node : ℕ) (hash : ServiceHash) (name : List ℕ)
         (now : Result Span ClockFault) (w v : World) (q p : Quiet) (error : C)
-        → Shows w q → Shows v p → Creates m q node hash name now (Err error) p → HoldsTheSame w v }
+        → Shows w q → Shows v p → CreatesPrepared m q node hash name now (Err error) p → HoldsTheSame w v }
     ensures refused_open { (m : Meaning F E C) (node : ℕ) (hash : ServiceHash)
         (w v : World) (q p : Quiet) (error : E)
-        → Shows w q → Shows v p → Opens m q node hash (Err error) p → HoldsTheSame w v }
+        → Shows w q → Shows v p → OpensPrepared m q node hash (Err error) p → HoldsTheSame w v }
 
     // A create and then the close of its factory leave nothing of that service and the rest as it
     // was, and one number is spent.
     ensures create_and_close { (m : Meaning F E C) (node : ℕ) (hash : ServiceHash) (name : List ℕ)
         (now : Result Span ClockFault) (w v : World) (q p z : Quiet) (r : Factory)
         → Shows w q → Shows v z
-        → Creates m q node hash name now (Ok r) p → Closes p r.node r.description.hash z
+        → CreatesPrepared m q node hash name now (Ok r) p → Closes p r.node r.description.hash z
         → HasNothingAt v hash × HoldsTheSame w v × (v.counter ≡ w.counter + 1) }
 
     // A further factory of a node takes no further place: the segment stays as it is, and the
@@ -135,7 +150,7 @@ pub fn quiet_calls<F: Copy, E: Copy, C: Copy>()
     ensures again { (m : Meaning F E C) (node : ℕ) (hash : ServiceHash)
         (w v : World) (q p : Quiet) (r : Factory) (x : QuietService) (k : ℕ)
         → Shows w q → Shows v p → service_at q hash ≡ Some x → times_counted x node ≡ Some k
-        → Opens m q node hash (Ok r) p
+        → OpensPrepared m q node hash (Ok r) p
         → (segment_of v hash ≡ segment_of w hash)
         × (join_count (phase_of w (Node node) hash) ≡ k)
         × (join_count (phase_of v (Node node) hash) ≡ k + 1) }
@@ -146,6 +161,6 @@ pub fn quiet_calls<F: Copy, E: Copy, C: Copy>()
         (q p : Quiet) (x : QuietService) (answer : Result Factory E)
         → service_at q hash ≡ Some x → m.misfit x.description ≡ None
         → verdict (m.requirement x.description) ≡ Ok tt → HasPlace x node → HasNumber q
-        → Opens m q node hash answer p
+        → OpensPrepared m q node hash answer p
         → IfErr answer (λ e. e ≡ m.open_refusal OutOfMemory) }
 {}
