@@ -3,6 +3,7 @@ pub mod SlotLists
 pub mod Patterns
 pub mod Setters
 pub mod Commands
+pub mod Prepared
 pub mod StandingSlots
 pub mod OwnedTickets
 pub mod QuietSessions

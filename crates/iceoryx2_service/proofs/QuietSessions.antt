@@ -10,10 +10,12 @@ use Rattle.iceoryx2_world.specs.Across.{Agrees}
 use Rattle.iceoryx2_batches.specs.Tables.{TableState}
 use Rattle.iceoryx2_batches.proofs.Waiting.{idle_run}
 use Rattle.iceoryx2_world.proofs.agreement.Empty.{empty_agrees}
+use Rattle.iceoryx2_pattern.specs.declared.pattern.CreateRefusal.TheVariants as create_refusal
+use Rattle.iceoryx2_pattern.specs.declared.pattern.OpenRefusal.TheVariants as open_refusal
 use Rattle.iceoryx2_rounds.specs.Creates.{time_of}
 use Rattle.iceoryx2_access.specs.Factory.{Factory}
 use Rattle.iceoryx2_calls.specs.Quiet.{Quiet, Shows, no_service}
-use Rattle.iceoryx2_calls.specs.QuietCalls.{Creates, Opens}
+use Rattle.iceoryx2_calls.specs.QuietPrepared.{CreatesPrepared, OpensPrepared}
 use Rattle.iceoryx2_calls.specs.QuietLaws.{HoldsTheSame}
 use Rattle.iceoryx2_calls.proofs.quiet.After.{refused_create, refused_open}
 use Rattle.iceoryx2_calls.proofs.quiet.Listing.{lists_the_machine}
@@ -30,6 +32,7 @@ use Rattle.iceoryx2_service.specs.Sessions as goes
 use Rattle.iceoryx2_service.specs.StandingSlots.{SlotsStand, OwnsTickets}
 use Rattle.iceoryx2_service.specs.QuietSessions.{IsQuiet, Answers, Moves, IsMoved, TellsNoChange, IsUnchanged}
 use Rattle.iceoryx2_service.specs.QuietSessions as moves
+use Rattle.iceoryx2_service.proofs.Prepared.{as_prepared, call_follows}
 use Rattle.iceoryx2_service.proofs.Patterns.{IsRegularCall, call_is_regular}
 
 -- what a builder call makes of the machine
@@ -42,7 +45,7 @@ record IsBuilt (q : Quiet) (b : BuilderCall) (h : How) (now : Result Span ClockF
 built : (h : How) (b : BuilderCall) (now : Result Span ClockFault) (answer : Result Factory Refusal) (s t : TableState) (q : Quiet)
     → IsRegularCall b → Shows s.world q → Agrees s.world → s.waiting ≡ [] → Builds b h now s answer t → IsBuilt q b h now s.world answer t.world
 built how.Create b now answer s t q regular shows agrees waiting is =
-    let c = create_follows b.creating b.node b.hash b.name now s.world t.world q is.2.word is.0 regular.creating (regular.takes_nodes (time_of now)) shows agrees is.2.is_word (idle_run waiting is.2.run).0 in
+    let c = call_follows b.prepares (b.creating.create_refusal create_refusal.OutOfMemory) s.world t.world shows agrees (λ word a is_word. create_follows b.creating b.node b.hash b.name now s.world t.world q word a regular.creating (regular.takes_nodes (time_of now)) shows agrees is_word) is.2.is_word (idle_run waiting is.2.run).0 in
     record {
       state = c.state;
       call = (is.0, is.1, c.call);
@@ -50,7 +53,7 @@ built how.Create b now answer s t q regular shows agrees waiting is =
       agrees = c.agrees;
     }
 built how.Open b now answer s t q regular shows agrees waiting is =
-    let c = open_follows b.opening b.node b.hash s.world t.world q is.2.word is.0 regular.opening shows agrees is.2.is_word (idle_run waiting is.2.run).0 in
+    let c = call_follows b.prepares (b.opening.open_refusal open_refusal.OutOfMemory) s.world t.world shows agrees (λ word a is_word. open_follows b.opening b.node b.hash s.world t.world q word a regular.opening shows agrees is_word) is.2.is_word (idle_run waiting is.2.run).0 in
     record {
       state = c.state;
       call = (is.0, is.1, c.call);
@@ -103,10 +106,10 @@ refusal_keeps : (h : How) (b : BuilderCall) (now : Result Span ClockFault) (e : 
     → Shows w q → Shows v p → Answers q b h now (Err e) p → HoldsTheSame w v
 refusal_keeps how.Create b now e w v q p s t is =
     refused_answer b.refusal_of_create e is.0 (HoldsTheSame w v) is.1 (λ x same.
-    refused_create b.creating b.node b.hash b.name now w v q p x s t (subst (λ (a : Result Factory b.create_error). Creates b.creating q b.node b.hash b.name now a p) same is.2))
+    refused_create b.creating b.node b.hash b.name now w v q p x s t (subst (λ (a : Result Factory b.create_error). CreatesPrepared b.creating q b.node b.hash b.name now a p) same (as_prepared b.prepares is.2)))
 refusal_keeps how.Open b now e w v q p s t is =
     refused_answer b.refusal_of_open e is.0 (HoldsTheSame w v) is.1 (λ x same.
-    refused_open b.opening b.node b.hash w v q p x s t (subst (λ (a : Result Factory b.open_error). Opens b.opening q b.node b.hash a p) same is.2))
+    refused_open b.opening b.node b.hash w v q p x s t (subst (λ (a : Result Factory b.open_error). OpensPrepared b.opening q b.node b.hash a p) same (as_prepared b.prepares is.2)))
 
 pub itself : (s : SessionState) → IsUnchanged s s
 itself s = record { slots = refl; services = record { rows = λ h. refl; segments = λ h. refl; tags = λ i h. refl; counts = λ i h. refl } }

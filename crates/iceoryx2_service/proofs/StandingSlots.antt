@@ -16,12 +16,12 @@ use Rattle.iceoryx2_batches.proofs.Waiting.{table_run}
 use Rattle.iceoryx2_world.specs.Standing.{Stands, ticket_for}
 use Rattle.iceoryx2_world.proofs.agreement.Accesses.{with_refusals}
 use Rattle.iceoryx2_pattern.specs.Meaning.{Meaning}
-use Rattle.iceoryx2_rounds.specs.Creates.{IsCreateWord}
-use Rattle.iceoryx2_rounds.specs.Opens.{IsOpenWord}
+use Rattle.iceoryx2_rounds.specs.Prepared.{IsCreateCall, IsOpenCall}
+use Rattle.iceoryx2_rounds.proofs.Prepared.{granted_call}
 use Rattle.iceoryx2_calls.specs.Calls.{Throughout}
 use Rattle.iceoryx2_calls.specs.Tickets.{tickets_after}
-use Rattle.iceoryx2_calls.proofs.calls.Tickets.{create_tickets, open_tickets}
-use Rattle.iceoryx2_calls.proofs.calls.Words.{agrees_throughout, stands_throughout, create_letters, open_letters, all_spared, close_spares}
+use Rattle.iceoryx2_calls.proofs.calls.Prepared.{create_call_letters, open_call_letters, create_call_tickets, open_call_tickets}
+use Rattle.iceoryx2_calls.proofs.calls.Words.{agrees_throughout, stands_throughout, all_spared, close_spares}
 use Rattle.iceoryx2_calls.proofs.calls.Created.{create_stands}
 use Rattle.iceoryx2_calls.proofs.calls.Opened.{open_stands}
 use Rattle.iceoryx2_service.specs.declared.command.How.{How}
@@ -35,6 +35,7 @@ use Rattle.iceoryx2_service.specs.Slots.{slot_count, HoldsAt}
 use Rattle.iceoryx2_service.specs.Sessions.{SessionState, Builds, ClosesFactory, Goes}
 use Rattle.iceoryx2_service.specs.Sessions as goes
 use Rattle.iceoryx2_service.specs.StandingSlots.{SlotsStand}
+use Rattle.iceoryx2_service.proofs.Prepared.{as_prepared_word}
 use Rattle.iceoryx2_service.proofs.SlotLists.{same_factory, no_factory, set_cases, none_held}
 
 -- ---- runs of the session's table
@@ -78,34 +79,36 @@ carried_tickets w v carry (Err x) e = e
 
 module _ {F E C : Type 0} (m : Meaning F E C) (node : ℕ) (hash : ServiceHash) where
   created : (name : List ℕ) (now : Result Span ClockFault) {word : List Letter} (a : Result Factory C) {w v : World}
-      → IsCreateWord m node hash name now word a → Run IsFaulty w word v → Agrees w
+      → IsCreateCall m node hash name now word a → Run IsFaulty w word v → Agrees w
       → IfOk a (λ f. Stands v f × (w.counter ≤ f.ticket))
-  created name now (Ok f) is run old = let o = create_stands is run old in (o.0, o.3)
+  created name now (Ok f) is run old = let o = create_stands (granted_call is) run old in (o.0, o.3)
   created name now (Err e) is run old = tt
 
   opened : {word : List Letter} (a : Result Factory E) {w v : World}
-      → IsOpenWord m node hash word a → Run IsFaulty w word v → Agrees w
+      → IsOpenCall m node hash word a → Run IsFaulty w word v → Agrees w
       → IfOk a (λ f. Stands v f × (w.counter ≤ f.ticket))
-  opened (Ok f) is run old = let o = open_stands is run old in (o.stands, o.new_ticket)
+  opened (Ok f) is run old = let o = open_stands (granted_call is) run old in (o.stands, o.new_ticket)
   opened (Err e) is run old = tt
 
 pub leaves : (h : How) (b : BuilderCall) (now : Result Span ClockFault) (answer : Result Factory Refusal) (s t : TableState)
     → Agrees s.world → Builds b h now s answer t → Leaves s.world answer t.world
 leaves how.Create b now answer s t old is =
     let run = faulty is.2.run in
+    let is_call = as_prepared_word b.prepares is.2.is_word in
     record {
       agrees = agrees_after is.2.word is.2.run old;
-      given = rw is.1 (carried (λ f. Stands t.world f × (s.world.counter ≤ f.ticket)) b.refusal_of_create is.0 (created b.creating b.node b.hash b.name now is.0 is.2.is_word run old));
-      kept = λ f at. at_end _ (stands_throughout s.world is.2.word f (all_spared f is.2.word (create_letters is.2.is_word)) old at) run;
-      tickets = rw is.1 (carried_tickets s.world t.world b.refusal_of_create is.0 (create_tickets is.0 refl is.2.is_word run));
+      given = rw is.1 (carried (λ f. Stands t.world f × (s.world.counter ≤ f.ticket)) b.refusal_of_create is.0 (created b.creating b.node b.hash b.name now is.0 is_call run old));
+      kept = λ f at. at_end _ (stands_throughout s.world is.2.word f (all_spared f is.2.word (create_call_letters is_call)) old at) run;
+      tickets = rw is.1 (carried_tickets s.world t.world b.refusal_of_create is.0 (create_call_tickets refl is_call run));
     }
 leaves how.Open b now answer s t old is =
     let run = faulty is.2.run in
+    let is_call = as_prepared_word b.prepares is.2.is_word in
     record {
       agrees = agrees_after is.2.word is.2.run old;
-      given = rw is.1 (carried (λ f. Stands t.world f × (s.world.counter ≤ f.ticket)) b.refusal_of_open is.0 (opened b.opening b.node b.hash is.0 is.2.is_word run old));
-      kept = λ f at. at_end _ (stands_throughout s.world is.2.word f (all_spared f is.2.word (open_letters is.2.is_word)) old at) run;
-      tickets = rw is.1 (carried_tickets s.world t.world b.refusal_of_open is.0 (open_tickets is.0 is.2.is_word run));
+      given = rw is.1 (carried (λ f. Stands t.world f × (s.world.counter ≤ f.ticket)) b.refusal_of_open is.0 (opened b.opening b.node b.hash is.0 is_call run old));
+      kept = λ f at. at_end _ (stands_throughout s.world is.2.word f (all_spared f is.2.word (open_call_letters is_call)) old at) run;
+      tickets = rw is.1 (carried_tickets s.world t.world b.refusal_of_open is.0 (open_call_tickets is_call run));
     }
 
 -- a close leaves each other factory standing

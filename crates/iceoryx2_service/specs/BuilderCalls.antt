@@ -1,5 +1,5 @@
 -- What a builder call asks, whatever its pattern.
-use Rattle.std.specs.Prelude.{ℕ, List, ◌∷◌, Result, Ok, Err}
+use Rattle.std.specs.Prelude.{ℕ, Bool, true, false, List, ◌∷◌, Result, Ok, Err}
 use Rattle.sha1.specs.Sha1.{sha1}
 use Rattle.iceoryx2_values.specs.declared.description.ServiceHash.{ServiceHash}
 use Rattle.iceoryx2_pattern.specs.Meaning.{Meaning}
@@ -17,8 +17,15 @@ pub record BuilderCall : Type 1 where
   pub name : List ℕ
   pub creating : Meaning fault open_error create_error
   pub opening : Meaning fault open_error create_error
+  -- whether it prepares the types of its messages before its first access
+  pub prepares : Bool
   pub refusal_of_create : create_error → Refusal
   pub refusal_of_open : open_error → Refusal
+
+-- what is said of a call where it prepares types first, and else of a plain one
+abbrev pub IfPrepares : Bool → (of_prepared of_plain : Type 0) → Type 0
+IfPrepares true of_prepared of_plain = of_prepared
+IfPrepares false of_prepared of_plain = of_plain
 
 -- an answer whose error is carried by a refusal
 abbrev pub with_refusal : {E : Type 0} → (E → Refusal) → Result Factory E → Result Factory Refusal

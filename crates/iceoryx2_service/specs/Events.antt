@@ -1,5 +1,5 @@
 -- Builder calls for services of events.
-use Rattle.std.specs.Prelude.{List, [], ◌∷◌}
+use Rattle.std.specs.Prelude.{false, List, [], ◌∷◌}
 use Rattle.iceoryx2_errors.specs.declared.error.ServiceState.{ServiceState}
 use Rattle.iceoryx2_errors.specs.declared.error.EventOpenError.{EventOpenError}
 use Rattle.iceoryx2_errors.specs.declared.error.EventCreateError.{EventCreateError}
@@ -26,6 +26,7 @@ event_call b attributes = record {
   name = b.name;
   creating = event_creating b.demand attributes.pairs;
   opening = event_opening b.demand attributes;
+  prepares = false;
   refusal_of_create = refusal.EventCreate;
   refusal_of_open = refusal.EventOpen;
 }

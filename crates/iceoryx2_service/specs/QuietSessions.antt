@@ -20,13 +20,14 @@ use Rattle.iceoryx2_service.specs.declared.command.Command.TheVariants as comman
 use Rattle.iceoryx2_service.specs.declared.command.Refusal.{Refusal}
 use Rattle.iceoryx2_service.specs.declared.command.Reply.{Reply}
 use Rattle.iceoryx2_service.specs.declared.command.Reply.TheVariants as reply
-use Rattle.iceoryx2_service.specs.BuilderCalls.{BuilderCall, with_refusal}
+use Rattle.iceoryx2_service.specs.BuilderCalls.{BuilderCall, IfPrepares, with_refusal}
 use Rattle.iceoryx2_service.specs.Slots.{slot_count, FreeAt, HoldsAt, TakenAt}
 use Rattle.iceoryx2_service.specs.Patterns.{builder_call}
 use Rattle.iceoryx2_service.specs.Sessions.{SessionState}
 use Rattle.iceoryx2_service.specs.CommandLists.{CarriesOut}
 use Rattle.iceoryx2_calls.specs.Quiet.{Quiet, Shows}
 use Rattle.iceoryx2_calls.specs.QuietCalls.{Creates, Opens, Closes}
+use Rattle.iceoryx2_calls.specs.QuietPrepared.{CreatesPrepared, OpensPrepared}
 use Rattle.iceoryx2_calls.specs.QuietLaws.{HoldsTheSame, times_opened}
 use Rattle.iceoryx2_calls.specs.QuietLists.{listing}
 
@@ -36,15 +37,20 @@ pub record IsQuiet (s : SessionState) (q : Quiet) : Type 0 where
   pub agrees : Agrees s.table.world
   pub waiting : s.table.waiting ≡ []
 
--- What the machine answers to a builder call, and its state after it.
+-- What the machine answers to a builder call, and its state after it. One that prepares its types first may also want
+-- memory, and change nothing.
 abbrev pub Answers : Quiet → BuilderCall → How → Result Span ClockFault → Result Factory Refusal
     → Quiet → Type 0
 Answers q b how.Create now answer p =
     (a : Result Factory b.create_error) × (answer ≡ with_refusal b.refusal_of_create a)
-    × Creates b.creating q b.node b.hash b.name now a p
+    × IfPrepares b.prepares
+    (CreatesPrepared b.creating q b.node b.hash b.name now a p)
+    (Creates b.creating q b.node b.hash b.name now a p)
 Answers q b how.Open now answer p =
     (a : Result Factory b.open_error) × (answer ≡ with_refusal b.refusal_of_open a)
-    × Opens b.opening q b.node b.hash a p
+    × IfPrepares b.prepares
+    (OpensPrepared b.opening q b.node b.hash a p)
+    (Opens b.opening q b.node b.hash a p)
 
 -- A command with its reply moves the machine and the slots.
 pub data Moves (config : Config) (q : Quiet) (slots : List (Option Factory))

@@ -13,6 +13,7 @@ use Rattle.iceoryx2_errors.specs.declared.error.CloseError.{CloseError}
 use Rattle.iceoryx2_access.specs.Factory.{Factory}
 use Rattle.iceoryx2_rounds.specs.Creates.{IsCreateWord}
 use Rattle.iceoryx2_rounds.specs.Opens.{IsOpenWord}
+use Rattle.iceoryx2_rounds.specs.Prepared.{IsCreateCall, IsOpenCall}
 use Rattle.iceoryx2_port_factory.specs.Closes.{IsCloseWord}
 use Rattle.iceoryx2_service.specs.declared.command.Call.{Call}
 use Rattle.iceoryx2_service.specs.declared.command.How.{How}
@@ -22,7 +23,7 @@ use Rattle.iceoryx2_service.specs.declared.command.Command.TheVariants as comman
 use Rattle.iceoryx2_service.specs.declared.command.Refusal.{Refusal}
 use Rattle.iceoryx2_service.specs.declared.command.Reply.{Reply}
 use Rattle.iceoryx2_service.specs.declared.command.Reply.TheVariants as reply
-use Rattle.iceoryx2_service.specs.BuilderCalls.{BuilderCall, with_refusal}
+use Rattle.iceoryx2_service.specs.BuilderCalls.{BuilderCall, IfPrepares, with_refusal}
 use Rattle.iceoryx2_service.specs.Patterns.{builder_call}
 use Rattle.iceoryx2_service.specs.Slots.{slot_count, FreeAt, HoldsAt, TakenAt}
 
@@ -32,15 +33,20 @@ pub record SessionState : Type 0 where
   pub table : TableState
   pub slots : List (Option Factory)
 
--- A builder call goes along a word of its grammar, with that answer.
+-- A builder call goes along a word of its grammar, with that answer. One that prepares its types first may also want
+-- memory without an access.
 abbrev pub Builds
     : BuilderCall → How → Result Span ClockFault → TableState → Result Factory Refusal → TableState → Type 0
 Builds b how.Create now s answer t =
     (a : Result Factory b.create_error) × (answer ≡ with_refusal b.refusal_of_create a)
-    × Joins IsTableAccess s (λ word. IsCreateWord b.creating b.node b.hash b.name now word a) t
+    × Joins IsTableAccess s (λ word. IfPrepares b.prepares
+    (IsCreateCall b.creating b.node b.hash b.name now word a)
+    (IsCreateWord b.creating b.node b.hash b.name now word a)) t
 Builds b how.Open now s answer t =
     (a : Result Factory b.open_error) × (answer ≡ with_refusal b.refusal_of_open a)
-    × Joins IsTableAccess s (λ word. IsOpenWord b.opening b.node b.hash word a) t
+    × Joins IsTableAccess s (λ word. IfPrepares b.prepares
+    (IsOpenCall b.opening b.node b.hash word a)
+    (IsOpenWord b.opening b.node b.hash word a)) t
 
 -- A factory is closed along a word of close, whatever it answers.
 abbrev pub ClosesFactory : TableState → Factory → TableState → Type 0

@@ -21,11 +21,13 @@ use Rattle.iceoryx2_access.specs.Factory.{Factory}
 use Rattle.iceoryx2_calls.specs.Quiet.{QuietService, Quiet, ShowsService, Shows, service_at, times_counted, is_counted}
 use Rattle.iceoryx2_calls.specs.QuietCalls.{Creates, Opens, Closes, closed, HasPlace, HasNumber, first_counts, created_by, opened_by, closed_by, more_counts, fewer_counts, with_service, spend}
 use Rattle.iceoryx2_calls.specs.QuietCalls as call
+use Rattle.iceoryx2_calls.specs.QuietPrepared.{CreatesPrepared, OpensPrepared}
 use Rattle.iceoryx2_calls.specs.QuietLaws.{HoldsTheSame, HasNothingAt}
 use Rattle.iceoryx2_calls.proofs.quiet.Lift.{equal_or_not}
 use Rattle.iceoryx2_calls.proofs.quiet.Counts.{get_first_own, len_first, len_fewer_less, get_more_own, get_more_other}
 use Rattle.iceoryx2_calls.proofs.quiet.Same.{same_segment, joined_times, holds_the_same, nothing_at}
 use Rattle.iceoryx2_calls.proofs.quiet.Calls.{with_service_has}
+use Rattle.iceoryx2_calls.proofs.quiet.Prepared.{refused_prepared}
 
 module _ {F E C : Type 0} (m : Meaning F E C) (i : ℕ) (h : ServiceHash) where
   -- a refused call keeps the services
@@ -45,11 +47,11 @@ module _ {F E C : Type 0} (m : Meaning F E C) (i : ℕ) (h : ServiceHash) where
   open_refused q p e (call.no_number x there good fits place end) = refl
   open_refused q p e (call.no_memory x there) = refl
 
-  pub refused_create : (name : List ℕ) (now : Result Span ClockFault) (w v : World) (q p : Quiet) (e : C) → Shows w q → Shows v p → Creates m q i h name now (Err e) p → HoldsTheSame w v
-  refused_create name now w v q p e s t c = holds_the_same w v q p s t (create_refused name now q p e c)
+  pub refused_create : (name : List ℕ) (now : Result Span ClockFault) (w v : World) (q p : Quiet) (e : C) → Shows w q → Shows v p → CreatesPrepared m q i h name now (Err e) p → HoldsTheSame w v
+  refused_create name now w v q p e s t c = holds_the_same w v q p s t (refused_prepared (λ p. p.services ≡ q.services) refl (λ e p is. create_refused name now q p e is) c)
 
-  pub refused_open : (w v : World) (q p : Quiet) (e : E) → Shows w q → Shows v p → Opens m q i h (Err e) p → HoldsTheSame w v
-  refused_open w v q p e s t c = holds_the_same w v q p s t (open_refused q p e c)
+  pub refused_open : (w v : World) (q p : Quiet) (e : E) → Shows w q → Shows v p → OpensPrepared m q i h (Err e) p → HoldsTheSame w v
+  refused_open w v q p e s t c = holds_the_same w v q p s t (refused_prepared (λ p. p.services ≡ q.services) refl (λ e p is. open_refused q p e is) c)
 
 -- the one node of a new service has closed it
 closed_again : (i : ℕ) (d : Description) (n : ℕ) → closed_by i 1 (created_by i d n) ≡ None

@@ -1,10 +1,7 @@
 use Rattle.std.proofs.Common.{◌≡◌, refl}
 use Rattle.std.specs.Prelude.{IfErr}
 use Rattle.iceoryx2_pattern.specs.declared.pattern.OpenRefusal.TheVariants as refusal
-use Rattle.iceoryx2_calls.specs.Quiet.{Shows}
-use Rattle.iceoryx2_calls.specs.QuietLaws.{HoldsTheSame}
-use Rattle.iceoryx2_calls.proofs.quiet.Same.{holds_the_same}
-use Rattle.iceoryx2_calls.proofs.quiet.Prepared.{prepared_follows, each_prepared, refused_prepared, granted_prepared}
+use Rattle.iceoryx2_calls.proofs.quiet.Prepared.{prepared_follows, each_prepared, granted_prepared}
 use Rattle.iceoryx2_calls.proofs.quiet.Calls.{create_follows, open_follows}
 use Rattle.iceoryx2_calls.proofs.quiet.After.{refused_create, refused_open, create_and_close, opened_again, accepted}
 use Rattle.iceoryx2_calls.proofs.quiet_laws.quiet_calls.Goals as goal
@@ -24,12 +21,10 @@ returns-clause-prepared_open g c = λ m node hash w v q word answer regular s ol
     prepared_follows w v s old (λ word answer is. open_follows m node hash w v q word answer regular s old is) is_call run
 
 pub returns-clause-refused_create : goal.returns-clause-refused_create
-returns-clause-refused_create g c = λ m node hash name now w v q p error s t call.
-    refused_prepared (λ p. Shows v p → HoldsTheSame w v) (λ t. holds_the_same w v q q s t refl) (λ e p is t. refused_create m node hash name now w v q p e s t is) call t
+returns-clause-refused_create g c = λ m node hash name now w v q p error s t call. refused_create m node hash name now w v q p error s t call
 
 pub returns-clause-refused_open : goal.returns-clause-refused_open
-returns-clause-refused_open g c = λ m node hash w v q p error s t call.
-    refused_prepared (λ p. Shows v p → HoldsTheSame w v) (λ t. holds_the_same w v q q s t refl) (λ e p is t. refused_open m node hash w v q p e s t is) call t
+returns-clause-refused_open g c = λ m node hash w v q p error s t call. refused_open m node hash w v q p error s t call
 
 pub returns-clause-create_and_close : goal.returns-clause-create_and_close
 returns-clause-create_and_close g c = λ m node hash name now w v q p z r s t call close. create_and_close m node hash name now w v q p z r s t (granted_prepared call) close
