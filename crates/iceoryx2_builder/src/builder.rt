@@ -1,21 +1,16 @@
 //! Nodes, and where their builders begin.
 
-ghost use Rattle.std.specs.Prelude.{◌≡◌, ◌<◌, ◌^◌, ℕ, List, Result};
-ghost use Rattle.iceoryx2_values.specs.Span.{Span};
-ghost use Rattle.iceoryx2_values.specs.declared.description.ServiceHash.{ServiceHash};
-ghost use Rattle.iceoryx2_values.specs.declared.time.ClockFault.{ClockFault};
-ghost use Rattle.iceoryx2_attributes.specs.Attributes.{Pair};
-ghost use Rattle.iceoryx2_attributes.specs.Requirements.{no_requirements};
-ghost use Rattle.iceoryx2_builder.specs.Event.{event_creating, event_opening};
-ghost use Rattle.iceoryx2_builder.specs.OwnSettings.{AcceptsOwn};
-ghost use Rattle.iceoryx2_builder.specs.Request.{fresh_request};
-ghost use Rattle.iceoryx2_builder.specs.declared.builder.event.demand.EventDemand.{EventDemand};
+ghost use Rattle.std.specs.Prelude.{◌≡◌};
+ghost use Rattle.iceoryx2_builder_base.specs.Builders.{IsBuilder};
+ghost use Rattle.iceoryx2_event_builder.specs.Event.{event_creating, event_opening};
+ghost use Rattle.iceoryx2_event_builder.specs.Request.{fresh_request};
+ghost use Rattle.iceoryx2_event_builder.specs.declared.event.demand.EventDemand.{EventDemand};
 
-pub mod event;
-
-use iceoryx2_access::storage::{Service, ServiceNameHasher};
+use iceoryx2_access::storage::Service;
+use iceoryx2_builder_base::base::BuilderWithServiceType;
+pub use iceoryx2_event_builder::event;
 use iceoryx2_values::config::Config;
-use iceoryx2_values::description::{ServiceHash, ServiceName};
+use iceoryx2_values::description::ServiceName;
 use std::marker::{Model, PhantomData};
 
 /// One that creates and opens services: a number, and the settings that its builders start from.
@@ -120,72 +115,19 @@ impl<S: Service> Builder<S> {
             node,
             config,
             name,
-            service,
+            service: _,
         } = self;
-        let base = BuilderWithServiceType {
-            node,
-            name,
-            service,
-        };
+        let base = BuilderWithServiceType::new(node, name);
         event::Builder::new(base, config.event)
     }
 }
 
-/// What a builder has once its pattern is chosen, whatever the pattern is: the node and the name.
-pub struct BuilderWithServiceType<S: Service> {
-    node: u64,
-    name: ServiceName,
-    service: PhantomData<S>,
-}
-
-impl<S: Service> Model for BuilderWithServiceType<S> {
-    ghost use Rattle.iceoryx2_builder.specs.Request.{ServiceFacts};
-
-    ghost Value = { ServiceFacts };
-
-    ghost view = { λ base. record { node = base.node; name = base.name } };
-}
-
-impl<S: Service> Drop for BuilderWithServiceType<S> {
-    fn drop(self) {
-        let BuilderWithServiceType {
-            node: _,
-            name: _,
-            service: _,
-        } = self;
-    }
-}
-
-impl<S: Service> BuilderWithServiceType<S> {
-    /// The node that creates or opens the service.
-    pub(crate) fn node(&self) -> u64
-        ensures { result ≡ self.now.node }
-    {
-        self.node
-    }
-
-    /// The service's name.
-    pub(crate) fn name(&self) -> &ServiceName
-        ensures { result.now ≡ self.now.name }
-    {
-        &self.name
-    }
-
-    /// The hash of the service of this name, of the pattern with this letter.
-    pub(crate) fn hash(&self, letter: u8) -> ServiceHash
-        ensures { result ≡ S.ServiceNameHasher.hash_of letter self.now.name }
-    {
-        S::ServiceNameHasher::hash(letter, &self.name)
-    }
-}
-
-/// What holds of the builders of each pattern.
+/// What holds of the builders of each pattern, whatever they ask and whatever the clock says.
 ///
 /// A builder opens what the same builder creates: with its adjusted settings a create publishes
-/// what fits it and meets each setting that it requires, whatever attributes are defined and
-/// whatever the clock says.
+/// what fits it and meets each setting that it requires, whatever attributes are defined.
 pub fn laws()
-    ensures { (demand : EventDemand) (given : List Pair) (hash : ServiceHash) (name : List ℕ)
-        (now : Result Span ClockFault)
-        → AcceptsOwn (event_creating demand given) (event_opening demand no_requirements) hash name now }
-{}
+    ensures events { (demand : EventDemand) → IsBuilder (event_creating demand) (event_opening demand) }
+{
+    event::laws();
+}

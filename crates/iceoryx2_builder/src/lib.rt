@@ -1,4 +1,4 @@
-//! How a node says which service it wants, and makes or opens it.
+//! Nodes, and where the builders of all patterns begin.
 #![tactic(auto)]
 
 pub mod builder;

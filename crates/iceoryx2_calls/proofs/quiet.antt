@@ -15,5 +15,4 @@ pub mod Prepared
 pub mod Same
 pub mod After
 pub mod Listing
-pub mod Events
 pub mod Own

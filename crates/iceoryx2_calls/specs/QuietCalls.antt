@@ -8,7 +8,6 @@ use Rattle.iceoryx2_values.specs.Description.{Description, max_nodes_of}
 use Rattle.iceoryx2_values.specs.Span.{Span}
 use Rattle.iceoryx2_world.specs.World.{set_to}
 use Rattle.iceoryx2_world.specs.Steps.{last_number}
-use Rattle.iceoryx2_errors.specs.declared.error.ServiceState.TheVariants as state
 use Rattle.iceoryx2_pattern.specs.declared.pattern.CreateRefusal.TheVariants as create_refusal
 use Rattle.iceoryx2_pattern.specs.declared.pattern.OpenRefusal.TheVariants as open_refusal
 use Rattle.iceoryx2_pattern.specs.Meaning.{Meaning}
@@ -16,14 +15,6 @@ use Rattle.iceoryx2_pattern.specs.Verdict.{verdict}
 use Rattle.iceoryx2_access.specs.Factory.{Factory}
 use Rattle.iceoryx2_rounds.specs.Creates.{clock_stops, description_of}
 use Rattle.iceoryx2_calls.specs.Quiet.{NodeCounts, QuietService, Quiet, service_at, times_counted}
-
--- What the meanings of all patterns have in common: want of memory has one name, wherever a call
--- meets it, and a create says of a service that doesn't fit that it exists.
-pub record IsRegular {F E C : Type 0} (m : Meaning F E C) : Type 0 where
-  pub create_memory : m.create_error_of (m.fault state.OutOfMemory) ≡ m.create_refusal create_refusal.OutOfMemory
-  pub open_memory : m.open_error_of (m.fault state.OutOfMemory) ≡ m.open_refusal open_refusal.OutOfMemory
-  pub misfit : (d : Description) (fault : F) → m.misfit d ≡ Some fault
-      → m.create_error_of fault ≡ m.create_refusal create_refusal.AlreadyExists
 
 -- a service that a node has just created
 abbrev pub first_counts : ℕ → NodeCounts

@@ -20,21 +20,17 @@ ghost use Rattle.iceoryx2_world.specs.Standing.{ticket_for};
 ghost use Rattle.iceoryx2_world.specs.Listing.{Lists};
 ghost use Rattle.iceoryx2_pattern.specs.declared.pattern.OpenRefusal.TheVariants.{OutOfMemory};
 ghost use Rattle.iceoryx2_errors.specs.declared.error.CloseError.{CloseError};
-ghost use Rattle.iceoryx2_errors.specs.declared.error.EventOpenError.{EventOpenError};
-ghost use Rattle.iceoryx2_errors.specs.declared.error.EventOpenError.TheVariants as opening;
 ghost use Rattle.iceoryx2_pattern.specs.Meaning.{Meaning};
+ghost use Rattle.iceoryx2_pattern.specs.Regular.{IsRegular};
 ghost use Rattle.iceoryx2_pattern.specs.Verdict.{verdict};
 ghost use Rattle.iceoryx2_access.specs.Factory.{Factory};
 ghost use Rattle.iceoryx2_rounds.specs.Creates.{IsCreateWord, time_of};
 ghost use Rattle.iceoryx2_rounds.specs.Opens.{IsOpenWord};
+ghost use Rattle.iceoryx2_rounds.specs.OwnSettings.{AcceptsOwn};
 ghost use Rattle.iceoryx2_rounds.specs.Prepared.{IsCreateCall, IsOpenCall};
 ghost use Rattle.iceoryx2_port_factory.specs.Closes.{IsCloseWord};
-ghost use Rattle.iceoryx2_builder.specs.declared.builder.event.demand.EventDemand.{EventDemand};
-ghost use Rattle.iceoryx2_attributes.specs.Attributes.{Pair};
-ghost use Rattle.iceoryx2_attributes.specs.Requirements.{Requirements, no_requirements};
-ghost use Rattle.iceoryx2_builder.specs.Event.{event_creating, event_opening};
 ghost use Rattle.iceoryx2_calls.specs.Quiet.{Quiet, QuietService, Shows, no_service, service_at, times_counted};
-ghost use Rattle.iceoryx2_calls.specs.QuietCalls.{IsRegular, Creates, Opens, Closes, HasPlace, HasNumber};
+ghost use Rattle.iceoryx2_calls.specs.QuietCalls.{Creates, Opens, Closes, HasPlace, HasNumber};
 ghost use Rattle.iceoryx2_calls.specs.QuietPrepared.{CreatesPrepared, OpensPrepared};
 ghost use Rattle.iceoryx2_calls.specs.QuietLists.{listing};
 ghost use Rattle.iceoryx2_calls.specs.QuietLaws.{IsCall, IsClose, HasOpened, HoldsTheSame, HasNothingAt, times_opened};
@@ -79,25 +75,6 @@ pub fn quiet_laws()
     // What is listed are the machine's services.
     ensures list { (w : World) (q : Quiet) (entries : List Entry)
         → Shows w q → Lists w entries → entries ≡ listing q }
-
-    // The meanings of each builder of events are regular, and with its adjusted settings a create
-    // publishes for one node or more.
-    ensures creating_events { (demand : EventDemand) (given : List Pair) → IsRegular (event_creating demand given) }
-    ensures opening_events { (demand : EventDemand) (required : Requirements)
-        → IsRegular (event_opening demand required) }
-    ensures events_take_nodes { (demand : EventDemand) (given : List Pair) (now : Span)
-        → 0 < max_nodes_of ((event_creating demand given).published now) }
-
-    // What a builder of events has created the same builder opens, whatever attributes it defined:
-    // while the service stands, with a place and a number left, an open with the same settings that
-    // requires no attributes is Ok or wants memory.
-    ensures own_settings { (demand : EventDemand) (given : List Pair) (hash : ServiceHash) (name : List ℕ)
-        (now : Result Span ClockFault) (creator node : ℕ) (q p u z : Quiet) (f : Factory) (x : QuietService)
-        (answer : Result Factory EventOpenError)
-        → Creates (event_creating demand given) q creator hash name now (Ok f) p
-        → service_at u hash ≡ Some x → x.description ≡ f.description → HasPlace x node → HasNumber u
-        → Opens (event_opening demand no_requirements) u node hash answer z
-        → IfErr answer (λ e. e ≡ opening.OutOfMemory) }
 {}
 
 /// What holds of the calls of each pattern over such a table.
@@ -163,4 +140,15 @@ pub fn quiet_calls<F: Copy, E: Copy, C: Copy>()
         → verdict (m.requirement x.description) ≡ Ok tt → HasPlace x node → HasNumber q
         → OpensPrepared m q node hash answer p
         → IfErr answer (λ e. e ≡ m.open_refusal OutOfMemory) }
+
+    // What a builder has created the same builder opens, if it accepts what it creates: while the
+    // service stands, with a place and a number left, its open is Ok or wants memory.
+    ensures own_settings { (creating opening : Meaning F E C) (hash : ServiceHash) (name : List ℕ)
+        (now : Result Span ClockFault) (creator node : ℕ) (q p u z : Quiet) (f : Factory) (x : QuietService)
+        (answer : Result Factory E)
+        → AcceptsOwn creating opening hash name now
+        → CreatesPrepared creating q creator hash name now (Ok f) p
+        → service_at u hash ≡ Some x → x.description ≡ f.description → HasPlace x node → HasNumber u
+        → OpensPrepared opening u node hash answer z
+        → IfErr answer (λ e. e ≡ opening.open_refusal OutOfMemory) }
 {}

@@ -1,2 +1,3 @@
 pub mod Verdicts
 pub mod OwnAttributes
+pub mod MetRows

@@ -1,3 +1,4 @@
 pub mod Verdict
 pub mod Meaning
 pub mod OwnAttributes
+pub mod Regular

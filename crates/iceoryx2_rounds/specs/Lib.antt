@@ -6,3 +6,4 @@ pub mod Creates
 pub mod Opens
 pub mod Answers
 pub mod Prepared
+pub mod OwnSettings

@@ -1,12 +1,10 @@
 -- What the builder calls of all patterns have in common.
-use Rattle.std.proofs.Common.{ℕ, ◌<◌, List}
+use Rattle.std.proofs.Common.{ℕ, List}
 use Rattle.iceoryx2_values.specs.declared.config.Config.{Config}
-use Rattle.iceoryx2_values.specs.Description.{max_nodes_of}
-use Rattle.iceoryx2_values.specs.Span.{Span}
-use Rattle.iceoryx2_builder.specs.Request.{EventRequest, fresh_request}
+use Rattle.iceoryx2_event_builder.specs.Request.{EventRequest, fresh_request}
 use Rattle.iceoryx2_attributes.specs.Requirements.{Requirements}
-use Rattle.iceoryx2_calls.specs.QuietCalls.{IsRegular}
-use Rattle.iceoryx2_calls.proofs.quiet.Events.{creating_is_regular, opening_is_regular, event_takes_nodes}
+use Rattle.iceoryx2_pattern.specs.Regular.{IsRegular, TakesNodes}
+use Rattle.iceoryx2_event_builder.proofs.Builders.{event_builder}
 use Rattle.iceoryx2_service.specs.declared.command.Settings.{Settings}
 use Rattle.iceoryx2_service.specs.declared.command.Settings.TheVariants as settings
 use Rattle.iceoryx2_service.specs.BuilderCalls.{BuilderCall}
@@ -18,13 +16,13 @@ use Rattle.iceoryx2_service.specs.Patterns.{call_by, builder_call}
 pub record IsRegularCall (b : BuilderCall) : Type 0 where
   pub creating : IsRegular b.creating
   pub opening : IsRegular b.opening
-  pub takes_nodes : (now : Span) → 0 < max_nodes_of (b.creating.published now)
+  pub takes_nodes : TakesNodes b.creating
 
 event_call_is_regular : (b : EventRequest) (attributes : Requirements) → IsRegularCall (event_call b attributes)
 event_call_is_regular b attributes = record {
-  creating = creating_is_regular b.demand attributes.pairs;
-  opening = opening_is_regular b.demand attributes;
-  takes_nodes = event_takes_nodes b.demand attributes.pairs;
+  creating = (event_builder b.demand).creating_is_regular attributes.pairs;
+  opening = (event_builder b.demand).opening_is_regular attributes;
+  takes_nodes = (event_builder b.demand).takes_nodes attributes.pairs;
 }
 
 -- one row a pattern

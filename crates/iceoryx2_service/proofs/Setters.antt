@@ -1,8 +1,8 @@
 -- One setter after the others.
 use Rattle.std.proofs.Common.{◌≡◌, ℕ, ◌+◌, ◌<◌, List, [], ◌∷◌, ◌++◌, length, take, get_or, refl, sym, add-one}
 use Rattle.std.proofs.Math.Seq.{take-suc}
-use Rattle.iceoryx2_builder.specs.declared.builder.event.setting.EventSetting.{EventSetting}
-use Rattle.iceoryx2_builder.specs.Request.{EventRequest, with_setting}
+use Rattle.iceoryx2_event_builder.specs.declared.event.setting.EventSetting.{EventSetting}
+use Rattle.iceoryx2_event_builder.specs.Request.{EventRequest, with_setting}
 use Rattle.iceoryx2_service.specs.Events.{with_settings}
 
 pub with_settings_push : (b : EventRequest) (xs : List EventSetting) (x : EventSetting) → with_settings b (xs ++ x ∷ []) ≡ with_setting (with_settings b xs) x

@@ -1,12 +1,12 @@
 -- Builder calls for services of events.
 use Rattle.std.specs.Prelude.{false, List, [], ◌∷◌}
 use Rattle.iceoryx2_errors.specs.declared.error.ServiceState.{ServiceState}
-use Rattle.iceoryx2_errors.specs.declared.error.EventOpenError.{EventOpenError}
-use Rattle.iceoryx2_errors.specs.declared.error.EventCreateError.{EventCreateError}
-use Rattle.iceoryx2_builder.specs.declared.builder.event.setting.EventSetting.{EventSetting}
-use Rattle.iceoryx2_builder.specs.Request.{EventRequest, letter_of_events, with_setting}
+use Rattle.iceoryx2_errors.specs.declared.error.events.EventOpenError.{EventOpenError}
+use Rattle.iceoryx2_errors.specs.declared.error.events.EventCreateError.{EventCreateError}
+use Rattle.iceoryx2_event_builder.specs.declared.event.setting.EventSetting.{EventSetting}
+use Rattle.iceoryx2_event_builder.specs.Request.{EventRequest, letter_of_events, with_setting}
 use Rattle.iceoryx2_attributes.specs.Requirements.{Requirements}
-use Rattle.iceoryx2_builder.specs.Event.{event_creating, event_opening}
+use Rattle.iceoryx2_event_builder.specs.Event.{event_creating, event_opening}
 use Rattle.iceoryx2_service.specs.declared.command.Refusal.TheVariants as refusal
 use Rattle.iceoryx2_service.specs.BuilderCalls.{BuilderCall, hash_for}
 

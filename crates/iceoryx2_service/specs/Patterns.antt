@@ -2,7 +2,7 @@
 use Rattle.std.specs.Prelude.{ℕ, List}
 use Rattle.iceoryx2_attributes.specs.Requirements.{Requirements}
 use Rattle.iceoryx2_values.specs.declared.config.Config.{Config}
-use Rattle.iceoryx2_builder.specs.Request.{fresh_request}
+use Rattle.iceoryx2_event_builder.specs.Request.{fresh_request}
 use Rattle.iceoryx2_service.specs.declared.command.Settings.{Settings}
 use Rattle.iceoryx2_service.specs.declared.command.Settings.TheVariants as settings
 use Rattle.iceoryx2_service.specs.declared.command.Call.{Call}

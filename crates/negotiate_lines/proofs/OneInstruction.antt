@@ -4,8 +4,8 @@ use Rattle.std.specs.Char.{digit_value}
 use Rattle.std.specs.Str.Parse.{digits_value}
 use Rattle.iceoryx2_values.specs.declared.time.ClockFault.{ClockFault}
 use Rattle.iceoryx2_values.specs.Span.{Span}
-use Rattle.iceoryx2_builder.specs.declared.builder.event.setting.EventSetting.{EventSetting}
-use Rattle.iceoryx2_builder.specs.declared.builder.event.setting.EventSetting.TheVariants as set
+use Rattle.iceoryx2_event_builder.specs.declared.event.setting.EventSetting.{EventSetting}
+use Rattle.iceoryx2_event_builder.specs.declared.event.setting.EventSetting.TheVariants as set
 use Rattle.iceoryx2_service.specs.declared.command.How.{How}
 use Rattle.negotiate_lines.specs.declared.event_word.WordName.{WordName}
 use Rattle.negotiate_lines.specs.declared.event_word.WordName.TheVariants as before

@@ -6,7 +6,7 @@ use Rattle.iceoryx2_attributes.specs.Additions.{AddsPair, AddsKey}
 use Rattle.iceoryx2_values.specs.declared.time.ClockFault.{ClockFault}
 use Rattle.iceoryx2_values.specs.Span.{Span, zero_span}
 use Rattle.iceoryx2_access.specs.Run.{Run}
-use Rattle.iceoryx2_builder.specs.declared.builder.event.setting.EventSetting.{EventSetting}
+use Rattle.iceoryx2_event_builder.specs.declared.event.setting.EventSetting.{EventSetting}
 use Rattle.iceoryx2_service.specs.declared.command.How.{How}
 use Rattle.negotiate_lines.specs.EventWords.{Instruction, setting, now, attribute, required_key, SaysWord}
 

@@ -3,8 +3,8 @@ use Rattle.std.specs.Prelude.{ℕ, ◌≡◌, ◌^◌, List, Option, Some, None,
 use Rattle.iceoryx2_values.specs.declared.time.TheConstants.{NANOSECONDS_PER_SECOND}
 use Rattle.iceoryx2_values.specs.declared.time.ClockFault.{ClockFault}
 use Rattle.iceoryx2_values.specs.Span.{Span}
-use Rattle.iceoryx2_builder.specs.declared.builder.event.setting.EventSetting.{EventSetting}
-use Rattle.iceoryx2_builder.specs.declared.builder.event.setting.EventSetting.TheVariants as set
+use Rattle.iceoryx2_event_builder.specs.declared.event.setting.EventSetting.{EventSetting}
+use Rattle.iceoryx2_event_builder.specs.declared.event.setting.EventSetting.TheVariants as set
 use Rattle.iceoryx2_service.specs.declared.command.How.{How}
 use Rattle.iceoryx2_service.specs.declared.command.How.TheVariants as how
 use Rattle.negotiate_lines.specs.declared.event_word.EventWord.{EventWord}

@@ -2,7 +2,7 @@
 use Rattle.std.specs.Prelude.{ℕ, ◌≡◌, ◌≢◌, ◌^◌, List, [], ◌∷◌, codes}
 use Rattle.std.specs.Str.{IsUtf8}
 use Rattle.iceoryx2_values.specs.Names.{IsName}
-use Rattle.iceoryx2_builder.specs.declared.builder.event.setting.EventSetting.{EventSetting}
+use Rattle.iceoryx2_event_builder.specs.declared.event.setting.EventSetting.{EventSetting}
 use Rattle.iceoryx2_service.specs.declared.command.Command.{Command}
 use Rattle.iceoryx2_service.specs.declared.command.Command.TheVariants as command
 use Rattle.iceoryx2_service.specs.declared.command.Call.{Call}

@@ -26,7 +26,8 @@ use Rattle.iceoryx2_access.specs.Factory.{Factory}
 use Rattle.iceoryx2_rounds.specs.Creates.{IsCreateWord, time_of, description_of}
 use Rattle.iceoryx2_rounds.specs.Opens.{IsOpenWord}
 use Rattle.iceoryx2_calls.specs.Quiet.{QuietService, Quiet, ShowsService, Shows, no_service, service_at}
-use Rattle.iceoryx2_calls.specs.QuietCalls.{IsRegular, Creates, Opens, created_by, opened_by, with_service, spend}
+use Rattle.iceoryx2_pattern.specs.Regular.{IsRegular}
+use Rattle.iceoryx2_calls.specs.QuietCalls.{Creates, Opens, created_by, opened_by, with_service, spend}
 use Rattle.iceoryx2_calls.specs.QuietCalls as call
 use Rattle.iceoryx2_calls.specs.QuietLaws.{IsCall, IsClose}
 use Rattle.iceoryx2_calls.specs.Tickets.{tickets_after}

@@ -39,7 +39,7 @@ use Rattle.iceoryx2_rounds.specs.GivesBack as back
 use Rattle.iceoryx2_rounds.specs.Opens.{IsReady, IsFailedRound, IsLastRound, AreFailedRounds, IsOpenWord}
 use Rattle.iceoryx2_rounds.specs.Opens as word
 use Rattle.iceoryx2_calls.specs.Quiet.{CountIs}
-use Rattle.iceoryx2_calls.specs.QuietCalls.{IsRegular}
+use Rattle.iceoryx2_pattern.specs.Regular.{IsRegular}
 use Rattle.iceoryx2_calls.proofs.quiet.Seats.{AtSeat}
 use Rattle.iceoryx2_calls.proofs.quiet.Absent.{at_seat, bare, into, ended, from, same_number, look_bare}
 use Rattle.iceoryx2_calls.proofs.quiet.There.{over, Fetched, reads, keeps, LooksThere, finds, misfits, forgets, starved, look_there, still_counts}

@@ -25,7 +25,8 @@ use Rattle.iceoryx2_pattern.specs.Meaning.{Meaning}
 use Rattle.iceoryx2_access.specs.Factory.{Factory}
 use Rattle.iceoryx2_rounds.specs.Opens.{IsOpenWord}
 use Rattle.iceoryx2_calls.specs.Quiet.{NodeCounts, QuietService, Quiet, IsThere, Shows, CountIs, service_at, times_counted, is_counted}
-use Rattle.iceoryx2_calls.specs.QuietCalls.{IsRegular, Opens, HasPlace, more_counts, opened_by, with_service, spend}
+use Rattle.iceoryx2_pattern.specs.Regular.{IsRegular}
+use Rattle.iceoryx2_calls.specs.QuietCalls.{Opens, HasPlace, more_counts, opened_by, with_service, spend}
 use Rattle.iceoryx2_calls.specs.QuietCalls as call
 use Rattle.iceoryx2_calls.specs.Tickets.{tickets_after}
 use Rattle.iceoryx2_calls.proofs.quiet.Seats.{Apart, AtSeat}

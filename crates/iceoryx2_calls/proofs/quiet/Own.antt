@@ -9,7 +9,7 @@ use Rattle.iceoryx2_pattern.specs.declared.pattern.OpenRefusal.TheVariants as re
 use Rattle.iceoryx2_pattern.specs.Meaning.{Meaning}
 use Rattle.iceoryx2_rounds.specs.Creates.{description_of}
 use Rattle.iceoryx2_pattern.specs.Verdict.{verdict}
-use Rattle.iceoryx2_builder.specs.OwnSettings.{AcceptsOwn}
+use Rattle.iceoryx2_rounds.specs.OwnSettings.{AcceptsOwn}
 use Rattle.iceoryx2_calls.specs.Quiet.{QuietService, Quiet, service_at}
 use Rattle.iceoryx2_calls.specs.QuietCalls.{Creates, Opens, HasPlace, HasNumber}
 use Rattle.iceoryx2_calls.specs.QuietCalls as call

@@ -30,7 +30,8 @@ use Rattle.iceoryx2_rounds.specs.Looks as look
 use Rattle.iceoryx2_rounds.specs.Creates.{IsEntryWord, IsCreateWord}
 use Rattle.iceoryx2_rounds.specs.Creates as create
 use Rattle.iceoryx2_calls.specs.Quiet.{QuietService, Quiet, IsThere, ShowsService, Shows, CountIs, service_at, times_counted}
-use Rattle.iceoryx2_calls.specs.QuietCalls.{IsRegular, Creates}
+use Rattle.iceoryx2_pattern.specs.Regular.{IsRegular}
+use Rattle.iceoryx2_calls.specs.QuietCalls.{Creates}
 use Rattle.iceoryx2_calls.specs.QuietCalls as call
 use Rattle.iceoryx2_calls.specs.Tickets.{tickets_after}
 use Rattle.iceoryx2_calls.proofs.quiet.Seats.{Apart, AtSeat}

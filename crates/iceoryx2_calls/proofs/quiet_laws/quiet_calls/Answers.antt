@@ -4,6 +4,7 @@ use Rattle.iceoryx2_pattern.specs.declared.pattern.OpenRefusal.TheVariants as re
 use Rattle.iceoryx2_calls.proofs.quiet.Prepared.{prepared_follows, each_prepared, granted_prepared}
 use Rattle.iceoryx2_calls.proofs.quiet.Calls.{create_follows, open_follows}
 use Rattle.iceoryx2_calls.proofs.quiet.After.{refused_create, refused_open, create_and_close, opened_again, accepted}
+use Rattle.iceoryx2_calls.proofs.quiet.Own.{opens_own}
 use Rattle.iceoryx2_calls.proofs.quiet_laws.quiet_calls.Goals as goal
 
 pub returns-clause-create : goal.returns-clause-create
@@ -35,3 +36,8 @@ returns-clause-again g c = λ m node hash w v q p r x k s t there counted call. 
 pub returns-clause-accepted : goal.returns-clause-accepted
 returns-clause-accepted g c = λ m node hash q p x answer there good fits place room call.
     each_prepared (λ answer p. IfErr answer (λ e. e ≡ m.open_refusal refusal.OutOfMemory)) refl (λ answer p is. accepted m node hash q p x answer there good fits place room is) call
+
+pub returns-clause-own_settings : goal.returns-clause-own_settings
+returns-clause-own_settings g c = λ creating opening hash name now creator node q p u z f x answer own made there same place room opened.
+    each_prepared (λ answer z. IfErr answer (λ e. e ≡ opening.open_refusal refusal.OutOfMemory)) refl
+    (λ answer z is. opens_own creating opening hash name now own creator node q p u z f x answer (granted_prepared made) there same place room is) opened

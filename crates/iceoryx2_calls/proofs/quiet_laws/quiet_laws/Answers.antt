@@ -2,11 +2,6 @@ use Rattle.iceoryx2_calls.proofs.quiet.Calls.{empty_shows, close_follows}
 use Rattle.iceoryx2_calls.proofs.quiet.Tickets.{has_opened}
 use Rattle.iceoryx2_calls.proofs.quiet.Same.{holds_the_same, nothing_at, tickets_counted, tags_counted, all_gone}
 use Rattle.iceoryx2_calls.proofs.quiet.Listing.{lists_the_machine}
-use Rattle.iceoryx2_calls.proofs.quiet.Events.{creating_is_regular, opening_is_regular, event_takes_nodes}
-use Rattle.iceoryx2_builder.proofs.OwnSettings.{own_settings}
-use Rattle.iceoryx2_attributes.specs.Requirements.{no_requirements}
-use Rattle.iceoryx2_builder.specs.Event.{event_creating, event_opening}
-use Rattle.iceoryx2_calls.proofs.quiet.Own.{opens_own}
 use Rattle.iceoryx2_calls.proofs.quiet_laws.quiet_laws.Goals as goal
 
 pub returns-clause-empty : goal.returns-clause-empty
@@ -35,16 +30,3 @@ returns-clause-unused c = λ w q s old none. all_gone w q s old none
 
 pub returns-clause-list : goal.returns-clause-list
 returns-clause-list c = λ w q entries s lists. lists_the_machine w q entries s lists
-
-pub returns-clause-creating_events : goal.returns-clause-creating_events
-returns-clause-creating_events c = λ demand given. creating_is_regular demand given
-
-pub returns-clause-opening_events : goal.returns-clause-opening_events
-returns-clause-opening_events c = λ demand required. opening_is_regular demand required
-
-pub returns-clause-events_take_nodes : goal.returns-clause-events_take_nodes
-returns-clause-events_take_nodes c = λ demand given now. event_takes_nodes demand given now
-
-pub returns-clause-own_settings : goal.returns-clause-own_settings
-returns-clause-own_settings c = λ demand given hash name now creator node q p u z f x answer made there same place room opened.
-    opens_own (event_creating demand given) (event_opening demand no_requirements) hash name now (own_settings demand given hash name now) creator node q p u z f x answer made there same place room opened

@@ -1,0 +1,5 @@
+//! What the builders of all patterns have in common.
+#![tactic(auto)]
+
+pub mod base;
+pub mod zeros;

@@ -1,0 +1,3 @@
+pub mod OwnSettings
+pub mod Regular
+pub mod Builders

@@ -1,0 +1,40 @@
+-- What a builder's adjusted settings publish is accepted by the same builder.
+use Rattle.std.proofs.Common.{◌≡◌, ℕ, true, List, [], Option, Some, None, Ok, refl}
+use Rattle.std.specs.Prelude.{Result}
+use Rattle.std.specs.Option.{option_map}
+use Rattle.iceoryx2_values.specs.declared.description.ServiceHash.{ServiceHash}
+use Rattle.iceoryx2_values.specs.declared.time.ClockFault.{ClockFault}
+use Rattle.iceoryx2_values.specs.Span.{Span}
+use Rattle.iceoryx2_values.specs.declared.event.Deadline.{Deadline}
+use Rattle.iceoryx2_pattern.specs.Verdict.{verdict, is_same_span}
+use Rattle.iceoryx2_rounds.specs.Creates.{description_of, time_of}
+use Rattle.iceoryx2_pattern.proofs.Verdicts.{no_row}
+use Rattle.iceoryx2_pattern.proofs.MetRows.{offers, sends, lasts, then_more, not_less, same_number, same_choice}
+use Rattle.iceoryx2_builder_base.proofs.Raised.{not_below}
+use Rattle.iceoryx2_event_builder.specs.declared.event.demand.EventDemand.{EventDemand}
+use Rattle.iceoryx2_attributes.specs.Attributes.{Pair}
+use Rattle.iceoryx2_attributes.specs.Requirements.{no_requirements}
+use Rattle.iceoryx2_event_builder.specs.Event.{event_meaning, event_adjusted, event_creating, event_opening, created_deadline, deadline_value}
+use Rattle.iceoryx2_rounds.specs.OwnSettings.{AcceptsOwn}
+
+-- a create sets the time of a deadline, and not its length
+same_deadline : (now : Span) (deadline : Option Deadline)
+    → is_same_span (deadline_value (option_map (created_deadline now) deadline)) (deadline_value deadline) ≡ true
+same_deadline now None = refl
+same_deadline now (Some d) = rw (same_number d.value.seconds) (same_number d.value.nanoseconds)
+
+meets : (demand : EventDemand) (hash : ServiceHash) (name : List ℕ) (now : Result Span ClockFault)
+    → verdict ((event_meaning demand).requirement (description_of (event_meaning (event_adjusted demand)) hash name now)) ≡ Ok tt
+meets demand hash name now =
+    then_more _ _ (offers _ _ _ _ (not_below demand.settings.max_notifiers))
+    (then_more _ _ (offers _ _ _ _ (not_below demand.settings.max_listeners))
+    (then_more _ _ (offers _ _ _ _ (not_less demand.settings.event_id_max_value))
+    (then_more _ _ (offers _ _ _ _ (not_below demand.settings.max_nodes))
+    (then_more _ _ (sends _ _ _ _ (same_choice demand.settings.notifier_created_event))
+    (then_more _ _ (sends _ _ _ _ (same_choice demand.settings.notifier_dropped_event))
+    (then_more _ _ (sends _ _ _ _ (same_choice demand.settings.notifier_dead_event))
+    (then_more _ [] (lasts _ _ _ _ (same_deadline (time_of now) demand.settings.deadline)) no_row)))))))
+
+pub own_settings : (demand : EventDemand) (given : List Pair) (hash : ServiceHash) (name : List ℕ) (now : Result Span ClockFault)
+    → AcceptsOwn (event_creating demand given) (event_opening demand no_requirements) hash name now
+own_settings demand given hash name now = record { fits = refl; accepted = meets demand hash name now }

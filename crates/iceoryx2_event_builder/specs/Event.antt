@@ -1,0 +1,113 @@
+-- What a builder of events asks, and its errors.
+use Rattle.std.specs.Prelude.{List, [], ◌∷◌, Option, None, is_some}
+use Rattle.std.specs.Option.{option_map}
+use Rattle.iceoryx2_attributes.specs.Attributes.{Pair}
+use Rattle.iceoryx2_attributes.specs.Requirements.{Requirements}
+use Rattle.iceoryx2_values.specs.Span.{Span}
+use Rattle.iceoryx2_values.specs.declared.description.MessagingPattern.{MessagingPattern}
+use Rattle.iceoryx2_values.specs.declared.description.MessagingPattern.TheVariants as existing
+use Rattle.iceoryx2_values.specs.declared.event.StaticConfig.{StaticConfig as Settings}
+use Rattle.iceoryx2_values.specs.declared.event.Deadline.{Deadline}
+use Rattle.iceoryx2_pattern.specs.Verdict.{Clause, SettingRow, at_least, number_is, span_is, marked_clauses}
+use Rattle.iceoryx2_pattern.specs.Meaning.{Meaning}
+use Rattle.iceoryx2_pattern.specs.OwnAttributes.{defining, requiring}
+use Rattle.iceoryx2_errors.specs.States.{open_error_of_state, create_error_of_state}
+use Rattle.iceoryx2_errors.specs.declared.error.ServiceState.{ServiceState}
+use Rattle.iceoryx2_errors.specs.declared.error.events.EventOpenError.{EventOpenError}
+use Rattle.iceoryx2_errors.specs.declared.error.events.EventOpenError.TheVariants as opening
+use Rattle.iceoryx2_errors.specs.declared.error.events.EventCreateError.{EventCreateError}
+use Rattle.iceoryx2_errors.specs.declared.error.events.EventCreateError.TheVariants as creating
+use Rattle.iceoryx2_pattern.specs.declared.pattern.OpenRefusal.{OpenRefusal}
+use Rattle.iceoryx2_pattern.specs.declared.pattern.OpenRefusal.TheVariants as open_refusal
+use Rattle.iceoryx2_pattern.specs.declared.pattern.CreateRefusal.{CreateRefusal}
+use Rattle.iceoryx2_pattern.specs.declared.pattern.CreateRefusal.TheVariants as create_refusal
+use Rattle.iceoryx2_builder_base.specs.Zeros.{at_least_one}
+use Rattle.iceoryx2_event_builder.specs.declared.event.demand.EventDemand.{EventDemand}
+use Rattle.iceoryx2_event_builder.specs.declared.event.demand.Marks.{Marks}
+
+-- the length of a deadline: when the service was created is not compared
+abbrev pub deadline_value : Option Deadline → Option Span
+deadline_value deadline = option_map (λ d. d.value) deadline
+
+-- the settings in order, each with its test and its error
+abbrev pub setting_rows : Settings → Marks → Settings → List (SettingRow EventOpenError)
+setting_rows required marks existing =
+    at_least marks.max_notifiers existing.max_notifiers required.max_notifiers
+    opening.DoesNotSupportRequestedAmountOfNotifiers ∷
+    at_least marks.max_listeners existing.max_listeners required.max_listeners
+    opening.DoesNotSupportRequestedAmountOfListeners ∷
+    at_least marks.event_id_max_value existing.event_id_max_value required.event_id_max_value
+    opening.DoesNotSupportRequestedMaxEventId ∷
+    at_least marks.max_nodes existing.max_nodes required.max_nodes
+    opening.DoesNotSupportRequestedAmountOfNodes ∷
+    number_is marks.notifier_created_event existing.notifier_created_event required.notifier_created_event
+    opening.IncompatibleNotifierCreatedEvent ∷
+    number_is marks.notifier_dropped_event existing.notifier_dropped_event required.notifier_dropped_event
+    opening.IncompatibleNotifierDroppedEvent ∷
+    number_is marks.notifier_dead_event existing.notifier_dead_event required.notifier_dead_event
+    opening.IncompatibleNotifierDeadEvent ∷
+    span_is marks.deadline (deadline_value existing.deadline) (deadline_value required.deadline)
+    opening.IncompatibleDeadline ∷
+    []
+
+abbrev pub setting_clauses : EventDemand → MessagingPattern → List (Clause EventOpenError)
+setting_clauses demand (existing.Event settings) = marked_clauses (setting_rows demand.settings demand.marks settings)
+
+-- another pattern than events: so far there is no other
+abbrev pub misfit_of : MessagingPattern → Option ServiceState
+misfit_of (existing.Event settings) = None
+
+abbrev pub open_error_of_refusal : OpenRefusal → EventOpenError
+open_error_of_refusal open_refusal.DoesNotExist = opening.DoesNotExist
+open_error_of_refusal open_refusal.IncompatibleAttributes = opening.IncompatibleAttributes
+open_error_of_refusal open_refusal.ServiceInCorruptedState = opening.ServiceInCorruptedState
+open_error_of_refusal open_refusal.InternalFailure = opening.InternalFailure
+open_error_of_refusal open_refusal.ExceedsMaxNumberOfNodes = opening.ExceedsMaxNumberOfNodes
+open_error_of_refusal open_refusal.IsMarkedForDestruction = opening.IsMarkedForDestruction
+open_error_of_refusal open_refusal.OutOfMemory = opening.OutOfMemory
+
+abbrev pub create_error_of_refusal : CreateRefusal → EventCreateError
+create_error_of_refusal create_refusal.ServiceInCorruptedState = creating.ServiceInCorruptedState
+create_error_of_refusal create_refusal.InternalFailure = creating.InternalFailure
+create_error_of_refusal create_refusal.IsBeingCreatedByAnotherInstance = creating.IsBeingCreatedByAnotherInstance
+create_error_of_refusal create_refusal.AlreadyExists = creating.AlreadyExists
+create_error_of_refusal create_refusal.InsufficientPermissions = creating.InsufficientPermissions
+create_error_of_refusal create_refusal.OutOfMemory = creating.OutOfMemory
+
+-- zeros become one where a service has to have room for somebody
+abbrev pub event_adjusted : EventDemand → EventDemand
+event_adjusted demand = record demand {
+  settings = record demand.settings {
+    max_notifiers = at_least_one demand.settings.max_notifiers;
+    max_listeners = at_least_one demand.settings.max_listeners;
+    max_nodes = at_least_one demand.settings.max_nodes;
+  };
+}
+
+-- the deadline of a service that is created at this time
+abbrev pub created_deadline : Span → Deadline → Deadline
+created_deadline now deadline = record { value = deadline.value; creation_time = now }
+
+abbrev pub event_meaning : EventDemand → Meaning ServiceState EventOpenError EventCreateError
+event_meaning demand = record {
+  fault = λ state. state;
+  misfit = λ d. misfit_of d.pattern;
+  requirement = λ d. setting_clauses demand d.pattern;
+  open_error_of = open_error_of_state;
+  open_refusal = open_error_of_refusal;
+  create_error_of = create_error_of_state;
+  create_refusal = create_error_of_refusal;
+  history_refusal = None;
+  needs_clock = is_some demand.settings.deadline;
+  attributes = [];
+  published = λ now.
+      existing.Event (record demand.settings { deadline = option_map (created_deadline now) demand.settings.deadline });
+}
+
+-- a create: zeros are raised, and these attributes are defined
+abbrev pub event_creating : EventDemand → List Pair → Meaning ServiceState EventOpenError EventCreateError
+event_creating demand given = defining given (event_meaning (event_adjusted demand))
+
+-- an open: these attributes are required before the settings
+abbrev pub event_opening : EventDemand → Requirements → Meaning ServiceState EventOpenError EventCreateError
+event_opening demand required = requiring required (event_meaning demand)

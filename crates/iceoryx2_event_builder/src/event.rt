@@ -1,0 +1,260 @@
+//! The builder of services of events.
+
+ghost use Rattle.std.specs.Prelude.{◌≡◌, [], Some, None};
+ghost use Rattle.iceoryx2_access.specs.Run.{Joins};
+ghost use Rattle.iceoryx2_rounds.specs.Creates.{IsCreateWord};
+ghost use Rattle.iceoryx2_rounds.specs.Opens.{IsOpenWord};
+ghost use Rattle.iceoryx2_attributes.specs.Requirements.{no_requirements};
+ghost use Rattle.iceoryx2_event_builder.specs.Event.{event_creating, event_opening};
+ghost use Rattle.iceoryx2_builder_base.specs.Builders.{IsBuilder};
+ghost use Rattle.iceoryx2_event_builder.specs.declared.event.demand.EventDemand.{EventDemand};
+ghost use Rattle.iceoryx2_event_builder.specs.Request.{fresh_request, letter_of_events, with_setting};
+
+pub mod demand;
+pub mod setting;
+
+use crate::event::demand::EventDemand;
+pub use crate::event::setting::EventSetting;
+use iceoryx2_access::storage::Service;
+use iceoryx2_attributes::attribute::{AttributeSpecifier, AttributeVerifier};
+use iceoryx2_builder_base::base::BuilderWithServiceType;
+pub use iceoryx2_errors::error::{EventCreateError, EventOpenError};
+use iceoryx2_port_factory::port_factory::event::PortFactory;
+use iceoryx2_rounds::create::create;
+use iceoryx2_rounds::open::open;
+use iceoryx2_values::config;
+pub use iceoryx2_values::event::EventId;
+use iceoryx2_values::time::{ClockFault, Duration, Time};
+use std::marker::Model;
+
+/// The letter that stands before a name in the hash of a service of events.
+pub const LETTER: u8 = b'e';
+
+/// The letter is `e`.
+pub fn letter_is_e()
+    ensures { LETTER ≡ 101 }
+{}
+
+/// What holds of each builder of events.
+///
+/// Its meanings are regular, and with its adjusted settings a create publishes for one node or more,
+/// and what the same builder opens: it fits it and meets each setting that it requires, whatever
+/// attributes are defined and whatever the clock says.
+pub fn laws()
+    ensures { (demand : EventDemand) → IsBuilder (event_creating demand) (event_opening demand) }
+{}
+
+/// A builder of a service of events.
+///
+/// A setter sets the value with which a service is created, and marks the setting, so that an
+/// existing service has to offer as much to be opened. The last value that is set stands.
+pub struct Builder<S: Service> {
+    base: BuilderWithServiceType<S>,
+    demand: EventDemand,
+}
+
+impl<S: Service> Model for Builder<S> {
+    ghost use Rattle.iceoryx2_event_builder.specs.Request.{EventRequest};
+
+    ghost Value = { EventRequest };
+
+    ghost view = { λ builder. record { node = builder.base.node; name = builder.base.name; demand = builder.demand } };
+}
+
+impl<S: Service> Drop for Builder<S> {
+    fn drop(self) {
+        let Builder { base: _, demand: _ } = self;
+    }
+}
+
+impl<S: Service> Builder<S> {
+    /// A builder with these settings, of which none is required.
+    pub fn new(base: BuilderWithServiceType<S>, defaults: config::Event) -> Self
+        ensures { result ≡ fresh_request base.node base.name defaults }
+    {
+        Builder {
+            base,
+            demand: EventDemand::start(defaults),
+        }
+    }
+
+    /// Carries out one setter, by its name.
+    pub fn with(mut self, setting: EventSetting) -> Self
+        ensures { result ≡ with_setting self setting }
+    {
+        self.demand.set(setting);
+        self
+    }
+
+    /// How many notifiers the service has room for. Zero is one in a create.
+    pub fn max_notifiers(self, value: u64) -> Self
+        ensures { result ≡ with_setting self (EventSetting.MaxNotifiers value) }
+    {
+        self.with(EventSetting::MaxNotifiers(value))
+    }
+
+    /// How many listeners the service has room for. Zero is one in a create.
+    pub fn max_listeners(self, value: u64) -> Self
+        ensures { result ≡ with_setting self (EventSetting.MaxListeners value) }
+    {
+        self.with(EventSetting::MaxListeners(value))
+    }
+
+    /// The greatest number that an event may have.
+    pub fn event_id_max_value(self, value: u64) -> Self
+        ensures { result ≡ with_setting self (EventSetting.EventIdMaxValue value) }
+    {
+        self.with(EventSetting::EventIdMaxValue(value))
+    }
+
+    /// For how many nodes the service is. Zero is one in a create.
+    pub fn max_nodes(self, value: u64) -> Self
+        ensures { result ≡ with_setting self (EventSetting.MaxNodes value) }
+    {
+        self.with(EventSetting::MaxNodes(value))
+    }
+
+    /// What is sent when a notifier is created. An existing service has to send the same.
+    pub fn notifier_created_event(self, value: EventId) -> Self
+        ensures { result ≡ with_setting self (EventSetting.NotifierCreatedEvent (Some value)) }
+    {
+        self.with(EventSetting::NotifierCreatedEvent(Some(value)))
+    }
+
+    /// Nothing is sent when a notifier is created, and nothing by an existing service either.
+    pub fn disable_notifier_created_event(self) -> Self
+        ensures { result ≡ with_setting self (EventSetting.NotifierCreatedEvent None) }
+    {
+        self.with(EventSetting::NotifierCreatedEvent(None))
+    }
+
+    /// What is sent when a notifier goes. An existing service has to send the same.
+    pub fn notifier_dropped_event(self, value: EventId) -> Self
+        ensures { result ≡ with_setting self (EventSetting.NotifierDroppedEvent (Some value)) }
+    {
+        self.with(EventSetting::NotifierDroppedEvent(Some(value)))
+    }
+
+    /// Nothing is sent when a notifier goes, and nothing by an existing service either.
+    pub fn disable_notifier_dropped_event(self) -> Self
+        ensures { result ≡ with_setting self (EventSetting.NotifierDroppedEvent None) }
+    {
+        self.with(EventSetting::NotifierDroppedEvent(None))
+    }
+
+    /// What is sent for a notifier whose process died. An existing service has to send the same.
+    pub fn notifier_dead_event(self, value: EventId) -> Self
+        ensures { result ≡ with_setting self (EventSetting.NotifierDeadEvent (Some value)) }
+    {
+        self.with(EventSetting::NotifierDeadEvent(Some(value)))
+    }
+
+    /// Nothing is sent for a notifier whose process died, and nothing by an existing service either.
+    pub fn disable_notifier_dead_event(self) -> Self
+        ensures { result ≡ with_setting self (EventSetting.NotifierDeadEvent None) }
+    {
+        self.with(EventSetting::NotifierDeadEvent(None))
+    }
+
+    /// Within what time a notifier has to notify again. An existing service has to have the same
+    /// deadline, whenever it was created.
+    pub fn deadline(self, value: Duration) -> Self
+        ensures { result ≡ with_setting self (EventSetting.Deadline (Some value)) }
+    {
+        self.with(EventSetting::Deadline(Some(value)))
+    }
+
+    /// A notifier need not notify again, and an existing service has no deadline either.
+    pub fn disable_deadline(self) -> Self
+        ensures { result ≡ with_setting self (EventSetting.Deadline None) }
+    {
+        self.with(EventSetting::Deadline(None))
+    }
+
+    /// Creates the service without attributes: `create_with_attributes` of a specifier that
+    /// defines none.
+    pub fn create(
+        self,
+        storage: &mut S::Storage,
+        now: Result<Time, ClockFault>,
+    ) -> Result<PortFactory<S>, EventCreateError>
+        ensures { Joins S.Storage.step storage.old
+            (λ word. IsCreateWord (event_creating self.demand []) self.node
+            (S.ServiceNameHasher.hash_of letter_of_events self.name) self.name now word result)
+            storage.new }
+    {
+        let specifier = AttributeSpecifier::new(self.base.name().allocator());
+        self.create_with_attributes(&specifier, storage, now)
+    }
+
+    /// Creates the service with these attributes, with the settings as they are but for zeros,
+    /// which become one, and at the time `now` where it has a deadline.
+    ///
+    /// Refused with `AlreadyExists` where the service exists, with `HangsInCreation` or
+    /// `IsBeingCreatedByAnotherInstance` while somebody else creates it, with
+    /// `ServiceInCorruptedState` where the storage contradicts itself, with `InternalFailure`
+    /// where the storage fails or there is no time, and with `InsufficientPermissions` or
+    /// `OutOfMemory` as they say. What a refused call made is given back.
+    pub fn create_with_attributes(
+        self,
+        specifier: &AttributeSpecifier,
+        storage: &mut S::Storage,
+        now: Result<Time, ClockFault>,
+    ) -> Result<PortFactory<S>, EventCreateError>
+        ensures { Joins S.Storage.step storage.old
+            (λ word. IsCreateWord (event_creating self.demand specifier.now) self.node
+            (S.ServiceNameHasher.hash_of letter_of_events self.name) self.name now word result)
+            storage.new }
+    {
+        let Builder { base, mut demand } = self;
+        let hash = base.hash(LETTER);
+        let attributes = specifier.attributes();
+        let node = base.node();
+        let name = base.name();
+        match create(&mut demand, node, &hash, name, attributes, now, storage) {
+            Ok(registration) => Ok(PortFactory::new(registration)),
+            Err(error) => Err(error),
+        }
+    }
+
+    /// Opens the service, whatever its attributes: `open_with_attributes` of a verifier that
+    /// requires none.
+    pub fn open(self, storage: &mut S::Storage) -> Result<PortFactory<S>, EventOpenError>
+        ensures { Joins S.Storage.step storage.old
+            (λ word. IsOpenWord (event_opening self.demand no_requirements) self.node
+            (S.ServiceNameHasher.hash_of letter_of_events self.name) word result)
+            storage.new }
+    {
+        let verifier = AttributeVerifier::new(self.base.name().allocator());
+        self.open_with_attributes(&verifier, storage)
+    }
+
+    /// Opens the service, if it has the required attributes and offers each marked setting. The
+    /// factory carries the attributes and the settings with which the service was created.
+    ///
+    /// Refused with `DoesNotExist` where there is no service, with `IncompatibleAttributes` where it
+    /// lacks a required pair or has no value for a required key, with the setting's error where it
+    /// offers less than is required or another event or deadline, with `ExceedsMaxNumberOfNodes`
+    /// where no further node has room, with `IsMarkedForDestruction` where the last node has left,
+    /// with `HangsInCreation` while it is created, with `ServiceInCorruptedState` where its
+    /// description can't be read or the service is replaced again and again, with
+    /// `InternalFailure` where the storage fails, and with `IncompatibleMessagingPattern`,
+    /// `InsufficientPermissions` or `OutOfMemory` as they say.
+    pub fn open_with_attributes(
+        self,
+        verifier: &AttributeVerifier,
+        storage: &mut S::Storage,
+    ) -> Result<PortFactory<S>, EventOpenError>
+        ensures { Joins S.Storage.step storage.old
+            (λ word. IsOpenWord (event_opening self.demand verifier.now) self.node
+            (S.ServiceNameHasher.hash_of letter_of_events self.name) word result)
+            storage.new }
+    {
+        let Builder { base, demand } = self;
+        let hash = base.hash(LETTER);
+        match open(&demand, base.node(), &hash, verifier, storage) {
+            Ok(registration) => Ok(PortFactory::new(registration)),
+            Err(error) => Err(error),
+        }
+    }
+}
