@@ -64,15 +64,9 @@ fn without_time(
     builder: Builder<Local>,
 ) -> (Option<EventCreateError>, bool, u64) {
     let mut table = table_from(alloc, 0);
-    let refusal = match create(builder, &mut table, Err(ClockFault)) {
-        Ok(factory) => {
-            factory.abandon();
-            None
-        }
-        Err(error) => Some(error),
-    };
+    let refusal = create_refusal(builder, &mut table, Err(ClockFault));
     let (has_tag, _) = held(&table, 1, &hash_of_events(rt, alloc, "due"));
-    let counter = counter(&table);
+    let counter = table.counter();
     drop_table(table);
     (refusal, has_tag, counter)
 }

@@ -1,7 +1,6 @@
 //! Services of events over a table that nobody else uses.
 
 use crate::support::*;
-use iceoryx2_access::storage::Storage;
 use iceoryx2_builder::builder::Node;
 use iceoryx2_builder::builder::event::{Builder, EventId};
 use iceoryx2_errors::error::{EventCreateError, EventOpenError};
@@ -23,10 +22,6 @@ fn wanting(rt: &impl Abort, alloc: Global, node: u64) -> Builder<Local> {
 /// The hash of that service.
 fn example(rt: &impl Abort, alloc: Global) -> ServiceHash {
     hash_of_events(rt, alloc, "xample")
-}
-
-fn create_at_zero(rt: &impl Abort, builder: Builder<Local>, table: &mut Table) -> EventCreateError {
-    create_refusal(rt, builder, table, Ok(Time::default()))
 }
 
 /// The number and the node of a factory, and whether it has this name and this hash.
@@ -71,7 +66,7 @@ type Has = (usize, (bool, u64), u64);
 
 fn has(rt: &impl Abort, alloc: Global, table: &Table) -> Has {
     let held = held(table, 1, &example(rt, alloc));
-    (listed(rt, table), held, counter(table))
+    (listed(rt, table), held, table.counter())
 }
 
 /// What a table has of a service that a node has created and opened, how many nodes are in the
@@ -97,18 +92,18 @@ fn a_second_factory_of_a_node_takes_no_further_node_slot(rt: HostRuntime) {
 
 /// Why opens of node 2 are refused that want more than 4 notifiers, 4 listeners, events up to 255
 /// and 36 nodes, and for how many notifiers the service is that it opens for 3.
-fn asking_for_more(rt: &impl Abort, alloc: Global) -> ([EventOpenError; 4], u64) {
+fn asking_for_more(rt: &impl Abort, alloc: Global) -> ([Option<EventOpenError>; 4], u64) {
     let mut table = table_from(alloc, 0);
     let builder = wanting(rt, alloc, 1).max_notifiers(4).max_listeners(4);
     let factory = created(rt, builder, &mut table);
     let builder = wanting(rt, alloc, 2).max_notifiers(8).max_listeners(8);
-    let notifiers = open_refusal(rt, builder, &mut table);
+    let notifiers = refusal(rt, builder, &mut table);
     let builder = wanting(rt, alloc, 2).max_listeners(8).max_notifiers(4);
-    let listeners = open_refusal(rt, builder, &mut table);
+    let listeners = refusal(rt, builder, &mut table);
     let builder = wanting(rt, alloc, 2).event_id_max_value(256);
-    let events = open_refusal(rt, builder, &mut table);
+    let events = refusal(rt, builder, &mut table);
     let builder = wanting(rt, alloc, 2).max_nodes(37);
-    let nodes = open_refusal(rt, builder, &mut table);
+    let nodes = refusal(rt, builder, &mut table);
     let second = opened(rt, wanting(rt, alloc, 2).max_notifiers(3), &mut table);
     let offered = settings(&second).max_notifiers;
     closed(rt, second, &mut table);
@@ -120,10 +115,10 @@ fn asking_for_more(rt: &impl Abort, alloc: Global) -> ([EventOpenError; 4], u64)
 #[test]
 fn the_first_setting_that_is_too_small_is_named(rt: HostRuntime) {
     let wanted = [
-        EventOpenError::DoesNotSupportRequestedAmountOfNotifiers,
-        EventOpenError::DoesNotSupportRequestedAmountOfListeners,
-        EventOpenError::DoesNotSupportRequestedMaxEventId,
-        EventOpenError::DoesNotSupportRequestedAmountOfNodes,
+        Some(EventOpenError::DoesNotSupportRequestedAmountOfNotifiers),
+        Some(EventOpenError::DoesNotSupportRequestedAmountOfListeners),
+        Some(EventOpenError::DoesNotSupportRequestedMaxEventId),
+        Some(EventOpenError::DoesNotSupportRequestedAmountOfNodes),
     ];
     assert_same(&rt, asking_for_more(&rt, rt.alloc()), (wanted, 4));
 }
@@ -135,12 +130,12 @@ fn second_node(
     alloc: Global,
     max_nodes: u64,
     counter: u64,
-) -> (EventOpenError, bool, u64) {
+) -> (Option<EventOpenError>, bool, u64) {
     let mut table = table_from(alloc, counter);
     let builder = wanting(rt, alloc, 1).max_nodes(max_nodes);
     let factory = created(rt, builder, &mut table);
     let number = factory.number();
-    let error = open_refusal(rt, wanting(rt, alloc, 2), &mut table);
+    let error = refusal(rt, wanting(rt, alloc, 2), &mut table);
     let (has_tag, _) = held(&table, 2, &example(rt, alloc));
     closed(rt, factory, &mut table);
     drop_table(table);
@@ -148,25 +143,24 @@ fn second_node(
 }
 
 #[test]
-fn a_service_for_one_node_has_no_room_for_a_second(rt: HostRuntime) {
-    let wanted = (EventOpenError::ExceedsMaxNumberOfNodes, false, 0);
-    assert_same(&rt, second_node(&rt, rt.alloc(), 1, 0), wanted);
-}
-
-#[test]
-fn the_last_number_creates_a_service_that_nobody_else_opens(rt: HostRuntime) {
-    let wanted = (
-        EventOpenError::InternalFailure,
-        false,
-        18_446_744_073_709_551_614,
-    );
-    assert_same(&rt, second_node(&rt, rt.alloc(), 36, u64::MAX - 1), wanted);
+fn a_second_node_needs_a_place_and_a_number(rt: HostRuntime) {
+    let found = [
+        second_node(&rt, rt.alloc(), 1, 0),
+        second_node(&rt, rt.alloc(), 36, u64::MAX - 1),
+    ];
+    let full = Some(EventOpenError::ExceedsMaxNumberOfNodes);
+    let at_the_end = Some(EventOpenError::InternalFailure);
+    let wanted = [
+        (full, false, 0),
+        (at_the_end, false, 18_446_744_073_709_551_614),
+    ];
+    assert_same(&rt, found, wanted);
 }
 
 /// Why nothing is created over a table whose counter is at its end, and what the table has then.
-fn without_numbers(rt: &impl Abort, alloc: Global) -> (EventCreateError, Has) {
+fn without_numbers(rt: &impl Abort, alloc: Global) -> (Option<EventCreateError>, Has) {
     let mut table = table_from(alloc, u64::MAX);
-    let error = create_at_zero(rt, wanting(rt, alloc, 1), &mut table);
+    let error = create_refusal(wanting(rt, alloc, 1), &mut table, Ok(Time::default()));
     let after = has(rt, alloc, &table);
     drop_table(table);
     (error, after)
@@ -174,7 +168,8 @@ fn without_numbers(rt: &impl Abort, alloc: Global) -> (EventCreateError, Has) {
 
 #[test]
 fn a_table_without_numbers_creates_nothing(rt: HostRuntime) {
-    let wanted = (EventCreateError::InternalFailure, (0, (false, 0), u64::MAX));
+    let refusal = Some(EventCreateError::InternalFailure);
+    let wanted = (refusal, (0, (false, 0), u64::MAX));
     assert_same(&rt, without_numbers(&rt, rt.alloc()), wanted);
 }
 
@@ -183,13 +178,17 @@ fn a_table_without_numbers_creates_nothing(rt: HostRuntime) {
 fn missing_or_there(
     rt: &impl Abort,
     alloc: Global,
-) -> (EventOpenError, EventCreateError, EventOpenError) {
+) -> (
+    Option<EventOpenError>,
+    Option<EventCreateError>,
+    Option<EventOpenError>,
+) {
     let mut table = table_from(alloc, 0);
-    let before = open_refusal(rt, wanting(rt, alloc, 1), &mut table);
+    let before = refusal(rt, wanting(rt, alloc, 1), &mut table);
     let factory = created(rt, wanting(rt, alloc, 1), &mut table);
-    let again = create_at_zero(rt, wanting(rt, alloc, 2), &mut table);
+    let again = create_refusal(wanting(rt, alloc, 2), &mut table, Ok(Time::default()));
     closed(rt, factory, &mut table);
-    let after = open_refusal(rt, wanting(rt, alloc, 2), &mut table);
+    let after = refusal(rt, wanting(rt, alloc, 2), &mut table);
     drop_table(table);
     (before, again, after)
 }
@@ -197,43 +196,11 @@ fn missing_or_there(
 #[test]
 fn what_is_missing_or_there_is_named(rt: HostRuntime) {
     let wanted = (
-        EventOpenError::DoesNotExist,
-        EventCreateError::AlreadyExists,
-        EventOpenError::DoesNotExist,
+        Some(EventOpenError::DoesNotExist),
+        Some(EventCreateError::AlreadyExists),
+        Some(EventOpenError::DoesNotExist),
     );
     assert_same(&rt, missing_or_there(&rt, rt.alloc()), wanted);
-}
-
-/// The number of a lock.
-fn locked(rt: &impl Abort, table: &mut Table, hash: &ServiceHash) -> u64 {
-    match table.lock(7, hash) {
-        Ok(number) => number,
-        Err(_) => panic!(rt; "no lock"),
-    }
-}
-
-/// The number of another's lock, why an open and a create are refused by it, and whether node 1 has
-/// a tag then.
-fn under_a_lock(rt: &impl Abort, alloc: Global) -> (u64, EventOpenError, EventCreateError, bool) {
-    let mut table = table_from(alloc, 0);
-    let hash = example(rt, alloc);
-    let number = locked(rt, &mut table, &hash);
-    let opening = open_refusal(rt, wanting(rt, alloc, 1), &mut table);
-    let creating = create_at_zero(rt, wanting(rt, alloc, 1), &mut table);
-    let (has_tag, _) = held(&table, 1, &hash);
-    drop_table(table);
-    (number, opening, creating, has_tag)
-}
-
-#[test]
-fn a_lock_of_another_makes_calls_hang(rt: HostRuntime) {
-    let wanted = (
-        0,
-        EventOpenError::HangsInCreation,
-        EventCreateError::HangsInCreation,
-        false,
-    );
-    assert_same(&rt, under_a_lock(&rt, rt.alloc()), wanted);
 }
 
 /// What a node holds of a service whose factory it abandons.
@@ -268,7 +235,7 @@ fn node_of(id: u64, config: Config) -> (u64, bool) {
 /// The node of a factory that a node of that configuration creates, and the factory's settings.
 fn created_by_it(rt: &impl Abort, alloc: Global) -> (u64, StaticConfig) {
     let mut table = table_from(alloc, 0);
-    let builder = configured(rt, alloc, 3, for_five_nodes(), "mine");
+    let builder = configured::<Local>(rt, alloc, 3, for_five_nodes(), "mine");
     let factory = created(rt, builder, &mut table);
     let told = (factory.node(), settings(&factory));
     closed(rt, factory, &mut table);

@@ -2,7 +2,11 @@
 #![tactic(auto)]
 
 #[cfg(test)]
+mod accesses;
+#[cfg(test)]
 mod attributes;
+#[cfg(test)]
+mod batches;
 #[cfg(test)]
 mod deadlines;
 #[cfg(test)]
@@ -16,4 +20,8 @@ mod runs;
 #[cfg(test)]
 mod sessions;
 #[cfg(test)]
+mod storages;
+#[cfg(test)]
 mod support;
+#[cfg(test)]
+mod types;

@@ -2,7 +2,7 @@
 
 use crate::support::*;
 use iceoryx2_service::description::event::StaticConfig;
-use iceoryx2_service::description::{Config, Deadline, Duration, EventId, Time};
+use iceoryx2_service::description::{Config, Duration, EventId, Time};
 use iceoryx2_service::port_factory::event::PortFactory;
 use iceoryx2_service::table::{Local, Table};
 use std::alloc::Global;
@@ -31,7 +31,7 @@ fn share(
     now: Time,
 ) -> (StaticConfig, bool, [bool; 2]) {
     let mut table = table_from(alloc, 0);
-    let first = configured(rt, alloc, 1, config, text);
+    let first = configured::<Local>(rt, alloc, 1, config, text);
     let first = created_at(rt, first, &mut table, now);
     let second = opened(rt, events(rt, alloc, 2, text), &mut table);
     let (made, is_first_named) = settings_of(rt, first, text, &mut table);
@@ -48,25 +48,6 @@ fn longest_name(rt: &impl Abort, alloc: Global) -> String {
     }
 }
 
-/// A configuration with a deadline of 2 seconds and 5 nanoseconds.
-fn with_deadline() -> Config {
-    let mut config = Config::default();
-    config.event.deadline = Duration::new(2, 5);
-    config
-}
-
-/// What the deadline is in a service that is created at 7 seconds and 9 nanoseconds.
-fn stamped(rt: &impl Abort) -> Deadline {
-    deadline(rt, (2, 5), (7, 9))
-}
-
-#[test]
-fn a_name_of_255_bytes_is_shared(rt: HostRuntime) {
-    let text = longest_name(&rt, rt.alloc());
-    let found = share(&rt, rt.alloc(), Config::default(), &text, Time::default());
-    assert_same(&rt, found, (DEFAULTS, true, [true, true]));
-}
-
 #[test]
 fn a_name_in_several_scripts_is_shared(rt: HostRuntime) {
     let text = "Straße/служба/サービス/שירות/🛰";
@@ -74,19 +55,10 @@ fn a_name_in_several_scripts_is_shared(rt: HostRuntime) {
     assert_same(&rt, found, (DEFAULTS, true, [true, true]));
 }
 
-#[test]
-fn a_deadline_carries_the_time_of_the_creation(rt: HostRuntime) {
-    let deadline = stamped(&rt);
-    let now = deadline.creation_time;
-    let mut settings = DEFAULTS;
-    settings.deadline = Some(deadline);
-    let found = share(&rt, rt.alloc(), with_deadline(), "due", now);
-    assert_same(&rt, found, (settings, true, [true, true]));
-}
-
-/// A configuration with that deadline and three events.
+/// A configuration with a deadline of 2 seconds and 5 nanoseconds, and three events.
 fn with_every_option() -> Config {
-    let mut config = with_deadline();
+    let mut config = Config::default();
+    config.event.deadline = Duration::new(2, 5);
     config.event.notifier_created_event = Some(EventId::new(u64::MAX));
     config.event.notifier_dropped_event = Some(EventId::new(1 << 40));
     config.event.notifier_dead_event = Some(EventId::new(7));
@@ -95,7 +67,7 @@ fn with_every_option() -> Config {
 
 #[test]
 fn the_longest_description_is_read_by_another_node(rt: HostRuntime) {
-    let deadline = stamped(&rt);
+    let deadline = deadline(&rt, (2, 5), (7, 9));
     let now = deadline.creation_time;
     let mut settings = DEFAULTS;
     settings.notifier_created_event = Some(EventId::new(u64::MAX));

@@ -2,7 +2,7 @@
 
 use crate::support::*;
 use iceoryx2_errors::error::{EventCreateError, EventOpenError};
-use iceoryx2_service::command::{Call, Command, How, Refusal, Reply, Settings};
+use iceoryx2_service::command::{Command, How, Refusal, Reply};
 use iceoryx2_service::session::Session;
 use iceoryx2_values::config::Config;
 use iceoryx2_values::time::Time;
@@ -38,23 +38,9 @@ type Wanted = (How, u64, usize, Pairs, &'static str);
 
 /// That call, at time zero.
 fn call(rt: &impl Abort, alloc: Global, (how, node, slot, pairs, key): Wanted) -> Command {
-    Command::Call(Call {
-        how,
-        node,
-        slot,
-        name: name(rt, alloc, "a"),
-        settings: Settings::Event(Vec::new(alloc)),
-        attributes: verifier(alloc, pairs, &[key]),
-        now: Ok(Time::default()),
-    })
-}
-
-/// Puts a command behind others.
-fn push(rt: &impl Abort, commands: &mut Vec<Command>, command: Command) {
-    match commands.push(command) {
-        Ok(()) => {}
-        Err(_) => panic!(rt; "no memory"),
-    }
+    let attributes = verifier(alloc, pairs, &[key]);
+    let now = Ok(Time::default());
+    command(rt, alloc, (how, node, slot, "a"), &[], attributes, now)
 }
 
 /// What a session over a new table answers to commands in one go.

@@ -3,7 +3,7 @@
 use crate::support::*;
 use iceoryx2_errors::error::{EventCreateError, EventOpenError};
 use iceoryx2_service::attribute::AttributeVerifier;
-use iceoryx2_service::command::{Call, Command, EventSetting, How, Refusal, Reply, Settings};
+use iceoryx2_service::command::{Command, EventSetting, How, Refusal, Reply};
 use iceoryx2_service::session::Session;
 use iceoryx2_storage::table::Table;
 use iceoryx2_storage::table::listing::{Entry, ListedRow};
@@ -32,79 +32,25 @@ fn close(session: &mut Session, slot: usize) -> Reply {
     apply(session, Command::Close { slot })
 }
 
-/// Calls for a service of this name, at time zero and with the default settings.
+/// Calls with these settings at time zero.
 fn call(
     rt: &impl Abort,
     alloc: Global,
     session: &mut Session,
-    how: How,
-    (node, slot): (u64, usize),
-    text: &str,
-) -> Reply {
-    let call = Call {
-        how,
-        node,
-        slot,
-        name: name(rt, alloc, text),
-        settings: Settings::Event(Vec::new(alloc)),
-        attributes: AttributeVerifier::new(alloc),
-        now: Ok(Time::default()),
-    };
-    apply(session, Command::Call(call))
-}
-
-/// Settings in a vector.
-fn listed_settings(rt: &impl Abort, alloc: Global, settings: &[EventSetting]) -> Vec<EventSetting> {
-    let mut all = Vec::new(alloc);
-    match all.extend_from_slice(settings) {
-        Ok(()) => all,
-        Err(_) => panic!(rt; "no memory"),
-    }
-}
-
-/// Calls for the service `a` at time zero, with these settings.
-fn call_with(
-    rt: &impl Abort,
-    alloc: Global,
-    session: &mut Session,
-    how: How,
-    (node, slot): (u64, usize),
+    called: Called,
     settings: &[EventSetting],
 ) -> Reply {
-    let call = Call {
-        how,
-        node,
-        slot,
-        name: name(rt, alloc, "a"),
-        settings: Settings::Event(listed_settings(rt, alloc, settings)),
-        attributes: AttributeVerifier::new(alloc),
-        now: Ok(Time::default()),
-    };
-    apply(session, Command::Call(call))
-}
-
-/// Node 1 creates the service `a` where there is no time.
-fn create_without_time(
-    rt: &impl Abort,
-    alloc: Global,
-    session: &mut Session,
-    slot: usize,
-) -> Reply {
-    let call = Call {
-        how: How::Create,
-        node: 1,
-        slot,
-        name: name(rt, alloc, "a"),
-        settings: Settings::Event(Vec::new(alloc)),
-        attributes: AttributeVerifier::new(alloc),
-        now: Err(ClockFault),
-    };
-    apply(session, Command::Call(call))
+    let attributes = AttributeVerifier::new(alloc);
+    let now = Ok(Time::default());
+    apply(
+        session,
+        command(rt, alloc, called, settings, attributes, now),
+    )
 }
 
 /// The counter of a table, and how many services it lists.
 fn left(rt: &impl Abort, table: Table) -> (u64, usize) {
-    let left = (counter(&table), listed(rt, &table));
+    let left = (table.counter(), listed(rt, &table));
     drop_table(table);
     left
 }
@@ -115,9 +61,9 @@ fn answers_of_slots(rt: &impl Abort, alloc: Global) -> ([Reply; 5], u64, usize) 
     let mut session = started(alloc, Config::default());
     let past = close(&mut session, 64);
     let empty = close(&mut session, 63);
-    let past_call = call(rt, alloc, &mut session, How::Create, (1, 64), "a");
-    let made = call(rt, alloc, &mut session, How::Create, (1, 63), "a");
-    let taken = call(rt, alloc, &mut session, How::Create, (1, 63), "b");
+    let past_call = call(rt, alloc, &mut session, (How::Create, 1, 64, "a"), &[]);
+    let made = call(rt, alloc, &mut session, (How::Create, 1, 63, "a"), &[]);
+    let taken = call(rt, alloc, &mut session, (How::Create, 1, 63, "b"), &[]);
     let (counter, listed) = left(rt, finished(session));
     ([past, empty, past_call, made, taken], counter, listed)
 }
@@ -141,9 +87,9 @@ fn slots_are_tested_before_anything_is_called(rt: HostRuntime) {
 /// behind it.
 fn answers_before_the_end(rt: &impl Abort, alloc: Global) -> ([Reply; 5], Table) {
     let mut session = started(alloc, Config::default());
-    let first = call(rt, alloc, &mut session, How::Create, (1, 0), "a");
-    let second = call(rt, alloc, &mut session, How::Open, (2, 1), "a");
-    let third = call(rt, alloc, &mut session, How::Open, (2, 2), "a");
+    let first = call(rt, alloc, &mut session, (How::Create, 1, 0, "a"), &[]);
+    let second = call(rt, alloc, &mut session, (How::Open, 2, 1, "a"), &[]);
+    let third = call(rt, alloc, &mut session, (How::Open, 2, 2, "a"), &[]);
     let closed = close(&mut session, 1);
     let again = close(&mut session, 1);
     ([first, second, third, closed, again], finished(session))
@@ -188,10 +134,10 @@ const SETTINGS: [EventSetting; 5] = [
 /// for how many nodes the service is.
 fn answers_of_settings(rt: &impl Abort, alloc: Global) -> ([Reply; 3], u64) {
     let mut session = started(alloc, Config::default());
-    let made = call_with(rt, alloc, &mut session, How::Create, (1, 0), &SETTINGS);
+    let made = call(rt, alloc, &mut session, (How::Create, 1, 0, "a"), &SETTINGS);
     let (max_nodes, _) = seats(rt, session.table());
-    let refused = call(rt, alloc, &mut session, How::Create, (1, 1), "a");
-    let missing = call(rt, alloc, &mut session, How::Open, (1, 1), "b");
+    let refused = call(rt, alloc, &mut session, (How::Create, 1, 1, "a"), &[]);
+    let missing = call(rt, alloc, &mut session, (How::Open, 1, 1, "b"), &[]);
     drop_table(finished(session));
     ([made, refused, missing], max_nodes)
 }
@@ -210,7 +156,7 @@ fn settings_are_set_in_order(rt: HostRuntime) {
 fn listings(rt: &impl Abort, alloc: Global) -> (Reply, Result<Vec<Entry>, AllocError>) {
     let mut session = started(alloc, Config::default());
     for (slot, text) in [(0, "a"), (1, "b"), (2, "c")] {
-        let _opened = call(rt, alloc, &mut session, How::Create, (1, slot), text);
+        let _opened = call(rt, alloc, &mut session, (How::Create, 1, slot, text), &[]);
     }
     let listing = apply(&mut session, Command::List);
     let listed = session.table().list();
@@ -260,12 +206,15 @@ fn refusals(rt: &impl Abort, alloc: Global) -> [Reply; 6] {
     let mut session = started(alloc, with_deadline());
     let one = [EventSetting::MaxNodes(1)];
     let two = [EventSetting::MaxNodes(2)];
-    let missing = call(rt, alloc, &mut session, How::Open, (1, 0), "a");
-    let untimed = create_without_time(rt, alloc, &mut session, 1);
-    let made = call_with(rt, alloc, &mut session, How::Create, (2, 0), &one);
-    let there = call(rt, alloc, &mut session, How::Create, (1, 1), "a");
-    let small = call_with(rt, alloc, &mut session, How::Open, (2, 1), &two);
-    let full = call(rt, alloc, &mut session, How::Open, (1, 1), "a");
+    let missing = call(rt, alloc, &mut session, (How::Open, 1, 0, "a"), &[]);
+    let attributes = AttributeVerifier::new(alloc);
+    let create = (How::Create, 1, 1, "a");
+    let create = command(rt, alloc, create, &[], attributes, Err(ClockFault));
+    let untimed = apply(&mut session, create);
+    let made = call(rt, alloc, &mut session, (How::Create, 2, 0, "a"), &one);
+    let there = call(rt, alloc, &mut session, (How::Create, 1, 1, "a"), &[]);
+    let small = call(rt, alloc, &mut session, (How::Open, 2, 1, "a"), &two);
+    let full = call(rt, alloc, &mut session, (How::Open, 1, 1, "a"), &[]);
     drop_table(finished(session));
     [missing, untimed, made, there, small, full]
 }

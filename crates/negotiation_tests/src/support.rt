@@ -1,15 +1,16 @@
 //! What the tests share. A call of the layer stands here alone, in a function without a contract, so
 //! that a test that makes several of them sees answers and no contracts.
 
-use iceoryx2_access::storage::{ServiceNameHasher, Sha1Hasher};
-use iceoryx2_attributes::attribute::{AttributeError, AttributeSpecifier, AttributeVerifier};
+use iceoryx2_access::storage::{Service, ServiceNameHasher, Sha1Hasher};
+use iceoryx2_attributes::attribute::{AttributeSpecifier, AttributeVerifier};
 use iceoryx2_builder::builder::Node;
 use iceoryx2_builder::builder::event::Builder;
 use iceoryx2_errors::error::{EventCreateError, EventOpenError};
 use iceoryx2_port_factory::port_factory::event::PortFactory;
+use iceoryx2_service::command::{Call, Command, EventSetting, How, Settings};
 use iceoryx2_storage::local::Local;
 use iceoryx2_storage::table::Table;
-use iceoryx2_storage::table::listing::Entry;
+use iceoryx2_storage::table::listing::{Entry, ListedRow, ListedSegment};
 use iceoryx2_values::config::Config;
 use iceoryx2_values::description::{ServiceHash, ServiceName};
 use iceoryx2_values::event::{Deadline, StaticConfig};
@@ -62,15 +63,23 @@ pub fn name(rt: &impl Abort, alloc: Global, text: &str) -> ServiceName {
     }
 }
 
+/// Puts something behind the rest.
+pub fn push<T: Drop>(rt: &impl Abort, all: &mut Vec<T>, last: T) {
+    match all.push(last) {
+        Ok(()) => {}
+        Err(_) => panic!(rt; "no memory"),
+    }
+}
+
 /// The builder of a node with this configuration for events of this name.
-pub fn configured(
+pub fn configured<S: Service>(
     rt: &impl Abort,
     alloc: Global,
     node: u64,
     config: Config,
     text: &str,
-) -> Builder<Local> {
-    let node = Node::<Local>::new(node, config);
+) -> Builder<S> {
+    let node = Node::<S>::new(node, config);
     node.service_builder(name(rt, alloc, text)).event()
 }
 
@@ -137,19 +146,18 @@ pub fn opened(rt: &impl Abort, builder: Builder<Local>, table: &mut Table) -> Po
     }
 }
 
-/// Why a create is refused.
+/// Why a create is refused. Where it isn't, what it gives is let go.
 pub fn create_refusal(
-    rt: &impl Abort,
     builder: Builder<Local>,
     table: &mut Table,
     now: Result<Time, ClockFault>,
-) -> EventCreateError {
+) -> Option<EventCreateError> {
     match create(builder, table, now) {
         Ok(factory) => {
             factory.abandon();
-            panic!(rt; "created")
+            None
         }
-        Err(error) => error,
+        Err(error) => Some(error),
     }
 }
 
@@ -168,68 +176,28 @@ pub fn refusal(
     }
 }
 
-/// Why an open is refused.
-pub fn open_refusal(rt: &impl Abort, builder: Builder<Local>, table: &mut Table) -> EventOpenError {
-    match open(builder, table) {
-        Ok(factory) => {
-            factory.abandon();
-            panic!(rt; "opened")
-        }
-        Err(error) => error,
-    }
-}
-
-/// What a specifier answers to a pair.
-fn define(
-    specifier: &mut AttributeSpecifier,
-    key: &str,
-    value: &str,
-) -> Result<(), AttributeError> {
-    specifier.define(key, value)
-}
-
-/// What a verifier answers to a pair.
-fn require(verifier: &mut AttributeVerifier, key: &str, value: &str) -> Result<(), AttributeError> {
-    verifier.require(key, value)
-}
-
-/// What a verifier answers to a key.
-fn require_key(verifier: &mut AttributeVerifier, key: &str) -> Result<(), AttributeError> {
-    verifier.require_key(key)
-}
-
-/// Defines these pairs.
-fn define_all(specifier: &mut AttributeSpecifier, pairs: Pairs) {
-    for &(key, value) in pairs {
-        let _answer = define(specifier, key, value);
-    }
-}
-
 /// A specifier of these pairs.
 pub fn specifier(alloc: Global, pairs: Pairs) -> AttributeSpecifier {
     let mut specifier = AttributeSpecifier::new(alloc);
-    define_all(&mut specifier, pairs);
-    specifier
-}
-
-/// Requires these pairs.
-fn require_pairs(verifier: &mut AttributeVerifier, pairs: Pairs) {
     for &(key, value) in pairs {
-        let _answer = require(verifier, key, value);
+        let _answer = specifier.define(key, value);
     }
+    specifier
 }
 
 /// Requires these keys.
 fn require_keys(verifier: &mut AttributeVerifier, keys: &[&str]) {
     for key in keys {
-        let _answer = require_key(verifier, key);
+        let _answer = verifier.require_key(key);
     }
 }
 
 /// A verifier of these pairs and keys.
 pub fn verifier(alloc: Global, pairs: Pairs, keys: &[&str]) -> AttributeVerifier {
     let mut verifier = AttributeVerifier::new(alloc);
-    require_pairs(&mut verifier, pairs);
+    for &(key, value) in pairs {
+        let _answer = verifier.require(key, value);
+    }
     require_keys(&mut verifier, keys);
     verifier
 }
@@ -289,15 +257,56 @@ pub fn listed(rt: &impl Abort, table: &Table) -> usize {
     entries(rt, table).len()
 }
 
+/// What is written under a service's hash, without the bytes.
+#[derive(Clone, Copy, Debug, PartialEq, Eq)]
+pub enum Row {
+    Absent,
+    Locked(u64),
+    Published(u64),
+}
+
+/// A segment's number, for how many nodes it is, how many are in it, and whether it is marked.
+pub type Segment = Option<(u64, u64, u64, bool)>;
+
+/// What is listed of a row, without the bytes.
+fn row_of(entry: &Entry) -> Row {
+    match entry.row {
+        ListedRow::Absent => Row::Absent,
+        ListedRow::Locked(number) => Row::Locked(number),
+        ListedRow::Published(number, _) => Row::Published(number),
+    }
+}
+
+/// What is listed of a segment.
+fn segment_of(entry: &Entry) -> Segment {
+    let ListedSegment {
+        number,
+        max_nodes,
+        participants,
+        marked,
+    } = entry.segment?;
+    Some((number, max_nodes, participants, marked))
+}
+
+/// The row and the segment of the only service that is listed, or of none.
+pub fn only_one(rt: &impl Abort, entries: &[Entry]) -> (Row, Segment) {
+    match entries {
+        [] => (Row::Absent, None),
+        [entry] => (row_of(entry), segment_of(entry)),
+        _ => panic!(rt; "more than one service"),
+    }
+}
+
+/// The row and the segment of a table's only service, or of none.
+pub fn row_and_segment(rt: &impl Abort, table: &Table) -> (Row, Segment) {
+    only_one(rt, entries(rt, table).as_slice())
+}
+
 /// The nodes for which the segment of the only service has room, and those that are in it.
 pub fn seats(rt: &impl Abort, table: &Table) -> (u64, u64) {
-    let entries = entries(rt, table);
-    let [entry] = entries.as_slice() else {
-        panic!(rt; "not one service")
-    };
-    match entry.segment {
-        Some(segment) => (segment.max_nodes, segment.participants),
-        None => panic!(rt; "no segment"),
+    match row_and_segment(rt, table) {
+        (_, Some((_, max_nodes, participants, _))) => (max_nodes, participants),
+        _ => panic!(rt; "no segment"),
     }
 }
 
@@ -306,7 +315,34 @@ pub fn held(table: &Table, node: u64, hash: &ServiceHash) -> (bool, u64) {
     (table.has_tag(node, hash), table.tickets(node, hash))
 }
 
-/// The counter of a table.
-pub fn counter(table: &Table) -> u64 {
-    table.counter()
+/// Settings in a vector.
+fn listed_settings(rt: &impl Abort, alloc: Global, settings: &[EventSetting]) -> Vec<EventSetting> {
+    let mut all = Vec::new(alloc);
+    match all.extend_from_slice(settings) {
+        Ok(()) => all,
+        Err(_) => panic!(rt; "no memory"),
+    }
+}
+
+/// How, by which node and into which slot events of which name are called for.
+pub type Called<'a> = (How, u64, usize, &'a str);
+
+/// That call, with these settings and attributes, at this time.
+pub fn command(
+    rt: &impl Abort,
+    alloc: Global,
+    (how, node, slot, text): Called,
+    settings: &[EventSetting],
+    attributes: AttributeVerifier,
+    now: Result<Time, ClockFault>,
+) -> Command {
+    Command::Call(Call {
+        how,
+        node,
+        slot,
+        name: name(rt, alloc, text),
+        settings: Settings::Event(listed_settings(rt, alloc, settings)),
+        attributes,
+        now,
+    })
 }

@@ -1,7 +1,7 @@
 //! Opens of a service while peers create it, leave it and replace it by another of the same name.
 
 use self::Deed::*;
-use crate::support::*;
+use crate::batches::support::*;
 use iceoryx2_errors::error::EventOpenError;
 use std::alloc::Global;
 use std::process::Abort;

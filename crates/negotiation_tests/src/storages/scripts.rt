@@ -1,7 +1,7 @@
 //! Calls over storages that answer from a list.
 
 use self::AccessAnswer::*;
-use crate::support::*;
+use crate::storages::support::*;
 use iceoryx2_access::storage::{
     Existence, FetchError, MakeSegmentError, OpenSegmentError, PublishError, Tag,
 };
@@ -66,12 +66,14 @@ fn answer(rt: &impl Abort, alloc: Global, answer: AccessAnswer) -> script::Answe
 }
 
 /// Puts answers behind others.
-fn push(rt: &impl Abort, alloc: Global, answers: &mut Vec<script::Answer>, part: &[AccessAnswer]) {
+fn push_all(
+    rt: &impl Abort,
+    alloc: Global,
+    answers: &mut Vec<script::Answer>,
+    part: &[AccessAnswer],
+) {
     for each in part {
-        match answers.push(answer(rt, alloc, *each)) {
-            Ok(()) => {}
-            Err(_) => panic!(rt; "no memory"),
-        }
+        push(rt, answers, answer(rt, alloc, *each));
     }
 }
 
@@ -79,7 +81,7 @@ fn push(rt: &impl Abort, alloc: Global, answers: &mut Vec<script::Answer>, part:
 fn script(rt: &impl Abort, alloc: Global, parts: Parts) -> Script {
     let mut answers = Vec::new(alloc);
     for part in parts {
-        push(rt, alloc, &mut answers, part);
+        push_all(rt, alloc, &mut answers, part);
     }
     Script::new(answers)
 }

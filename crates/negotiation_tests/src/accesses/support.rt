@@ -1,24 +1,17 @@
 //! Accesses of a table and what they answer. What the tests share stands in functions without a
 //! contract, so that a test sees answers alone.
 
+pub use crate::support::{assert_same, drop_table, entries, held, name, push, table_from};
 use iceoryx2_access::storage::{
     Existence, FetchError, LockError, MakeSegmentError, OpenSegmentError, PublishError, Release,
-    ReleaseError, RemoveError, Service, Storage, Tag, TagError,
+    ReleaseError, RemoveError, Storage, Tag, TagError,
 };
 use iceoryx2_attributes::attribute::AttributeSet;
 use iceoryx2_data::{config, event};
-use iceoryx2_storage::local::Local;
 use iceoryx2_storage::table::Table;
-use iceoryx2_values::description::{MessagingPattern, ServiceHash, ServiceName, StaticConfig};
+use iceoryx2_values::description::{MessagingPattern, ServiceHash, StaticConfig};
 use std::alloc::Global;
-use std::fmt::Debug;
 use std::process::Abort;
-
-/// Ends a test that finds another value than it wants. Only here is a value compared and printed, since
-/// each function that does so is dear to prove.
-pub fn assert_same<T: Debug + PartialEq + Drop>(rt: &impl Abort, found: T, wanted: T) {
-    assert_eq!(rt; found, wanted);
-}
 
 /// The service of all accesses.
 pub const SERVICE: ServiceHash = ServiceHash([0x11; 20]);
@@ -83,24 +76,17 @@ pub fn description(
         notifier_dead_event: None,
         deadline: None,
     };
-    match ServiceName::new(alloc, "a") {
-        Ok(name) => StaticConfig::new(
-            hash,
-            name,
-            AttributeSet::new(alloc),
-            MessagingPattern::Event(settings),
-        ),
-        Err(_) => panic!(rt; "no name"),
-    }
+    let pattern = MessagingPattern::Event(settings);
+    StaticConfig::new(
+        hash,
+        name(rt, alloc, "a"),
+        AttributeSet::new(alloc),
+        pattern,
+    )
 }
 
-/// What a storage answers, for the service of all accesses.
-fn ask<S: Service>(
-    rt: &impl Abort,
-    storage: &mut S::Storage,
-    alloc: Global,
-    access: Access,
-) -> Answer {
+/// What a table answers, for the service of all accesses.
+fn ask(rt: &impl Abort, storage: &mut Table, alloc: Global, access: Access) -> Answer {
     match access {
         Access::Exists => Answer::Exists(storage.exists(&SERVICE)),
         Access::Fetch(node) => Answer::Fetched(match storage.fetch(node, &SERVICE) {
@@ -131,32 +117,12 @@ fn ask<S: Service>(
     }
 }
 
-/// Lets a table go. It is dropped here alone, since each function that drops one is dear to prove.
-pub fn drop_table(table: Table) {
-    let _table = table;
-}
-
-/// A new table with its counter's first value.
-pub fn table_from(alloc: Global, counter: u64) -> Table {
-    Table::starting_at(alloc, counter)
-}
-
-/// Asks a storage row by row, each of which it has to answer as the row says.
-pub fn drive<S: Service>(
-    rt: &impl Abort,
-    storage: &mut S::Storage,
-    alloc: Global,
-    rows: &[(Access, Answer)],
-) {
-    for (row, (access, wanted)) in rows.iter().enumerate() {
-        let found = ask::<S>(rt, storage, alloc, *access);
-        assert!(rt; found == *wanted, "row {row} has another answer");
-    }
-}
-
 /// A table with this counter that has answered each row as the row says.
 pub fn driven(rt: &impl Abort, alloc: Global, counter: u64, rows: &[(Access, Answer)]) -> Table {
     let mut table = table_from(alloc, counter);
-    drive::<Local>(rt, &mut table, alloc, rows);
+    for (row, (access, wanted)) in rows.iter().enumerate() {
+        let found = ask(rt, &mut table, alloc, *access);
+        assert!(rt; found == *wanted, "row {row} has another answer");
+    }
     table
 }

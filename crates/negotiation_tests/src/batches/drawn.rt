@@ -1,6 +1,6 @@
 //! Batches that are drawn by chance, at a table and at a model of it in a few lines.
 
-use crate::support::*;
+use crate::batches::support::*;
 use iceoryx2_access::storage::{Existence, Storage};
 use iceoryx2_storage::table::{Step, Table};
 use std::alloc::Global;

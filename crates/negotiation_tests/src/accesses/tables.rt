@@ -1,6 +1,6 @@
 //! Answers of a table that is driven access by access.
 
-use crate::support::*;
+use crate::accesses::support::*;
 use iceoryx2_access::storage::{
     Existence, FetchError, LockError, MakeSegmentError, OpenSegmentError, PublishError, Release,
     ReleaseError, RemoveError, Storage, Tag,
@@ -226,40 +226,14 @@ fn told(entry: &Entry) -> Told {
     (entry.hash, number, entry.segment)
 }
 
-fn entries(rt: &impl Abort, table: &Table) -> Vec<Entry> {
-    match table.list() {
-        Ok(entries) => entries,
-        Err(_) => panic!(rt; "no memory"),
-    }
-}
-
-/// What a table lists, which is then let go.
-fn listed(rt: &impl Abort, alloc: Global, table: Table) -> Vec<Told> {
-    let all = all_told(rt, alloc, entries(rt, &table));
-    drop_table(table);
-    all
-}
-
-/// What these entries tell.
-fn all_told(rt: &impl Abort, alloc: Global, entries: Vec<Entry>) -> Vec<Told> {
+/// Whether a table lists this. It is then let go.
+fn lists(rt: &impl Abort, alloc: Global, table: Table, wanted: &[Told]) -> bool {
     let mut all = Vec::new(alloc);
-    for entry in &entries {
-        match all.push(told(entry)) {
-            Ok(()) => {}
-            Err(_) => panic!(rt; "no memory"),
-        }
+    for entry in &entries(rt, &table) {
+        push(rt, &mut all, told(entry));
     }
-    all
-}
-
-/// Whether this is all that is told.
-fn are(all: Vec<Told>, wanted: &[Told]) -> bool {
+    drop_table(table);
     all.as_slice() == wanted
-}
-
-/// What a table lists once it has answered these rows.
-fn listed_after(rt: &impl Abort, alloc: Global, rows: &[(Access, Answer)]) -> Vec<Told> {
-    listed(rt, alloc, driven(rt, alloc, 0, rows))
 }
 
 /// Locks a service for node 3.
@@ -270,13 +244,13 @@ fn lock(rt: &impl Abort, table: &mut Table, hash: &ServiceHash) {
     }
 }
 
-/// What is listed of three services that node 3 locks.
-fn listed_of_three(rt: &impl Abort, alloc: Global) -> Vec<Told> {
+/// A table with three services that node 3 locks.
+fn with_three_locks(rt: &impl Abort, alloc: Global) -> Table {
     let mut table = table_from(alloc, 0);
     lock(rt, &mut table, &GREATER);
     lock(rt, &mut table, &OTHER);
     lock(rt, &mut table, &SERVICE);
-    listed(rt, alloc, table)
+    table
 }
 
 /// The counter of a table that had this one and has answered these rows.
@@ -303,11 +277,6 @@ fn assert_bytes(rt: &impl Abort, alloc: Global, bytes: Vec<u8>, wanted: &str) {
     }
 }
 
-/// Whether a node has a tag for a service, and how many tickets.
-fn held(table: &Table, node: u64, hash: &ServiceHash) -> (bool, u64) {
-    (table.has_tag(node, hash), table.tickets(node, hash))
-}
-
 /// What nodes 1 and 2 hold after these rows, for the service and another one.
 fn held_after(rt: &impl Abort, alloc: Global, rows: &[(Access, Answer)]) -> [(bool, u64); 4] {
     let table = driven(rt, alloc, 0, rows);
@@ -321,9 +290,21 @@ fn held_after(rt: &impl Abort, alloc: Global, rows: &[(Access, Answer)]) -> [(bo
     all
 }
 
+/// Counters of tables, what such a table answers, and its counter then.
+const COUNTERS: &[(u64, &[(Access, Answer)], u64)] = &[
+    (0, CREATED, 1),
+    (0, OPENED_AND_REMOVED, 3),
+    (0, LOCKED_AFTER_READING, 2),
+    (u64::MAX, NO_NUMBER, u64::MAX),
+    (u64::MAX - 1, LAST_NUMBER, u64::MAX),
+];
+
 #[test]
-fn a_service_is_created_by_who_locks_it(rt: HostRuntime) {
-    assert_same(&rt, counter_after(&rt, rt.alloc(), 0, CREATED), 1);
+fn a_table_answers_row_by_row(rt: HostRuntime) {
+    for (row, &(counter, rows, wanted)) in COUNTERS.iter().enumerate() {
+        let found = counter_after(&rt, rt.alloc(), counter, rows);
+        assert_same(&rt, (row, found), (row, wanted));
+    }
 }
 
 #[test]
@@ -333,60 +314,31 @@ fn what_is_published_is_fetched(rt: HostRuntime) {
     drop_table(table);
 }
 
-#[test]
-fn nodes_open_a_service_and_the_last_one_removes_it(rt: HostRuntime) {
-    assert_same(
-        &rt,
-        counter_after(&rt, rt.alloc(), 0, OPENED_AND_REMOVED),
-        3,
-    );
-}
-
-#[test]
-fn nothing_is_listed_of_what_is_removed(rt: HostRuntime) {
-    let found = listed_after(&rt, rt.alloc(), OPENED_AND_REMOVED);
-    assert!(rt; are(found, &[]));
-}
-
-#[test]
-fn no_number_is_left_at_the_counters_end(rt: HostRuntime) {
-    let found = [
-        counter_after(&rt, rt.alloc(), u64::MAX, NO_NUMBER),
-        counter_after(&rt, rt.alloc(), u64::MAX - 1, LAST_NUMBER),
-    ];
-    assert_same(&rt, found, [u64::MAX, u64::MAX]);
-}
-
-#[test]
-fn who_has_read_may_lock_what_is_gone(rt: HostRuntime) {
-    assert_same(
-        &rt,
-        counter_after(&rt, rt.alloc(), 0, LOCKED_AFTER_READING),
-        2,
-    );
-}
+/// What a table answers, and what it lists then.
+const LISTINGS: &[(&[(Access, Answer)], &[Told])] = &[
+    (OPENED_AND_REMOVED, &[]),
+    (LEFT_ALONE, &[(SERVICE, None, Some(LEFT))]),
+    (LEFT_OF_A_LOCK, &[(SERVICE, Some(1), Some(LEFT))]),
+];
 
 #[test]
 fn rows_and_segments_are_listed_together(rt: HostRuntime) {
-    let found = listed_after(&rt, rt.alloc(), LEFT_OF_A_LOCK);
-    assert!(rt; are(found, &[(SERVICE, Some(1), Some(LEFT))]));
+    for (row, &(rows, wanted)) in LISTINGS.iter().enumerate() {
+        let table = driven(&rt, rt.alloc(), 0, rows);
+        let is_listed = lists(&rt, rt.alloc(), table, wanted);
+        assert_same(&rt, (row, is_listed), (row, true));
+    }
 }
 
 #[test]
 fn services_are_listed_in_the_order_of_their_hashes(rt: HostRuntime) {
-    let found = listed_of_three(&rt, rt.alloc());
     let wanted = [
         (OTHER, Some(1), None),
         (SERVICE, Some(2), None),
         (GREATER, Some(0), None),
     ];
-    assert!(rt; are(found, &wanted));
-}
-
-#[test]
-fn a_segment_alone_is_listed(rt: HostRuntime) {
-    let found = listed_after(&rt, rt.alloc(), LEFT_ALONE);
-    assert!(rt; are(found, &[(SERVICE, None, Some(LEFT))]));
+    let table = with_three_locks(&rt, rt.alloc());
+    assert_same(&rt, lists(&rt, rt.alloc(), table, &wanted), true);
 }
 
 #[test]

@@ -1,7 +1,7 @@
 //! What runs the batches, and single accesses beside peers.
 
 use self::Deed::*;
-use crate::support::*;
+use crate::batches::support::*;
 use iceoryx2_access::storage::{Existence, MakeSegmentError, OpenSegmentError, Storage};
 use iceoryx2_storage::table::Table;
 use iceoryx2_values::time::Time;

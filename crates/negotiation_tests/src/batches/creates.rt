@@ -1,7 +1,7 @@
 //! Creates of a service beside peers, and closes of what is created.
 
 use self::Deed::*;
-use crate::support::*;
+use crate::batches::support::*;
 use iceoryx2_access::storage::{Existence, Storage};
 use iceoryx2_errors::error::EventCreateError;
 use iceoryx2_port_factory::port_factory::event::PortFactory;

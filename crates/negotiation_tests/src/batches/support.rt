@@ -1,21 +1,22 @@
 //! A table at which batches of peers' steps wait, calls over it, and what is left. A call of the layer
 //! stands here alone, in a function without a contract, so that a test sees answers and no contracts.
 
+pub use crate::support::{
+    Row, Segment, assert_same, command, configured, drop_table, held, name, only_one, push,
+    row_and_segment,
+};
 use iceoryx2_attributes::attribute::AttributeSet;
-use iceoryx2_builder::builder::Node;
 use iceoryx2_builder::builder::event::Builder;
 use iceoryx2_errors::error::{EventCreateError, EventOpenError};
 use iceoryx2_port_factory::port_factory::event::PortFactory;
 use iceoryx2_script::script::{Faulty, FaultyService};
 use iceoryx2_storage::local::Local;
-use iceoryx2_storage::table::listing::{Entry, ListedRow, ListedSegment};
 use iceoryx2_storage::table::{Act, Step, Table};
 use iceoryx2_values::config::Config;
-use iceoryx2_values::description::{MessagingPattern, ServiceHash, ServiceName, StaticConfig};
+use iceoryx2_values::description::{MessagingPattern, ServiceHash, StaticConfig};
 use iceoryx2_values::event;
 use iceoryx2_values::time::Time;
 use std::alloc::Global;
-use std::fmt::Debug;
 use std::process::Abort;
 
 /// Services over a table whose accesses are counted.
@@ -29,12 +30,6 @@ pub const SERVICE: ServiceHash = ServiceHash([
     0xc3, 0x49, 0x9c, 0x27, 0x29, 0x73, 0x0a, 0x7f, 0x80, 0x7e, 0xfb, 0x86, 0x76, 0xa9, 0x2d, 0xcb,
     0x6f, 0x8a, 0x3f, 0x8f,
 ]);
-
-/// Ends a test that finds another value than it wants. Only here is a value compared and printed, since
-/// each function that does so is dear to prove.
-pub fn assert_same<T: Debug + PartialEq + Drop>(rt: &impl Abort, found: T, wanted: T) {
-    assert_eq!(rt; found, wanted);
-}
 
 /// The settings of a service for so many notifiers and listeners, with an event's greatest number, and for
 /// so many nodes. It tells of no events and has no deadline.
@@ -62,14 +57,6 @@ pub enum Deed {
 /// Before which access of the table which peer does what. The last row is for the last access.
 pub type Plan = &'static [(usize, u64, &'static [Deed])];
 
-/// The name of the service of all these tests.
-pub fn name(rt: &impl Abort, alloc: Global) -> ServiceName {
-    match ServiceName::new(alloc, "xample") {
-        Ok(name) => name,
-        Err(_) => panic!(rt; "no name"),
-    }
-}
-
 /// The description of that service with these settings.
 fn described(rt: &impl Abort, alloc: Global, settings: Settings) -> StaticConfig {
     let [max_notifiers, max_listeners, event_id_max_value, max_nodes] = settings;
@@ -83,15 +70,12 @@ fn described(rt: &impl Abort, alloc: Global, settings: Settings) -> StaticConfig
         notifier_dead_event: None,
         deadline: None,
     });
-    StaticConfig::new(SERVICE, name(rt, alloc), AttributeSet::new(alloc), pattern)
-}
-
-/// Puts something behind the rest.
-pub fn push<T: Drop>(rt: &impl Abort, all: &mut Vec<T>, last: T) {
-    match all.push(last) {
-        Ok(()) => {}
-        Err(_) => panic!(rt; "no memory"),
-    }
+    StaticConfig::new(
+        SERVICE,
+        name(rt, alloc, "xample"),
+        AttributeSet::new(alloc),
+        pattern,
+    )
 }
 
 /// That deed as an act.
@@ -165,15 +149,9 @@ pub fn counted(rt: &impl Abort, alloc: Global, plan: Plan) -> CountedTable {
     Faulty::new(planned(rt, alloc, plan), Vec::new(alloc))
 }
 
-/// Lets a table go. It is dropped here alone, since each function that drops one is dear to prove.
-pub fn drop_table(table: Table) {
-    let _table = table;
-}
-
 /// The builder of this node for the service, with the default settings.
 pub fn events(rt: &impl Abort, alloc: Global, node: u64) -> Builder<Counted> {
-    let node = Node::<Counted>::new(node, Config::default());
-    node.service_builder(name(rt, alloc)).event()
+    configured(rt, alloc, node, Config::default(), "xample")
 }
 
 /// What a call gives: the number of the service and its settings.
@@ -222,14 +200,6 @@ pub fn create(
     }
 }
 
-/// What is written under the service's hash, without the bytes.
-#[derive(Clone, Copy, Debug, PartialEq, Eq)]
-pub enum Row {
-    Absent,
-    Locked(u64),
-    Published(u64),
-}
-
 /// A peer publishes the service with the default settings.
 pub const PUBLISHED: &[Deed] = &[Deed::Lock, Deed::Make(36), Deed::Publish(DEFAULTS)];
 
@@ -243,9 +213,6 @@ pub const REPLACED: &[Deed] = &[
     Deed::Publish(FOR_TWO),
 ];
 
-/// A segment's number, for how many nodes it is, how many are in it, and whether it is marked.
-pub type Segment = Option<(u64, u64, u64, bool)>;
-
 /// The row and the segment of the service, whether node 1 has its tag and how many tickets, the table's
 /// counter, and how many steps found no memory.
 pub type Left = (Row, Segment, (bool, u64), u64, u64);
@@ -253,47 +220,10 @@ pub type Left = (Row, Segment, (bool, u64), u64, u64);
 /// What is left where a peer holds the lock.
 pub const LOCKED: Left = (Row::Locked(0), None, (false, 0), 1, 0);
 
-/// What a table lists.
-fn entries(rt: &impl Abort, table: &Table) -> Vec<Entry> {
-    match table.list() {
-        Ok(entries) => entries,
-        Err(_) => panic!(rt; "no memory"),
-    }
-}
-
-/// What is listed of a row, without the bytes.
-fn row_of(entry: &Entry) -> Row {
-    match &entry.row {
-        ListedRow::Absent => Row::Absent,
-        ListedRow::Locked(number) => Row::Locked(*number),
-        ListedRow::Published(number, _) => Row::Published(*number),
-    }
-}
-
-/// What is listed of a segment.
-fn segment_of(entry: &Entry) -> Segment {
-    let ListedSegment {
-        number,
-        max_nodes,
-        participants,
-        marked,
-    } = entry.segment?;
-    Some((number, max_nodes, participants, marked))
-}
-
-/// The row and the segment of the only service that is listed, or of none.
-pub fn only_one(rt: &impl Abort, entries: &[Entry]) -> (Row, Segment) {
-    match entries {
-        [] => (Row::Absent, None),
-        [entry] => (row_of(entry), segment_of(entry)),
-        _ => panic!(rt; "more than one service"),
-    }
-}
-
 /// What is left in a table.
 pub fn left(rt: &impl Abort, table: &Table) -> Left {
-    let (row, segment) = only_one(rt, entries(rt, table).as_slice());
-    let held = (table.has_tag(1, &SERVICE), table.tickets(1, &SERVICE));
+    let (row, segment) = row_and_segment(rt, table);
+    let held = held(table, 1, &SERVICE);
     (row, segment, held, table.counter(), table.skipped())
 }
 

@@ -1,8 +1,8 @@
 //! Sessions over a table at which batches of peers' steps wait.
 
-use crate::support::*;
+use crate::batches::support::*;
 use iceoryx2_service::attribute::AttributeVerifier;
-use iceoryx2_service::command::{Call, Command, How, Reply, Settings};
+use iceoryx2_service::command::{Command, How, Reply};
 use iceoryx2_service::session::Session;
 use iceoryx2_values::config::Config;
 use iceoryx2_values::time::Time;
@@ -16,16 +16,10 @@ fn apply(session: &mut Session, command: Command) -> Reply {
 
 /// Opens the service for a node into a slot.
 fn open(rt: &impl Abort, alloc: Global, session: &mut Session, node: u64, slot: usize) -> Reply {
-    let call = Call {
-        how: How::Open,
-        node,
-        slot,
-        name: name(rt, alloc),
-        settings: Settings::Event(Vec::new(alloc)),
-        attributes: AttributeVerifier::new(alloc),
-        now: Ok(Time::default()),
-    };
-    apply(session, Command::Call(call))
+    let attributes = AttributeVerifier::new(alloc);
+    let now = Ok(Time::default());
+    let called = (How::Open, node, slot, "xample");
+    apply(session, command(rt, alloc, called, &[], attributes, now))
 }
 
 /// A session over a table for which this is planned.

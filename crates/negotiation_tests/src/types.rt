@@ -6,7 +6,7 @@ ghost use Rattle.iceoryx2_types.specs.Alignments.{eight};
 ghost use Rattle.iceoryx2_types.specs.Types.{fixed_size};
 
 use self::TypeVariant::*;
-use crate::support::*;
+use crate::support::assert_same;
 use iceoryx2_types::types::publish_subscribe::Header;
 use iceoryx2_types::types::request_response::{RequestHeader, ResponseHeader};
 use iceoryx2_types::types::{

@@ -1,14 +1,13 @@
 //! Calls over a table of which chosen accesses are refused.
 
 use self::Row::*;
-use crate::support::Answer::*;
-use crate::support::Call::*;
-use crate::support::*;
+use crate::storages::support::Answer::*;
+use crate::storages::support::Call::*;
+use crate::storages::support::*;
 use iceoryx2_errors::error::{EventCreateError, EventOpenError};
 use iceoryx2_script::script::{Faulty, FaultyService};
 use iceoryx2_storage::local::Local;
 use iceoryx2_storage::table::Table;
-use iceoryx2_storage::table::listing::{Entry, ListedRow};
 use iceoryx2_values::description::ServiceHash;
 use std::alloc::Global;
 use std::process::Abort;
@@ -18,17 +17,6 @@ const HASH: ServiceHash = ServiceHash([
     0xc3, 0x49, 0x9c, 0x27, 0x29, 0x73, 0x0a, 0x7f, 0x80, 0x7e, 0xfb, 0x86, 0x76, 0xa9, 0x2d, 0xcb,
     0x6f, 0x8a, 0x3f, 0x8f,
 ]);
-
-/// What is written under the hash: nothing, or a service of a number.
-#[derive(Clone, Copy, Debug, PartialEq, Eq)]
-enum Row {
-    Absent,
-    Locked(u64),
-    Published(u64),
-}
-
-/// A segment's number, and whether it is marked.
-type Segment = Option<(u64, bool)>;
 
 /// Whether a node has a tag, and how many tickets.
 type Holding = (bool, u64);
@@ -49,54 +37,32 @@ const NEW: Contents = (Absent, None, (NOTHING, NOTHING), 0);
 const EMPTY: Contents = (Absent, None, (NOTHING, NOTHING), 1);
 
 /// The first service of a table, of node 1 alone.
-const SERVICE_OF_1: Contents = (Published(0), Some((0, false)), (REGISTRATION, NOTHING), 1);
+const SERVICE_OF_1: Contents = (
+    Published(0),
+    Some((0, 36, 1, false)),
+    (REGISTRATION, NOTHING),
+    1,
+);
 
 /// The first service of a table, of both nodes.
 const SERVICE_OF_BOTH: Contents = (
     Published(0),
-    Some((0, false)),
+    Some((0, 36, 2, false)),
     (REGISTRATION, REGISTRATION),
     2,
 );
 
 /// The second service of a table, of node 1 alone.
-const LATER_SERVICE: Contents = (Published(1), Some((1, false)), (REGISTRATION, NOTHING), 2);
-
-fn row_of(entry: &Entry) -> Row {
-    match entry.row {
-        ListedRow::Absent => Absent,
-        ListedRow::Locked(number) => Locked(number),
-        ListedRow::Published(number, _) => Published(number),
-    }
-}
-
-fn segment_of(entry: &Entry) -> Segment {
-    match entry.segment {
-        Some(segment) => Some((segment.number, segment.marked)),
-        None => None,
-    }
-}
-
-/// The row and the segment of a table that has no other service.
-fn row_and_segment(rt: &impl Abort, table: &Table) -> (Row, Segment) {
-    let entries = match table.list() {
-        Ok(entries) => entries,
-        Err(_) => panic!(rt; "no memory"),
-    };
-    match entries.as_slice() {
-        [] => (Absent, None),
-        [entry] => (row_of(entry), segment_of(entry)),
-        _ => panic!(rt; "more than one service"),
-    }
-}
-
-fn holding(table: &Table, node: u64) -> Holding {
-    (table.has_tag(node, &HASH), table.tickets(node, &HASH))
-}
+const LATER_SERVICE: Contents = (
+    Published(1),
+    Some((1, 36, 1, false)),
+    (REGISTRATION, NOTHING),
+    2,
+);
 
 fn contents(rt: &impl Abort, table: &Table) -> Contents {
     let (row, segment) = row_and_segment(rt, table);
-    let held = (holding(table, 1), holding(table, 2));
+    let held = (held(table, 1, &HASH), held(table, 2, &HASH));
     (row, segment, held, table.counter())
 }
 
@@ -173,7 +139,7 @@ const CREATES: &[Run] = &[
         &[6, 7],
         &[CORRUPTED_STATE],
         (9, 1, 0, 1),
-        (Absent, Some((0, false)), (NOTHING, NOTHING), 1),
+        (Absent, Some((0, 36, 1, false)), (NOTHING, NOTHING), 1),
     ),
     (
         &[6, 7],
@@ -234,7 +200,7 @@ const CLOSES: &[Run] = &[
         &[9],
         &[FIRST_CREATE, (Close, SegmentNotRemoved)],
         (10, 1, 0, 1),
-        (Absent, Some((0, true)), (NOTHING, NOTHING), 1),
+        (Absent, Some((0, 36, 0, true)), (NOTHING, NOTHING), 1),
     ),
     (
         &[9],
@@ -244,7 +210,12 @@ const CLOSES: &[Run] = &[
             (Create(2), Granted(1)),
         ],
         (18, 2, 0, 3),
-        (Published(1), Some((1, false)), (NOTHING, REGISTRATION), 2),
+        (
+            Published(1),
+            Some((1, 36, 1, false)),
+            (NOTHING, REGISTRATION),
+            2,
+        ),
     ),
     // the description is left, and nobody opens or creates the service
     (
@@ -270,7 +241,7 @@ const CLOSES: &[Run] = &[
             (Open(2), OpenRefused(EventOpenError::IsMarkedForDestruction)),
         ],
         (15, 2, 1, 1),
-        (Published(0), Some((0, true)), (NOTHING, NOTHING), 1),
+        (Published(0), Some((0, 36, 0, true)), (NOTHING, NOTHING), 1),
     ),
     (
         &[8, 10],
@@ -360,7 +331,7 @@ const LAST_NUMBER: &[Run] = &[(
     (11, 2, 1, 1),
     (
         Published(u64::MAX - 1),
-        Some((u64::MAX - 1, false)),
+        Some((u64::MAX - 1, 36, 1, false)),
         (REGISTRATION, NOTHING),
         u64::MAX,
     ),

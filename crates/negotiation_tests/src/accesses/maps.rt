@@ -1,6 +1,6 @@
 //! Maps in sorted vectors.
 
-use crate::support::assert_same;
+use crate::accesses::support::assert_same;
 use sorted_map::{Place, SortedVec};
 use std::alloc::Global;
 use std::process::Abort;

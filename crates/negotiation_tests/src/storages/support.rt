@@ -1,23 +1,17 @@
 //! Calls for one service at any storage, and what they answer. A call of the layer stands here alone, in
 //! a function without a contract, so that a test sees answers and no contracts.
 
+pub use crate::support::{
+    Row, Segment, assert_same, configured, drop_table, held, push, row_and_segment,
+};
 use iceoryx2_access::storage::Service;
-use iceoryx2_builder::builder::Node;
 use iceoryx2_builder::builder::event::Builder;
 use iceoryx2_errors::error::{CloseError, EventCreateError, EventOpenError};
 use iceoryx2_port_factory::port_factory::event::PortFactory;
 use iceoryx2_values::config::Config;
-use iceoryx2_values::description::ServiceName;
 use iceoryx2_values::time::Time;
 use std::alloc::Global;
-use std::fmt::Debug;
 use std::process::Abort;
-
-/// Ends a test that finds another value than it wants. Only here is a value compared and printed, since
-/// each function that does so is dear to prove.
-pub fn assert_same<T: Debug + PartialEq + Drop>(rt: &impl Abort, found: T, wanted: T) {
-    assert_eq!(rt; found, wanted);
-}
 
 /// A call of a node for the service of all these tests, with the default settings.
 #[derive(Clone, Copy)]
@@ -43,18 +37,9 @@ pub enum Answer {
     DescriptionNotRemoved,
 }
 
-/// The name of the service of all these tests.
-pub fn name(rt: &impl Abort, alloc: Global) -> ServiceName {
-    match ServiceName::new(alloc, "xample") {
-        Ok(name) => name,
-        Err(_) => panic!(rt; "no name"),
-    }
-}
-
-/// The builder of this node for that service.
+/// The builder of this node for the service of all these tests.
 pub fn events<S: Service>(rt: &impl Abort, alloc: Global, node: u64) -> Builder<S> {
-    let node = Node::<S>::new(node, Config::default());
-    node.service_builder(name(rt, alloc)).event()
+    configured(rt, alloc, node, Config::default(), "xample")
 }
 
 /// The bytes of hexadecimal digits.

@@ -1,0 +1,8 @@
+//! Calls and accesses over a table at which batches of peers' steps wait.
+
+mod accesses;
+mod creates;
+mod drawn;
+mod opens;
+mod sessions;
+mod support;
