@@ -1,14 +1,15 @@
 -- What the builder calls of all patterns have in common.
 use Rattle.std.proofs.Common.{ℕ, List}
 use Rattle.iceoryx2_values.specs.declared.config.Config.{Config}
-use Rattle.iceoryx2_event_builder.specs.Request.{EventRequest, fresh_request}
+use Rattle.iceoryx2_event_builder.specs.Request.{EventRequest, fresh_request, with_setting}
 use Rattle.iceoryx2_attributes.specs.Requirements.{Requirements}
 use Rattle.iceoryx2_pattern.specs.Regular.{IsRegular, TakesNodes}
 use Rattle.iceoryx2_event_builder.proofs.Builders.{event_builder}
 use Rattle.iceoryx2_service.specs.declared.command.Settings.{Settings}
 use Rattle.iceoryx2_service.specs.declared.command.Settings.TheVariants as settings
 use Rattle.iceoryx2_service.specs.BuilderCalls.{BuilderCall}
-use Rattle.iceoryx2_service.specs.Events.{with_settings, event_call}
+use Rattle.iceoryx2_service.specs.Setters.{with_settings}
+use Rattle.iceoryx2_service.specs.Events.{event_call}
 use Rattle.iceoryx2_service.specs.declared.command.Call.{Call}
 use Rattle.iceoryx2_service.specs.Patterns.{call_by, builder_call}
 
@@ -27,7 +28,7 @@ event_call_is_regular b attributes = record {
 
 -- one row a pattern
 regular_by : (config : Config) (node : ℕ) (name : List ℕ) (attributes : Requirements) (settings : Settings) → IsRegularCall (call_by config node name attributes settings)
-regular_by config node name attributes (settings.Event xs) = event_call_is_regular (with_settings (fresh_request node name config.event) xs.items) attributes
+regular_by config node name attributes (settings.Event xs) = event_call_is_regular (with_settings with_setting (fresh_request node name config.event) xs.items) attributes
 
 pub call_is_regular : (config : Config) (call : Call) → IsRegularCall (builder_call config call)
 call_is_regular config call = regular_by config call.node call.name call.attributes call.settings

@@ -1,19 +1,13 @@
 -- Builder calls for services of events.
-use Rattle.std.specs.Prelude.{false, List, [], ◌∷◌}
+use Rattle.std.specs.Prelude.{false}
 use Rattle.iceoryx2_errors.specs.declared.error.ServiceState.{ServiceState}
 use Rattle.iceoryx2_errors.specs.declared.error.events.EventOpenError.{EventOpenError}
 use Rattle.iceoryx2_errors.specs.declared.error.events.EventCreateError.{EventCreateError}
-use Rattle.iceoryx2_event_builder.specs.declared.event.setting.EventSetting.{EventSetting}
-use Rattle.iceoryx2_event_builder.specs.Request.{EventRequest, letter_of_events, with_setting}
+use Rattle.iceoryx2_event_builder.specs.Request.{EventRequest, letter_of_events}
 use Rattle.iceoryx2_attributes.specs.Requirements.{Requirements}
 use Rattle.iceoryx2_event_builder.specs.Event.{event_creating, event_opening}
 use Rattle.iceoryx2_service.specs.declared.command.Refusal.TheVariants as refusal
 use Rattle.iceoryx2_service.specs.BuilderCalls.{BuilderCall, hash_for}
-
--- a builder after each setter, in order
-unfoldable pub with_settings : EventRequest → List EventSetting → EventRequest
-with_settings b [] = b
-with_settings b (x ∷ xs) = with_settings (with_setting b x) xs
 
 -- what the calls of this builder ask: a create defines the pairs, and an open requires pairs and keys
 abbrev pub event_call : EventRequest → Requirements → BuilderCall

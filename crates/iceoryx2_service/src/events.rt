@@ -1,8 +1,10 @@
 //! Builder calls for services of events.
 
 ghost use Rattle.std.specs.Prelude.{◌≡◌};
-ghost use Rattle.iceoryx2_service.specs.Events.{event_call, with_settings as set_all};
+ghost use Rattle.iceoryx2_event_builder.specs.Request.{with_setting};
+ghost use Rattle.iceoryx2_service.specs.Events.{event_call};
 ghost use Rattle.iceoryx2_service.specs.Sessions.{Builds};
+ghost use Rattle.iceoryx2_service.specs.Setters.{with_settings as set_all};
 
 use crate::command::{EventSetting, How, Refusal};
 use crate::open_service::OpenService;
@@ -13,12 +15,11 @@ use iceoryx2_storage::table::Table;
 use iceoryx2_values::time::{ClockFault, Time};
 
 /// The builder after each setter, in order.
-#[tactic(auto, using(crate::proofs::Setters::with_settings_push), unfolding(crate::specs::Events::with_settings))]
-fn with_settings(mut builder: Builder<Local>, settings: &[EventSetting]) -> Builder<Local>
-    ensures { result ≡ set_all builder settings.now }
+fn with_settings(mut builder: Builder<Local>, settings: Vec<EventSetting>) -> Builder<Local>
+    ensures { result ≡ set_all with_setting builder settings.items }
 {
     for setting in settings {
-        builder = builder.with(*setting);
+        builder = builder.with(setting);
     }
     builder
 }
@@ -26,13 +27,14 @@ fn with_settings(mut builder: Builder<Local>, settings: &[EventSetting]) -> Buil
 /// The builder call, after each setter. A create defines the required pairs.
 pub fn call(
     builder: Builder<Local>,
-    settings: &[EventSetting],
+    settings: Vec<EventSetting>,
     attributes: AttributeVerifier,
     how: How,
     now: Result<Time, ClockFault>,
     table: &mut Table,
 ) -> Result<OpenService, Refusal>
-    ensures { Builds (event_call (set_all builder settings.now) attributes) how now table.old result table.new }
+    ensures { Builds (event_call (set_all with_setting builder settings.items) attributes) how now
+        table.old result table.new }
 {
     let builder = with_settings(builder, settings);
     match how {

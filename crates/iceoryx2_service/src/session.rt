@@ -40,7 +40,7 @@ fn build(config: Config, call: Call, table: &mut Table) -> Result<OpenService, R
     let builder = Node::<Local>::new(node, config).service_builder(name);
     match settings {
         Settings::Event(settings) => {
-            events::call(builder.event(), &settings, attributes, how, now, table)
+            events::call(builder.event(), settings, attributes, how, now, table)
         }
     }
 }

@@ -1,7 +1,20 @@
-use Rattle.iceoryx2_service.proofs.Setters.{one_more}
+use Rattle.std.proofs.Common.{List, length, ap, arith}
+use Rattle.std.specs.Vec.Iter.{into_iter_items}
+use Rattle.iceoryx2_event_builder.specs.Request.{with_setting}
+use Rattle.iceoryx2_event_builder.specs.declared.event.setting.EventSetting.{EventSetting}
+use Rattle.iceoryx2_service.proofs.Setters.{begins, one_more}
 use Rattle.iceoryx2_service.proofs.events.with_settings.Goals as goal
+
+pub loop-setting-init : goal.loop-setting-init
+loop-setting-init c =
+    let taken = c.into_iter-setting-iterator.ensures.into_iter_gives in
+    let long = ap (λ (l : List EventSetting). length l) taken.0 in
+    let items = c.args.settings.ok in
+    begins with_setting c.args.builder _ _ (omega (arith, taken.1, long, items.0))
 
 pub loop-setting-preserved : goal.loop-setting-preserved
 loop-setting-preserved c =
-    rw (c.with-builder.ensures, c.loop-setting.invariant)
-    (one_more c.args.builder c.args.settings.now c.loop-setting.setting-index c.setting-item.result c.setting-item.result c.loop-setting-test.true c.setting-item.is)
+    let at = c.loop-setting in
+    let fewer = c.in-Some.ensures.steps.1 in
+    rw c.with-builder.ensures
+    (one_more with_setting c.args.builder _ at.yielded _ (into_iter_items c.next.new.self) _ _ c.in-Some.setting at.builder at.invariant c.in-Some.ensures.steps.0 (omega (arith, fewer)))
