@@ -1,5 +1,4 @@
-pub mod Words
 pub mod EventWords
-pub mod CallWords
+pub mod EventMeanings
 pub mod Lines
 pub mod Replies

@@ -1,8 +1,8 @@
 -- What a line says.
-use Rattle.std.specs.Prelude.{ℕ, ◌≡◌, ◌≢◌, ◌^◌, List, [], ◌∷◌, codes}
+use Rattle.std.specs.Prelude.{ℕ, ◌≡◌, ◌≢◌, ◌^◌, ◌-◌, ◌==◌, Bool, true, false, List, [], ◌∷◌, codes}
+use Rattle.std.specs.Prelude.{length, take, slice_index, if◌then◌else◌}
 use Rattle.std.specs.Str.{IsUtf8}
 use Rattle.iceoryx2_values.specs.Names.{IsName}
-use Rattle.iceoryx2_event_builder.specs.declared.event.setting.EventSetting.{EventSetting}
 use Rattle.iceoryx2_service.specs.declared.command.Command.{Command}
 use Rattle.iceoryx2_service.specs.declared.command.Command.TheVariants as command
 use Rattle.iceoryx2_service.specs.declared.command.Call.{Call}
@@ -10,36 +10,65 @@ use Rattle.iceoryx2_service.specs.declared.command.How.{How}
 use Rattle.iceoryx2_service.specs.declared.command.How.TheVariants as how
 use Rattle.iceoryx2_service.specs.declared.command.Settings.{Settings}
 use Rattle.iceoryx2_service.specs.declared.command.Settings.TheVariants as settings
+use Rattle.iceoryx2_service.specs.Slots.{slot_count}
+use Rattle.negotiate_words.specs.declared.call_word.Admitted.{Admitted}
+use Rattle.negotiate_words.specs.Words.{words_of, IsNumber}
+use Rattle.negotiate_words.specs.Vocabulary.{Vocabulary}
+use Rattle.negotiate_words.specs.CallWords.{no_particulars, TakesWords}
 use Rattle.negotiate_lines.specs.declared.line.Line.{Line}
 use Rattle.negotiate_lines.specs.declared.line.Line.TheVariants as line
-use Rattle.iceoryx2_service.specs.Slots.{slot_count}
-use Rattle.negotiate_lines.specs.Words.{words_of, IsNumber}
-use Rattle.negotiate_lines.specs.CallWords.{Particulars, no_particulars, TakesWords}
+use Rattle.negotiate_lines.specs.declared.line.NamedCall.{NamedCall}
+use Rattle.negotiate_lines.specs.EventWords.{event_vocabulary}
+
+-- ---- the end of a line
+
+-- the line without this byte at its end
+abbrev pub without_last : ℕ → List ℕ → List ℕ
+without_last byte line = if slice_index line (length line - 1) == byte then take (length line - 1) line else line
+
+-- the line without its end: one line feed, and one carriage return before that
+abbrev pub without_end_of : List ℕ → List ℕ
+without_end_of line = without_last 13 (without_last 10 line)
+
+-- ---- calls
 
 -- the word that says how a service is wanted
 abbrev pub how_word : How → List ℕ
 how_word how.Create = codes "create"
 how_word how.Open = codes "open"
 
--- the setters of a call, in order
-abbrev pub setters_of : Settings → List EventSetting
-setters_of (settings.Event setters) = setters.items
+-- which of the words that every pattern has go with such a call: the time where the pattern's creates are told it
+abbrev pub admitted_of : (has_clock : Bool) → How → Admitted
+admitted_of has_clock how.Create = record { now = has_clock; require_key = false }
+admitted_of has_clock how.Open = record { now = false; require_key = true }
 
--- what it has beside its place and its name
-abbrev pub particulars_of : Call → Particulars
-particulars_of call =
-    record { settings = setters_of call.settings; requirements = call.attributes; now = call.now }
-
--- The words are a builder call. Those behind the name make all of it that the first five don't.
-pub record SaysCall (words : List (List ℕ)) (call : Call) : Type 0 where
+-- The words are a call in a pattern's vocabulary. Those behind the name make all of it that the first five don't.
+pub record SaysNamedCall {N S : Type 0} (v : Vocabulary N S) (words : List (List ℕ)) (call : NamedCall S)
+    : Type 0 where
   pub node : List ℕ
   pub slot : List ℕ
   pub others : List (List ℕ)
-  pub are : words ≡ codes "event" ∷ how_word call.how ∷ node ∷ slot ∷ call.name ∷ others
+  pub are : words ≡ v.pattern ∷ how_word call.how ∷ node ∷ slot ∷ call.name ∷ others
   pub node_is : IsNumber (2 ^ 64) node call.node
   pub slot_is : IsNumber slot_count slot call.slot
   pub name_is : IsName call.name
-  pub taken : TakesWords call.how no_particulars others (particulars_of call)
+  pub taken : TakesWords v (admitted_of v.has_clock call.how) no_particulars others call.parts
+
+-- a session's call, with its settings as a pattern has them
+abbrev pub named_call : {S : Type 0} → Call → List S → NamedCall S
+named_call call setters = record {
+  how = call.how;
+  node = call.node;
+  slot = call.slot;
+  name = call.name;
+  parts = record { settings = setters; requirements = call.attributes; now = call.now };
+}
+
+-- The words are a builder call, in the vocabulary of the pattern of its settings.
+abbrev pub SaysSettings : Settings → List (List ℕ) → Call → Type 0
+SaysSettings (settings.Event setters) words call = SaysNamedCall event_vocabulary words (named_call call setters.items)
+
+-- ---- lines
 
 -- The words close a slot.
 pub record SaysClose (words : List (List ℕ)) (closed : ℕ) : Type 0 where
@@ -49,7 +78,7 @@ pub record SaysClose (words : List (List ℕ)) (closed : ℕ) : Type 0 where
 
 -- The words are the command.
 abbrev pub Says : List (List ℕ) → Command → Type 0
-Says words (command.Call call) = SaysCall words call
+Says words (command.Call call) = SaysSettings call.settings words call
 Says words (command.Close slot) = SaysClose words slot
 Says words command.List = words ≡ codes "list" ∷ []
 

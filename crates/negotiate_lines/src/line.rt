@@ -1,15 +1,19 @@
 //! What a line says.
 
-ghost use Rattle.std.specs.Prelude.{◌≡◌, ◌≢◌, [], ◌∷◌, IfOk, MatchOption, codes};
-ghost use Rattle.negotiate_lines.specs.Words.{IsNumberOf, without_end_of, words_of};
+ghost use Rattle.std.specs.Prelude.{◌≡◌, ◌≢◌, [], ◌∷◌, IfOk, codes};
 ghost use Rattle.iceoryx2_service.specs.Slots.{slot_count};
-ghost use Rattle.negotiate_lines.specs.Lines.{AreLine, IsLine, how_word, particulars_of};
+ghost use Rattle.negotiate_words.specs.Words.{Finds, IsNumberOf, words_of};
+ghost use Rattle.negotiate_lines.specs.Lines.{AreLine, IsLine, SaysNamedCall};
+ghost use Rattle.negotiate_lines.specs.Lines.{admitted_of, how_word, without_end_of};
 
-use crate::particulars::{CallParts, call_parts};
-use crate::word::{next_word, number, number_below};
+use crate::event_words::EventWords;
 use iceoryx2_service::command::{Call, Command, How, Settings};
 use iceoryx2_service::description::{ServiceName, ServiceNameError};
 use iceoryx2_service::session::SLOTS;
+use negotiate_words::call_word::Admitted;
+use negotiate_words::particulars::{CallParts, call_parts};
+use negotiate_words::vocabulary::HasVocabulary;
+use negotiate_words::word::{next_word, number, number_below};
 use std::alloc::{AllocError, Global};
 
 /// What a line says.
@@ -106,7 +110,7 @@ fn close_of(slot: &str) -> Line
 }
 
 /// The number of a slot.
-#[tactic(auto, using(crate::proofs::Numbers::numbers))]
+#[tactic(auto, using(negotiate_words::proofs::Numbers::numbers))]
 fn slot_number(word: &str) -> Option<usize>
     ensures { IsNumberOf slot_count word.now result }
 {
@@ -117,7 +121,7 @@ fn slot_number(word: &str) -> Option<usize>
 }
 
 fn how_of(word: &str) -> Option<How>
-    ensures { MatchOption result ((how : How) → word.now ≢ how_word how) (λ how. word.now ≡ how_word how) }
+    ensures { Finds (λ how. word.now ≡ how_word how) result }
 {
     match word {
         "create" => Some(How::Create),
@@ -126,73 +130,104 @@ fn how_of(word: &str) -> Option<How>
     }
 }
 
-/// What the word `event` says before others.
-fn event(alloc: Global, others: &str) -> Result<Line, AllocError>
-    ensures { IfOk result (AreLine (codes "event" ∷ words_of others.now)) }
+/// Which of the words that every pattern has go with such a call.
+fn admitted<V: HasVocabulary>(how: How) -> Admitted
+    ensures { result ≡ admitted_of V.vocabulary.has_clock how }
+{
+    match how {
+        How::Create => Admitted {
+            now: V::has_clock(),
+            require_key: false,
+        },
+        How::Open => Admitted {
+            now: false,
+            require_key: true,
+        },
+    }
+}
+
+/// A call as its line names it, whatever its pattern.
+#[derive(Drop)]
+struct NamedCall<S> {
+    how: How,
+    node: u64,
+    slot: usize,
+    name: ServiceName,
+    parts: CallParts<S>,
+}
+
+/// What a pattern's word says before others.
+fn named_call<V: HasVocabulary>(
+    alloc: Global,
+    others: &str,
+) -> Result<Option<NamedCall<V::Setting>>, AllocError>
+    ensures { IfOk result (Finds (SaysNamedCall V.vocabulary (V.vocabulary.pattern ∷ words_of others.now))) }
 {
     let Some((how, others)) = next_word(others) else {
-        return Ok(Line::NotACommand);
+        return Ok(None);
     };
     let Some((node, others)) = next_word(others) else {
-        return Ok(Line::NotACommand);
+        return Ok(None);
     };
     let Some((slot, others)) = next_word(others) else {
-        return Ok(Line::NotACommand);
+        return Ok(None);
     };
     let Some((name, others)) = next_word(others) else {
-        return Ok(Line::NotACommand);
+        return Ok(None);
     };
-    event_call(alloc, how, node, slot, name, others)
+    call_named::<V>(alloc, how, node, slot, name, others)
 }
 
 /// What it says before these four and others.
-fn event_call(
+fn call_named<V: HasVocabulary>(
     alloc: Global,
     how: &str,
     node: &str,
     slot: &str,
     name: &str,
     others: &str,
-) -> Result<Line, AllocError>
-    ensures { IfOk result (AreLine
-        (codes "event" ∷ how.now ∷ node.now ∷ slot.now ∷ name.now ∷ words_of others.now)) }
+) -> Result<Option<NamedCall<V::Setting>>, AllocError>
+    ensures { IfOk result (Finds (SaysNamedCall V.vocabulary
+        (V.vocabulary.pattern ∷ how.now ∷ node.now ∷ slot.now ∷ name.now ∷ words_of others.now))) }
 {
     let (Some(how), Some(node), Some(slot)) = (how_of(how), number(node), slot_number(slot)) else {
-        return Ok(Line::NotACommand);
+        return Ok(None);
     };
-    match ServiceName::new(alloc, name) {
-        Ok(name) => match call_parts(alloc, how, others) {
-            Ok(Some(parts)) => {
-                let call = call_of(how, node, slot, name, parts);
-                Ok(Line::Command(Command::Call(call)))
-            }
-            Ok(None) => Ok(Line::NotACommand),
-            Err(_) => Err(AllocError),
-        },
-        Err(ServiceNameError::Length) => Ok(Line::NotACommand),
-        Err(ServiceNameError::OutOfMemory) => Err(AllocError),
+    let name = match ServiceName::new(alloc, name) {
+        Ok(name) => name,
+        Err(ServiceNameError::Length) => return Ok(None),
+        Err(ServiceNameError::OutOfMemory) => return Err(AllocError),
+    };
+    match call_parts::<V>(alloc, admitted::<V>(how), others) {
+        Ok(Some(parts)) => Ok(Some(NamedCall {
+            how,
+            node,
+            slot,
+            name,
+            parts,
+        })),
+        Ok(None) => Ok(None),
+        Err(_) => Err(AllocError),
     }
 }
 
-fn call_of(how: How, node: u64, slot: usize, name: ServiceName, parts: CallParts) -> Call
-    ensures how { result.how ≡ how }
-    ensures node { result.node ≡ node }
-    ensures slot { result.slot ≡ slot }
-    ensures name { result.name ≡ name }
-    ensures parts { particulars_of result ≡ parts }
+/// What the word `event` says before others.
+fn event(alloc: Global, others: &str) -> Result<Line, AllocError>
+    ensures { IfOk result (AreLine (codes "event" ∷ words_of others.now)) }
 {
-    let CallParts {
-        settings,
-        attributes,
-        now,
-    } = parts;
-    Call {
-        how,
-        node,
-        slot,
-        name,
+    let call = match named_call::<EventWords>(alloc, others) {
+        Ok(Some(call)) => call,
+        Ok(None) => return Ok(Line::NotACommand),
+        Err(_) => return Err(AllocError),
+    };
+    let (settings, attributes, now) = call.parts.into_parts();
+    Ok(Line::Command(Command::Call(Call {
+        how: call.how,
+        node: call.node,
+        slot: call.slot,
+        name: call.name,
         settings: Settings::Event(settings),
         attributes,
         now,
-    }
+    })))
 }

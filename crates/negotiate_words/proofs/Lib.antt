@@ -1,0 +1,7 @@
+pub mod Around
+pub mod CallSteps
+pub mod Names
+pub mod Numbers
+pub mod OneInstruction
+pub mod OneValue
+pub mod WordsOf
