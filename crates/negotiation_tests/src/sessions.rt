@@ -6,12 +6,10 @@ use iceoryx2_service::attribute::AttributeVerifier;
 use iceoryx2_service::command::{Command, EventSetting, How, Refusal, Reply};
 use iceoryx2_service::session::Session;
 use iceoryx2_storage::table::Table;
-use iceoryx2_storage::table::listing::{Entry, ListedRow};
 use iceoryx2_values::config::Config;
 use iceoryx2_values::time::{ClockFault, Duration, Time};
-use std::alloc::{AllocError, Global};
+use std::alloc::Global;
 use std::process::Abort;
-use std::test::Fail;
 
 /// A session over a new table.
 fn started(alloc: Global, config: Config) -> Session {
@@ -150,48 +148,6 @@ fn settings_are_set_in_order(rt: HostRuntime) {
         Reply::Refused(Refusal::EventOpen(EventOpenError::DoesNotExist)),
     ];
     assert_same(&rt, answers_of_settings(&rt, rt.alloc()), (wanted, 2));
-}
-
-/// What a session lists in which three services are open, and what its table does.
-fn listings(rt: &impl Abort, alloc: Global) -> (Reply, Result<Vec<Entry>, AllocError>) {
-    let mut session = started(alloc, Config::default());
-    for (slot, text) in [(0, "a"), (1, "b"), (2, "c")] {
-        let _opened = call(rt, alloc, &mut session, (How::Create, 1, slot, text), &[]);
-    }
-    let listing = apply(&mut session, Command::List);
-    let listed = session.table().list();
-    let _table = finished(session);
-    (listing, listed)
-}
-
-/// The first byte of each hash of a listing, with the service's number.
-fn first_bytes(
-    rt: &impl Abort,
-    alloc: Global,
-    listing: &Reply,
-) -> Result<Vec<(u8, u64)>, AllocError> {
-    let Reply::Listing(entries) = listing else {
-        panic!(rt; "no listing")
-    };
-    let mut bytes = Vec::new(alloc);
-    for entry in entries {
-        if let ListedRow::Published(number, _) = entry.row {
-            bytes.push((entry.hash.0[0], number))?;
-        }
-    }
-    Ok(bytes)
-}
-
-#[test]
-fn services_are_listed_ascending_by_hash(rt: HostRuntime) -> Result<(), Fail> {
-    let (listing, listed) = listings(&rt, rt.alloc());
-    let bytes = first_bytes(&rt, rt.alloc(), &listing)?;
-    assert_eq!(rt;
-        bytes.as_slice(),
-        [(0x2c, 0), (0x7d, 2), (0x97, 1)].as_slice()
-    );
-    assert_eq!(rt; listing, Reply::Listing(listed?));
-    Ok(())
 }
 
 /// A configuration with a deadline of one second.
