@@ -1,5 +1,6 @@
 -- Each word of events has one meaning.
 use Rattle.std.specs.Prelude.{◌≡◌, ℕ, List, Option, Some, None, if◌then◌else◌, bytes_eq, codes, refl}
+use Rattle.iceoryx2_values.specs.Span.{Span}
 use Rattle.iceoryx2_event_builder.specs.declared.event.setting.EventSetting.{EventSetting}
 use Rattle.iceoryx2_event_builder.specs.declared.event.setting.EventSetting.TheVariants as set
 use Rattle.negotiate_words.specs.Values.{IsNatural, IsNoneOr, IsSpanWord}
@@ -34,15 +35,24 @@ reads_back name.NotifierDroppedEvent = refl
 reads_back name.NotifierDeadEvent = refl
 reads_back name.Deadline = refl
 
-one_setting : (n : EventSettingName) (value : List ℕ) (s t : EventSetting) → SaysEventSetting n value s → SaysEventSetting n value t → s ≡ t
+one_natural_or_none : (value : List ℕ) (a b : Option ℕ)
+    → IsNoneOr IsNatural value a → IsNoneOr IsNatural value b → a ≡ b
+one_natural_or_none = one_or_none IsNatural one_natural no_natural_none
+
+one_span_or_none : (value : List ℕ) (a b : Option Span)
+    → IsNoneOr IsSpanWord value a → IsNoneOr IsSpanWord value b → a ≡ b
+one_span_or_none = one_or_none IsSpanWord one_span no_span_none
+
+one_setting : (n : EventSettingName) (value : List ℕ) (s t : EventSetting)
+    → SaysEventSetting n value s → SaysEventSetting n value t → s ≡ t
 one_setting name.MaxNotifiers = one_set IsNatural one_natural set.MaxNotifiers
 one_setting name.MaxListeners = one_set IsNatural one_natural set.MaxListeners
 one_setting name.EventIdMaxValue = one_set IsNatural one_natural set.EventIdMaxValue
 one_setting name.MaxNodes = one_set IsNatural one_natural set.MaxNodes
-one_setting name.NotifierCreatedEvent = one_set (IsNoneOr IsNatural) (one_or_none IsNatural one_natural no_natural_none) set.NotifierCreatedEvent
-one_setting name.NotifierDroppedEvent = one_set (IsNoneOr IsNatural) (one_or_none IsNatural one_natural no_natural_none) set.NotifierDroppedEvent
-one_setting name.NotifierDeadEvent = one_set (IsNoneOr IsNatural) (one_or_none IsNatural one_natural no_natural_none) set.NotifierDeadEvent
-one_setting name.Deadline = one_set (IsNoneOr IsSpanWord) (one_or_none IsSpanWord one_span no_span_none) set.Deadline
+one_setting name.NotifierCreatedEvent = one_set (IsNoneOr IsNatural) one_natural_or_none set.NotifierCreatedEvent
+one_setting name.NotifierDroppedEvent = one_set (IsNoneOr IsNatural) one_natural_or_none set.NotifierDroppedEvent
+one_setting name.NotifierDeadEvent = one_set (IsNoneOr IsNatural) one_natural_or_none set.NotifierDeadEvent
+one_setting name.Deadline = one_set (IsNoneOr IsSpanWord) one_span_or_none set.Deadline
 
 pub event_words_are_unambiguous : IsUnambiguous event_vocabulary
 unfolding named

@@ -1,5 +1,5 @@
 -- A word says one thing at most.
-use Rattle.std.proofs.Common.{◌≡◌, ◌≢◌, ℕ, Bool, true, false, List, Option, Some, None, bytes_eq, refl, sym, ap, subst, ◌∙◌}
+use Rattle.std.proofs.Common.{◌≡◌, ◌≢◌, ℕ, List, Option, Some, None, bytes_eq, refl, sym, ap, subst, ◌∙◌}
 use Rattle.std.specs.Prelude.{Result, Ok, Err, IfOk}
 use Rattle.negotiate_words.specs.declared.call_word.CallWord.{CallWord}
 use Rattle.negotiate_words.specs.declared.call_word.Admitted.{Admitted}

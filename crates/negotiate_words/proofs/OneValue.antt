@@ -1,11 +1,11 @@
 -- A value says one thing at most.
-use Rattle.std.proofs.Common.{◌≡◌, ◌≢◌, ℕ, ◌<◌, ◌++◌, Bool, true, false, ◌||◌, List, [], ◌∷◌, Option, Some, None, Result, Ok, Err, codes, eqb, refl, sym, ap, subst, ◌∙◌, arith}
+use Rattle.std.proofs.Common.{◌≡◌, ℕ, ◌<◌, ◌++◌, Bool, true, false, ◌||◌, List, [], ◌∷◌, Option, Some, None, Result, Ok, Err, bytes_eq, codes, eqb, refl, sym, ap, subst, ◌∙◌, arith}
 use Rattle.std.specs.Char.{digit_value}
 use Rattle.std.specs.Str.Parse.{digits_value}
 use Rattle.iceoryx2_values.specs.declared.time.ClockFault.{ClockFault}
 use Rattle.iceoryx2_values.specs.Span.{Span}
 use Rattle.negotiate_words.specs.Words.{AreAround, IsNumber}
-use Rattle.negotiate_words.specs.Values.{IsNatural, IsSpanWord, IsNoneOr, IsClockWord}
+use Rattle.negotiate_words.specs.Values.{IsNatural, IsSpanWord, IsNoneOr, IsClockWord, IsTruthWord}
 use Rattle.negotiate_words.specs.Vocabulary.{Sets}
 use Rattle.negotiate_words.proofs.Around.{one_cut}
 
@@ -79,3 +79,12 @@ one_clock value (Ok s) (Ok t) left right = ap (λ (x : Span). Ok x) (one_span va
 one_clock value (Ok s) (Err f) left right = absurd (no_span_fault s (subst (λ (v : List ℕ). IsSpanWord v s) right left))
 one_clock value (Err f) (Ok t) left right = absurd (no_span_fault t (subst (λ (v : List ℕ). IsSpanWord v t) left right))
 one_clock value (Err f) (Err g) left right = refl
+
+true_word_false_word : codes "true" ≡ codes "false" → ⊥
+true_word_false_word e = false-true (ap (λ (w : List ℕ). bytes_eq w (codes "false")) e)
+
+pub one_truth : (value : List ℕ) (a b : Bool) → IsTruthWord value a → IsTruthWord value b → a ≡ b
+one_truth value true true left right = refl
+one_truth value true false left right = absurd (true_word_false_word (sym left ∙ right))
+one_truth value false true left right = absurd (true_word_false_word (sym right ∙ left))
+one_truth value false false left right = refl

@@ -39,7 +39,8 @@ pub record SaysPair {S : Type 0} (value : List ℕ) (said : Instruction S) : Typ
   pub is : said ≡ attribute key text
 
 -- what a value says behind each name, where the name goes with the call
-abbrev pub SaysBehind : {N S : Type 0} → Vocabulary N S → Admitted → WordName N → List ℕ → Instruction S → Type 0
+abbrev pub SaysBehind : {N S : Type 0} → Vocabulary N S → Admitted
+    → WordName N → List ℕ → Instruction S → Type 0
 SaysBehind {S = S} v admitted (before.Setting name) value said = (s : S) × v.Says name value s × (said ≡ setting s)
 SaysBehind v admitted before.Now value said =
     IsTrue admitted.now × ((time : Result Span ClockFault) × IsClockWord value time × (said ≡ now time))
@@ -97,7 +98,8 @@ Follows old (required_key key) new =
     × Requires old (record { pairs = old.requirements.pairs; keys = new.requirements.keys }) new
 
 -- The word says an instruction, which is followed.
-abbrev pub TakesWord : {N S : Type 0} → Vocabulary N S → Admitted → Particulars S → List ℕ → Particulars S → Type 0
+abbrev pub TakesWord : {N S : Type 0} → Vocabulary N S → Admitted
+    → Particulars S → List ℕ → Particulars S → Type 0
 TakesWord {S = S} v admitted old word new =
     (said : Instruction S) × SaysWord v admitted word said × Follows old said new
 

@@ -4,6 +4,7 @@
 
 pub mod call_word;
 pub mod particulars;
+pub mod type_word;
 pub mod value;
 pub mod vocabulary;
 pub mod word;

@@ -1,7 +1,7 @@
 //! What the value of a word says by itself.
 
 ghost use Rattle.negotiate_words.specs.Words.{Finds};
-ghost use Rattle.negotiate_words.specs.Values.{IsClockWord, IsNatural, IsNoneOr, IsSpanWord};
+ghost use Rattle.negotiate_words.specs.Values.{IsClockWord, IsNatural, IsNoneOr, IsSpanWord, IsTruthWord};
 
 use crate::word::{around, number, number_below};
 use iceoryx2_values::event::EventId;
@@ -60,4 +60,15 @@ fn time(value: &str) -> Option<Time>
 {
     let since_zero = duration(value)?;
     Time::new(since_zero.seconds(), since_zero.nanoseconds())
+}
+
+/// The word `true` or `false`.
+pub fn truth_value(value: &str) -> Option<bool>
+    ensures { Finds (IsTruthWord value.now) result }
+{
+    match value {
+        "true" => Some(true),
+        "false" => Some(false),
+        _ => None,
+    }
 }
