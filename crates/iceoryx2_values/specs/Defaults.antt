@@ -1,6 +1,8 @@
 -- What builders start from where nothing else is configured.
-use Rattle.std.specs.Prelude.{None}
+use Rattle.std.specs.Prelude.{None, true}
 use Rattle.iceoryx2_values.specs.declared.config.Event.{Event}
+use Rattle.iceoryx2_values.specs.declared.config.PublishSubscribe.{PublishSubscribe}
+use Rattle.iceoryx2_values.specs.declared.config.Config.{Config}
 
 abbrev pub default_event : Event
 default_event = record {
@@ -13,3 +15,17 @@ default_event = record {
   notifier_dead_event = None;
   deadline = None;
 }
+
+abbrev pub default_publish_subscribe : PublishSubscribe
+default_publish_subscribe = record {
+  max_publishers = 2;
+  max_subscribers = 8;
+  subscriber_max_buffer_size = 2;
+  history_size = 0;
+  subscriber_max_borrowed_samples = 2;
+  enable_safe_overflow = true;
+  max_nodes = 20;
+}
+
+abbrev pub default_config : Config
+default_config = record { event = default_event; publish_subscribe = default_publish_subscribe }

@@ -3,12 +3,14 @@ use Rattle.std.specs.Prelude.{ℕ, ◌≡◌, ◌<◌, ◌^◌, List, length, Al
 use Rattle.iceoryx2_values.specs.declared.description.TheConstants.{HASH_LENGTH}
 use Rattle.iceoryx2_values.specs.declared.description.ServiceHash.{ServiceHash}
 use Rattle.iceoryx2_values.specs.declared.description.MessagingPattern.{MessagingPattern}
-use Rattle.iceoryx2_values.specs.declared.description.MessagingPattern.TheVariants.{Event}
+use Rattle.iceoryx2_values.specs.declared.description.MessagingPattern.TheVariants.{Event, PublishSubscribe}
 use Rattle.iceoryx2_values.specs.declared.event.StaticConfig.{StaticConfig as EventConfig}
+use Rattle.iceoryx2_values.specs.declared.publish_subscribe.StaticConfig.{StaticConfig as PublishSubscribeConfig}
 use Rattle.iceoryx2_values.specs.declared.event.Deadline.{Deadline}
 use Rattle.iceoryx2_attributes.specs.Attributes.{Pair, AreAttributes}
 use Rattle.iceoryx2_values.specs.Span.{IsSpan}
 use Rattle.iceoryx2_values.specs.Names.{IsName}
+use Rattle.iceoryx2_values.specs.Messages.{IsMeasuredMessage}
 
 -- What nodes that share a service agree on.
 pub record Description : Type 0 where
@@ -20,9 +22,14 @@ pub record Description : Type 0 where
 
 abbrev pub max_nodes_of : MessagingPattern → ℕ
 max_nodes_of (Event s) = s.max_nodes
+max_nodes_of (PublishSubscribe s) = s.max_nodes
 
+-- of events both, or of publish-subscribe both
 abbrev pub IsSamePattern : MessagingPattern → MessagingPattern → Type 0
 IsSamePattern (Event s) (Event t) = Unit {0}
+IsSamePattern (Event s) (PublishSubscribe t) = ⊥
+IsSamePattern (PublishSubscribe s) (Event t) = ⊥
+IsSamePattern (PublishSubscribe s) (PublishSubscribe t) = Unit {0}
 
 abbrev pub IsDeadline : Deadline → Type 0
 IsDeadline d = IsSpan d.value × IsSpan d.creation_time
@@ -37,8 +44,18 @@ pub record IsEvent (s : EventConfig) : Type 0 where
   pub dead : IfSome s.notifier_dead_event (λ id. id < 2 ^ 64)
   pub deadline : IfSome s.deadline IsDeadline
 
+pub record IsPublishSubscribe (s : PublishSubscribeConfig) : Type 0 where
+  pub max_publishers : s.max_publishers < 2 ^ 64
+  pub max_subscribers : s.max_subscribers < 2 ^ 64
+  pub subscriber_max_buffer_size : s.subscriber_max_buffer_size < 2 ^ 64
+  pub history_size : s.history_size < 2 ^ 64
+  pub subscriber_max_borrowed_samples : s.subscriber_max_borrowed_samples < 2 ^ 64
+  pub max_nodes : s.max_nodes < 2 ^ 64
+  pub message : IsMeasuredMessage s.message_type_details
+
 abbrev pub IsPattern : MessagingPattern → Type 0
 IsPattern (Event s) = IsEvent s
+IsPattern (PublishSubscribe s) = IsPublishSubscribe s
 
 -- as many bytes as a hash has
 pub record IsHash (h : ServiceHash) : Type 0 where

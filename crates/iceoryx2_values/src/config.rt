@@ -1,6 +1,6 @@
 //! The settings that builders start from.
 
-ghost use Rattle.iceoryx2_values.specs.Defaults.{default_event};
+ghost use Rattle.iceoryx2_values.specs.Defaults.{default_config, default_event, default_publish_subscribe};
 
 use crate::event::EventId;
 use crate::time::Duration;
@@ -46,22 +46,64 @@ impl Default for Event {
     }
 }
 
+/// The settings that a builder of publish-subscribe starts from.
+#[derive(Clone, Copy, Debug, PartialEq, Eq)]
+pub struct PublishSubscribe {
+    /// For how many publishers a service is.
+    pub max_publishers: u64,
+    /// For how many subscribers a service is.
+    pub max_subscribers: u64,
+    /// How many samples a subscriber's buffer has room for.
+    pub subscriber_max_buffer_size: u64,
+    /// How many of the last samples a subscriber gets that comes later.
+    pub history_size: u64,
+    /// How many samples a subscriber may borrow at one time.
+    pub subscriber_max_borrowed_samples: u64,
+    /// Whether a full buffer's oldest sample gives way to a new one.
+    pub enable_safe_overflow: bool,
+    /// For how many nodes a service is.
+    pub max_nodes: u64,
+}
+
+impl Default for PublishSubscribe {
+    ghost use Rattle.std.specs.Prelude.{◌≡◌};
+
+    ghost is_default = { λ settings. settings ≡ default_publish_subscribe };
+
+    /// 2 publishers, 8 subscribers, a buffer for 2 samples, no history, 2 borrowed samples, safe
+    /// overflow, 20 nodes.
+    fn default() -> PublishSubscribe {
+        PublishSubscribe {
+            max_publishers: 2,
+            max_subscribers: 8,
+            subscriber_max_buffer_size: 2,
+            history_size: 0,
+            subscriber_max_borrowed_samples: 2,
+            enable_safe_overflow: true,
+            max_nodes: 20,
+        }
+    }
+}
+
 /// The settings that the builders of a node start from.
 #[derive(Clone, Copy, Debug, PartialEq, Eq)]
 pub struct Config {
     /// What event builders start from.
     pub event: Event,
+    /// What builders of publish-subscribe start from.
+    pub publish_subscribe: PublishSubscribe,
 }
 
 impl Default for Config {
     ghost use Rattle.std.specs.Prelude.{◌≡◌};
 
-    ghost is_default = { λ config. config.event ≡ default_event };
+    ghost is_default = { λ config. config ≡ default_config };
 
     /// The defaults of each builder.
     fn default() -> Config {
         Config {
             event: Event::default(),
+            publish_subscribe: PublishSubscribe::default(),
         }
     }
 }

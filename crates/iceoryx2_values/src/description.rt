@@ -5,7 +5,7 @@ ghost use Rattle.hex.specs.Hex.{encode_lower};
 ghost use Rattle.iceoryx2_values.specs.Names.{IsName};
 ghost use Rattle.iceoryx2_values.specs.Description.{IsHash, IsPattern};
 
-use crate::event;
+use crate::{event, publish_subscribe};
 use iceoryx2_attributes::attribute::AttributeSet;
 use std::alloc::{AllocError, Global};
 use std::error::Error;
@@ -167,10 +167,12 @@ impl ServiceHash {
 }
 
 /// A service's pattern with its settings.
-#[derive(Clone, Copy, Debug, PartialEq, Eq)]
+#[derive(Debug, Drop, PartialEq, Eq)]
 pub enum MessagingPattern {
     /// A service of events.
     Event(event::StaticConfig),
+    /// A service of publish-subscribe.
+    PublishSubscribe(publish_subscribe::StaticConfig),
 }
 
 impl MessagingPattern {
@@ -182,6 +184,9 @@ impl MessagingPattern {
     {
         match (self, other) {
             (MessagingPattern::Event(_), MessagingPattern::Event(_)) => true,
+            (MessagingPattern::PublishSubscribe(_), MessagingPattern::PublishSubscribe(_)) => true,
+            (MessagingPattern::Event(_), MessagingPattern::PublishSubscribe(_)) => false,
+            (MessagingPattern::PublishSubscribe(_), MessagingPattern::Event(_)) => false,
         }
     }
 }
@@ -199,6 +204,7 @@ fn pattern_fits(pattern: &MessagingPattern)
 {
     match pattern {
         MessagingPattern::Event(settings) => settings.fits(),
+        MessagingPattern::PublishSubscribe(settings) => settings.fits(),
     }
 }
 
@@ -306,6 +312,7 @@ impl StaticConfig {
     {
         match &self.pattern {
             MessagingPattern::Event(settings) => settings.max_nodes,
+            MessagingPattern::PublishSubscribe(settings) => settings.max_nodes,
         }
     }
 }

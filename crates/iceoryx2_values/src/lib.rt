@@ -4,4 +4,6 @@
 pub mod config;
 pub mod description;
 pub mod event;
+mod messages;
+pub mod publish_subscribe;
 pub mod time;

@@ -23,6 +23,7 @@ refusal_text (refusal.EventCreate e) = codes "EventCreateError::" ++ event_creat
 -- the word by which a pattern's command lines begin
 abbrev pub pattern_word : MessagingPattern → List ℕ
 pattern_word (pattern.Event s) = codes "event"
+pattern_word (pattern.PublishSubscribe s) = codes "pubsub"
 
 -- The entry is a service: its description is published, and its segment stands beside it.
 pub record IsService (e : Entry) : Type 0 where

@@ -72,6 +72,7 @@ fn word_of(pattern: &MessagingPattern) -> &'static str
 {
     match pattern {
         MessagingPattern::Event(_) => "event",
+        MessagingPattern::PublishSubscribe(_) => "pubsub",
     }
 }
 
