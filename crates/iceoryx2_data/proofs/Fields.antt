@@ -1,27 +1,25 @@
 -- Each part of a description, and the whole.
-use Rattle.std.proofs.Common.{◌≡◌, ℕ, ◌^◌, ◌<◌, cond, ltb, eqb, List, [], ◌∷◌, ◌++◌, length, Some, None, refl, sym, ap, subst, ◌∙◌, append_assoc, arith}
-use Rattle.std.specs.Prelude.{IfSome, IsTrue, Result, Ok, Err, IfOk, MatchResult}
-use Rattle.std.specs.Int.{w32, w64, to_be_bytes}
-use Rattle.std.proofs.lemmas.Bool.{ltb-true, lt-ltb, eqb-true}
+use Rattle.std.proofs.Common.{◌≡◌, ℕ, Bool, true, false, cond, eqb, List, [], ◌∷◌, ◌++◌, length, Option, Some, None, refl, sym, ap, subst, ◌∙◌, append_assoc, inl, inr, ◌⊎◌, arith}
+use Rattle.std.specs.Prelude.{Result, Ok, Err, IfOk, MatchResult}
+use Rattle.std.proofs.lemmas.Bool.{eqb-true}
 use Rattle.std.proofs.lemmas.List.{append-nil, nil_from_length}
 use Rattle.std.proofs.lemmas.Option.{none-some}
-use Rattle.iceoryx2_data.specs.declared.bytes.DecodeError.{DecodeError}
-use Rattle.iceoryx2_data.specs.declared.bytes.DecodeError.TheVariants.{Malformed, OutOfMemory}
 use Rattle.iceoryx2_values.specs.declared.description.MessagingPattern.{MessagingPattern}
-use Rattle.iceoryx2_values.specs.declared.description.MessagingPattern.TheVariants.{Event}
-use Rattle.iceoryx2_data.specs.declared.bytes.TheConstants.{EVENT_BYTE}
+use Rattle.iceoryx2_values.specs.declared.description.MessagingPattern.TheVariants.{Event, PublishSubscribe}
 use Rattle.iceoryx2_values.specs.declared.description.TheConstants.{HASH_LENGTH, MIN_NAME_LENGTH, MAX_NAME_LENGTH}
-use Rattle.iceoryx2_values.specs.declared.time.TheConstants.{NANOSECONDS_PER_SECOND}
 use Rattle.iceoryx2_attributes.specs.declared.attribute.TheConstants.{MIN_KEY_LENGTH, MAX_KEY_LENGTH, MAX_VALUE_LENGTH, MAX_ATTRIBUTES}
 use Rattle.iceoryx2_attributes.specs.Attributes.{ascends, IsPair, AreAttributes}
-use Rattle.iceoryx2_values.specs.Span.{IsSpan}
-use Rattle.iceoryx2_values.specs.Description.{Description, IsDeadline, IsEvent, IsPattern, IsDescription}
-use Rattle.iceoryx2_data.specs.Form.{text, number, option, span, deadline, event, pattern, pair, attributes, magic, version, description, IsForm}
-use Rattle.iceoryx2_data.specs.Reading.{◌>>=◌, then_at, where_at, number_at, option_at, counted_at, pair_from, pair_at, attributes_at, span_from, span_at, deadline_from, deadline_at, event_from, event_at, pattern_at, description_from, description_at, all_of, IsReadBy}
-use Rattle.iceoryx2_data.proofs.Parts.{IsBytes, IsBytes-rest, bind_some, guard_is, some_is, Takes, Reads, Reads-then, Reads-as, Reads-where, Reads-form, Reads-fits, Reads-each_byte, Reads-literal, Reads-number32, Reads-number64, Reads-text, Reads-option, Reads-counted}
-
-abbrev Below64 : ℕ → Type 0
-Below64 n = n < 2 ^ 64
+use Rattle.iceoryx2_values.specs.Description.{Description, IsDeadline, IsEvent, IsPublishSubscribe, IsPattern, IsDescription}
+use Rattle.iceoryx2_parts.specs.declared.reading.DecodeError.{DecodeError}
+use Rattle.iceoryx2_parts.specs.declared.reading.DecodeError.TheVariants.{Malformed, OutOfMemory}
+use Rattle.iceoryx2_parts.specs.Form.{text, number, truth, deadline, message}
+use Rattle.iceoryx2_parts.specs.Reading.{Part, as_at, counted_at, deadline_at, IsReadBy}
+use Rattle.iceoryx2_parts.proofs.Parts.{IsBytes, IsBytes-rest, bind_some, guard_is, some_is, Takes, Reads, Reads-then, Reads-as, Reads-where, Reads-form, Reads-fits, Reads-each_byte, Reads-literal, Reads-number64, Reads-text, Reads-truth, Reads-option, Reads-counted}
+use Rattle.iceoryx2_parts.proofs.Times.{Reads-deadline, Reads-id}
+use Rattle.iceoryx2_parts.proofs.Messages.{Reads-message}
+use Rattle.iceoryx2_data.specs.declared.bytes.TheConstants.{EVENT_BYTE, PUBLISH_SUBSCRIBE_BYTE}
+use Rattle.iceoryx2_data.specs.Form.{event, publish_subscribe, pattern, pair, attributes, magic, version, description, IsForm}
+use Rattle.iceoryx2_data.specs.Reading.{pair_from, pair_at, attributes_at, event_from, event_at, publish_subscribe_from, publish_subscribe_at, pattern_at, description_from, description_at, all_of}
 
 -- ---- attributes
 
@@ -37,24 +35,6 @@ Reads-attributes = Reads-fits _ attributes _ AreAttributes
     (λ a h. ((h.few, h.each), h.ascending))
     (Reads-where ascends (counted_at MAX_ATTRIBUTES pair_at) attributes _ (Reads-counted pair_at pair IsPair MAX_ATTRIBUTES (omega arith) Reads-pair))
 
--- ---- the settings of events
-
-pub Reads-span : Reads span_at span IsSpan
-unfolding span_at
-Reads-span = Reads-as span_from (λ s. (s.seconds, s.nanoseconds)) (where_at (λ p. ltb p.1 NANOSECONDS_PER_SECOND) (then_at (number_at w64) (number_at w32)))
-    (λ p. number p.0 ++ to_be_bytes w32 p.1) (λ p. (Below64 p.0 × (p.1 < 2 ^ 32)) × IsTrue (ltb p.1 NANOSECONDS_PER_SECOND)) IsSpan
-    (λ b. refl) (λ a. refl) (λ a h. (h.0.0, ltb-true _ _ h.1)) (λ b h. ((h.0, omega (arith, h.1)), lt-ltb _ _ h.1))
-    (Reads-where (λ p. ltb p.1 NANOSECONDS_PER_SECOND) (then_at (number_at w64) (number_at w32)) (λ p. number p.0 ++ to_be_bytes w32 p.1) (λ p. Below64 p.0 × (p.1 < 2 ^ 32))
-    (Reads-then (number_at w64) number Below64 (number_at w32) (to_be_bytes w32) (λ n. n < 2 ^ 32) Reads-number64 Reads-number32))
-
-pub Reads-deadline : Reads deadline_at deadline IsDeadline
-unfolding deadline_at
-Reads-deadline = Reads-as deadline_from (λ d. (d.value, d.creation_time)) (then_at span_at span_at) (λ p. span p.0 ++ span p.1) (λ p. IsSpan p.0 × IsSpan p.1) IsDeadline
-    (λ b. refl) (λ a. refl) (λ a h. h) (λ b h. h) (Reads-then span_at span IsSpan span_at span IsSpan Reads-span Reads-span)
-
-Reads-id : Reads (option_at (number_at w64)) (option number) (λ o. IfSome o Below64)
-Reads-id = Reads-option (number_at w64) number Below64 Reads-number64
-
 pub Reads-event : Reads event_at event IsEvent
 unfolding event_at
 Reads-event = Reads-form _ _ event IsEvent (Reads-as event_from (λ s. (s.max_notifiers, (s.max_listeners, (s.event_id_max_value, (s.max_nodes, (s.notifier_created_event, (s.notifier_dropped_event, (s.notifier_dead_event, s.deadline))))))))
@@ -65,22 +45,65 @@ Reads-event = Reads-form _ _ event IsEvent (Reads-as event_from (λ s. (s.max_no
     (Reads-then _ _ _ _ _ _ Reads-id (Reads-then _ _ _ _ _ _ Reads-id (Reads-then _ _ _ _ _ _ Reads-id (Reads-option deadline_at deadline IsDeadline Reads-deadline)))))))))
     (λ s. simp append_assoc)
 
+regroup_eight : (a b c d e f g h : List ℕ) → a ++ (b ++ (c ++ (d ++ (e ++ (f ++ (g ++ h)))))) ≡ a ++ b ++ c ++ d ++ e ++ f ++ g ++ h
+regroup_eight a b c d e f g h = simp append_assoc
+
+-- eight parts behind a byte, written one behind the other
+pub behind_byte : (out : List ℕ) (byte : ℕ) (a b c d e f g h : List ℕ) → (out ++ (byte ∷ [])) ++ a ++ b ++ c ++ d ++ e ++ f ++ g ++ h ≡ out ++ (byte ∷ (a ++ b ++ c ++ d ++ e ++ f ++ g ++ h))
+behind_byte out byte a b c d e f g h = simp append_assoc
+
+pub Reads-publish_subscribe : Reads publish_subscribe_at publish_subscribe IsPublishSubscribe
+unfolding publish_subscribe_at
+Reads-publish_subscribe = Reads-form _ _ publish_subscribe IsPublishSubscribe (Reads-as publish_subscribe_from
+    (λ s. (s.max_publishers, (s.max_subscribers, (s.subscriber_max_buffer_size, (s.history_size, (s.subscriber_max_borrowed_samples, (s.enable_safe_overflow, (s.max_nodes, s.message_type_details))))))))
+    _ _ _ IsPublishSubscribe (λ b. refl) (λ a. refl)
+    (λ a h. record { max_publishers = h.0; max_subscribers = h.1.0; subscriber_max_buffer_size = h.1.1.0; history_size = h.1.1.1.0; subscriber_max_borrowed_samples = h.1.1.1.1.0; max_nodes = h.1.1.1.1.1.1.0; message = h.1.1.1.1.1.1.1 })
+    (λ b h. (h.max_publishers, (h.max_subscribers, (h.subscriber_max_buffer_size, (h.history_size, (h.subscriber_max_borrowed_samples, (tt, (h.max_nodes, h.message))))))))
+    (Reads-then _ _ _ _ _ _ Reads-number64 (Reads-then _ _ _ _ _ _ Reads-number64 (Reads-then _ _ _ _ _ _ Reads-number64 (Reads-then _ _ _ _ _ _ Reads-number64
+    (Reads-then _ _ _ _ _ _ Reads-number64 (Reads-then _ _ _ _ _ _ Reads-truth (Reads-then _ _ _ _ _ _ Reads-number64 Reads-message))))))))
+    (λ s. regroup_eight (number s.max_publishers) (number s.max_subscribers) (number s.subscriber_max_buffer_size) (number s.history_size) (number s.subscriber_max_borrowed_samples)
+    (truth s.enable_safe_overflow) (number s.max_nodes) (message s.message_type_details))
+
 -- ---- patterns
+
+-- what stands behind a pattern's byte is taken
+record IsTaken (flag : ℕ) (bytes : List ℕ) (x : MessagingPattern × List ℕ) : Type 0 where
+  takes : Takes (flag ∷ bytes) (pattern x.0) x.1
+  fits : IsPattern x.0
+
+taken : {A : Type 0} (of : A → MessagingPattern) (byte : ℕ) (part : Part A) (form : A → List ℕ) (Fits : A → Type 0) → Reads part form Fits
+    → ((a : A) → byte ∷ form a ≡ pattern (of a)) → ((a : A) → Fits a → IsPattern (of a))
+    → (flag : ℕ) (bytes : List ℕ) (x : MessagingPattern × List ℕ) → IsBytes (flag ∷ bytes) → flag ≡ byte → as_at of part bytes ≡ Some x → IsTaken flag bytes x
+taken of byte part form Fits reads same to flag bytes x fits is e =
+    let b = bind_some (part bytes) (λ a. Some (of a.0, a.1)) x e in
+    let t = reads.takes bytes b.0 (IsBytes-rest flag bytes fits) b.1 in
+    let front : flag ∷ bytes ≡ (byte ∷ form b.0.0) ++ b.0.1 = ap (λ (w : List ℕ). flag ∷ w) t.0.parts ∙ ap (λ (w : ℕ). w ∷ form b.0.0 ++ b.0.1) is in
+    let whole : flag ∷ bytes ≡ pattern (of b.0.0) ++ b.0.1 = front ∙ ap (λ (w : List ℕ). w ++ b.0.1) (same b.0.0) in
+    subst (λ (y : MessagingPattern × List ℕ). IsTaken flag bytes y) (some_is (of b.0.0, b.0.1) x b.2) (record { takes = record { parts = whole; rest_fits = t.0.rest_fits }; fits = to b.0.0 t.1 })
+
+-- one of two was read
+either_is : {A : Type 0} (b : Bool) (r s : Option A) (y : A) → cond b r s ≡ Some y → ((b ≡ true) × (r ≡ Some y)) ⊎ (s ≡ Some y)
+either_is true r s y e = inl (refl, e)
+either_is false r s y e = inr e
+
+is_taken : (flag : ℕ) (bytes : List ℕ) (x : MessagingPattern × List ℕ) → IsBytes (flag ∷ bytes) → pattern_at (flag ∷ bytes) ≡ Some x → IsTaken flag bytes x
+unfolding pattern_at
+is_taken flag bytes x fits e =
+    elim (either_is (eqb flag EVENT_BYTE) (as_at Event event_at bytes) (cond (eqb flag PUBLISH_SUBSCRIBE_BYTE) (as_at PublishSubscribe publish_subscribe_at bytes) None) x e) [
+      | inl h ↦ taken Event EVENT_BYTE event_at event IsEvent Reads-event (λ s. refl) (λ s f. f) flag bytes x fits (eqb-true _ _ h.0) h.1
+      | inr h ↦ let g = guard_is (eqb flag PUBLISH_SUBSCRIBE_BYTE) (as_at PublishSubscribe publish_subscribe_at bytes) x h in
+          taken PublishSubscribe PUBLISH_SUBSCRIBE_BYTE publish_subscribe_at publish_subscribe IsPublishSubscribe Reads-publish_subscribe (λ s. refl) (λ s f. f) flag bytes x fits (eqb-true _ _ g.0) g.1
+    ]
 
 pattern_takes : (bytes : List ℕ) (x : MessagingPattern × List ℕ) → IsBytes bytes → pattern_at bytes ≡ Some x → Takes bytes (pattern x.0) x.1 × IsPattern x.0
 unfolding pattern_at
 pattern_takes [] x fits e = absurd cc
-pattern_takes (flag ∷ bytes) x fits e =
-    let g = guard_is (eqb flag EVENT_BYTE) (event_at bytes >>= λ s. Some (Event s.0, s.1)) x e in
-    let b = bind_some (event_at bytes) (λ s. Some (Event s.0, s.1)) x g.1 in
-    let t = Reads-event.takes bytes b.0 (IsBytes-rest flag bytes fits) b.1 in
-    let is_event : flag ≡ EVENT_BYTE = eqb-true _ _ g.0 in
-    let front : flag ∷ bytes ≡ (EVENT_BYTE ∷ event b.0.0) ++ b.0.1 = ap (λ (w : List ℕ). flag ∷ w) t.0.parts ∙ ap (λ (w : ℕ). w ∷ event b.0.0 ++ b.0.1) is_event in
-    subst (λ (y : MessagingPattern × List ℕ). Takes (flag ∷ bytes) (pattern y.0) y.1 × IsPattern y.0) (some_is (Event b.0.0, b.0.1) x b.2) (record { parts = front; rest_fits = t.0.rest_fits }, t.1)
+pattern_takes (flag ∷ bytes) x fits e = let t = is_taken flag bytes x fits e in (t.takes, t.fits)
 
 pattern_again : (p : MessagingPattern) (rest : List ℕ) → IsPattern p → pattern_at (pattern p ++ rest) ≡ Some (p, rest)
 unfolding pattern_at
 pattern_again (Event s) rest fits = rw (Reads-event.again s rest fits) refl
+pattern_again (PublishSubscribe s) rest fits = rw (Reads-publish_subscribe.again s rest fits) refl
 
 pub Reads-pattern : Reads pattern_at pattern IsPattern
 Reads-pattern = record { takes = pattern_takes; again = pattern_again }

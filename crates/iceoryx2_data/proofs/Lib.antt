@@ -1,4 +1,3 @@
-pub mod Parts
 pub mod Fields
 pub mod Pairs
 pub mod EachByte

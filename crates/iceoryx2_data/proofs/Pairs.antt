@@ -4,10 +4,11 @@ use Rattle.std.proofs.lemmas.List.{append-nil}
 use Rattle.iceoryx2_attributes.specs.declared.attribute.TheConstants.{MAX_ATTRIBUTES}
 use Rattle.iceoryx2_attributes.specs.Attributes.{Pair, pair_before, ascends, AreAttributes}
 use Rattle.iceoryx2_attributes.proofs.Ascending.{ascends_front}
-use Rattle.iceoryx2_data.specs.declared.bytes.DecodeError.{DecodeError}
-use Rattle.iceoryx2_data.specs.declared.bytes.DecodeError.TheVariants.{Malformed, OutOfMemory}
-use Rattle.iceoryx2_data.specs.Reading.{◌>>=◌, Fails, list_at, pair_at, pairs_at, more_at}
-use Rattle.iceoryx2_data.proofs.Parts.{guard_is, some_is}
+use Rattle.iceoryx2_parts.specs.declared.reading.DecodeError.{DecodeError}
+use Rattle.iceoryx2_parts.specs.declared.reading.DecodeError.TheVariants.{Malformed, OutOfMemory}
+use Rattle.iceoryx2_parts.specs.Reading.{◌>>=◌, Fails, list_at}
+use Rattle.iceoryx2_parts.proofs.Parts.{guard_is, some_is}
+use Rattle.iceoryx2_data.specs.Reading.{pair_at, pairs_at, more_at}
 
 abbrev ReadPairs : Type 0
 ReadPairs = Option (List Pair × List ℕ)

@@ -1,3 +1,2 @@
 pub mod Form
 pub mod Reading
-pub mod Errors

@@ -3,15 +3,14 @@
 ghost use Rattle.std.specs.Prelude.{◌≡◌, ◌<◌, ◌++◌, ℕ, List, [], All, IfOk, MatchResult};
 ghost use Rattle.iceoryx2_values.specs.Description.{Description, IsDescription};
 ghost use Rattle.iceoryx2_data.specs.Form.{IsForm};
-ghost use Rattle.iceoryx2_data.specs.declared.bytes.DecodeError.TheVariants.{OutOfMemory};
+ghost use Rattle.iceoryx2_parts.specs.declared.reading.DecodeError.TheVariants.{OutOfMemory};
 
 mod reading;
 mod writing;
 
+pub use iceoryx2_parts::reading::DecodeError;
 use iceoryx2_values::description::StaticConfig;
 use std::alloc::{AllocError, Global};
-use std::error::Error;
-use std::fmt;
 
 /// The four letters with which each form begins.
 pub const MAGIC: [u8; 4] = *b"IOX2";
@@ -22,38 +21,8 @@ pub const VERSION: u8 = 1;
 /// The byte that says that a service is one of events.
 pub const EVENT_BYTE: u8 = 1;
 
-/// Why bytes give no description.
-#[derive(Clone, Copy, Debug, PartialEq, Eq)]
-pub enum DecodeError {
-    /// They are the byte form of no description.
-    Malformed,
-    /// There was no memory for the description.
-    OutOfMemory,
-}
-
-impl fmt::Display for DecodeError {
-    ghost use Rattle.std.specs.Prelude.{Some};
-    ghost use Rattle.iceoryx2_data.specs.Errors.{decode_error_text};
-
-    ghost output = { λ error. Some (decode_error_text error) };
-
-    fn fmt<W: fmt::Write>(&self, f: &mut fmt::Formatter<W>) -> fmt::Result {
-        match self {
-            DecodeError::Malformed => write!(f, "the bytes are no description"),
-            DecodeError::OutOfMemory => write!(f, "out of memory"),
-        }
-    }
-}
-
-impl Error for DecodeError {}
-
-impl From<AllocError> for DecodeError {
-    ghost from_gives = { λ _ e. e ≡ OutOfMemory };
-
-    fn from(_: AllocError) -> Self {
-        Self::OutOfMemory
-    }
-}
+/// The byte that says that a service is one of publish-subscribe.
+pub const PUBLISH_SUBSCRIBE_BYTE: u8 = 2;
 
 /// The byte form of the description.
 pub fn encode(alloc: Global, description: &StaticConfig) -> Result<Vec<u8>, AllocError>
@@ -65,7 +34,7 @@ pub fn encode(alloc: Global, description: &StaticConfig) -> Result<Vec<u8>, Allo
 }
 
 /// The description whose byte form the bytes are: `Malformed` where there is none, and
-/// `OutOfMemory` where the name or an attribute found no memory.
+/// `OutOfMemory` where the name, an attribute or a type found no memory.
 pub fn decode(alloc: Global, bytes: &[u8]) -> Result<StaticConfig, DecodeError>
     // What is found has the bytes as its form.
     ensures found { IfOk result (λ d. IsForm d bytes.now) }

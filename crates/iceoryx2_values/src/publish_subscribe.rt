@@ -16,7 +16,7 @@ pub struct StaticConfig {
     pub max_subscribers: u64,
     /// How many samples a subscriber's buffer has room for.
     pub subscriber_max_buffer_size: u64,
-    /// How many of the last samples a subscriber gets that comes later.
+    /// How many of the last samples a subscriber that comes later gets.
     pub history_size: u64,
     /// How many samples a subscriber may borrow at one time.
     pub subscriber_max_borrowed_samples: u64,

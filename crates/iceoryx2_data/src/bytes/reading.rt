@@ -1,195 +1,25 @@
 //! Reading the byte form from left to right: each part gives its value and the bytes after it.
 
-ghost use Rattle.std.specs.Prelude.{◌≡◌, ◌<◌, ◌≤◌, true, false, length, string_bytes};
-ghost use Rattle.std.specs.Prelude.{IfOk, OnOk, MatchResult};
-ghost use Rattle.std.specs.Int.{w16, w32, w64};
-ghost use Rattle.std.specs.Str.{is_utf8};
-ghost use Rattle.iceoryx2_data.specs.declared.bytes.DecodeError.TheVariants.{Malformed};
-ghost use Rattle.iceoryx2_attributes.specs.Texts.{IsText};
+ghost use Rattle.std.specs.Prelude.{◌≡◌, ◌<◌, ◌≤◌, length, OnOk};
 ghost use Rattle.iceoryx2_attributes.specs.Attributes.{AreAttributes};
-ghost use Rattle.iceoryx2_data.specs.Reading.{IsReadBy, number_at, bytes_at, literal_at, text_at, option_at, span_at};
+ghost use Rattle.iceoryx2_parts.specs.Reading.{IsReadBy, bytes_at, text_at};
 ghost use Rattle.iceoryx2_data.specs.Reading.{pairs_at, more_at, attributes_at};
-ghost use Rattle.iceoryx2_data.specs.Reading.{deadline_at, event_at, pattern_at, description_at, all_of};
+ghost use Rattle.iceoryx2_data.specs.Reading.{event_at, publish_subscribe_at, pattern_at, description_at, all_of};
 
-use super::{DecodeError, EVENT_BYTE, MAGIC, VERSION};
+use super::{DecodeError, EVENT_BYTE, MAGIC, PUBLISH_SUBSCRIBE_BYTE, VERSION};
 use iceoryx2_attributes::attribute::{
     AttributeSet, MAX_ATTRIBUTES, MAX_KEY_LENGTH, MAX_VALUE_LENGTH, MIN_KEY_LENGTH, PushError,
+};
+use iceoryx2_parts::reading::{
+    bytes_of, id_of, literal_of, message_of, optional_deadline_of, text_of, truth_of, u16_at,
+    u64_at,
 };
 use iceoryx2_values::description::{
     HASH_LENGTH, MAX_NAME_LENGTH, MIN_NAME_LENGTH, MessagingPattern, ServiceHash, ServiceName,
     StaticConfig,
 };
-use iceoryx2_values::event;
-use iceoryx2_values::event::{Deadline, EventId};
-use iceoryx2_values::time::{Duration, Time};
+use iceoryx2_values::{event, publish_subscribe};
 use std::alloc::Global;
-
-fn u16_at(bytes: &[u8]) -> Result<(u16, &[u8]), DecodeError>
-    ensures { IsReadBy (λ x. (x.0, x.1.now)) result (number_at w16 bytes.now) }
-{
-    if bytes.len() < 2 {
-        return Err(DecodeError::Malformed);
-    }
-    let (front, rest) = bytes.split_at(2);
-    let number = u16::from_be_bytes([front[0], front[1]]);
-    Ok((number, rest))
-}
-
-fn u32_at(bytes: &[u8]) -> Result<(u32, &[u8]), DecodeError>
-    ensures { IsReadBy (λ x. (x.0, x.1.now)) result (number_at w32 bytes.now) }
-{
-    if bytes.len() < 4 {
-        return Err(DecodeError::Malformed);
-    }
-    let (front, rest) = bytes.split_at(4);
-    let number = u32::from_be_bytes([front[0], front[1], front[2], front[3]]);
-    Ok((number, rest))
-}
-
-fn u64_at(bytes: &[u8]) -> Result<(u64, &[u8]), DecodeError>
-    ensures { IsReadBy (λ x. (x.0, x.1.now)) result (number_at w64 bytes.now) }
-{
-    if bytes.len() < 8 {
-        return Err(DecodeError::Malformed);
-    }
-    let (front, rest) = bytes.split_at(8);
-    let number = u64::from_be_bytes([
-        front[0], front[1], front[2], front[3], front[4], front[5], front[6], front[7],
-    ]);
-    Ok((number, rest))
-}
-
-fn bytes_of(len: usize, bytes: &[u8]) -> Result<(&[u8], &[u8]), DecodeError>
-    ensures parts { IsReadBy (λ x. (x.0.now, x.1.now)) result (bytes_at len bytes.now) }
-    ensures front { IfOk result (λ x. length x.0.now ≡ len) }
-{
-    if bytes.len() < len {
-        return Err(DecodeError::Malformed);
-    }
-    Ok(bytes.split_at(len))
-}
-
-#[tactic(auto, unfolding(crate::specs::Reading::literal_at))]
-fn literal_of<'a>(literal: &[u8], bytes: &'a [u8]) -> Result<&'a [u8], DecodeError>
-    ensures { IsReadBy (λ x. (tt, x.now)) result (literal_at literal.now bytes.now) }
-{
-    let (front, rest) = bytes_of(literal.len(), bytes)?;
-    if front != literal {
-        return Err(DecodeError::Malformed);
-    }
-    Ok(rest)
-}
-
-/// The bytes as a text, if they are UTF-8.
-#[tactic(auto, using(iceoryx2_values::proofs::Utf8::is_text, iceoryx2_values::proofs::Utf8::not_utf8))]
-fn utf8_of(bytes: &[u8]) -> Result<&str, DecodeError>
-    ensures { MatchResult result
-        (λ s. (s.now ≡ bytes.now) × (is_utf8 bytes.now ≡ true))
-        (λ e. (e ≡ Malformed) × (is_utf8 bytes.now ≡ false)) }
-{
-    match std::str::from_utf8(bytes) {
-        Ok(text) => Ok(text),
-        Err(_) => Err(DecodeError::Malformed),
-    }
-}
-
-#[tactic(auto, unfolding(crate::specs::Reading::text_at))]
-fn text_of(
-    alloc: Global,
-    lo: usize,
-    hi: usize,
-    bytes: &[u8],
-) -> Result<(String, &[u8]), DecodeError>
-    ensures text { IsReadBy (λ x. (string_bytes x.0, x.1.now)) result (text_at lo hi bytes.now) }
-    ensures limits { IfOk result (λ x. IsText lo hi (string_bytes x.0)) }
-{
-    let (len, rest) = u16_at(bytes)?;
-    let len = len as usize;
-    if len < lo {
-        return Err(DecodeError::Malformed);
-    }
-    if hi < len {
-        return Err(DecodeError::Malformed);
-    }
-    let (front, rest) = bytes_of(len, rest)?;
-    let text = utf8_of(front)?;
-    Ok((String::from_str(alloc, text)?, rest))
-}
-
-#[tactic(auto, unfolding(crate::specs::Reading::option_at))]
-fn id_of(bytes: &[u8]) -> Result<(Option<EventId>, &[u8]), DecodeError>
-    ensures { IsReadBy (λ x. (x.0, x.1.now)) result (option_at (number_at w64) bytes.now) }
-{
-    match bytes {
-        [] => Err(DecodeError::Malformed),
-        [0, rest @ ..] => Ok((None, rest)),
-        [1, rest @ ..] => {
-            let (value, rest) = u64_at(rest)?;
-            Ok((Some(EventId::new(value)), rest))
-        }
-        [_, ..] => Err(DecodeError::Malformed),
-    }
-}
-
-#[tactic(auto, unfolding(crate::specs::Reading::span_at))]
-fn duration_of(bytes: &[u8]) -> Result<(Duration, &[u8]), DecodeError>
-    ensures { IsReadBy (λ x. (x.0, x.1.now)) result (span_at bytes.now) }
-{
-    let (seconds, rest) = u64_at(bytes)?;
-    let (nanoseconds, rest) = u32_at(rest)?;
-    match Duration::new(seconds, nanoseconds) {
-        Some(duration) => Ok((duration, rest)),
-        None => Err(DecodeError::Malformed),
-    }
-}
-
-#[tactic(auto, unfolding(crate::specs::Reading::span_at))]
-fn time_of(bytes: &[u8]) -> Result<(Time, &[u8]), DecodeError>
-    ensures { IsReadBy (λ x. (x.0, x.1.now)) result (span_at bytes.now) }
-{
-    let (seconds, rest) = u64_at(bytes)?;
-    let (nanoseconds, rest) = u32_at(rest)?;
-    match Time::new(seconds, nanoseconds) {
-        Some(time) => Ok((time, rest)),
-        None => Err(DecodeError::Malformed),
-    }
-}
-
-#[tactic(auto, unfolding(crate::specs::Reading::deadline_at))]
-fn deadline_of(bytes: &[u8]) -> Result<(Deadline, &[u8]), DecodeError>
-    ensures { IsReadBy (λ x. (x.0, x.1.now)) result (deadline_at bytes.now) }
-{
-    let (value, rest) = match duration_of(bytes) {
-        Err(error) => return Err(error),
-        Ok(found) => found,
-    };
-    let (creation_time, rest) = match time_of(rest) {
-        Err(error) => return Err(error),
-        Ok(found) => found,
-    };
-    Ok((
-        Deadline {
-            value,
-            creation_time,
-        },
-        rest,
-    ))
-}
-
-#[tactic(auto, unfolding(crate::specs::Reading::option_at))]
-fn optional_deadline_of(bytes: &[u8]) -> Result<(Option<Deadline>, &[u8]), DecodeError>
-    ensures { IsReadBy (λ x. (x.0, x.1.now)) result (option_at deadline_at bytes.now) }
-{
-    match bytes {
-        [] => Err(DecodeError::Malformed),
-        [0, rest @ ..] => Ok((None, rest)),
-        [1, rest @ ..] => match deadline_of(rest) {
-            Err(error) => Err(error),
-            Ok((deadline, rest)) => Ok((Some(deadline), rest)),
-        },
-        [_, ..] => Err(DecodeError::Malformed),
-    }
-}
 
 #[tactic(auto, unfolding(crate::specs::Reading::event_at))]
 fn event_of(bytes: &[u8]) -> Result<(event::StaticConfig, &[u8]), DecodeError>
@@ -230,8 +60,41 @@ fn event_of(bytes: &[u8]) -> Result<(event::StaticConfig, &[u8]), DecodeError>
     ))
 }
 
+#[tactic(auto, unfolding(crate::specs::Reading::publish_subscribe_at))]
+fn publish_subscribe_of(
+    alloc: Global,
+    bytes: &[u8],
+) -> Result<(publish_subscribe::StaticConfig, &[u8]), DecodeError>
+    ensures { IsReadBy (λ x. (x.0, x.1.now)) result (publish_subscribe_at bytes.now) }
+{
+    let (max_publishers, rest) = u64_at(bytes)?;
+    let (max_subscribers, rest) = u64_at(rest)?;
+    let (subscriber_max_buffer_size, rest) = u64_at(rest)?;
+    let (history_size, rest) = u64_at(rest)?;
+    let (subscriber_max_borrowed_samples, rest) = u64_at(rest)?;
+    let (enable_safe_overflow, rest) = truth_of(rest)?;
+    let (max_nodes, rest) = u64_at(rest)?;
+    let (message_type_details, rest) = match message_of(alloc, rest) {
+        Err(error) => return Err(error),
+        Ok(found) => found,
+    };
+    Ok((
+        publish_subscribe::StaticConfig {
+            max_publishers,
+            max_subscribers,
+            subscriber_max_buffer_size,
+            history_size,
+            subscriber_max_borrowed_samples,
+            enable_safe_overflow,
+            max_nodes,
+            message_type_details,
+        },
+        rest,
+    ))
+}
+
 #[tactic(auto, unfolding(crate::specs::Reading::pattern_at))]
-fn pattern_of(bytes: &[u8]) -> Result<(MessagingPattern, &[u8]), DecodeError>
+fn pattern_of(alloc: Global, bytes: &[u8]) -> Result<(MessagingPattern, &[u8]), DecodeError>
     ensures { IsReadBy (λ x. (x.0, x.1.now)) result (pattern_at bytes.now) }
 {
     match bytes {
@@ -239,6 +102,10 @@ fn pattern_of(bytes: &[u8]) -> Result<(MessagingPattern, &[u8]), DecodeError>
         [EVENT_BYTE, rest @ ..] => match event_of(rest) {
             Err(error) => Err(error),
             Ok((settings, rest)) => Ok((MessagingPattern::Event(settings), rest)),
+        },
+        [PUBLISH_SUBSCRIBE_BYTE, rest @ ..] => match publish_subscribe_of(alloc, rest) {
+            Err(error) => Err(error),
+            Ok((settings, rest)) => Ok((MessagingPattern::PublishSubscribe(settings), rest)),
         },
         [_, ..] => Err(DecodeError::Malformed),
     }
@@ -294,7 +161,7 @@ fn pairs_of(alloc: Global, count: usize, bytes: &[u8]) -> Result<(AttributeSet, 
     Ok((pairs, rest))
 }
 
-#[tactic(auto, unfolding(crate::specs::Reading::counted_at, crate::specs::Reading::attributes_at))]
+#[tactic(auto, unfolding(iceoryx2_parts::specs::Reading::counted_at, crate::specs::Reading::attributes_at))]
 fn attributes_of(alloc: Global, bytes: &[u8]) -> Result<(AttributeSet, &[u8]), DecodeError>
     ensures { IsReadBy (λ x. (x.0, x.1.now)) result (attributes_at bytes.now) }
 {
@@ -321,7 +188,7 @@ fn description_of(alloc: Global, bytes: &[u8]) -> Result<(StaticConfig, &[u8]), 
         Err(error) => return Err(error),
         Ok(found) => found,
     };
-    let (pattern, rest) = match pattern_of(rest) {
+    let (pattern, rest) = match pattern_of(alloc, rest) {
         Err(error) => return Err(error),
         Ok(found) => found,
     };

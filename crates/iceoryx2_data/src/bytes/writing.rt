@@ -1,32 +1,18 @@
 //! Writing the byte form, part by part, at the end of what was written.
 
-ghost use Rattle.std.specs.Prelude.{◌≡◌, ◌<◌, ◌^◌, ◌++◌, length, OnOk};
+ghost use Rattle.std.specs.Prelude.{◌≡◌, ◌++◌, OnOk};
 ghost use Rattle.std.specs.List.{flat_map};
 ghost use Rattle.iceoryx2_values.specs.Description.{IsDescription};
 ghost use Rattle.iceoryx2_data.specs.Form as form;
 
-use super::{EVENT_BYTE, MAGIC, VERSION};
+use super::{EVENT_BYTE, MAGIC, PUBLISH_SUBSCRIBE_BYTE, VERSION};
 use iceoryx2_attributes::attribute::{Attribute, AttributeSet};
+use iceoryx2_parts::writing::{
+    put_id, put_message, put_number, put_optional_deadline, put_text, put_truth,
+};
 use iceoryx2_values::description::{MessagingPattern, StaticConfig};
-use iceoryx2_values::event;
-use iceoryx2_values::event::{Deadline, EventId};
-use iceoryx2_values::time::{Duration, Time};
+use iceoryx2_values::{event, publish_subscribe};
 use std::alloc::AllocError;
-
-fn put_number(out: &mut Vec<u8>, number: u64) -> Result<(), AllocError>
-    ensures { OnOk result (out.new.items ≡ out.old.items ++ form.number number) }
-{
-    out.extend_from_slice(&number.to_be_bytes())
-}
-
-fn put_text(out: &mut Vec<u8>, text: &str) -> Result<(), AllocError>
-    requires { length text.now < 2 ^ 16 }
-    ensures { OnOk result (out.new.items ≡ out.old.items ++ form.text text.now) }
-{
-    out.extend_from_slice(&(text.len() as u16).to_be_bytes())?;
-    out.extend_from_slice(text.as_bytes())?;
-    Ok(())
-}
 
 /// The key, and then the value.
 fn put_pair(out: &mut Vec<u8>, pair: &Attribute) -> Result<(), AllocError>
@@ -56,56 +42,6 @@ fn put_attributes(out: &mut Vec<u8>, attributes: &AttributeSet) -> Result<(), Al
     Ok(())
 }
 
-fn put_id(out: &mut Vec<u8>, id: Option<EventId>) -> Result<(), AllocError>
-    ensures { OnOk result (out.new.items ≡ out.old.items ++ form.option form.number id) }
-{
-    match id {
-        None => out.push(0)?,
-        Some(id) => {
-            out.push(1)?;
-            put_number(out, id.as_value())?;
-        }
-    }
-    Ok(())
-}
-
-fn put_duration(out: &mut Vec<u8>, duration: Duration) -> Result<(), AllocError>
-    ensures { OnOk result (out.new.items ≡ out.old.items ++ form.span duration) }
-{
-    put_number(out, duration.seconds())?;
-    out.extend_from_slice(&duration.nanoseconds().to_be_bytes())?;
-    Ok(())
-}
-
-fn put_time(out: &mut Vec<u8>, time: Time) -> Result<(), AllocError>
-    ensures { OnOk result (out.new.items ≡ out.old.items ++ form.span time) }
-{
-    put_number(out, time.seconds())?;
-    out.extend_from_slice(&time.nanoseconds().to_be_bytes())?;
-    Ok(())
-}
-
-fn put_deadline(out: &mut Vec<u8>, deadline: Deadline) -> Result<(), AllocError>
-    ensures { OnOk result (out.new.items ≡ out.old.items ++ form.deadline deadline) }
-{
-    put_duration(out, deadline.value)?;
-    put_time(out, deadline.creation_time)?;
-    Ok(())
-}
-
-fn put_optional_deadline(out: &mut Vec<u8>, deadline: Option<Deadline>) -> Result<(), AllocError>
-    ensures { OnOk result (out.new.items ≡ out.old.items ++ form.option form.deadline deadline) }
-{
-    match deadline {
-        None => out.push(0)?,
-        Some(value) => {
-            out.push(1)?;
-            put_deadline(out, value)?;
-        }
-    }
-    Ok(())
-}
-
 /// The pattern's byte, and the settings.
 fn put_event(out: &mut Vec<u8>, settings: &event::StaticConfig) -> Result<(), AllocError>
     ensures { OnOk result (out.new.items ≡ out.old.items ++ form.pattern (MessagingPattern.Event settings.now)) }
@@ -122,11 +58,32 @@ fn put_event(out: &mut Vec<u8>, settings: &event::StaticConfig) -> Result<(), Al
     Ok(())
 }
 
+/// The pattern's byte, the settings, and the types of a message.
+fn put_publish_subscribe(
+    out: &mut Vec<u8>,
+    settings: &publish_subscribe::StaticConfig,
+) -> Result<(), AllocError>
+    ensures { OnOk result (out.new.items
+        ≡ out.old.items ++ form.pattern (MessagingPattern.PublishSubscribe settings.now)) }
+{
+    out.push(PUBLISH_SUBSCRIBE_BYTE)?;
+    put_number(out, settings.max_publishers)?;
+    put_number(out, settings.max_subscribers)?;
+    put_number(out, settings.subscriber_max_buffer_size)?;
+    put_number(out, settings.history_size)?;
+    put_number(out, settings.subscriber_max_borrowed_samples)?;
+    put_truth(out, settings.enable_safe_overflow)?;
+    put_number(out, settings.max_nodes)?;
+    put_message(out, &settings.message_type_details)?;
+    Ok(())
+}
+
 fn put_pattern(out: &mut Vec<u8>, pattern: &MessagingPattern) -> Result<(), AllocError>
     ensures { OnOk result (out.new.items ≡ out.old.items ++ form.pattern pattern.now) }
 {
     match pattern {
         MessagingPattern::Event(settings) => put_event(out, settings),
+        MessagingPattern::PublishSubscribe(settings) => put_publish_subscribe(out, settings),
     }
 }
 

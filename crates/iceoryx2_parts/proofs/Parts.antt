@@ -12,8 +12,8 @@ use Rattle.std.proofs.lemmas.List.Concat.{flat_map-cons}
 use Rattle.std.proofs.lemmas.List.Elements.{All-nil, All-cons, All-head, All-tail}
 use Rattle.std.proofs.lemmas.Slice.Eq.{bytes_eq-Decides}
 use Rattle.iceoryx2_attributes.specs.Texts.{IsText}
-use Rattle.iceoryx2_data.specs.Form.{text, option}
-use Rattle.iceoryx2_data.specs.Reading.{◌>>=◌, Part, then_at, as_at, where_at, number_at, bytes_at, literal_at, text_at, option_at, list_at, counted_at}
+use Rattle.iceoryx2_parts.specs.Form.{text, truth, option}
+use Rattle.iceoryx2_parts.specs.Reading.{◌>>=◌, Part, then_at, as_at, where_at, number_at, bytes_at, literal_at, text_at, truth_at, option_at, list_at, counted_at}
 
 abbrev pub IsBytes : List ℕ → Type 0
 IsBytes bytes = (i : ℕ) → get_or bytes i 0 < 256
@@ -241,6 +241,27 @@ Reads-text lo hi small = record {
       let b : ltb hi (length t) ≡ false = le-ltb _ _ fits.short in
       ap (text_at lo hi) (append_assoc (to_be_bytes w16 (length t)) t rest) ∙ rw (Reads-number16.again (length t) (t ++ rest) (omega (arith, fits.short)), a, b, hb.again t rest refl, fits.utf8) refl;
 }
+
+-- ---- truth values
+
+-- none of them is refused
+abbrev pub Any : {A : Type 0} → A → Type 0
+Any x = Unit {0}
+
+truth_takes : (bytes : List ℕ) (x : Bool × List ℕ) → IsBytes bytes → truth_at bytes ≡ Some x → Takes bytes (truth x.0) x.1 × Any x.0
+unfolding truth_at
+truth_takes [] x fits e = absurd cc
+truth_takes (zero ∷ bytes) x fits e = subst (λ (y : Bool × List ℕ). Takes (0 ∷ bytes) (truth y.0) y.1 × Any y.0) (some_is (false, bytes) x e) (record { parts = refl; rest_fits = IsBytes-rest 0 bytes fits }, tt)
+truth_takes (suc zero ∷ bytes) x fits e = subst (λ (y : Bool × List ℕ). Takes (1 ∷ bytes) (truth y.0) y.1 × Any y.0) (some_is (true, bytes) x e) (record { parts = refl; rest_fits = IsBytes-rest 1 bytes fits }, tt)
+truth_takes (suc (suc b) ∷ bytes) x fits e = absurd cc
+
+truth_again : (b : Bool) (rest : List ℕ) → Any b → truth_at (truth b ++ rest) ≡ Some (b, rest)
+unfolding truth_at
+truth_again true rest fits = refl
+truth_again false rest fits = refl
+
+pub Reads-truth : Reads truth_at truth Any
+Reads-truth = record { takes = truth_takes; again = truth_again }
 
 -- ---- behind a flag
 

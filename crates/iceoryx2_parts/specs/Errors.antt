@@ -1,7 +1,7 @@
 -- The texts of errors.
 use Rattle.std.specs.Prelude.{ℕ, List, codes}
-use Rattle.iceoryx2_data.specs.declared.bytes.DecodeError.{DecodeError}
-use Rattle.iceoryx2_data.specs.declared.bytes.DecodeError.TheVariants as decode
+use Rattle.iceoryx2_parts.specs.declared.reading.DecodeError.{DecodeError}
+use Rattle.iceoryx2_parts.specs.declared.reading.DecodeError.TheVariants as decode
 
 abbrev pub decode_error_text : DecodeError → List ℕ
 decode_error_text decode.Malformed = codes "the bytes are no description"

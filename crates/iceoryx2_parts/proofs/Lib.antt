@@ -1,0 +1,4 @@
+pub mod Parts
+pub mod Times
+pub mod Messages
+pub mod EachByte
