@@ -1,7 +1,7 @@
 //! Names, hashes, times and settings.
 
 use crate::support::*;
-use iceoryx2_values::config::{Config, Event};
+use iceoryx2_values::config::{Config, Event, PublishSubscribe};
 use iceoryx2_values::description::{MessagingPattern, ServiceHash, ServiceName, ServiceNameError};
 use iceoryx2_values::event;
 use iceoryx2_values::event::EventId;
@@ -21,7 +21,7 @@ const LENGTHS: &[(usize, bool)] = &[
 /// A service's name that is written in several scripts, 31 bytes long.
 const SCRIPTS: &str = "Größe/имя/名前/שם/🙂";
 
-/// The settings that builders start from.
+/// The settings that builders of events start from.
 const DEFAULTS: Event = Event {
     max_notifiers: 16,
     max_listeners: 16,
@@ -31,6 +31,17 @@ const DEFAULTS: Event = Event {
     notifier_dropped_event: None,
     notifier_dead_event: None,
     deadline: None,
+};
+
+/// The same for publish-subscribe.
+const PUBLISH_SUBSCRIBE_DEFAULTS: PublishSubscribe = PublishSubscribe {
+    max_publishers: 2,
+    max_subscribers: 8,
+    subscriber_max_buffer_size: 2,
+    history_size: 0,
+    subscriber_max_borrowed_samples: 2,
+    enable_safe_overflow: true,
+    max_nodes: 20,
 };
 
 /// Whether a name, its copy and what is printed for it hold the text, and the two are equal.
@@ -152,7 +163,15 @@ fn times_are_ordered_by_their_seconds_first(rt: HostRuntime) {
 
 #[test]
 fn builders_start_from_the_defaults(rt: HostRuntime) {
-    assert_same(&rt, Config::default().event, DEFAULTS);
+    let Config {
+        event,
+        publish_subscribe,
+    } = Config::default();
+    assert_same(
+        &rt,
+        (event, publish_subscribe),
+        (DEFAULTS, PUBLISH_SUBSCRIBE_DEFAULTS),
+    );
 }
 
 fn event_for(max_nodes: u64) -> MessagingPattern {
@@ -168,6 +187,15 @@ fn event_for(max_nodes: u64) -> MessagingPattern {
     })
 }
 
+/// Publish-subscribe with this history, and else the defaults.
+fn with_history(rt: &impl Abort, alloc: Global, history_size: u64) -> MessagingPattern {
+    let settings = PublishSubscribe {
+        history_size,
+        ..PUBLISH_SUBSCRIBE_DEFAULTS
+    };
+    publish_subscribe(rt, alloc, settings)
+}
+
 #[test]
 fn patterns_are_compared_without_their_settings(rt: HostRuntime) {
     let is_same = event_for(1).is_same_pattern(&event_for(2));
@@ -177,4 +205,23 @@ fn patterns_are_compared_without_their_settings(rt: HostRuntime) {
         (EventId::new(9).as_value(), is_same, is_equal),
         (9, true, false),
     );
+}
+
+/// Whether publish-subscribe is of the pattern of itself with another history, and of events, both ways.
+fn compared_patterns(rt: &impl Abort, alloc: Global) -> [bool; 4] {
+    let one = with_history(rt, alloc, 0);
+    let other = with_history(rt, alloc, 1);
+    let events = event_for(1);
+    [
+        one.is_same_pattern(&other),
+        one == other,
+        one.is_same_pattern(&events),
+        events.is_same_pattern(&one),
+    ]
+}
+
+#[test]
+fn events_are_of_another_pattern_than_publish_subscribe(rt: HostRuntime) {
+    let found = compared_patterns(&rt, rt.alloc());
+    assert_same(&rt, found, [true, false, false, false]);
 }

@@ -12,6 +12,7 @@ use std::alloc::Global;
 use std::process::Abort;
 
 mod attributes;
+mod publish_subscribe;
 
 /// The front of a form, up to its hash.
 const HASHED: &str = "494f5832011111111111111111111111111111111111111111";

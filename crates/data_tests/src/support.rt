@@ -2,7 +2,10 @@
 //! that a test that makes several of them sees answers and no contracts.
 
 use iceoryx2_data::bytes::{DecodeError, decode, encode};
-use iceoryx2_values::description::{ServiceName, ServiceNameError, StaticConfig};
+use iceoryx2_types::types::publish_subscribe::Header;
+use iceoryx2_types::types::{MessageTypeDetails, TypeVariant};
+use iceoryx2_values::description::{MessagingPattern, ServiceName, ServiceNameError, StaticConfig};
+use iceoryx2_values::{config, publish_subscribe};
 use std::alloc::Global;
 use std::fmt::{Debug, Display};
 use std::process::Abort;
@@ -93,4 +96,30 @@ pub fn read(rt: &impl Abort, alloc: Global, bytes: &[u8]) -> Option<StaticConfig
         Err(DecodeError::Malformed) => None,
         Err(DecodeError::OutOfMemory) => panic!(rt; "no memory"),
     }
+}
+
+/// A message whose payload is a number of `i64`, without a user header.
+pub fn message(rt: &impl Abort, alloc: Global) -> MessageTypeDetails {
+    match MessageTypeDetails::from::<Header, (), i64>(alloc, TypeVariant::Dynamic) {
+        Ok(message) => message,
+        Err(_) => panic!(rt; "no memory"),
+    }
+}
+
+/// Publish-subscribe with these settings and that message.
+pub fn publish_subscribe(
+    rt: &impl Abort,
+    alloc: Global,
+    settings: config::PublishSubscribe,
+) -> MessagingPattern {
+    MessagingPattern::PublishSubscribe(publish_subscribe::StaticConfig {
+        max_publishers: settings.max_publishers,
+        max_subscribers: settings.max_subscribers,
+        subscriber_max_buffer_size: settings.subscriber_max_buffer_size,
+        history_size: settings.history_size,
+        subscriber_max_borrowed_samples: settings.subscriber_max_borrowed_samples,
+        enable_safe_overflow: settings.enable_safe_overflow,
+        max_nodes: settings.max_nodes,
+        message_type_details: message(rt, alloc),
+    })
 }
