@@ -40,6 +40,17 @@ is_same_span None (Some b) = false
 is_same_span (Some a) None = false
 is_same_span (Some a) (Some b) = nat_eq a.seconds b.seconds && nat_eq a.nanoseconds b.nanoseconds
 
+abbrev pub is_same_flag : Bool → Bool → Bool
+is_same_flag true true = true
+is_same_flag true false = false
+is_same_flag false true = false
+is_same_flag false false = true
+
+-- the existing flag must be the required one
+unfoldable pub flag_is : {E : Type 0} → (marked : Bool) → (existing required : Bool) → E → SettingRow E
+flag_is marked existing required error =
+    record { is_marked = marked; clause = record { is_met = is_same_flag existing required; error = error } }
+
 -- the existing number, or none, must be the required one
 unfoldable pub number_is : {E : Type 0} → (marked : Bool) → (existing required : Option ℕ) → E → SettingRow E
 number_is marked existing required error =

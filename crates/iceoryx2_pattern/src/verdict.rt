@@ -1,7 +1,7 @@
 //! The tests that verdicts are made of.
 
 ghost use Rattle.std.specs.Prelude.{◌≡◌, ◌∷◌, [], List};
-ghost use Rattle.iceoryx2_pattern.specs.Verdict.{Clause, IsVerdict, at_least, marked_clauses};
+ghost use Rattle.iceoryx2_pattern.specs.Verdict.{Clause, IsVerdict, at_least, flag_is, marked_clauses};
 ghost use Rattle.iceoryx2_pattern.specs.Verdict.{number_is, span_is, verdict};
 ghost use Rattle.iceoryx2_pattern.specs.OwnAttributes.{attribute_clauses};
 
@@ -20,6 +20,24 @@ pub fn need_at_least<E: Copy>(
     ensures { result ≡ verdict (marked_clauses (at_least is_marked existing required error ∷ [])) }
 {
     if is_marked && existing < required {
+        Err(error)
+    } else {
+        Ok(())
+    }
+}
+
+/// Refuses another flag than the required one, where that is asked for.
+#[tactic(auto, unfolding(crate::specs::Verdict::verdict, crate::specs::Verdict::marked_clauses, crate::specs::Verdict::flag_is))]
+pub fn need_flag<E: Copy>(
+    is_marked: bool,
+    existing: bool,
+    required: bool,
+    error: E,
+) -> Result<(), E>
+    ensures { result ≡ verdict (marked_clauses (flag_is is_marked existing required error ∷ [])) }
+{
+    let differs = existing != required;
+    if is_marked && differs {
         Err(error)
     } else {
         Ok(())
