@@ -1,3 +1,4 @@
 pub mod OwnSettings
 pub mod Regular
 pub mod Builders
+pub mod Granted

@@ -1,5 +1,5 @@
 -- What a builder of events asks, and its errors.
-use Rattle.std.specs.Prelude.{List, [], ◌∷◌, Option, None, is_some}
+use Rattle.std.specs.Prelude.{List, [], ◌∷◌, Option, Some, None, is_some}
 use Rattle.std.specs.Option.{option_map}
 use Rattle.iceoryx2_attributes.specs.Attributes.{Pair}
 use Rattle.iceoryx2_attributes.specs.Requirements.{Requirements}
@@ -13,6 +13,7 @@ use Rattle.iceoryx2_pattern.specs.Meaning.{Meaning}
 use Rattle.iceoryx2_pattern.specs.OwnAttributes.{defining, requiring}
 use Rattle.iceoryx2_errors.specs.States.{open_error_of_state, create_error_of_state}
 use Rattle.iceoryx2_errors.specs.declared.error.ServiceState.{ServiceState}
+use Rattle.iceoryx2_errors.specs.declared.error.ServiceState.TheVariants as state
 use Rattle.iceoryx2_errors.specs.declared.error.events.EventOpenError.{EventOpenError}
 use Rattle.iceoryx2_errors.specs.declared.error.events.EventOpenError.TheVariants as opening
 use Rattle.iceoryx2_errors.specs.declared.error.events.EventCreateError.{EventCreateError}
@@ -52,10 +53,12 @@ setting_rows required marks existing =
 
 abbrev pub setting_clauses : EventDemand → MessagingPattern → List (Clause EventOpenError)
 setting_clauses demand (existing.Event settings) = marked_clauses (setting_rows demand.settings demand.marks settings)
+setting_clauses demand (existing.PublishSubscribe settings) = []
 
--- another pattern than events: so far there is no other
+-- another pattern than events
 abbrev pub misfit_of : MessagingPattern → Option ServiceState
 misfit_of (existing.Event settings) = None
+misfit_of (existing.PublishSubscribe settings) = Some state.IncompatibleMessagingPattern
 
 abbrev pub open_error_of_refusal : OpenRefusal → EventOpenError
 open_error_of_refusal open_refusal.DoesNotExist = opening.DoesNotExist

@@ -1,8 +1,14 @@
 -- Which pattern a description is of.
-use Rattle.std.specs.Prelude.{Bool, true}
+use Rattle.std.specs.Prelude.{Bool, true, false}
 use Rattle.iceoryx2_values.specs.declared.description.MessagingPattern.{MessagingPattern}
-use Rattle.iceoryx2_values.specs.declared.description.MessagingPattern.TheVariants.{Event}
+use Rattle.iceoryx2_values.specs.declared.description.MessagingPattern.TheVariants.{Event, PublishSubscribe}
 
--- it is of events: so far there is no other
+-- one row a pattern
+
 abbrev pub is_events : MessagingPattern → Bool
 is_events (Event settings) = true
+is_events (PublishSubscribe settings) = false
+
+abbrev pub is_publish_subscribe : MessagingPattern → Bool
+is_publish_subscribe (Event settings) = false
+is_publish_subscribe (PublishSubscribe settings) = true

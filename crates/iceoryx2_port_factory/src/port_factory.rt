@@ -5,6 +5,8 @@ ghost use Rattle.iceoryx2_access.specs.Run.{Joins};
 ghost use Rattle.iceoryx2_port_factory.specs.Closes.{IsCloseWord, first_refused};
 
 pub mod event;
+pub mod factory;
+pub mod publish_subscribe;
 
 use iceoryx2_access::storage::{Release, ReleaseError, RemoveError, Storage};
 pub use iceoryx2_errors::error::CloseError;

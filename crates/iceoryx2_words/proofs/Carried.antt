@@ -2,18 +2,14 @@
 use Rattle.std.proofs.Common.{◌≡◌, ℕ, Bool, List, Result, Ok, Err, None, refl}
 use Rattle.iceoryx2_values.specs.declared.description.ServiceHash.{ServiceHash}
 use Rattle.iceoryx2_values.specs.Description.{Description}
-use Rattle.iceoryx2_access.specs.declared.storage.RemoveError.{RemoveError}
 use Rattle.iceoryx2_access.specs.declared.storage.Tag.{Tag}
 use Rattle.iceoryx2_access.specs.Letter.{Letter}
-use Rattle.iceoryx2_errors.specs.declared.error.CloseError.{CloseError}
-use Rattle.iceoryx2_errors.specs.declared.error.CloseError.TheVariants.{NotHere}
 use Rattle.iceoryx2_pattern.specs.Meaning.{Meaning}
 use Rattle.iceoryx2_access.specs.Factory.{Factory}
 use Rattle.iceoryx2_pattern.specs.Verdict.{verdict}
 use Rattle.iceoryx2_rounds.specs.Looks.{fetched, fits}
 use Rattle.iceoryx2_rounds.specs.Creates.{IsServiceWord, IsCreating, made, published}
 use Rattle.iceoryx2_rounds.specs.Opens.{IsLastRound, ready, opened, IsOpenWord, ended}
-use Rattle.iceoryx2_port_factory.specs.Closes.{IsCloseWord, first_refused, not_here, still_counted, left, last}
 
 -- of an open
 pub record Carries {F E C : Type 0} (m : Meaning F E C) (node : ℕ) (hash : ServiceHash) (r : Factory) : Type 0 where
@@ -34,16 +30,3 @@ module _ {F E C : Type 0} {m : Meaning F E C} {node : ℕ} {hash : ServiceHash} 
 
   pub opened_carries : {w : List Letter} {r : Factory} → IsOpenWord m node hash w (Ok r) → Carries m node hash r
   opened_carries (ended small before l) = round_carries l
-
--- of a close: none whose removals were tried hands anything back
-pub removed_here : (s : Factory) (tag segment description : Result (Unit {0}) RemoveError) → first_refused tag segment description ≡ Err (NotHere s) → ⊥
-removed_here s (Err e) segment description is = cc
-removed_here s (Ok x) (Err e) description is = cc
-removed_here s (Ok x) (Ok y) (Err e) is = cc
-removed_here s (Ok x) (Ok y) (Ok z) is = cc
-
-pub handed_back : {r : Factory} {word : List Letter} {answer : Result (Unit {0}) (CloseError Factory)} (s : Factory) → answer ≡ Err (NotHere s) → IsCloseWord r word answer → s ≡ r
-handed_back s e not_here = cc
-handed_back s e still_counted = absurd (cc)
-handed_back s e (left tag) = absurd (removed_here s tag (Ok tt) (Ok tt) e)
-handed_back s e (last tag segment description) = absurd (removed_here s tag segment description e)

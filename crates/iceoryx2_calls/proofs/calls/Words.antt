@@ -29,7 +29,7 @@ use Rattle.iceoryx2_rounds.specs.Creates.{IsEntryWord, IsServiceWord, IsCreating
 use Rattle.iceoryx2_rounds.specs.Opens as opens
 use Rattle.iceoryx2_rounds.specs.Opens.{IsReady, ready, IsFailedRound, failed, IsLastRound, AreFailedRounds, no_round, one_more, IsOpenWord, ended, all_failed}
 use Rattle.iceoryx2_port_factory.specs.Closes.{IsCloseWord, not_here, still_counted, left, last}
-use Rattle.iceoryx2_words.proofs.Carried.{removed_here}
+use Rattle.iceoryx2_port_factory.proofs.HandedBack.{removed_here}
 use Rattle.iceoryx2_calls.specs.Calls.{Throughout}
 
 -- what each access keeps is true throughout

@@ -242,12 +242,16 @@ impl Pattern for EventDemand {
     fn misfit(&self, existing: &StaticConfig) -> Option<ServiceState> {
         match existing.messaging_pattern() {
             MessagingPattern::Event(_) => None,
+            MessagingPattern::PublishSubscribe(_) => {
+                Some(ServiceState::IncompatibleMessagingPattern)
+            }
         }
     }
 
     fn verify(&self, existing: &StaticConfig) -> Result<(), EventOpenError> {
         match existing.messaging_pattern() {
             MessagingPattern::Event(settings) => verify_settings(self, settings),
+            MessagingPattern::PublishSubscribe(_) => Ok(()),
         }
     }
 
