@@ -1,0 +1,79 @@
+-- A builder of publish-subscribe is a builder like each other one.
+use Rattle.std.proofs.Common.{◌≡◌, Bool, true, false, cond, ℕ, List, [], Result, Option, Some, None, Ok, refl, ap}
+use Rattle.iceoryx2_types.specs.Types.{Message, compatible}
+use Rattle.iceoryx2_types.proofs.Compatible.{decided, reflexive}
+use Rattle.iceoryx2_attributes.specs.Attributes.{Pair}
+use Rattle.iceoryx2_attributes.specs.Requirements.{Requirements, no_requirements}
+use Rattle.iceoryx2_values.specs.declared.description.ServiceHash.{ServiceHash}
+use Rattle.iceoryx2_values.specs.declared.description.MessagingPattern.{MessagingPattern}
+use Rattle.iceoryx2_values.specs.declared.description.MessagingPattern.TheVariants as existing
+use Rattle.iceoryx2_values.specs.declared.time.ClockFault.{ClockFault}
+use Rattle.iceoryx2_values.specs.Span.{Span}
+use Rattle.iceoryx2_errors.specs.States.{publish_subscribe_create_error_of_state}
+use Rattle.iceoryx2_errors.specs.declared.error.ServiceState.TheVariants as state
+use Rattle.iceoryx2_errors.specs.declared.error.publish_subscribe.ServiceAvailabilityState.{ServiceAvailabilityState}
+use Rattle.iceoryx2_errors.specs.declared.error.publish_subscribe.ServiceAvailabilityState.TheVariants as look
+use Rattle.iceoryx2_errors.specs.declared.error.publish_subscribe.PublishSubscribeCreateError.TheVariants as creating
+use Rattle.iceoryx2_pattern.specs.Regular.{IsRegular, TakesNodes}
+use Rattle.iceoryx2_pattern.specs.Verdict.{verdict}
+use Rattle.iceoryx2_pattern.proofs.Verdicts.{no_row}
+use Rattle.iceoryx2_pattern.proofs.MetRows.{offers, keeps, then_more, not_less, same_flag}
+use Rattle.iceoryx2_rounds.specs.Creates.{description_of}
+use Rattle.iceoryx2_rounds.specs.OwnSettings.{AcceptsOwn}
+use Rattle.iceoryx2_builder_base.specs.Builders.{IsBuilder}
+use Rattle.iceoryx2_builder_base.proofs.Raised.{not_below, raised_above}
+use Rattle.iceoryx2_publish_subscribe_builder.specs.declared.publish_subscribe.demand.PublishSubscribeDemand.{PublishSubscribeDemand}
+use Rattle.iceoryx2_publish_subscribe_builder.specs.PublishSubscribe.{publish_subscribe_meaning, publish_subscribe_adjusted, publish_subscribe_creating, publish_subscribe_opening, misfit_of}
+
+-- ---- its meanings are regular
+
+types_exist : (fault : ServiceAvailabilityState) (fits : Bool) → cond fits None (Some look.IncompatibleTypes) ≡ Some fault
+    → publish_subscribe_create_error_of_state fault ≡ creating.AlreadyExists
+types_exist fault true e = absurd (cc)
+types_exist fault false e = let is : fault ≡ look.IncompatibleTypes = cc in ap publish_subscribe_create_error_of_state is
+
+misfit_exists : (message : Message) (pattern : MessagingPattern) (fault : ServiceAvailabilityState) → misfit_of message pattern ≡ Some fault
+    → publish_subscribe_create_error_of_state fault ≡ creating.AlreadyExists
+misfit_exists message (existing.Event s) fault e =
+    let is : fault ≡ look.ServiceState state.IncompatibleMessagingPattern = cc in ap publish_subscribe_create_error_of_state is
+misfit_exists message (existing.PublishSubscribe s) fault e = types_exist fault (compatible message s.message_type_details) e
+
+creating_is_regular : (demand : PublishSubscribeDemand) (message : Message) (given : List Pair) → IsRegular (publish_subscribe_creating demand message given)
+creating_is_regular demand message given =
+    record { create_memory = refl; open_memory = refl; misfit = λ d fault e. misfit_exists message d.pattern fault e }
+
+opening_is_regular : (demand : PublishSubscribeDemand) (message : Message) (required : Requirements) → IsRegular (publish_subscribe_opening demand message required)
+opening_is_regular demand message required =
+    record { create_memory = refl; open_memory = refl; misfit = λ d fault e. misfit_exists message d.pattern fault e }
+
+-- ---- it takes what it created
+
+fits_itself : (message : Message) → compatible message message ≡ true
+fits_itself message = (decided message message).1 (reflexive message)
+
+meets : (demand : PublishSubscribeDemand) (message : Message) (hash : ServiceHash) (name : List ℕ) (now : Result Span ClockFault)
+    → verdict ((publish_subscribe_meaning demand message).requirement (description_of (publish_subscribe_meaning (publish_subscribe_adjusted demand) message) hash name now)) ≡ Ok tt
+meets demand message hash name now =
+    then_more _ _ (offers _ _ _ _ (not_below demand.settings.max_publishers))
+    (then_more _ _ (offers _ _ _ _ (not_below demand.settings.max_subscribers))
+    (then_more _ _ (offers _ _ _ _ (not_below demand.settings.subscriber_max_buffer_size))
+    (then_more _ _ (offers _ _ _ _ (not_less demand.settings.history_size))
+    (then_more _ _ (offers _ _ _ _ (not_below demand.settings.subscriber_max_borrowed_samples))
+    (then_more _ _ (keeps _ _ _ _ (same_flag demand.settings.enable_safe_overflow))
+    (then_more _ [] (offers _ _ _ _ (not_below demand.settings.max_nodes)) no_row))))))
+
+own_settings : (demand : PublishSubscribeDemand) (message : Message) (given : List Pair) (hash : ServiceHash) (name : List ℕ) (now : Result Span ClockFault)
+    → AcceptsOwn (publish_subscribe_creating demand message given) (publish_subscribe_opening demand message no_requirements) hash name now
+own_settings demand message given hash name now = record {
+  fits = ap (λ b. cond b None (Some look.IncompatibleTypes)) (fits_itself message);
+  accepted = meets demand message hash name now;
+}
+
+pub publish_subscribe_builder : (demand : PublishSubscribeDemand) (message : Message)
+    → IsBuilder (publish_subscribe_creating demand message) (publish_subscribe_opening demand message)
+publish_subscribe_builder demand message = record {
+  creating_is_regular = creating_is_regular demand message;
+  opening_is_regular = opening_is_regular demand message;
+  takes_nodes = λ given now. raised_above demand.settings.max_nodes;
+  accepts_own = own_settings demand message;
+}

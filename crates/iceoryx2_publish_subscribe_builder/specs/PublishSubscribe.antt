@@ -1,0 +1,135 @@
+-- What a builder of publish-subscribe asks, and its errors.
+use Rattle.std.specs.Prelude.{Bool, false, List, [], ◌∷◌, ◌&&◌, not, nat_lt, Option, Some, None, if◌then◌else◌}
+use Rattle.iceoryx2_attributes.specs.Attributes.{Pair}
+use Rattle.iceoryx2_attributes.specs.Requirements.{Requirements}
+use Rattle.iceoryx2_types.specs.Types.{Message, compatible}
+use Rattle.iceoryx2_values.specs.declared.config.PublishSubscribe.{PublishSubscribe as Settings}
+use Rattle.iceoryx2_values.specs.declared.publish_subscribe.StaticConfig.{StaticConfig as Existing}
+use Rattle.iceoryx2_values.specs.declared.description.MessagingPattern.{MessagingPattern}
+use Rattle.iceoryx2_values.specs.declared.description.MessagingPattern.TheVariants as existing
+use Rattle.iceoryx2_pattern.specs.Verdict.{Clause, SettingRow, at_least, flag_is, marked_clauses}
+use Rattle.iceoryx2_pattern.specs.Meaning.{Meaning}
+use Rattle.iceoryx2_pattern.specs.OwnAttributes.{defining, requiring}
+use Rattle.iceoryx2_pattern.specs.declared.pattern.OpenRefusal.{OpenRefusal}
+use Rattle.iceoryx2_pattern.specs.declared.pattern.OpenRefusal.TheVariants as open_refusal
+use Rattle.iceoryx2_pattern.specs.declared.pattern.CreateRefusal.{CreateRefusal}
+use Rattle.iceoryx2_pattern.specs.declared.pattern.CreateRefusal.TheVariants as create_refusal
+use Rattle.iceoryx2_errors.specs.States.{publish_subscribe_open_error_of_state, publish_subscribe_create_error_of_state}
+use Rattle.iceoryx2_errors.specs.declared.error.ServiceState.TheVariants as state
+use Rattle.iceoryx2_errors.specs.declared.error.publish_subscribe.ServiceAvailabilityState.{ServiceAvailabilityState}
+use Rattle.iceoryx2_errors.specs.declared.error.publish_subscribe.ServiceAvailabilityState.TheVariants as look
+use Rattle.iceoryx2_errors.specs.declared.error.publish_subscribe.PublishSubscribeOpenError.{PublishSubscribeOpenError}
+use Rattle.iceoryx2_errors.specs.declared.error.publish_subscribe.PublishSubscribeOpenError.TheVariants as opening
+use Rattle.iceoryx2_errors.specs.declared.error.publish_subscribe.PublishSubscribeCreateError.{PublishSubscribeCreateError}
+use Rattle.iceoryx2_errors.specs.declared.error.publish_subscribe.PublishSubscribeCreateError.TheVariants as creating
+use Rattle.iceoryx2_builder_base.specs.Zeros.{at_least_one}
+use Rattle.iceoryx2_publish_subscribe_builder.specs.declared.publish_subscribe.demand.Marks.{Marks}
+use Rattle.iceoryx2_publish_subscribe_builder.specs.declared.publish_subscribe.demand.PublishSubscribeDemand.{PublishSubscribeDemand}
+
+-- the settings in order, each with its test and its error
+abbrev pub setting_rows : Settings → Marks → Existing → List (SettingRow PublishSubscribeOpenError)
+setting_rows required marks existing =
+    at_least marks.max_publishers existing.max_publishers required.max_publishers
+    opening.DoesNotSupportRequestedAmountOfPublishers ∷
+    at_least marks.max_subscribers existing.max_subscribers required.max_subscribers
+    opening.DoesNotSupportRequestedAmountOfSubscribers ∷
+    at_least marks.subscriber_max_buffer_size existing.subscriber_max_buffer_size required.subscriber_max_buffer_size
+    opening.DoesNotSupportRequestedMinBufferSize ∷
+    at_least marks.history_size existing.history_size required.history_size
+    opening.DoesNotSupportRequestedMinHistorySize ∷
+    at_least marks.subscriber_max_borrowed_samples existing.subscriber_max_borrowed_samples
+    required.subscriber_max_borrowed_samples opening.DoesNotSupportRequestedMinSubscriberBorrowedSamples ∷
+    flag_is marks.enable_safe_overflow existing.enable_safe_overflow required.enable_safe_overflow
+    opening.IncompatibleOverflowBehavior ∷
+    at_least marks.max_nodes existing.max_nodes required.max_nodes
+    opening.DoesNotSupportRequestedAmountOfNodes ∷
+    []
+
+abbrev pub setting_clauses : PublishSubscribeDemand → MessagingPattern → List (Clause PublishSubscribeOpenError)
+setting_clauses demand (existing.Event settings) = []
+setting_clauses demand (existing.PublishSubscribe settings) =
+    marked_clauses (setting_rows demand.settings demand.marks settings)
+
+-- another pattern than publish-subscribe, or messages of which its own can't be
+abbrev pub misfit_of : Message → MessagingPattern → Option ServiceAvailabilityState
+misfit_of message (existing.Event settings) = Some (look.ServiceState state.IncompatibleMessagingPattern)
+misfit_of message (existing.PublishSubscribe settings) =
+    if compatible message settings.message_type_details then None else Some look.IncompatibleTypes
+
+abbrev pub open_error_of_refusal : OpenRefusal → PublishSubscribeOpenError
+open_error_of_refusal open_refusal.DoesNotExist = opening.DoesNotExist
+open_error_of_refusal open_refusal.IncompatibleAttributes = opening.IncompatibleAttributes
+open_error_of_refusal open_refusal.ServiceInCorruptedState = opening.ServiceInCorruptedState
+open_error_of_refusal open_refusal.InternalFailure = opening.InternalFailure
+open_error_of_refusal open_refusal.ExceedsMaxNumberOfNodes = opening.ExceedsMaxNumberOfNodes
+open_error_of_refusal open_refusal.IsMarkedForDestruction = opening.IsMarkedForDestruction
+open_error_of_refusal open_refusal.OutOfMemory = opening.OutOfMemory
+
+abbrev pub create_error_of_refusal : CreateRefusal → PublishSubscribeCreateError
+create_error_of_refusal create_refusal.ServiceInCorruptedState = creating.ServiceInCorruptedState
+create_error_of_refusal create_refusal.InternalFailure = creating.InternalFailure
+create_error_of_refusal create_refusal.IsBeingCreatedByAnotherInstance = creating.IsBeingCreatedByAnotherInstance
+create_error_of_refusal create_refusal.AlreadyExists = creating.AlreadyExists
+create_error_of_refusal create_refusal.InsufficientPermissions = creating.InsufficientPermissions
+create_error_of_refusal create_refusal.OutOfMemory = creating.OutOfMemory
+
+-- zeros become one where a service has to have room for somebody or something; a service may have no history
+abbrev pub publish_subscribe_adjusted : PublishSubscribeDemand → PublishSubscribeDemand
+publish_subscribe_adjusted demand = record demand {
+  settings = record demand.settings {
+    max_publishers = at_least_one demand.settings.max_publishers;
+    max_subscribers = at_least_one demand.settings.max_subscribers;
+    subscriber_max_buffer_size = at_least_one demand.settings.subscriber_max_buffer_size;
+    subscriber_max_borrowed_samples = at_least_one demand.settings.subscriber_max_borrowed_samples;
+    max_nodes = at_least_one demand.settings.max_nodes;
+  };
+}
+
+-- without safe overflow a subscriber's buffer has to have room for the history
+abbrev pub lacks_room_for_history : Settings → Bool
+lacks_room_for_history settings =
+    not settings.enable_safe_overflow && nat_lt settings.subscriber_max_buffer_size settings.history_size
+
+abbrev pub history_refusal_of : Settings → Option PublishSubscribeCreateError
+history_refusal_of settings =
+    if lacks_room_for_history settings then Some creating.SubscriberBufferMustBeLargerThanHistorySize else None
+
+-- what a create publishes with these settings and these types
+abbrev pub published_with : Settings → Message → MessagingPattern
+published_with settings message = existing.PublishSubscribe (record {
+  max_publishers = settings.max_publishers;
+  max_subscribers = settings.max_subscribers;
+  subscriber_max_buffer_size = settings.subscriber_max_buffer_size;
+  history_size = settings.history_size;
+  subscriber_max_borrowed_samples = settings.subscriber_max_borrowed_samples;
+  enable_safe_overflow = settings.enable_safe_overflow;
+  max_nodes = settings.max_nodes;
+  message_type_details = message;
+})
+
+abbrev pub publish_subscribe_meaning : PublishSubscribeDemand → Message
+    → Meaning ServiceAvailabilityState PublishSubscribeOpenError PublishSubscribeCreateError
+publish_subscribe_meaning demand message = record {
+  fault = λ state. look.ServiceState state;
+  misfit = λ d. misfit_of message d.pattern;
+  requirement = λ d. setting_clauses demand d.pattern;
+  open_error_of = publish_subscribe_open_error_of_state;
+  open_refusal = open_error_of_refusal;
+  create_error_of = publish_subscribe_create_error_of_state;
+  create_refusal = create_error_of_refusal;
+  history_refusal = history_refusal_of demand.settings;
+  needs_clock = false;
+  attributes = [];
+  published = λ now. published_with demand.settings message;
+}
+
+-- a create: zeros are raised, and these attributes are defined
+abbrev pub publish_subscribe_creating : PublishSubscribeDemand → Message → List Pair
+    → Meaning ServiceAvailabilityState PublishSubscribeOpenError PublishSubscribeCreateError
+publish_subscribe_creating demand message given =
+    defining given (publish_subscribe_meaning (publish_subscribe_adjusted demand) message)
+
+-- an open: these attributes are required before the settings, and the types by the look
+abbrev pub publish_subscribe_opening : PublishSubscribeDemand → Message → Requirements
+    → Meaning ServiceAvailabilityState PublishSubscribeOpenError PublishSubscribeCreateError
+publish_subscribe_opening demand message required = requiring required (publish_subscribe_meaning demand message)

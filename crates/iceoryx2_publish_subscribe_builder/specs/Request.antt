@@ -1,0 +1,88 @@
+-- What a builder of publish-subscribe holds.
+use Rattle.std.specs.Prelude.{ℕ, List, Option, Some, None, false, true, codes}
+use Rattle.iceoryx2_types.specs.Types.{Detail, Message, fixed_size, message_of, prepared, with_variant}
+use Rattle.iceoryx2_types.specs.declared.types.TypeVariant.TheVariants.{FixedSize}
+use Rattle.iceoryx2_values.specs.declared.config.PublishSubscribe.{PublishSubscribe as Settings}
+use Rattle.iceoryx2_publish_subscribe_builder.specs.declared.publish_subscribe.TheConstants.{LETTER}
+use Rattle.iceoryx2_publish_subscribe_builder.specs.declared.publish_subscribe.demand.Marks.{Marks}
+use Rattle.iceoryx2_publish_subscribe_builder.specs.declared.publish_subscribe.demand.PublishSubscribeDemand.{PublishSubscribeDemand}
+use Rattle.iceoryx2_publish_subscribe_builder.specs.declared.publish_subscribe.requested.RequestedTypes.{RequestedTypes}
+use Rattle.iceoryx2_publish_subscribe_builder.specs.declared.publish_subscribe.setting.PublishSubscribeSetting.{PublishSubscribeSetting}
+use Rattle.iceoryx2_publish_subscribe_builder.specs.declared.publish_subscribe.setting.PublishSubscribeSetting.TheVariants as set
+
+-- a builder of publish-subscribe, whatever its payload and its user header are
+pub record PublishSubscribeRequest : Type 0 where
+  pub node : ℕ
+  pub name : List ℕ
+  pub demand : PublishSubscribeDemand
+  pub types : RequestedTypes
+
+-- the letter of services of publish-subscribe
+abbrev pub letter_of_publish_subscribe : ℕ
+letter_of_publish_subscribe = LETTER
+
+-- the configured settings with nothing marked
+abbrev pub fresh_demand : Settings → PublishSubscribeDemand
+fresh_demand defaults = record {
+  settings = defaults;
+  marks = record {
+    max_publishers = false;
+    max_subscribers = false;
+    subscriber_max_buffer_size = false;
+    history_size = false;
+    subscriber_max_borrowed_samples = false;
+    enable_safe_overflow = false;
+    max_nodes = false;
+  };
+}
+
+-- each type is the message's own, and aligned as it is
+abbrev pub no_types : RequestedTypes
+no_types = record { user_header = None; payload = None; alignment = None }
+
+-- what a builder asks that no setter has changed
+abbrev pub fresh_request : ℕ → List ℕ → Settings → PublishSubscribeRequest
+fresh_request node name defaults =
+    record { node = node; name = name; demand = fresh_demand defaults; types = no_types }
+
+-- these settings, and these marks
+abbrev pub demanding : PublishSubscribeRequest → Settings → Marks → PublishSubscribeRequest
+demanding request settings marks = record request { demand = record { settings = settings; marks = marks } }
+
+-- The builder after one setter: a setting's value is set, and the setting is marked. The last three are no settings of
+-- the service, and mark nothing.
+abbrev pub with_setting : PublishSubscribeRequest → PublishSubscribeSetting → PublishSubscribeRequest
+with_setting r (set.MaxPublishers n) = demanding r
+    (record r.demand.settings { max_publishers = n })
+    (record r.demand.marks { max_publishers = true })
+with_setting r (set.MaxSubscribers n) = demanding r
+    (record r.demand.settings { max_subscribers = n })
+    (record r.demand.marks { max_subscribers = true })
+with_setting r (set.SubscriberMaxBufferSize n) = demanding r
+    (record r.demand.settings { subscriber_max_buffer_size = n })
+    (record r.demand.marks { subscriber_max_buffer_size = true })
+with_setting r (set.HistorySize n) = demanding r
+    (record r.demand.settings { history_size = n })
+    (record r.demand.marks { history_size = true })
+with_setting r (set.SubscriberMaxBorrowedSamples n) = demanding r
+    (record r.demand.settings { subscriber_max_borrowed_samples = n })
+    (record r.demand.marks { subscriber_max_borrowed_samples = true })
+with_setting r (set.EnableSafeOverflow b) = demanding r
+    (record r.demand.settings { enable_safe_overflow = b })
+    (record r.demand.marks { enable_safe_overflow = true })
+with_setting r (set.MaxNodes n) = demanding r
+    (record r.demand.settings { max_nodes = n })
+    (record r.demand.marks { max_nodes = true })
+with_setting r (set.PayloadAlignment n) = record r { types = record r.types { alignment = Some n } }
+with_setting r (set.PayloadType detail) = record r { types = record r.types { payload = Some detail } }
+with_setting r (set.UserHeaderType detail) = record r { types = record r.types { user_header = Some detail } }
+
+-- the header of each message that is published
+abbrev pub message_header : Detail
+message_header = fixed_size (codes "publish_subscribe::Header") 32 8
+
+-- the message of a payload and a user header, with what stands in their place and how far the payload is aligned
+abbrev pub message_for : (payload user_header : Detail) → RequestedTypes → Message
+message_for payload user_header types =
+    prepared (message_of message_header (with_variant user_header FixedSize) payload)
+    types.user_header types.payload types.alignment

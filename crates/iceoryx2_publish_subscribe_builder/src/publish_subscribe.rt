@@ -1,0 +1,380 @@
+//! The builder of services of publish-subscribe.
+
+ghost use Rattle.std.specs.Prelude.{◌≡◌, [], Ok};
+ghost use Rattle.iceoryx2_access.specs.Run.{Joins};
+ghost use Rattle.iceoryx2_attributes.specs.Requirements.{no_requirements};
+ghost use Rattle.iceoryx2_builder_base.specs.Builders.{IsBuilder};
+ghost use Rattle.iceoryx2_rounds.specs.Prepared.{IsCreateCall, IsOpenCall};
+ghost use Rattle.iceoryx2_types.specs.Types.{Message};
+ghost use Rattle.iceoryx2_values.specs.Span.{zero_span};
+ghost use Rattle.iceoryx2_publish_subscribe_builder.specs.PublishSubscribe.{publish_subscribe_creating};
+ghost use Rattle.iceoryx2_publish_subscribe_builder.specs.PublishSubscribe.{publish_subscribe_opening};
+ghost use Rattle.iceoryx2_publish_subscribe_builder.specs.Request.{fresh_request, letter_of_publish_subscribe};
+ghost use Rattle.iceoryx2_publish_subscribe_builder.specs.Request.{message_for, with_setting};
+
+pub mod demand;
+pub mod requested;
+pub mod setting;
+
+use crate::publish_subscribe::demand::{PreparedDemand, PublishSubscribeDemand};
+use crate::publish_subscribe::requested::RequestedTypes;
+pub use crate::publish_subscribe::setting::PublishSubscribeSetting;
+use iceoryx2_access::storage::Service;
+use iceoryx2_attributes::attribute::{AttributeSpecifier, AttributeVerifier};
+use iceoryx2_builder_base::base::BuilderWithServiceType;
+pub use iceoryx2_errors::error::{PublishSubscribeCreateError, PublishSubscribeOpenError};
+use iceoryx2_port_factory::port_factory::publish_subscribe::PortFactory;
+use iceoryx2_rounds::create::create;
+use iceoryx2_rounds::open::open;
+use iceoryx2_types::types::{
+    Alignment, CustomHeaderMarker, CustomPayloadMarker, Slice, TypeDetail, ZeroCopySend,
+};
+use iceoryx2_values::config;
+use iceoryx2_values::time::Time;
+use std::marker::{Model, PhantomData};
+
+/// The letter that stands before a name in the hash of a service of publish-subscribe.
+pub const LETTER: u8 = b'p';
+
+/// The letter is `p`.
+pub fn letter_is_p()
+    ensures { LETTER ≡ 112 }
+{}
+
+/// What holds of each builder of publish-subscribe, whatever the types of its messages.
+///
+/// Its meanings are regular, and with its adjusted settings a create publishes for one node or more,
+/// and what the same builder opens: it fits it and meets each setting that it requires, whatever
+/// attributes are defined.
+pub fn laws()
+    ensures { (demand : PublishSubscribeDemand) (message : Message)
+        → IsBuilder (publish_subscribe_creating demand message) (publish_subscribe_opening demand message) }
+{}
+
+/// A builder of a service of publish-subscribe with payloads `P` and user headers `U`.
+///
+/// A setter of a setting sets the value with which a service is created, and marks the setting, so
+/// that an existing service has to offer as much to be opened. The last value that is set stands.
+/// The types of the messages are no settings: an existing service's have to be those of the
+/// builder, with user header and payload aligned at least as far.
+pub struct Builder<P, U, S: Service> {
+    base: BuilderWithServiceType<S>,
+    demand: PublishSubscribeDemand,
+    types: RequestedTypes,
+    payload: PhantomData<P>,
+    user_header: PhantomData<U>,
+}
+
+impl<P, U, S: Service> Model for Builder<P, U, S> {
+    ghost use Rattle.iceoryx2_publish_subscribe_builder.specs.Request.{PublishSubscribeRequest};
+
+    ghost Value = { PublishSubscribeRequest };
+
+    ghost view = { λ builder. record {
+      node = builder.base.node;
+      name = builder.base.name;
+      demand = builder.demand;
+      types = builder.types;
+    } };
+}
+
+impl<P, U, S: Service> Drop for Builder<P, U, S> {
+    fn drop(self) {
+        let Builder {
+            base: _,
+            demand: _,
+            types: _,
+            payload: _,
+            user_header: _,
+        } = self;
+    }
+}
+
+impl<P: ZeroCopySend, S: Service> Builder<P, (), S> {
+    /// A builder with these settings, of which none is required, and with messages without a user
+    /// header.
+    pub fn new(base: BuilderWithServiceType<S>, defaults: config::PublishSubscribe) -> Self
+        ensures { result ≡ fresh_request base.node base.name defaults }
+    {
+        Builder::from_parts(
+            base,
+            PublishSubscribeDemand::start(defaults),
+            RequestedTypes::none(),
+        )
+    }
+}
+
+impl<S: Service> Builder<Slice<CustomPayloadMarker>, CustomHeaderMarker, S> {
+    /// Carries out one setter, by its name.
+    pub fn with(self, setting: PublishSubscribeSetting) -> Self
+        ensures { result ≡ with_setting self setting }
+    {
+        self.told(setting)
+    }
+}
+
+impl<U: ZeroCopySend, S: Service> Builder<Slice<CustomPayloadMarker>, U, S> {
+    /// The type that stands in place of the payload's marker.
+    pub fn internal_set_payload_type_details(self, value: TypeDetail) -> Self
+        ensures { result ≡ with_setting self (PublishSubscribeSetting.PayloadType value) }
+    {
+        self.told(PublishSubscribeSetting::PayloadType(value))
+    }
+}
+
+impl<P: ZeroCopySend, S: Service> Builder<P, CustomHeaderMarker, S> {
+    /// The type that stands in place of the user header's marker.
+    pub fn internal_set_user_header_type_details(self, value: TypeDetail) -> Self
+        ensures { result ≡ with_setting self (PublishSubscribeSetting.UserHeaderType value) }
+    {
+        self.told(PublishSubscribeSetting::UserHeaderType(value))
+    }
+}
+
+impl<P: ZeroCopySend, U: ZeroCopySend, S: Service> Builder<P, U, S> {
+    fn from_parts(
+        base: BuilderWithServiceType<S>,
+        demand: PublishSubscribeDemand,
+        types: RequestedTypes,
+    ) -> Self
+        ensures { result ≡ record { node = base.node; name = base.name; demand = demand; types = types } }
+    {
+        Builder {
+            base,
+            demand,
+            types,
+            payload: PhantomData,
+            user_header: PhantomData,
+        }
+    }
+
+    /// Carries out one setter, whatever the types are: sets the value, and marks a setting.
+    fn told(mut self, setting: PublishSubscribeSetting) -> Self
+        ensures { result ≡ with_setting self setting }
+    {
+        match setting {
+            PublishSubscribeSetting::MaxPublishers(value) => {
+                self.demand.settings.max_publishers = value;
+                self.demand.marks.max_publishers = true;
+            }
+            PublishSubscribeSetting::MaxSubscribers(value) => {
+                self.demand.settings.max_subscribers = value;
+                self.demand.marks.max_subscribers = true;
+            }
+            PublishSubscribeSetting::SubscriberMaxBufferSize(value) => {
+                self.demand.settings.subscriber_max_buffer_size = value;
+                self.demand.marks.subscriber_max_buffer_size = true;
+            }
+            PublishSubscribeSetting::HistorySize(value) => {
+                self.demand.settings.history_size = value;
+                self.demand.marks.history_size = true;
+            }
+            PublishSubscribeSetting::SubscriberMaxBorrowedSamples(value) => {
+                self.demand.settings.subscriber_max_borrowed_samples = value;
+                self.demand.marks.subscriber_max_borrowed_samples = true;
+            }
+            PublishSubscribeSetting::EnableSafeOverflow(value) => {
+                self.demand.settings.enable_safe_overflow = value;
+                self.demand.marks.enable_safe_overflow = true;
+            }
+            PublishSubscribeSetting::MaxNodes(value) => {
+                self.demand.settings.max_nodes = value;
+                self.demand.marks.max_nodes = true;
+            }
+            PublishSubscribeSetting::PayloadAlignment(value) => self.types.alignment = Some(value),
+            PublishSubscribeSetting::PayloadType(value) => self.types.payload = Some(value),
+            PublishSubscribeSetting::UserHeaderType(value) => self.types.user_header = Some(value),
+        }
+        self
+    }
+
+    /// For how many publishers the service is. Zero is one in a create.
+    pub fn max_publishers(self, value: u64) -> Self
+        ensures { result ≡ with_setting self (PublishSubscribeSetting.MaxPublishers value) }
+    {
+        self.told(PublishSubscribeSetting::MaxPublishers(value))
+    }
+
+    /// For how many subscribers the service is. Zero is one in a create.
+    pub fn max_subscribers(self, value: u64) -> Self
+        ensures { result ≡ with_setting self (PublishSubscribeSetting.MaxSubscribers value) }
+    {
+        self.told(PublishSubscribeSetting::MaxSubscribers(value))
+    }
+
+    /// How many samples a subscriber's buffer has room for. Zero is one in a create.
+    pub fn subscriber_max_buffer_size(self, value: u64) -> Self
+        ensures { result ≡ with_setting self (PublishSubscribeSetting.SubscriberMaxBufferSize value) }
+    {
+        self.told(PublishSubscribeSetting::SubscriberMaxBufferSize(value))
+    }
+
+    /// How many of the last samples a subscriber gets that comes later. Without safe overflow its
+    /// buffer has to have room for them.
+    pub fn history_size(self, value: u64) -> Self
+        ensures { result ≡ with_setting self (PublishSubscribeSetting.HistorySize value) }
+    {
+        self.told(PublishSubscribeSetting::HistorySize(value))
+    }
+
+    /// How many samples a subscriber may borrow at one time. Zero is one in a create.
+    pub fn subscriber_max_borrowed_samples(self, value: u64) -> Self
+        ensures { result ≡ with_setting self (PublishSubscribeSetting.SubscriberMaxBorrowedSamples value) }
+    {
+        self.told(PublishSubscribeSetting::SubscriberMaxBorrowedSamples(value))
+    }
+
+    /// Whether a full buffer's oldest sample gives way to a new one. An existing service has to do
+    /// the same.
+    pub fn enable_safe_overflow(self, value: bool) -> Self
+        ensures { result ≡ with_setting self (PublishSubscribeSetting.EnableSafeOverflow value) }
+    {
+        self.told(PublishSubscribeSetting::EnableSafeOverflow(value))
+    }
+
+    /// For how many nodes the service is. Zero is one in a create.
+    pub fn max_nodes(self, value: u64) -> Self
+        ensures { result ≡ with_setting self (PublishSubscribeSetting.MaxNodes value) }
+    {
+        self.told(PublishSubscribeSetting::MaxNodes(value))
+    }
+
+    /// How far the payload is aligned at least, in bytes; it stays aligned as far as its type says.
+    /// It marks no setting, and the last one that was asked stands.
+    pub fn payload_alignment(self, value: Alignment) -> Self
+        ensures { result ≡ with_setting self (PublishSubscribeSetting.PayloadAlignment value) }
+    {
+        self.told(PublishSubscribeSetting::PayloadAlignment(value))
+    }
+
+    /// The same builder for messages with another user header.
+    pub fn user_header<M: ZeroCopySend>(self) -> Builder<P, M, S>
+        ensures { result ≡ self }
+    {
+        let Builder {
+            base,
+            demand,
+            types,
+            payload: _,
+            user_header: _,
+        } = self;
+        Builder::from_parts(base, demand, types)
+    }
+
+    /// Creates the service without attributes: `create_with_attributes` of a specifier that
+    /// defines none.
+    pub fn create(
+        self,
+        storage: &mut S::Storage,
+    ) -> Result<PortFactory<S, P, U>, PublishSubscribeCreateError>
+        ensures { let message = message_for P.detail U.detail self.types in
+            Joins S.Storage.step storage.old
+            (λ word. IsCreateCall (publish_subscribe_creating self.demand message []) self.node
+            (S.ServiceNameHasher.hash_of letter_of_publish_subscribe self.name) self.name (Ok zero_span) word result)
+            storage.new }
+    {
+        let specifier = AttributeSpecifier::new(self.base.name().allocator());
+        self.create_with_attributes(&specifier, storage)
+    }
+
+    /// Creates the service with these attributes, with the settings as they are but for zeros,
+    /// which become one in all but the history, and with the prepared types.
+    ///
+    /// Refused with `OutOfMemory` where there was no memory for the types, with
+    /// `SubscriberBufferMustBeLargerThanHistorySize` where without safe overflow the buffer has less
+    /// room than the history wants, both before any access; with `AlreadyExists` where there is a
+    /// service, with `HangsInCreation` or `IsBeingCreatedByAnotherInstance` while another one
+    /// creates it, with `ServiceInCorruptedState` where what is there can't be used or not be
+    /// cleared away, with `InternalFailure` where the storage fails, and with
+    /// `InsufficientPermissions` or `OutOfMemory` as they say.
+    pub fn create_with_attributes(
+        self,
+        specifier: &AttributeSpecifier,
+        storage: &mut S::Storage,
+    ) -> Result<PortFactory<S, P, U>, PublishSubscribeCreateError>
+        ensures { let message = message_for P.detail U.detail self.types in
+            Joins S.Storage.step storage.old
+            (λ word. IsCreateCall (publish_subscribe_creating self.demand message specifier.now) self.node
+            (S.ServiceNameHasher.hash_of letter_of_publish_subscribe self.name) self.name (Ok zero_span) word result)
+            storage.new }
+    {
+        let Builder {
+            base,
+            demand,
+            types,
+            payload: _,
+            user_header: _,
+        } = self;
+        let Ok(message) = types.prepare::<P, U>(base.name().allocator()) else {
+            return Err(PublishSubscribeCreateError::OutOfMemory);
+        };
+        let mut asked = PreparedDemand { demand, message };
+        let hash = base.hash(LETTER);
+        let attributes = specifier.attributes();
+        let node = base.node();
+        let name = base.name();
+        let now = Ok(Time::default());
+        match create(&mut asked, node, &hash, name, attributes, now, storage) {
+            Ok(registration) => Ok(PortFactory::new(registration)),
+            Err(error) => Err(error),
+        }
+    }
+
+    /// Opens the service, whatever its attributes: `open_with_attributes` of a verifier that
+    /// requires none.
+    pub fn open(
+        self,
+        storage: &mut S::Storage,
+    ) -> Result<PortFactory<S, P, U>, PublishSubscribeOpenError>
+        ensures { let message = message_for P.detail U.detail self.types in
+            Joins S.Storage.step storage.old
+            (λ word. IsOpenCall (publish_subscribe_opening self.demand message no_requirements) self.node
+            (S.ServiceNameHasher.hash_of letter_of_publish_subscribe self.name) word result)
+            storage.new }
+    {
+        let verifier = AttributeVerifier::new(self.base.name().allocator());
+        self.open_with_attributes(&verifier, storage)
+    }
+
+    /// Opens the service, if its messages' types are those of the builder, it has the required
+    /// attributes and offers each marked setting. The factory carries the attributes, the settings
+    /// and the types with which the service was created.
+    ///
+    /// Refused with `OutOfMemory` where there was no memory for the types, before any access; with
+    /// `DoesNotExist` where there is no service, with `IncompatibleTypes` where its messages' types
+    /// are others, with `IncompatibleAttributes` where it lacks a required pair or has no value for
+    /// a required key, with the setting's error where it offers less than is required or another
+    /// overflow, with `ExceedsMaxNumberOfNodes` where no further node has room, with
+    /// `IsMarkedForDestruction` where the last node has left, with `HangsInCreation` while it is
+    /// created, with `ServiceInCorruptedState` where its description can't be read or the service is
+    /// replaced again and again, with `InternalFailure` where the storage fails, and with
+    /// `IncompatibleMessagingPattern`, `InsufficientPermissions` or `OutOfMemory` as they say.
+    pub fn open_with_attributes(
+        self,
+        verifier: &AttributeVerifier,
+        storage: &mut S::Storage,
+    ) -> Result<PortFactory<S, P, U>, PublishSubscribeOpenError>
+        ensures { let message = message_for P.detail U.detail self.types in
+            Joins S.Storage.step storage.old
+            (λ word. IsOpenCall (publish_subscribe_opening self.demand message verifier.now) self.node
+            (S.ServiceNameHasher.hash_of letter_of_publish_subscribe self.name) word result)
+            storage.new }
+    {
+        let Builder {
+            base,
+            demand,
+            types,
+            payload: _,
+            user_header: _,
+        } = self;
+        let Ok(message) = types.prepare::<P, U>(base.name().allocator()) else {
+            return Err(PublishSubscribeOpenError::OutOfMemory);
+        };
+        let asked = PreparedDemand { demand, message };
+        let hash = base.hash(LETTER);
+        match open(&asked, base.node(), &hash, verifier, storage) {
+            Ok(registration) => Ok(PortFactory::new(registration)),
+            Err(error) => Err(error),
+        }
+    }
+}

@@ -1,0 +1,263 @@
+//! What a builder of publish-subscribe asks, as the rounds see it.
+
+ghost use Rattle.std.specs.Prelude.{◌≡◌, drop};
+ghost use Rattle.iceoryx2_pattern.specs.Verdict.{verdict, marked_clauses};
+ghost use Rattle.iceoryx2_publish_subscribe_builder.specs.PublishSubscribe.{setting_rows};
+ghost use Rattle.iceoryx2_publish_subscribe_builder.specs.Request.{fresh_demand};
+
+use iceoryx2_builder_base::zeros::raised;
+use iceoryx2_errors::error::publish_subscribe::ServiceAvailabilityState;
+use iceoryx2_errors::error::{
+    PublishSubscribeCreateError, PublishSubscribeOpenError, ServiceState,
+};
+use iceoryx2_pattern::pattern::{CreateRefusal, OpenRefusal, Pattern};
+use iceoryx2_pattern::verdict::{need_at_least, need_flag};
+use iceoryx2_types::types::MessageTypeDetails;
+use iceoryx2_values::description::{MessagingPattern, StaticConfig};
+use iceoryx2_values::time::Time;
+use iceoryx2_values::{config, publish_subscribe};
+use std::alloc::AllocError;
+
+/// Which settings a builder of publish-subscribe requires.
+#[derive(Clone, Copy, Debug, PartialEq, Eq)]
+pub struct Marks {
+    pub max_publishers: bool,
+    pub max_subscribers: bool,
+    pub subscriber_max_buffer_size: bool,
+    pub history_size: bool,
+    pub subscriber_max_borrowed_samples: bool,
+    pub enable_safe_overflow: bool,
+    pub max_nodes: bool,
+}
+
+/// What a builder of publish-subscribe asks of a service: settings, and which of them it requires.
+#[derive(Clone, Copy, Debug, PartialEq, Eq)]
+pub struct PublishSubscribeDemand {
+    pub settings: config::PublishSubscribe,
+    pub marks: Marks,
+}
+
+impl PublishSubscribeDemand {
+    /// The configured settings, of which none is required.
+    pub(crate) fn start(defaults: config::PublishSubscribe) -> PublishSubscribeDemand
+        ensures { result ≡ fresh_demand defaults }
+    {
+        PublishSubscribeDemand {
+            settings: defaults,
+            marks: Marks {
+                max_publishers: false,
+                max_subscribers: false,
+                subscriber_max_buffer_size: false,
+                history_size: false,
+                subscriber_max_borrowed_samples: false,
+                enable_safe_overflow: false,
+                max_nodes: false,
+            },
+        }
+    }
+}
+
+/// What one call asks: settings, which of them are required, and the types of its messages as they
+/// were prepared.
+#[derive(Debug, Drop, PartialEq, Eq)]
+pub struct PreparedDemand {
+    pub demand: PublishSubscribeDemand,
+    pub message: MessageTypeDetails,
+}
+
+/// Whether the existing settings offer what is marked: first publishers, subscribers, buffer and
+/// history.
+#[tactic(auto, using(iceoryx2_pattern::proofs::Verdicts::row_decides, iceoryx2_pattern::proofs::Verdicts::no_row))]
+fn verify_settings(
+    demand: &PublishSubscribeDemand,
+    existing: &publish_subscribe::StaticConfig,
+) -> Result<(), PublishSubscribeOpenError>
+    ensures { result ≡ verdict (marked_clauses (setting_rows demand.now.settings demand.now.marks existing.now)) }
+{
+    let marks = &demand.marks;
+    let required = &demand.settings;
+    need_at_least(
+        marks.max_publishers,
+        existing.max_publishers,
+        required.max_publishers,
+        PublishSubscribeOpenError::DoesNotSupportRequestedAmountOfPublishers,
+    )?;
+    need_at_least(
+        marks.max_subscribers,
+        existing.max_subscribers,
+        required.max_subscribers,
+        PublishSubscribeOpenError::DoesNotSupportRequestedAmountOfSubscribers,
+    )?;
+    need_at_least(
+        marks.subscriber_max_buffer_size,
+        existing.subscriber_max_buffer_size,
+        required.subscriber_max_buffer_size,
+        PublishSubscribeOpenError::DoesNotSupportRequestedMinBufferSize,
+    )?;
+    need_at_least(
+        marks.history_size,
+        existing.history_size,
+        required.history_size,
+        PublishSubscribeOpenError::DoesNotSupportRequestedMinHistorySize,
+    )?;
+    verify_use(demand, existing)
+}
+
+/// Whether borrowed samples, overflow and nodes are as marked: the rows after the first four.
+#[tactic(auto, using(iceoryx2_pattern::proofs::Verdicts::row_decides, iceoryx2_pattern::proofs::Verdicts::no_row))]
+fn verify_use(
+    demand: &PublishSubscribeDemand,
+    existing: &publish_subscribe::StaticConfig,
+) -> Result<(), PublishSubscribeOpenError>
+    ensures { result ≡
+        verdict (marked_clauses (drop 4 (setting_rows demand.now.settings demand.now.marks existing.now))) }
+{
+    let marks = &demand.marks;
+    let required = &demand.settings;
+    need_at_least(
+        marks.subscriber_max_borrowed_samples,
+        existing.subscriber_max_borrowed_samples,
+        required.subscriber_max_borrowed_samples,
+        PublishSubscribeOpenError::DoesNotSupportRequestedMinSubscriberBorrowedSamples,
+    )?;
+    need_flag(
+        marks.enable_safe_overflow,
+        existing.enable_safe_overflow,
+        required.enable_safe_overflow,
+        PublishSubscribeOpenError::IncompatibleOverflowBehavior,
+    )?;
+    need_at_least(
+        marks.max_nodes,
+        existing.max_nodes,
+        required.max_nodes,
+        PublishSubscribeOpenError::DoesNotSupportRequestedAmountOfNodes,
+    )
+}
+
+impl Pattern for PreparedDemand {
+    ghost use Rattle.iceoryx2_publish_subscribe_builder.specs.PublishSubscribe.{publish_subscribe_meaning};
+    ghost use Rattle.iceoryx2_publish_subscribe_builder.specs.PublishSubscribe.{publish_subscribe_adjusted};
+
+    type Fault = ServiceAvailabilityState;
+
+    type OpenError = PublishSubscribeOpenError;
+
+    type CreateError = PublishSubscribeCreateError;
+
+    ghost meaning = { λ asked. publish_subscribe_meaning asked.demand asked.message };
+
+    ghost adjusted = { λ asked. record asked { demand = publish_subscribe_adjusted asked.demand } };
+
+    fn adjust(&mut self) {
+        let settings = &mut self.demand.settings;
+        settings.max_publishers = raised(settings.max_publishers);
+        settings.max_subscribers = raised(settings.max_subscribers);
+        settings.subscriber_max_buffer_size = raised(settings.subscriber_max_buffer_size);
+        settings.subscriber_max_borrowed_samples = raised(settings.subscriber_max_borrowed_samples);
+        settings.max_nodes = raised(settings.max_nodes);
+    }
+
+    fn fault(&self, state: ServiceState) -> ServiceAvailabilityState {
+        ServiceAvailabilityState::ServiceState(state)
+    }
+
+    fn misfit(&self, existing: &StaticConfig) -> Option<ServiceAvailabilityState> {
+        match existing.messaging_pattern() {
+            MessagingPattern::PublishSubscribe(settings) => {
+                if self
+                    .message
+                    .is_compatible_to(&settings.message_type_details)
+                {
+                    None
+                } else {
+                    Some(ServiceAvailabilityState::IncompatibleTypes)
+                }
+            }
+            MessagingPattern::Event(_) => Some(ServiceAvailabilityState::ServiceState(
+                ServiceState::IncompatibleMessagingPattern,
+            )),
+        }
+    }
+
+    fn verify(&self, existing: &StaticConfig) -> Result<(), PublishSubscribeOpenError> {
+        match existing.messaging_pattern() {
+            MessagingPattern::PublishSubscribe(settings) => verify_settings(&self.demand, settings),
+            MessagingPattern::Event(_) => Ok(()),
+        }
+    }
+
+    fn open_error_of(&self, fault: ServiceAvailabilityState) -> PublishSubscribeOpenError {
+        PublishSubscribeOpenError::from(fault)
+    }
+
+    fn open_refusal(&self, refusal: OpenRefusal) -> PublishSubscribeOpenError {
+        match refusal {
+            OpenRefusal::DoesNotExist => PublishSubscribeOpenError::DoesNotExist,
+            OpenRefusal::IncompatibleAttributes => {
+                PublishSubscribeOpenError::IncompatibleAttributes
+            }
+            OpenRefusal::ServiceInCorruptedState => {
+                PublishSubscribeOpenError::ServiceInCorruptedState
+            }
+            OpenRefusal::InternalFailure => PublishSubscribeOpenError::InternalFailure,
+            OpenRefusal::ExceedsMaxNumberOfNodes => {
+                PublishSubscribeOpenError::ExceedsMaxNumberOfNodes
+            }
+            OpenRefusal::IsMarkedForDestruction => {
+                PublishSubscribeOpenError::IsMarkedForDestruction
+            }
+            OpenRefusal::OutOfMemory => PublishSubscribeOpenError::OutOfMemory,
+        }
+    }
+
+    fn create_error_of(&self, fault: ServiceAvailabilityState) -> PublishSubscribeCreateError {
+        PublishSubscribeCreateError::from(fault)
+    }
+
+    fn create_refusal(&self, refusal: CreateRefusal) -> PublishSubscribeCreateError {
+        match refusal {
+            CreateRefusal::ServiceInCorruptedState => {
+                PublishSubscribeCreateError::ServiceInCorruptedState
+            }
+            CreateRefusal::InternalFailure => PublishSubscribeCreateError::InternalFailure,
+            CreateRefusal::IsBeingCreatedByAnotherInstance => {
+                PublishSubscribeCreateError::IsBeingCreatedByAnotherInstance
+            }
+            CreateRefusal::AlreadyExists => PublishSubscribeCreateError::AlreadyExists,
+            CreateRefusal::InsufficientPermissions => {
+                PublishSubscribeCreateError::InsufficientPermissions
+            }
+            CreateRefusal::OutOfMemory => PublishSubscribeCreateError::OutOfMemory,
+        }
+    }
+
+    fn history_refusal(&self) -> Option<PublishSubscribeCreateError> {
+        let settings = &self.demand.settings;
+        if !settings.enable_safe_overflow
+            && settings.subscriber_max_buffer_size < settings.history_size
+        {
+            Some(PublishSubscribeCreateError::SubscriberBufferMustBeLargerThanHistorySize)
+        } else {
+            None
+        }
+    }
+
+    fn needs_clock(&self) -> bool {
+        false
+    }
+
+    fn published(&self, now: Time) -> Result<MessagingPattern, AllocError> {
+        let _ = now;
+        let settings = &self.demand.settings;
+        Ok(MessagingPattern::PublishSubscribe(publish_subscribe::StaticConfig {
+            max_publishers: settings.max_publishers,
+            max_subscribers: settings.max_subscribers,
+            subscriber_max_buffer_size: settings.subscriber_max_buffer_size,
+            history_size: settings.history_size,
+            subscriber_max_borrowed_samples: settings.subscriber_max_borrowed_samples,
+            enable_safe_overflow: settings.enable_safe_overflow,
+            max_nodes: settings.max_nodes,
+            message_type_details: self.message.clone()?,
+        }))
+    }
+}
