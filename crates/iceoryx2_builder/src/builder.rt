@@ -5,10 +5,17 @@ ghost use Rattle.iceoryx2_builder_base.specs.Builders.{IsBuilder};
 ghost use Rattle.iceoryx2_event_builder.specs.Event.{event_creating, event_opening};
 ghost use Rattle.iceoryx2_event_builder.specs.Request.{fresh_request};
 ghost use Rattle.iceoryx2_event_builder.specs.declared.event.demand.EventDemand.{EventDemand};
+ghost use Rattle.iceoryx2_types.specs.Types.{Message};
+ghost use Rattle.iceoryx2_publish_subscribe_builder.specs.PublishSubscribe.{publish_subscribe_creating};
+ghost use Rattle.iceoryx2_publish_subscribe_builder.specs.PublishSubscribe.{publish_subscribe_opening};
+ghost use Rattle.iceoryx2_publish_subscribe_builder.specs.Request.{fresh_request as fresh_publish_subscribe};
+ghost use Rattle.iceoryx2_publish_subscribe_builder.specs.declared.publish_subscribe.demand.PublishSubscribeDemand.{PublishSubscribeDemand};
 
 use iceoryx2_access::storage::Service;
 use iceoryx2_builder_base::base::BuilderWithServiceType;
 pub use iceoryx2_event_builder::event;
+pub use iceoryx2_publish_subscribe_builder::publish_subscribe;
+use iceoryx2_types::types::ZeroCopySend;
 use iceoryx2_values::config::Config;
 use iceoryx2_values::description::ServiceName;
 use std::marker::{Model, PhantomData};
@@ -120,6 +127,23 @@ impl<S: Service> Builder<S> {
         let base = BuilderWithServiceType::new(node, name);
         event::Builder::new(base, config.event)
     }
+
+    /// A builder of a service of publish-subscribe whose messages have this payload and no user
+    /// header, with the node's settings, of which none is required.
+    pub fn publish_subscribe<P: ZeroCopySend>(self) -> publish_subscribe::Builder<P, (), S>
+        ensures { result ≡ fresh_publish_subscribe self.node self.name self.config.publish_subscribe }
+    {
+        let Builder {
+            node,
+            config,
+            name,
+            service: _,
+        } = self;
+        publish_subscribe::Builder::new(
+            BuilderWithServiceType::new(node, name),
+            config.publish_subscribe,
+        )
+    }
 }
 
 /// What holds of the builders of each pattern, whatever they ask and whatever the clock says.
@@ -128,6 +152,9 @@ impl<S: Service> Builder<S> {
 /// what fits it and meets each setting that it requires, whatever attributes are defined.
 pub fn laws()
     ensures events { (demand : EventDemand) → IsBuilder (event_creating demand) (event_opening demand) }
+    ensures publish_subscribe { (demand : PublishSubscribeDemand) (message : Message)
+        → IsBuilder (publish_subscribe_creating demand message) (publish_subscribe_opening demand message) }
 {
     event::laws();
+    publish_subscribe::laws();
 }
