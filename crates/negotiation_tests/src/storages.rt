@@ -1,5 +1,5 @@
 //! Calls over storages that answer from a list, and over tables behind refused accesses.
 
 mod faults;
-mod scripts;
+pub mod scripts;
 mod support;

@@ -17,7 +17,7 @@ use std::alloc::Global;
 use std::process::Abort;
 
 /// What is told of a type: its variant, its name, its size and its alignment.
-type Told<'a> = (TypeVariant, &'a str, u64, u64);
+pub type Told<'a> = (TypeVariant, &'a str, u64, u64);
 
 /// What each type says of itself.
 const TYPES: [Told<'static>; 22] = [
@@ -131,7 +131,7 @@ fn told(detail: &TypeDetail) -> Told {
 }
 
 /// Whether this is told of a message's header, user header and payload.
-fn consists_of(message: &MessageTypeDetails, wanted: [Told; 3]) -> bool {
+pub fn consists_of(message: &MessageTypeDetails, wanted: [Told; 3]) -> bool {
     let found = [
         told(message.header()),
         told(message.user_header()),
@@ -163,7 +163,7 @@ fn a_message_holds_what_its_types_say(rt: HostRuntime) {
 }
 
 /// The details of a type.
-fn detail(rt: &impl Abort, alloc: Global, told: Told) -> TypeDetail {
+pub fn detail(rt: &impl Abort, alloc: Global, told: Told) -> TypeDetail {
     let (variant, name, size, alignment) = told;
     match TypeDetail::new(alloc, variant, name, size, alignment) {
         Ok(detail) => detail,

@@ -28,7 +28,7 @@ const DAMAGED: &str = "494f583201c3499c2729730a7f807efb8676a92dcb6f8a3f8f0006";
 
 /// What one access answers, with hexadecimal digits in place of a description's bytes.
 #[derive(Clone, Copy)]
-enum AccessAnswer {
+pub enum AccessAnswer {
     Exists(Existence),
     Fetch(Result<(u64, &'static str), FetchError>),
     Counts(bool),
@@ -43,7 +43,7 @@ enum AccessAnswer {
 }
 
 /// Answers in their order, in parts.
-type Parts = &'static [&'static [AccessAnswer]];
+pub type Parts = &'static [&'static [AccessAnswer]];
 
 /// The script's answer.
 fn answer(rt: &impl Abort, alloc: Global, answer: AccessAnswer) -> script::Answer {
@@ -78,7 +78,7 @@ fn push_all(
 }
 
 /// The script of these answers.
-fn script(rt: &impl Abort, alloc: Global, parts: Parts) -> Script {
+pub fn script(rt: &impl Abort, alloc: Global, parts: Parts) -> Script {
     let mut answers = Vec::new(alloc);
     for part in parts {
         push_all(rt, alloc, &mut answers, part);
@@ -87,7 +87,7 @@ fn script(rt: &impl Abort, alloc: Global, parts: Parts) -> Script {
 }
 
 /// How many looks, openings and makings a script was asked for.
-type Counters = (u64, u64, u64);
+pub type Counters = (u64, u64, u64);
 
 /// The counters of a script of which a call asked that answers this, and how many answers are left.
 fn counters_of(

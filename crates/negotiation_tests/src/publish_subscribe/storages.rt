@@ -1,0 +1,221 @@
+//! Calls over storages that answer from a list, and over a table at which a peer's steps wait.
+
+use crate::publish_subscribe::support::Ask::*;
+use crate::publish_subscribe::support::*;
+use crate::storages::scripts::AccessAnswer::*;
+use crate::storages::scripts::{Counters, Parts, script};
+use iceoryx2_access::storage::{Existence, Tag};
+use iceoryx2_attributes::attribute::AttributeSet;
+use iceoryx2_errors::error::{PublishSubscribeCreateError, PublishSubscribeOpenError};
+use iceoryx2_script::script::{Script, Scripted};
+use iceoryx2_storage::local::Local;
+use iceoryx2_storage::table::{Act, Step};
+use iceoryx2_types::types::{MessageTypeDetails, TypeVariant};
+use iceoryx2_values::description::{MessagingPattern, ServiceHash, StaticConfig};
+use iceoryx2_values::publish_subscribe;
+use std::alloc::Global;
+use std::process::Abort;
+
+/// The service of these tests with the default settings, but for no node, as other programs write it,
+/// in hexadecimal digits.
+const FOR_NO_NODE: &str = "494f5832015fa253adf3bd935e11ffb7e02778106a71533f98000678616d706c65000002\
+                           0000000000000002000000000000000800000000000000020000000000000000\
+                           0000000000000002010000000000000000\
+                           0000197075626c6973685f7375627363726962653a3a48656164657200000000000000200000000000000008\
+                           000012437573746f6d4865616465724d61726b657200000000000000000000000000000001\
+                           010013437573746f6d5061796c6f61644d61726b657200000000000000010000000000000001";
+
+/// The same for 20 nodes, with the messages of another program.
+const OTHER_TYPES: &str = "494f5832015fa253adf3bd935e11ffb7e02778106a71533f98000678616d706c65000002\
+                           0000000000000002000000000000000800000000000000020000000000000000\
+                           0000000000000002010000000000000014\
+                           0000197075626c6973685f7375627363726962653a3a48656164657200000000000000200000000000000008\
+                           00000228290000000000000000000000000000000101000369363400000000000000080000000000000008";
+
+/// Events under the same hash.
+const EVENTS: &str = "494f5832015fa253adf3bd935e11ffb7e02778106a71533f98000678616d706c65000001\
+                      0000000000000010000000000000001000000000000000ff000000000000002400000000";
+
+/// The counters of a script, and how many answers are left of it.
+fn counters(script: &Script) -> (Counters, usize) {
+    let counters = (script.looks(), script.openings(), script.makings());
+    (counters, script.left().len())
+}
+
+/// Scripts, what is asked, what an open over them answers, their counters, and how many answers are left.
+const OPENS: &[(
+    Parts,
+    Asks,
+    Result<Given, PublishSubscribeOpenError>,
+    Counters,
+    usize,
+)] = &[
+    // what is for no node meets who asks for none
+    (
+        &[&[
+            Exists(Existence::Yes),
+            Fetch(Ok((3, FOR_NO_NODE))),
+            MakeTag(Tag::Made),
+            OpenSegment(Ok(8)),
+        ]],
+        &[Nodes(0)],
+        Ok((3, [2, 8, 2, 0, 2, 0], true, 1)),
+        (1, 1, 0),
+        0,
+    ),
+    (
+        &[&[Exists(Existence::Yes), Fetch(Ok((3, FOR_NO_NODE)))]],
+        &[Nodes(1)],
+        Err(PublishSubscribeOpenError::DoesNotSupportRequestedAmountOfNodes),
+        (1, 0, 0),
+        0,
+    ),
+    // other types, and another pattern
+    (
+        &[&[Exists(Existence::Yes), Fetch(Ok((3, OTHER_TYPES)))]],
+        &[],
+        Err(PublishSubscribeOpenError::IncompatibleTypes),
+        (1, 0, 0),
+        0,
+    ),
+    (
+        &[&[Exists(Existence::Yes), Fetch(Ok((3, EVENTS)))]],
+        &[],
+        Err(PublishSubscribeOpenError::IncompatibleMessagingPattern),
+        (1, 0, 0),
+        0,
+    ),
+];
+
+/// What an open over a script answers, its counters, and how many answers are left.
+fn opened(
+    rt: &impl Abort,
+    alloc: Global,
+    parts: Parts,
+    asks: &[Ask],
+) -> (Result<Given, PublishSubscribeOpenError>, (Counters, usize)) {
+    let mut script = script(rt, alloc, parts);
+    let answer = open::<Scripted>(rt, alloc, &mut script, 1, asks);
+    (answer, counters(&script))
+}
+
+#[test]
+fn an_open_fits_what_it_reads(rt: HostRuntime) {
+    for (row, &(parts, asks, wanted, counters, left)) in OPENS.iter().enumerate() {
+        let found = opened(&rt, rt.alloc(), parts, asks);
+        assert_same(&rt, (row, found), (row, (wanted, (counters, left))));
+    }
+}
+
+/// Scripts of a service that is there, with other types and of another pattern.
+const THERE: &[Parts] = &[
+    &[&[Exists(Existence::Yes), Fetch(Ok((3, OTHER_TYPES)))]],
+    &[&[Exists(Existence::Yes), Fetch(Ok((3, EVENTS)))]],
+];
+
+/// What a create over a script answers, its counters, and how many answers are left.
+fn created(
+    rt: &impl Abort,
+    alloc: Global,
+    parts: Parts,
+) -> (
+    Result<Given, PublishSubscribeCreateError>,
+    (Counters, usize),
+) {
+    let mut script = script(rt, alloc, parts);
+    let answer = create::<Scripted>(rt, alloc, &mut script, 1, &[]);
+    (answer, counters(&script))
+}
+
+#[test]
+fn a_create_finds_what_is_there(rt: HostRuntime) {
+    for (row, &parts) in THERE.iter().enumerate() {
+        let found = created(&rt, rt.alloc(), parts);
+        let wanted = Err(PublishSubscribeCreateError::AlreadyExists);
+        assert_same(&rt, (row, found), (row, (wanted, ((1, 0, 0), 0))));
+    }
+}
+
+/// The hash of the service of these tests, as other programs make it.
+const SERVICE: ServiceHash = ServiceHash([
+    0x5f, 0xa2, 0x53, 0xad, 0xf3, 0xbd, 0x93, 0x5e, 0x11, 0xff, 0xb7, 0xe0, 0x27, 0x78, 0x10, 0x6a,
+    0x71, 0x53, 0x3f, 0x98,
+]);
+
+/// What that service's messages are made of.
+fn messages(rt: &impl Abort, alloc: Global) -> MessageTypeDetails {
+    let header = (TypeVariant::FixedSize, "publish_subscribe::Header", 32, 8);
+    let user_header = (TypeVariant::FixedSize, "CustomHeaderMarker", 0, 1);
+    let payload = (TypeVariant::Dynamic, "CustomPayloadMarker", 1, 1);
+    MessageTypeDetails::new(
+        detail(rt, alloc, header),
+        detail(rt, alloc, user_header),
+        detail(rt, alloc, payload),
+    )
+}
+
+/// Its description, with the default settings.
+fn described(rt: &impl Abort, alloc: Global) -> StaticConfig {
+    let settings = publish_subscribe::StaticConfig {
+        max_publishers: 2,
+        max_subscribers: 8,
+        subscriber_max_buffer_size: 2,
+        history_size: 0,
+        subscriber_max_borrowed_samples: 2,
+        enable_safe_overflow: true,
+        max_nodes: 20,
+        message_type_details: messages(rt, alloc),
+    };
+    let pattern = MessagingPattern::PublishSubscribe(settings);
+    let name = name(rt, alloc, "xample");
+    StaticConfig::new(SERVICE, name, AttributeSet::new(alloc), pattern)
+}
+
+/// A peer's steps.
+fn steps(rt: &impl Abort, alloc: Global, leaves: bool) -> Vec<Step> {
+    let mut acts = Vec::new(alloc);
+    push(rt, &mut acts, Act::Lock);
+    push(rt, &mut acts, Act::Make { max_nodes: 20 });
+    push(rt, &mut acts, Act::Publish(described(rt, alloc)));
+    if leaves {
+        push(rt, &mut acts, Act::Leave);
+    }
+    let mut steps = Vec::new(alloc);
+    for act in acts {
+        let step = Step {
+            peer: 7,
+            hash: SERVICE,
+            act,
+        };
+        push(rt, &mut steps, step);
+    }
+    steps
+}
+
+/// What an open answers where a peer has created the service, and has left it or not; and how many steps
+/// found no memory.
+fn opened_beside(
+    rt: &impl Abort,
+    alloc: Global,
+    leaves: bool,
+) -> (Result<Given, PublishSubscribeOpenError>, u64) {
+    let mut batches = Vec::new(alloc);
+    push(rt, &mut batches, steps(rt, alloc, leaves));
+    let mut table = table_from(alloc, 0);
+    table.schedule(batches);
+    let answer = open::<Local>(rt, alloc, &mut table, 1, &[]);
+    let skipped = table.skipped();
+    drop_table(table);
+    (answer, skipped)
+}
+
+#[test]
+fn what_a_peer_has_left_is_not_opened(rt: HostRuntime) {
+    let found = [
+        opened_beside(&rt, rt.alloc(), false),
+        opened_beside(&rt, rt.alloc(), true),
+    ];
+    let marked = Err(PublishSubscribeOpenError::IsMarkedForDestruction);
+    let wanted = [(Ok((0, DEFAULTS, true, 1)), 0), (marked, 0)];
+    assert_same(&rt, found, wanted);
+}

@@ -1,0 +1,186 @@
+//! Calls for one service of publish-subscribe, and what they answer. A call of the layer stands here
+//! alone, in a function without a contract, so that a test sees answers and no contracts.
+
+pub use crate::support::{
+    Pairs, assert_same, drop_table, listed, name, push, specifier, table_from, verifier,
+};
+pub use crate::types::{Told, consists_of, detail};
+use iceoryx2_access::storage::Service;
+use iceoryx2_builder::builder::Node;
+use iceoryx2_builder::builder::publish_subscribe::{Builder, PublishSubscribeSetting};
+use iceoryx2_errors::error::{PublishSubscribeCreateError, PublishSubscribeOpenError};
+use iceoryx2_port_factory::port_factory::publish_subscribe::PortFactory;
+use iceoryx2_types::types::{
+    Alignment, CustomHeaderMarker, CustomPayloadMarker, Slice, TypeVariant, ZeroCopySend,
+};
+use iceoryx2_values::config::Config;
+use std::alloc::Global;
+use std::process::Abort;
+
+/// What is asked of a builder.
+#[derive(Clone, Copy, Debug, PartialEq, Eq)]
+pub enum Ask {
+    Publishers(u64),
+    Subscribers(u64),
+    Buffer(u64),
+    History(u64),
+    Borrowed(u64),
+    Overflow(bool),
+    Nodes(u64),
+    Alignment(u64),
+    Payload(Told<'static>),
+    UserHeader(Told<'static>),
+}
+
+/// What each of a list asks.
+pub type Asks = &'static [Ask];
+
+/// What is told of `i64`, and of a number of them.
+pub const I64: Told<'static> = (TypeVariant::FixedSize, "i64", 8, 8);
+
+pub const SLICE: Told<'static> = (TypeVariant::Dynamic, "i64", 8, 8);
+
+/// What is told of `u32`.
+pub const U32: Told<'static> = (TypeVariant::FixedSize, "u32", 4, 4);
+
+/// The numbers of the default settings, in their order.
+pub const DEFAULTS: [u64; 6] = [2, 8, 2, 0, 2, 20];
+
+/// An alignment.
+pub fn alignment(rt: &impl Abort, value: u64) -> Alignment {
+    match Alignment::new(value) {
+        Some(alignment) => alignment,
+        None => panic!(rt; "no alignment"),
+    }
+}
+
+/// The setter that an ask means.
+fn setting(rt: &impl Abort, alloc: Global, ask: Ask) -> PublishSubscribeSetting {
+    match ask {
+        Ask::Publishers(value) => PublishSubscribeSetting::MaxPublishers(value),
+        Ask::Subscribers(value) => PublishSubscribeSetting::MaxSubscribers(value),
+        Ask::Buffer(value) => PublishSubscribeSetting::SubscriberMaxBufferSize(value),
+        Ask::History(value) => PublishSubscribeSetting::HistorySize(value),
+        Ask::Borrowed(value) => PublishSubscribeSetting::SubscriberMaxBorrowedSamples(value),
+        Ask::Overflow(value) => PublishSubscribeSetting::EnableSafeOverflow(value),
+        Ask::Nodes(value) => PublishSubscribeSetting::MaxNodes(value),
+        Ask::Alignment(value) => PublishSubscribeSetting::PayloadAlignment(alignment(rt, value)),
+        Ask::Payload(told) => PublishSubscribeSetting::PayloadType(detail(rt, alloc, told)),
+        Ask::UserHeader(told) => PublishSubscribeSetting::UserHeaderType(detail(rt, alloc, told)),
+    }
+}
+
+/// The builder of this node for the service of these tests, with this payload.
+pub fn builder<P: ZeroCopySend, S: Service>(
+    rt: &impl Abort,
+    alloc: Global,
+    node: u64,
+) -> Builder<P, (), S> {
+    let node = Node::<S>::new(node, Config::default());
+    let builder = node.service_builder(name(rt, alloc, "xample"));
+    builder.publish_subscribe::<P>()
+}
+
+/// The builder of this node that is told what is asked, with markers in place of types.
+pub fn asking<S: Service>(
+    rt: &impl Abort,
+    alloc: Global,
+    node: u64,
+    asks: &[Ask],
+) -> Builder<Slice<CustomPayloadMarker>, CustomHeaderMarker, S> {
+    let builder = builder::<Slice<CustomPayloadMarker>, S>(rt, alloc, node);
+    let mut builder = builder.user_header::<CustomHeaderMarker>();
+    for ask in asks {
+        builder = builder.with(setting(rt, alloc, *ask));
+    }
+    builder
+}
+
+/// What a call gives: the service's number, the numbers of its settings, whether it overflows safely, and
+/// how far its payload is aligned.
+pub type Given = (u64, [u64; 6], bool, u64);
+
+/// What a factory tells.
+pub fn told<S: Service, P, U>(factory: &PortFactory<S, P, U>) -> Given {
+    let settings = factory.static_config();
+    let numbers = [
+        settings.max_publishers,
+        settings.max_subscribers,
+        settings.subscriber_max_buffer_size,
+        settings.history_size,
+        settings.subscriber_max_borrowed_samples,
+        settings.max_nodes,
+    ];
+    let alignment = settings.message_type_details.payload().alignment();
+    (
+        factory.number(),
+        numbers,
+        settings.enable_safe_overflow,
+        alignment,
+    )
+}
+
+/// Spends a factory without an access, and tells what it gives.
+pub fn given<S: Service, P, U>(factory: PortFactory<S, P, U>) -> Given {
+    let given = told(&factory);
+    factory.abandon();
+    given
+}
+
+/// What a create with these attributes answers.
+pub fn create_with<S: Service>(
+    rt: &impl Abort,
+    alloc: Global,
+    storage: &mut S::Storage,
+    (node, asks): (u64, &[Ask]),
+    pairs: Pairs,
+) -> Result<Given, PublishSubscribeCreateError> {
+    let builder = asking::<S>(rt, alloc, node, asks);
+    match builder.create_with_attributes(&specifier(alloc, pairs), storage) {
+        Ok(factory) => Ok(given(factory)),
+        Err(error) => Err(error),
+    }
+}
+
+/// What an open that requires these pairs and keys answers.
+pub fn open_with<S: Service>(
+    rt: &impl Abort,
+    alloc: Global,
+    storage: &mut S::Storage,
+    (node, asks): (u64, &[Ask]),
+    (pairs, keys): (Pairs, &[&str]),
+) -> Result<Given, PublishSubscribeOpenError> {
+    let builder = asking::<S>(rt, alloc, node, asks);
+    match builder.open_with_attributes(&verifier(alloc, pairs, keys), storage) {
+        Ok(factory) => Ok(given(factory)),
+        Err(error) => Err(error),
+    }
+}
+
+/// What a create without attributes answers.
+pub fn create<S: Service>(
+    rt: &impl Abort,
+    alloc: Global,
+    storage: &mut S::Storage,
+    node: u64,
+    asks: &[Ask],
+) -> Result<Given, PublishSubscribeCreateError> {
+    match asking::<S>(rt, alloc, node, asks).create(storage) {
+        Ok(factory) => Ok(given(factory)),
+        Err(error) => Err(error),
+    }
+}
+
+/// What an open without requirements of attributes answers.
+pub fn open<S: Service>(
+    rt: &impl Abort,
+    alloc: Global,
+    storage: &mut S::Storage,
+    node: u64,
+    asks: &[Ask],
+) -> Result<Given, PublishSubscribeOpenError> {
+    match asking::<S>(rt, alloc, node, asks).open(storage) {
+        Ok(factory) => Ok(given(factory)),
+        Err(error) => Err(error),
+    }
+}
