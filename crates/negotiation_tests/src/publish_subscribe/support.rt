@@ -32,12 +32,13 @@ pub enum Ask {
     UserHeader(Told<'static>),
 }
 
-/// What each of a list asks.
+/// What is asked of a builder, one after the other.
 pub type Asks = &'static [Ask];
 
-/// What is told of `i64`, and of a number of them.
+/// What is told of one `i64`.
 pub const I64: Told<'static> = (TypeVariant::FixedSize, "i64", 8, 8);
 
+/// What is told of a number of them.
 pub const SLICE: Told<'static> = (TypeVariant::Dynamic, "i64", 8, 8);
 
 /// What is told of `u32`.
