@@ -1,6 +1,7 @@
 pub mod Places
 pub mod SlotLists
 pub mod Patterns
+pub mod Timeless
 pub mod Setters
 pub mod Commands
 pub mod Prepared

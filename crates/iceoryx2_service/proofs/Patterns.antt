@@ -1,15 +1,20 @@
 -- What the builder calls of all patterns have in common.
 use Rattle.std.proofs.Common.{ℕ, List}
 use Rattle.iceoryx2_values.specs.declared.config.Config.{Config}
-use Rattle.iceoryx2_event_builder.specs.Request.{EventRequest, fresh_request, with_setting}
+use Rattle.iceoryx2_event_builder.specs.Request.{EventRequest}
+use Rattle.iceoryx2_event_builder.specs.Request as event
+use Rattle.iceoryx2_publish_subscribe_builder.specs.Request.{PublishSubscribeRequest}
+use Rattle.iceoryx2_publish_subscribe_builder.specs.Request as publish_subscribe
 use Rattle.iceoryx2_attributes.specs.Requirements.{Requirements}
 use Rattle.iceoryx2_pattern.specs.Regular.{IsRegular, TakesNodes}
 use Rattle.iceoryx2_event_builder.proofs.Builders.{event_builder}
+use Rattle.iceoryx2_publish_subscribe_builder.proofs.Builders.{publish_subscribe_builder}
 use Rattle.iceoryx2_service.specs.declared.command.Settings.{Settings}
 use Rattle.iceoryx2_service.specs.declared.command.Settings.TheVariants as settings
 use Rattle.iceoryx2_service.specs.BuilderCalls.{BuilderCall}
 use Rattle.iceoryx2_service.specs.Setters.{with_settings}
 use Rattle.iceoryx2_service.specs.Events.{event_call}
+use Rattle.iceoryx2_service.specs.PublishSubscribe.{publish_subscribe_call, named_message}
 use Rattle.iceoryx2_service.specs.declared.command.Call.{Call}
 use Rattle.iceoryx2_service.specs.Patterns.{call_by, builder_call}
 
@@ -26,9 +31,18 @@ event_call_is_regular b attributes = record {
   takes_nodes = (event_builder b.demand).takes_nodes attributes.pairs;
 }
 
+publish_subscribe_call_is_regular : (b : PublishSubscribeRequest) (attributes : Requirements) → IsRegularCall (publish_subscribe_call b attributes)
+publish_subscribe_call_is_regular b attributes = record {
+  creating = (publish_subscribe_builder b.demand (named_message b)).creating_is_regular attributes.pairs;
+  opening = (publish_subscribe_builder b.demand (named_message b)).opening_is_regular attributes;
+  takes_nodes = (publish_subscribe_builder b.demand (named_message b)).takes_nodes attributes.pairs;
+}
+
 -- one row a pattern
 regular_by : (config : Config) (node : ℕ) (name : List ℕ) (attributes : Requirements) (settings : Settings) → IsRegularCall (call_by config node name attributes settings)
-regular_by config node name attributes (settings.Event xs) = event_call_is_regular (with_settings with_setting (fresh_request node name config.event) xs.items) attributes
+regular_by config node name attributes (settings.Event xs) = event_call_is_regular (with_settings event.with_setting (event.fresh_request node name config.event) xs.items) attributes
+regular_by config node name attributes (settings.PublishSubscribe xs) =
+    publish_subscribe_call_is_regular (with_settings publish_subscribe.with_setting (publish_subscribe.fresh_request node name config.publish_subscribe) xs.items) attributes
 
 pub call_is_regular : (config : Config) (call : Call) → IsRegularCall (builder_call config call)
 call_is_regular config call = regular_by config call.node call.name call.attributes call.settings

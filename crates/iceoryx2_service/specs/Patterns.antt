@@ -2,18 +2,23 @@
 use Rattle.std.specs.Prelude.{ℕ, List}
 use Rattle.iceoryx2_attributes.specs.Requirements.{Requirements}
 use Rattle.iceoryx2_values.specs.declared.config.Config.{Config}
-use Rattle.iceoryx2_event_builder.specs.Request.{fresh_request, with_setting}
+use Rattle.iceoryx2_event_builder.specs.Request as event
+use Rattle.iceoryx2_publish_subscribe_builder.specs.Request as publish_subscribe
 use Rattle.iceoryx2_service.specs.declared.command.Settings.{Settings}
 use Rattle.iceoryx2_service.specs.declared.command.Settings.TheVariants as settings
 use Rattle.iceoryx2_service.specs.declared.command.Call.{Call}
 use Rattle.iceoryx2_service.specs.BuilderCalls.{BuilderCall}
 use Rattle.iceoryx2_service.specs.Setters.{with_settings}
 use Rattle.iceoryx2_service.specs.Events.{event_call}
+use Rattle.iceoryx2_service.specs.PublishSubscribe.{publish_subscribe_call}
 
 -- by the pattern of the settings, one row each
 abbrev pub call_by : Config → ℕ → List ℕ → Requirements → Settings → BuilderCall
 call_by config node name attributes (settings.Event xs) =
-    event_call (with_settings with_setting (fresh_request node name config.event) xs.items) attributes
+    event_call (with_settings event.with_setting (event.fresh_request node name config.event) xs.items) attributes
+call_by config node name attributes (settings.PublishSubscribe xs) =
+    publish_subscribe_call (with_settings publish_subscribe.with_setting
+    (publish_subscribe.fresh_request node name config.publish_subscribe) xs.items) attributes
 
 -- what a command's call asks
 abbrev pub builder_call : Config → Call → BuilderCall

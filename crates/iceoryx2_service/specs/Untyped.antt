@@ -6,3 +6,4 @@ use Rattle.iceoryx2_service.specs.declared.open_service.PatternFactory.TheVarian
 -- one row a pattern
 abbrev pub untyped : PatternFactory → Factory
 untyped (factory.Event r) = r
+untyped (factory.PublishSubscribe r) = r

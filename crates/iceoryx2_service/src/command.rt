@@ -2,7 +2,10 @@
 
 use iceoryx2_attributes::attribute::AttributeVerifier;
 pub use iceoryx2_builder::builder::event::EventSetting;
-use iceoryx2_errors::error::{EventCreateError, EventOpenError};
+pub use iceoryx2_builder::builder::publish_subscribe::PublishSubscribeSetting;
+use iceoryx2_errors::error::{
+    EventCreateError, EventOpenError, PublishSubscribeCreateError, PublishSubscribeOpenError,
+};
 use iceoryx2_values::description::ServiceName;
 use iceoryx2_values::time::{ClockFault, Time};
 use iceoryx2_world::listing::Entry;
@@ -18,6 +21,8 @@ pub enum How {
 #[derive(Debug, Drop)]
 pub enum Settings {
     Event(Vec<EventSetting>),
+    /// A payload and a user header whose types aren't named stay markers.
+    PublishSubscribe(Vec<PublishSubscribeSetting>),
 }
 
 /// A builder call of a node, whose factory goes into a slot.
@@ -49,6 +54,8 @@ pub enum Command {
 pub enum Refusal {
     EventOpen(EventOpenError),
     EventCreate(EventCreateError),
+    PublishSubscribeOpen(PublishSubscribeOpenError),
+    PublishSubscribeCreate(PublishSubscribeCreateError),
 }
 
 /// What a session answers.

@@ -4,6 +4,6 @@ pub use iceoryx2_values::config::Config;
 pub use iceoryx2_values::description::{
     MessagingPattern, ServiceHash, ServiceName, ServiceNameError, StaticConfig,
 };
-pub use iceoryx2_values::event;
 pub use iceoryx2_values::event::{Deadline, EventId};
 pub use iceoryx2_values::time::{ClockFault, Duration, Time};
+pub use iceoryx2_values::{event, publish_subscribe};

@@ -3,14 +3,18 @@
 ghost use Rattle.std.specs.Prelude.{◌≡◌};
 ghost use Rattle.iceoryx2_service.specs.Sessions.{ClosesFactory};
 
-use iceoryx2_port_factory::port_factory::{CloseError, Registration, event};
+use iceoryx2_port_factory::port_factory::{CloseError, Registration, event, publish_subscribe};
 use iceoryx2_storage::local::Local;
 use iceoryx2_storage::table::Table;
+use iceoryx2_types::types::{CustomHeaderMarker, CustomPayloadMarker, Slice};
 use std::marker::Model;
 
 /// The factory, by its pattern.
 enum PatternFactory {
     Event(event::PortFactory<Local>),
+    PublishSubscribe(
+        publish_subscribe::PortFactory<Local, Slice<CustomPayloadMarker>, CustomHeaderMarker>,
+    ),
 }
 
 /// A service that a session has open, seen as what its factory holds. It has to be spent, by `close` or
@@ -39,12 +43,28 @@ impl OpenService {
         }
     }
 
+    /// A service of publish-subscribe, whose types are told by its description alone.
+    pub fn publish_subscribe(
+        factory: publish_subscribe::PortFactory<
+            Local,
+            Slice<CustomPayloadMarker>,
+            CustomHeaderMarker,
+        >,
+    ) -> OpenService
+        ensures { result ≡ factory }
+    {
+        OpenService {
+            factory: PatternFactory::PublishSubscribe(factory),
+        }
+    }
+
     /// The service's number.
     pub fn number(&self) -> u64
         ensures { result ≡ self.now.number }
     {
         match &self.factory {
             PatternFactory::Event(factory) => factory.number(),
+            PatternFactory::PublishSubscribe(factory) => factory.number(),
         }
     }
 
@@ -55,6 +75,7 @@ impl OpenService {
         let OpenService { factory } = self;
         match factory {
             PatternFactory::Event(factory) => factory.into_registration(),
+            PatternFactory::PublishSubscribe(factory) => factory.into_registration(),
         }
     }
 

@@ -5,14 +5,17 @@ ghost use Rattle.iceoryx2_service.specs.Patterns.{builder_call};
 ghost use Rattle.iceoryx2_service.specs.Sessions.{Builds, ClosesSlot};
 ghost use Rattle.iceoryx2_service.specs.Slots.{slot_count};
 
-pub use crate::command::{Call, Command, EventSetting, How, Refusal, Reply, Settings};
-use crate::events;
+pub use crate::command::{
+    Call, Command, EventSetting, How, PublishSubscribeSetting, Refusal, Reply, Settings,
+};
 use crate::open_service::OpenService;
 pub use crate::slots::SLOTS;
 use crate::slots::Slots;
+use crate::{events, publish_subscribe};
 use iceoryx2_builder::builder::Node;
 use iceoryx2_storage::local::Local;
 use iceoryx2_storage::table::Table;
+use iceoryx2_types::types::{CustomHeaderMarker, CustomPayloadMarker, Slice};
 use iceoryx2_values::config::Config;
 use std::alloc::AllocError;
 
@@ -41,6 +44,12 @@ fn build(config: Config, call: Call, table: &mut Table) -> Result<OpenService, R
     match settings {
         Settings::Event(settings) => {
             events::call(builder.event(), settings, attributes, how, now, table)
+        }
+        Settings::PublishSubscribe(settings) => {
+            let builder = builder
+                .publish_subscribe::<Slice<CustomPayloadMarker>>()
+                .user_header::<CustomHeaderMarker>();
+            publish_subscribe::call(builder, settings, attributes, how, table)
         }
     }
 }

@@ -67,6 +67,8 @@ named_call call setters = record {
 -- The words are a builder call, in the vocabulary of the pattern of its settings.
 abbrev pub SaysSettings : Settings → List (List ℕ) → Call → Type 0
 SaysSettings (settings.Event setters) words call = SaysNamedCall event_vocabulary words (named_call call setters.items)
+-- no words are settings of publish-subscribe yet
+SaysSettings (settings.PublishSubscribe setters) words call = ⊥
 
 -- ---- lines
 

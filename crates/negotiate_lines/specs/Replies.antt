@@ -7,6 +7,7 @@ use Rattle.iceoryx2_values.specs.declared.description.MessagingPattern.TheVarian
 use Rattle.iceoryx2_values.specs.Description.{Description}
 use Rattle.iceoryx2_data.specs.Form.{IsForm}
 use Rattle.iceoryx2_errors.specs.Texts.{event_open_error_name, event_create_error_name}
+use Rattle.iceoryx2_errors.specs.Texts.{publish_subscribe_open_error_name, publish_subscribe_create_error_name}
 use Rattle.iceoryx2_world.specs.declared.listing.Entry.{Entry}
 use Rattle.iceoryx2_world.specs.declared.listing.ListedRow.TheVariants as listed
 use Rattle.iceoryx2_world.specs.declared.listing.ListedSegment.{ListedSegment}
@@ -19,6 +20,10 @@ use Rattle.iceoryx2_service.specs.declared.command.Reply.TheVariants as reply
 abbrev pub refusal_text : Refusal → List ℕ
 refusal_text (refusal.EventOpen e) = codes "EventOpenError::" ++ event_open_error_name e
 refusal_text (refusal.EventCreate e) = codes "EventCreateError::" ++ event_create_error_name e
+refusal_text (refusal.PublishSubscribeOpen e) =
+    codes "PublishSubscribeOpenError::" ++ publish_subscribe_open_error_name e
+refusal_text (refusal.PublishSubscribeCreate e) =
+    codes "PublishSubscribeCreateError::" ++ publish_subscribe_create_error_name e
 
 -- the word by which a pattern's command lines begin
 abbrev pub pattern_word : MessagingPattern → List ℕ

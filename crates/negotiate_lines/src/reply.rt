@@ -21,6 +21,8 @@ pub fn describe(reply: &Reply, slot: usize, text: &mut String) -> Result<(), All
         Reply::Opened { slot, number } => writeln!(text, "ok {slot} number={number}"),
         Reply::Refused(Refusal::EventOpen(error)) => writeln!(text, "{error}"),
         Reply::Refused(Refusal::EventCreate(error)) => writeln!(text, "{error}"),
+        Reply::Refused(Refusal::PublishSubscribeOpen(error)) => writeln!(text, "{error}"),
+        Reply::Refused(Refusal::PublishSubscribeCreate(error)) => writeln!(text, "{error}"),
         Reply::Closed { slot } => writeln!(text, "closed {slot}"),
         Reply::SlotInUse => writeln!(text, "slot {slot} in use"),
         Reply::SlotEmpty => writeln!(text, "slot {slot} empty"),

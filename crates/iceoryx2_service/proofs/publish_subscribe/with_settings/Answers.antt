@@ -1,0 +1,20 @@
+use Rattle.std.proofs.Common.{List, length, ap, arith}
+use Rattle.std.specs.Vec.Iter.{into_iter_items}
+use Rattle.iceoryx2_publish_subscribe_builder.specs.Request.{with_setting}
+use Rattle.iceoryx2_publish_subscribe_builder.specs.declared.publish_subscribe.setting.PublishSubscribeSetting.{PublishSubscribeSetting}
+use Rattle.iceoryx2_service.proofs.Setters.{begins, one_more}
+use Rattle.iceoryx2_service.proofs.publish_subscribe.with_settings.Goals as goal
+
+pub loop-setting-init : goal.loop-setting-init
+loop-setting-init c =
+    let taken = c.into_iter-setting-iterator.ensures.into_iter_gives in
+    let long = ap (λ (l : List PublishSubscribeSetting). length l) taken.0 in
+    let items = c.args.settings.ok in
+    begins with_setting c.args.builder _ _ (omega (arith, taken.1, long, items.0))
+
+pub loop-setting-preserved : goal.loop-setting-preserved
+loop-setting-preserved c =
+    let at = c.loop-setting in
+    let fewer = c.in-Some.ensures.steps.1 in
+    rw c.with-builder.ensures
+    (one_more with_setting c.args.builder _ at.yielded _ (into_iter_items c.next.new.self) _ _ c.in-Some.setting at.builder at.invariant c.in-Some.ensures.steps.0 (omega (arith, fewer)))

@@ -1,0 +1,39 @@
+-- Builder calls for services of publish-subscribe.
+use Rattle.std.specs.Prelude.{true, codes}
+use Rattle.iceoryx2_types.specs.Types.{Detail, Message, detail_of, fixed_size}
+use Rattle.iceoryx2_types.specs.declared.types.TypeVariant.TheVariants.{Dynamic}
+use Rattle.iceoryx2_errors.specs.declared.error.publish_subscribe.ServiceAvailabilityState.{ServiceAvailabilityState}
+use Rattle.iceoryx2_errors.specs.declared.error.publish_subscribe.PublishSubscribeOpenError.{PublishSubscribeOpenError}
+use Rattle.iceoryx2_errors.specs.declared.error.publish_subscribe.PublishSubscribeCreateError.{PublishSubscribeCreateError}
+use Rattle.iceoryx2_attributes.specs.Requirements.{Requirements}
+use Rattle.iceoryx2_publish_subscribe_builder.specs.Request.{PublishSubscribeRequest, letter_of_publish_subscribe, message_for}
+use Rattle.iceoryx2_publish_subscribe_builder.specs.PublishSubscribe.{publish_subscribe_creating, publish_subscribe_opening}
+use Rattle.iceoryx2_service.specs.declared.command.Refusal.TheVariants as refusal
+use Rattle.iceoryx2_service.specs.BuilderCalls.{BuilderCall, hash_for}
+
+-- what a payload and a user header are where no setter names their type
+abbrev pub payload_marker : Detail
+payload_marker = detail_of Dynamic (codes "CustomPayloadMarker") 1 1
+
+abbrev pub user_header_marker : Detail
+user_header_marker = fixed_size (codes "CustomHeaderMarker") 0 1
+
+-- the message of this builder, whose types are those that setters named
+abbrev pub named_message : PublishSubscribeRequest → Message
+named_message b = message_for payload_marker user_header_marker b.types
+
+-- what the calls of this builder ask: a create defines the pairs, and an open requires pairs and keys
+abbrev pub publish_subscribe_call : PublishSubscribeRequest → Requirements → BuilderCall
+publish_subscribe_call b attributes = record {
+  fault = ServiceAvailabilityState;
+  open_error = PublishSubscribeOpenError;
+  create_error = PublishSubscribeCreateError;
+  node = b.node;
+  hash = hash_for letter_of_publish_subscribe b.name;
+  name = b.name;
+  creating = publish_subscribe_creating b.demand (named_message b) attributes.pairs;
+  opening = publish_subscribe_opening b.demand (named_message b) attributes;
+  prepares = true;
+  refusal_of_create = refusal.PublishSubscribeCreate;
+  refusal_of_open = refusal.PublishSubscribeOpen;
+}
