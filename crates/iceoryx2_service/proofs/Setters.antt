@@ -1,5 +1,5 @@
 -- One setter after the others.
-use Rattle.std.proofs.Common.{◌≡◌, ℕ, suc, List, [], ◌∷◌, ◌++◌, length, refl, sym, ap, ◌∙◌, append_assoc, append-nil, arith}
+use Rattle.std.proofs.Common.{◌≡◌, ℕ, suc, List, [], ◌∷◌, ◌++◌, length, refl, sym, ap, ◌∙◌, append_assoc, arith}
 use Rattle.iceoryx2_service.specs.Setters.{with_settings}
 
 pub with_settings_push : {B X : Type 0} (with_setting : B → X → B) (b : B) (xs : List X) (x : X) → with_settings with_setting b (xs ++ x ∷ []) ≡ with_setting (with_settings with_setting b xs) x
@@ -27,12 +27,3 @@ module _ {B X : Type 0} (with_setting : B → X → B) (old : B) where
         in_order = append_assoc taken (x ∷ []) now_left ∙ ap (λ (l : List X). taken ++ l) (sym is) ∙ t.in_order;
         long = omega (arith, fewer, shorter, long);
       }
-
-  nothing_left : (l : List X) → length l ≡ 0 → l ≡ []
-  nothing_left [] h = refl
-  nothing_left (x ∷ xs) h = absurd (omega (arith, h))
-
-  pub all_taken : (settings taken left : List X) (n : ℕ) (new : B) → TakesSettings with_setting old settings taken left n new → n ≡ 0 → new ≡ with_settings with_setting old settings
-  all_taken settings taken left n new t none =
-      let empty = nothing_left left (sym t.long ∙ none) in
-      t.so_far ∙ ap (λ (l : List X). with_settings with_setting old l) (sym (append-nil taken) ∙ ap (λ (l : List X). taken ++ l) (sym empty) ∙ t.in_order)
