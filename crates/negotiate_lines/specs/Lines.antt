@@ -19,6 +19,7 @@ use Rattle.negotiate_lines.specs.declared.line.Line.{Line}
 use Rattle.negotiate_lines.specs.declared.line.Line.TheVariants as line
 use Rattle.negotiate_lines.specs.declared.line.NamedCall.{NamedCall}
 use Rattle.negotiate_lines.specs.EventWords.{event_vocabulary}
+use Rattle.negotiate_lines.specs.PublishSubscribeWords.{publish_subscribe_vocabulary}
 
 -- ---- the end of a line
 
@@ -67,8 +68,8 @@ named_call call setters = record {
 -- The words are a builder call, in the vocabulary of the pattern of its settings.
 abbrev pub SaysSettings : Settings → List (List ℕ) → Call → Type 0
 SaysSettings (settings.Event setters) words call = SaysNamedCall event_vocabulary words (named_call call setters.items)
--- no words are settings of publish-subscribe yet
-SaysSettings (settings.PublishSubscribe setters) words call = ⊥
+SaysSettings (settings.PublishSubscribe setters) words call =
+    SaysNamedCall publish_subscribe_vocabulary words (named_call call setters.items)
 
 -- ---- lines
 

@@ -3,5 +3,6 @@
 
 mod event_words;
 pub mod line;
+mod publish_subscribe_words;
 pub mod reply;
 pub mod serve;

@@ -7,6 +7,7 @@ ghost use Rattle.negotiate_lines.specs.Lines.{AreLine, IsLine, SaysNamedCall};
 ghost use Rattle.negotiate_lines.specs.Lines.{admitted_of, how_word, without_end_of};
 
 use crate::event_words::EventWords;
+use crate::publish_subscribe_words::PublishSubscribeWords;
 use iceoryx2_service::command::{Call, Command, How, Settings};
 use iceoryx2_service::description::{ServiceName, ServiceNameError};
 use iceoryx2_service::session::SLOTS;
@@ -72,6 +73,7 @@ fn said_behind(alloc: Global, first: &str, others: &str) -> Result<Line, AllocEr
         "list" => Ok(list(others)),
         "close" => Ok(close(others)),
         "event" => event(alloc, others),
+        "pubsub" => publish_subscribe(alloc, others),
         _ => Ok(Line::NotACommand),
     }
 }
@@ -227,6 +229,27 @@ fn event(alloc: Global, others: &str) -> Result<Line, AllocError>
         slot: call.slot,
         name: call.name,
         settings: Settings::Event(settings),
+        attributes,
+        now,
+    })))
+}
+
+/// What the word `pubsub` says before others.
+fn publish_subscribe(alloc: Global, others: &str) -> Result<Line, AllocError>
+    ensures { IfOk result (AreLine (codes "pubsub" ∷ words_of others.now)) }
+{
+    let call = match named_call::<PublishSubscribeWords>(alloc, others) {
+        Ok(Some(call)) => call,
+        Ok(None) => return Ok(Line::NotACommand),
+        Err(_) => return Err(AllocError),
+    };
+    let (settings, attributes, now) = call.parts.into_parts();
+    Ok(Line::Command(Command::Call(Call {
+        how: call.how,
+        node: call.node,
+        slot: call.slot,
+        name: call.name,
+        settings: Settings::PublishSubscribe(settings),
         attributes,
         now,
     })))

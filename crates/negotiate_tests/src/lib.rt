@@ -8,6 +8,8 @@ mod faults;
 #[cfg(test)]
 mod lines;
 #[cfg(test)]
+mod publish_subscribe_words;
+#[cfg(test)]
 mod replies;
 #[cfg(test)]
 mod scripts;

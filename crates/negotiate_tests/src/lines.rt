@@ -37,7 +37,9 @@ const NO_COMMANDS: &[&str] = &[
     "Event create 1 0 a",
     "event Create 1 0 a",
     "event open_or_create 1 0 a",
-    "pubsub create 1 0 a",
+    "pubsub create 1 64 a",
+    "Pubsub create 1 0 a",
+    "rr create 1 0 a",
 ];
 
 /// Lines that are not UTF-8.

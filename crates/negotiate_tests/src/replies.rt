@@ -2,13 +2,16 @@
 
 use crate::support::assert_same;
 use iceoryx2_service::builder::event::{EventCreateError, EventOpenError};
+use iceoryx2_service::builder::publish_subscribe::{
+    PublishSubscribeCreateError, PublishSubscribeOpenError,
+};
 use iceoryx2_service::command::{Refusal, Reply};
 use negotiate_lines::reply::describe;
 use std::alloc::Global;
 use std::process::Abort;
 
 /// Replies to a command for slot 9, and the lines for them.
-const REPLIES: [(Reply, &str); 11] = [
+const REPLIES: [(Reply, &str); 13] = [
     (Reply::Opened { slot: 9, number: 0 }, "ok 9 number=0\n"),
     (
         Reply::Opened {
@@ -36,6 +39,18 @@ const REPLIES: [(Reply, &str); 11] = [
     (
         Reply::Refused(Refusal::EventCreate(EventCreateError::HangsInCreation)),
         "EventCreateError::HangsInCreation\n",
+    ),
+    (
+        Reply::Refused(Refusal::PublishSubscribeOpen(
+            PublishSubscribeOpenError::DoesNotSupportRequestedMinSubscriberBorrowedSamples,
+        )),
+        "PublishSubscribeOpenError::DoesNotSupportRequestedMinSubscriberBorrowedSamples\n",
+    ),
+    (
+        Reply::Refused(Refusal::PublishSubscribeCreate(
+            PublishSubscribeCreateError::InternalFailure,
+        )),
+        "PublishSubscribeCreateError::InternalFailure\n",
     ),
     (Reply::Closed { slot: 9 }, "closed 9\n"),
     (Reply::SlotInUse, "slot 9 in use\n"),
