@@ -169,7 +169,8 @@ impl PublishSubscribeCreateError {
 }
 
 impl fmt::Display for PublishSubscribeCreateError {
-    ghost output = { λ error. Some (codes "PublishSubscribeCreateError::" ++ publish_subscribe_create_error_name error) };
+    ghost output = { λ error.
+        Some (codes "PublishSubscribeCreateError::" ++ publish_subscribe_create_error_name error) };
 
     fn fmt<W: fmt::Write>(&self, f: &mut fmt::Formatter<W>) -> fmt::Result {
         let name = self.name();

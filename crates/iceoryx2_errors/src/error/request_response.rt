@@ -186,7 +186,8 @@ impl RequestResponseCreateError {
 }
 
 impl fmt::Display for RequestResponseCreateError {
-    ghost output = { λ error. Some (codes "RequestResponseCreateError::" ++ request_response_create_error_name error) };
+    ghost output = { λ error.
+        Some (codes "RequestResponseCreateError::" ++ request_response_create_error_name error) };
 
     fn fmt<W: fmt::Write>(&self, f: &mut fmt::Formatter<W>) -> fmt::Result {
         let name = self.name();
