@@ -2,6 +2,7 @@
 use Rattle.std.specs.Prelude.{None, true}
 use Rattle.iceoryx2_values.specs.declared.config.Event.{Event}
 use Rattle.iceoryx2_values.specs.declared.config.PublishSubscribe.{PublishSubscribe}
+use Rattle.iceoryx2_values.specs.declared.config.RequestResponse.{RequestResponse}
 use Rattle.iceoryx2_values.specs.declared.config.Config.{Config}
 
 abbrev pub default_event : Event
@@ -27,5 +28,23 @@ default_publish_subscribe = record {
   max_nodes = 20;
 }
 
+abbrev pub default_request_response : RequestResponse
+default_request_response = record {
+  enable_safe_overflow_for_requests = true;
+  enable_safe_overflow_for_responses = true;
+  enable_fire_and_forget_requests = true;
+  max_active_requests_per_client = 4;
+  max_loaned_requests = 2;
+  max_borrowed_responses_per_pending_response = 2;
+  max_response_buffer_size = 2;
+  max_servers = 2;
+  max_clients = 8;
+  max_nodes = 20;
+}
+
 abbrev pub default_config : Config
-default_config = record { event = default_event; publish_subscribe = default_publish_subscribe }
+default_config = record {
+  event = default_event;
+  publish_subscribe = default_publish_subscribe;
+  request_response = default_request_response;
+}

@@ -3,9 +3,10 @@ use Rattle.std.specs.Prelude.{ℕ, ◌≡◌, ◌<◌, ◌^◌, List, length, Al
 use Rattle.iceoryx2_values.specs.declared.description.TheConstants.{HASH_LENGTH}
 use Rattle.iceoryx2_values.specs.declared.description.ServiceHash.{ServiceHash}
 use Rattle.iceoryx2_values.specs.declared.description.MessagingPattern.{MessagingPattern}
-use Rattle.iceoryx2_values.specs.declared.description.MessagingPattern.TheVariants.{Event, PublishSubscribe}
+use Rattle.iceoryx2_values.specs.declared.description.MessagingPattern.TheVariants.{Event, PublishSubscribe, RequestResponse}
 use Rattle.iceoryx2_values.specs.declared.event.StaticConfig.{StaticConfig as EventConfig}
 use Rattle.iceoryx2_values.specs.declared.publish_subscribe.StaticConfig.{StaticConfig as PublishSubscribeConfig}
+use Rattle.iceoryx2_values.specs.declared.request_response.StaticConfig.{StaticConfig as RequestResponseConfig}
 use Rattle.iceoryx2_values.specs.declared.event.Deadline.{Deadline}
 use Rattle.iceoryx2_attributes.specs.Attributes.{Pair, AreAttributes}
 use Rattle.iceoryx2_values.specs.Span.{IsSpan}
@@ -23,13 +24,19 @@ pub record Description : Type 0 where
 abbrev pub max_nodes_of : MessagingPattern → ℕ
 max_nodes_of (Event s) = s.max_nodes
 max_nodes_of (PublishSubscribe s) = s.max_nodes
+max_nodes_of (RequestResponse s) = s.max_nodes
 
--- of events both, or of publish-subscribe both
+-- both of events, both of publish-subscribe, or both of request-response
 abbrev pub IsSamePattern : MessagingPattern → MessagingPattern → Type 0
 IsSamePattern (Event s) (Event t) = Unit {0}
 IsSamePattern (Event s) (PublishSubscribe t) = ⊥
+IsSamePattern (Event s) (RequestResponse t) = ⊥
 IsSamePattern (PublishSubscribe s) (Event t) = ⊥
 IsSamePattern (PublishSubscribe s) (PublishSubscribe t) = Unit {0}
+IsSamePattern (PublishSubscribe s) (RequestResponse t) = ⊥
+IsSamePattern (RequestResponse s) (Event t) = ⊥
+IsSamePattern (RequestResponse s) (PublishSubscribe t) = ⊥
+IsSamePattern (RequestResponse s) (RequestResponse t) = Unit {0}
 
 abbrev pub IsDeadline : Deadline → Type 0
 IsDeadline d = IsSpan d.value × IsSpan d.creation_time
@@ -53,9 +60,21 @@ pub record IsPublishSubscribe (s : PublishSubscribeConfig) : Type 0 where
   pub max_nodes : s.max_nodes < 2 ^ 64
   pub message : IsMeasuredMessage s.message_type_details
 
+pub record IsRequestResponse (s : RequestResponseConfig) : Type 0 where
+  pub max_active_requests_per_client : s.max_active_requests_per_client < 2 ^ 64
+  pub max_loaned_requests : s.max_loaned_requests < 2 ^ 64
+  pub max_borrowed_responses_per_pending_response : s.max_borrowed_responses_per_pending_response < 2 ^ 64
+  pub max_response_buffer_size : s.max_response_buffer_size < 2 ^ 64
+  pub max_servers : s.max_servers < 2 ^ 64
+  pub max_clients : s.max_clients < 2 ^ 64
+  pub max_nodes : s.max_nodes < 2 ^ 64
+  pub request : IsMeasuredMessage s.request_message_type_details
+  pub response : IsMeasuredMessage s.response_message_type_details
+
 abbrev pub IsPattern : MessagingPattern → Type 0
 IsPattern (Event s) = IsEvent s
 IsPattern (PublishSubscribe s) = IsPublishSubscribe s
+IsPattern (RequestResponse s) = IsRequestResponse s
 
 -- as many bytes as a hash has
 pub record IsHash (h : ServiceHash) : Type 0 where

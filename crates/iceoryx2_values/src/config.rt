@@ -1,6 +1,7 @@
 //! The settings that builders start from.
 
 ghost use Rattle.iceoryx2_values.specs.Defaults.{default_config, default_event, default_publish_subscribe};
+ghost use Rattle.iceoryx2_values.specs.Defaults.{default_request_response};
 
 use crate::event::EventId;
 use crate::time::Duration;
@@ -85,6 +86,54 @@ impl Default for PublishSubscribe {
     }
 }
 
+/// The settings that a builder of request-response starts from.
+#[derive(Clone, Copy, Debug, PartialEq, Eq)]
+pub struct RequestResponse {
+    /// Whether a full buffer's oldest request gives way to a new one.
+    pub enable_safe_overflow_for_requests: bool,
+    /// Whether a full buffer's oldest response gives way to a new one.
+    pub enable_safe_overflow_for_responses: bool,
+    /// Whether a request may be sent whose responses nobody waits for.
+    pub enable_fire_and_forget_requests: bool,
+    /// How many requests a client may have under way at one time.
+    pub max_active_requests_per_client: u64,
+    /// How many requests a client may have on loan at one time.
+    pub max_loaned_requests: u64,
+    /// How many responses may be borrowed at one time from one pending response.
+    pub max_borrowed_responses_per_pending_response: u64,
+    /// How many responses the buffer of one request has room for.
+    pub max_response_buffer_size: u64,
+    /// For how many servers a service is.
+    pub max_servers: u64,
+    /// For how many clients a service is.
+    pub max_clients: u64,
+    /// For how many nodes a service is.
+    pub max_nodes: u64,
+}
+
+impl Default for RequestResponse {
+    ghost use Rattle.std.specs.Prelude.{◌≡◌};
+
+    ghost is_default = { λ settings. settings ≡ default_request_response };
+
+    /// Safe overflow of requests and of responses, fire and forget, 4 requests under way and 2 on
+    /// loan, 2 borrowed responses, a buffer for 2 responses, 2 servers, 8 clients, 20 nodes.
+    fn default() -> RequestResponse {
+        RequestResponse {
+            enable_safe_overflow_for_requests: true,
+            enable_safe_overflow_for_responses: true,
+            enable_fire_and_forget_requests: true,
+            max_active_requests_per_client: 4,
+            max_loaned_requests: 2,
+            max_borrowed_responses_per_pending_response: 2,
+            max_response_buffer_size: 2,
+            max_servers: 2,
+            max_clients: 8,
+            max_nodes: 20,
+        }
+    }
+}
+
 /// The settings that the builders of a node start from.
 #[derive(Clone, Copy, Debug, PartialEq, Eq)]
 pub struct Config {
@@ -92,6 +141,8 @@ pub struct Config {
     pub event: Event,
     /// What builders of publish-subscribe start from.
     pub publish_subscribe: PublishSubscribe,
+    /// What builders of request-response start from.
+    pub request_response: RequestResponse,
 }
 
 impl Default for Config {
@@ -104,6 +155,7 @@ impl Default for Config {
         Config {
             event: Event::default(),
             publish_subscribe: PublishSubscribe::default(),
+            request_response: RequestResponse::default(),
         }
     }
 }

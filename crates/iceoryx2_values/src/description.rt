@@ -5,7 +5,7 @@ ghost use Rattle.hex.specs.Hex.{encode_lower};
 ghost use Rattle.iceoryx2_values.specs.Names.{IsName};
 ghost use Rattle.iceoryx2_values.specs.Description.{IsHash, IsPattern};
 
-use crate::{event, publish_subscribe};
+use crate::{event, publish_subscribe, request_response};
 use iceoryx2_attributes::attribute::AttributeSet;
 use std::alloc::{AllocError, Global};
 use std::error::Error;
@@ -173,6 +173,8 @@ pub enum MessagingPattern {
     Event(event::StaticConfig),
     /// A service of publish-subscribe.
     PublishSubscribe(publish_subscribe::StaticConfig),
+    /// A service of request-response.
+    RequestResponse(request_response::StaticConfig),
 }
 
 impl MessagingPattern {
@@ -185,8 +187,13 @@ impl MessagingPattern {
         match (self, other) {
             (MessagingPattern::Event(_), MessagingPattern::Event(_)) => true,
             (MessagingPattern::PublishSubscribe(_), MessagingPattern::PublishSubscribe(_)) => true,
+            (MessagingPattern::RequestResponse(_), MessagingPattern::RequestResponse(_)) => true,
             (MessagingPattern::Event(_), MessagingPattern::PublishSubscribe(_)) => false,
+            (MessagingPattern::Event(_), MessagingPattern::RequestResponse(_)) => false,
             (MessagingPattern::PublishSubscribe(_), MessagingPattern::Event(_)) => false,
+            (MessagingPattern::PublishSubscribe(_), MessagingPattern::RequestResponse(_)) => false,
+            (MessagingPattern::RequestResponse(_), MessagingPattern::Event(_)) => false,
+            (MessagingPattern::RequestResponse(_), MessagingPattern::PublishSubscribe(_)) => false,
         }
     }
 }
@@ -205,6 +212,7 @@ fn pattern_fits(pattern: &MessagingPattern)
     match pattern {
         MessagingPattern::Event(settings) => settings.fits(),
         MessagingPattern::PublishSubscribe(settings) => settings.fits(),
+        MessagingPattern::RequestResponse(settings) => settings.fits(),
     }
 }
 
@@ -313,6 +321,7 @@ impl StaticConfig {
         match &self.pattern {
             MessagingPattern::Event(settings) => settings.max_nodes,
             MessagingPattern::PublishSubscribe(settings) => settings.max_nodes,
+            MessagingPattern::RequestResponse(settings) => settings.max_nodes,
         }
     }
 }

@@ -6,4 +6,5 @@ pub mod description;
 pub mod event;
 mod messages;
 pub mod publish_subscribe;
+pub mod request_response;
 pub mod time;
