@@ -8,3 +8,4 @@ use Rattle.iceoryx2_event_builder.specs.Event.{misfit_of}
 pub what_fits : (pattern : MessagingPattern) → misfit_of pattern ≡ None → is_events pattern ≡ true
 what_fits (existing.Event s) e = refl
 what_fits (existing.PublishSubscribe s) e = absurd (cc)
+what_fits (existing.RequestResponse s) e = absurd (cc)

@@ -16,6 +16,7 @@ use Rattle.iceoryx2_builder_base.proofs.Raised.{raised_above}
 misfit_exists : (pattern : MessagingPattern) (fault : ServiceState) → misfit_of pattern ≡ Some fault → create_error_of_state fault ≡ creating.AlreadyExists
 misfit_exists (existing.Event s) fault e = absurd (cc)
 misfit_exists (existing.PublishSubscribe s) fault e = let is : fault ≡ state.IncompatibleMessagingPattern = cc in ap create_error_of_state is
+misfit_exists (existing.RequestResponse s) fault e = let is : fault ≡ state.IncompatibleMessagingPattern = cc in ap create_error_of_state is
 
 pub creating_is_regular : (demand : EventDemand) (given : List Pair) → IsRegular (event_creating demand given)
 creating_is_regular demand given = record { create_memory = refl; open_memory = refl; misfit = λ d fault e. misfit_exists d.pattern fault e }

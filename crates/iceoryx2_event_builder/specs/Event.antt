@@ -54,11 +54,13 @@ setting_rows required marks existing =
 abbrev pub setting_clauses : EventDemand → MessagingPattern → List (Clause EventOpenError)
 setting_clauses demand (existing.Event settings) = marked_clauses (setting_rows demand.settings demand.marks settings)
 setting_clauses demand (existing.PublishSubscribe settings) = []
+setting_clauses demand (existing.RequestResponse settings) = []
 
 -- another pattern than events
 abbrev pub misfit_of : MessagingPattern → Option ServiceState
 misfit_of (existing.Event settings) = None
 misfit_of (existing.PublishSubscribe settings) = Some state.IncompatibleMessagingPattern
+misfit_of (existing.RequestResponse settings) = Some state.IncompatibleMessagingPattern
 
 abbrev pub open_error_of_refusal : OpenRefusal → EventOpenError
 open_error_of_refusal open_refusal.DoesNotExist = opening.DoesNotExist

@@ -7,6 +7,7 @@ ghost use Rattle.iceoryx2_port_factory.specs.Closes.{IsCloseWord, first_refused}
 pub mod event;
 pub mod factory;
 pub mod publish_subscribe;
+pub mod request_response;
 
 use iceoryx2_access::storage::{Release, ReleaseError, RemoveError, Storage};
 pub use iceoryx2_errors::error::CloseError;

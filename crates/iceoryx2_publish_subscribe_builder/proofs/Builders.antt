@@ -37,6 +37,8 @@ misfit_exists : (message : Message) (pattern : MessagingPattern) (fault : Servic
 misfit_exists message (existing.Event s) fault e =
     let is : fault ≡ look.ServiceState state.IncompatibleMessagingPattern = cc in ap publish_subscribe_create_error_of_state is
 misfit_exists message (existing.PublishSubscribe s) fault e = types_exist fault (compatible message s.message_type_details) e
+misfit_exists message (existing.RequestResponse s) fault e =
+    let is : fault ≡ look.ServiceState state.IncompatibleMessagingPattern = cc in ap publish_subscribe_create_error_of_state is
 
 creating_is_regular : (demand : PublishSubscribeDemand) (message : Message) (given : List Pair) → IsRegular (publish_subscribe_creating demand message given)
 creating_is_regular demand message given =

@@ -9,3 +9,4 @@ use Rattle.iceoryx2_publish_subscribe_builder.specs.PublishSubscribe.{misfit_of}
 pub what_fits : (message : Message) (pattern : MessagingPattern) → misfit_of message pattern ≡ None → is_publish_subscribe pattern ≡ true
 what_fits message (existing.Event s) e = absurd (cc)
 what_fits message (existing.PublishSubscribe s) e = refl
+what_fits message (existing.RequestResponse s) e = absurd (cc)

@@ -49,12 +49,14 @@ abbrev pub setting_clauses : PublishSubscribeDemand → MessagingPattern → Lis
 setting_clauses demand (existing.Event settings) = []
 setting_clauses demand (existing.PublishSubscribe settings) =
     marked_clauses (setting_rows demand.settings demand.marks settings)
+setting_clauses demand (existing.RequestResponse settings) = []
 
 -- another pattern than publish-subscribe, or messages of which its own can't be
 abbrev pub misfit_of : Message → MessagingPattern → Option ServiceAvailabilityState
 misfit_of message (existing.Event settings) = Some (look.ServiceState state.IncompatibleMessagingPattern)
 misfit_of message (existing.PublishSubscribe settings) =
     if compatible message settings.message_type_details then None else Some look.IncompatibleTypes
+misfit_of message (existing.RequestResponse settings) = Some (look.ServiceState state.IncompatibleMessagingPattern)
 
 abbrev pub open_error_of_refusal : OpenRefusal → PublishSubscribeOpenError
 open_error_of_refusal open_refusal.DoesNotExist = opening.DoesNotExist

@@ -29,6 +29,7 @@ refusal_text (refusal.PublishSubscribeCreate e) =
 abbrev pub pattern_word : MessagingPattern → List ℕ
 pattern_word (pattern.Event s) = codes "event"
 pattern_word (pattern.PublishSubscribe s) = codes "pubsub"
+pattern_word (pattern.RequestResponse s) = codes "rr"
 
 -- The entry is a service: its description is published, and its segment stands beside it.
 pub record IsService (e : Entry) : Type 0 where

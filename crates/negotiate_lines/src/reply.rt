@@ -75,6 +75,7 @@ fn word_of(pattern: &MessagingPattern) -> &'static str
     match pattern {
         MessagingPattern::Event(_) => "event",
         MessagingPattern::PublishSubscribe(_) => "pubsub",
+        MessagingPattern::RequestResponse(_) => "rr",
     }
 }
 

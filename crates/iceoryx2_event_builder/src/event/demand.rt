@@ -242,7 +242,7 @@ impl Pattern for EventDemand {
     fn misfit(&self, existing: &StaticConfig) -> Option<ServiceState> {
         match existing.messaging_pattern() {
             MessagingPattern::Event(_) => None,
-            MessagingPattern::PublishSubscribe(_) => {
+            MessagingPattern::PublishSubscribe(_) | MessagingPattern::RequestResponse(_) => {
                 Some(ServiceState::IncompatibleMessagingPattern)
             }
         }
@@ -252,6 +252,7 @@ impl Pattern for EventDemand {
         match existing.messaging_pattern() {
             MessagingPattern::Event(settings) => verify_settings(self, settings),
             MessagingPattern::PublishSubscribe(_) => Ok(()),
+            MessagingPattern::RequestResponse(_) => Ok(()),
         }
     }
 

@@ -23,6 +23,7 @@ impl Kind for Events {
         match pattern {
             MessagingPattern::Event(settings) => settings,
             MessagingPattern::PublishSubscribe(_) => unreachable!(),
+            MessagingPattern::RequestResponse(_) => unreachable!(),
         }
     }
 }

@@ -27,6 +27,7 @@ impl<P, U> Kind for PublishSubscribe<P, U> {
         match pattern {
             MessagingPattern::PublishSubscribe(settings) => settings,
             MessagingPattern::Event(_) => unreachable!(),
+            MessagingPattern::RequestResponse(_) => unreachable!(),
         }
     }
 }

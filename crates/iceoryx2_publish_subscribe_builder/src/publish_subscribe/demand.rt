@@ -173,9 +173,11 @@ impl Pattern for PreparedDemand {
                     Some(ServiceAvailabilityState::IncompatibleTypes)
                 }
             }
-            MessagingPattern::Event(_) => Some(ServiceAvailabilityState::ServiceState(
-                ServiceState::IncompatibleMessagingPattern,
-            )),
+            MessagingPattern::Event(_) | MessagingPattern::RequestResponse(_) => {
+                Some(ServiceAvailabilityState::ServiceState(
+                    ServiceState::IncompatibleMessagingPattern,
+                ))
+            }
         }
     }
 
@@ -183,6 +185,7 @@ impl Pattern for PreparedDemand {
         match existing.messaging_pattern() {
             MessagingPattern::PublishSubscribe(settings) => verify_settings(&self.demand, settings),
             MessagingPattern::Event(_) => Ok(()),
+            MessagingPattern::RequestResponse(_) => Ok(()),
         }
     }
 
