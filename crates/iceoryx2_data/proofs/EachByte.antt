@@ -5,14 +5,15 @@ use Rattle.std.specs.List.{flat_map}
 use Rattle.std.proofs.lemmas.List.Concat.{flat_map-cons}
 use Rattle.std.proofs.lemmas.List.Elements.{All-from_recursion, recursion_from_All, All-head, All-tail}
 use Rattle.iceoryx2_values.specs.declared.description.MessagingPattern.{MessagingPattern}
-use Rattle.iceoryx2_values.specs.declared.description.MessagingPattern.TheVariants.{Event, PublishSubscribe}
+use Rattle.iceoryx2_values.specs.declared.description.MessagingPattern.TheVariants.{Event, PublishSubscribe, RequestResponse}
 use Rattle.iceoryx2_values.specs.declared.event.StaticConfig.{StaticConfig as EventConfig}
 use Rattle.iceoryx2_values.specs.declared.publish_subscribe.StaticConfig.{StaticConfig as PublishSubscribeConfig}
+use Rattle.iceoryx2_values.specs.declared.request_response.StaticConfig.{StaticConfig as RequestResponseConfig}
 use Rattle.iceoryx2_attributes.specs.Attributes.{Pair, IsPair, AreAttributes}
-use Rattle.iceoryx2_values.specs.Description.{Description, IsPublishSubscribe, IsPattern}
+use Rattle.iceoryx2_values.specs.Description.{Description, IsPublishSubscribe, IsRequestResponse, IsPattern}
 use Rattle.iceoryx2_parts.specs.Form.{number, option, deadline}
 use Rattle.iceoryx2_parts.proofs.EachByte.{AreBytes, none, more, both, number_bytes, text_bytes, truth_bytes, option_bytes, deadline_bytes, message_bytes}
-use Rattle.iceoryx2_data.specs.Form.{event, publish_subscribe, pattern, pair, attributes, magic, version, description, IsForm}
+use Rattle.iceoryx2_data.specs.Form.{event, publish_subscribe, request_response, pattern, pair, attributes, magic, version, description, IsForm}
 
 event_bytes : (s : EventConfig) → AreBytes (event s)
 event_bytes s =
@@ -25,9 +26,16 @@ publish_subscribe_bytes s fits =
     both (both (both (both (both (both (both (number_bytes s.max_publishers) (number_bytes s.max_subscribers)) (number_bytes s.subscriber_max_buffer_size)) (number_bytes s.history_size))
     (number_bytes s.subscriber_max_borrowed_samples)) (truth_bytes s.enable_safe_overflow)) (number_bytes s.max_nodes)) (message_bytes s.message_type_details fits.message)
 
+request_response_bytes : (s : RequestResponseConfig) → IsRequestResponse s → AreBytes (request_response s)
+request_response_bytes s fits =
+    both (both (both (both (both (both (both (both (both (both (both (truth_bytes s.enable_safe_overflow_for_requests) (truth_bytes s.enable_safe_overflow_for_responses)) (truth_bytes s.enable_fire_and_forget_requests))
+    (number_bytes s.max_active_requests_per_client)) (number_bytes s.max_loaned_requests)) (number_bytes s.max_borrowed_responses_per_pending_response)) (number_bytes s.max_response_buffer_size))
+    (number_bytes s.max_servers)) (number_bytes s.max_clients)) (number_bytes s.max_nodes)) (message_bytes s.request_message_type_details fits.request)) (message_bytes s.response_message_type_details fits.response)
+
 pattern_bytes : (p : MessagingPattern) → IsPattern p → AreBytes (pattern p)
 pattern_bytes (Event s) fits = more (omega arith) (event_bytes s)
 pattern_bytes (PublishSubscribe s) fits = more (omega arith) (publish_subscribe_bytes s fits)
+pattern_bytes (RequestResponse s) fits = more (omega arith) (request_response_bytes s fits)
 
 magic_bytes : AreBytes magic
 magic_bytes = more (omega arith) (more (omega arith) (more (omega arith) (more (omega arith) none)))

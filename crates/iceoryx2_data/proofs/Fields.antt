@@ -1,25 +1,28 @@
 -- Each part of a description, and the whole.
-use Rattle.std.proofs.Common.{◌≡◌, ℕ, Bool, true, false, cond, eqb, List, [], ◌∷◌, ◌++◌, length, Option, Some, None, refl, sym, ap, subst, ◌∙◌, append_assoc, inl, inr, ◌⊎◌, arith}
+use Rattle.std.proofs.Common.{◌≡◌, ℕ, Bool, true, false, cond, eqb, List, [], ◌∷◌, ◌++◌, length, Option, Some, None, refl, sym, ap, subst, ◌∙◌, inl, inr, ◌⊎◌, arith}
 use Rattle.std.specs.Prelude.{Result, Ok, Err, IfOk, MatchResult}
 use Rattle.std.proofs.lemmas.Bool.{eqb-true}
 use Rattle.std.proofs.lemmas.List.{append-nil, nil_from_length}
 use Rattle.std.proofs.lemmas.Option.{none-some}
 use Rattle.iceoryx2_values.specs.declared.description.MessagingPattern.{MessagingPattern}
-use Rattle.iceoryx2_values.specs.declared.description.MessagingPattern.TheVariants.{Event, PublishSubscribe}
+use Rattle.iceoryx2_values.specs.declared.description.MessagingPattern.TheVariants.{Event, PublishSubscribe, RequestResponse}
+use Rattle.iceoryx2_values.specs.declared.request_response.StaticConfig.{StaticConfig as RequestResponseConfig}
 use Rattle.iceoryx2_values.specs.declared.description.TheConstants.{HASH_LENGTH, MIN_NAME_LENGTH, MAX_NAME_LENGTH}
 use Rattle.iceoryx2_attributes.specs.declared.attribute.TheConstants.{MIN_KEY_LENGTH, MAX_KEY_LENGTH, MAX_VALUE_LENGTH, MAX_ATTRIBUTES}
 use Rattle.iceoryx2_attributes.specs.Attributes.{ascends, IsPair, AreAttributes}
-use Rattle.iceoryx2_values.specs.Description.{Description, IsDeadline, IsEvent, IsPublishSubscribe, IsPattern, IsDescription}
+use Rattle.iceoryx2_types.specs.Types.{Message}
+use Rattle.iceoryx2_values.specs.Description.{Description, IsDeadline, IsEvent, IsPublishSubscribe, IsRequestResponse, IsPattern, IsDescription}
 use Rattle.iceoryx2_parts.specs.declared.reading.DecodeError.{DecodeError}
 use Rattle.iceoryx2_parts.specs.declared.reading.DecodeError.TheVariants.{Malformed, OutOfMemory}
-use Rattle.iceoryx2_parts.specs.Form.{text, number, truth, deadline, message}
+use Rattle.iceoryx2_parts.specs.Form.{text, number, truth, option, deadline, message}
 use Rattle.iceoryx2_parts.specs.Reading.{Part, as_at, counted_at, deadline_at, IsReadBy}
 use Rattle.iceoryx2_parts.proofs.Parts.{IsBytes, IsBytes-rest, bind_some, guard_is, some_is, Takes, Reads, Reads-then, Reads-as, Reads-where, Reads-form, Reads-fits, Reads-each_byte, Reads-literal, Reads-number64, Reads-text, Reads-truth, Reads-option, Reads-counted}
+use Rattle.iceoryx2_parts.proofs.Grouped.{regrouped}
 use Rattle.iceoryx2_parts.proofs.Times.{Reads-deadline, Reads-id}
 use Rattle.iceoryx2_parts.proofs.Messages.{Reads-message}
-use Rattle.iceoryx2_data.specs.declared.bytes.TheConstants.{EVENT_BYTE, PUBLISH_SUBSCRIBE_BYTE}
-use Rattle.iceoryx2_data.specs.Form.{event, publish_subscribe, pattern, pair, attributes, magic, version, description, IsForm}
-use Rattle.iceoryx2_data.specs.Reading.{pair_from, pair_at, attributes_at, event_from, event_at, publish_subscribe_from, publish_subscribe_at, pattern_at, description_from, description_at, all_of}
+use Rattle.iceoryx2_data.specs.declared.bytes.TheConstants.{EVENT_BYTE, PUBLISH_SUBSCRIBE_BYTE, REQUEST_RESPONSE_BYTE}
+use Rattle.iceoryx2_data.specs.Form.{event, publish_subscribe, request_response, pattern, pair, attributes, magic, version, description, IsForm}
+use Rattle.iceoryx2_data.specs.Reading.{pair_from, pair_at, attributes_at, event_from, event_at, publish_subscribe_from, publish_subscribe_at, Counts, request_response_from, request_response_at, pattern_at, description_from, description_at, all_of}
 
 -- ---- attributes
 
@@ -43,14 +46,8 @@ Reads-event = Reads-form _ _ event IsEvent (Reads-as event_from (λ s. (s.max_no
     (λ b h. (h.max_notifiers, (h.max_listeners, (h.event_id_max_value, (h.max_nodes, (h.created, (h.dropped, (h.dead, h.deadline))))))))
     (Reads-then _ _ _ _ _ _ Reads-number64 (Reads-then _ _ _ _ _ _ Reads-number64 (Reads-then _ _ _ _ _ _ Reads-number64 (Reads-then _ _ _ _ _ _ Reads-number64
     (Reads-then _ _ _ _ _ _ Reads-id (Reads-then _ _ _ _ _ _ Reads-id (Reads-then _ _ _ _ _ _ Reads-id (Reads-option deadline_at deadline IsDeadline Reads-deadline)))))))))
-    (λ s. simp append_assoc)
-
-regroup_eight : (a b c d e f g h : List ℕ) → a ++ (b ++ (c ++ (d ++ (e ++ (f ++ (g ++ h)))))) ≡ a ++ b ++ c ++ d ++ e ++ f ++ g ++ h
-regroup_eight a b c d e f g h = simp append_assoc
-
--- eight parts behind a byte, written one behind the other
-pub behind_byte : (out : List ℕ) (byte : ℕ) (a b c d e f g h : List ℕ) → (out ++ (byte ∷ [])) ++ a ++ b ++ c ++ d ++ e ++ f ++ g ++ h ≡ out ++ (byte ∷ (a ++ b ++ c ++ d ++ e ++ f ++ g ++ h))
-behind_byte out byte a b c d e f g h = simp append_assoc
+    (λ s. regrouped (number s.max_notifiers) (number s.max_listeners ∷ number s.event_id_max_value ∷ number s.max_nodes ∷ option number s.notifier_created_event ∷ option number s.notifier_dropped_event
+    ∷ option number s.notifier_dead_event ∷ option deadline s.deadline ∷ []))
 
 pub Reads-publish_subscribe : Reads publish_subscribe_at publish_subscribe IsPublishSubscribe
 unfolding publish_subscribe_at
@@ -61,8 +58,38 @@ Reads-publish_subscribe = Reads-form _ _ publish_subscribe IsPublishSubscribe (R
     (λ b h. (h.max_publishers, (h.max_subscribers, (h.subscriber_max_buffer_size, (h.history_size, (h.subscriber_max_borrowed_samples, (tt, (h.max_nodes, h.message))))))))
     (Reads-then _ _ _ _ _ _ Reads-number64 (Reads-then _ _ _ _ _ _ Reads-number64 (Reads-then _ _ _ _ _ _ Reads-number64 (Reads-then _ _ _ _ _ _ Reads-number64
     (Reads-then _ _ _ _ _ _ Reads-number64 (Reads-then _ _ _ _ _ _ Reads-truth (Reads-then _ _ _ _ _ _ Reads-number64 Reads-message))))))))
-    (λ s. regroup_eight (number s.max_publishers) (number s.max_subscribers) (number s.subscriber_max_buffer_size) (number s.history_size) (number s.subscriber_max_borrowed_samples)
-    (truth s.enable_safe_overflow) (number s.max_nodes) (message s.message_type_details))
+    (λ s. regrouped (number s.max_publishers) (number s.max_subscribers ∷ number s.subscriber_max_buffer_size ∷ number s.history_size ∷ number s.subscriber_max_borrowed_samples
+    ∷ truth s.enable_safe_overflow ∷ number s.max_nodes ∷ message s.message_type_details ∷ []))
+
+abbrev messages_of : RequestResponseConfig → Message × Message
+messages_of s = (s.request_message_type_details, s.response_message_type_details)
+
+abbrev counts_of : RequestResponseConfig → Counts
+counts_of s = (s.max_active_requests_per_client, (s.max_loaned_requests, (s.max_borrowed_responses_per_pending_response, (s.max_response_buffer_size, (s.max_servers, (s.max_clients, (s.max_nodes, messages_of s)))))))
+
+pub Reads-request_response : Reads request_response_at request_response IsRequestResponse
+unfolding request_response_at
+Reads-request_response = Reads-form _ _ request_response IsRequestResponse (Reads-as request_response_from
+    (λ s. (s.enable_safe_overflow_for_requests, (s.enable_safe_overflow_for_responses, (s.enable_fire_and_forget_requests, counts_of s))))
+    _ _ _ IsRequestResponse (λ b. refl) (λ a. refl)
+    (λ a h. record {
+      max_active_requests_per_client = h.1.1.1.0;
+      max_loaned_requests = h.1.1.1.1.0;
+      max_borrowed_responses_per_pending_response = h.1.1.1.1.1.0;
+      max_response_buffer_size = h.1.1.1.1.1.1.0;
+      max_servers = h.1.1.1.1.1.1.1.0;
+      max_clients = h.1.1.1.1.1.1.1.1.0;
+      max_nodes = h.1.1.1.1.1.1.1.1.1.0;
+      request = h.1.1.1.1.1.1.1.1.1.1.0;
+      response = h.1.1.1.1.1.1.1.1.1.1.1;
+    })
+    (λ b h. (tt, (tt, (tt, (h.max_active_requests_per_client, (h.max_loaned_requests, (h.max_borrowed_responses_per_pending_response, (h.max_response_buffer_size, (h.max_servers, (h.max_clients, (h.max_nodes, (h.request, h.response))))))))))))
+    (Reads-then _ _ _ _ _ _ Reads-truth (Reads-then _ _ _ _ _ _ Reads-truth (Reads-then _ _ _ _ _ _ Reads-truth (Reads-then _ _ _ _ _ _ Reads-number64 (Reads-then _ _ _ _ _ _ Reads-number64
+    (Reads-then _ _ _ _ _ _ Reads-number64 (Reads-then _ _ _ _ _ _ Reads-number64 (Reads-then _ _ _ _ _ _ Reads-number64 (Reads-then _ _ _ _ _ _ Reads-number64 (Reads-then _ _ _ _ _ _ Reads-number64
+    (Reads-then _ _ _ _ _ _ Reads-message Reads-message))))))))))))
+    (λ s. regrouped (truth s.enable_safe_overflow_for_requests) (truth s.enable_safe_overflow_for_responses ∷ truth s.enable_fire_and_forget_requests ∷ number s.max_active_requests_per_client ∷ number s.max_loaned_requests
+    ∷ number s.max_borrowed_responses_per_pending_response ∷ number s.max_response_buffer_size ∷ number s.max_servers ∷ number s.max_clients ∷ number s.max_nodes
+    ∷ message s.request_message_type_details ∷ message s.response_message_type_details ∷ []))
 
 -- ---- patterns
 
@@ -89,10 +116,15 @@ either_is false r s y e = inr e
 is_taken : (flag : ℕ) (bytes : List ℕ) (x : MessagingPattern × List ℕ) → IsBytes (flag ∷ bytes) → pattern_at (flag ∷ bytes) ≡ Some x → IsTaken flag bytes x
 unfolding pattern_at
 is_taken flag bytes x fits e =
-    elim (either_is (eqb flag EVENT_BYTE) (as_at Event event_at bytes) (cond (eqb flag PUBLISH_SUBSCRIBE_BYTE) (as_at PublishSubscribe publish_subscribe_at bytes) None) x e) [
+    let third : Option (MessagingPattern × List ℕ) = cond (eqb flag REQUEST_RESPONSE_BYTE) (as_at RequestResponse request_response_at bytes) None in
+    let second : Option (MessagingPattern × List ℕ) = cond (eqb flag PUBLISH_SUBSCRIBE_BYTE) (as_at PublishSubscribe publish_subscribe_at bytes) third in
+    elim (either_is (eqb flag EVENT_BYTE) (as_at Event event_at bytes) second x e) [
       | inl h ↦ taken Event EVENT_BYTE event_at event IsEvent Reads-event (λ s. refl) (λ s f. f) flag bytes x fits (eqb-true _ _ h.0) h.1
-      | inr h ↦ let g = guard_is (eqb flag PUBLISH_SUBSCRIBE_BYTE) (as_at PublishSubscribe publish_subscribe_at bytes) x h in
-          taken PublishSubscribe PUBLISH_SUBSCRIBE_BYTE publish_subscribe_at publish_subscribe IsPublishSubscribe Reads-publish_subscribe (λ s. refl) (λ s f. f) flag bytes x fits (eqb-true _ _ g.0) g.1
+      | inr o ↦ elim (either_is (eqb flag PUBLISH_SUBSCRIBE_BYTE) (as_at PublishSubscribe publish_subscribe_at bytes) third x o) [
+        | inl h ↦ taken PublishSubscribe PUBLISH_SUBSCRIBE_BYTE publish_subscribe_at publish_subscribe IsPublishSubscribe Reads-publish_subscribe (λ s. refl) (λ s f. f) flag bytes x fits (eqb-true _ _ h.0) h.1
+        | inr p ↦ let g = guard_is (eqb flag REQUEST_RESPONSE_BYTE) (as_at RequestResponse request_response_at bytes) x p in
+            taken RequestResponse REQUEST_RESPONSE_BYTE request_response_at request_response IsRequestResponse Reads-request_response (λ s. refl) (λ s f. f) flag bytes x fits (eqb-true _ _ g.0) g.1
+      ]
     ]
 
 pattern_takes : (bytes : List ℕ) (x : MessagingPattern × List ℕ) → IsBytes bytes → pattern_at bytes ≡ Some x → Takes bytes (pattern x.0) x.1 × IsPattern x.0
@@ -104,14 +136,12 @@ pattern_again : (p : MessagingPattern) (rest : List ℕ) → IsPattern p → pat
 unfolding pattern_at
 pattern_again (Event s) rest fits = rw (Reads-event.again s rest fits) refl
 pattern_again (PublishSubscribe s) rest fits = rw (Reads-publish_subscribe.again s rest fits) refl
+pattern_again (RequestResponse s) rest fits = rw (Reads-request_response.again s rest fits) refl
 
 pub Reads-pattern : Reads pattern_at pattern IsPattern
 Reads-pattern = record { takes = pattern_takes; again = pattern_again }
 
 -- ---- the whole
-
-regroup : (a b c d e f : List ℕ) → a ++ (b ++ (c ++ (d ++ (e ++ f)))) ≡ a ++ b ++ c ++ d ++ e ++ f
-regroup a b c d e f = simp append_assoc
 
 pub Reads-description : Reads description_at description IsDescription
 unfolding description_at
@@ -119,7 +149,7 @@ Reads-description = Reads-form _ _ description IsDescription (Reads-as descripti
     (λ a h. record { hash = record { length = h.1.1.0.0; bytes = h.1.1.0.1 }; name = h.1.1.1.0; attributes = h.1.1.1.1.0; pattern = h.1.1.1.1.1 })
     (λ d h. (tt, (tt, ((h.hash.length, h.hash.bytes), (h.name, (h.attributes, h.pattern))))))
     (Reads-then _ _ _ _ _ _ (Reads-literal magic) (Reads-then _ _ _ _ _ _ (Reads-literal version) (Reads-then _ _ _ _ _ _ (Reads-each_byte HASH_LENGTH) (Reads-then _ _ _ _ _ _ (Reads-text MIN_NAME_LENGTH MAX_NAME_LENGTH (omega arith)) (Reads-then _ _ _ _ _ _ Reads-attributes Reads-pattern))))))
-    (λ d. regroup magic version d.hash.0 (text d.name) (attributes d.attributes) (pattern d.pattern))
+    (λ d. regrouped magic (version ∷ d.hash.0 ∷ text d.name ∷ attributes d.attributes ∷ pattern d.pattern ∷ []))
 
 pub all_takes : (bytes : List ℕ) (d : Description) → IsBytes bytes → all_of bytes ≡ Some d → IsForm d bytes
 unfolding all_of

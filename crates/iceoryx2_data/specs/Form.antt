@@ -3,11 +3,13 @@ use Rattle.std.specs.Prelude.{ℕ, ◌≡◌, List, [], ◌∷◌, ◌++◌, len
 use Rattle.std.specs.Int.{w16, to_be_bytes}
 use Rattle.std.specs.List.{flat_map}
 use Rattle.iceoryx2_attributes.specs.Attributes.{Pair}
-use Rattle.iceoryx2_data.specs.declared.bytes.TheConstants.{EVENT_BYTE, PUBLISH_SUBSCRIBE_BYTE}
+use Rattle.iceoryx2_data.specs.declared.bytes.TheConstants.{EVENT_BYTE, PUBLISH_SUBSCRIBE_BYTE, REQUEST_RESPONSE_BYTE}
 use Rattle.iceoryx2_values.specs.declared.description.MessagingPattern.{MessagingPattern}
 use Rattle.iceoryx2_values.specs.declared.description.MessagingPattern.TheVariants.{Event, PublishSubscribe}
+use Rattle.iceoryx2_values.specs.declared.description.MessagingPattern.TheVariants.{RequestResponse}
 use Rattle.iceoryx2_values.specs.declared.event.StaticConfig.{StaticConfig as EventConfig}
 use Rattle.iceoryx2_values.specs.declared.publish_subscribe.StaticConfig.{StaticConfig as PublishSubscribeConfig}
+use Rattle.iceoryx2_values.specs.declared.request_response.StaticConfig.{StaticConfig as RequestResponseConfig}
 use Rattle.iceoryx2_values.specs.Description.{Description, IsDescription}
 use Rattle.iceoryx2_parts.specs.Form.{text, number, truth, option, deadline, message}
 
@@ -31,10 +33,19 @@ publish_subscribe s = number s.max_publishers ++ number s.max_subscribers ++ num
     ++ number s.history_size ++ number s.subscriber_max_borrowed_samples ++ truth s.enable_safe_overflow
     ++ number s.max_nodes ++ message s.message_type_details
 
+-- the settings in the order in which they are verified, and then the types of a request and of a response
+abbrev pub request_response : RequestResponseConfig → List ℕ
+request_response s = truth s.enable_safe_overflow_for_requests ++ truth s.enable_safe_overflow_for_responses
+    ++ truth s.enable_fire_and_forget_requests ++ number s.max_active_requests_per_client
+    ++ number s.max_loaned_requests ++ number s.max_borrowed_responses_per_pending_response
+    ++ number s.max_response_buffer_size ++ number s.max_servers ++ number s.max_clients ++ number s.max_nodes
+    ++ message s.request_message_type_details ++ message s.response_message_type_details
+
 -- the pattern's byte, and its settings
 abbrev pub pattern : MessagingPattern → List ℕ
 pattern (Event s) = EVENT_BYTE ∷ event s
 pattern (PublishSubscribe s) = PUBLISH_SUBSCRIBE_BYTE ∷ publish_subscribe s
+pattern (RequestResponse s) = REQUEST_RESPONSE_BYTE ∷ request_response s
 
 -- the letters by which the form is known
 abbrev pub magic : List ℕ

@@ -2,13 +2,15 @@
 use Rattle.std.specs.Prelude.{ℕ, Bool, List, [], ◌∷◌, ◌++◌, length}
 use Rattle.std.specs.Prelude.{Option, Some, None, ◌==◌, if◌then◌else◌}
 use Rattle.std.specs.Int.{w64}
-use Rattle.iceoryx2_data.specs.declared.bytes.TheConstants.{EVENT_BYTE, PUBLISH_SUBSCRIBE_BYTE}
+use Rattle.iceoryx2_data.specs.declared.bytes.TheConstants.{EVENT_BYTE, PUBLISH_SUBSCRIBE_BYTE, REQUEST_RESPONSE_BYTE}
 use Rattle.iceoryx2_values.specs.declared.description.TheConstants.{HASH_LENGTH, MIN_NAME_LENGTH, MAX_NAME_LENGTH}
 use Rattle.iceoryx2_values.specs.declared.description.MessagingPattern.{MessagingPattern}
 use Rattle.iceoryx2_values.specs.declared.description.MessagingPattern.TheVariants.{Event, PublishSubscribe}
+use Rattle.iceoryx2_values.specs.declared.description.MessagingPattern.TheVariants.{RequestResponse}
 use Rattle.iceoryx2_values.specs.declared.event.StaticConfig.{StaticConfig as EventConfig}
 use Rattle.iceoryx2_values.specs.declared.event.Deadline.{Deadline}
 use Rattle.iceoryx2_values.specs.declared.publish_subscribe.StaticConfig.{StaticConfig as PublishSubscribeConfig}
+use Rattle.iceoryx2_values.specs.declared.request_response.StaticConfig.{StaticConfig as RequestResponseConfig}
 use Rattle.iceoryx2_attributes.specs.declared.attribute.TheConstants.{MIN_KEY_LENGTH, MAX_KEY_LENGTH}
 use Rattle.iceoryx2_attributes.specs.declared.attribute.TheConstants.{MAX_VALUE_LENGTH, MAX_ATTRIBUTES}
 use Rattle.iceoryx2_attributes.specs.Attributes.{Pair, pair_of, ascends}
@@ -82,12 +84,40 @@ publish_subscribe_at = as_at publish_subscribe_from (then_at (number_at w64) (th
     (then_at (number_at w64) (then_at (number_at w64) (then_at (number_at w64) (then_at truth_at
     (then_at (number_at w64) message_at)))))))
 
+-- ---- the settings of request-response
+
+abbrev pub Counts : Type 0
+Counts = ℕ × (ℕ × (ℕ × (ℕ × (ℕ × (ℕ × (ℕ × (Message × Message)))))))
+
+abbrev pub request_response_from : Bool × (Bool × (Bool × Counts)) → RequestResponseConfig
+request_response_from p = record {
+  enable_safe_overflow_for_requests = p.0;
+  enable_safe_overflow_for_responses = p.1.0;
+  enable_fire_and_forget_requests = p.1.1.0;
+  max_active_requests_per_client = p.1.1.1.0;
+  max_loaned_requests = p.1.1.1.1.0;
+  max_borrowed_responses_per_pending_response = p.1.1.1.1.1.0;
+  max_response_buffer_size = p.1.1.1.1.1.1.0;
+  max_servers = p.1.1.1.1.1.1.1.0;
+  max_clients = p.1.1.1.1.1.1.1.1.0;
+  max_nodes = p.1.1.1.1.1.1.1.1.1.0;
+  request_message_type_details = p.1.1.1.1.1.1.1.1.1.1.0;
+  response_message_type_details = p.1.1.1.1.1.1.1.1.1.1.1;
+}
+
+unfoldable pub request_response_at : Part RequestResponseConfig
+request_response_at = as_at request_response_from (then_at truth_at (then_at truth_at (then_at truth_at
+    (then_at (number_at w64) (then_at (number_at w64) (then_at (number_at w64) (then_at (number_at w64)
+    (then_at (number_at w64) (then_at (number_at w64) (then_at (number_at w64)
+    (then_at message_at message_at)))))))))))
+
 -- ---- the whole
 
 unfoldable pub pattern_at : Part MessagingPattern
 pattern_at [] = None
 pattern_at (b ∷ rest) = if b == EVENT_BYTE then as_at Event event_at rest
-    else if b == PUBLISH_SUBSCRIBE_BYTE then as_at PublishSubscribe publish_subscribe_at rest else None
+    else if b == PUBLISH_SUBSCRIBE_BYTE then as_at PublishSubscribe publish_subscribe_at rest
+    else if b == REQUEST_RESPONSE_BYTE then as_at RequestResponse request_response_at rest else None
 
 abbrev pub DescriptionParts : Type 0
 DescriptionParts = Unit {0} × (Unit {0} × (List ℕ × (List ℕ × (List Pair × MessagingPattern))))

@@ -24,6 +24,9 @@ pub const EVENT_BYTE: u8 = 1;
 /// The byte that says that a service is one of publish-subscribe.
 pub const PUBLISH_SUBSCRIBE_BYTE: u8 = 2;
 
+/// The byte that says that a service is one of request-response.
+pub const REQUEST_RESPONSE_BYTE: u8 = 3;
+
 /// The byte form of the description.
 pub fn encode(alloc: Global, description: &StaticConfig) -> Result<Vec<u8>, AllocError>
     ensures { IfOk result (λ bytes. IsForm description.now bytes.items) }

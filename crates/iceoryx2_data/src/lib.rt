@@ -4,4 +4,4 @@
 pub mod bytes;
 
 pub use iceoryx2_attributes::attribute;
-pub use iceoryx2_values::{config, description, event, publish_subscribe, time};
+pub use iceoryx2_values::{config, description, event, publish_subscribe, request_response, time};

@@ -1,4 +1,5 @@
 pub mod Parts
+pub mod Grouped
 pub mod Times
 pub mod Messages
 pub mod EachByte

@@ -3,7 +3,8 @@ use Rattle.std.specs.Prelude.{ℕ, ◌≡◌, ◌<◌, ◌^◌, List, length, Al
 use Rattle.iceoryx2_values.specs.declared.description.TheConstants.{HASH_LENGTH}
 use Rattle.iceoryx2_values.specs.declared.description.ServiceHash.{ServiceHash}
 use Rattle.iceoryx2_values.specs.declared.description.MessagingPattern.{MessagingPattern}
-use Rattle.iceoryx2_values.specs.declared.description.MessagingPattern.TheVariants.{Event, PublishSubscribe, RequestResponse}
+use Rattle.iceoryx2_values.specs.declared.description.MessagingPattern.TheVariants.{Event, PublishSubscribe}
+use Rattle.iceoryx2_values.specs.declared.description.MessagingPattern.TheVariants.{RequestResponse}
 use Rattle.iceoryx2_values.specs.declared.event.StaticConfig.{StaticConfig as EventConfig}
 use Rattle.iceoryx2_values.specs.declared.publish_subscribe.StaticConfig.{StaticConfig as PublishSubscribeConfig}
 use Rattle.iceoryx2_values.specs.declared.request_response.StaticConfig.{StaticConfig as RequestResponseConfig}

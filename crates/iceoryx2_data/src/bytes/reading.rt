@@ -4,9 +4,12 @@ ghost use Rattle.std.specs.Prelude.{◌≡◌, ◌<◌, ◌≤◌, length, OnOk}
 ghost use Rattle.iceoryx2_attributes.specs.Attributes.{AreAttributes};
 ghost use Rattle.iceoryx2_parts.specs.Reading.{IsReadBy, bytes_at, text_at};
 ghost use Rattle.iceoryx2_data.specs.Reading.{pairs_at, more_at, attributes_at};
-ghost use Rattle.iceoryx2_data.specs.Reading.{event_at, publish_subscribe_at, pattern_at, description_at, all_of};
+ghost use Rattle.iceoryx2_data.specs.Reading.{event_at, publish_subscribe_at, request_response_at, pattern_at};
+ghost use Rattle.iceoryx2_data.specs.Reading.{description_at, all_of};
 
-use super::{DecodeError, EVENT_BYTE, MAGIC, PUBLISH_SUBSCRIBE_BYTE, VERSION};
+use super::{
+    DecodeError, EVENT_BYTE, MAGIC, PUBLISH_SUBSCRIBE_BYTE, REQUEST_RESPONSE_BYTE, VERSION,
+};
 use iceoryx2_attributes::attribute::{
     AttributeSet, MAX_ATTRIBUTES, MAX_KEY_LENGTH, MAX_VALUE_LENGTH, MIN_KEY_LENGTH, PushError,
 };
@@ -18,7 +21,7 @@ use iceoryx2_values::description::{
     HASH_LENGTH, MAX_NAME_LENGTH, MIN_NAME_LENGTH, MessagingPattern, ServiceHash, ServiceName,
     StaticConfig,
 };
-use iceoryx2_values::{event, publish_subscribe};
+use iceoryx2_values::{event, publish_subscribe, request_response};
 use std::alloc::Global;
 
 #[tactic(auto, unfolding(crate::specs::Reading::event_at))]
@@ -93,6 +96,50 @@ fn publish_subscribe_of(
     ))
 }
 
+#[tactic(auto, unfolding(crate::specs::Reading::request_response_at))]
+fn request_response_of(
+    alloc: Global,
+    bytes: &[u8],
+) -> Result<(request_response::StaticConfig, &[u8]), DecodeError>
+    ensures { IsReadBy (λ x. (x.0, x.1.now)) result (request_response_at bytes.now) }
+{
+    let (enable_safe_overflow_for_requests, rest) = truth_of(bytes)?;
+    let (enable_safe_overflow_for_responses, rest) = truth_of(rest)?;
+    let (enable_fire_and_forget_requests, rest) = truth_of(rest)?;
+    let (max_active_requests_per_client, rest) = u64_at(rest)?;
+    let (max_loaned_requests, rest) = u64_at(rest)?;
+    let (max_borrowed_responses_per_pending_response, rest) = u64_at(rest)?;
+    let (max_response_buffer_size, rest) = u64_at(rest)?;
+    let (max_servers, rest) = u64_at(rest)?;
+    let (max_clients, rest) = u64_at(rest)?;
+    let (max_nodes, rest) = u64_at(rest)?;
+    let (request_message_type_details, rest) = match message_of(alloc, rest) {
+        Err(error) => return Err(error),
+        Ok(found) => found,
+    };
+    let (response_message_type_details, rest) = match message_of(alloc, rest) {
+        Err(error) => return Err(error),
+        Ok(found) => found,
+    };
+    Ok((
+        request_response::StaticConfig {
+            enable_safe_overflow_for_requests,
+            enable_safe_overflow_for_responses,
+            enable_fire_and_forget_requests,
+            max_active_requests_per_client,
+            max_loaned_requests,
+            max_borrowed_responses_per_pending_response,
+            max_response_buffer_size,
+            max_servers,
+            max_clients,
+            max_nodes,
+            request_message_type_details,
+            response_message_type_details,
+        },
+        rest,
+    ))
+}
+
 #[tactic(auto, unfolding(crate::specs::Reading::pattern_at))]
 fn pattern_of(alloc: Global, bytes: &[u8]) -> Result<(MessagingPattern, &[u8]), DecodeError>
     ensures { IsReadBy (λ x. (x.0, x.1.now)) result (pattern_at bytes.now) }
@@ -106,6 +153,10 @@ fn pattern_of(alloc: Global, bytes: &[u8]) -> Result<(MessagingPattern, &[u8]), 
         [PUBLISH_SUBSCRIBE_BYTE, rest @ ..] => match publish_subscribe_of(alloc, rest) {
             Err(error) => Err(error),
             Ok((settings, rest)) => Ok((MessagingPattern::PublishSubscribe(settings), rest)),
+        },
+        [REQUEST_RESPONSE_BYTE, rest @ ..] => match request_response_of(alloc, rest) {
+            Err(error) => Err(error),
+            Ok((settings, rest)) => Ok((MessagingPattern::RequestResponse(settings), rest)),
         },
         [_, ..] => Err(DecodeError::Malformed),
     }

@@ -5,13 +5,13 @@ ghost use Rattle.std.specs.List.{flat_map};
 ghost use Rattle.iceoryx2_values.specs.Description.{IsDescription};
 ghost use Rattle.iceoryx2_data.specs.Form as form;
 
-use super::{EVENT_BYTE, MAGIC, PUBLISH_SUBSCRIBE_BYTE, VERSION};
+use super::{EVENT_BYTE, MAGIC, PUBLISH_SUBSCRIBE_BYTE, REQUEST_RESPONSE_BYTE, VERSION};
 use iceoryx2_attributes::attribute::{Attribute, AttributeSet};
 use iceoryx2_parts::writing::{
     put_id, put_message, put_number, put_optional_deadline, put_text, put_truth,
 };
 use iceoryx2_values::description::{MessagingPattern, StaticConfig};
-use iceoryx2_values::{event, publish_subscribe};
+use iceoryx2_values::{event, publish_subscribe, request_response};
 use std::alloc::AllocError;
 
 /// The key, and then the value.
@@ -78,12 +78,37 @@ fn put_publish_subscribe(
     Ok(())
 }
 
+/// The pattern's byte, the settings, and the types of a request and of a response.
+fn put_request_response(
+    out: &mut Vec<u8>,
+    settings: &request_response::StaticConfig,
+) -> Result<(), AllocError>
+    ensures { OnOk result (out.new.items
+        ≡ out.old.items ++ form.pattern (MessagingPattern.RequestResponse settings.now)) }
+{
+    out.push(REQUEST_RESPONSE_BYTE)?;
+    put_truth(out, settings.enable_safe_overflow_for_requests)?;
+    put_truth(out, settings.enable_safe_overflow_for_responses)?;
+    put_truth(out, settings.enable_fire_and_forget_requests)?;
+    put_number(out, settings.max_active_requests_per_client)?;
+    put_number(out, settings.max_loaned_requests)?;
+    put_number(out, settings.max_borrowed_responses_per_pending_response)?;
+    put_number(out, settings.max_response_buffer_size)?;
+    put_number(out, settings.max_servers)?;
+    put_number(out, settings.max_clients)?;
+    put_number(out, settings.max_nodes)?;
+    put_message(out, &settings.request_message_type_details)?;
+    put_message(out, &settings.response_message_type_details)?;
+    Ok(())
+}
+
 fn put_pattern(out: &mut Vec<u8>, pattern: &MessagingPattern) -> Result<(), AllocError>
     ensures { OnOk result (out.new.items ≡ out.old.items ++ form.pattern pattern.now) }
 {
     match pattern {
         MessagingPattern::Event(settings) => put_event(out, settings),
         MessagingPattern::PublishSubscribe(settings) => put_publish_subscribe(out, settings),
+        MessagingPattern::RequestResponse(settings) => put_request_response(out, settings),
     }
 }
 
