@@ -1,5 +1,5 @@
 -- The names of the errors' variants.
-use Rattle.std.specs.Prelude.{ℕ, List, codes}
+use Rattle.std.specs.Prelude.{ℕ, List, ◌++◌, codes}
 use Rattle.iceoryx2_errors.specs.declared.error.events.EventOpenError.{EventOpenError}
 use Rattle.iceoryx2_errors.specs.declared.error.events.EventOpenError.TheVariants as opening
 use Rattle.iceoryx2_errors.specs.declared.error.events.EventCreateError.{EventCreateError}
@@ -12,6 +12,12 @@ use Rattle.iceoryx2_errors.specs.declared.error.request_response.RequestResponse
 use Rattle.iceoryx2_errors.specs.declared.error.request_response.RequestResponseOpenError.TheVariants as request_opening
 use Rattle.iceoryx2_errors.specs.declared.error.request_response.RequestResponseCreateError.{RequestResponseCreateError}
 use Rattle.iceoryx2_errors.specs.declared.error.request_response.RequestResponseCreateError.TheVariants as request_creating
+use Rattle.iceoryx2_errors.specs.declared.error.events.EventOpenOrCreateError.{EventOpenOrCreateError}
+use Rattle.iceoryx2_errors.specs.declared.error.events.EventOpenOrCreateError.TheVariants as event_either
+use Rattle.iceoryx2_errors.specs.declared.error.publish_subscribe.PublishSubscribeOpenOrCreateError.{PublishSubscribeOpenOrCreateError}
+use Rattle.iceoryx2_errors.specs.declared.error.publish_subscribe.PublishSubscribeOpenOrCreateError.TheVariants as subscribe_either
+use Rattle.iceoryx2_errors.specs.declared.error.request_response.RequestResponseOpenOrCreateError.{RequestResponseOpenOrCreateError}
+use Rattle.iceoryx2_errors.specs.declared.error.request_response.RequestResponseOpenOrCreateError.TheVariants as request_either
 use Rattle.iceoryx2_errors.specs.declared.error.CloseError.{CloseError}
 use Rattle.iceoryx2_errors.specs.declared.error.CloseError.TheVariants as closing
 
@@ -127,6 +133,29 @@ request_response_create_error_name request_creating.InsufficientPermissions = co
 request_response_create_error_name request_creating.HangsInCreation = codes "HangsInCreation"
 request_response_create_error_name request_creating.ServiceInCorruptedState = codes "ServiceInCorruptedState"
 request_response_create_error_name request_creating.OutOfMemory = codes "OutOfMemory"
+
+-- of open or create: an error of the one or the other is followed by its own name
+
+abbrev pub event_open_or_create_error_name : EventOpenOrCreateError → List ℕ
+event_open_or_create_error_name (event_either.EventOpenError e) =
+    codes "EventOpenError(" ++ event_open_error_name e ++ codes ")"
+event_open_or_create_error_name (event_either.EventCreateError e) =
+    codes "EventCreateError(" ++ event_create_error_name e ++ codes ")"
+event_open_or_create_error_name event_either.SystemInFlux = codes "SystemInFlux"
+
+abbrev pub publish_subscribe_open_or_create_error_name : PublishSubscribeOpenOrCreateError → List ℕ
+publish_subscribe_open_or_create_error_name (subscribe_either.PublishSubscribeOpenError e) =
+    codes "PublishSubscribeOpenError(" ++ publish_subscribe_open_error_name e ++ codes ")"
+publish_subscribe_open_or_create_error_name (subscribe_either.PublishSubscribeCreateError e) =
+    codes "PublishSubscribeCreateError(" ++ publish_subscribe_create_error_name e ++ codes ")"
+publish_subscribe_open_or_create_error_name subscribe_either.SystemInFlux = codes "SystemInFlux"
+
+abbrev pub request_response_open_or_create_error_name : RequestResponseOpenOrCreateError → List ℕ
+request_response_open_or_create_error_name (request_either.RequestResponseOpenError e) =
+    codes "RequestResponseOpenError(" ++ request_response_open_error_name e ++ codes ")"
+request_response_open_or_create_error_name (request_either.RequestResponseCreateError e) =
+    codes "RequestResponseCreateError(" ++ request_response_create_error_name e ++ codes ")"
+request_response_open_or_create_error_name request_either.SystemInFlux = codes "SystemInFlux"
 
 -- of one that hands something back too
 abbrev pub close_error_name : {F : Type 0} → CloseError F → List ℕ

@@ -10,9 +10,13 @@ mod events;
 pub mod publish_subscribe;
 pub mod request_response;
 
-pub use events::{EventCreateError, EventOpenError};
-pub use publish_subscribe::{PublishSubscribeCreateError, PublishSubscribeOpenError};
-pub use request_response::{RequestResponseCreateError, RequestResponseOpenError};
+pub use events::{EventCreateError, EventOpenError, EventOpenOrCreateError};
+pub use publish_subscribe::{
+    PublishSubscribeCreateError, PublishSubscribeOpenError, PublishSubscribeOpenOrCreateError,
+};
+pub use request_response::{
+    RequestResponseCreateError, RequestResponseOpenError, RequestResponseOpenOrCreateError,
+};
 
 /// What a look finds wrong, whatever the pattern.
 #[derive(Debug, Clone, Copy, PartialEq, Eq, Hash)]

@@ -2,7 +2,9 @@
 
 ghost use Rattle.std.specs.Prelude.{◌≡◌, ◌++◌, codes, Some};
 ghost use Rattle.iceoryx2_errors.specs.Texts.{event_create_error_name, event_open_error_name};
+ghost use Rattle.iceoryx2_errors.specs.Texts.{event_open_or_create_error_name};
 ghost use Rattle.iceoryx2_errors.specs.States.{create_error_of_state, open_error_of_state};
+ghost use Rattle.iceoryx2_errors.specs.declared.error.events.EventOpenOrCreateError.TheVariants as either;
 
 use super::ServiceState;
 use std::error::Error;
@@ -168,5 +170,65 @@ impl From<ServiceState> for EventCreateError {
             ServiceState::Corrupted => EventCreateError::ServiceInCorruptedState,
             ServiceState::OutOfMemory => EventCreateError::OutOfMemory,
         }
+    }
+}
+
+/// Why a service of events is neither opened nor created.
+#[derive(Debug, Clone, Copy, PartialEq, Eq)]
+pub enum EventOpenOrCreateError {
+    /// The round's own look met this fault, or the service was there and isn't opened.
+    EventOpenError(EventOpenError),
+    /// The service wasn't there and isn't created.
+    EventCreateError(EventCreateError),
+    /// In each of six rounds the service came or went between the look and what followed it, or was
+    /// in a state that may pass.
+    SystemInFlux,
+}
+
+impl fmt::Display for EventOpenOrCreateError {
+    ghost output = { λ error.
+        Some (codes "EventOpenOrCreateError::" ++ event_open_or_create_error_name error) };
+
+    fn fmt<W: fmt::Write>(&self, f: &mut fmt::Formatter<W>) -> fmt::Result {
+        match self {
+            EventOpenOrCreateError::EventOpenError(error) => {
+                let name = error.name();
+                write!(f, "EventOpenOrCreateError::EventOpenError({name})")
+            }
+            EventOpenOrCreateError::EventCreateError(error) => {
+                let name = error.name();
+                write!(f, "EventOpenOrCreateError::EventCreateError({name})")
+            }
+            EventOpenOrCreateError::SystemInFlux => {
+                write!(f, "EventOpenOrCreateError::SystemInFlux")
+            }
+        }
+    }
+}
+
+impl Error for EventOpenOrCreateError {}
+
+/// A look's outcome is an error of the open.
+impl From<ServiceState> for EventOpenOrCreateError {
+    ghost from_gives = { λ state outcome. outcome ≡ either.EventOpenError (open_error_of_state state) };
+
+    fn from(state: ServiceState) -> EventOpenOrCreateError {
+        EventOpenOrCreateError::EventOpenError(EventOpenError::from(state))
+    }
+}
+
+impl From<EventOpenError> for EventOpenOrCreateError {
+    ghost from_gives = { λ error outcome. outcome ≡ either.EventOpenError error };
+
+    fn from(error: EventOpenError) -> EventOpenOrCreateError {
+        EventOpenOrCreateError::EventOpenError(error)
+    }
+}
+
+impl From<EventCreateError> for EventOpenOrCreateError {
+    ghost from_gives = { λ error outcome. outcome ≡ either.EventCreateError error };
+
+    fn from(error: EventCreateError) -> EventOpenOrCreateError {
+        EventOpenOrCreateError::EventCreateError(error)
     }
 }

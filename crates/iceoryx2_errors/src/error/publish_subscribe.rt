@@ -2,7 +2,9 @@
 
 ghost use Rattle.std.specs.Prelude.{◌≡◌, ◌++◌, codes, Some};
 ghost use Rattle.iceoryx2_errors.specs.Texts.{publish_subscribe_create_error_name, publish_subscribe_open_error_name};
+ghost use Rattle.iceoryx2_errors.specs.Texts.{publish_subscribe_open_or_create_error_name};
 ghost use Rattle.iceoryx2_errors.specs.States.{publish_subscribe_create_error_of_state, publish_subscribe_open_error_of_state};
+ghost use Rattle.iceoryx2_errors.specs.declared.error.publish_subscribe.PublishSubscribeOpenOrCreateError.TheVariants as either;
 
 use super::ServiceState;
 use std::error::Error;
@@ -197,5 +199,74 @@ impl From<ServiceAvailabilityState> for PublishSubscribeCreateError {
             ServiceAvailabilityState::IncompatibleTypes =>
                 PublishSubscribeCreateError::AlreadyExists,
         }
+    }
+}
+
+/// Why a service of publish-subscribe is neither opened nor created.
+#[derive(Debug, Clone, Copy, PartialEq, Eq, Hash)]
+pub enum PublishSubscribeOpenOrCreateError {
+    /// The round's own look met this fault, or the service was there and isn't opened.
+    PublishSubscribeOpenError(PublishSubscribeOpenError),
+    /// The service wasn't there and isn't created.
+    PublishSubscribeCreateError(PublishSubscribeCreateError),
+    /// In each of six rounds the service came or went between the look and what followed it, or was
+    /// in a state that may pass.
+    SystemInFlux,
+}
+
+impl fmt::Display for PublishSubscribeOpenOrCreateError {
+    ghost output = { λ error.
+        Some (codes "PublishSubscribeOpenOrCreateError::" ++ publish_subscribe_open_or_create_error_name error) };
+
+    fn fmt<W: fmt::Write>(&self, f: &mut fmt::Formatter<W>) -> fmt::Result {
+        match self {
+            PublishSubscribeOpenOrCreateError::PublishSubscribeOpenError(error) => {
+                let name = error.name();
+                write!(
+                    f,
+                    "PublishSubscribeOpenOrCreateError::PublishSubscribeOpenError({name})"
+                )
+            }
+            PublishSubscribeOpenOrCreateError::PublishSubscribeCreateError(error) => {
+                let name = error.name();
+                write!(
+                    f,
+                    "PublishSubscribeOpenOrCreateError::PublishSubscribeCreateError({name})"
+                )
+            }
+            PublishSubscribeOpenOrCreateError::SystemInFlux => {
+                write!(f, "PublishSubscribeOpenOrCreateError::SystemInFlux")
+            }
+        }
+    }
+}
+
+impl Error for PublishSubscribeOpenOrCreateError {}
+
+/// A look's outcome is an error of the open.
+impl From<ServiceAvailabilityState> for PublishSubscribeOpenOrCreateError {
+    ghost from_gives = { λ state outcome.
+        outcome ≡ either.PublishSubscribeOpenError (publish_subscribe_open_error_of_state state) };
+
+    fn from(state: ServiceAvailabilityState) -> PublishSubscribeOpenOrCreateError {
+        PublishSubscribeOpenOrCreateError::PublishSubscribeOpenError(
+            PublishSubscribeOpenError::from(state),
+        )
+    }
+}
+
+impl From<PublishSubscribeOpenError> for PublishSubscribeOpenOrCreateError {
+    ghost from_gives = { λ error outcome. outcome ≡ either.PublishSubscribeOpenError error };
+
+    fn from(error: PublishSubscribeOpenError) -> PublishSubscribeOpenOrCreateError {
+        PublishSubscribeOpenOrCreateError::PublishSubscribeOpenError(error)
+    }
+}
+
+impl From<PublishSubscribeCreateError> for PublishSubscribeOpenOrCreateError {
+    ghost from_gives = { λ error outcome. outcome ≡ either.PublishSubscribeCreateError error };
+
+    fn from(error: PublishSubscribeCreateError) -> PublishSubscribeOpenOrCreateError {
+        PublishSubscribeOpenOrCreateError::PublishSubscribeCreateError(error)
     }
 }

@@ -2,7 +2,9 @@
 
 ghost use Rattle.std.specs.Prelude.{◌≡◌, ◌++◌, codes, Some};
 ghost use Rattle.iceoryx2_errors.specs.Texts.{request_response_create_error_name, request_response_open_error_name};
+ghost use Rattle.iceoryx2_errors.specs.Texts.{request_response_open_or_create_error_name};
 ghost use Rattle.iceoryx2_errors.specs.States.{request_response_create_error_of_state, request_response_open_error_of_state};
+ghost use Rattle.iceoryx2_errors.specs.declared.error.request_response.RequestResponseOpenOrCreateError.TheVariants as either;
 
 use super::ServiceState;
 use std::error::Error;
@@ -216,5 +218,74 @@ impl From<ServiceAvailabilityState> for RequestResponseCreateError {
             ServiceAvailabilityState::IncompatibleResponseType =>
                 RequestResponseCreateError::AlreadyExists,
         }
+    }
+}
+
+/// Why a service of request-response is neither opened nor created.
+#[derive(Debug, Clone, Copy, PartialEq, Eq)]
+pub enum RequestResponseOpenOrCreateError {
+    /// The round's own look met this fault, or the service was there and isn't opened.
+    RequestResponseOpenError(RequestResponseOpenError),
+    /// The service wasn't there and isn't created.
+    RequestResponseCreateError(RequestResponseCreateError),
+    /// In each of six rounds the service came or went between the look and what followed it, or was
+    /// in a state that may pass.
+    SystemInFlux,
+}
+
+impl fmt::Display for RequestResponseOpenOrCreateError {
+    ghost output = { λ error.
+        Some (codes "RequestResponseOpenOrCreateError::" ++ request_response_open_or_create_error_name error) };
+
+    fn fmt<W: fmt::Write>(&self, f: &mut fmt::Formatter<W>) -> fmt::Result {
+        match self {
+            RequestResponseOpenOrCreateError::RequestResponseOpenError(error) => {
+                let name = error.name();
+                write!(
+                    f,
+                    "RequestResponseOpenOrCreateError::RequestResponseOpenError({name})"
+                )
+            }
+            RequestResponseOpenOrCreateError::RequestResponseCreateError(error) => {
+                let name = error.name();
+                write!(
+                    f,
+                    "RequestResponseOpenOrCreateError::RequestResponseCreateError({name})"
+                )
+            }
+            RequestResponseOpenOrCreateError::SystemInFlux => {
+                write!(f, "RequestResponseOpenOrCreateError::SystemInFlux")
+            }
+        }
+    }
+}
+
+impl Error for RequestResponseOpenOrCreateError {}
+
+/// A look's outcome is an error of the open.
+impl From<ServiceAvailabilityState> for RequestResponseOpenOrCreateError {
+    ghost from_gives = { λ state outcome.
+        outcome ≡ either.RequestResponseOpenError (request_response_open_error_of_state state) };
+
+    fn from(state: ServiceAvailabilityState) -> RequestResponseOpenOrCreateError {
+        RequestResponseOpenOrCreateError::RequestResponseOpenError(RequestResponseOpenError::from(
+            state,
+        ))
+    }
+}
+
+impl From<RequestResponseOpenError> for RequestResponseOpenOrCreateError {
+    ghost from_gives = { λ error outcome. outcome ≡ either.RequestResponseOpenError error };
+
+    fn from(error: RequestResponseOpenError) -> RequestResponseOpenOrCreateError {
+        RequestResponseOpenOrCreateError::RequestResponseOpenError(error)
+    }
+}
+
+impl From<RequestResponseCreateError> for RequestResponseOpenOrCreateError {
+    ghost from_gives = { λ error outcome. outcome ≡ either.RequestResponseCreateError error };
+
+    fn from(error: RequestResponseCreateError) -> RequestResponseOpenOrCreateError {
+        RequestResponseOpenOrCreateError::RequestResponseCreateError(error)
     }
 }
