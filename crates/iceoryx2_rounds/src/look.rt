@@ -22,7 +22,7 @@ pub enum Outcome<F> {
 }
 
 /// Asks whether there is a service of this hash, and reads its description.
-pub(crate) fn look<P: Pattern, S: Storage>(
+pub fn look<P: Pattern, S: Storage>(
     pattern: &P,
     node: u64,
     hash: &ServiceHash,

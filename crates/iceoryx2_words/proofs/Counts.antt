@@ -21,7 +21,7 @@ use Rattle.iceoryx2_rounds.specs.Prepared.{IsPrepared, IsOpenCall}
 use Rattle.iceoryx2_rounds.proofs.Prepared.{each_call}
 use Rattle.iceoryx2_rounds.specs.Opens.{IsReady, ready, IsFailedRound, failed, IsLastRound, AreFailedRounds, no_round, one_more, IsOpenWord, ended, all_failed}
 
-within_append : {v w : List Letter} {a b c d e f g h : ℕ} → IsWithin v a b c d → IsWithin w e f g h → IsWithin (v ++ w) (a + e) (b + f) (c + g) (d + h)
+pub within_append : {v w : List Letter} {a b c d e f g h : ℕ} → IsWithin v a b c d → IsWithin w e f g h → IsWithin (v ++ w) (a + e) (b + f) (c + g) (d + h)
 within_append p q = record {
   few_looks = rw sum_by-append (omega (arith, p.few_looks, q.few_looks));
   few_openings = rw sum_by-append (omega (arith, p.few_openings, q.few_openings));
@@ -29,10 +29,10 @@ within_append p q = record {
   few_removals = rw sum_by-append (omega (arith, p.few_removals, q.few_removals));
 }
 
-within_more : {w : List Letter} {a b c d : ℕ} (e f g h : ℕ) → a ≤ e → b ≤ f → c ≤ g → d ≤ h → IsWithin w a b c d → IsWithin w e f g h
+pub within_more : {w : List Letter} {a b c d : ℕ} (e f g h : ℕ) → a ≤ e → b ≤ f → c ≤ g → d ≤ h → IsWithin w a b c d → IsWithin w e f g h
 within_more e f g h i j k l p = record { few_looks = omega (arith, p.few_looks); few_openings = omega (arith, p.few_openings); few_makings = omega (arith, p.few_makings); few_removals = omega (arith, p.few_removals) }
 
-none_within : IsWithin [] 0 0 0 0
+pub none_within : IsWithin [] 0 0 0 0
 none_within = record { few_looks = omega arith; few_openings = omega arith; few_makings = omega arith; few_removals = omega arith }
 
 -- how many of the things are segments
@@ -102,7 +102,7 @@ module _ (node : ℕ) (hash : ServiceHash) where
     segment_within still_there = within_append (cleared_within 5) (makes number max_nodes _)
 
 module _ {F E C : Type 0} (m : Meaning F E C) (node : ℕ) (hash : ServiceHash) where
-  look_within : {w : List Letter} {o : Outcome F} → IsLookWord m node hash w o → IsWithin w 1 0 0 0
+  pub look_within : {w : List Letter} {o : Outcome F} → IsLookWord m node hash w o → IsWithin w 1 0 0 0
   look_within absent = record { few_looks = omega arith; few_openings = omega arith; few_makings = omega arith; few_removals = omega arith }
   look_within broken = record { few_looks = omega arith; few_openings = omega arith; few_makings = omega arith; few_removals = omega arith }
   look_within (fetched there read) = record { few_looks = omega arith; few_openings = omega arith; few_makings = omega arith; few_removals = omega arith }

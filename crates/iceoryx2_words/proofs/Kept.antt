@@ -98,7 +98,7 @@ module _ {node : ℕ} {hash : ServiceHash} where
   segment_returns tag (segment_back answer b) = then_returns (removes_segment answer ends) (lock_returns tag b)
 
 module _ {F E C : Type 0} {m : Meaning F E C} {node : ℕ} {hash : ServiceHash} where
-  look_keeps : {t : KeptTag} {k : KeptLock} {w : List Letter} {o : Outcome F} → IsLookWord m node hash w o → Keeps node hash t k w t k
+  pub look_keeps : {t : KeptTag} {k : KeptLock} {w : List Letter} {o : Outcome F} → IsLookWord m node hash w o → Keeps node hash t k w t k
   look_keeps absent = goes_on keeps.looks ends
   look_keeps broken = goes_on keeps.looks ends
   look_keeps (fetched there read) = goes_on keeps.looks (goes_on keeps.fetches ends)
