@@ -1,7 +1,7 @@
 //! Names, hashes, times and settings.
 
 use crate::support::*;
-use iceoryx2_values::config::{Config, Event, PublishSubscribe};
+use iceoryx2_values::config::{Config, Event, PublishSubscribe, RequestResponse};
 use iceoryx2_values::description::{MessagingPattern, ServiceHash, ServiceName, ServiceNameError};
 use iceoryx2_values::event;
 use iceoryx2_values::event::EventId;
@@ -41,6 +41,20 @@ const PUBLISH_SUBSCRIBE_DEFAULTS: PublishSubscribe = PublishSubscribe {
     history_size: 0,
     subscriber_max_borrowed_samples: 2,
     enable_safe_overflow: true,
+    max_nodes: 20,
+};
+
+/// The same for request-response.
+const REQUEST_RESPONSE_DEFAULTS: RequestResponse = RequestResponse {
+    enable_safe_overflow_for_requests: true,
+    enable_safe_overflow_for_responses: true,
+    enable_fire_and_forget_requests: true,
+    max_active_requests_per_client: 4,
+    max_loaned_requests: 2,
+    max_borrowed_responses_per_pending_response: 2,
+    max_response_buffer_size: 2,
+    max_servers: 2,
+    max_clients: 8,
     max_nodes: 20,
 };
 
@@ -166,11 +180,16 @@ fn builders_start_from_the_defaults(rt: HostRuntime) {
     let Config {
         event,
         publish_subscribe,
+        request_response,
     } = Config::default();
     assert_same(
         &rt,
-        (event, publish_subscribe),
-        (DEFAULTS, PUBLISH_SUBSCRIBE_DEFAULTS),
+        (event, publish_subscribe, request_response),
+        (
+            DEFAULTS,
+            PUBLISH_SUBSCRIBE_DEFAULTS,
+            REQUEST_RESPONSE_DEFAULTS,
+        ),
     );
 }
 
@@ -196,6 +215,15 @@ fn with_history(rt: &impl Abort, alloc: Global, history_size: u64) -> MessagingP
     publish_subscribe(rt, alloc, settings)
 }
 
+/// Request-response for so many clients, and else the defaults.
+fn with_clients(rt: &impl Abort, alloc: Global, max_clients: u64) -> MessagingPattern {
+    let settings = RequestResponse {
+        max_clients,
+        ..REQUEST_RESPONSE_DEFAULTS
+    };
+    request_response(rt, alloc, settings)
+}
+
 #[test]
 fn patterns_are_compared_without_their_settings(rt: HostRuntime) {
     let is_same = event_for(1).is_same_pattern(&event_for(2));
@@ -207,21 +235,34 @@ fn patterns_are_compared_without_their_settings(rt: HostRuntime) {
     );
 }
 
-/// Whether publish-subscribe is of the pattern of itself with another history, and of events, both ways.
-fn compared_patterns(rt: &impl Abort, alloc: Global) -> [bool; 4] {
-    let one = with_history(rt, alloc, 0);
-    let other = with_history(rt, alloc, 1);
-    let events = event_for(1);
+/// Whether the pattern is that of events, of publish-subscribe and of request-response, each with other
+/// settings, and whether it is equal to them.
+fn compared_patterns(rt: &impl Abort, alloc: Global, pattern: MessagingPattern) -> [bool; 6] {
+    let events = event_for(2);
+    let publish_subscribe = with_history(rt, alloc, 1);
+    let request_response = with_clients(rt, alloc, 1);
     [
-        one.is_same_pattern(&other),
-        one == other,
-        one.is_same_pattern(&events),
-        events.is_same_pattern(&one),
+        pattern.is_same_pattern(&events),
+        pattern.is_same_pattern(&publish_subscribe),
+        pattern.is_same_pattern(&request_response),
+        pattern == events,
+        pattern == publish_subscribe,
+        pattern == request_response,
     ]
 }
 
 #[test]
-fn events_are_of_another_pattern_than_publish_subscribe(rt: HostRuntime) {
-    let found = compared_patterns(&rt, rt.alloc());
-    assert_same(&rt, found, [true, false, false, false]);
+fn each_pattern_is_of_no_other_pattern(rt: HostRuntime) {
+    let alloc = rt.alloc();
+    let found = [
+        compared_patterns(&rt, alloc, event_for(1)),
+        compared_patterns(&rt, alloc, with_history(&rt, alloc, 0)),
+        compared_patterns(&rt, alloc, with_clients(&rt, alloc, 8)),
+    ];
+    let wanted = [
+        [true, false, false, false, false, false],
+        [false, true, false, false, false, false],
+        [false, false, true, false, false, false],
+    ];
+    assert_same(&rt, found, wanted);
 }

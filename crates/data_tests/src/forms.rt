@@ -13,6 +13,7 @@ use std::process::Abort;
 
 mod attributes;
 mod publish_subscribe;
+mod request_response;
 
 /// The front of a form, up to its hash.
 const HASHED: &str = "494f5832011111111111111111111111111111111111111111";
@@ -36,6 +37,9 @@ const NANOSECONDS: &[(&str, bool)] = &[
     ("010000000000000001000001f400000000000000003b9ac9ff", true),
     ("010000000000000001000001f400000000000000003b9aca00", false),
 ];
+
+/// The type of a user header: one `()`.
+const USER_HEADER: &str = "000002282900000000000000000000000000000001";
 
 /// The service `a` of events with the default settings, and these digits as its deadline.
 fn form(rt: &impl Abort, alloc: Global, last: &str) -> Vec<u8> {

@@ -3,9 +3,10 @@
 
 use iceoryx2_data::bytes::{DecodeError, decode, encode};
 use iceoryx2_types::types::publish_subscribe::Header;
-use iceoryx2_types::types::{MessageTypeDetails, TypeVariant};
+use iceoryx2_types::types::request_response::{RequestHeader, ResponseHeader};
+use iceoryx2_types::types::{MessageTypeDetails, Slice, ZeroCopySend};
 use iceoryx2_values::description::{MessagingPattern, ServiceName, ServiceNameError, StaticConfig};
-use iceoryx2_values::{config, publish_subscribe};
+use iceoryx2_values::{config, publish_subscribe, request_response};
 use std::alloc::Global;
 use std::fmt::{Debug, Display};
 use std::process::Abort;
@@ -98,17 +99,20 @@ pub fn read(rt: &impl Abort, alloc: Global, bytes: &[u8]) -> Option<StaticConfig
     }
 }
 
-/// A message whose payload is a number of `i64`, without a user header.
-pub fn message(rt: &impl Abort, alloc: Global) -> MessageTypeDetails {
-    match MessageTypeDetails::from::<Header, (), i64>(alloc, TypeVariant::Dynamic) {
+/// A message with this header and this payload, without a user header.
+fn message<R: Abort, H: ZeroCopySend, P: ZeroCopySend>(
+    rt: &R,
+    alloc: Global,
+) -> MessageTypeDetails {
+    match MessageTypeDetails::from::<H, (), P>(alloc, P::variant()) {
         Ok(message) => message,
         Err(_) => panic!(rt; "no memory"),
     }
 }
 
-/// Publish-subscribe with these settings and that message.
-pub fn publish_subscribe(
-    rt: &impl Abort,
+/// Publish-subscribe with these settings, of a number of `i64`.
+pub fn publish_subscribe<R: Abort>(
+    rt: &R,
     alloc: Global,
     settings: config::PublishSubscribe,
 ) -> MessagingPattern {
@@ -120,6 +124,28 @@ pub fn publish_subscribe(
         subscriber_max_borrowed_samples: settings.subscriber_max_borrowed_samples,
         enable_safe_overflow: settings.enable_safe_overflow,
         max_nodes: settings.max_nodes,
-        message_type_details: message(rt, alloc),
+        message_type_details: message::<R, Header, Slice<i64>>(rt, alloc),
+    })
+}
+
+/// Request-response with these settings: a request is one `u64`, a response a number of `u8`.
+pub fn request_response<R: Abort>(
+    rt: &R,
+    alloc: Global,
+    settings: config::RequestResponse,
+) -> MessagingPattern {
+    MessagingPattern::RequestResponse(request_response::StaticConfig {
+        enable_safe_overflow_for_requests: settings.enable_safe_overflow_for_requests,
+        enable_safe_overflow_for_responses: settings.enable_safe_overflow_for_responses,
+        enable_fire_and_forget_requests: settings.enable_fire_and_forget_requests,
+        max_active_requests_per_client: settings.max_active_requests_per_client,
+        max_loaned_requests: settings.max_loaned_requests,
+        max_borrowed_responses_per_pending_response: settings.max_borrowed_responses_per_pending_response,
+        max_response_buffer_size: settings.max_response_buffer_size,
+        max_servers: settings.max_servers,
+        max_clients: settings.max_clients,
+        max_nodes: settings.max_nodes,
+        request_message_type_details: message::<R, RequestHeader, u64>(rt, alloc),
+        response_message_type_details: message::<R, ResponseHeader, Slice<u8>>(rt, alloc),
     })
 }
