@@ -1,2 +1,3 @@
 pub mod Raised
 pub mod Granted
+pub mod Misfits

@@ -1,3 +1,4 @@
 pub mod Facts
 pub mod Zeros
+pub mod Requested
 pub mod Builders

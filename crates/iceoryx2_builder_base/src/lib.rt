@@ -2,4 +2,5 @@
 #![tactic(auto)]
 
 pub mod base;
+pub mod requested;
 pub mod zeros;

@@ -1,7 +1,6 @@
 -- A builder of publish-subscribe is a builder like each other one.
-use Rattle.std.proofs.Common.{◌≡◌, Bool, true, false, cond, ℕ, List, [], Result, Option, Some, None, Ok, refl, ap}
+use Rattle.std.proofs.Common.{◌≡◌, cond, ℕ, List, [], Result, Some, None, Ok, refl, ap}
 use Rattle.iceoryx2_types.specs.Types.{Message, compatible}
-use Rattle.iceoryx2_types.proofs.Compatible.{decided, reflexive}
 use Rattle.iceoryx2_attributes.specs.Attributes.{Pair}
 use Rattle.iceoryx2_attributes.specs.Requirements.{Requirements, no_requirements}
 use Rattle.iceoryx2_values.specs.declared.description.ServiceHash.{ServiceHash}
@@ -10,35 +9,31 @@ use Rattle.iceoryx2_values.specs.declared.description.MessagingPattern.TheVarian
 use Rattle.iceoryx2_values.specs.declared.time.ClockFault.{ClockFault}
 use Rattle.iceoryx2_values.specs.Span.{Span}
 use Rattle.iceoryx2_errors.specs.States.{publish_subscribe_create_error_of_state}
-use Rattle.iceoryx2_errors.specs.declared.error.ServiceState.TheVariants as state
 use Rattle.iceoryx2_errors.specs.declared.error.publish_subscribe.ServiceAvailabilityState.{ServiceAvailabilityState}
 use Rattle.iceoryx2_errors.specs.declared.error.publish_subscribe.ServiceAvailabilityState.TheVariants as look
 use Rattle.iceoryx2_errors.specs.declared.error.publish_subscribe.PublishSubscribeCreateError.TheVariants as creating
-use Rattle.iceoryx2_pattern.specs.Regular.{IsRegular, TakesNodes}
+use Rattle.iceoryx2_pattern.specs.Regular.{IsRegular}
 use Rattle.iceoryx2_pattern.specs.Verdict.{verdict}
 use Rattle.iceoryx2_pattern.proofs.Verdicts.{no_row}
 use Rattle.iceoryx2_pattern.proofs.MetRows.{offers, keeps, then_more, not_less, same_flag}
 use Rattle.iceoryx2_rounds.specs.Creates.{description_of}
 use Rattle.iceoryx2_rounds.specs.OwnSettings.{AcceptsOwn}
 use Rattle.iceoryx2_builder_base.specs.Builders.{IsBuilder}
+use Rattle.iceoryx2_builder_base.proofs.Misfits.{fits_itself, is_told, is_tested}
 use Rattle.iceoryx2_builder_base.proofs.Raised.{not_below, raised_above}
 use Rattle.iceoryx2_publish_subscribe_builder.specs.declared.publish_subscribe.demand.PublishSubscribeDemand.{PublishSubscribeDemand}
 use Rattle.iceoryx2_publish_subscribe_builder.specs.PublishSubscribe.{publish_subscribe_meaning, publish_subscribe_adjusted, publish_subscribe_creating, publish_subscribe_opening, misfit_of}
 
 -- ---- its meanings are regular
 
-types_exist : (fault : ServiceAvailabilityState) (fits : Bool) → cond fits None (Some look.IncompatibleTypes) ≡ Some fault
-    → publish_subscribe_create_error_of_state fault ≡ creating.AlreadyExists
-types_exist fault true e = absurd (cc)
-types_exist fault false e = let is : fault ≡ look.IncompatibleTypes = cc in ap publish_subscribe_create_error_of_state is
+abbrev IsExisting : ServiceAvailabilityState → Type 0
+IsExisting fault = publish_subscribe_create_error_of_state fault ≡ creating.AlreadyExists
 
-misfit_exists : (message : Message) (pattern : MessagingPattern) (fault : ServiceAvailabilityState) → misfit_of message pattern ≡ Some fault
-    → publish_subscribe_create_error_of_state fault ≡ creating.AlreadyExists
-misfit_exists message (existing.Event s) fault e =
-    let is : fault ≡ look.ServiceState state.IncompatibleMessagingPattern = cc in ap publish_subscribe_create_error_of_state is
-misfit_exists message (existing.PublishSubscribe s) fault e = types_exist fault (compatible message s.message_type_details) e
-misfit_exists message (existing.RequestResponse s) fault e =
-    let is : fault ≡ look.ServiceState state.IncompatibleMessagingPattern = cc in ap publish_subscribe_create_error_of_state is
+misfit_exists : (message : Message) (pattern : MessagingPattern) (fault : ServiceAvailabilityState) → misfit_of message pattern ≡ Some fault → IsExisting fault
+misfit_exists message (existing.Event s) fault e = is_told IsExisting _ fault e refl
+misfit_exists message (existing.PublishSubscribe s) fault e =
+    is_tested IsExisting (compatible message s.message_type_details) None look.IncompatibleTypes fault e refl (λ none. absurd (cc))
+misfit_exists message (existing.RequestResponse s) fault e = is_told IsExisting _ fault e refl
 
 creating_is_regular : (demand : PublishSubscribeDemand) (message : Message) (given : List Pair) → IsRegular (publish_subscribe_creating demand message given)
 creating_is_regular demand message given =
@@ -49,9 +44,6 @@ opening_is_regular demand message required =
     record { create_memory = refl; open_memory = refl; misfit = λ d fault e. misfit_exists message d.pattern fault e }
 
 -- ---- it takes what it created
-
-fits_itself : (message : Message) → compatible message message ≡ true
-fits_itself message = (decided message message).1 (reflexive message)
 
 meets : (demand : PublishSubscribeDemand) (message : Message) (hash : ServiceHash) (name : List ℕ) (now : Result Span ClockFault)
     → verdict ((publish_subscribe_meaning demand message).requirement (description_of (publish_subscribe_meaning (publish_subscribe_adjusted demand) message) hash name now)) ≡ Ok tt

@@ -1,12 +1,12 @@
 -- What a builder of publish-subscribe holds.
-use Rattle.std.specs.Prelude.{ℕ, List, Option, Some, None, false, true, codes}
-use Rattle.iceoryx2_types.specs.Types.{Detail, Message, fixed_size, message_of, prepared, with_variant}
-use Rattle.iceoryx2_types.specs.declared.types.TypeVariant.TheVariants.{FixedSize}
+use Rattle.std.specs.Prelude.{ℕ, List, Some, false, true, codes}
+use Rattle.iceoryx2_types.specs.Types.{Detail, Message, fixed_size}
 use Rattle.iceoryx2_values.specs.declared.config.PublishSubscribe.{PublishSubscribe as Settings}
+use Rattle.iceoryx2_builder_base.specs.Requested.{no_types, requested_message}
+use Rattle.iceoryx2_builder_base.specs.declared.requested.RequestedTypes.{RequestedTypes}
 use Rattle.iceoryx2_publish_subscribe_builder.specs.declared.publish_subscribe.TheConstants.{LETTER}
 use Rattle.iceoryx2_publish_subscribe_builder.specs.declared.publish_subscribe.demand.Marks.{Marks}
 use Rattle.iceoryx2_publish_subscribe_builder.specs.declared.publish_subscribe.demand.PublishSubscribeDemand.{PublishSubscribeDemand}
-use Rattle.iceoryx2_publish_subscribe_builder.specs.declared.publish_subscribe.requested.RequestedTypes.{RequestedTypes}
 use Rattle.iceoryx2_publish_subscribe_builder.specs.declared.publish_subscribe.setting.PublishSubscribeSetting.{PublishSubscribeSetting}
 use Rattle.iceoryx2_publish_subscribe_builder.specs.declared.publish_subscribe.setting.PublishSubscribeSetting.TheVariants as set
 
@@ -35,10 +35,6 @@ fresh_demand defaults = record {
     max_nodes = false;
   };
 }
-
--- each type is the message's own, and aligned as it is
-abbrev pub no_types : RequestedTypes
-no_types = record { user_header = None; payload = None; alignment = None }
 
 -- what a builder asks that no setter has changed
 abbrev pub fresh_request : ℕ → List ℕ → Settings → PublishSubscribeRequest
@@ -83,6 +79,4 @@ message_header = fixed_size (codes "publish_subscribe::Header") 32 8
 
 -- the message of a payload and a user header, with what stands in their place and how far the payload is aligned
 abbrev pub message_for : (payload user_header : Detail) → RequestedTypes → Message
-message_for payload user_header types =
-    prepared (message_of message_header (with_variant user_header FixedSize) payload)
-    types.user_header types.payload types.alignment
+message_for payload user_header types = requested_message message_header payload user_header types

@@ -13,19 +13,19 @@ ghost use Rattle.iceoryx2_publish_subscribe_builder.specs.Request.{fresh_request
 ghost use Rattle.iceoryx2_publish_subscribe_builder.specs.Request.{message_for, with_setting};
 
 pub mod demand;
-pub mod requested;
 pub mod setting;
 
 use crate::publish_subscribe::demand::{PreparedDemand, PublishSubscribeDemand};
-use crate::publish_subscribe::requested::RequestedTypes;
 pub use crate::publish_subscribe::setting::PublishSubscribeSetting;
 use iceoryx2_access::storage::Service;
 use iceoryx2_attributes::attribute::{AttributeSpecifier, AttributeVerifier};
 use iceoryx2_builder_base::base::BuilderWithServiceType;
+use iceoryx2_builder_base::requested::RequestedTypes;
 pub use iceoryx2_errors::error::{PublishSubscribeCreateError, PublishSubscribeOpenError};
 use iceoryx2_port_factory::port_factory::publish_subscribe::PortFactory;
 use iceoryx2_rounds::create::create;
 use iceoryx2_rounds::open::open;
+use iceoryx2_types::types::publish_subscribe::Header;
 use iceoryx2_types::types::{
     Alignment, CustomHeaderMarker, CustomPayloadMarker, Slice, TypeDetail, ZeroCopySend,
 };
@@ -305,7 +305,7 @@ impl<P: ZeroCopySend, U: ZeroCopySend, S: Service> Builder<P, U, S> {
             payload: _,
             user_header: _,
         } = self;
-        let Ok(message) = types.prepare::<P, U>(base.name().allocator()) else {
+        let Ok(message) = types.prepare::<Header, P, U>(base.name().allocator()) else {
             return Err(PublishSubscribeCreateError::OutOfMemory);
         };
         let mut asked = PreparedDemand { demand, message };
@@ -367,7 +367,7 @@ impl<P: ZeroCopySend, U: ZeroCopySend, S: Service> Builder<P, U, S> {
             payload: _,
             user_header: _,
         } = self;
-        let Ok(message) = types.prepare::<P, U>(base.name().allocator()) else {
+        let Ok(message) = types.prepare::<Header, P, U>(base.name().allocator()) else {
             return Err(PublishSubscribeOpenError::OutOfMemory);
         };
         let asked = PreparedDemand { demand, message };

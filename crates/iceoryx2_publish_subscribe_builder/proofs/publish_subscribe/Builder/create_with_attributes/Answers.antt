@@ -1,4 +1,4 @@
-use Rattle.std.proofs.Common.{◌≡◌, Ok, ap}
+use Rattle.std.proofs.Common.{Ok, ap}
 use Rattle.iceoryx2_values.specs.Span.{zero_span}
 use Rattle.iceoryx2_builder_base.proofs.Granted.{created_is, with_types, without_types}
 use Rattle.iceoryx2_port_factory.specs.Patterns.{is_publish_subscribe}

@@ -1,4 +1,3 @@
-use Rattle.std.proofs.Common.{◌≡◌}
 use Rattle.iceoryx2_builder_base.proofs.Granted.{opened_fits, with_types, without_types}
 use Rattle.iceoryx2_publish_subscribe_builder.proofs.Granted.{what_fits}
 use Rattle.iceoryx2_publish_subscribe_builder.proofs.publish_subscribe.Builder.open_with_attributes.Goals as goal

@@ -1,9 +1,8 @@
-//! What a builder of publish-subscribe asks of its messages' types.
+//! What a builder asks of a message's types, whatever its pattern.
 
 ghost use Rattle.std.specs.Prelude.{◌≡◌, IfOk};
-ghost use Rattle.iceoryx2_publish_subscribe_builder.specs.Request.{message_for, no_types};
+ghost use Rattle.iceoryx2_builder_base.specs.Requested.{no_types, requested_message};
 
-use iceoryx2_types::types::publish_subscribe::Header;
 use iceoryx2_types::types::{Alignment, MessageTypeDetails, TypeDetail, ZeroCopySend};
 use std::alloc::{AllocError, Global};
 
@@ -20,7 +19,7 @@ pub struct RequestedTypes {
 
 impl RequestedTypes {
     /// Each type is the message's own, and aligned as it is.
-    pub(crate) fn none() -> RequestedTypes
+    pub fn none() -> RequestedTypes
         ensures { result ≡ no_types }
     {
         RequestedTypes {
@@ -30,15 +29,15 @@ impl RequestedTypes {
         }
     }
 
-    /// The types of a message with this payload and this user header. `AllocError` where there was
-    /// no memory for their names.
-    pub(crate) fn prepare<P: ZeroCopySend, U: ZeroCopySend>(
+    /// The types of a message with this header, this payload and this user header. `AllocError`
+    /// where there was no memory for their names.
+    pub fn prepare<H: ZeroCopySend, P: ZeroCopySend, U: ZeroCopySend>(
         self,
         alloc: Global,
     ) -> Result<MessageTypeDetails, AllocError>
-        ensures { IfOk result (λ message. message ≡ message_for P.detail U.detail self) }
+        ensures { IfOk result (λ message. message ≡ requested_message H.detail P.detail U.detail self) }
     {
-        let own = MessageTypeDetails::from::<Header, U, P>(alloc, P::variant())?;
+        let own = MessageTypeDetails::from::<H, U, P>(alloc, P::variant())?;
         Ok(own.prepared(self.user_header, self.payload, self.alignment))
     }
 }
