@@ -1,0 +1,82 @@
+-- A builder of request-response is a builder like each other one.
+use Rattle.std.proofs.Common.{◌≡◌, Bool, cond, ℕ, List, [], Result, Some, None, Ok, refl}
+use Rattle.iceoryx2_types.specs.Types.{Message, compatible}
+use Rattle.iceoryx2_attributes.specs.Attributes.{Pair}
+use Rattle.iceoryx2_attributes.specs.Requirements.{Requirements, no_requirements}
+use Rattle.iceoryx2_values.specs.declared.description.ServiceHash.{ServiceHash}
+use Rattle.iceoryx2_values.specs.declared.description.MessagingPattern.{MessagingPattern}
+use Rattle.iceoryx2_values.specs.declared.description.MessagingPattern.TheVariants as existing
+use Rattle.iceoryx2_values.specs.declared.time.ClockFault.{ClockFault}
+use Rattle.iceoryx2_values.specs.Span.{Span}
+use Rattle.iceoryx2_errors.specs.States.{request_response_create_error_of_state}
+use Rattle.iceoryx2_errors.specs.declared.error.request_response.ServiceAvailabilityState.{ServiceAvailabilityState}
+use Rattle.iceoryx2_errors.specs.declared.error.request_response.ServiceAvailabilityState.TheVariants as look
+use Rattle.iceoryx2_errors.specs.declared.error.request_response.RequestResponseCreateError.TheVariants as creating
+use Rattle.iceoryx2_pattern.specs.Regular.{IsRegular}
+use Rattle.iceoryx2_pattern.specs.Verdict.{verdict}
+use Rattle.iceoryx2_pattern.proofs.Verdicts.{no_row}
+use Rattle.iceoryx2_pattern.proofs.MetRows.{offers, keeps, then_more, same_flag}
+use Rattle.iceoryx2_rounds.specs.Creates.{description_of}
+use Rattle.iceoryx2_rounds.specs.OwnSettings.{AcceptsOwn}
+use Rattle.iceoryx2_builder_base.specs.Builders.{IsBuilder}
+use Rattle.iceoryx2_builder_base.proofs.Misfits.{fits_itself, is_told, is_tested}
+use Rattle.iceoryx2_builder_base.proofs.Raised.{not_below, raised_above}
+use Rattle.iceoryx2_request_response_builder.specs.declared.request_response.demand.RequestResponseDemand.{RequestResponseDemand}
+use Rattle.iceoryx2_request_response_builder.specs.RequestResponse.{request_response_meaning, request_response_adjusted, request_response_creating, request_response_opening, misfit_of}
+
+-- ---- its meanings are regular
+
+abbrev IsExisting : ServiceAvailabilityState → Type 0
+IsExisting fault = request_response_create_error_of_state fault ≡ creating.AlreadyExists
+
+responses_exist : (fits : Bool) (fault : ServiceAvailabilityState) → cond fits None (Some look.IncompatibleResponseType) ≡ Some fault → IsExisting fault
+responses_exist fits fault e = is_tested IsExisting fits None look.IncompatibleResponseType fault e refl (λ none. absurd (cc))
+
+misfit_exists : (request response : Message) (pattern : MessagingPattern) (fault : ServiceAvailabilityState)
+    → misfit_of request response pattern ≡ Some fault → IsExisting fault
+misfit_exists request response (existing.Event s) fault e = is_told IsExisting _ fault e refl
+misfit_exists request response (existing.PublishSubscribe s) fault e = is_told IsExisting _ fault e refl
+misfit_exists request response (existing.RequestResponse s) fault e =
+    is_tested IsExisting (compatible request s.request_message_type_details) _ look.IncompatibleRequestType fault e refl
+    (responses_exist (compatible response s.response_message_type_details) fault)
+
+creating_is_regular : (demand : RequestResponseDemand) (request response : Message) (given : List Pair) → IsRegular (request_response_creating demand request response given)
+creating_is_regular demand request response given =
+    record { create_memory = refl; open_memory = refl; misfit = λ d fault e. misfit_exists request response d.pattern fault e }
+
+opening_is_regular : (demand : RequestResponseDemand) (request response : Message) (required : Requirements) → IsRegular (request_response_opening demand request response required)
+opening_is_regular demand request response required =
+    record { create_memory = refl; open_memory = refl; misfit = λ d fault e. misfit_exists request response d.pattern fault e }
+
+-- ---- it takes what it created
+
+meets : (demand : RequestResponseDemand) (request response : Message) (hash : ServiceHash) (name : List ℕ) (now : Result Span ClockFault)
+    → verdict ((request_response_meaning demand request response).requirement
+    (description_of (request_response_meaning (request_response_adjusted demand) request response) hash name now)) ≡ Ok tt
+meets demand request response hash name now =
+    then_more _ _ (keeps _ _ _ _ (same_flag demand.settings.enable_safe_overflow_for_requests))
+    (then_more _ _ (keeps _ _ _ _ (same_flag demand.settings.enable_safe_overflow_for_responses))
+    (then_more _ _ (keeps _ _ _ _ (same_flag demand.settings.enable_fire_and_forget_requests))
+    (then_more _ _ (offers _ _ _ _ (not_below demand.settings.max_active_requests_per_client))
+    (then_more _ _ (offers _ _ _ _ (not_below demand.settings.max_loaned_requests))
+    (then_more _ _ (offers _ _ _ _ (not_below demand.settings.max_borrowed_responses_per_pending_response))
+    (then_more _ _ (offers _ _ _ _ (not_below demand.settings.max_response_buffer_size))
+    (then_more _ _ (offers _ _ _ _ (not_below demand.settings.max_servers))
+    (then_more _ _ (offers _ _ _ _ (not_below demand.settings.max_clients))
+    (then_more _ [] (offers _ _ _ _ (not_below demand.settings.max_nodes)) no_row)))))))))
+
+own_settings : (demand : RequestResponseDemand) (request response : Message) (given : List Pair) (hash : ServiceHash) (name : List ℕ) (now : Result Span ClockFault)
+    → AcceptsOwn (request_response_creating demand request response given) (request_response_opening demand request response no_requirements) hash name now
+own_settings demand request response given hash name now = record {
+  fits = rw (fits_itself request, fits_itself response) refl;
+  accepted = meets demand request response hash name now;
+}
+
+pub request_response_builder : (demand : RequestResponseDemand) (request response : Message)
+    → IsBuilder (request_response_creating demand request response) (request_response_opening demand request response)
+request_response_builder demand request response = record {
+  creating_is_regular = creating_is_regular demand request response;
+  opening_is_regular = opening_is_regular demand request response;
+  takes_nodes = λ given now. raised_above demand.settings.max_nodes;
+  accepts_own = own_settings demand request response;
+}

@@ -1,0 +1,461 @@
+//! The builder of services of request-response.
+
+ghost use Rattle.std.specs.Prelude.{◌≡◌, [], Ok};
+ghost use Rattle.iceoryx2_access.specs.Run.{Joins};
+ghost use Rattle.iceoryx2_attributes.specs.Requirements.{no_requirements};
+ghost use Rattle.iceoryx2_builder_base.specs.Builders.{IsBuilder};
+ghost use Rattle.iceoryx2_rounds.specs.Prepared.{IsCreateCall, IsOpenCall};
+ghost use Rattle.iceoryx2_types.specs.Types.{Message};
+ghost use Rattle.iceoryx2_values.specs.Span.{zero_span};
+ghost use Rattle.iceoryx2_request_response_builder.specs.Request.{fresh_request, letter_of_request_response};
+ghost use Rattle.iceoryx2_request_response_builder.specs.Request.{messages_for, with_setting};
+ghost use Rattle.iceoryx2_request_response_builder.specs.RequestResponse.{request_response_creating};
+ghost use Rattle.iceoryx2_request_response_builder.specs.RequestResponse.{request_response_opening};
+
+pub mod demand;
+pub mod requested;
+pub mod setting;
+
+use crate::request_response::demand::RequestResponseDemand;
+use crate::request_response::requested::RequestedMessages;
+pub use crate::request_response::setting::RequestResponseSetting;
+use crate::request_response::setting::RequestResponseSetting as Set;
+use iceoryx2_access::storage::Service;
+use iceoryx2_attributes::attribute::{AttributeSpecifier, AttributeVerifier};
+use iceoryx2_builder_base::base::BuilderWithServiceType;
+pub use iceoryx2_errors::error::{RequestResponseCreateError, RequestResponseOpenError};
+use iceoryx2_port_factory::port_factory::request_response::{PortFactory, RequestResponse};
+use iceoryx2_rounds::create::create;
+use iceoryx2_rounds::open::open;
+use iceoryx2_types::types::{
+    Alignment, CustomHeaderMarker, CustomPayloadMarker, Slice, TypeDetail, ZeroCopySend,
+};
+use iceoryx2_values::config;
+use iceoryx2_values::time::Time;
+use std::marker::{Model, PhantomData};
+
+/// The letter that stands before a name in the hash of a service of request-response.
+pub const LETTER: u8 = b'r';
+
+/// The letter is `r`.
+pub fn letter_is_r()
+    ensures { LETTER ≡ 114 }
+{}
+
+/// What holds of each builder of request-response, whatever the types of its messages.
+///
+/// Its meanings are regular, and with its adjusted settings a create publishes for one node or more,
+/// and what the same builder opens: it fits it and meets each setting that it requires, whatever
+/// attributes are defined.
+pub fn laws()
+    ensures { (demand : RequestResponseDemand) (request response : Message) → IsBuilder
+        (request_response_creating demand request response) (request_response_opening demand request response) }
+{}
+
+/// A builder of a service of request-response whose requests have payloads `Q` and user headers
+/// `QU`, and its responses payloads `R` and user headers `RU`.
+///
+/// A setter of a setting sets the value with which a service is created, and marks the setting, so
+/// that an existing service has to offer as much to be opened. The last value that is set stands.
+/// The types of the messages are no settings: an existing service's have to be those of the
+/// builder, with user headers and payloads aligned at least as far.
+pub struct Builder<Q, QU, R, RU, S: Service> {
+    base: BuilderWithServiceType<S>,
+    demand: RequestResponseDemand,
+    types: RequestedMessages,
+    kind: PhantomData<RequestResponse<Q, QU, R, RU>>,
+}
+
+impl<Q, QU, R, RU, S: Service> Model for Builder<Q, QU, R, RU, S> {
+    ghost use Rattle.iceoryx2_request_response_builder.specs.Request.{RequestResponseRequest};
+
+    ghost Value = { RequestResponseRequest };
+
+    ghost view = { λ builder. record {
+      node = builder.base.node;
+      name = builder.base.name;
+      demand = builder.demand;
+      types = builder.types;
+    } };
+}
+
+impl<Q, QU, R, RU, S: Service> Drop for Builder<Q, QU, R, RU, S> {
+    fn drop(self) {
+        let Builder {
+            base: _,
+            demand: _,
+            types: _,
+            kind: _,
+        } = self;
+    }
+}
+
+impl<Q: ZeroCopySend, R: ZeroCopySend, S: Service> Builder<Q, (), R, (), S> {
+    /// A builder with these settings, of which none is required, and with messages without user
+    /// headers.
+    pub fn new(base: BuilderWithServiceType<S>, defaults: config::RequestResponse) -> Self
+        ensures { result ≡ fresh_request base.node base.name defaults }
+    {
+        Builder::from_parts(
+            base,
+            RequestResponseDemand::start(defaults),
+            RequestedMessages::none(),
+        )
+    }
+}
+
+impl<S: Service> Builder<
+    Slice<CustomPayloadMarker>,
+    CustomHeaderMarker,
+    Slice<CustomPayloadMarker>,
+    CustomHeaderMarker,
+    S,
+> {
+    /// Carries out one setter, by its name.
+    pub fn with(self, setting: RequestResponseSetting) -> Self
+        ensures { result ≡ with_setting self setting }
+    {
+        match setting {
+            Set::EnableSafeOverflowForRequests(value) => {
+                self.enable_safe_overflow_for_requests(value)
+            }
+            Set::EnableSafeOverflowForResponses(value) => {
+                self.enable_safe_overflow_for_responses(value)
+            }
+            Set::EnableFireAndForgetRequests(value) => self.enable_fire_and_forget_requests(value),
+            Set::MaxActiveRequestsPerClient(value) => self.max_active_requests_per_client(value),
+            Set::MaxLoanedRequests(value) => self.max_loaned_requests(value),
+            Set::MaxBorrowedResponsesPerPendingResponse(value) => {
+                self.max_borrowed_responses_per_pending_response(value)
+            }
+            Set::MaxResponseBufferSize(value) => self.max_response_buffer_size(value),
+            Set::MaxServers(value) => self.max_servers(value),
+            Set::MaxClients(value) => self.max_clients(value),
+            Set::MaxNodes(value) => self.max_nodes(value),
+            Set::RequestPayloadAlignment(value) => self.request_payload_alignment(value),
+            Set::ResponsePayloadAlignment(value) => self.response_payload_alignment(value),
+            Set::RequestPayloadType(value) => self.internal_set_request_payload_type_details(value),
+            Set::RequestHeaderType(value) => self.internal_set_request_header_type_details(value),
+            Set::ResponsePayloadType(value) => {
+                self.internal_set_response_payload_type_details(value)
+            }
+            Set::ResponseHeaderType(value) => self.internal_set_response_header_type_details(value),
+        }
+    }
+
+    /// The type that stands in place of the marker of a request's payload.
+    pub fn internal_set_request_payload_type_details(mut self, value: TypeDetail) -> Self
+        ensures { result ≡ with_setting self (RequestResponseSetting.RequestPayloadType value) }
+    {
+        self.types.request.payload = Some(value);
+        self
+    }
+
+    /// The type that stands in place of the marker of a request's user header.
+    pub fn internal_set_request_header_type_details(mut self, value: TypeDetail) -> Self
+        ensures { result ≡ with_setting self (RequestResponseSetting.RequestHeaderType value) }
+    {
+        self.types.request.user_header = Some(value);
+        self
+    }
+
+    /// The type that stands in place of the marker of a response's payload.
+    pub fn internal_set_response_payload_type_details(mut self, value: TypeDetail) -> Self
+        ensures { result ≡ with_setting self (RequestResponseSetting.ResponsePayloadType value) }
+    {
+        self.types.response.payload = Some(value);
+        self
+    }
+
+    /// The type that stands in place of the marker of a response's user header.
+    pub fn internal_set_response_header_type_details(mut self, value: TypeDetail) -> Self
+        ensures { result ≡ with_setting self (RequestResponseSetting.ResponseHeaderType value) }
+    {
+        self.types.response.user_header = Some(value);
+        self
+    }
+}
+
+impl<Q: ZeroCopySend, QU: ZeroCopySend, R: ZeroCopySend, RU: ZeroCopySend, S: Service> Builder<
+    Q,
+    QU,
+    R,
+    RU,
+    S,
+> {
+    fn from_parts(
+        base: BuilderWithServiceType<S>,
+        demand: RequestResponseDemand,
+        types: RequestedMessages,
+    ) -> Self
+        ensures { result ≡ record { node = base.node; name = base.name; demand = demand; types = types } }
+    {
+        Builder {
+            base,
+            demand,
+            types,
+            kind: PhantomData,
+        }
+    }
+
+    /// Whether a full buffer's oldest request gives way to a new one. An existing service has to do
+    /// the same.
+    pub fn enable_safe_overflow_for_requests(mut self, value: bool) -> Self
+        ensures { result ≡ with_setting self (RequestResponseSetting.EnableSafeOverflowForRequests value) }
+    {
+        self.demand.settings.enable_safe_overflow_for_requests = value;
+        self.demand.marks.enable_safe_overflow_for_requests = true;
+        self
+    }
+
+    /// Whether a full buffer's oldest response gives way to a new one. An existing service has to
+    /// do the same.
+    pub fn enable_safe_overflow_for_responses(mut self, value: bool) -> Self
+        ensures { result ≡ with_setting self (RequestResponseSetting.EnableSafeOverflowForResponses value) }
+    {
+        self.demand.settings.enable_safe_overflow_for_responses = value;
+        self.demand.marks.enable_safe_overflow_for_responses = true;
+        self
+    }
+
+    /// Whether a request may be sent whose responses nobody waits for. An existing service has to
+    /// allow the same.
+    pub fn enable_fire_and_forget_requests(mut self, value: bool) -> Self
+        ensures { result ≡ with_setting self (RequestResponseSetting.EnableFireAndForgetRequests value) }
+    {
+        self.demand.settings.enable_fire_and_forget_requests = value;
+        self.demand.marks.enable_fire_and_forget_requests = true;
+        self
+    }
+
+    /// How many requests a client may have under way at one time. Zero is one in a create.
+    pub fn max_active_requests_per_client(mut self, value: u64) -> Self
+        ensures { result ≡ with_setting self (RequestResponseSetting.MaxActiveRequestsPerClient value) }
+    {
+        self.demand.settings.max_active_requests_per_client = value;
+        self.demand.marks.max_active_requests_per_client = true;
+        self
+    }
+
+    /// How many requests a client may have on loan at one time. Zero is one in a create.
+    pub fn max_loaned_requests(mut self, value: u64) -> Self
+        ensures { result ≡ with_setting self (RequestResponseSetting.MaxLoanedRequests value) }
+    {
+        self.demand.settings.max_loaned_requests = value;
+        self.demand.marks.max_loaned_requests = true;
+        self
+    }
+
+    /// How many responses may be borrowed at one time from one pending response. Zero is one in a
+    /// create.
+    pub fn max_borrowed_responses_per_pending_response(mut self, value: u64) -> Self
+        ensures { result ≡ with_setting self (RequestResponseSetting.MaxBorrowedResponsesPerPendingResponse value) }
+    {
+        self.demand
+            .settings
+            .max_borrowed_responses_per_pending_response = value;
+        self.demand
+            .marks
+            .max_borrowed_responses_per_pending_response = true;
+        self
+    }
+
+    /// How many responses the buffer of one request has room for. Zero is one in a create.
+    pub fn max_response_buffer_size(mut self, value: u64) -> Self
+        ensures { result ≡ with_setting self (RequestResponseSetting.MaxResponseBufferSize value) }
+    {
+        self.demand.settings.max_response_buffer_size = value;
+        self.demand.marks.max_response_buffer_size = true;
+        self
+    }
+
+    /// For how many servers the service is. Zero is one in a create.
+    pub fn max_servers(mut self, value: u64) -> Self
+        ensures { result ≡ with_setting self (RequestResponseSetting.MaxServers value) }
+    {
+        self.demand.settings.max_servers = value;
+        self.demand.marks.max_servers = true;
+        self
+    }
+
+    /// For how many clients the service is. Zero is one in a create.
+    pub fn max_clients(mut self, value: u64) -> Self
+        ensures { result ≡ with_setting self (RequestResponseSetting.MaxClients value) }
+    {
+        self.demand.settings.max_clients = value;
+        self.demand.marks.max_clients = true;
+        self
+    }
+
+    /// For how many nodes the service is. Zero is one in a create.
+    pub fn max_nodes(mut self, value: u64) -> Self
+        ensures { result ≡ with_setting self (RequestResponseSetting.MaxNodes value) }
+    {
+        self.demand.settings.max_nodes = value;
+        self.demand.marks.max_nodes = true;
+        self
+    }
+
+    /// How far a request's payload is aligned at least, in bytes; it stays aligned as far as its
+    /// type says. It marks no setting, and the last one that was asked stands.
+    pub fn request_payload_alignment(mut self, value: Alignment) -> Self
+        ensures { result ≡ with_setting self (RequestResponseSetting.RequestPayloadAlignment value) }
+    {
+        self.types.request.alignment = Some(value);
+        self
+    }
+
+    /// How far a response's payload is aligned at least, in bytes, as for a request's.
+    pub fn response_payload_alignment(mut self, value: Alignment) -> Self
+        ensures { result ≡ with_setting self (RequestResponseSetting.ResponsePayloadAlignment value) }
+    {
+        self.types.response.alignment = Some(value);
+        self
+    }
+
+    /// The same builder for messages with other user headers.
+    fn with_headers<QM: ZeroCopySend, RM: ZeroCopySend>(self) -> Builder<Q, QM, R, RM, S>
+        ensures { result ≡ self }
+    {
+        let Builder {
+            base,
+            demand,
+            types,
+            kind: _,
+        } = self;
+        Builder::from_parts(base, demand, types)
+    }
+
+    /// The same builder for requests with another user header.
+    pub fn request_user_header<M: ZeroCopySend>(self) -> Builder<Q, M, R, RU, S>
+        ensures { result ≡ self }
+    {
+        self.with_headers()
+    }
+
+    /// The same builder for responses with another user header.
+    pub fn response_user_header<M: ZeroCopySend>(self) -> Builder<Q, QU, R, M, S>
+        ensures { result ≡ self }
+    {
+        self.with_headers()
+    }
+
+    /// Creates the service without attributes: `create_with_attributes` of a specifier that
+    /// defines none.
+    pub fn create(
+        self,
+        storage: &mut S::Storage,
+    ) -> Result<PortFactory<S, Q, QU, R, RU>, RequestResponseCreateError>
+        ensures { let messages = messages_for Q.detail QU.detail R.detail RU.detail self.types in
+            Joins S.Storage.step storage.old
+            (λ word. IsCreateCall
+            (request_response_creating self.demand messages.request messages.response []) self.node
+            (S.ServiceNameHasher.hash_of letter_of_request_response self.name) self.name (Ok zero_span) word result)
+            storage.new }
+    {
+        let specifier = AttributeSpecifier::new(self.base.name().allocator());
+        self.create_with_attributes(&specifier, storage)
+    }
+
+    /// Creates the service with these attributes, with the settings as they are but for zeros,
+    /// which become one, and with the prepared types.
+    ///
+    /// Refused with `OutOfMemory` where there was no memory for the types, before any access; with
+    /// `AlreadyExists` where there is a service, with `HangsInCreation` or
+    /// `IsBeingCreatedByAnotherInstance` while another one creates it, with
+    /// `ServiceInCorruptedState` where what is there can't be used or not be cleared away, with
+    /// `InternalFailure` where the storage fails, and with `InsufficientPermissions` or
+    /// `OutOfMemory` as they say.
+    pub fn create_with_attributes(
+        self,
+        specifier: &AttributeSpecifier,
+        storage: &mut S::Storage,
+    ) -> Result<PortFactory<S, Q, QU, R, RU>, RequestResponseCreateError>
+        ensures { let messages = messages_for Q.detail QU.detail R.detail RU.detail self.types in
+            Joins S.Storage.step storage.old
+            (λ word. IsCreateCall
+            (request_response_creating self.demand messages.request messages.response specifier.now) self.node
+            (S.ServiceNameHasher.hash_of letter_of_request_response self.name) self.name (Ok zero_span) word result)
+            storage.new }
+    {
+        let Builder {
+            base,
+            demand,
+            types,
+            kind: _,
+        } = self;
+        let alloc = base.name().allocator();
+        let Ok(mut asked) = types.prepare::<Q, QU, R, RU>(demand, alloc) else {
+            return Err(RequestResponseCreateError::OutOfMemory);
+        };
+        let hash = base.hash(LETTER);
+        let attributes = specifier.attributes();
+        let node = base.node();
+        let name = base.name();
+        let now = Ok(Time::default());
+        match create(&mut asked, node, &hash, name, attributes, now, storage) {
+            Ok(registration) => Ok(PortFactory::new(registration)),
+            Err(error) => Err(error),
+        }
+    }
+
+    /// Opens the service, whatever its attributes: `open_with_attributes` of a verifier that
+    /// requires none.
+    pub fn open(
+        self,
+        storage: &mut S::Storage,
+    ) -> Result<PortFactory<S, Q, QU, R, RU>, RequestResponseOpenError>
+        ensures { let messages = messages_for Q.detail QU.detail R.detail RU.detail self.types in
+            Joins S.Storage.step storage.old
+            (λ word. IsOpenCall
+            (request_response_opening self.demand messages.request messages.response no_requirements) self.node
+            (S.ServiceNameHasher.hash_of letter_of_request_response self.name) word result)
+            storage.new }
+    {
+        let verifier = AttributeVerifier::new(self.base.name().allocator());
+        self.open_with_attributes(&verifier, storage)
+    }
+
+    /// Opens the service, if the types of its requests and responses are those of the builder, it
+    /// has the required attributes and offers each marked setting. The factory carries the
+    /// attributes, the settings and the types with which the service was created.
+    ///
+    /// Refused with `OutOfMemory` where there was no memory for the types, before any access; with
+    /// `DoesNotExist` where there is no service, with `IncompatibleRequestType` where its requests
+    /// are of other types, else with `IncompatibleResponseType` where its responses are, with
+    /// `IncompatibleAttributes` where it lacks a required pair or has no value for a required key,
+    /// with the setting's error where it offers less than is required or another behavior, with
+    /// `ExceedsMaxNumberOfNodes` where no further node has room, with `IsMarkedForDestruction`
+    /// where the last node has left, with `HangsInCreation` while it is created, with
+    /// `ServiceInCorruptedState` where its description can't be read or the service is replaced
+    /// again and again, with `InternalFailure` where the storage fails, and with
+    /// `IncompatibleMessagingPattern`, `InsufficientPermissions` or `OutOfMemory` as they say.
+    pub fn open_with_attributes(
+        self,
+        verifier: &AttributeVerifier,
+        storage: &mut S::Storage,
+    ) -> Result<PortFactory<S, Q, QU, R, RU>, RequestResponseOpenError>
+        ensures { let messages = messages_for Q.detail QU.detail R.detail RU.detail self.types in
+            Joins S.Storage.step storage.old
+            (λ word. IsOpenCall
+            (request_response_opening self.demand messages.request messages.response verifier.now) self.node
+            (S.ServiceNameHasher.hash_of letter_of_request_response self.name) word result)
+            storage.new }
+    {
+        let Builder {
+            base,
+            demand,
+            types,
+            kind: _,
+        } = self;
+        let alloc = base.name().allocator();
+        let Ok(asked) = types.prepare::<Q, QU, R, RU>(demand, alloc) else {
+            return Err(RequestResponseOpenError::OutOfMemory);
+        };
+        let hash = base.hash(LETTER);
+        match open(&asked, base.node(), &hash, verifier, storage) {
+            Ok(registration) => Ok(PortFactory::new(registration)),
+            Err(error) => Err(error),
+        }
+    }
+}

@@ -1,0 +1,302 @@
+//! What a builder of request-response asks, as the rounds see it.
+
+ghost use Rattle.std.specs.Prelude.{◌≡◌, drop};
+ghost use Rattle.iceoryx2_pattern.specs.Verdict.{verdict, marked_clauses};
+ghost use Rattle.iceoryx2_request_response_builder.specs.Request.{fresh_demand};
+ghost use Rattle.iceoryx2_request_response_builder.specs.RequestResponse.{setting_rows};
+
+use iceoryx2_builder_base::zeros::raised;
+use iceoryx2_errors::error::request_response::ServiceAvailabilityState;
+use iceoryx2_errors::error::{RequestResponseCreateError, RequestResponseOpenError, ServiceState};
+use iceoryx2_pattern::pattern::{CreateRefusal, OpenRefusal, Pattern};
+use iceoryx2_pattern::verdict::{need_at_least, need_flag};
+use iceoryx2_types::types::MessageTypeDetails;
+use iceoryx2_values::description::{MessagingPattern, StaticConfig};
+use iceoryx2_values::time::Time;
+use iceoryx2_values::{config, request_response};
+use std::alloc::AllocError;
+
+/// Which settings a builder of request-response requires.
+#[derive(Clone, Copy, Debug, PartialEq, Eq)]
+pub struct Marks {
+    pub enable_safe_overflow_for_requests: bool,
+    pub enable_safe_overflow_for_responses: bool,
+    pub enable_fire_and_forget_requests: bool,
+    pub max_active_requests_per_client: bool,
+    pub max_loaned_requests: bool,
+    pub max_borrowed_responses_per_pending_response: bool,
+    pub max_response_buffer_size: bool,
+    pub max_servers: bool,
+    pub max_clients: bool,
+    pub max_nodes: bool,
+}
+
+/// What a builder of request-response asks of a service: settings, and which of them it requires.
+#[derive(Clone, Copy, Debug, PartialEq, Eq)]
+pub struct RequestResponseDemand {
+    pub settings: config::RequestResponse,
+    pub marks: Marks,
+}
+
+impl RequestResponseDemand {
+    /// The configured settings, of which none is required.
+    pub(crate) fn start(defaults: config::RequestResponse) -> RequestResponseDemand
+        ensures { result ≡ fresh_demand defaults }
+    {
+        RequestResponseDemand {
+            settings: defaults,
+            marks: Marks {
+                enable_safe_overflow_for_requests: false,
+                enable_safe_overflow_for_responses: false,
+                enable_fire_and_forget_requests: false,
+                max_active_requests_per_client: false,
+                max_loaned_requests: false,
+                max_borrowed_responses_per_pending_response: false,
+                max_response_buffer_size: false,
+                max_servers: false,
+                max_clients: false,
+                max_nodes: false,
+            },
+        }
+    }
+}
+
+/// What one call asks: settings, which of them are required, and the types of its requests and
+/// responses as they were prepared.
+#[derive(Debug, Drop, PartialEq, Eq)]
+pub struct PreparedDemand {
+    pub demand: RequestResponseDemand,
+    pub request: MessageTypeDetails,
+    pub response: MessageTypeDetails,
+}
+
+/// Whether the existing settings offer what is marked: first the three that are on or off.
+#[tactic(auto, using(iceoryx2_pattern::proofs::Verdicts::row_decides, iceoryx2_pattern::proofs::Verdicts::no_row))]
+fn verify_settings(
+    demand: &RequestResponseDemand,
+    existing: &request_response::StaticConfig,
+) -> Result<(), RequestResponseOpenError>
+    ensures { result ≡ verdict (marked_clauses (setting_rows demand.now.settings demand.now.marks existing.now)) }
+{
+    let marks = &demand.marks;
+    let required = &demand.settings;
+    need_flag(
+        marks.enable_safe_overflow_for_requests,
+        existing.enable_safe_overflow_for_requests,
+        required.enable_safe_overflow_for_requests,
+        RequestResponseOpenError::IncompatibleOverflowBehaviorForRequests,
+    )?;
+    need_flag(
+        marks.enable_safe_overflow_for_responses,
+        existing.enable_safe_overflow_for_responses,
+        required.enable_safe_overflow_for_responses,
+        RequestResponseOpenError::IncompatibleOverflowBehaviorForResponses,
+    )?;
+    need_flag(
+        marks.enable_fire_and_forget_requests,
+        existing.enable_fire_and_forget_requests,
+        required.enable_fire_and_forget_requests,
+        RequestResponseOpenError::IncompatibleBehaviorForFireAndForgetRequests,
+    )?;
+    verify_requests(demand, existing)
+}
+
+/// Whether as much is offered to requests and their responses as is marked: the rows after the
+/// first three.
+#[tactic(auto, using(iceoryx2_pattern::proofs::Verdicts::row_decides, iceoryx2_pattern::proofs::Verdicts::no_row))]
+fn verify_requests(
+    demand: &RequestResponseDemand,
+    existing: &request_response::StaticConfig,
+) -> Result<(), RequestResponseOpenError>
+    ensures { result ≡
+        verdict (marked_clauses (drop 3 (setting_rows demand.now.settings demand.now.marks existing.now))) }
+{
+    let marks = &demand.marks;
+    let required = &demand.settings;
+    need_at_least(
+        marks.max_active_requests_per_client,
+        existing.max_active_requests_per_client,
+        required.max_active_requests_per_client,
+        RequestResponseOpenError::DoesNotSupportRequestedAmountOfActiveRequestsPerClient,
+    )?;
+    need_at_least(
+        marks.max_loaned_requests,
+        existing.max_loaned_requests,
+        required.max_loaned_requests,
+        RequestResponseOpenError::DoesNotSupportRequestedAmountOfClientRequestLoans,
+    )?;
+    need_at_least(
+        marks.max_borrowed_responses_per_pending_response,
+        existing.max_borrowed_responses_per_pending_response,
+        required.max_borrowed_responses_per_pending_response,
+        RequestResponseOpenError::DoesNotSupportRequestedAmountOfBorrowedResponsesPerPendingResponse,
+    )?;
+    need_at_least(
+        marks.max_response_buffer_size,
+        existing.max_response_buffer_size,
+        required.max_response_buffer_size,
+        RequestResponseOpenError::DoesNotSupportRequestedResponseBufferSize,
+    )?;
+    verify_users(demand, existing)
+}
+
+/// Whether as many servers, clients and nodes may use it as is marked: the rows after the first
+/// seven.
+#[tactic(auto, using(iceoryx2_pattern::proofs::Verdicts::row_decides, iceoryx2_pattern::proofs::Verdicts::no_row))]
+fn verify_users(
+    demand: &RequestResponseDemand,
+    existing: &request_response::StaticConfig,
+) -> Result<(), RequestResponseOpenError>
+    ensures { result ≡
+        verdict (marked_clauses (drop 7 (setting_rows demand.now.settings demand.now.marks existing.now))) }
+{
+    let marks = &demand.marks;
+    let required = &demand.settings;
+    need_at_least(
+        marks.max_servers,
+        existing.max_servers,
+        required.max_servers,
+        RequestResponseOpenError::DoesNotSupportRequestedAmountOfServers,
+    )?;
+    need_at_least(
+        marks.max_clients,
+        existing.max_clients,
+        required.max_clients,
+        RequestResponseOpenError::DoesNotSupportRequestedAmountOfClients,
+    )?;
+    need_at_least(
+        marks.max_nodes,
+        existing.max_nodes,
+        required.max_nodes,
+        RequestResponseOpenError::DoesNotSupportRequestedAmountOfNodes,
+    )
+}
+
+impl Pattern for PreparedDemand {
+    ghost use Rattle.iceoryx2_request_response_builder.specs.RequestResponse.{request_response_adjusted};
+    ghost use Rattle.iceoryx2_request_response_builder.specs.RequestResponse.{request_response_meaning};
+
+    type Fault = ServiceAvailabilityState;
+
+    type OpenError = RequestResponseOpenError;
+
+    type CreateError = RequestResponseCreateError;
+
+    ghost meaning = { λ asked. request_response_meaning asked.demand asked.request asked.response };
+
+    ghost adjusted = { λ asked. record asked { demand = request_response_adjusted asked.demand } };
+
+    fn adjust(&mut self) {
+        let settings = &mut self.demand.settings;
+        settings.max_active_requests_per_client = raised(settings.max_active_requests_per_client);
+        settings.max_loaned_requests = raised(settings.max_loaned_requests);
+        settings.max_borrowed_responses_per_pending_response = raised(
+            settings.max_borrowed_responses_per_pending_response,
+        );
+        settings.max_response_buffer_size = raised(settings.max_response_buffer_size);
+        settings.max_servers = raised(settings.max_servers);
+        settings.max_clients = raised(settings.max_clients);
+        settings.max_nodes = raised(settings.max_nodes);
+    }
+
+    fn fault(&self, state: ServiceState) -> ServiceAvailabilityState {
+        ServiceAvailabilityState::ServiceState(state)
+    }
+
+    fn misfit(&self, existing: &StaticConfig) -> Option<ServiceAvailabilityState> {
+        match existing.messaging_pattern() {
+            MessagingPattern::RequestResponse(settings) => {
+                let request = &settings.request_message_type_details;
+                let response = &settings.response_message_type_details;
+                if !self.request.is_compatible_to(request) {
+                    Some(ServiceAvailabilityState::IncompatibleRequestType)
+                } else if !self.response.is_compatible_to(response) {
+                    Some(ServiceAvailabilityState::IncompatibleResponseType)
+                } else {
+                    None
+                }
+            }
+            MessagingPattern::Event(_) | MessagingPattern::PublishSubscribe(_) => {
+                Some(ServiceAvailabilityState::ServiceState(
+                    ServiceState::IncompatibleMessagingPattern,
+                ))
+            }
+        }
+    }
+
+    fn verify(&self, existing: &StaticConfig) -> Result<(), RequestResponseOpenError> {
+        match existing.messaging_pattern() {
+            MessagingPattern::RequestResponse(settings) => verify_settings(&self.demand, settings),
+            MessagingPattern::Event(_) => Ok(()),
+            MessagingPattern::PublishSubscribe(_) => Ok(()),
+        }
+    }
+
+    fn open_error_of(&self, fault: ServiceAvailabilityState) -> RequestResponseOpenError {
+        RequestResponseOpenError::from(fault)
+    }
+
+    fn open_refusal(&self, refusal: OpenRefusal) -> RequestResponseOpenError {
+        match refusal {
+            OpenRefusal::DoesNotExist => RequestResponseOpenError::DoesNotExist,
+            OpenRefusal::IncompatibleAttributes => RequestResponseOpenError::IncompatibleAttributes,
+            OpenRefusal::ServiceInCorruptedState => {
+                RequestResponseOpenError::ServiceInCorruptedState
+            }
+            OpenRefusal::InternalFailure => RequestResponseOpenError::InternalFailure,
+            OpenRefusal::ExceedsMaxNumberOfNodes => {
+                RequestResponseOpenError::ExceedsMaxNumberOfNodes
+            }
+            OpenRefusal::IsMarkedForDestruction => RequestResponseOpenError::IsMarkedForDestruction,
+            OpenRefusal::OutOfMemory => RequestResponseOpenError::OutOfMemory,
+        }
+    }
+
+    fn create_error_of(&self, fault: ServiceAvailabilityState) -> RequestResponseCreateError {
+        RequestResponseCreateError::from(fault)
+    }
+
+    fn create_refusal(&self, refusal: CreateRefusal) -> RequestResponseCreateError {
+        match refusal {
+            CreateRefusal::ServiceInCorruptedState => {
+                RequestResponseCreateError::ServiceInCorruptedState
+            }
+            CreateRefusal::InternalFailure => RequestResponseCreateError::InternalFailure,
+            CreateRefusal::IsBeingCreatedByAnotherInstance => {
+                RequestResponseCreateError::IsBeingCreatedByAnotherInstance
+            }
+            CreateRefusal::AlreadyExists => RequestResponseCreateError::AlreadyExists,
+            CreateRefusal::InsufficientPermissions => {
+                RequestResponseCreateError::InsufficientPermissions
+            }
+            CreateRefusal::OutOfMemory => RequestResponseCreateError::OutOfMemory,
+        }
+    }
+
+    fn history_refusal(&self) -> Option<RequestResponseCreateError> {
+        None
+    }
+
+    fn needs_clock(&self) -> bool {
+        false
+    }
+
+    fn published(&self, now: Time) -> Result<MessagingPattern, AllocError> {
+        let _ = now;
+        let settings = &self.demand.settings;
+        Ok(MessagingPattern::RequestResponse(request_response::StaticConfig {
+            enable_safe_overflow_for_requests: settings.enable_safe_overflow_for_requests,
+            enable_safe_overflow_for_responses: settings.enable_safe_overflow_for_responses,
+            enable_fire_and_forget_requests: settings.enable_fire_and_forget_requests,
+            max_active_requests_per_client: settings.max_active_requests_per_client,
+            max_loaned_requests: settings.max_loaned_requests,
+            max_borrowed_responses_per_pending_response: settings.max_borrowed_responses_per_pending_response,
+            max_response_buffer_size: settings.max_response_buffer_size,
+            max_servers: settings.max_servers,
+            max_clients: settings.max_clients,
+            max_nodes: settings.max_nodes,
+            request_message_type_details: self.request.clone()?,
+            response_message_type_details: self.response.clone()?,
+        }))
+    }
+}

@@ -1,0 +1,52 @@
+//! What a builder of request-response asks of the types of its requests and responses.
+
+ghost use Rattle.std.specs.Prelude.{◌≡◌, IfOk};
+ghost use Rattle.iceoryx2_request_response_builder.specs.Request.{asked_with, messages_for, no_message_types};
+
+use crate::request_response::demand::{PreparedDemand, RequestResponseDemand};
+use iceoryx2_builder_base::requested::RequestedTypes;
+use iceoryx2_types::types::ZeroCopySend;
+use iceoryx2_types::types::request_response::{RequestHeader, ResponseHeader};
+use std::alloc::{AllocError, Global};
+
+/// What is told in place of the own types of a request and of a response, and how far their
+/// payloads are to be aligned.
+#[derive(Debug, Drop, PartialEq, Eq)]
+pub struct RequestedMessages {
+    /// Of a request.
+    pub request: RequestedTypes,
+    /// Of a response.
+    pub response: RequestedTypes,
+}
+
+impl RequestedMessages {
+    /// Each type is the message's own, and aligned as it is.
+    pub(crate) fn none() -> RequestedMessages
+        ensures { result ≡ no_message_types }
+    {
+        RequestedMessages {
+            request: RequestedTypes::none(),
+            response: RequestedTypes::none(),
+        }
+    }
+
+    /// What a call asks with this demand, of requests with the payload `Q` and the user header `QU`
+    /// and responses with the payload `R` and the user header `RU`. `AllocError` where there was no
+    /// memory for the names of their types.
+    pub(crate) fn prepare<Q: ZeroCopySend, QU: ZeroCopySend, R: ZeroCopySend, RU: ZeroCopySend>(
+        self,
+        demand: RequestResponseDemand,
+        alloc: Global,
+    ) -> Result<PreparedDemand, AllocError>
+        ensures { IfOk result (λ asked.
+            asked ≡ asked_with demand (messages_for Q.detail QU.detail R.detail RU.detail self)) }
+    {
+        let request = self.request.prepare::<RequestHeader, Q, QU>(alloc)?;
+        let response = self.response.prepare::<ResponseHeader, R, RU>(alloc)?;
+        Ok(PreparedDemand {
+            demand,
+            request,
+            response,
+        })
+    }
+}
