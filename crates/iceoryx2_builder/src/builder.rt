@@ -10,11 +10,16 @@ ghost use Rattle.iceoryx2_publish_subscribe_builder.specs.PublishSubscribe.{publ
 ghost use Rattle.iceoryx2_publish_subscribe_builder.specs.PublishSubscribe.{publish_subscribe_opening};
 ghost use Rattle.iceoryx2_publish_subscribe_builder.specs.Request.{fresh_request as fresh_publish_subscribe};
 ghost use Rattle.iceoryx2_publish_subscribe_builder.specs.declared.publish_subscribe.demand.PublishSubscribeDemand.{PublishSubscribeDemand};
+ghost use Rattle.iceoryx2_request_response_builder.specs.Request.{fresh_request as fresh_request_response};
+ghost use Rattle.iceoryx2_request_response_builder.specs.RequestResponse.{request_response_creating};
+ghost use Rattle.iceoryx2_request_response_builder.specs.RequestResponse.{request_response_opening};
+ghost use Rattle.iceoryx2_request_response_builder.specs.declared.request_response.demand.RequestResponseDemand.{RequestResponseDemand};
 
 use iceoryx2_access::storage::Service;
 use iceoryx2_builder_base::base::BuilderWithServiceType;
 pub use iceoryx2_event_builder::event;
 pub use iceoryx2_publish_subscribe_builder::publish_subscribe;
+pub use iceoryx2_request_response_builder::request_response;
 use iceoryx2_types::types::ZeroCopySend;
 use iceoryx2_values::config::Config;
 use iceoryx2_values::description::ServiceName;
@@ -114,9 +119,10 @@ impl<S: Service> Drop for Builder<S> {
 }
 
 impl<S: Service> Builder<S> {
-    /// A builder of a service of events, with the node's settings, of which none is required.
-    pub fn event(self) -> event::Builder<S>
-        ensures { result ≡ fresh_request self.node self.name self.config.event }
+    /// What the builder of each pattern begins with: its base, and the node's settings.
+    fn parts(self) -> (BuilderWithServiceType<S>, Config)
+        ensures base { result.0 ≡ record { node = self.node; name = self.name } }
+        ensures config { result.1 ≡ self.config }
     {
         let Builder {
             node,
@@ -124,7 +130,14 @@ impl<S: Service> Builder<S> {
             name,
             service: _,
         } = self;
-        let base = BuilderWithServiceType::new(node, name);
+        (BuilderWithServiceType::new(node, name), config)
+    }
+
+    /// A builder of a service of events, with the node's settings, of which none is required.
+    pub fn event(self) -> event::Builder<S>
+        ensures { result ≡ fresh_request self.node self.name self.config.event }
+    {
+        let (base, config) = self.parts();
         event::Builder::new(base, config.event)
     }
 
@@ -133,16 +146,20 @@ impl<S: Service> Builder<S> {
     pub fn publish_subscribe<P: ZeroCopySend>(self) -> publish_subscribe::Builder<P, (), S>
         ensures { result ≡ fresh_publish_subscribe self.node self.name self.config.publish_subscribe }
     {
-        let Builder {
-            node,
-            config,
-            name,
-            service: _,
-        } = self;
-        publish_subscribe::Builder::new(
-            BuilderWithServiceType::new(node, name),
-            config.publish_subscribe,
-        )
+        let (base, config) = self.parts();
+        publish_subscribe::Builder::new(base, config.publish_subscribe)
+    }
+
+    /// A builder of a service of request-response whose requests have the payload `Q` and whose
+    /// responses have the payload `R`, both without user headers, with the node's settings, of
+    /// which none is required.
+    pub fn request_response<Q: ZeroCopySend, R: ZeroCopySend>(
+        self,
+    ) -> request_response::Builder<Q, (), R, (), S>
+        ensures { result ≡ fresh_request_response self.node self.name self.config.request_response }
+    {
+        let (base, config) = self.parts();
+        request_response::Builder::new(base, config.request_response)
     }
 }
 
@@ -154,7 +171,10 @@ pub fn laws()
     ensures events { (demand : EventDemand) → IsBuilder (event_creating demand) (event_opening demand) }
     ensures publish_subscribe { (demand : PublishSubscribeDemand) (message : Message)
         → IsBuilder (publish_subscribe_creating demand message) (publish_subscribe_opening demand message) }
+    ensures request_response { (demand : RequestResponseDemand) (request response : Message) → IsBuilder
+        (request_response_creating demand request response) (request_response_opening demand request response) }
 {
     event::laws();
     publish_subscribe::laws();
+    request_response::laws();
 }
