@@ -1,0 +1,4 @@
+pub mod Counts
+pub mod Granted
+pub mod Left
+pub mod Ends

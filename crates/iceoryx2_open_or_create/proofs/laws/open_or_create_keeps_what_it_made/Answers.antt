@@ -1,0 +1,5 @@
+use Rattle.iceoryx2_open_or_create.proofs.Left.{granted_keeps}
+use Rattle.iceoryx2_open_or_create.proofs.laws.open_or_create_keeps_what_it_made.Goals as goal
+
+pub returns : goal.returns
+returns g c = λ required node hash name now asked word r w. granted_keeps w

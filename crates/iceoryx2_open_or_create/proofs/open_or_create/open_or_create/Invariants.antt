@@ -1,0 +1,7 @@
+use Rattle.iceoryx2_access.specs.Run.{Joins}
+use Rattle.iceoryx2_open_or_create.specs.OpenOrCreates.{AreRetriedTurns}
+use Rattle.iceoryx2_open_or_create.proofs.open_or_create.open_or_create.Given as goal
+
+abbrev pub invariant-loop-round : goal.invariant-loop-round
+invariant-loop-round g l =
+    Joins g.S.Storage.step l.fn.storage (λ word. AreRetriedTurns g.P.Pattern.meaning g.P.Pattern.adjusted g.P.Retries.retried l.verifier l.node l.hash l.name l.now l.fn.pattern l._round word l.pattern) l.storage

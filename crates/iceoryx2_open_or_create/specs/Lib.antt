@@ -1,0 +1,6 @@
+pub mod Retried
+pub mod OpenOrCreates
+pub mod Prepared
+pub mod EndsAtOnce
+pub mod Grants
+pub mod Leaves
