@@ -10,3 +10,6 @@ pub mod CloseLeft
 pub mod NoRow
 pub mod Tickets
 pub mod Prepared
+pub mod Turns
+pub mod Rounds
+pub mod Attempts

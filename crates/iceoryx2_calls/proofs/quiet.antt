@@ -16,3 +16,5 @@ pub mod Same
 pub mod After
 pub mod Listing
 pub mod Own
+pub mod Looked
+pub mod Attempts

@@ -1,5 +1,5 @@
 -- What a refused call leaves in the world.
-use Rattle.std.specs.Prelude.{◌≡◌, ◌≢◌, ◌⊎◌, ℕ, Bool, true, false, List, Some, Ok}
+use Rattle.std.specs.Prelude.{◌≡◌, ◌≢◌, ◌⊎◌, ℕ, Bool, true, false, List, [], ◌++◌, Some, Ok}
 use Rattle.iceoryx2_values.specs.declared.description.ServiceHash.{ServiceHash}
 use Rattle.iceoryx2_access.specs.Letter.{Letter}
 use Rattle.iceoryx2_access.specs.Letter as letter
@@ -11,7 +11,7 @@ use Rattle.iceoryx2_world.specs.Orders.{tag_cmp}
 use Rattle.iceoryx2_world.specs.World.{World, Segment, row_of, segment_of, phase_of, begins, row_number}
 use Rattle.iceoryx2_world.specs.Agreement.{IsSpent}
 use Rattle.iceoryx2_access.specs.Run.{Each}
-use Rattle.iceoryx2_words.specs.Keeps.{KeptLock, NoLock, GivenBack}
+use Rattle.iceoryx2_words.specs.Keeps.{KeptLock, NoLock, GivenBack, GivesAllBack}
 
 -- A removal is granted.
 abbrev pub IsGranted : Letter → Type 0
@@ -67,3 +67,10 @@ module _ (node : ℕ) (hash : ServiceHash) where
     pub tags : v.tags ≡ w.tags
     pub phase : NodeHasRead w v
     pub numbers : Each (SpendsNumber hash v) word
+
+  -- What the rounds of an open or create leave, one after the other: each leaves only that for which a removal was
+  -- refused.
+  pub data LeavesByRounds (w : World) : List Letter → World → Type 0 where
+    no_round : LeavesByRounds w [] w
+    one_more : {u v : List Letter} {x y : World} → LeavesByRounds w u x → (g : GivesAllBack node hash v)
+        → Leaves g.is_tag_left g.lock x y → LeavesByRounds w (u ++ v) y

@@ -2,8 +2,10 @@ pub mod Calls
 pub mod Quiet
 pub mod QuietCalls
 pub mod QuietPrepared
+pub mod QuietAttempts
 pub mod QuietLists
 pub mod QuietLaws
+pub mod Attempts
 pub mod Leaves
 pub mod CloseLeaves
 pub mod OverNoRow

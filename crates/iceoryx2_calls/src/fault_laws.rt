@@ -24,8 +24,10 @@ ghost use Rattle.iceoryx2_rounds.specs.Prepared.{IsCreateCall, IsOpenCall};
 ghost use Rattle.iceoryx2_words.specs.Keeps.{GivesAllBack, Keeps, NoLock, NoTag, no_own_tag};
 ghost use Rattle.iceoryx2_pattern.specs.Meaning.{Meaning};
 ghost use Rattle.iceoryx2_pattern.specs.Verdict.{verdict};
+ghost use Rattle.iceoryx2_open_or_create.specs.declared.open_or_create.OpenOrCreateRefusal.{OpenOrCreateRefusal};
+ghost use Rattle.iceoryx2_calls.specs.Attempts.{Attempt, IsAttempted, MayCarry};
 ghost use Rattle.iceoryx2_calls.specs.Calls.{Throughout};
-ghost use Rattle.iceoryx2_calls.specs.Leaves.{Leaves};
+ghost use Rattle.iceoryx2_calls.specs.Leaves.{Leaves, LeavesByRounds};
 ghost use Rattle.iceoryx2_calls.specs.CloseLeaves.{CloseLeaves};
 ghost use Rattle.iceoryx2_calls.specs.OverNoRow.{AnswersOverNoRow};
 
@@ -34,8 +36,8 @@ ghost use Rattle.iceoryx2_calls.specs.OverNoRow.{AnswersOverNoRow};
 /// stand, and of a call that was refused or closed only that stays for which a removal was refused.
 ///
 /// An access that is refused answers its general fault and changes nothing. A call is a word of its
-/// accesses; a create and an open may prepare the types of their messages first.
-pub fn agreement_under_faults<F: Copy, E: Copy, C: Copy>()
+/// accesses; a create, an open and an open or create may prepare the types of their messages first.
+pub fn agreement_under_faults<D, F: Copy, E: Copy, C: Copy>()
     // The accesses of a faulty storage with a table inside, whichever are refused and whatever batches
     // wait, are accesses of the table's world of which any may be refused. So what is said of runs over
     // worlds is true of each run over such a storage.
@@ -63,8 +65,14 @@ pub fn agreement_under_faults<F: Copy, E: Copy, C: Copy>()
         × (verdict (m.requirement r.description) ≡ Ok tt)
         × (w.counter ≤ r.ticket) × ((f : Factory) → Stands w f → f.ticket ≢ r.ticket) }
 
+    // So does an open or create, with a description that a round accepted or published.
+    ensures opened_or_created { (a : Attempt D F E C) (word : List Letter) (r : Factory) (w v : World)
+        → IsAttempted a word (Ok r) → Run IsFaulty w word v → Agrees w
+        → Stands v r × (r.node ≡ a.node) × MayCarry a r.description
+        × (w.counter ≤ r.ticket) × ((f : Factory) → Stands w f → f.ticket ≢ r.ticket) }
+
     // Each factory that stands before a create stands throughout it, whatever it answers; so does each
-    // before an open, and each with another ticket before a close.
+    // before an open and before an open or create, and each with another ticket before a close.
     ensures create_spares { (m : Meaning F E C) (node : ℕ) (hash : ServiceHash)
         (name : List ℕ) (now : Result Span ClockFault)
         (word : List Letter) (answer : Result Factory C) (w : World) (f : Factory)
@@ -73,6 +81,10 @@ pub fn agreement_under_faults<F: Copy, E: Copy, C: Copy>()
     ensures open_spares { (m : Meaning F E C) (node : ℕ) (hash : ServiceHash) (word : List Letter)
         (answer : Result Factory E) (w : World) (f : Factory)
         → IsOpenCall m node hash word answer → Agrees w
+        → Stands w f → Throughout IsFaulty (λ v. Stands v f) w word }
+    ensures open_or_create_spares { (a : Attempt D F E C) (word : List Letter)
+        (answer : Result Factory (OpenOrCreateRefusal E C)) (w : World) (f : Factory)
+        → IsAttempted a word answer → Agrees w
         → Stands w f → Throughout IsFaulty (λ v. Stands v f) w word }
     ensures close_spares { (r : Factory) (word : List Letter) (answer : Result (Unit {0}) (CloseError Factory))
         (w : World) (f : Factory)
@@ -85,7 +97,8 @@ pub fn agreement_under_faults<F: Copy, E: Copy, C: Copy>()
         → (s ≡ r) × (Stands w r → Throughout IsFaulty (λ v. Stands v r) w word) }
 
     // A refused create leaves of its own only the phase Read, spent numbers and that for which a removal
-    // was refused, as its word tells; a refused open leaves at most the phase Read and its tag.
+    // was refused, as its word tells; a refused open leaves at most the phase Read and its tag; and of a
+    // refused open or create each round leaves no more than that.
     ensures refused_create_leaves { (m : Meaning F E C) (node : ℕ) (hash : ServiceHash) (name : List ℕ)
         (now : Result Span ClockFault) (word : List Letter) (error : C) (w v : World)
         → IsCreateCall m node hash name now word (Err error) → Run IsFaulty w word v → Agrees w
@@ -95,6 +108,11 @@ pub fn agreement_under_faults<F: Copy, E: Copy, C: Copy>()
         → IsOpenCall m node hash word (Err error) → Run IsFaulty w word v → Agrees w
         → (is_left : Bool) × Keeps node hash no_own_tag NoLock word (NoTag is_left) NoLock
         × Leaves node hash is_left NoLock w v }
+
+    ensures refused_open_or_create_leaves { (a : Attempt D F E C) (word : List Letter)
+        (refusal : OpenOrCreateRefusal E C) (w v : World)
+        → IsAttempted a word (Err refusal) → Run IsFaulty w word v → Agrees w
+        → LeavesByRounds a.node a.hash w word v }
 
     // A close that doesn't hand its factory back takes the ticket out,
     ensures taken_out { (r : Factory) (word : List Letter) (answer : Result (Unit {0}) (CloseError Factory))

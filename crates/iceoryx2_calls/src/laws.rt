@@ -1,6 +1,6 @@
 //! What is true of whole calls over a table, whatever the pattern and whatever steps peers take.
 
-ghost use Rattle.std.specs.Prelude.{◌≡◌, ◌≢◌, ℕ, ◌≤◌, Bool, List, Result, Ok, Err, None};
+ghost use Rattle.std.specs.Prelude.{◌≡◌, ◌≢◌, ℕ, ◌≤◌, Bool, false, List, Result, Ok, Err, None};
 ghost use Rattle.iceoryx2_values.specs.Span.{Span};
 ghost use Rattle.iceoryx2_values.specs.declared.description.ServiceHash.{ServiceHash};
 ghost use Rattle.iceoryx2_values.specs.declared.time.ClockFault.{ClockFault};
@@ -23,18 +23,21 @@ ghost use Rattle.iceoryx2_words.specs.Keeps.{GivesAllBack, Keeps, NoLock, NoTag,
 ghost use Rattle.iceoryx2_rounds.specs.Prepared.{IsCreateCall, IsOpenCall};
 ghost use Rattle.iceoryx2_pattern.specs.Meaning.{Meaning};
 ghost use Rattle.iceoryx2_pattern.specs.Verdict.{verdict};
+ghost use Rattle.iceoryx2_open_or_create.specs.declared.open_or_create.OpenOrCreateRefusal.{OpenOrCreateRefusal};
+ghost use Rattle.iceoryx2_calls.specs.Attempts.{Attempt, IsAttempted, MayCarry};
 ghost use Rattle.iceoryx2_calls.specs.Calls.{Throughout, AtEach, ActsCalmly, ChangesLast};
-ghost use Rattle.iceoryx2_calls.specs.Leaves.{IsGranted, Leaves, LeavesNothing};
+ghost use Rattle.iceoryx2_calls.specs.Leaves.{IsGranted, Leaves, LeavesByRounds, LeavesNothing};
 ghost use Rattle.iceoryx2_calls.specs.Tickets.{tickets_after, tickets_after_close};
 
 /// Whatever a call does and whatever steps peers take within it, the world agrees after each
 /// access, and each open factory carries the one description of its service and stands there with
 /// its node, until its ticket is released.
 ///
-/// A call is a word of its accesses. A create and an open may prepare the types of their messages
-/// first; one that doesn't goes along a word of its grammar, which is a word of such a call too.
+/// A call is a word of its accesses. A create, an open and an open or create may prepare the types of
+/// their messages first; one that doesn't goes along a word of its grammar, which is a word of such a
+/// call too.
 /// Where nothing else is said, any access may be refused by a fault.
-pub fn agreement<F: Copy, E: Copy, C: Copy>()
+pub fn agreement<D, F: Copy, E: Copy, C: Copy>()
     // A table's own accesses, whatever batches wait before them, are accesses of its world after any
     // steps of peers. So what is said of runs over worlds is true of each run over a table.
     ensures of_tables { (s t : TableState) (word : List Letter)
@@ -77,6 +80,14 @@ pub fn agreement<F: Copy, E: Copy, C: Copy>()
         × (verdict (m.requirement r.description) ≡ Ok tt)
         × (w.counter ≤ r.ticket) × ((f : Factory) → Stands w f → f.ticket ≢ r.ticket) }
 
+    // An open or create that answers Ok leaves its factory standing. What it carries a round's open has
+    // accepted or a round's create has published, with what that round asks: what was asked first,
+    // adjusted by each create before. Its ticket is new.
+    ensures opened_or_created { (a : Attempt D F E C) (word : List Letter) (r : Factory) (w v : World)
+        → IsAttempted a word (Ok r) → Run IsFaulty w word v → Agrees w
+        → Stands v r × (r.node ≡ a.node) × MayCarry a r.description
+        × (w.counter ≤ r.ticket) × ((f : Factory) → Stands w f → f.ticket ≢ r.ticket) }
+
     // Each factory that stands before a create stands throughout it, whatever it answers.
     ensures create_spares { (m : Meaning F E C) (node : ℕ) (hash : ServiceHash)
         (name : List ℕ) (now : Result Span ClockFault)
@@ -88,6 +99,12 @@ pub fn agreement<F: Copy, E: Copy, C: Copy>()
     ensures open_spares { (m : Meaning F E C) (node : ℕ) (hash : ServiceHash) (word : List Letter)
         (answer : Result Factory E) (w : World) (f : Factory)
         → IsOpenCall m node hash word answer → Agrees w
+        → Stands w f → Throughout IsFaulty (λ v. Stands v f) w word }
+
+    // And each that stands before an open or create.
+    ensures open_or_create_spares { (a : Attempt D F E C) (word : List Letter)
+        (answer : Result Factory (OpenOrCreateRefusal E C)) (w : World) (f : Factory)
+        → IsAttempted a word answer → Agrees w
         → Stands w f → Throughout IsFaulty (λ v. Stands v f) w word }
 
     // So does each with another ticket that stands before a close.
@@ -112,6 +129,12 @@ pub fn agreement<F: Copy, E: Copy, C: Copy>()
     ensures open_tickets { (m : Meaning F E C) (node : ℕ) (hash : ServiceHash)
         (word : List Letter) (answer : Result Factory E) (w v : World)
         → IsOpenCall m node hash word answer → Run IsFaulty w word v
+        → v.tickets ≡ tickets_after w.tickets answer }
+
+    // And with an open or create.
+    ensures open_or_create_tickets { (a : Attempt D F E C) (word : List Letter)
+        (answer : Result Factory (OpenOrCreateRefusal E C)) (w v : World)
+        → IsAttempted a word answer → Run IsFaulty w word v
         → v.tickets ≡ tickets_after w.tickets answer }
 
     // A close that hands its factory back changes no ticket, and any other takes exactly its own out.
@@ -141,6 +164,12 @@ pub fn agreement<F: Copy, E: Copy, C: Copy>()
         → IsOpenCall m node hash word (Err error) → Agrees w
         → AtEach IsFaulty ActsCalmly w word }
 
+    // Nor does a refused open or create, whatever its rounds.
+    ensures refused_open_or_create { (a : Attempt D F E C) (word : List Letter)
+        (refusal : OpenOrCreateRefusal E C) (w : World)
+        → IsAttempted a word (Err refusal) → Agrees w
+        → AtEach IsFaulty ActsCalmly w word }
+
     // A granted create does so in exactly one access, its last, where it publishes.
     ensures granted_create { (m : Meaning F E C) (node : ℕ) (hash : ServiceHash)
         (name : List ℕ) (now : Result Span ClockFault)
@@ -153,6 +182,11 @@ pub fn agreement<F: Copy, E: Copy, C: Copy>()
         (word : List Letter) (r : Factory) (w : World)
         → IsOpenCall m node hash word (Ok r) → Agrees w
         → ChangesLast node hash w word }
+
+    // And a granted open or create, where its last round opens or publishes.
+    ensures granted_open_or_create { (a : Attempt D F E C) (word : List Letter) (r : Factory) (w : World)
+        → IsAttempted a word (Ok r) → Agrees w
+        → ChangesLast a.node a.hash w word }
 
     // A refused create leaves nothing of its own but that for which a removal was refused. What its
     // removals left is read off its word; beside that every tag and ticket is as it was, its node has
@@ -170,6 +204,12 @@ pub fn agreement<F: Copy, E: Copy, C: Copy>()
         → (is_left : Bool) × Keeps node hash no_own_tag NoLock word (NoTag is_left) NoLock
         × Leaves node hash is_left NoLock w v }
 
+    // Of a refused open or create each round leaves only that for which a removal was refused.
+    ensures refused_open_or_create_leaves { (a : Attempt D F E C) (word : List Letter)
+        (refusal : OpenOrCreateRefusal E C) (w v : World)
+        → IsAttempted a word (Err refusal) → Run IsFaulty w word v → Agrees w
+        → LeavesByRounds a.node a.hash w word v }
+
     // Where nothing is refused by a fault, each removal of a refused create answers Ok, whatever peers
     // do, and nothing of its own stays but the phase Read and spent numbers.
     ensures refused_create_gives_back { (m : Meaning F E C) (node : ℕ) (hash : ServiceHash) (name : List ℕ)
@@ -183,6 +223,12 @@ pub fn agreement<F: Copy, E: Copy, C: Copy>()
         → IsOpenCall m node hash word (Err error) → Run IsAccess w word v → Agrees w
         → Each IsGranted word × LeavesNothing node hash word w v }
 
+    // And with a refused open or create: of none of its rounds anything stays.
+    ensures refused_open_or_create_gives_back { (a : Attempt D F E C) (word : List Letter)
+        (refusal : OpenOrCreateRefusal E C) (w v : World)
+        → IsAttempted a word (Err refusal) → Run IsAccess w word v → Agrees w
+        → Each IsGranted word × LeavesNothing a.node a.hash word w v }
+
     // A create looks at most once and opens nothing. It makes a segment in at most six attempts,
     // with at most six removals of one.
     ensures create_is_short { (m : Meaning F E C) (node : ℕ) (hash : ServiceHash)
@@ -195,6 +241,17 @@ pub fn agreement<F: Copy, E: Copy, C: Copy>()
     ensures open_is_short { (m : Meaning F E C) (node : ℕ) (hash : ServiceHash) (word : List Letter)
         (answer : Result Factory E)
         → IsOpenCall m node hash word answer → IsWithin word 12 6 0 0 }
+
+    // An open or create looks at most 78 times and opens at most 36 times, and where no refusal of an
+    // open leads to another round at most 23 and six times. It makes a segment in at most 36 attempts,
+    // with at most 36 removals of one.
+    ensures open_or_create_is_short { (a : Attempt D F E C) (word : List Letter)
+        (answer : Result Factory (OpenOrCreateRefusal E C))
+        → IsAttempted a word answer → IsWithin word 78 36 36 36 }
+    ensures open_or_create_is_shorter { (a : Attempt D F E C) (word : List Letter)
+        (answer : Result Factory (OpenOrCreateRefusal E C))
+        → ((error : E) → a.retried.of_open error ≡ false)
+        → IsAttempted a word answer → IsWithin word 23 6 36 36 }
 
     // A close looks nowhere and opens nothing. It removes at most one segment.
     ensures close_is_short { (r : Factory) (word : List Letter) (answer : Result (Unit {0}) (CloseError Factory))

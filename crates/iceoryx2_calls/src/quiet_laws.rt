@@ -32,6 +32,9 @@ ghost use Rattle.iceoryx2_port_factory.specs.Closes.{IsCloseWord};
 ghost use Rattle.iceoryx2_calls.specs.Quiet.{Quiet, QuietService, Shows, no_service, service_at, times_counted};
 ghost use Rattle.iceoryx2_calls.specs.QuietCalls.{Creates, Opens, Closes, HasPlace, HasNumber};
 ghost use Rattle.iceoryx2_calls.specs.QuietPrepared.{CreatesPrepared, OpensPrepared};
+ghost use Rattle.iceoryx2_calls.specs.Attempts.{Attempt, IsAttempted, IsAttemptWord};
+ghost use Rattle.iceoryx2_calls.specs.QuietAttempts.{Attempts, AttemptsPrepared, IsSteady};
+ghost use Rattle.iceoryx2_open_or_create.specs.declared.open_or_create.OpenOrCreateRefusal.{OpenOrCreateRefusal};
 ghost use Rattle.iceoryx2_calls.specs.QuietLists.{listing};
 ghost use Rattle.iceoryx2_calls.specs.QuietLaws.{IsCall, IsClose, HasOpened, HoldsTheSame, HasNothingAt, times_opened};
 
@@ -78,7 +81,7 @@ pub fn quiet_laws()
 {}
 
 /// What holds of the calls of each pattern over such a table.
-pub fn quiet_calls<F: Copy, E: Copy, C: Copy>()
+pub fn quiet_calls<D, F: Copy, E: Copy, C: Copy>()
     // A create over a world that shows the machine is the machine's create.
     ensures create { (m : Meaning F E C) (node : ℕ) (hash : ServiceHash) (name : List ℕ)
         (now : Result Span ClockFault) (w v : World) (q : Quiet) (word : List Letter) (answer : Result Factory C)
@@ -93,6 +96,14 @@ pub fn quiet_calls<F: Copy, E: Copy, C: Copy>()
         → IsOpenWord m node hash word answer → Run IsOwnPart w word v
         → IsCall w (Opens m q node hash answer) answer v }
 
+    // An open or create is the machine's create where there is no service, and else its open: its first
+    // round is its last, where the refusals of that machine are not tried again.
+    ensures open_or_create { (a : Attempt D F E C) (w v : World) (q : Quiet) (word : List Letter)
+        (answer : Result Factory (OpenOrCreateRefusal E C))
+        → IsSteady a → Shows w q → Agrees w
+        → IsAttemptWord a word answer → Run IsOwnPart w word v
+        → IsCall w (Attempts a q answer) answer v }
+
     // Where they may prepare their types first, they are the machine's, or want memory and change nothing.
     ensures prepared_create { (m : Meaning F E C) (node : ℕ) (hash : ServiceHash) (name : List ℕ)
         (now : Result Span ClockFault) (w v : World) (q : Quiet) (word : List Letter) (answer : Result Factory C)
@@ -105,6 +116,12 @@ pub fn quiet_calls<F: Copy, E: Copy, C: Copy>()
         → IsOpenCall m node hash word answer → Run IsOwnPart w word v
         → IsCall w (OpensPrepared m q node hash answer) answer v }
 
+    ensures prepared_open_or_create { (a : Attempt D F E C) (w v : World) (q : Quiet) (word : List Letter)
+        (answer : Result Factory (OpenOrCreateRefusal E C))
+        → IsSteady a → Shows w q → Agrees w
+        → IsAttempted a word answer → Run IsOwnPart w word v
+        → IsCall w (AttemptsPrepared a q answer) answer v }
+
     // A refused call changes no description, segment, tag or count. This and what follows is said of calls that
     // may prepare their types first; each call of the machine is one of these too.
     ensures refused_create { (m : Meaning F E C) (node : ℕ) (hash : ServiceHash) (name : List ℕ)
@@ -113,6 +130,10 @@ pub fn quiet_calls<F: Copy, E: Copy, C: Copy>()
     ensures refused_open { (m : Meaning F E C) (node : ℕ) (hash : ServiceHash)
         (w v : World) (q p : Quiet) (error : E)
         → Shows w q → Shows v p → OpensPrepared m q node hash (Err error) p → HoldsTheSame w v }
+
+    ensures refused_open_or_create { (a : Attempt D F E C) (w v : World) (q p : Quiet)
+        (refusal : OpenOrCreateRefusal E C)
+        → Shows w q → Shows v p → AttemptsPrepared a q (Err refusal) p → HoldsTheSame w v }
 
     // A create and then the close of its factory leave nothing of that service and the rest as it
     // was, and one number is spent.

@@ -1,5 +1,5 @@
 -- Which accesses of a call change what is published, or a count.
-use Rattle.std.proofs.Common.{◌∷◌, ◌++◌, [], ℕ, zero, suc, Bool, true, false, inl, inr, List, Result, Ok, Err, sym, ap, ◌∙◌, append_assoc}
+use Rattle.std.proofs.Common.{◌∷◌, ◌++◌, [], ℕ, zero, suc, Bool, true, false, inl, inr, List, Result, Ok, Err, sym, ap, subst, ◌∙◌, append_assoc}
 use Rattle.iceoryx2_values.specs.declared.description.ServiceHash.{ServiceHash}
 use Rattle.iceoryx2_values.specs.Description.{Description}
 use Rattle.iceoryx2_world.specs.declared.world.Participant.TheVariants.{Node}
@@ -73,7 +73,7 @@ module _ {node : ℕ} {hash : ServiceHash} where
   making_tame {number} {max_nodes} still_there = tame_both (cleared_tame number max_nodes 5) (goes tt ends)
 
 module _ {F E C : Type 0} {m : Meaning F E C} {node : ℕ} {hash : ServiceHash} where
-  look_tame : {b : Bool} {w : List Letter} {o : Outcome F} → IsLookWord m node hash w o → Tame node hash b w b
+  pub look_tame : {b : Bool} {w : List Letter} {o : Outcome F} → IsLookWord m node hash w o → Tame node hash b w b
   look_tame absent = goes tt ends
   look_tame broken = goes tt ends
   look_tame (fetched there read) = goes tt (goes tt ends)
@@ -137,8 +137,16 @@ module _ {F E C : Type 0} {m : Meaning F E C} {node : ℕ} {hash : ServiceHash} 
     change = λ u v a. publishing_counts a.between v node hash n d t a.own;
   }
 
+  created_changes_after : {stops : Bool} {d : Description} {x z : List Letter} {r : Factory} (w : World) → Tame node hash false x false → IsCreating m node hash stops d z (Ok r) → Agrees w → ChangesLast node hash w (x ++ z)
+  created_changes_after {x = x} w before (creates.made {u} {v} _ _ entry service) old =
+      subst (ChangesLast node hash w) (append_assoc x u v) (service_changes w (tame_both before (entry_tame entry)) service old)
+
   pub created_changes : {stops : Bool} {d : Description} {word : List Letter} {r : Factory} (w : World) → IsCreating m node hash stops d word (Ok r) → Agrees w → ChangesLast node hash w word
-  created_changes w (creates.made _ _ entry service) old = service_changes w (entry_tame entry) service old
+  created_changes w is old = created_changes_after w ends is old
+
+  -- so does one after a look in a round of an open or create
+  pub creates_after : {stops : Bool} {d : Description} (x u v : List Letter) {r : Factory} (w : World) → Tame node hash false (x ++ u) false → IsCreating m node hash stops d v (Ok r) → Agrees w → ChangesLast node hash w (x ++ (u ++ v))
+  creates_after x u v w before is old = subst (ChangesLast node hash w) (append_assoc x u v) (created_changes_after w before is old)
 
   round_changes : {x y : List Letter} {r : Factory} (w : World) → Tame node hash false x false → IsLastRound m node hash y (Ok r) → Agrees w → ChangesLast node hash w (x ++ y)
   round_changes {x = x} w before (opens.opened {u = y} {n = n} t r) old = record {
@@ -150,5 +158,12 @@ module _ {F E C : Type 0} {m : Meaning F E C} {node : ℕ} {hash : ServiceHash} 
   }
 
   -- A granted open changes something where it opens.
+  opened_changes_after : {x z : List Letter} {r : Factory} (w : World) → Tame node hash false x false → IsOpenWord m node hash z (Ok r) → Agrees w → ChangesLast node hash w (x ++ z)
+  opened_changes_after {x = x} w before (ended {u} {v} small rounds l) old =
+      subst (ChangesLast node hash w) (append_assoc x u v) (round_changes w (tame_both before (rounds_tame rounds)) l old)
+
   pub opened_changes : {word : List Letter} {r : Factory} (w : World) → IsOpenWord m node hash word (Ok r) → Agrees w → ChangesLast node hash w word
-  opened_changes w (ended small before l) old = round_changes w (rounds_tame before) l old
+  opened_changes w is old = opened_changes_after w ends is old
+
+  pub opens_after : (x u v : List Letter) {r : Factory} (w : World) → Tame node hash false (x ++ u) false → IsOpenWord m node hash v (Ok r) → Agrees w → ChangesLast node hash w (x ++ (u ++ v))
+  opens_after x u v w before is old = subst (ChangesLast node hash w) (append_assoc x u v) (opened_changes_after w before is old)

@@ -73,7 +73,7 @@ calm_keeps (letter.Release t i h n (Ok a)) ok = absurd ok
 calm_keeps (letter.Release t i h n (Err e)) ok = tt
 calm_keeps _ ok = tt
 
-tame_tickets : {node : ℕ} {hash : ServiceHash} {b c : Bool} {word : List Letter} {w v : World} → Tame node hash b word c → Run IsFaulty w word v
+pub tame_tickets : {node : ℕ} {hash : ServiceHash} {b c : Bool} {word : List Letter} {w v : World} → Tame node hash b word c → Run IsFaulty w word v
     → v.tickets ≡ w.tickets
 tame_tickets ends done = refl
 tame_tickets {w = w} (goes {l = l} ok more) (next {mid = u} s rest) = tame_tickets more rest ∙ same_tickets w l u (calm_keeps l ok) s

@@ -86,7 +86,7 @@ module _ {node : ℕ} {hash : ServiceHash} where
   segment_letters {number} {max_nodes} still_there = each_append IsNoRelease (cleared node hash number max_nodes 5) (letter.MakeSegment node hash number max_nodes (Err make.AlreadyExists) ∷ []) (cleared_letters node hash number max_nodes 5) (tt, tt)
 
 module _ {F E C : Type 0} {m : Meaning F E C} {node : ℕ} {hash : ServiceHash} where
-  look_letters : {w : List Letter} {o : Outcome F} → IsLookWord m node hash w o → Each IsNoRelease w
+  pub look_letters : {w : List Letter} {o : Outcome F} → IsLookWord m node hash w o → Each IsNoRelease w
   look_letters absent = (tt, tt)
   look_letters broken = (tt, tt)
   look_letters (fetched there read) = (tt, (tt, tt))

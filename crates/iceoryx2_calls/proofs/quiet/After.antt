@@ -31,7 +31,7 @@ use Rattle.iceoryx2_calls.proofs.quiet.Prepared.{refused_prepared}
 
 module _ {F E C : Type 0} (m : Meaning F E C) (i : ℕ) (h : ServiceHash) where
   -- a refused call keeps the services
-  create_refused : (name : List ℕ) (now : Result Span ClockFault) (q p : Quiet) (e : C) → Creates m q i h name now (Err e) p → p.services ≡ q.services
+  pub create_refused : (name : List ℕ) (now : Result Span ClockFault) (q p : Quiet) (e : C) → Creates m q i h name now (Err e) p → p.services ≡ q.services
   create_refused name now q p e (call.forbidden bad) = refl
   create_refused name now q p e (call.exists x fits there) = refl
   create_refused name now q p e (call.no_time fits gone stops) = refl
@@ -39,7 +39,7 @@ module _ {F E C : Type 0} (m : Meaning F E C) (i : ℕ) (h : ServiceHash) where
   create_refused name now q p e (call.no_memory fits) = refl
   create_refused name now q p e (call.no_memory_locked fits gone runs room) = refl
 
-  open_refused : (q p : Quiet) (e : E) → Opens m q i h (Err e) p → p.services ≡ q.services
+  pub open_refused : (q p : Quiet) (e : E) → Opens m q i h (Err e) p → p.services ≡ q.services
   open_refused q p e (call.absent gone) = refl
   open_refused q p e (call.misfit x there bad) = refl
   open_refused q p e (call.not_accepted x there good unfit) = refl

@@ -40,7 +40,7 @@ use Rattle.iceoryx2_calls.proofs.quiet.Close.{close_counted}
 use Rattle.iceoryx2_calls.proofs.quiet.Opened.{open_absent, open_there}
 
 -- The machine has the service of a registration, whose ticket is the old counter's value.
-record GivesIn (w : World) (q : Quiet) (r : Factory) : Type 0 where
+pub record GivesIn (w : World) (q : Quiet) (r : Factory) : Type 0 where
   service : QuietService
   there : service_at q r.description.hash ≡ Some service
   number : service.number ≡ r.number
@@ -56,7 +56,7 @@ run_keeps {w = u} {v = w} (next {mid = v} {letter = l} o rest) old =
     (more.0, later_trans u v w old.everywhere one.1 more.1)
 
 -- what a call that the machine has made leaves
-is_call : {E : Type 0} {Calls : Quiet → Type 0} {w v : World} {word : List Letter} (r : Result Factory E) → (made : Made Calls (tickets_after w.tickets r) v) → IfOk r (λ x. GivesIn w made.state x) → Run IsOwnPart w word v → Agrees w → IsCall w Calls r v
+pub is_call : {E : Type 0} {Calls : Quiet → Type 0} {w v : World} {word : List Letter} (r : Result Factory E) → (made : Made Calls (tickets_after w.tickets r) v) → IfOk r (λ x. GivesIn w made.state x) → Run IsOwnPart w word v → Agrees w → IsCall w Calls r v
 is_call {E = E} {w = w} {v = v} (Err e) made gives run old =
     let kept = run_keeps run old in
     record { state = made.state; call = made.call; shows = made.shows; agrees = kept.0; tickets = made.tickets; given = gives; kept = kept_by_call {E = E} w v (Err e) old kept.0 kept.1 made.tickets (λ x is. absurd (cc)) }

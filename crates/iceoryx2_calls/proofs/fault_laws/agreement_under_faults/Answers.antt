@@ -7,6 +7,10 @@ use Rattle.iceoryx2_calls.proofs.calls.Opened.{open_stands}
 use Rattle.iceoryx2_calls.proofs.calls.Tickets.{close_takes_out}
 use Rattle.iceoryx2_calls.proofs.calls.Left.{leaves_tag, gives_back}
 use Rattle.iceoryx2_calls.proofs.calls.CloseLeft.{close_leaves}
+use Rattle.iceoryx2_calls.proofs.calls.Turns.{open_or_create_stands}
+use Rattle.iceoryx2_calls.proofs.calls.Rounds.{leaves_by_rounds}
+use Rattle.iceoryx2_calls.proofs.calls.Attempts.{attempt_letters, refused_attempt_gives_back}
+use Rattle.iceoryx2_open_or_create.proofs.Granted.{granted_carries}
 use Rattle.iceoryx2_calls.proofs.calls.Prepared.{create_call_letters, open_call_letters, create_call_over_no_row}
 use Rattle.iceoryx2_batches.proofs.Waiting.{refusable_run}
 use Rattle.iceoryx2_script.proofs.Runs.{refusable}
@@ -50,3 +54,12 @@ returns-clause-close_leaves g c = λ r word answer w v is here run old. close_le
 
 pub returns-clause-over_no_row : goal.returns-clause-over_no_row
 returns-clause-over_no_row g c = λ m node hash name now word answer w v room old gone is run. create_call_over_no_row name now room old gone is run
+
+pub returns-clause-opened_or_created : goal.returns-clause-opened_or_created
+returns-clause-opened_or_created g c = λ a word r w v is run old. let o = open_or_create_stands (granted_call is) run old in let carried = granted_carries (granted_call is) in (o.0, carried.0, carried.1, o.1, λ f s. older_ticket w f r.ticket old s o.1)
+
+pub returns-clause-open_or_create_spares : goal.returns-clause-open_or_create_spares
+returns-clause-open_or_create_spares g c = λ a word answer w f is old s. stands_throughout w word f (all_spared f word (attempt_letters is)) old s
+
+pub returns-clause-refused_open_or_create_leaves : goal.returns-clause-refused_open_or_create_leaves
+returns-clause-refused_open_or_create_leaves g c = λ a word refusal w v is run old. leaves_by_rounds a.node a.hash (refused_attempt_gives_back is) run old

@@ -13,6 +13,10 @@ use Rattle.iceoryx2_calls.proofs.calls.Prepared.{create_call_letters, open_call_
 use Rattle.iceoryx2_calls.proofs.calls.Standing.{stands_among, one_service}
 use Rattle.iceoryx2_words.proofs.Kept.{refused_create_call_keeps, refused_open_call_keeps}
 use Rattle.iceoryx2_calls.proofs.calls.Left.{only_tag, leaves_tag, gives_back, gives_all_back}
+use Rattle.iceoryx2_calls.proofs.calls.Turns.{open_or_create_stands, granted_open_or_create_changes}
+use Rattle.iceoryx2_calls.proofs.calls.Rounds.{leaves_by_rounds, rounds_give_back}
+use Rattle.iceoryx2_calls.proofs.calls.Attempts.{attempt_letters, attempt_tickets, refused_attempt_calm, refused_attempt_gives_back, attempt_within, attempt_within_fewer}
+use Rattle.iceoryx2_open_or_create.proofs.Granted.{granted_carries}
 use Rattle.iceoryx2_batches.proofs.Waiting.{table_run}
 use Rattle.iceoryx2_calls.proofs.laws.agreement.Goals as goal
 
@@ -90,3 +94,30 @@ returns-clause-open_is_short g c = λ m node hash word answer w. open_call_withi
 
 pub returns-clause-close_is_short : goal.returns-clause-close_is_short
 returns-clause-close_is_short g c = λ r word answer is. close_within is
+
+pub returns-clause-opened_or_created : goal.returns-clause-opened_or_created
+returns-clause-opened_or_created g c = λ a word r w v is run old. let o = open_or_create_stands (granted_call is) run old in let carried = granted_carries (granted_call is) in (o.0, carried.0, carried.1, o.1, λ f s. older_ticket w f r.ticket old s o.1)
+
+pub returns-clause-open_or_create_spares : goal.returns-clause-open_or_create_spares
+returns-clause-open_or_create_spares g c = λ a word answer w f is old s. stands_throughout w word f (all_spared f word (attempt_letters is)) old s
+
+pub returns-clause-refused_open_or_create_leaves : goal.returns-clause-refused_open_or_create_leaves
+returns-clause-refused_open_or_create_leaves g c = λ a word refusal w v is run old. leaves_by_rounds a.node a.hash (refused_attempt_gives_back is) run old
+
+pub returns-clause-open_or_create_tickets : goal.returns-clause-open_or_create_tickets
+returns-clause-open_or_create_tickets g c = λ a word answer w v is run. attempt_tickets is run
+
+pub returns-clause-refused_open_or_create : goal.returns-clause-refused_open_or_create
+returns-clause-refused_open_or_create g c = λ a word refusal w is old. refused_attempt_calm w old is
+
+pub returns-clause-granted_open_or_create : goal.returns-clause-granted_open_or_create
+returns-clause-granted_open_or_create g c = λ a word r w is old. granted_open_or_create_changes w (granted_call is) old
+
+pub returns-clause-refused_open_or_create_gives_back : goal.returns-clause-refused_open_or_create_gives_back
+returns-clause-refused_open_or_create_gives_back g c = λ a word refusal w v is run old. rounds_give_back a.node a.hash (refused_attempt_gives_back is) run old
+
+pub returns-clause-open_or_create_is_short : goal.returns-clause-open_or_create_is_short
+returns-clause-open_or_create_is_short g c = λ a word answer is. attempt_within is
+
+pub returns-clause-open_or_create_is_shorter : goal.returns-clause-open_or_create_is_shorter
+returns-clause-open_or_create_is_shorter g c = λ a word answer never is. attempt_within_fewer never is

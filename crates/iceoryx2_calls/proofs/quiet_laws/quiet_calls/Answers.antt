@@ -3,6 +3,7 @@ use Rattle.std.specs.Prelude.{IfErr}
 use Rattle.iceoryx2_pattern.specs.declared.pattern.OpenRefusal.TheVariants as refusal
 use Rattle.iceoryx2_calls.proofs.quiet.Prepared.{prepared_follows, each_prepared, granted_prepared}
 use Rattle.iceoryx2_calls.proofs.quiet.Calls.{create_follows, open_follows}
+use Rattle.iceoryx2_calls.proofs.quiet.Attempts.{attempt_follows, attempt_call_follows, refused_attempt}
 use Rattle.iceoryx2_calls.proofs.quiet.After.{refused_create, refused_open, create_and_close, opened_again, accepted}
 use Rattle.iceoryx2_calls.proofs.quiet.Own.{opens_own}
 use Rattle.iceoryx2_calls.proofs.quiet_laws.quiet_calls.Goals as goal
@@ -41,3 +42,12 @@ pub returns-clause-own_settings : goal.returns-clause-own_settings
 returns-clause-own_settings g c = λ creating opening hash name now creator node q p u z f x answer own made there same place room opened.
     each_prepared (λ answer z. IfErr answer (λ e. e ≡ opening.open_refusal refusal.OutOfMemory)) refl
     (λ answer z is. opens_own creating opening hash name now own creator node q p u z f x answer (granted_prepared made) there same place room is) opened
+
+pub returns-clause-open_or_create : goal.returns-clause-open_or_create
+returns-clause-open_or_create g c = λ a w v q word answer steady s old is run. attempt_follows a steady q s old is run
+
+pub returns-clause-prepared_open_or_create : goal.returns-clause-prepared_open_or_create
+returns-clause-prepared_open_or_create g c = λ a w v q word answer steady s old is run. attempt_call_follows a steady s old is run
+
+pub returns-clause-refused_open_or_create : goal.returns-clause-refused_open_or_create
+returns-clause-refused_open_or_create g c = λ a w v q p refusal s t call. refused_attempt a refusal s t call

@@ -1,0 +1,54 @@
+-- What the rounds of a refused open or create leave.
+use Rattle.std.proofs.Common.{ℕ, inl, List, Ok, Err, refl, ◌∙◌}
+use Rattle.iceoryx2_values.specs.declared.description.ServiceHash.{ServiceHash}
+use Rattle.iceoryx2_access.specs.Letter.{Letter}
+use Rattle.iceoryx2_access.specs.Letter as letter
+use Rattle.iceoryx2_access.specs.Run.{Run, Each, done, next}
+use Rattle.iceoryx2_access.proofs.Run.{split}
+use Rattle.iceoryx2_world.specs.World.{World}
+use Rattle.iceoryx2_world.specs.Across.{Agrees}
+use Rattle.iceoryx2_world.specs.Agreement.{IsSpent}
+use Rattle.iceoryx2_world.specs.Peers.{IsAccess}
+use Rattle.iceoryx2_world.specs.Faulty.{IsFaulty}
+use Rattle.iceoryx2_world.proofs.agreement.Accesses.{faulty_keeps, run_keeps, with_refusals}
+use Rattle.iceoryx2_world.proofs.agreement.Spent.{spent_access}
+use Rattle.iceoryx2_world.proofs.agreement.Stands.{each_append, each_map}
+use Rattle.iceoryx2_open_or_create.specs.Leaves as rounds
+use Rattle.iceoryx2_open_or_create.specs.Leaves.{GivesBackByRounds}
+use Rattle.iceoryx2_calls.specs.Leaves.{IsGranted, LeavesByRounds, LeavesNothing, SpendsNumber, no_round, one_more}
+use Rattle.iceoryx2_calls.proofs.calls.Left.{gives_back, gives_all_back}
+use Rattle.iceoryx2_calls.proofs.calls.Plain.{read_both}
+
+-- a number that is spent stays so
+spent_run : {w v : World} {word : List Letter} (h : ServiceHash) (n : ℕ) → Run IsFaulty w word v → Agrees w → IsSpent w h n → IsSpent v h n
+spent_run h n done old is = is
+spent_run {w = w} h n (next {mid = u} {letter = l} s rest) old is = spent_run h n rest (faulty_keeps w l u s old).0 (spent_access w l u h n s old is)
+
+spends_on : {w v : World} {word : List Letter} (h : ServiceHash) → Run IsFaulty w word v → Agrees w → (l : Letter) → SpendsNumber h w l → SpendsNumber h v l
+spends_on h run old (letter.Lock i g (Ok n)) is = spent_run h n run old is
+spends_on h run old (letter.Lock i g (Err e)) is = tt
+spends_on h run old _ is = tt
+
+module _ (node : ℕ) (hash : ServiceHash) where
+  pub leaves_by_rounds : {word : List Letter} {w v : World} → GivesBackByRounds node hash word → Run IsFaulty w word v → Agrees w → LeavesByRounds node hash w word v
+  leaves_by_rounds rounds.no_round done old = no_round
+  leaves_by_rounds (rounds.one_more {u = x} {v = y} before g) run old =
+      let parts = split x y run in
+      one_more (leaves_by_rounds before parts.first old) g (gives_back node hash g parts.second (run_keeps parts.first old).0)
+
+  -- Where nothing is refused by a fault, each removal is granted, and nothing stays.
+  pub rounds_give_back : {word : List Letter} {w v : World} → GivesBackByRounds node hash word → Run IsAccess w word v → Agrees w → Each IsGranted word × LeavesNothing node hash word w v
+  rounds_give_back rounds.no_round done old = (tt, record { tickets = refl; tags = refl; phase = inl refl; numbers = tt })
+  rounds_give_back {v = v} (rounds.one_more {u = x} {v = y} before g) run old =
+      let parts = split x y run in
+      let mid = (run_keeps (with_refusals parts.first) old).0 in
+      let first = rounds_give_back before parts.first old in
+      let second = gives_all_back node hash g parts.second mid in (
+        each_append IsGranted x y first.0 second.0,
+        record {
+          tickets = second.1.tickets ∙ first.1.tickets;
+          tags = second.1.tags ∙ first.1.tags;
+          phase = read_both first.1.phase second.1.phase;
+          numbers = each_append (SpendsNumber hash v) x y (each_map (SpendsNumber hash parts.mid) (SpendsNumber hash v) (spends_on hash (with_refusals parts.second) mid) x first.1.numbers) second.1.numbers;
+        },
+      )
