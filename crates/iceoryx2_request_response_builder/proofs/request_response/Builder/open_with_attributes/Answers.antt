@@ -6,7 +6,7 @@ pub returns-in_default : goal.returns-in_default
 returns-in_default g c = without_types
 
 pub new-requires : goal.new-requires
-new-requires g c = what_fits c.in-Ok.asked.request c.in-Ok.asked.response c.in-Ok-open.registration.description.pattern (opened_fits c.in-Ok-open.ensures)
+new-requires g c = what_fits _ _ c.in-Ok-open.registration.description.pattern (opened_fits c.in-Ok-open.ensures)
 
 pub returns-in-Ok-open : goal.returns-in-Ok-open
 returns-in-Ok-open g c =
