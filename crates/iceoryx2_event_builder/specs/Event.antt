@@ -1,5 +1,5 @@
 -- What a builder of events asks, and its errors.
-use Rattle.std.specs.Prelude.{List, [], ◌∷◌, Option, Some, None, is_some}
+use Rattle.std.specs.Prelude.{Bool, true, false, List, [], ◌∷◌, Option, Some, None, is_some}
 use Rattle.std.specs.Option.{option_map}
 use Rattle.iceoryx2_attributes.specs.Attributes.{Pair}
 use Rattle.iceoryx2_attributes.specs.Requirements.{Requirements}
@@ -18,10 +18,15 @@ use Rattle.iceoryx2_errors.specs.declared.error.events.EventOpenError.{EventOpen
 use Rattle.iceoryx2_errors.specs.declared.error.events.EventOpenError.TheVariants as opening
 use Rattle.iceoryx2_errors.specs.declared.error.events.EventCreateError.{EventCreateError}
 use Rattle.iceoryx2_errors.specs.declared.error.events.EventCreateError.TheVariants as creating
+use Rattle.iceoryx2_errors.specs.declared.error.events.EventOpenOrCreateError.{EventOpenOrCreateError}
+use Rattle.iceoryx2_errors.specs.declared.error.events.EventOpenOrCreateError.TheVariants as either
 use Rattle.iceoryx2_pattern.specs.declared.pattern.OpenRefusal.{OpenRefusal}
 use Rattle.iceoryx2_pattern.specs.declared.pattern.OpenRefusal.TheVariants as open_refusal
 use Rattle.iceoryx2_pattern.specs.declared.pattern.CreateRefusal.{CreateRefusal}
 use Rattle.iceoryx2_pattern.specs.declared.pattern.CreateRefusal.TheVariants as create_refusal
+use Rattle.iceoryx2_open_or_create.specs.Retried.{Retried}
+use Rattle.iceoryx2_open_or_create.specs.declared.open_or_create.OpenOrCreateRefusal.{OpenOrCreateRefusal}
+use Rattle.iceoryx2_open_or_create.specs.declared.open_or_create.OpenOrCreateRefusal.TheVariants as refusal
 use Rattle.iceoryx2_builder_base.specs.Zeros.{at_least_one}
 use Rattle.iceoryx2_event_builder.specs.declared.event.demand.EventDemand.{EventDemand}
 use Rattle.iceoryx2_event_builder.specs.declared.event.demand.Marks.{Marks}
@@ -116,3 +121,18 @@ event_creating demand given = defining given (event_meaning (event_adjusted dema
 -- an open: these attributes are required before the settings
 abbrev pub event_opening : EventDemand → Requirements → Meaning ServiceState EventOpenError EventCreateError
 event_opening demand required = requiring required (event_meaning demand)
+
+-- An open or create goes on after a create that somebody else was faster than, and after no open.
+abbrev pub is_create_retried : EventCreateError → Bool
+is_create_retried creating.AlreadyExists = true
+is_create_retried creating.IsBeingCreatedByAnotherInstance = true
+is_create_retried _ = false
+
+abbrev pub event_retried : Retried EventOpenError EventCreateError
+event_retried = record { of_open = λ error. false; of_create = is_create_retried }
+
+-- what the rounds of an open or create call its error
+abbrev pub event_refusal : EventOpenOrCreateError → OpenOrCreateRefusal EventOpenError EventCreateError
+event_refusal (either.EventOpenError error) = refusal.Open error
+event_refusal (either.EventCreateError error) = refusal.Create error
+event_refusal either.SystemInFlux = refusal.SystemInFlux

@@ -1,11 +1,24 @@
 //! The builder of services of events.
 
-ghost use Rattle.std.specs.Prelude.{◌≡◌, [], Some, None};
+ghost use Rattle.std.specs.Prelude.{◌≡◌, ℕ, List, [], Result, Some, None};
+ghost use Rattle.iceoryx2_access.specs.Factory.{Factory};
+ghost use Rattle.iceoryx2_access.specs.Letter.{Letter};
 ghost use Rattle.iceoryx2_access.specs.Run.{Joins};
+ghost use Rattle.iceoryx2_open_or_create.specs.EndsAtOnce.{EndsAtOnce};
+ghost use Rattle.iceoryx2_open_or_create.specs.OpenOrCreates.{IsOpenOrCreateWord};
+ghost use Rattle.iceoryx2_rounds.specs.Answers.{map_err};
 ghost use Rattle.iceoryx2_rounds.specs.Creates.{IsCreateWord};
 ghost use Rattle.iceoryx2_rounds.specs.Opens.{IsOpenWord};
-ghost use Rattle.iceoryx2_attributes.specs.Requirements.{no_requirements};
-ghost use Rattle.iceoryx2_event_builder.specs.Event.{event_creating, event_opening};
+ghost use Rattle.iceoryx2_attributes.specs.Requirements.{Requirements, no_requirements};
+ghost use Rattle.iceoryx2_errors.specs.declared.error.events.EventOpenError.{EventOpenError};
+ghost use Rattle.iceoryx2_errors.specs.declared.error.events.EventCreateError.{EventCreateError};
+ghost use Rattle.iceoryx2_values.specs.Span.{Span};
+ghost use Rattle.iceoryx2_values.specs.declared.description.ServiceHash.{ServiceHash};
+ghost use Rattle.iceoryx2_values.specs.declared.time.ClockFault.{ClockFault};
+ghost use Rattle.iceoryx2_words.specs.Counts.{IsWithin};
+ghost use Rattle.iceoryx2_open_or_create.specs.declared.open_or_create.OpenOrCreateRefusal.{OpenOrCreateRefusal};
+ghost use Rattle.iceoryx2_event_builder.specs.Event.{event_adjusted, event_creating, event_meaning, event_opening};
+ghost use Rattle.iceoryx2_event_builder.specs.Event.{event_refusal, event_retried};
 ghost use Rattle.iceoryx2_builder_base.specs.Builders.{IsBuilder};
 ghost use Rattle.iceoryx2_event_builder.specs.declared.event.demand.EventDemand.{EventDemand};
 ghost use Rattle.iceoryx2_event_builder.specs.Request.{fresh_request, letter_of_events, with_setting};
@@ -13,12 +26,13 @@ ghost use Rattle.iceoryx2_event_builder.specs.Request.{fresh_request, letter_of_
 pub mod demand;
 pub mod setting;
 
-use crate::event::demand::EventDemand;
+use crate::event::demand::{EventDemand, open_or_create_error};
 pub use crate::event::setting::EventSetting;
 use iceoryx2_access::storage::Service;
 use iceoryx2_attributes::attribute::{AttributeSpecifier, AttributeVerifier};
 use iceoryx2_builder_base::base::BuilderWithServiceType;
-pub use iceoryx2_errors::error::{EventCreateError, EventOpenError};
+pub use iceoryx2_errors::error::{EventCreateError, EventOpenError, EventOpenOrCreateError};
+use iceoryx2_open_or_create::open_or_create::open_or_create;
 use iceoryx2_port_factory::port_factory::event::PortFactory;
 use iceoryx2_rounds::create::create;
 use iceoryx2_rounds::open::open;
@@ -42,6 +56,22 @@ pub fn letter_is_e()
 /// attributes are defined and whatever the clock says.
 pub fn laws()
     ensures { (demand : EventDemand) → IsBuilder (event_creating demand) (event_opening demand) }
+{}
+
+/// What a table that nobody else uses refuses is not tried again by an open or create.
+pub fn ends_at_once()
+    ensures { (demand : EventDemand) (required : Requirements) → EndsAtOnce event_retried
+        (event_creating demand required.pairs) (event_opening demand required) }
+{}
+
+/// An open or create of events looks at most 23 times and opens at most six times, since it goes on
+/// after no open.
+pub fn open_or_create_is_short()
+    ensures { (required : Requirements) (node : ℕ) (hash : ServiceHash) (name : List ℕ) (now : Result Span ClockFault)
+        (demand : EventDemand) (word : List Letter)
+        (answer : Result Factory (OpenOrCreateRefusal EventOpenError EventCreateError))
+        → IsOpenOrCreateWord event_meaning event_adjusted event_retried required node hash name now demand word answer
+        → IsWithin word 23 6 36 36 }
 {}
 
 /// A builder of a service of events.
@@ -255,6 +285,52 @@ impl<S: Service> Builder<S> {
         match open(&demand, base.node(), &hash, verifier, storage) {
             Ok(registration) => Ok(PortFactory::new(registration)),
             Err(error) => Err(error),
+        }
+    }
+    /// Opens the service, or creates it where there is none, whatever its attributes:
+    /// `open_or_create_with_attributes` of a verifier that requires none.
+    pub fn open_or_create(
+        self,
+        storage: &mut S::Storage,
+        now: Result<Time, ClockFault>,
+    ) -> Result<PortFactory<S>, EventOpenOrCreateError>
+        ensures { Joins S.Storage.step storage.old
+            (λ word. IsOpenOrCreateWord event_meaning event_adjusted event_retried no_requirements self.node
+            (S.ServiceNameHasher.hash_of letter_of_events self.name) self.name now self.demand word
+            (map_err event_refusal result))
+            storage.new }
+    {
+        let verifier = AttributeVerifier::new(self.base.name().allocator());
+        self.open_or_create_with_attributes(&verifier, storage, now)
+    }
+
+    /// Opens the service as `open_with_attributes` does, or, where there is none, creates it as
+    /// `create_with_attributes` does, with the required pairs. Required keys are not created.
+    ///
+    /// Where a create is refused with `AlreadyExists` or `IsBeingCreatedByAnotherInstance`, there is
+    /// another round, in which zeros that the create raised stay raised; after six such rounds it is
+    /// refused with `SystemInFlux`. Else it is refused with an `EventOpenError` where a look finds
+    /// something wrong or the service isn't opened, and with an `EventCreateError` where it isn't
+    /// created. Each round gives back what it made.
+    pub fn open_or_create_with_attributes(
+        self,
+        verifier: &AttributeVerifier,
+        storage: &mut S::Storage,
+        now: Result<Time, ClockFault>,
+    ) -> Result<PortFactory<S>, EventOpenOrCreateError>
+        ensures { Joins S.Storage.step storage.old
+            (λ word. IsOpenOrCreateWord event_meaning event_adjusted event_retried verifier.now self.node
+            (S.ServiceNameHasher.hash_of letter_of_events self.name) self.name now self.demand word
+            (map_err event_refusal result))
+            storage.new }
+    {
+        let Builder { base, mut demand } = self;
+        let hash = base.hash(LETTER);
+        let node = base.node();
+        let name = base.name();
+        match open_or_create(&mut demand, node, &hash, name, verifier, now, storage) {
+            Ok(registration) => Ok(PortFactory::new(registration)),
+            Err(refusal) => Err(open_or_create_error(refusal)),
         }
     }
 }

@@ -2,26 +2,38 @@
 
 ghost use Rattle.std.specs.Prelude.{◌≡◌, [], Ok};
 ghost use Rattle.iceoryx2_access.specs.Run.{Joins};
-ghost use Rattle.iceoryx2_attributes.specs.Requirements.{no_requirements};
+ghost use Rattle.iceoryx2_attributes.specs.Requirements.{Requirements, no_requirements};
 ghost use Rattle.iceoryx2_builder_base.specs.Builders.{IsBuilder};
+ghost use Rattle.iceoryx2_open_or_create.specs.EndsAtOnce.{EndsAtOnce};
+ghost use Rattle.iceoryx2_open_or_create.specs.Prepared.{IsOpenOrCreateCall};
+ghost use Rattle.iceoryx2_pattern.specs.OwnAttributes.{defining, requiring};
+ghost use Rattle.iceoryx2_rounds.specs.Answers.{map_err};
 ghost use Rattle.iceoryx2_rounds.specs.Prepared.{IsCreateCall, IsOpenCall};
 ghost use Rattle.iceoryx2_types.specs.Types.{Message};
 ghost use Rattle.iceoryx2_values.specs.Span.{zero_span};
 ghost use Rattle.iceoryx2_publish_subscribe_builder.specs.PublishSubscribe.{publish_subscribe_creating};
 ghost use Rattle.iceoryx2_publish_subscribe_builder.specs.PublishSubscribe.{publish_subscribe_opening};
+ghost use Rattle.iceoryx2_publish_subscribe_builder.specs.PublishSubscribe.{prepared_adjusted, prepared_meaning};
+ghost use Rattle.iceoryx2_publish_subscribe_builder.specs.PublishSubscribe.{publish_subscribe_refusal};
+ghost use Rattle.iceoryx2_publish_subscribe_builder.specs.PublishSubscribe.{publish_subscribe_retried};
 ghost use Rattle.iceoryx2_publish_subscribe_builder.specs.Request.{fresh_request, letter_of_publish_subscribe};
 ghost use Rattle.iceoryx2_publish_subscribe_builder.specs.Request.{message_for, with_setting};
 
 pub mod demand;
 pub mod setting;
 
-use crate::publish_subscribe::demand::{PreparedDemand, PublishSubscribeDemand};
+use crate::publish_subscribe::demand::{
+    PreparedDemand, PublishSubscribeDemand, open_or_create_error,
+};
 pub use crate::publish_subscribe::setting::PublishSubscribeSetting;
 use iceoryx2_access::storage::Service;
 use iceoryx2_attributes::attribute::{AttributeSpecifier, AttributeVerifier};
 use iceoryx2_builder_base::base::BuilderWithServiceType;
 use iceoryx2_builder_base::requested::RequestedTypes;
-pub use iceoryx2_errors::error::{PublishSubscribeCreateError, PublishSubscribeOpenError};
+pub use iceoryx2_errors::error::{
+    PublishSubscribeCreateError, PublishSubscribeOpenError, PublishSubscribeOpenOrCreateError,
+};
+use iceoryx2_open_or_create::open_or_create::open_or_create;
 use iceoryx2_port_factory::port_factory::publish_subscribe::PortFactory;
 use iceoryx2_rounds::create::create;
 use iceoryx2_rounds::open::open;
@@ -49,6 +61,13 @@ pub fn letter_is_p()
 pub fn laws()
     ensures { (demand : PublishSubscribeDemand) (message : Message)
         → IsBuilder (publish_subscribe_creating demand message) (publish_subscribe_opening demand message) }
+{}
+
+/// What a table that nobody else uses refuses is not tried again by an open or create.
+pub fn ends_at_once()
+    ensures { (asked : PreparedDemand) (required : Requirements) → EndsAtOnce publish_subscribe_retried
+        (defining required.pairs (prepared_meaning (prepared_adjusted asked)))
+        (requiring required (prepared_meaning asked)) }
 {}
 
 /// A builder of a service of publish-subscribe with payloads `P` and user headers `U`.
@@ -375,6 +394,72 @@ impl<P: ZeroCopySend, U: ZeroCopySend, S: Service> Builder<P, U, S> {
         match open(&asked, base.node(), &hash, verifier, storage) {
             Ok(registration) => Ok(PortFactory::new(registration)),
             Err(error) => Err(error),
+        }
+    }
+    /// Opens the service, or creates it where there is none, whatever its attributes:
+    /// `open_or_create_with_attributes` of a verifier that requires none.
+    pub fn open_or_create(
+        self,
+        storage: &mut S::Storage,
+    ) -> Result<PortFactory<S, P, U>, PublishSubscribeOpenOrCreateError>
+        ensures { let asked : PreparedDemand
+            = record { demand = self.demand; message = message_for P.detail U.detail self.types } in
+            Joins S.Storage.step storage.old
+            (λ word. IsOpenOrCreateCall prepared_meaning prepared_adjusted publish_subscribe_retried no_requirements
+            self.node (S.ServiceNameHasher.hash_of letter_of_publish_subscribe self.name) self.name (Ok zero_span)
+            asked word (map_err publish_subscribe_refusal result))
+            storage.new }
+    {
+        let verifier = AttributeVerifier::new(self.base.name().allocator());
+        self.open_or_create_with_attributes(&verifier, storage)
+    }
+
+    /// Opens the service as `open_with_attributes` does, or, where there is none, creates it as
+    /// `create_with_attributes` does, with the required pairs. Required keys are not created. The
+    /// types are prepared once.
+    ///
+    /// Where an open is refused with `DoesNotExist`, `ServiceInCorruptedState` or
+    /// `IsMarkedForDestruction`, or a create with `AlreadyExists`,
+    /// `IsBeingCreatedByAnotherInstance` or `ServiceInCorruptedState`, there is another round, in
+    /// which zeros that the create raised stay raised; after six such rounds it is refused with
+    /// `SystemInFlux`. Else it is refused with a `PublishSubscribeOpenError` where there was no
+    /// memory for the types, a look finds something wrong or the service isn't opened, and with a
+    /// `PublishSubscribeCreateError` where it isn't created. Each round gives back what it made.
+    pub fn open_or_create_with_attributes(
+        self,
+        verifier: &AttributeVerifier,
+        storage: &mut S::Storage,
+    ) -> Result<PortFactory<S, P, U>, PublishSubscribeOpenOrCreateError>
+        ensures { let asked : PreparedDemand
+            = record { demand = self.demand; message = message_for P.detail U.detail self.types } in
+            Joins S.Storage.step storage.old
+            (λ word. IsOpenOrCreateCall prepared_meaning prepared_adjusted publish_subscribe_retried verifier.now
+            self.node (S.ServiceNameHasher.hash_of letter_of_publish_subscribe self.name) self.name (Ok zero_span)
+            asked word (map_err publish_subscribe_refusal result))
+            storage.new }
+    {
+        let Builder {
+            base,
+            demand,
+            types,
+            payload: _,
+            user_header: _,
+        } = self;
+        let Ok(message) = types.prepare::<Header, P, U>(base.name().allocator()) else {
+            return Err(
+                PublishSubscribeOpenOrCreateError::PublishSubscribeOpenError(
+                    PublishSubscribeOpenError::OutOfMemory,
+                ),
+            );
+        };
+        let mut asked = PreparedDemand { demand, message };
+        let hash = base.hash(LETTER);
+        let node = base.node();
+        let name = base.name();
+        let now = Ok(Time::default());
+        match open_or_create(&mut asked, node, &hash, name, verifier, now, storage) {
+            Ok(registration) => Ok(PortFactory::new(registration)),
+            Err(refusal) => Err(open_or_create_error(refusal)),
         }
     }
 }

@@ -1,5 +1,5 @@
 -- A builder of request-response is a builder like each other one.
-use Rattle.std.proofs.Common.{◌≡◌, Bool, cond, ℕ, List, [], Result, Some, None, Ok, refl}
+use Rattle.std.proofs.Common.{◌≡◌, Bool, false, cond, ℕ, List, [], Result, Some, None, Ok, refl}
 use Rattle.iceoryx2_types.specs.Types.{Message, compatible}
 use Rattle.iceoryx2_attributes.specs.Attributes.{Pair}
 use Rattle.iceoryx2_attributes.specs.Requirements.{Requirements, no_requirements}
@@ -13,12 +13,20 @@ use Rattle.iceoryx2_errors.specs.declared.error.request_response.ServiceAvailabi
 use Rattle.iceoryx2_errors.specs.declared.error.request_response.ServiceAvailabilityState.TheVariants as look
 use Rattle.iceoryx2_errors.specs.declared.error.request_response.RequestResponseCreateError.TheVariants as creating
 use Rattle.iceoryx2_pattern.specs.Regular.{IsRegular}
-use Rattle.iceoryx2_pattern.specs.Verdict.{verdict}
+use Rattle.iceoryx2_pattern.specs.Verdict.{at_least, flag_is, verdict}
 use Rattle.iceoryx2_pattern.proofs.Verdicts.{no_row}
 use Rattle.iceoryx2_pattern.proofs.MetRows.{offers, keeps, then_more, same_flag}
 use Rattle.iceoryx2_rounds.specs.Creates.{description_of}
 use Rattle.iceoryx2_rounds.specs.OwnSettings.{AcceptsOwn}
+use Rattle.iceoryx2_values.specs.Description.{Description}
+use Rattle.iceoryx2_pattern.specs.OwnAttributes.{attribute_clauses, defining, requiring}
+use Rattle.iceoryx2_open_or_create.specs.EndsAtOnce.{EndsAtOnce}
+use Rattle.iceoryx2_open_or_create.proofs.Ends.{Errs, attributes_err, both_err, rows_err, unmet_ends}
+use Rattle.iceoryx2_errors.specs.declared.error.request_response.RequestResponseOpenError.{RequestResponseOpenError}
+use Rattle.iceoryx2_errors.specs.declared.error.request_response.RequestResponseOpenError.TheVariants as opening
 use Rattle.iceoryx2_builder_base.specs.Builders.{IsBuilder}
+use Rattle.iceoryx2_request_response_builder.specs.declared.request_response.demand.PreparedDemand.{PreparedDemand}
+use Rattle.iceoryx2_request_response_builder.specs.RequestResponse.{is_open_retried, prepared_adjusted, prepared_meaning, request_response_retried, setting_clauses, setting_rows}
 use Rattle.iceoryx2_builder_base.proofs.Misfits.{fits_itself, is_told, is_tested}
 use Rattle.iceoryx2_builder_base.proofs.Raised.{not_below, raised_above}
 use Rattle.iceoryx2_request_response_builder.specs.declared.request_response.demand.RequestResponseDemand.{RequestResponseDemand}
@@ -79,4 +87,33 @@ request_response_builder demand request response = record {
   opening_is_regular = opening_is_regular demand request response;
   takes_nodes = λ given now. raised_above demand.settings.max_nodes;
   accepts_own = own_settings demand request response;
+}
+
+-- ---- what a quiet table refuses is not tried again
+
+abbrev Ends : RequestResponseOpenError → Type 0
+Ends error = is_open_retried error ≡ false
+
+settings_end : (demand : RequestResponseDemand) (pattern : MessagingPattern) → Errs Ends (setting_clauses demand pattern)
+unfolding at_least flag_is
+settings_end demand (existing.Event s) = tt
+settings_end demand (existing.PublishSubscribe s) = tt
+settings_end demand (existing.RequestResponse s) =
+    rows_err Ends (setting_rows demand.settings demand.marks s) (refl, (refl, (refl, (refl, (refl, (refl, (refl, (refl, (refl, (refl, tt))))))))))
+
+requirement_ends : (asked : PreparedDemand) (required : Requirements) (d : Description) → Errs Ends ((requiring required (prepared_meaning asked)).requirement d)
+requirement_ends asked required d =
+    both_err Ends (attribute_clauses opening.IncompatibleAttributes required d.attributes) (setting_clauses asked.demand d.pattern)
+    (attributes_err Ends opening.IncompatibleAttributes required d.attributes refl) (settings_end asked.demand d.pattern)
+
+pub request_response_ends_at_once : (asked : PreparedDemand) (required : Requirements)
+    → EndsAtOnce request_response_retried (defining required.pairs (prepared_meaning (prepared_adjusted asked))) (requiring required (prepared_meaning asked))
+request_response_ends_at_once asked required = record {
+  not_accepted = λ d error e. unmet_ends Ends ((requiring required (prepared_meaning asked)).requirement d) error (requirement_ends asked required d) e;
+  no_place = refl;
+  not_opened = refl;
+  opened_without_memory = refl;
+  forbidden = λ error e. absurd (cc);
+  not_created = refl;
+  created_without_memory = refl;
 }

@@ -2,28 +2,40 @@
 
 ghost use Rattle.std.specs.Prelude.{◌≡◌, [], Ok};
 ghost use Rattle.iceoryx2_access.specs.Run.{Joins};
-ghost use Rattle.iceoryx2_attributes.specs.Requirements.{no_requirements};
+ghost use Rattle.iceoryx2_attributes.specs.Requirements.{Requirements, no_requirements};
 ghost use Rattle.iceoryx2_builder_base.specs.Builders.{IsBuilder};
+ghost use Rattle.iceoryx2_open_or_create.specs.EndsAtOnce.{EndsAtOnce};
+ghost use Rattle.iceoryx2_open_or_create.specs.Prepared.{IsOpenOrCreateCall};
+ghost use Rattle.iceoryx2_pattern.specs.OwnAttributes.{defining, requiring};
+ghost use Rattle.iceoryx2_rounds.specs.Answers.{map_err};
 ghost use Rattle.iceoryx2_rounds.specs.Prepared.{IsCreateCall, IsOpenCall};
 ghost use Rattle.iceoryx2_types.specs.Types.{Message};
 ghost use Rattle.iceoryx2_values.specs.Span.{zero_span};
 ghost use Rattle.iceoryx2_request_response_builder.specs.Request.{fresh_request, letter_of_request_response};
-ghost use Rattle.iceoryx2_request_response_builder.specs.Request.{messages_for, with_setting};
+ghost use Rattle.iceoryx2_request_response_builder.specs.Request.{asked_with, messages_for, with_setting};
+ghost use Rattle.iceoryx2_request_response_builder.specs.RequestResponse.{prepared_adjusted, prepared_meaning};
 ghost use Rattle.iceoryx2_request_response_builder.specs.RequestResponse.{request_response_creating};
 ghost use Rattle.iceoryx2_request_response_builder.specs.RequestResponse.{request_response_opening};
+ghost use Rattle.iceoryx2_request_response_builder.specs.RequestResponse.{request_response_refusal};
+ghost use Rattle.iceoryx2_request_response_builder.specs.RequestResponse.{request_response_retried};
 
 pub mod demand;
 pub mod requested;
 pub mod setting;
 
-use crate::request_response::demand::RequestResponseDemand;
+use crate::request_response::demand::{
+    PreparedDemand, RequestResponseDemand, open_or_create_error,
+};
 use crate::request_response::requested::RequestedMessages;
 pub use crate::request_response::setting::RequestResponseSetting;
 use crate::request_response::setting::RequestResponseSetting as Set;
 use iceoryx2_access::storage::Service;
 use iceoryx2_attributes::attribute::{AttributeSpecifier, AttributeVerifier};
 use iceoryx2_builder_base::base::BuilderWithServiceType;
-pub use iceoryx2_errors::error::{RequestResponseCreateError, RequestResponseOpenError};
+pub use iceoryx2_errors::error::{
+    RequestResponseCreateError, RequestResponseOpenError, RequestResponseOpenOrCreateError,
+};
+use iceoryx2_open_or_create::open_or_create::open_or_create;
 use iceoryx2_port_factory::port_factory::request_response::{PortFactory, RequestResponse};
 use iceoryx2_rounds::create::create;
 use iceoryx2_rounds::open::open;
@@ -50,6 +62,13 @@ pub fn letter_is_r()
 pub fn laws()
     ensures { (demand : RequestResponseDemand) (request response : Message) → IsBuilder
         (request_response_creating demand request response) (request_response_opening demand request response) }
+{}
+
+/// What a table that nobody else uses refuses is not tried again by an open or create.
+pub fn ends_at_once()
+    ensures { (asked : PreparedDemand) (required : Requirements) → EndsAtOnce request_response_retried
+        (defining required.pairs (prepared_meaning (prepared_adjusted asked)))
+        (requiring required (prepared_meaning asked)) }
 {}
 
 /// A builder of a service of request-response whose requests have payloads `Q` and user headers
@@ -456,6 +475,68 @@ impl<Q: ZeroCopySend, QU: ZeroCopySend, R: ZeroCopySend, RU: ZeroCopySend, S: Se
         match open(&asked, base.node(), &hash, verifier, storage) {
             Ok(registration) => Ok(PortFactory::new(registration)),
             Err(error) => Err(error),
+        }
+    }
+
+    /// Opens the service, or creates it where there is none, whatever its attributes:
+    /// `open_or_create_with_attributes` of a verifier that requires none.
+    pub fn open_or_create(
+        self,
+        storage: &mut S::Storage,
+    ) -> Result<PortFactory<S, Q, QU, R, RU>, RequestResponseOpenOrCreateError>
+        ensures { let messages = messages_for Q.detail QU.detail R.detail RU.detail self.types in
+            Joins S.Storage.step storage.old
+            (λ word. IsOpenOrCreateCall prepared_meaning prepared_adjusted request_response_retried no_requirements
+            self.node (S.ServiceNameHasher.hash_of letter_of_request_response self.name) self.name (Ok zero_span)
+            (asked_with self.demand messages) word (map_err request_response_refusal result))
+            storage.new }
+    {
+        let verifier = AttributeVerifier::new(self.base.name().allocator());
+        self.open_or_create_with_attributes(&verifier, storage)
+    }
+
+    /// Opens the service as `open_with_attributes` does, or, where there is none, creates it as
+    /// `create_with_attributes` does, with the required pairs. Required keys are not created. The
+    /// types are prepared once.
+    ///
+    /// Where an open is refused with `DoesNotExist`, `ServiceInCorruptedState` or
+    /// `IsMarkedForDestruction`, or a create with `AlreadyExists`,
+    /// `IsBeingCreatedByAnotherInstance` or `ServiceInCorruptedState`, there is another round, in
+    /// which zeros that the create raised stay raised; after six such rounds it is refused with
+    /// `SystemInFlux`. Else it is refused with a `RequestResponseOpenError` where there was no
+    /// memory for the types, a look finds something wrong or the service isn't opened, and with a
+    /// `RequestResponseCreateError` where it isn't created. Each round gives back what it made.
+    pub fn open_or_create_with_attributes(
+        self,
+        verifier: &AttributeVerifier,
+        storage: &mut S::Storage,
+    ) -> Result<PortFactory<S, Q, QU, R, RU>, RequestResponseOpenOrCreateError>
+        ensures { let messages = messages_for Q.detail QU.detail R.detail RU.detail self.types in
+            Joins S.Storage.step storage.old
+            (λ word. IsOpenOrCreateCall prepared_meaning prepared_adjusted request_response_retried verifier.now
+            self.node (S.ServiceNameHasher.hash_of letter_of_request_response self.name) self.name (Ok zero_span)
+            (asked_with self.demand messages) word (map_err request_response_refusal result))
+            storage.new }
+    {
+        let Builder {
+            base,
+            demand,
+            types,
+            kind: _,
+        } = self;
+        let alloc = base.name().allocator();
+        let Ok(mut asked) = types.prepare::<Q, QU, R, RU>(demand, alloc) else {
+            return Err(RequestResponseOpenOrCreateError::RequestResponseOpenError(
+                RequestResponseOpenError::OutOfMemory,
+            ));
+        };
+        let hash = base.hash(LETTER);
+        let node = base.node();
+        let name = base.name();
+        let now = Ok(Time::default());
+        match open_or_create(&mut asked, node, &hash, name, verifier, now, storage) {
+            Ok(registration) => Ok(PortFactory::new(registration)),
+            Err(refusal) => Err(open_or_create_error(refusal)),
         }
     }
 }

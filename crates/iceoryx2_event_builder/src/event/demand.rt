@@ -3,13 +3,17 @@
 ghost use Rattle.std.specs.Prelude.{◌≡◌, drop};
 ghost use Rattle.iceoryx2_pattern.specs.Verdict.{verdict, marked_clauses};
 ghost use Rattle.std.specs.Option.{option_map};
-ghost use Rattle.iceoryx2_event_builder.specs.Event.{setting_rows, created_deadline};
+ghost use Rattle.iceoryx2_event_builder.specs.Event.{setting_rows, created_deadline, event_refusal};
 ghost use Rattle.iceoryx2_event_builder.specs.Event.{deadline_value as value_of};
 ghost use Rattle.iceoryx2_event_builder.specs.Request.{fresh_demand, demand_with, demanded_deadline};
 
 use crate::event::setting::EventSetting;
 use iceoryx2_builder_base::zeros::raised;
-use iceoryx2_errors::error::{EventCreateError, EventOpenError, ServiceState};
+use iceoryx2_errors::error::{
+    EventCreateError, EventOpenError, EventOpenOrCreateError, ServiceState,
+};
+use iceoryx2_open_or_create::open_or_create::OpenOrCreateRefusal;
+use iceoryx2_open_or_create::retries::Retries;
 use iceoryx2_pattern::pattern::{CreateRefusal, OpenRefusal, Pattern};
 use iceoryx2_pattern::verdict::{need_at_least, need_duration, need_event};
 use iceoryx2_values::config;
@@ -301,5 +305,42 @@ impl Pattern for EventDemand {
         let mut settings = self.settings;
         settings.deadline = deadline_at_creation(self.settings.deadline, now);
         Ok(MessagingPattern::Event(settings))
+    }
+}
+
+impl Retries for EventDemand {
+    ghost use Rattle.iceoryx2_event_builder.specs.Event.{event_retried};
+
+    ghost retried = { event_retried };
+
+    fn retries_open(error: EventOpenError) -> bool {
+        let _ = error;
+        false
+    }
+
+    fn retries_create(error: EventCreateError) -> bool {
+        match error {
+            EventCreateError::AlreadyExists | EventCreateError::IsBeingCreatedByAnotherInstance => {
+                true
+            }
+            EventCreateError::ServiceInCorruptedState
+            | EventCreateError::InternalFailure
+            | EventCreateError::HangsInCreation
+            | EventCreateError::InsufficientPermissions
+            | EventCreateError::OutOfMemory => false,
+        }
+    }
+}
+
+/// The error of an open or create that the rounds refuse so.
+pub(crate) fn open_or_create_error(
+    refusal: OpenOrCreateRefusal<EventOpenError, EventCreateError>,
+) -> EventOpenOrCreateError
+    ensures { event_refusal result ≡ refusal }
+{
+    match refusal {
+        OpenOrCreateRefusal::Open(error) => EventOpenOrCreateError::EventOpenError(error),
+        OpenOrCreateRefusal::Create(error) => EventOpenOrCreateError::EventCreateError(error),
+        OpenOrCreateRefusal::SystemInFlux => EventOpenOrCreateError::SystemInFlux,
     }
 }

@@ -2,14 +2,17 @@
 
 ghost use Rattle.std.specs.Prelude.{◌≡◌, drop};
 ghost use Rattle.iceoryx2_pattern.specs.Verdict.{verdict, marked_clauses};
-ghost use Rattle.iceoryx2_publish_subscribe_builder.specs.PublishSubscribe.{setting_rows};
+ghost use Rattle.iceoryx2_publish_subscribe_builder.specs.PublishSubscribe.{publish_subscribe_refusal, setting_rows};
 ghost use Rattle.iceoryx2_publish_subscribe_builder.specs.Request.{fresh_demand};
 
 use iceoryx2_builder_base::zeros::raised;
 use iceoryx2_errors::error::publish_subscribe::ServiceAvailabilityState;
 use iceoryx2_errors::error::{
-    PublishSubscribeCreateError, PublishSubscribeOpenError, ServiceState,
+    PublishSubscribeCreateError, PublishSubscribeOpenError, PublishSubscribeOpenOrCreateError,
+    ServiceState,
 };
+use iceoryx2_open_or_create::open_or_create::OpenOrCreateRefusal;
+use iceoryx2_open_or_create::retries::Retries;
 use iceoryx2_pattern::pattern::{CreateRefusal, OpenRefusal, Pattern};
 use iceoryx2_pattern::verdict::{need_at_least, need_flag};
 use iceoryx2_types::types::MessageTypeDetails;
@@ -135,8 +138,7 @@ fn verify_use(
 }
 
 impl Pattern for PreparedDemand {
-    ghost use Rattle.iceoryx2_publish_subscribe_builder.specs.PublishSubscribe.{publish_subscribe_meaning};
-    ghost use Rattle.iceoryx2_publish_subscribe_builder.specs.PublishSubscribe.{publish_subscribe_adjusted};
+    ghost use Rattle.iceoryx2_publish_subscribe_builder.specs.PublishSubscribe.{prepared_adjusted, prepared_meaning};
 
     type Fault = ServiceAvailabilityState;
 
@@ -144,9 +146,9 @@ impl Pattern for PreparedDemand {
 
     type CreateError = PublishSubscribeCreateError;
 
-    ghost meaning = { λ asked. publish_subscribe_meaning asked.demand asked.message };
+    ghost meaning = { prepared_meaning };
 
-    ghost adjusted = { λ asked. record asked { demand = publish_subscribe_adjusted asked.demand } };
+    ghost adjusted = { prepared_adjusted };
 
     fn adjust(&mut self) {
         let settings = &mut self.demand.settings;
@@ -262,5 +264,46 @@ impl Pattern for PreparedDemand {
             max_nodes: settings.max_nodes,
             message_type_details: self.message.clone()?,
         }))
+    }
+}
+
+impl Retries for PreparedDemand {
+    ghost use Rattle.iceoryx2_publish_subscribe_builder.specs.PublishSubscribe.{publish_subscribe_retried};
+
+    ghost retried = { publish_subscribe_retried };
+
+    fn retries_open(error: PublishSubscribeOpenError) -> bool {
+        match error {
+            PublishSubscribeOpenError::DoesNotExist
+            | PublishSubscribeOpenError::ServiceInCorruptedState
+            | PublishSubscribeOpenError::IsMarkedForDestruction => true,
+            _ => false,
+        }
+    }
+
+    fn retries_create(error: PublishSubscribeCreateError) -> bool {
+        match error {
+            PublishSubscribeCreateError::AlreadyExists
+            | PublishSubscribeCreateError::IsBeingCreatedByAnotherInstance
+            | PublishSubscribeCreateError::ServiceInCorruptedState => true,
+            _ => false,
+        }
+    }
+}
+
+/// The error of an open or create that the rounds refuse so.
+pub(crate) fn open_or_create_error(
+    refusal: OpenOrCreateRefusal<PublishSubscribeOpenError, PublishSubscribeCreateError>,
+) -> PublishSubscribeOpenOrCreateError
+    ensures { publish_subscribe_refusal result ≡ refusal }
+{
+    match refusal {
+        OpenOrCreateRefusal::Open(error) => {
+            PublishSubscribeOpenOrCreateError::PublishSubscribeOpenError(error)
+        }
+        OpenOrCreateRefusal::Create(error) => {
+            PublishSubscribeOpenOrCreateError::PublishSubscribeCreateError(error)
+        }
+        OpenOrCreateRefusal::SystemInFlux => PublishSubscribeOpenOrCreateError::SystemInFlux,
     }
 }

@@ -3,11 +3,16 @@
 ghost use Rattle.std.specs.Prelude.{◌≡◌, drop};
 ghost use Rattle.iceoryx2_pattern.specs.Verdict.{verdict, marked_clauses};
 ghost use Rattle.iceoryx2_request_response_builder.specs.Request.{fresh_demand};
-ghost use Rattle.iceoryx2_request_response_builder.specs.RequestResponse.{setting_rows};
+ghost use Rattle.iceoryx2_request_response_builder.specs.RequestResponse.{request_response_refusal, setting_rows};
 
 use iceoryx2_builder_base::zeros::raised;
 use iceoryx2_errors::error::request_response::ServiceAvailabilityState;
-use iceoryx2_errors::error::{RequestResponseCreateError, RequestResponseOpenError, ServiceState};
+use iceoryx2_errors::error::{
+    RequestResponseCreateError, RequestResponseOpenError, RequestResponseOpenOrCreateError,
+    ServiceState,
+};
+use iceoryx2_open_or_create::open_or_create::OpenOrCreateRefusal;
+use iceoryx2_open_or_create::retries::Retries;
 use iceoryx2_pattern::pattern::{CreateRefusal, OpenRefusal, Pattern};
 use iceoryx2_pattern::verdict::{need_at_least, need_flag};
 use iceoryx2_types::types::MessageTypeDetails;
@@ -173,8 +178,7 @@ fn verify_users(
 }
 
 impl Pattern for PreparedDemand {
-    ghost use Rattle.iceoryx2_request_response_builder.specs.RequestResponse.{request_response_adjusted};
-    ghost use Rattle.iceoryx2_request_response_builder.specs.RequestResponse.{request_response_meaning};
+    ghost use Rattle.iceoryx2_request_response_builder.specs.RequestResponse.{prepared_adjusted, prepared_meaning};
 
     type Fault = ServiceAvailabilityState;
 
@@ -182,9 +186,9 @@ impl Pattern for PreparedDemand {
 
     type CreateError = RequestResponseCreateError;
 
-    ghost meaning = { λ asked. request_response_meaning asked.demand asked.request asked.response };
+    ghost meaning = { prepared_meaning };
 
-    ghost adjusted = { λ asked. record asked { demand = request_response_adjusted asked.demand } };
+    ghost adjusted = { prepared_adjusted };
 
     fn adjust(&mut self) {
         let settings = &mut self.demand.settings;
@@ -298,5 +302,46 @@ impl Pattern for PreparedDemand {
             request_message_type_details: self.request.clone()?,
             response_message_type_details: self.response.clone()?,
         }))
+    }
+}
+
+impl Retries for PreparedDemand {
+    ghost use Rattle.iceoryx2_request_response_builder.specs.RequestResponse.{request_response_retried};
+
+    ghost retried = { request_response_retried };
+
+    fn retries_open(error: RequestResponseOpenError) -> bool {
+        match error {
+            RequestResponseOpenError::DoesNotExist
+            | RequestResponseOpenError::ServiceInCorruptedState
+            | RequestResponseOpenError::IsMarkedForDestruction => true,
+            _ => false,
+        }
+    }
+
+    fn retries_create(error: RequestResponseCreateError) -> bool {
+        match error {
+            RequestResponseCreateError::AlreadyExists
+            | RequestResponseCreateError::IsBeingCreatedByAnotherInstance
+            | RequestResponseCreateError::ServiceInCorruptedState => true,
+            _ => false,
+        }
+    }
+}
+
+/// The error of an open or create that the rounds refuse so.
+pub(crate) fn open_or_create_error(
+    refusal: OpenOrCreateRefusal<RequestResponseOpenError, RequestResponseCreateError>,
+) -> RequestResponseOpenOrCreateError
+    ensures { request_response_refusal result ≡ refusal }
+{
+    match refusal {
+        OpenOrCreateRefusal::Open(error) => {
+            RequestResponseOpenOrCreateError::RequestResponseOpenError(error)
+        }
+        OpenOrCreateRefusal::Create(error) => {
+            RequestResponseOpenOrCreateError::RequestResponseCreateError(error)
+        }
+        OpenOrCreateRefusal::SystemInFlux => RequestResponseOpenOrCreateError::SystemInFlux,
     }
 }

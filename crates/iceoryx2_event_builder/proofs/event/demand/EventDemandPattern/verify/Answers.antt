@@ -1,4 +1,4 @@
-use Rattle.std.proofs.Common.{◌≡◌, sym}
+use Rattle.std.proofs.Common.{sym}
 use Rattle.iceoryx2_pattern.proofs.Verdicts.{none_refused}
 use Rattle.iceoryx2_event_builder.proofs.event.demand.EventDemandPattern.verify.Goals as goal
 

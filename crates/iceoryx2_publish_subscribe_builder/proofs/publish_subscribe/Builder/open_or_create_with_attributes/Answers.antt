@@ -1,0 +1,21 @@
+use Rattle.std.proofs.Common.{◌≡◌}
+use Rattle.iceoryx2_builder_base.proofs.Granted.{with_types, without_types}
+use Rattle.iceoryx2_open_or_create.proofs.Granted.{joined_carries}
+use Rattle.iceoryx2_publish_subscribe_builder.proofs.Granted.{what_is_carried}
+use Rattle.iceoryx2_publish_subscribe_builder.proofs.publish_subscribe.Builder.open_or_create_with_attributes.Goals as goal
+
+pub returns-in_default : goal.returns-in_default
+returns-in_default g c = without_types
+
+pub new-requires : goal.new-requires
+new-requires g c = what_is_carried (joined_carries c.in-Ok-open_or_create.ensures)
+
+pub returns-in-Ok-open_or_create : goal.returns-in-Ok-open_or_create
+returns-in-Ok-open_or_create g c =
+    let granted = rw (c.in-Ok.ensures, c.hash-hash.ensures, c.node-node.ensures, c.name-name.ensures, c.default.ensures) at c.in-Ok-open_or_create.ensures in
+    rw (← c.self.view_is, c.new.ensures) (with_types granted)
+
+pub returns : goal.returns
+returns g c =
+    let refused = rw (c.in-Ok.ensures, c.hash-hash.ensures, c.node-node.ensures, c.name-name.ensures, c.default.ensures) at c.in-Err.ensures in
+    rw (← c.self.view_is, c.open_or_create_error.ensures) (with_types refused)
