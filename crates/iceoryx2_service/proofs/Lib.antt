@@ -2,7 +2,7 @@ pub mod Places
 pub mod SlotLists
 pub mod Patterns
 pub mod Timeless
-pub mod Setters
+pub mod TakenSetters
 pub mod Commands
 pub mod Prepared
 pub mod StandingSlots

@@ -5,16 +5,20 @@ use Rattle.iceoryx2_event_builder.specs.Request.{EventRequest}
 use Rattle.iceoryx2_event_builder.specs.Request as event
 use Rattle.iceoryx2_publish_subscribe_builder.specs.Request.{PublishSubscribeRequest}
 use Rattle.iceoryx2_publish_subscribe_builder.specs.Request as publish_subscribe
+use Rattle.iceoryx2_request_response_builder.specs.Request.{RequestResponseRequest}
+use Rattle.iceoryx2_request_response_builder.specs.Request as request_response
 use Rattle.iceoryx2_attributes.specs.Requirements.{Requirements}
 use Rattle.iceoryx2_pattern.specs.Regular.{IsRegular, TakesNodes}
 use Rattle.iceoryx2_event_builder.proofs.Builders.{event_builder}
 use Rattle.iceoryx2_publish_subscribe_builder.proofs.Builders.{publish_subscribe_builder}
+use Rattle.iceoryx2_request_response_builder.proofs.Builders.{request_response_builder}
 use Rattle.iceoryx2_service.specs.declared.command.Settings.{Settings}
 use Rattle.iceoryx2_service.specs.declared.command.Settings.TheVariants as settings
 use Rattle.iceoryx2_service.specs.BuilderCalls.{BuilderCall}
 use Rattle.iceoryx2_service.specs.Setters.{with_settings}
 use Rattle.iceoryx2_service.specs.Events.{event_call}
 use Rattle.iceoryx2_service.specs.PublishSubscribe.{publish_subscribe_call, named_message}
+use Rattle.iceoryx2_service.specs.RequestResponse.{request_response_call, named_messages}
 use Rattle.iceoryx2_service.specs.declared.command.Call.{Call}
 use Rattle.iceoryx2_service.specs.Patterns.{call_by, builder_call}
 
@@ -38,11 +42,22 @@ publish_subscribe_call_is_regular b attributes = record {
   takes_nodes = (publish_subscribe_builder b.demand (named_message b)).takes_nodes attributes.pairs;
 }
 
+request_response_call_is_regular : (b : RequestResponseRequest) (attributes : Requirements) → IsRegularCall (request_response_call b attributes)
+request_response_call_is_regular b attributes =
+    let builder = request_response_builder b.demand (named_messages b).request (named_messages b).response in
+    record {
+      creating = builder.creating_is_regular attributes.pairs;
+      opening = builder.opening_is_regular attributes;
+      takes_nodes = builder.takes_nodes attributes.pairs;
+    }
+
 -- one row a pattern
 regular_by : (config : Config) (node : ℕ) (name : List ℕ) (attributes : Requirements) (settings : Settings) → IsRegularCall (call_by config node name attributes settings)
 regular_by config node name attributes (settings.Event xs) = event_call_is_regular (with_settings event.with_setting (event.fresh_request node name config.event) xs.items) attributes
 regular_by config node name attributes (settings.PublishSubscribe xs) =
     publish_subscribe_call_is_regular (with_settings publish_subscribe.with_setting (publish_subscribe.fresh_request node name config.publish_subscribe) xs.items) attributes
+regular_by config node name attributes (settings.RequestResponse xs) =
+    request_response_call_is_regular (with_settings request_response.with_setting (request_response.fresh_request node name config.request_response) xs.items) attributes
 
 pub call_is_regular : (config : Config) (call : Call) → IsRegularCall (builder_call config call)
 call_is_regular config call = regular_by config call.node call.name call.attributes call.settings

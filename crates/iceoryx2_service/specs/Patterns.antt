@@ -4,6 +4,7 @@ use Rattle.iceoryx2_attributes.specs.Requirements.{Requirements}
 use Rattle.iceoryx2_values.specs.declared.config.Config.{Config}
 use Rattle.iceoryx2_event_builder.specs.Request as event
 use Rattle.iceoryx2_publish_subscribe_builder.specs.Request as publish_subscribe
+use Rattle.iceoryx2_request_response_builder.specs.Request as request_response
 use Rattle.iceoryx2_service.specs.declared.command.Settings.{Settings}
 use Rattle.iceoryx2_service.specs.declared.command.Settings.TheVariants as settings
 use Rattle.iceoryx2_service.specs.declared.command.Call.{Call}
@@ -11,6 +12,7 @@ use Rattle.iceoryx2_service.specs.BuilderCalls.{BuilderCall}
 use Rattle.iceoryx2_service.specs.Setters.{with_settings}
 use Rattle.iceoryx2_service.specs.Events.{event_call}
 use Rattle.iceoryx2_service.specs.PublishSubscribe.{publish_subscribe_call}
+use Rattle.iceoryx2_service.specs.RequestResponse.{request_response_call}
 
 -- by the pattern of the settings, one row each
 abbrev pub call_by : Config → ℕ → List ℕ → Requirements → Settings → BuilderCall
@@ -19,6 +21,9 @@ call_by config node name attributes (settings.Event xs) =
 call_by config node name attributes (settings.PublishSubscribe xs) =
     publish_subscribe_call (with_settings publish_subscribe.with_setting
     (publish_subscribe.fresh_request node name config.publish_subscribe) xs.items) attributes
+call_by config node name attributes (settings.RequestResponse xs) =
+    request_response_call (with_settings request_response.with_setting
+    (request_response.fresh_request node name config.request_response) xs.items) attributes
 
 -- what a command's call asks
 abbrev pub builder_call : Config → Call → BuilderCall

@@ -1,7 +1,6 @@
 -- Builder calls for services of publish-subscribe.
-use Rattle.std.specs.Prelude.{true, codes}
-use Rattle.iceoryx2_types.specs.Types.{Detail, Message, detail_of, fixed_size}
-use Rattle.iceoryx2_types.specs.declared.types.TypeVariant.TheVariants.{Dynamic}
+use Rattle.std.specs.Prelude.{true}
+use Rattle.iceoryx2_types.specs.Types.{Message}
 use Rattle.iceoryx2_errors.specs.declared.error.publish_subscribe.ServiceAvailabilityState.{ServiceAvailabilityState}
 use Rattle.iceoryx2_errors.specs.declared.error.publish_subscribe.PublishSubscribeOpenError.{PublishSubscribeOpenError}
 use Rattle.iceoryx2_errors.specs.declared.error.publish_subscribe.PublishSubscribeCreateError.{PublishSubscribeCreateError}
@@ -10,13 +9,7 @@ use Rattle.iceoryx2_publish_subscribe_builder.specs.Request.{PublishSubscribeReq
 use Rattle.iceoryx2_publish_subscribe_builder.specs.PublishSubscribe.{publish_subscribe_creating, publish_subscribe_opening}
 use Rattle.iceoryx2_service.specs.declared.command.Refusal.TheVariants as refusal
 use Rattle.iceoryx2_service.specs.BuilderCalls.{BuilderCall, hash_for}
-
--- what a payload and a user header are where no setter names their type
-abbrev pub payload_marker : Detail
-payload_marker = detail_of Dynamic (codes "CustomPayloadMarker") 1 1
-
-abbrev pub user_header_marker : Detail
-user_header_marker = fixed_size (codes "CustomHeaderMarker") 0 1
+use Rattle.iceoryx2_service.specs.Markers.{payload_marker, user_header_marker}
 
 -- the message of this builder, whose types are those that setters named
 abbrev pub named_message : PublishSubscribeRequest → Message

@@ -7,3 +7,4 @@ use Rattle.iceoryx2_service.specs.declared.open_service.PatternFactory.TheVarian
 abbrev pub untyped : PatternFactory → Factory
 untyped (factory.Event r) = r
 untyped (factory.PublishSubscribe r) = r
+untyped (factory.RequestResponse r) = r

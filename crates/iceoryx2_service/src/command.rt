@@ -3,8 +3,10 @@
 use iceoryx2_attributes::attribute::AttributeVerifier;
 pub use iceoryx2_builder::builder::event::EventSetting;
 pub use iceoryx2_builder::builder::publish_subscribe::PublishSubscribeSetting;
+pub use iceoryx2_builder::builder::request_response::RequestResponseSetting;
 use iceoryx2_errors::error::{
     EventCreateError, EventOpenError, PublishSubscribeCreateError, PublishSubscribeOpenError,
+    RequestResponseCreateError, RequestResponseOpenError,
 };
 use iceoryx2_values::description::ServiceName;
 use iceoryx2_values::time::{ClockFault, Time};
@@ -23,6 +25,8 @@ pub enum Settings {
     Event(Vec<EventSetting>),
     /// A payload and a user header whose types aren't named stay markers.
     PublishSubscribe(Vec<PublishSubscribeSetting>),
+    /// The same holds of a request and of a response.
+    RequestResponse(Vec<RequestResponseSetting>),
 }
 
 /// A builder call of a node, whose factory goes into a slot.
@@ -56,6 +60,8 @@ pub enum Refusal {
     EventCreate(EventCreateError),
     PublishSubscribeOpen(PublishSubscribeOpenError),
     PublishSubscribeCreate(PublishSubscribeCreateError),
+    RequestResponseOpen(RequestResponseOpenError),
+    RequestResponseCreate(RequestResponseCreateError),
 }
 
 /// What a session answers.

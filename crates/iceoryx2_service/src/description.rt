@@ -6,4 +6,4 @@ pub use iceoryx2_values::description::{
 };
 pub use iceoryx2_values::event::{Deadline, EventId};
 pub use iceoryx2_values::time::{ClockFault, Duration, Time};
-pub use iceoryx2_values::{event, publish_subscribe};
+pub use iceoryx2_values::{event, publish_subscribe, request_response};

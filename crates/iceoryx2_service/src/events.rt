@@ -1,27 +1,28 @@
 //! Builder calls for services of events.
 
 ghost use Rattle.std.specs.Prelude.{◌≡◌};
-ghost use Rattle.iceoryx2_event_builder.specs.Request.{with_setting};
+ghost use Rattle.iceoryx2_event_builder.specs.Request as request;
 ghost use Rattle.iceoryx2_service.specs.Events.{event_call};
 ghost use Rattle.iceoryx2_service.specs.Sessions.{Builds};
 ghost use Rattle.iceoryx2_service.specs.Setters.{with_settings as set_all};
 
 use crate::command::{EventSetting, How, Refusal};
 use crate::open_service::OpenService;
+use crate::setters::{HasSetters, with_settings};
 use iceoryx2_attributes::attribute::{AttributeSpecifier, AttributeVerifier};
 use iceoryx2_builder::builder::event::Builder;
 use iceoryx2_storage::local::Local;
 use iceoryx2_storage::table::Table;
 use iceoryx2_values::time::{ClockFault, Time};
 
-/// The builder after each setter, in order.
-fn with_settings(mut builder: Builder<Local>, settings: Vec<EventSetting>) -> Builder<Local>
-    ensures { result ≡ set_all with_setting builder settings.items }
-{
-    for setting in settings {
-        builder = builder.with(setting);
+impl HasSetters for Builder<Local> {
+    type Setting = EventSetting;
+
+    ghost with_setting = { request.with_setting };
+
+    fn with_setting(self, setting: EventSetting) -> Builder<Local> {
+        self.with(setting)
     }
-    builder
 }
 
 /// The builder call, after each setter. A create defines the required pairs.
@@ -33,7 +34,7 @@ pub fn call(
     now: Result<Time, ClockFault>,
     table: &mut Table,
 ) -> Result<OpenService, Refusal>
-    ensures { Builds (event_call (set_all with_setting builder settings.items) attributes) how now
+    ensures { Builds (event_call (set_all request.with_setting builder settings.items) attributes) how now
         table.old result table.new }
 {
     let builder = with_settings(builder, settings);

@@ -6,7 +6,9 @@ pub mod description;
 mod events;
 mod open_service;
 mod publish_subscribe;
+mod request_response;
 pub mod session;
+mod setters;
 mod slots;
 pub mod table;
 

@@ -3,18 +3,35 @@
 ghost use Rattle.std.specs.Prelude.{◌≡◌};
 ghost use Rattle.iceoryx2_service.specs.Sessions.{ClosesFactory};
 
-use iceoryx2_port_factory::port_factory::{CloseError, Registration, event, publish_subscribe};
+use iceoryx2_port_factory::port_factory::{
+    CloseError, Registration, event, publish_subscribe, request_response,
+};
 use iceoryx2_storage::local::Local;
 use iceoryx2_storage::table::Table;
 use iceoryx2_types::types::{CustomHeaderMarker, CustomPayloadMarker, Slice};
 use std::marker::Model;
 
+/// A factory of publish-subscribe, whose types are told by its description alone.
+pub type PublishSubscribeFactory = publish_subscribe::PortFactory<
+    Local,
+    Slice<CustomPayloadMarker>,
+    CustomHeaderMarker,
+>;
+
+/// The same of request-response.
+pub type RequestResponseFactory = request_response::PortFactory<
+    Local,
+    Slice<CustomPayloadMarker>,
+    CustomHeaderMarker,
+    Slice<CustomPayloadMarker>,
+    CustomHeaderMarker,
+>;
+
 /// The factory, by its pattern.
 enum PatternFactory {
     Event(event::PortFactory<Local>),
-    PublishSubscribe(
-        publish_subscribe::PortFactory<Local, Slice<CustomPayloadMarker>, CustomHeaderMarker>,
-    ),
+    PublishSubscribe(PublishSubscribeFactory),
+    RequestResponse(RequestResponseFactory),
 }
 
 /// A service that a session has open, seen as what its factory holds. It has to be spent, by `close` or
@@ -43,18 +60,21 @@ impl OpenService {
         }
     }
 
-    /// A service of publish-subscribe, whose types are told by its description alone.
-    pub fn publish_subscribe(
-        factory: publish_subscribe::PortFactory<
-            Local,
-            Slice<CustomPayloadMarker>,
-            CustomHeaderMarker,
-        >,
-    ) -> OpenService
+    /// A service of publish-subscribe.
+    pub fn publish_subscribe(factory: PublishSubscribeFactory) -> OpenService
         ensures { result ≡ factory }
     {
         OpenService {
             factory: PatternFactory::PublishSubscribe(factory),
+        }
+    }
+
+    /// A service of request-response.
+    pub fn request_response(factory: RequestResponseFactory) -> OpenService
+        ensures { result ≡ factory }
+    {
+        OpenService {
+            factory: PatternFactory::RequestResponse(factory),
         }
     }
 
@@ -65,6 +85,7 @@ impl OpenService {
         match &self.factory {
             PatternFactory::Event(factory) => factory.number(),
             PatternFactory::PublishSubscribe(factory) => factory.number(),
+            PatternFactory::RequestResponse(factory) => factory.number(),
         }
     }
 
@@ -76,6 +97,7 @@ impl OpenService {
         match factory {
             PatternFactory::Event(factory) => factory.into_registration(),
             PatternFactory::PublishSubscribe(factory) => factory.into_registration(),
+            PatternFactory::RequestResponse(factory) => factory.into_registration(),
         }
     }
 

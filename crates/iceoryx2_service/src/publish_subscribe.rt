@@ -1,7 +1,7 @@
 //! Builder calls for services of publish-subscribe.
 
 ghost use Rattle.std.specs.Prelude.{◌≡◌, Ok};
-ghost use Rattle.iceoryx2_publish_subscribe_builder.specs.Request.{with_setting};
+ghost use Rattle.iceoryx2_publish_subscribe_builder.specs.Request as request;
 ghost use Rattle.iceoryx2_service.specs.PublishSubscribe.{publish_subscribe_call};
 ghost use Rattle.iceoryx2_service.specs.Sessions.{Builds};
 ghost use Rattle.iceoryx2_service.specs.Setters.{with_settings as set_all};
@@ -9,6 +9,7 @@ ghost use Rattle.iceoryx2_values.specs.Span.{zero_span};
 
 use crate::command::{How, PublishSubscribeSetting, Refusal};
 use crate::open_service::OpenService;
+use crate::setters::{HasSetters, with_settings};
 use iceoryx2_attributes::attribute::{AttributeSpecifier, AttributeVerifier};
 use iceoryx2_builder::builder::publish_subscribe;
 use iceoryx2_storage::local::Local;
@@ -18,14 +19,14 @@ use iceoryx2_types::types::{CustomHeaderMarker, CustomPayloadMarker, Slice};
 /// A builder whose types are named by setters.
 type Builder = publish_subscribe::Builder<Slice<CustomPayloadMarker>, CustomHeaderMarker, Local>;
 
-/// The builder after each setter, in order.
-fn with_settings(mut builder: Builder, settings: Vec<PublishSubscribeSetting>) -> Builder
-    ensures { result ≡ set_all with_setting builder settings.items }
-{
-    for setting in settings {
-        builder = builder.with(setting);
+impl HasSetters for Builder {
+    type Setting = PublishSubscribeSetting;
+
+    ghost with_setting = { request.with_setting };
+
+    fn with_setting(self, setting: PublishSubscribeSetting) -> Builder {
+        self.with(setting)
     }
-    builder
 }
 
 /// The builder call, after each setter. A create defines the required pairs. No time is needed: it
@@ -37,7 +38,7 @@ pub fn call(
     how: How,
     table: &mut Table,
 ) -> Result<OpenService, Refusal>
-    ensures { Builds (publish_subscribe_call (set_all with_setting builder settings.items) attributes) how
+    ensures { Builds (publish_subscribe_call (set_all request.with_setting builder settings.items) attributes) how
         (Ok zero_span) table.old result table.new }
 {
     let builder = with_settings(builder, settings);

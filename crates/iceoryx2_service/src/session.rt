@@ -6,12 +6,13 @@ ghost use Rattle.iceoryx2_service.specs.Sessions.{Builds, ClosesSlot};
 ghost use Rattle.iceoryx2_service.specs.Slots.{slot_count};
 
 pub use crate::command::{
-    Call, Command, EventSetting, How, PublishSubscribeSetting, Refusal, Reply, Settings,
+    Call, Command, EventSetting, How, PublishSubscribeSetting, Refusal, Reply,
+    RequestResponseSetting, Settings,
 };
 use crate::open_service::OpenService;
 pub use crate::slots::SLOTS;
 use crate::slots::Slots;
-use crate::{events, publish_subscribe};
+use crate::{events, publish_subscribe, request_response};
 use iceoryx2_builder::builder::Node;
 use iceoryx2_storage::local::Local;
 use iceoryx2_storage::table::Table;
@@ -50,6 +51,13 @@ fn build(config: Config, call: Call, table: &mut Table) -> Result<OpenService, R
                 .publish_subscribe::<Slice<CustomPayloadMarker>>()
                 .user_header::<CustomHeaderMarker>();
             publish_subscribe::call(builder, settings, attributes, how, table)
+        }
+        Settings::RequestResponse(settings) => {
+            let builder = builder
+                .request_response::<Slice<CustomPayloadMarker>, Slice<CustomPayloadMarker>>()
+                .request_user_header::<CustomHeaderMarker>()
+                .response_user_header::<CustomHeaderMarker>();
+            request_response::call(builder, settings, attributes, how, table)
         }
     }
 }

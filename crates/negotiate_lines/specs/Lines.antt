@@ -20,6 +20,7 @@ use Rattle.negotiate_lines.specs.declared.line.Line.TheVariants as line
 use Rattle.negotiate_lines.specs.declared.line.NamedCall.{NamedCall}
 use Rattle.negotiate_lines.specs.EventWords.{event_vocabulary}
 use Rattle.negotiate_lines.specs.PublishSubscribeWords.{publish_subscribe_vocabulary}
+use Rattle.negotiate_lines.specs.RequestResponseWords.{request_response_vocabulary}
 
 -- ---- the end of a line
 
@@ -70,6 +71,8 @@ abbrev pub SaysSettings : Settings → List (List ℕ) → Call → Type 0
 SaysSettings (settings.Event setters) words call = SaysNamedCall event_vocabulary words (named_call call setters.items)
 SaysSettings (settings.PublishSubscribe setters) words call =
     SaysNamedCall publish_subscribe_vocabulary words (named_call call setters.items)
+SaysSettings (settings.RequestResponse setters) words call =
+    SaysNamedCall request_response_vocabulary words (named_call call setters.items)
 
 -- ---- lines
 

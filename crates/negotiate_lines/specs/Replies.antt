@@ -8,6 +8,7 @@ use Rattle.iceoryx2_values.specs.Description.{Description}
 use Rattle.iceoryx2_data.specs.Form.{IsForm}
 use Rattle.iceoryx2_errors.specs.Texts.{event_open_error_name, event_create_error_name}
 use Rattle.iceoryx2_errors.specs.Texts.{publish_subscribe_open_error_name, publish_subscribe_create_error_name}
+use Rattle.iceoryx2_errors.specs.Texts.{request_response_open_error_name, request_response_create_error_name}
 use Rattle.iceoryx2_world.specs.declared.listing.Entry.{Entry}
 use Rattle.iceoryx2_world.specs.declared.listing.ListedRow.TheVariants as listed
 use Rattle.iceoryx2_world.specs.declared.listing.ListedSegment.{ListedSegment}
@@ -24,6 +25,9 @@ refusal_text (refusal.PublishSubscribeOpen e) =
     codes "PublishSubscribeOpenError::" ++ publish_subscribe_open_error_name e
 refusal_text (refusal.PublishSubscribeCreate e) =
     codes "PublishSubscribeCreateError::" ++ publish_subscribe_create_error_name e
+refusal_text (refusal.RequestResponseOpen e) = codes "RequestResponseOpenError::" ++ request_response_open_error_name e
+refusal_text (refusal.RequestResponseCreate e) =
+    codes "RequestResponseCreateError::" ++ request_response_create_error_name e
 
 -- the word by which a pattern's command lines begin
 abbrev pub pattern_word : MessagingPattern → List ℕ

@@ -5,4 +5,5 @@ mod event_words;
 pub mod line;
 mod publish_subscribe_words;
 pub mod reply;
+mod request_response_words;
 pub mod serve;

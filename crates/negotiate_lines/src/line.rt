@@ -8,6 +8,7 @@ ghost use Rattle.negotiate_lines.specs.Lines.{admitted_of, how_word, without_end
 
 use crate::event_words::EventWords;
 use crate::publish_subscribe_words::PublishSubscribeWords;
+use crate::request_response_words::RequestResponseWords;
 use iceoryx2_service::command::{Call, Command, How, Settings};
 use iceoryx2_service::description::{ServiceName, ServiceNameError};
 use iceoryx2_service::session::SLOTS;
@@ -74,6 +75,7 @@ fn said_behind(alloc: Global, first: &str, others: &str) -> Result<Line, AllocEr
         "close" => Ok(close(others)),
         "event" => event(alloc, others),
         "pubsub" => publish_subscribe(alloc, others),
+        "rr" => request_response(alloc, others),
         _ => Ok(Line::NotACommand),
     }
 }
@@ -250,6 +252,27 @@ fn publish_subscribe(alloc: Global, others: &str) -> Result<Line, AllocError>
         slot: call.slot,
         name: call.name,
         settings: Settings::PublishSubscribe(settings),
+        attributes,
+        now,
+    })))
+}
+
+/// What the word `rr` says before others.
+fn request_response(alloc: Global, others: &str) -> Result<Line, AllocError>
+    ensures { IfOk result (AreLine (codes "rr" ∷ words_of others.now)) }
+{
+    let call = match named_call::<RequestResponseWords>(alloc, others) {
+        Ok(Some(call)) => call,
+        Ok(None) => return Ok(Line::NotACommand),
+        Err(_) => return Err(AllocError),
+    };
+    let (settings, attributes, now) = call.parts.into_parts();
+    Ok(Line::Command(Command::Call(Call {
+        how: call.how,
+        node: call.node,
+        slot: call.slot,
+        name: call.name,
+        settings: Settings::RequestResponse(settings),
         attributes,
         now,
     })))

@@ -23,6 +23,8 @@ pub fn describe(reply: &Reply, slot: usize, text: &mut String) -> Result<(), All
         Reply::Refused(Refusal::EventCreate(error)) => writeln!(text, "{error}"),
         Reply::Refused(Refusal::PublishSubscribeOpen(error)) => writeln!(text, "{error}"),
         Reply::Refused(Refusal::PublishSubscribeCreate(error)) => writeln!(text, "{error}"),
+        Reply::Refused(Refusal::RequestResponseOpen(error)) => writeln!(text, "{error}"),
+        Reply::Refused(Refusal::RequestResponseCreate(error)) => writeln!(text, "{error}"),
         Reply::Closed { slot } => writeln!(text, "closed {slot}"),
         Reply::SlotInUse => writeln!(text, "slot {slot} in use"),
         Reply::SlotEmpty => writeln!(text, "slot {slot} empty"),

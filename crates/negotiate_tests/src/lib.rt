@@ -12,6 +12,8 @@ mod publish_subscribe_words;
 #[cfg(test)]
 mod replies;
 #[cfg(test)]
+mod request_response_words;
+#[cfg(test)]
 mod scripts;
 #[cfg(test)]
 mod support;

@@ -39,7 +39,8 @@ const NO_COMMANDS: &[&str] = &[
     "event open_or_create 1 0 a",
     "pubsub create 1 64 a",
     "Pubsub create 1 0 a",
-    "rr create 1 0 a",
+    "rr create 1 64 a",
+    "Rr create 1 0 a",
 ];
 
 /// Lines that are not UTF-8.

@@ -5,13 +5,16 @@ use iceoryx2_service::builder::event::{EventCreateError, EventOpenError};
 use iceoryx2_service::builder::publish_subscribe::{
     PublishSubscribeCreateError, PublishSubscribeOpenError,
 };
+use iceoryx2_service::builder::request_response::{
+    RequestResponseCreateError, RequestResponseOpenError,
+};
 use iceoryx2_service::command::{Refusal, Reply};
 use negotiate_lines::reply::describe;
 use std::alloc::Global;
 use std::process::Abort;
 
 /// Replies to a command for slot 9, and the lines for them.
-const REPLIES: [(Reply, &str); 13] = [
+const REPLIES: [(Reply, &str); 15] = [
     (Reply::Opened { slot: 9, number: 0 }, "ok 9 number=0\n"),
     (
         Reply::Opened {
@@ -51,6 +54,16 @@ const REPLIES: [(Reply, &str); 13] = [
             PublishSubscribeCreateError::InternalFailure,
         )),
         "PublishSubscribeCreateError::InternalFailure\n",
+    ),
+    (
+        Reply::Refused(Refusal::RequestResponseOpen(
+            RequestResponseOpenError::DoesNotSupportRequestedAmountOfBorrowedResponsesPerPendingResponse,
+        )),
+        "RequestResponseOpenError::DoesNotSupportRequestedAmountOfBorrowedResponsesPerPendingResponse\n",
+    ),
+    (
+        Reply::Refused(Refusal::RequestResponseCreate(RequestResponseCreateError::HangsInCreation)),
+        "RequestResponseCreateError::HangsInCreation\n",
     ),
     (Reply::Closed { slot: 9 }, "closed 9\n"),
     (Reply::SlotInUse, "slot 9 in use\n"),

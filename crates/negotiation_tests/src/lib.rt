@@ -18,6 +18,8 @@ mod publish_subscribe;
 #[cfg(test)]
 mod readme;
 #[cfg(test)]
+mod request_response;
+#[cfg(test)]
 mod runs;
 #[cfg(test)]
 mod sessions;

@@ -19,6 +19,15 @@ use std::process::Abort;
 /// What is told of a type: its variant, its name, its size and its alignment.
 pub type Told<'a> = (TypeVariant, &'a str, u64, u64);
 
+/// What is told of one `i64`.
+pub const I64: Told<'static> = (FixedSize, "i64", 8, 8);
+
+/// What is told of a number of them.
+pub const SLICE: Told<'static> = (Dynamic, "i64", 8, 8);
+
+/// What is told of `u32`.
+pub const U32: Told<'static> = (FixedSize, "u32", 4, 4);
+
 /// What each type says of itself.
 const TYPES: [Told<'static>; 22] = [
     (FixedSize, "()", 0, 1),
@@ -168,6 +177,14 @@ pub fn detail(rt: &impl Abort, alloc: Global, told: Told) -> TypeDetail {
     match TypeDetail::new(alloc, variant, name, size, alignment) {
         Ok(detail) => detail,
         Err(_) => panic!(rt; "no details, or no memory"),
+    }
+}
+
+/// An alignment.
+pub fn alignment(rt: &impl Abort, value: u64) -> Alignment {
+    match Alignment::new(value) {
+        Some(alignment) => alignment,
+        None => panic!(rt; "no alignment"),
     }
 }
 

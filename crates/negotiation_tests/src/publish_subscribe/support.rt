@@ -4,15 +4,13 @@
 pub use crate::support::{
     Pairs, assert_same, drop_table, listed, name, push, specifier, table_from, verifier,
 };
-pub use crate::types::{Told, consists_of, detail};
+pub use crate::types::{I64, SLICE, Told, U32, alignment, consists_of, detail};
 use iceoryx2_access::storage::Service;
 use iceoryx2_builder::builder::Node;
 use iceoryx2_builder::builder::publish_subscribe::{Builder, PublishSubscribeSetting};
 use iceoryx2_errors::error::{PublishSubscribeCreateError, PublishSubscribeOpenError};
 use iceoryx2_port_factory::port_factory::publish_subscribe::PortFactory;
-use iceoryx2_types::types::{
-    Alignment, CustomHeaderMarker, CustomPayloadMarker, Slice, TypeVariant, ZeroCopySend,
-};
+use iceoryx2_types::types::{CustomHeaderMarker, CustomPayloadMarker, Slice, ZeroCopySend};
 use iceoryx2_values::config::Config;
 use std::alloc::Global;
 use std::process::Abort;
@@ -35,25 +33,8 @@ pub enum Ask {
 /// What is asked of a builder, one after the other.
 pub type Asks = &'static [Ask];
 
-/// What is told of one `i64`.
-pub const I64: Told<'static> = (TypeVariant::FixedSize, "i64", 8, 8);
-
-/// What is told of a number of them.
-pub const SLICE: Told<'static> = (TypeVariant::Dynamic, "i64", 8, 8);
-
-/// What is told of `u32`.
-pub const U32: Told<'static> = (TypeVariant::FixedSize, "u32", 4, 4);
-
 /// The numbers of the default settings, in their order.
 pub const DEFAULTS: [u64; 6] = [2, 8, 2, 0, 2, 20];
-
-/// An alignment.
-pub fn alignment(rt: &impl Abort, value: u64) -> Alignment {
-    match Alignment::new(value) {
-        Some(alignment) => alignment,
-        None => panic!(rt; "no alignment"),
-    }
-}
 
 /// The setter that an ask means.
 fn setting(rt: &impl Abort, alloc: Global, ask: Ask) -> PublishSubscribeSetting {

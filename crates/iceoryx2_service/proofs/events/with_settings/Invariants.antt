@@ -1,7 +1,0 @@
-use Rattle.std.specs.Vec.Iter.{into_iter_items, into_iter_len}
-use Rattle.iceoryx2_event_builder.specs.Request.{with_setting}
-use Rattle.iceoryx2_service.proofs.Setters.{TakesSettings}
-use Rattle.iceoryx2_service.proofs.events.with_settings.Given as goal
-
-abbrev pub invariant-loop-setting : goal.invariant-loop-setting
-invariant-loop-setting l = TakesSettings with_setting l.fn.builder (into_iter_items l.initial.setting-iterator) l.yielded (into_iter_items l.setting-iterator) (into_iter_len l.setting-iterator) l.builder

@@ -1,0 +1,188 @@
+//! What the settings of a service of request-response are called.
+
+ghost use Rattle.std.specs.Prelude.{◌≡◌, IfOk};
+ghost use Rattle.negotiate_words.specs.Words.{Finds};
+ghost use Rattle.negotiate_words.specs.Values.{IsAlignmentWord, IsDetailWord, IsNatural, IsTruthWord};
+ghost use Rattle.negotiate_words.specs.Vocabulary.{Sets};
+ghost use Rattle.negotiate_lines.specs.RequestResponseWords.{alignment_setter, flag_setter, number_setter};
+ghost use Rattle.negotiate_lines.specs.RequestResponseWords.{request_response_vocabulary, type_setter};
+ghost use Rattle.negotiate_lines.specs.RequestResponseMeanings.{request_response_words_are_unambiguous};
+
+use self::RequestResponseSettingName::{Alignment, Flag, Number, Type};
+use iceoryx2_service::command::RequestResponseSetting;
+use negotiate_words::type_word::{alignment, type_detail};
+use negotiate_words::value::truth_value;
+use negotiate_words::vocabulary::HasVocabulary;
+use negotiate_words::word::number;
+use std::alloc::{AllocError, Global};
+
+/// The name of a setting that is a truth value.
+#[derive(Clone, Copy)]
+pub(crate) enum FlagName {
+    EnableSafeOverflowForRequests,
+    EnableSafeOverflowForResponses,
+    EnableFireAndForgetRequests,
+}
+
+/// The name of a setting that is a number.
+#[derive(Clone, Copy)]
+pub(crate) enum NumberName {
+    MaxActiveRequestsPerClient,
+    MaxLoanedRequests,
+    MaxBorrowedResponsesPerPendingResponse,
+    MaxResponseBufferSize,
+    MaxServers,
+    MaxClients,
+    MaxNodes,
+}
+
+/// The name of a payload's alignment.
+#[derive(Clone, Copy)]
+pub(crate) enum AlignmentName {
+    RequestPayload,
+    ResponsePayload,
+}
+
+/// The name of a type.
+#[derive(Clone, Copy)]
+pub(crate) enum TypeName {
+    RequestPayload,
+    RequestHeader,
+    ResponsePayload,
+    ResponseHeader,
+}
+
+/// The name of a setting.
+#[derive(Clone, Copy)]
+pub(crate) enum RequestResponseSettingName {
+    Flag(FlagName),
+    Number(NumberName),
+    Alignment(AlignmentName),
+    Type(TypeName),
+}
+
+/// The words of lines of request-response.
+pub(crate) struct RequestResponseWords;
+
+impl HasVocabulary for RequestResponseWords {
+    type Name = RequestResponseSettingName;
+
+    type Setting = RequestResponseSetting;
+
+    ghost vocabulary = { request_response_vocabulary };
+
+    fn has_clock() -> bool {
+        false
+    }
+
+    fn setting_name(word: &str) -> Option<RequestResponseSettingName> {
+        let name = match word {
+            "enable_safe_overflow_for_requests" => Flag(FlagName::EnableSafeOverflowForRequests),
+            "enable_safe_overflow_for_responses" => Flag(FlagName::EnableSafeOverflowForResponses),
+            "enable_fire_and_forget_requests" => Flag(FlagName::EnableFireAndForgetRequests),
+            "max_active_requests_per_client" => Number(NumberName::MaxActiveRequestsPerClient),
+            "max_loaned_requests" => Number(NumberName::MaxLoanedRequests),
+            "max_borrowed_responses_per_pending_response" => {
+                Number(NumberName::MaxBorrowedResponsesPerPendingResponse)
+            }
+            "max_response_buffer_size" => Number(NumberName::MaxResponseBufferSize),
+            "max_servers" => Number(NumberName::MaxServers),
+            "max_clients" => Number(NumberName::MaxClients),
+            "max_nodes" => Number(NumberName::MaxNodes),
+            "request_payload_alignment" => Alignment(AlignmentName::RequestPayload),
+            "response_payload_alignment" => Alignment(AlignmentName::ResponsePayload),
+            "request_payload" => Type(TypeName::RequestPayload),
+            "request_header" => Type(TypeName::RequestHeader),
+            "response_payload" => Type(TypeName::ResponsePayload),
+            "response_header" => Type(TypeName::ResponseHeader),
+            _ => return None,
+        };
+        Some(name)
+    }
+
+    fn setting_of(
+        alloc: Global,
+        name: RequestResponseSettingName,
+        value: &str,
+    ) -> Result<Option<RequestResponseSetting>, AllocError> {
+        match name {
+            Flag(name) => Ok(flag_setting(name, value)),
+            Number(name) => Ok(number_setting(name, value)),
+            Alignment(name) => Ok(alignment_setting(name, value)),
+            Type(name) => type_setting(alloc, name, value),
+        }
+    }
+
+    ghost is_unambiguous = { request_response_words_are_unambiguous };
+}
+
+/// The setter of this name with this truth value, or `None` where it is none.
+fn flag_setting(name: FlagName, value: &str) -> Option<RequestResponseSetting>
+    ensures { Finds (Sets IsTruthWord (flag_setter name) value.now) result }
+{
+    let value = truth_value(value)?;
+    Some(match name {
+        FlagName::EnableSafeOverflowForRequests => {
+            RequestResponseSetting::EnableSafeOverflowForRequests(value)
+        }
+        FlagName::EnableSafeOverflowForResponses => {
+            RequestResponseSetting::EnableSafeOverflowForResponses(value)
+        }
+        FlagName::EnableFireAndForgetRequests => {
+            RequestResponseSetting::EnableFireAndForgetRequests(value)
+        }
+    })
+}
+
+/// The setter of this name with this number, or `None` where it is none.
+fn number_setting(name: NumberName, value: &str) -> Option<RequestResponseSetting>
+    ensures { Finds (Sets IsNatural (number_setter name) value.now) result }
+{
+    let value = number(value)?;
+    Some(match name {
+        NumberName::MaxActiveRequestsPerClient => {
+            RequestResponseSetting::MaxActiveRequestsPerClient(value)
+        }
+        NumberName::MaxLoanedRequests => RequestResponseSetting::MaxLoanedRequests(value),
+        NumberName::MaxBorrowedResponsesPerPendingResponse => {
+            RequestResponseSetting::MaxBorrowedResponsesPerPendingResponse(value)
+        }
+        NumberName::MaxResponseBufferSize => RequestResponseSetting::MaxResponseBufferSize(value),
+        NumberName::MaxServers => RequestResponseSetting::MaxServers(value),
+        NumberName::MaxClients => RequestResponseSetting::MaxClients(value),
+        NumberName::MaxNodes => RequestResponseSetting::MaxNodes(value),
+    })
+}
+
+/// The setter of this name with this alignment, or `None` where it is none.
+fn alignment_setting(name: AlignmentName, value: &str) -> Option<RequestResponseSetting>
+    ensures { Finds (Sets IsAlignmentWord (alignment_setter name) value.now) result }
+{
+    let value = alignment(value)?;
+    Some(match name {
+        AlignmentName::RequestPayload => RequestResponseSetting::RequestPayloadAlignment(value),
+        AlignmentName::ResponsePayload => RequestResponseSetting::ResponsePayloadAlignment(value),
+    })
+}
+
+/// The setter of this name with this type, or `None` where it is none. `AllocError` where the copy of
+/// the type's name finds no memory.
+fn type_setting(
+    alloc: Global,
+    name: TypeName,
+    value: &str,
+) -> Result<Option<RequestResponseSetting>, AllocError>
+    ensures { IfOk result (Finds (Sets IsDetailWord (type_setter name) value.now)) }
+{
+    let detail = match type_detail(alloc, value) {
+        Ok(Some(detail)) => detail,
+        Ok(None) => return Ok(None),
+        Err(_) => return Err(AllocError),
+    };
+    Ok(Some(match name {
+        TypeName::RequestPayload => RequestResponseSetting::RequestPayloadType(detail),
+        TypeName::RequestHeader => RequestResponseSetting::RequestHeaderType(detail),
+        TypeName::ResponsePayload => RequestResponseSetting::ResponsePayloadType(detail),
+        TypeName::ResponseHeader => RequestResponseSetting::ResponseHeaderType(detail),
+    }))
+}

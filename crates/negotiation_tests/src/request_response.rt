@@ -1,0 +1,5 @@
+//! Services of request-response.
+
+mod calls;
+mod support;
+mod typed;
