@@ -33,6 +33,10 @@ use Rattle.iceoryx2_service.specs.StandingSlots.{SlotsStand, OwnsTickets}
 use Rattle.iceoryx2_service.specs.QuietSessions.{IsQuiet, Answers, Moves, IsMoved, TellsNoChange, IsUnchanged}
 use Rattle.iceoryx2_service.specs.QuietSessions as moves
 use Rattle.iceoryx2_service.proofs.Prepared.{as_prepared, call_follows}
+use Rattle.iceoryx2_calls.specs.QuietAttempts.{AttemptsPrepared, opening}
+use Rattle.iceoryx2_calls.proofs.quiet.Attempts.{attempt_follows, refused_attempt}
+use Rattle.iceoryx2_open_or_create.specs.declared.open_or_create.OpenOrCreateRefusal.TheVariants as either
+use Rattle.iceoryx2_rounds.specs.Answers.{map_err}
 use Rattle.iceoryx2_service.proofs.Patterns.{IsRegularCall, call_is_regular}
 
 -- what a builder call makes of the machine
@@ -60,6 +64,14 @@ built how.Open b now answer s t q regular shows agrees waiting is =
       shows = c.shows;
       agrees = c.agrees;
     }
+built how.OpenOrCreate b now answer s t q regular shows agrees waiting is =
+    let c = call_follows b.prepares (either.Open ((opening (b.attempt now)).open_refusal open_refusal.OutOfMemory)) s.world t.world shows agrees (λ word a is_word run. attempt_follows (b.attempt now) (regular.steady now) q shows agrees is_word run) is.2.is_word (idle_run waiting is.2.run).0 in
+    record {
+      state = c.state;
+      call = (is.0, is.1, c.call);
+      shows = c.shows;
+      agrees = c.agrees;
+    }
 
 -- ---- commands
 
@@ -68,6 +80,7 @@ none_waits : (h : How) (b : BuilderCall) (now : Result Span ClockFault) (answer 
     → s.waiting ≡ [] → Builds b h now s answer t → t.waiting ≡ []
 none_waits how.Create b now answer s t waiting is = (idle_run waiting is.2.run).1.0
 none_waits how.Open b now answer s t waiting is = (idle_run waiting is.2.run).1.0
+none_waits how.OpenOrCreate b now answer s t waiting is = (idle_run waiting is.2.run).1.0
 
 quiet_after : (n : SessionState) (q : Quiet) → Shows n.table.world q → Agrees n.table.world → n.table.waiting ≡ [] → IsQuiet n q
 quiet_after n q shows agrees waiting = record { shows = shows; agrees = agrees; waiting = waiting }
@@ -110,6 +123,9 @@ refusal_keeps how.Create b now e w v q p s t is =
 refusal_keeps how.Open b now e w v q p s t is =
     refused_answer b.refusal_of_open e is.0 (HoldsTheSame w v) is.1 (λ x same.
     refused_open b.opening b.node b.hash w v q p x s t (subst (λ (a : Result Factory b.open_error). OpensPrepared b.opening q b.node b.hash a p) same (as_prepared b.prepares is.2)))
+refusal_keeps how.OpenOrCreate b now e w v q p s t is =
+    refused_answer b.refusal_of_open_or_create e is.0 (HoldsTheSame w v) is.1 (λ x same.
+    refused_attempt (b.attempt now) (b.refusal_of_rounds x) s t (subst (λ (a : Result Factory b.open_or_create_error). AttemptsPrepared (b.attempt now) q (map_err b.refusal_of_rounds a) p) same (as_prepared b.prepares is.2)))
 
 pub itself : (s : SessionState) → IsUnchanged s s
 itself s = record { slots = refl; services = record { rows = λ h. refl; segments = λ h. refl; tags = λ i h. refl; counts = λ i h. refl } }

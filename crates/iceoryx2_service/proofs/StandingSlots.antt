@@ -29,6 +29,11 @@ use Rattle.iceoryx2_service.specs.declared.command.How.TheVariants as how
 use Rattle.iceoryx2_service.specs.declared.command.Command.{Command}
 use Rattle.iceoryx2_service.specs.declared.command.Refusal.{Refusal}
 use Rattle.iceoryx2_service.specs.declared.command.Reply.{Reply}
+use Rattle.iceoryx2_rounds.specs.Answers.{map_err}
+use Rattle.iceoryx2_open_or_create.specs.declared.open_or_create.OpenOrCreateRefusal.{OpenOrCreateRefusal}
+use Rattle.iceoryx2_calls.specs.Attempts.{Attempt, IsAttempted}
+use Rattle.iceoryx2_calls.proofs.calls.Turns.{open_or_create_stands}
+use Rattle.iceoryx2_calls.proofs.calls.Attempts.{attempt_letters, attempt_tickets}
 use Rattle.iceoryx2_service.specs.BuilderCalls.{BuilderCall, with_refusal}
 use Rattle.iceoryx2_service.specs.Patterns.{builder_call}
 use Rattle.iceoryx2_service.specs.Slots.{slot_count, HoldsAt}
@@ -90,6 +95,18 @@ module _ {F E C : Type 0} (m : Meaning F E C) (node : ℕ) (hash : ServiceHash) 
   opened (Ok f) is run old = let o = open_stands (granted_call is) run old in (o.stands, o.new_ticket)
   opened (Err e) is run old = tt
 
+-- nor what the rounds call it
+mapped_tickets : {E X : Type 0} (w v : World) (f : X → E) (a : Result Factory X) → v.tickets ≡ tickets_after w.tickets (map_err f a)
+    → v.tickets ≡ tickets_after w.tickets a
+mapped_tickets w v f (Ok r) e = e
+mapped_tickets w v f (Err x) e = e
+
+attempted : {D F E C X : Type 0} (a : Attempt D F E C) (f : X → OpenOrCreateRefusal E C) {word : List Letter} (answer : Result Factory X) {w v : World}
+    → IsAttempted a word (map_err f answer) → Run IsFaulty w word v → Agrees w
+    → IfOk answer (λ r. Stands v r × (w.counter ≤ r.ticket))
+attempted a f (Ok r) is run old = open_or_create_stands (granted_call is) run old
+attempted a f (Err e) is run old = tt
+
 pub leaves : (h : How) (b : BuilderCall) (now : Result Span ClockFault) (answer : Result Factory Refusal) (s t : TableState)
     → Agrees s.world → Builds b h now s answer t → Leaves s.world answer t.world
 leaves how.Create b now answer s t old is =
@@ -109,6 +126,15 @@ leaves how.Open b now answer s t old is =
       given = rw is.1 (carried (λ f. Stands t.world f × (s.world.counter ≤ f.ticket)) b.refusal_of_open is.0 (opened b.opening b.node b.hash is.0 is_call run old));
       kept = λ f at. at_end _ (stands_throughout s.world is.2.word f (all_spared f is.2.word (open_call_letters is_call)) old at) run;
       tickets = rw is.1 (carried_tickets s.world t.world b.refusal_of_open is.0 (open_call_tickets is_call run));
+    }
+leaves how.OpenOrCreate b now answer s t old is =
+    let run = faulty is.2.run in
+    let is_call = as_prepared_word b.prepares is.2.is_word in
+    record {
+      agrees = agrees_after is.2.word is.2.run old;
+      given = rw is.1 (carried (λ f. Stands t.world f × (s.world.counter ≤ f.ticket)) b.refusal_of_open_or_create is.0 (attempted (b.attempt now) b.refusal_of_rounds is.0 is_call run old));
+      kept = λ f at. at_end _ (stands_throughout s.world is.2.word f (all_spared f is.2.word (attempt_letters is_call)) old at) run;
+      tickets = rw is.1 (carried_tickets s.world t.world b.refusal_of_open_or_create is.0 (mapped_tickets s.world t.world b.refusal_of_rounds is.0 (attempt_tickets is_call run)));
     }
 
 -- a close leaves each other factory standing

@@ -32,10 +32,12 @@ IsTimeless b = (h : How) (now : Result Span ClockFault) (s : TableState) (answer
 publish_subscribe_is_timeless : (b : publish_subscribe.PublishSubscribeRequest) (attributes : Requirements) → IsTimeless (publish_subscribe_call b attributes)
 publish_subscribe_is_timeless b attributes how.Create now s answer t is = is
 publish_subscribe_is_timeless b attributes how.Open now s answer t is = is
+publish_subscribe_is_timeless b attributes how.OpenOrCreate now s answer t is = is
 
 request_response_is_timeless : (b : request_response.RequestResponseRequest) (attributes : Requirements) → IsTimeless (request_response_call b attributes)
 request_response_is_timeless b attributes how.Create now s answer t is = is
 request_response_is_timeless b attributes how.Open now s answer t is = is
+request_response_is_timeless b attributes how.OpenOrCreate now s answer t is = is
 
 -- a command's call, of which this is known by its settings
 by_settings : (config : Config) (call : Call) (x : Settings) (s : TableState) (answer : Result Factory Refusal) (t : TableState) → call.settings ≡ x

@@ -28,6 +28,8 @@ use Rattle.iceoryx2_service.specs.CommandLists.{CarriesOut}
 use Rattle.iceoryx2_calls.specs.Quiet.{Quiet, Shows}
 use Rattle.iceoryx2_calls.specs.QuietCalls.{Creates, Opens, Closes}
 use Rattle.iceoryx2_calls.specs.QuietPrepared.{CreatesPrepared, OpensPrepared}
+use Rattle.iceoryx2_calls.specs.QuietAttempts.{Attempts, AttemptsPrepared}
+use Rattle.iceoryx2_rounds.specs.Answers.{map_err}
 use Rattle.iceoryx2_calls.specs.QuietLaws.{HoldsTheSame, times_opened}
 use Rattle.iceoryx2_calls.specs.QuietLists.{listing}
 
@@ -51,6 +53,11 @@ Answers q b how.Open now answer p =
     × IfPrepares b.prepares
     (OpensPrepared b.opening q b.node b.hash a p)
     (Opens b.opening q b.node b.hash a p)
+Answers q b how.OpenOrCreate now answer p =
+    (a : Result Factory b.open_or_create_error) × (answer ≡ with_refusal b.refusal_of_open_or_create a)
+    × IfPrepares b.prepares
+    (AttemptsPrepared (b.attempt now) q (map_err b.refusal_of_rounds a) p)
+    (Attempts (b.attempt now) q (map_err b.refusal_of_rounds a) p)
 
 -- A command with its reply moves the machine and the slots.
 pub data Moves (config : Config) (q : Quiet) (slots : List (Option Factory))

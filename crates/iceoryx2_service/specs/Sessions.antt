@@ -14,6 +14,8 @@ use Rattle.iceoryx2_access.specs.Factory.{Factory}
 use Rattle.iceoryx2_rounds.specs.Creates.{IsCreateWord}
 use Rattle.iceoryx2_rounds.specs.Opens.{IsOpenWord}
 use Rattle.iceoryx2_rounds.specs.Prepared.{IsCreateCall, IsOpenCall}
+use Rattle.iceoryx2_rounds.specs.Answers.{map_err}
+use Rattle.iceoryx2_calls.specs.Attempts.{IsAttempted, IsAttemptWord}
 use Rattle.iceoryx2_port_factory.specs.Closes.{IsCloseWord}
 use Rattle.iceoryx2_service.specs.declared.command.Call.{Call}
 use Rattle.iceoryx2_service.specs.declared.command.How.{How}
@@ -47,6 +49,11 @@ Builds b how.Open now s answer t =
     × Joins IsTableAccess s (λ word. IfPrepares b.prepares
     (IsOpenCall b.opening b.node b.hash word a)
     (IsOpenWord b.opening b.node b.hash word a)) t
+Builds b how.OpenOrCreate now s answer t =
+    (a : Result Factory b.open_or_create_error) × (answer ≡ with_refusal b.refusal_of_open_or_create a)
+    × Joins IsTableAccess s (λ word. IfPrepares b.prepares
+    (IsAttempted (b.attempt now) word (map_err b.refusal_of_rounds a))
+    (IsAttemptWord (b.attempt now) word (map_err b.refusal_of_rounds a))) t
 
 -- A factory is closed along a word of close, whatever it answers.
 abbrev pub ClosesFactory : TableState → Factory → TableState → Type 0

@@ -5,8 +5,9 @@ pub use iceoryx2_builder::builder::event::EventSetting;
 pub use iceoryx2_builder::builder::publish_subscribe::PublishSubscribeSetting;
 pub use iceoryx2_builder::builder::request_response::RequestResponseSetting;
 use iceoryx2_errors::error::{
-    EventCreateError, EventOpenError, PublishSubscribeCreateError, PublishSubscribeOpenError,
-    RequestResponseCreateError, RequestResponseOpenError,
+    EventCreateError, EventOpenError, EventOpenOrCreateError, PublishSubscribeCreateError,
+    PublishSubscribeOpenError, PublishSubscribeOpenOrCreateError, RequestResponseCreateError,
+    RequestResponseOpenError, RequestResponseOpenOrCreateError,
 };
 use iceoryx2_values::description::ServiceName;
 use iceoryx2_values::time::{ClockFault, Time};
@@ -17,6 +18,8 @@ use iceoryx2_world::listing::Entry;
 pub enum How {
     Create,
     Open,
+    /// Opened, or created where there is none.
+    OpenOrCreate,
 }
 
 /// The setters of one pattern's builder, in the order in which they are called.
@@ -37,7 +40,8 @@ pub struct Call {
     pub slot: usize,
     pub name: ServiceName,
     pub settings: Settings,
-    /// What an open requires. A create defines the required pairs, and ignores the keys.
+    /// What an open requires. A create, also that of an open or create, defines the required pairs, and
+    /// ignores the keys.
     pub attributes: AttributeVerifier,
     /// The time, for what is created with a deadline.
     pub now: Result<Time, ClockFault>,
@@ -58,10 +62,13 @@ pub enum Command {
 pub enum Refusal {
     EventOpen(EventOpenError),
     EventCreate(EventCreateError),
+    EventOpenOrCreate(EventOpenOrCreateError),
     PublishSubscribeOpen(PublishSubscribeOpenError),
     PublishSubscribeCreate(PublishSubscribeCreateError),
+    PublishSubscribeOpenOrCreate(PublishSubscribeOpenOrCreateError),
     RequestResponseOpen(RequestResponseOpenError),
     RequestResponseCreate(RequestResponseCreateError),
+    RequestResponseOpenOrCreate(RequestResponseOpenOrCreateError),
 }
 
 /// What a session answers.

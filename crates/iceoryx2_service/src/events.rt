@@ -50,5 +50,11 @@ pub fn call(
             Ok(factory) => Ok(OpenService::event(factory)),
             Err(error) => Err(Refusal::EventOpen(error)),
         },
+        How::OpenOrCreate => {
+            match builder.open_or_create_with_attributes(&attributes, table, now) {
+                Ok(factory) => Ok(OpenService::event(factory)),
+                Err(error) => Err(Refusal::EventOpenOrCreate(error)),
+            }
+        }
     }
 }

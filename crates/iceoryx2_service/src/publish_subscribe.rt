@@ -54,5 +54,11 @@ pub fn call(
             Ok(factory) => Ok(OpenService::publish_subscribe(factory)),
             Err(error) => Err(Refusal::PublishSubscribeOpen(error)),
         },
+        How::OpenOrCreate => {
+            match builder.open_or_create_with_attributes(&attributes, table) {
+                Ok(factory) => Ok(OpenService::publish_subscribe(factory)),
+                Err(error) => Err(Refusal::PublishSubscribeOpenOrCreate(error)),
+            }
+        }
     }
 }

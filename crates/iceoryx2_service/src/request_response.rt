@@ -60,5 +60,11 @@ pub fn call(
             Ok(factory) => Ok(OpenService::request_response(factory)),
             Err(error) => Err(Refusal::RequestResponseOpen(error)),
         },
+        How::OpenOrCreate => {
+            match builder.open_or_create_with_attributes(&attributes, table) {
+                Ok(factory) => Ok(OpenService::request_response(factory)),
+                Err(error) => Err(Refusal::RequestResponseOpenOrCreate(error)),
+            }
+        }
     }
 }

@@ -38,11 +38,13 @@ without_end_of line = without_last 13 (without_last 10 line)
 abbrev pub how_word : How → List ℕ
 how_word how.Create = codes "create"
 how_word how.Open = codes "open"
+how_word how.OpenOrCreate = codes "open_or_create"
 
 -- which of the words that every pattern has go with such a call: the time where the pattern's creates are told it
 abbrev pub admitted_of : (has_clock : Bool) → How → Admitted
 admitted_of has_clock how.Create = record { now = has_clock; require_key = false }
 admitted_of has_clock how.Open = record { now = false; require_key = true }
+admitted_of has_clock how.OpenOrCreate = record { now = has_clock; require_key = true }
 
 -- The words are a call in a pattern's vocabulary. Those behind the name make all of it that the first five don't.
 pub record SaysNamedCall {N S : Type 0} (v : Vocabulary N S) (words : List (List ℕ)) (call : NamedCall S)

@@ -9,6 +9,8 @@ use Rattle.iceoryx2_data.specs.Form.{IsForm}
 use Rattle.iceoryx2_errors.specs.Texts.{event_open_error_name, event_create_error_name}
 use Rattle.iceoryx2_errors.specs.Texts.{publish_subscribe_open_error_name, publish_subscribe_create_error_name}
 use Rattle.iceoryx2_errors.specs.Texts.{request_response_open_error_name, request_response_create_error_name}
+use Rattle.iceoryx2_errors.specs.Texts.{event_open_or_create_error_name, publish_subscribe_open_or_create_error_name}
+use Rattle.iceoryx2_errors.specs.Texts.{request_response_open_or_create_error_name}
 use Rattle.iceoryx2_world.specs.declared.listing.Entry.{Entry}
 use Rattle.iceoryx2_world.specs.declared.listing.ListedRow.TheVariants as listed
 use Rattle.iceoryx2_world.specs.declared.listing.ListedSegment.{ListedSegment}
@@ -21,13 +23,19 @@ use Rattle.iceoryx2_service.specs.declared.command.Reply.TheVariants as reply
 abbrev pub refusal_text : Refusal → List ℕ
 refusal_text (refusal.EventOpen e) = codes "EventOpenError::" ++ event_open_error_name e
 refusal_text (refusal.EventCreate e) = codes "EventCreateError::" ++ event_create_error_name e
+refusal_text (refusal.EventOpenOrCreate e) =
+    codes "EventOpenOrCreateError::" ++ event_open_or_create_error_name e
 refusal_text (refusal.PublishSubscribeOpen e) =
     codes "PublishSubscribeOpenError::" ++ publish_subscribe_open_error_name e
 refusal_text (refusal.PublishSubscribeCreate e) =
     codes "PublishSubscribeCreateError::" ++ publish_subscribe_create_error_name e
+refusal_text (refusal.PublishSubscribeOpenOrCreate e) =
+    codes "PublishSubscribeOpenOrCreateError::" ++ publish_subscribe_open_or_create_error_name e
 refusal_text (refusal.RequestResponseOpen e) = codes "RequestResponseOpenError::" ++ request_response_open_error_name e
 refusal_text (refusal.RequestResponseCreate e) =
     codes "RequestResponseCreateError::" ++ request_response_create_error_name e
+refusal_text (refusal.RequestResponseOpenOrCreate e) =
+    codes "RequestResponseOpenOrCreateError::" ++ request_response_open_or_create_error_name e
 
 -- the word by which a pattern's command lines begin
 abbrev pub pattern_word : MessagingPattern → List ℕ

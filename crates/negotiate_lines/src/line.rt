@@ -130,6 +130,7 @@ fn how_of(word: &str) -> Option<How>
     match word {
         "create" => Some(How::Create),
         "open" => Some(How::Open),
+        "open_or_create" => Some(How::OpenOrCreate),
         _ => None,
     }
 }
@@ -145,6 +146,10 @@ fn admitted<V: HasVocabulary>(how: How) -> Admitted
         },
         How::Open => Admitted {
             now: false,
+            require_key: true,
+        },
+        How::OpenOrCreate => Admitted {
+            now: V::has_clock(),
             require_key: true,
         },
     }

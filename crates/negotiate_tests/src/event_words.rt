@@ -53,6 +53,11 @@ const SCRIPTS: &[(&str, &str)] = &[
         "event create 1 0 a max_nodes=9 deadline=1,0 max_nodes=2 deadline=none\nevent open 2 1 a deadline=none max_nodes=3 max_nodes=2\nlist\n",
         "ok 0 number=0\nok 1 number=0\nevent a 2c80b2a2bbaf51fb8c37a202457e983be837343e number=0 nodes=2/2\n1 services\n",
     ),
+    // An open or create takes the words of both calls.
+    (
+        "event open_or_create 1 0 a\nevent open_or_create 1 1 a require_key=k\nevent open_or_create 1 1 b deadline=1,0 now=fault\nevent open_or_create 2 1 a\n",
+        "ok 0 number=0\nEventOpenOrCreateError::EventOpenError(IncompatibleAttributes)\nEventOpenOrCreateError::EventCreateError(InternalFailure)\nok 1 number=0\n",
+    ),
     // The clock is read only for a deadline, and the last word of it stands.
     (
         "event create 1 0 a deadline=1,0 now=fault\nevent create 1 1 a now=fault\nevent create 1 2 b now=fault deadline=1,0 now=1,2\nevent create 1 3 c deadline=1,0 now=1,2 now=fault\n",

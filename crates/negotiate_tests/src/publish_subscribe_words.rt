@@ -63,6 +63,10 @@ const SCRIPTS: &[(&str, &str)] = &[
         "pubsub create 1 0 a attribute=k:v\npubsub open 2 1 a attribute=k:w\npubsub open 2 1 a require_key=k\n",
         "ok 0 number=0\nPublishSubscribeOpenError::IncompatibleAttributes\nok 1 number=0\n",
     ),
+    (
+        "pubsub open_or_create 1 0 a enable_safe_overflow=false history_size=3\npubsub open_or_create 1 0 a\npubsub open_or_create 2 1 a payload=fixed,u8,1,1\n",
+        "PublishSubscribeOpenOrCreateError::PublishSubscribeCreateError(SubscriberBufferMustBeLargerThanHistorySize)\nok 0 number=0\nPublishSubscribeOpenOrCreateError::PublishSubscribeOpenError(IncompatibleTypes)\n",
+    ),
     // Services of two patterns may have one name.
     (
         "pubsub open 1 1 a\nevent create 1 0 a\npubsub create 1 1 a\npubsub create 2 2 a\nlist\n",

@@ -113,6 +113,10 @@ const SCRIPTS: &[(&str, &str)] = &[
         "rr create 1 0 a attribute=k:v\nrr open 2 1 a require_key=i\nrr open 2 1 a require_key=k\n",
         "ok 0 number=0\nRequestResponseOpenError::IncompatibleAttributes\nok 1 number=0\n",
     ),
+    (
+        "rr open_or_create 1 0 a request_payload=fixed,u64,8,8\nrr open_or_create 2 1 a request_payload=fixed,u32,4,4\n",
+        "ok 0 number=0\nRequestResponseOpenOrCreateError::RequestResponseOpenError(IncompatibleRequestType)\n",
+    ),
     // Services of three patterns may have one name.
     (
         "rr open 1 0 oot\nevent create 1 0 oot\npubsub create 1 1 oot\nrr create 1 2 oot\nrr create 2 3 oot\nlist\n",

@@ -14,6 +14,8 @@ mod events;
 #[cfg(test)]
 mod names;
 #[cfg(test)]
+mod open_or_create;
+#[cfg(test)]
 mod publish_subscribe;
 #[cfg(test)]
 mod readme;

@@ -3,5 +3,5 @@
 mod attributes;
 mod calls;
 mod storages;
-mod support;
+pub mod support;
 mod typed;

@@ -2,4 +2,4 @@
 
 mod faults;
 pub mod scripts;
-mod support;
+pub mod support;

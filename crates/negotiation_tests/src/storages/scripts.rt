@@ -3,7 +3,7 @@
 use self::AccessAnswer::*;
 use crate::storages::support::*;
 use iceoryx2_access::storage::{
-    Existence, FetchError, MakeSegmentError, OpenSegmentError, PublishError, Tag,
+    Existence, FetchError, LockError, MakeSegmentError, OpenSegmentError, PublishError, Tag,
 };
 use iceoryx2_errors::error::{EventCreateError, EventOpenError};
 use iceoryx2_script::script::{self, Script, Scripted};
@@ -12,7 +12,8 @@ use std::process::Abort;
 
 /// The service of these tests with the default settings, as other programs write it, in hexadecimal
 /// digits.
-const COMPATIBLE: &str = "494f583201c3499c2729730a7f807efb8676a92dcb6f8a3f8f000678616d706c65000001\
+pub const COMPATIBLE: &str =
+    "494f583201c3499c2729730a7f807efb8676a92dcb6f8a3f8f000678616d706c65000001\
                           0000000000000010000000000000001000000000000000ff000000000000002400000000";
 
 /// The same with another hash.
@@ -35,6 +36,8 @@ pub enum AccessAnswer {
     MakeTag(Tag),
     RemoveTag,
     Lock(u64),
+    /// Somebody else creates the service.
+    LockTaken,
     MakeSegment(Result<(), MakeSegmentError>),
     RemoveSegment,
     RemoveDescription,
@@ -57,6 +60,7 @@ fn answer(rt: &impl Abort, alloc: Global, answer: AccessAnswer) -> script::Answe
         MakeTag(tag) => script::Answer::MakeTag(Ok(tag)),
         RemoveTag => script::Answer::RemoveTag(Ok(())),
         Lock(number) => script::Answer::Lock(Ok(number)),
+        LockTaken => script::Answer::Lock(Err(LockError::Creation)),
         MakeSegment(answer) => script::Answer::MakeSegment(answer),
         RemoveSegment => script::Answer::RemoveSegment(Ok(())),
         RemoveDescription => script::Answer::RemoveDescription(Ok(())),
@@ -66,7 +70,7 @@ fn answer(rt: &impl Abort, alloc: Global, answer: AccessAnswer) -> script::Answe
 }
 
 /// Puts answers behind others.
-fn push_all(
+pub fn push_all(
     rt: &impl Abort,
     alloc: Global,
     answers: &mut Vec<script::Answer>,

@@ -1,0 +1,220 @@
+//! Open or create: over storages that answer from a list, and over a table.
+
+use crate::publish_subscribe::support::Ask::{Buffer, History, Nodes, Overflow};
+use crate::publish_subscribe::support::{self as subscribe, Ask, Given, asking, given};
+use crate::storages::scripts::AccessAnswer::*;
+use crate::storages::scripts::{AccessAnswer, COMPATIBLE, Counters, push_all};
+use crate::storages::support::events;
+use crate::support::{Pairs, assert_same, drop_table, table_from, verifier};
+use iceoryx2_access::storage::{Existence, OpenSegmentError, Service, Tag};
+use iceoryx2_errors::error::{
+    EventCreateError, EventOpenError, EventOpenOrCreateError, PublishSubscribeCreateError,
+    PublishSubscribeOpenError, PublishSubscribeOpenOrCreateError,
+};
+use iceoryx2_script::script::{Script, Scripted};
+use iceoryx2_storage::local::Local;
+use iceoryx2_storage::table::Table;
+use iceoryx2_values::time::Time;
+use std::alloc::Global;
+use std::process::Abort;
+
+/// The service of publish-subscribe of these tests for this many nodes, as other programs write it.
+const FOR_TWENTY: &str = "494f5832015fa253adf3bd935e11ffb7e02778106a71533f98000678616d706c65000002\
+                          0000000000000002000000000000000800000000000000020000000000000000\
+                          0000000000000002010000000000000014\
+                          0000197075626c6973685f7375627363726962653a3a48656164657200000000000000200000000000000008\
+                          000012437573746f6d4865616465724d61726b657200000000000000000000000000000001\
+                          010013437573746f6d5061796c6f61644d61726b657200000000000000010000000000000001";
+
+/// The same for none.
+const FOR_NONE: &str = "494f5832015fa253adf3bd935e11ffb7e02778106a71533f98000678616d706c65000002\
+                        0000000000000002000000000000000800000000000000020000000000000000\
+                        0000000000000002010000000000000000\
+                        0000197075626c6973685f7375627363726962653a3a48656164657200000000000000200000000000000008\
+                        000012437573746f6d4865616465724d61726b657200000000000000000000000000000001\
+                        010013437573746f6d5061796c6f61644d61726b657200000000000000010000000000000001";
+
+/// A round in which somebody else is faster.
+const TOO_LATE: &[AccessAnswer] = &[
+    Exists(Existence::No),
+    Exists(Existence::No),
+    Counts(false),
+    MakeTag(Tag::Made),
+    LockTaken,
+    RemoveTag,
+];
+
+/// What an open or create of events answers, with the number of what it gives.
+fn event<S: Service>(
+    rt: &impl Abort,
+    alloc: Global,
+    storage: &mut S::Storage,
+    (node, max_nodes): (u64, Option<u64>),
+    (pairs, keys): (Pairs, &[&str]),
+) -> Result<u64, EventOpenOrCreateError> {
+    let builder = match max_nodes {
+        Some(value) => events::<S>(rt, alloc, node).max_nodes(value),
+        None => events::<S>(rt, alloc, node),
+    };
+    let verifier = verifier(alloc, pairs, keys);
+    match builder.open_or_create_with_attributes(&verifier, storage, Ok(Time::default())) {
+        Ok(factory) => {
+            let number = factory.number();
+            factory.abandon();
+            Ok(number)
+        }
+        Err(error) => Err(error),
+    }
+}
+
+/// What an open or create of publish-subscribe answers.
+fn publish_subscribe<S: Service>(
+    rt: &impl Abort,
+    alloc: Global,
+    storage: &mut S::Storage,
+    asks: &[Ask],
+) -> Result<Given, PublishSubscribeOpenOrCreateError> {
+    match asking::<S>(rt, alloc, 1, asks).open_or_create(storage) {
+        Ok(factory) => Ok(given(factory)),
+        Err(error) => Err(error),
+    }
+}
+
+/// Six rounds of which each finds this service, whose segment is never the one that was found.
+fn replaced(rt: &impl Abort, alloc: Global, description: &'static str) -> Script {
+    let found = [Exists(Existence::Yes), Fetch(Ok((3, description)))];
+    let failed = [
+        MakeTag(Tag::Made),
+        OpenSegment(Err(OpenSegmentError::Failed)),
+    ];
+    let mut answers = Vec::new(alloc);
+    for _round in 0..6 {
+        push_all(rt, alloc, &mut answers, &found);
+        for _opening in 0..6 {
+            push_all(rt, alloc, &mut answers, &found);
+            push_all(rt, alloc, &mut answers, &failed);
+            push_all(rt, alloc, &mut answers, &found);
+            push_all(rt, alloc, &mut answers, &[RemoveTag]);
+        }
+    }
+    Script::new(answers)
+}
+
+/// The counters of a script, and how many answers are left of it.
+fn counters(script: &Script) -> (Counters, usize) {
+    let counters = (script.looks(), script.openings(), script.makings());
+    (counters, script.left().len())
+}
+
+/// A script of these parts.
+fn script(rt: &impl Abort, alloc: Global, parts: &[&[AccessAnswer]]) -> Script {
+    let mut answers = Vec::new(alloc);
+    for part in parts {
+        push_all(rt, alloc, &mut answers, part);
+    }
+    Script::new(answers)
+}
+
+#[test]
+fn six_rounds_end_in_flux(rt: HostRuntime) {
+    let mut late = script(&rt, rt.alloc(), &[TOO_LATE; 6]);
+    let found = event::<Scripted>(&rt, rt.alloc(), &mut late, (1, None), (&[], &[]));
+    let wanted = Err(EventOpenOrCreateError::SystemInFlux);
+    assert_same(&rt, (found, counters(&late)), (wanted, ((12, 0, 0), 0)));
+    let mut gone = replaced(&rt, rt.alloc(), FOR_TWENTY);
+    let found = publish_subscribe::<Scripted>(&rt, rt.alloc(), &mut gone, &[]);
+    let wanted = Err(PublishSubscribeOpenOrCreateError::SystemInFlux);
+    assert_same(&rt, (found, counters(&gone)), (wanted, ((78, 36, 0), 0)));
+}
+
+#[test]
+fn events_open_once(rt: HostRuntime) {
+    let mut gone = replaced(&rt, rt.alloc(), COMPATIBLE);
+    let found = event::<Scripted>(&rt, rt.alloc(), &mut gone, (1, None), (&[], &[]));
+    let why = EventOpenError::ServiceInCorruptedState;
+    let wanted = Err(EventOpenOrCreateError::EventOpenError(why));
+    let (counts, _left) = counters(&gone);
+    assert_same(&rt, (found, counts), (wanted, (13, 6, 0)));
+}
+
+#[test]
+fn a_look_of_its_own_is_not_tried_again(rt: HostRuntime) {
+    let mut empty = script(&rt, rt.alloc(), &[]);
+    let found = publish_subscribe::<Scripted>(&rt, rt.alloc(), &mut empty, &[]);
+    let why = PublishSubscribeOpenError::ServiceInCorruptedState;
+    let wanted = Err(PublishSubscribeOpenOrCreateError::PublishSubscribeOpenError(why));
+    assert_same(&rt, (found, counters(&empty)), (wanted, ((1, 0, 0), 0)));
+}
+
+#[test]
+fn what_a_create_raised_stays_raised(rt: HostRuntime) {
+    let there = [Exists(Existence::Yes), Fetch(Ok((3, FOR_NONE)))];
+    let mut later = script(&rt, rt.alloc(), &[TOO_LATE, &there, &there]);
+    let found = publish_subscribe::<Scripted>(&rt, rt.alloc(), &mut later, &[Nodes(0)]);
+    let why = PublishSubscribeOpenError::DoesNotSupportRequestedAmountOfNodes;
+    let wanted = Err(PublishSubscribeOpenOrCreateError::PublishSubscribeOpenError(why));
+    assert_same(&rt, (found, counters(&later)), (wanted, ((4, 0, 0), 0)));
+}
+
+/// What two nodes' open or create answer over a table that begins here, the second with these keys.
+fn both(
+    rt: &impl Abort,
+    alloc: Global,
+    counter: u64,
+    max_nodes: Option<u64>,
+    keys: &[&str],
+) -> [Result<u64, EventOpenOrCreateError>; 2] {
+    let mut table = table_from(alloc, counter);
+    let first = event::<Local>(rt, alloc, &mut table, (1, max_nodes), (&[], &[]));
+    let second = event::<Local>(rt, alloc, &mut table, (2, max_nodes), (&[], keys));
+    drop_table(table);
+    [first, second]
+}
+
+#[test]
+fn a_second_node_opens_what_the_first_created(rt: HostRuntime) {
+    let not_opened = |why| Err(EventOpenOrCreateError::EventOpenError(why));
+    let found = both(&rt, rt.alloc(), 0, None, &[]);
+    assert_same(&rt, found, [Ok(0), Ok(0)]);
+    let found = both(&rt, rt.alloc(), 0, None, &["k"]);
+    let wanted = [Ok(0), not_opened(EventOpenError::IncompatibleAttributes)];
+    assert_same(&rt, found, wanted);
+    let found = both(&rt, rt.alloc(), 0, Some(1), &[]);
+    let wanted = [Ok(0), not_opened(EventOpenError::ExceedsMaxNumberOfNodes)];
+    assert_same(&rt, found, wanted);
+    let found = both(&rt, rt.alloc(), u64::MAX, None, &[]);
+    let no_number = Err(EventOpenOrCreateError::EventCreateError(
+        EventCreateError::InternalFailure,
+    ));
+    assert_same(&rt, found, [no_number, no_number]);
+}
+
+/// What an open or create answers that wants a longer history than its buffer has room for, where these
+/// settings have created the service, if any.
+fn with_history(
+    rt: &impl Abort,
+    alloc: Global,
+    existing: Option<&[Ask]>,
+) -> Result<Given, PublishSubscribeOpenOrCreateError> {
+    let mut table: Table = table_from(alloc, 0);
+    match existing {
+        Some(asks) => {
+            let _created = subscribe::create::<Local>(rt, alloc, &mut table, 2, asks);
+        }
+        None => {}
+    }
+    let asks = [Overflow(false), Buffer(1), History(2)];
+    let answer = publish_subscribe::<Local>(rt, alloc, &mut table, &asks);
+    drop_table(table);
+    answer
+}
+
+#[test]
+fn a_history_is_refused_where_it_would_be_created(rt: HostRuntime) {
+    let why = PublishSubscribeCreateError::SubscriberBufferMustBeLargerThanHistorySize;
+    let refused = Err(PublishSubscribeOpenOrCreateError::PublishSubscribeCreateError(why));
+    assert_same(&rt, with_history(&rt, rt.alloc(), None), refused);
+    let there = [Overflow(false), Buffer(4), History(2)];
+    let opened = Ok((0, [2, 8, 4, 2, 2, 20], false, 1));
+    assert_same(&rt, with_history(&rt, rt.alloc(), Some(&there)), opened);
+}
