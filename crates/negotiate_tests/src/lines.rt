@@ -36,7 +36,6 @@ const NO_COMMANDS: &[&str] = &[
     "event create 0x1 0 a",
     "Event create 1 0 a",
     "event Create 1 0 a",
-    "event open_or_create 1 0 a",
     "pubsub create 1 64 a",
     "Pubsub create 1 0 a",
     "rr create 1 64 a",
