@@ -225,7 +225,7 @@ fn a_service_of_request_response_is_opened_where_it_offers_what_is_asked(rt: Hos
 const MESSAGES: &[(Asks, Messages)] = &[
     (
         &[ResponseAlignment(4)],
-        [
+        &[
             [
                 (FixedSize, "request_response::RequestHeader", 32, 8),
                 (FixedSize, "CustomHeaderMarker", 0, 1),
@@ -246,7 +246,7 @@ const MESSAGES: &[(Asks, Messages)] = &[
             RequestAlignment(64),
             Request(I64),
         ],
-        [
+        &[
             [
                 (FixedSize, "request_response::RequestHeader", 32, 8),
                 U32,

@@ -136,14 +136,16 @@ fn given<Q, QU, R, RU>(factory: PortFactory<Local, Q, QU, R, RU>) -> Given {
     given
 }
 
-/// What a request and a response of a service are made of.
-pub type Messages = [[Told<'static>; 3]; 2];
+/// What a request and then a response of a service are made of.
+pub type Messages = &'static [[Told<'static>; 3]];
 
 /// Whether this is told of requests and of responses.
 pub fn are_of(settings: &StaticConfig, messages: Messages) -> bool {
-    let [request, response] = messages;
-    let requests_are = consists_of(&settings.request_message_type_details, request);
-    let responses_are = consists_of(&settings.response_message_type_details, response);
+    let [request, response] = messages else {
+        return false;
+    };
+    let requests_are = consists_of(&settings.request_message_type_details, *request);
+    let responses_are = consists_of(&settings.response_message_type_details, *response);
     requests_are && responses_are
 }
 

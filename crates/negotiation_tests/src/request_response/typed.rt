@@ -94,7 +94,7 @@ fn a_service_has_its_own_requests_and_responses(rt: HostRuntime) {
 type Told = PortFactory<Local, Slice<CustomPayloadMarker>, u32, Slice<CustomPayloadMarker>, u64>;
 
 /// What its requests and responses are made of.
-const MESSAGES: Messages = [
+const MESSAGES: Messages = &[
     [
         (FixedSize, "request_response::RequestHeader", 32, 8),
         U32,
