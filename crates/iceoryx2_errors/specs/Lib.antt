@@ -1,2 +1,3 @@
 pub mod Texts
 pub mod States
+pub mod AnyError

@@ -1,6 +1,7 @@
 //! Why calls are refused, and what their texts are.
 
 ghost use Rattle.std.specs.Prelude.{◌≡◌, ◌++◌, codes, Some};
+ghost use Rattle.iceoryx2_errors.specs.AnyError.{AnyError, text_of};
 ghost use Rattle.iceoryx2_errors.specs.Texts.{close_error_name};
 
 use std::error::Error;
@@ -17,6 +18,11 @@ pub use publish_subscribe::{
 pub use request_response::{
     RequestResponseCreateError, RequestResponseOpenError, RequestResponseOpenOrCreateError,
 };
+
+/// An error is known by its text: of the 163 values of the nine enums, no two have the same one.
+pub fn laws()
+    ensures { (one other : AnyError) → text_of one ≡ text_of other → one ≡ other }
+{}
 
 /// What a look finds wrong, whatever the pattern.
 #[derive(Debug, Clone, Copy, PartialEq, Eq, Hash)]

@@ -1,0 +1,215 @@
+-- An error is read from its text, so no two have the same one.
+use Rattle.std.proofs.Common.{◌≡◌, ℕ, List, [], ◌∷◌, ◌++◌, Option, Some, None, refl, sym, ◌∙◌, ap}
+use Rattle.std.specs.Prelude.{bytes_eq, map, if◌then◌else◌}
+use Rattle.iceoryx2_errors.specs.AnyError.{AnyError, text_of}
+use Rattle.iceoryx2_errors.specs.AnyError.{EventOpen, EventCreate, EventOpenOrCreate}
+use Rattle.iceoryx2_errors.specs.AnyError.{PublishSubscribeOpen, PublishSubscribeCreate, PublishSubscribeOpenOrCreate}
+use Rattle.iceoryx2_errors.specs.AnyError.{RequestResponseOpen, RequestResponseCreate, RequestResponseOpenOrCreate}
+use Rattle.iceoryx2_errors.specs.declared.error.events.EventOpenError.{EventOpenError}
+use Rattle.iceoryx2_errors.specs.declared.error.events.EventOpenError.TheVariants as opening
+use Rattle.iceoryx2_errors.specs.declared.error.events.EventCreateError.{EventCreateError}
+use Rattle.iceoryx2_errors.specs.declared.error.events.EventCreateError.TheVariants as creating
+use Rattle.iceoryx2_errors.specs.declared.error.events.EventOpenOrCreateError.{EventOpenOrCreateError}
+use Rattle.iceoryx2_errors.specs.declared.error.events.EventOpenOrCreateError.TheVariants as event_either
+use Rattle.iceoryx2_errors.specs.declared.error.publish_subscribe.PublishSubscribeOpenError.{PublishSubscribeOpenError}
+use Rattle.iceoryx2_errors.specs.declared.error.publish_subscribe.PublishSubscribeOpenError.TheVariants as subscribe_opening
+use Rattle.iceoryx2_errors.specs.declared.error.publish_subscribe.PublishSubscribeCreateError.{PublishSubscribeCreateError}
+use Rattle.iceoryx2_errors.specs.declared.error.publish_subscribe.PublishSubscribeCreateError.TheVariants as subscribe_creating
+use Rattle.iceoryx2_errors.specs.declared.error.publish_subscribe.PublishSubscribeOpenOrCreateError.{PublishSubscribeOpenOrCreateError}
+use Rattle.iceoryx2_errors.specs.declared.error.publish_subscribe.PublishSubscribeOpenOrCreateError.TheVariants as subscribe_either
+use Rattle.iceoryx2_errors.specs.declared.error.request_response.RequestResponseOpenError.{RequestResponseOpenError}
+use Rattle.iceoryx2_errors.specs.declared.error.request_response.RequestResponseOpenError.TheVariants as request_opening
+use Rattle.iceoryx2_errors.specs.declared.error.request_response.RequestResponseCreateError.{RequestResponseCreateError}
+use Rattle.iceoryx2_errors.specs.declared.error.request_response.RequestResponseCreateError.TheVariants as request_creating
+use Rattle.iceoryx2_errors.specs.declared.error.request_response.RequestResponseOpenOrCreateError.{RequestResponseOpenOrCreateError}
+use Rattle.iceoryx2_errors.specs.declared.error.request_response.RequestResponseOpenOrCreateError.TheVariants as request_either
+
+abbrev event_open_errors : List EventOpenError
+event_open_errors =
+    opening.DoesNotExist ∷
+    opening.InsufficientPermissions ∷
+    opening.ServiceInCorruptedState ∷
+    opening.IncompatibleMessagingPattern ∷
+    opening.IncompatibleAttributes ∷
+    opening.InternalFailure ∷
+    opening.IncompatibleDeadline ∷
+    opening.IncompatibleNotifierCreatedEvent ∷
+    opening.IncompatibleNotifierDroppedEvent ∷
+    opening.IncompatibleNotifierDeadEvent ∷
+    opening.HangsInCreation ∷
+    opening.DoesNotSupportRequestedAmountOfNotifiers ∷
+    opening.DoesNotSupportRequestedAmountOfListeners ∷
+    opening.DoesNotSupportRequestedMaxEventId ∷
+    opening.DoesNotSupportRequestedAmountOfNodes ∷
+    opening.ExceedsMaxNumberOfNodes ∷
+    opening.IsMarkedForDestruction ∷
+    opening.OutOfMemory ∷
+    []
+
+abbrev event_create_errors : List EventCreateError
+event_create_errors =
+    creating.ServiceInCorruptedState ∷
+    creating.InternalFailure ∷
+    creating.IsBeingCreatedByAnotherInstance ∷
+    creating.AlreadyExists ∷
+    creating.HangsInCreation ∷
+    creating.InsufficientPermissions ∷
+    creating.OutOfMemory ∷
+    []
+
+abbrev publish_subscribe_open_errors : List PublishSubscribeOpenError
+publish_subscribe_open_errors =
+    subscribe_opening.DoesNotExist ∷
+    subscribe_opening.InternalFailure ∷
+    subscribe_opening.IncompatibleTypes ∷
+    subscribe_opening.IncompatibleMessagingPattern ∷
+    subscribe_opening.IncompatibleAttributes ∷
+    subscribe_opening.DoesNotSupportRequestedMinBufferSize ∷
+    subscribe_opening.DoesNotSupportRequestedMinHistorySize ∷
+    subscribe_opening.DoesNotSupportRequestedMinSubscriberBorrowedSamples ∷
+    subscribe_opening.DoesNotSupportRequestedAmountOfPublishers ∷
+    subscribe_opening.DoesNotSupportRequestedAmountOfSubscribers ∷
+    subscribe_opening.DoesNotSupportRequestedAmountOfNodes ∷
+    subscribe_opening.IncompatibleOverflowBehavior ∷
+    subscribe_opening.InsufficientPermissions ∷
+    subscribe_opening.ServiceInCorruptedState ∷
+    subscribe_opening.HangsInCreation ∷
+    subscribe_opening.ExceedsMaxNumberOfNodes ∷
+    subscribe_opening.IsMarkedForDestruction ∷
+    subscribe_opening.OutOfMemory ∷
+    []
+
+abbrev publish_subscribe_create_errors : List PublishSubscribeCreateError
+publish_subscribe_create_errors =
+    subscribe_creating.ServiceInCorruptedState ∷
+    subscribe_creating.SubscriberBufferMustBeLargerThanHistorySize ∷
+    subscribe_creating.AlreadyExists ∷
+    subscribe_creating.InsufficientPermissions ∷
+    subscribe_creating.InternalFailure ∷
+    subscribe_creating.IsBeingCreatedByAnotherInstance ∷
+    subscribe_creating.HangsInCreation ∷
+    subscribe_creating.OutOfMemory ∷
+    []
+
+abbrev request_response_open_errors : List RequestResponseOpenError
+request_response_open_errors =
+    request_opening.DoesNotExist ∷
+    request_opening.DoesNotSupportRequestedAmountOfClientRequestLoans ∷
+    request_opening.DoesNotSupportRequestedAmountOfActiveRequestsPerClient ∷
+    request_opening.DoesNotSupportRequestedResponseBufferSize ∷
+    request_opening.DoesNotSupportRequestedAmountOfServers ∷
+    request_opening.DoesNotSupportRequestedAmountOfClients ∷
+    request_opening.DoesNotSupportRequestedAmountOfNodes ∷
+    request_opening.DoesNotSupportRequestedAmountOfBorrowedResponsesPerPendingResponse ∷
+    request_opening.ExceedsMaxNumberOfNodes ∷
+    request_opening.HangsInCreation ∷
+    request_opening.IncompatibleRequestType ∷
+    request_opening.IncompatibleResponseType ∷
+    request_opening.IncompatibleAttributes ∷
+    request_opening.IncompatibleMessagingPattern ∷
+    request_opening.IncompatibleOverflowBehaviorForRequests ∷
+    request_opening.IncompatibleOverflowBehaviorForResponses ∷
+    request_opening.IncompatibleBehaviorForFireAndForgetRequests ∷
+    request_opening.InsufficientPermissions ∷
+    request_opening.InternalFailure ∷
+    request_opening.IsMarkedForDestruction ∷
+    request_opening.ServiceInCorruptedState ∷
+    request_opening.OutOfMemory ∷
+    []
+
+abbrev request_response_create_errors : List RequestResponseCreateError
+request_response_create_errors =
+    request_creating.AlreadyExists ∷
+    request_creating.InternalFailure ∷
+    request_creating.IsBeingCreatedByAnotherInstance ∷
+    request_creating.InsufficientPermissions ∷
+    request_creating.HangsInCreation ∷
+    request_creating.ServiceInCorruptedState ∷
+    request_creating.OutOfMemory ∷
+    []
+
+abbrev event_open_or_create_errors : List EventOpenOrCreateError
+event_open_or_create_errors = event_either.SystemInFlux ∷
+    map (λ e. event_either.EventOpenError e) event_open_errors ++ map (λ e. event_either.EventCreateError e) event_create_errors
+
+abbrev publish_subscribe_open_or_create_errors : List PublishSubscribeOpenOrCreateError
+publish_subscribe_open_or_create_errors = subscribe_either.SystemInFlux ∷
+    map (λ e. subscribe_either.PublishSubscribeOpenError e) publish_subscribe_open_errors ++ map (λ e. subscribe_either.PublishSubscribeCreateError e) publish_subscribe_create_errors
+
+abbrev request_response_open_or_create_errors : List RequestResponseOpenOrCreateError
+request_response_open_or_create_errors = request_either.SystemInFlux ∷
+    map (λ e. request_either.RequestResponseOpenError e) request_response_open_errors ++ map (λ e. request_either.RequestResponseCreateError e) request_response_create_errors
+
+abbrev all_errors : List AnyError
+all_errors =
+    map (λ e. EventOpen e) event_open_errors ++
+    map (λ e. EventCreate e) event_create_errors ++
+    map (λ e. EventOpenOrCreate e) event_open_or_create_errors ++
+    map (λ e. PublishSubscribeOpen e) publish_subscribe_open_errors ++
+    map (λ e. PublishSubscribeCreate e) publish_subscribe_create_errors ++
+    map (λ e. PublishSubscribeOpenOrCreate e) publish_subscribe_open_or_create_errors ++
+    map (λ e. RequestResponseOpen e) request_response_open_errors ++
+    map (λ e. RequestResponseCreate e) request_response_create_errors ++
+    map (λ e. RequestResponseOpenOrCreate e) request_response_open_or_create_errors
+
+abbrev find_text : List ℕ → List AnyError → Option AnyError
+find_text text [] = None
+find_text text (e ∷ es) = if bytes_eq (text_of e) text then Some e else find_text text es
+
+abbrev read : List ℕ → Option AnyError
+read text = find_text text all_errors
+
+event_open_is_read : (e : EventOpenError) → read (text_of (EventOpen e)) ≡ Some (EventOpen e)
+event_open_is_read opening.DoesNotExist = refl
+event_open_is_read _ = refl
+
+event_create_is_read : (e : EventCreateError) → read (text_of (EventCreate e)) ≡ Some (EventCreate e)
+event_create_is_read creating.ServiceInCorruptedState = refl
+event_create_is_read _ = refl
+
+publish_subscribe_open_is_read : (e : PublishSubscribeOpenError) → read (text_of (PublishSubscribeOpen e)) ≡ Some (PublishSubscribeOpen e)
+publish_subscribe_open_is_read subscribe_opening.DoesNotExist = refl
+publish_subscribe_open_is_read _ = refl
+
+publish_subscribe_create_is_read : (e : PublishSubscribeCreateError) → read (text_of (PublishSubscribeCreate e)) ≡ Some (PublishSubscribeCreate e)
+publish_subscribe_create_is_read subscribe_creating.ServiceInCorruptedState = refl
+publish_subscribe_create_is_read _ = refl
+
+request_response_open_is_read : (e : RequestResponseOpenError) → read (text_of (RequestResponseOpen e)) ≡ Some (RequestResponseOpen e)
+request_response_open_is_read request_opening.DoesNotExist = refl
+request_response_open_is_read _ = refl
+
+request_response_create_is_read : (e : RequestResponseCreateError) → read (text_of (RequestResponseCreate e)) ≡ Some (RequestResponseCreate e)
+request_response_create_is_read request_creating.AlreadyExists = refl
+request_response_create_is_read _ = refl
+
+event_open_or_create_is_read : (e : EventOpenOrCreateError) → read (text_of (EventOpenOrCreate e)) ≡ Some (EventOpenOrCreate e)
+event_open_or_create_is_read (event_either.EventOpenError opening.DoesNotExist) = refl
+event_open_or_create_is_read (event_either.EventCreateError creating.ServiceInCorruptedState) = refl
+event_open_or_create_is_read _ = refl
+
+publish_subscribe_open_or_create_is_read : (e : PublishSubscribeOpenOrCreateError) → read (text_of (PublishSubscribeOpenOrCreate e)) ≡ Some (PublishSubscribeOpenOrCreate e)
+publish_subscribe_open_or_create_is_read (subscribe_either.PublishSubscribeOpenError subscribe_opening.DoesNotExist) = refl
+publish_subscribe_open_or_create_is_read (subscribe_either.PublishSubscribeCreateError subscribe_creating.ServiceInCorruptedState) = refl
+publish_subscribe_open_or_create_is_read _ = refl
+
+request_response_open_or_create_is_read : (e : RequestResponseOpenOrCreateError) → read (text_of (RequestResponseOpenOrCreate e)) ≡ Some (RequestResponseOpenOrCreate e)
+request_response_open_or_create_is_read (request_either.RequestResponseOpenError request_opening.DoesNotExist) = refl
+request_response_open_or_create_is_read (request_either.RequestResponseCreateError request_creating.AlreadyExists) = refl
+request_response_open_or_create_is_read _ = refl
+
+is_read : (e : AnyError) → read (text_of e) ≡ Some e
+is_read (EventOpen e) = event_open_is_read e
+is_read (EventCreate e) = event_create_is_read e
+is_read (EventOpenOrCreate e) = event_open_or_create_is_read e
+is_read (PublishSubscribeOpen e) = publish_subscribe_open_is_read e
+is_read (PublishSubscribeCreate e) = publish_subscribe_create_is_read e
+is_read (PublishSubscribeOpenOrCreate e) = publish_subscribe_open_or_create_is_read e
+is_read (RequestResponseOpen e) = request_response_open_is_read e
+is_read (RequestResponseCreate e) = request_response_create_is_read e
+is_read (RequestResponseOpenOrCreate e) = request_response_open_or_create_is_read e
+
+-- two with one text are one
+pub text_tells : (one other : AnyError) → text_of one ≡ text_of other → one ≡ other
+text_tells one other same =
+    let both : Some one ≡ Some other = sym (is_read one) ∙ ap read same ∙ is_read other in cc
