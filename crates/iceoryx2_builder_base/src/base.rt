@@ -4,6 +4,7 @@ ghost use Rattle.std.specs.Prelude.{◌≡◌};
 
 use iceoryx2_access::storage::{Service, ServiceNameHasher};
 use iceoryx2_values::description::{ServiceHash, ServiceName};
+use std::alloc::AllocError;
 use std::marker::{Model, PhantomData};
 
 /// What a builder has once its pattern is chosen, whatever the pattern is: the node and the name.
@@ -28,6 +29,21 @@ impl<S: Service> Drop for BuilderWithServiceType<S> {
             name: _,
             service: _,
         } = self;
+    }
+}
+
+impl<S: Service> Clone for BuilderWithServiceType<S> {
+    ghost use Rattle.std.specs.Prelude.{◌≡◌};
+
+    ghost is_clone = { λ base copy. copy ≡ base };
+
+    /// `AllocError` where there was no memory for the name.
+    fn clone(&self) -> Result<BuilderWithServiceType<S>, AllocError> {
+        Ok(BuilderWithServiceType {
+            node: self.node,
+            name: self.name.clone()?,
+            service: PhantomData,
+        })
     }
 }
 

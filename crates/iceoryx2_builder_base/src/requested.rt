@@ -17,6 +17,32 @@ pub struct RequestedTypes {
     pub alignment: Option<Alignment>,
 }
 
+impl Clone for RequestedTypes {
+    ghost use Rattle.std.specs.Prelude.{◌≡◌};
+
+    ghost is_clone = { λ types copy. copy ≡ types };
+
+    /// `AllocError` where there was no memory for the names of types.
+    fn clone(&self) -> Result<RequestedTypes, AllocError> {
+        Ok(RequestedTypes {
+            user_header: copy_of(&self.user_header)?,
+            payload: copy_of(&self.payload)?,
+            alignment: self.alignment,
+        })
+    }
+}
+
+/// A copy of what stands in place of a type, if something does. `AllocError` where there was no memory
+/// for its name.
+fn copy_of(told: &Option<TypeDetail>) -> Result<Option<TypeDetail>, AllocError>
+    ensures { IfOk result (λ copy. copy ≡ told.now) }
+{
+    match told {
+        Some(detail) => Ok(Some(detail.clone()?)),
+        None => Ok(None),
+    }
+}
+
 impl RequestedTypes {
     /// Each type is the message's own, and aligned as it is.
     pub fn none() -> RequestedTypes

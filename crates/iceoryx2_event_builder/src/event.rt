@@ -39,6 +39,7 @@ use iceoryx2_rounds::open::open;
 use iceoryx2_values::config;
 pub use iceoryx2_values::event::EventId;
 use iceoryx2_values::time::{ClockFault, Duration, Time};
+use std::alloc::AllocError;
 use std::marker::Model;
 
 /// The letter that stands before a name in the hash of a service of events.
@@ -67,8 +68,8 @@ pub fn ends_at_once()
 /// An open or create of events looks at most 23 times and opens at most six times, since it goes on
 /// after no open.
 pub fn open_or_create_is_short()
-    ensures { (required : Requirements) (node : ℕ) (hash : ServiceHash) (name : List ℕ) (now : Result Span ClockFault)
-        (demand : EventDemand) (word : List Letter)
+    ensures { (required : Requirements) (node : ℕ) (hash : ServiceHash) (name : List ℕ)
+        (now : Result Span ClockFault) (demand : EventDemand) (word : List Letter)
         (answer : Result Factory (OpenOrCreateRefusal EventOpenError EventCreateError))
         → IsOpenOrCreateWord event_meaning event_adjusted event_retried required node hash name now demand word answer
         → IsWithin word 23 6 36 36 }
@@ -94,6 +95,20 @@ impl<S: Service> Model for Builder<S> {
 impl<S: Service> Drop for Builder<S> {
     fn drop(self) {
         let Builder { base: _, demand: _ } = self;
+    }
+}
+
+impl<S: Service> Clone for Builder<S> {
+    ghost use Rattle.std.specs.Prelude.{◌≡◌};
+
+    ghost is_clone = { λ builder copy. copy ≡ builder };
+
+    /// `AllocError` where there was no memory for the name.
+    fn clone(&self) -> Result<Builder<S>, AllocError> {
+        Ok(Builder {
+            base: self.base.clone()?,
+            demand: self.demand,
+        })
     }
 }
 
@@ -287,6 +302,7 @@ impl<S: Service> Builder<S> {
             Err(error) => Err(error),
         }
     }
+
     /// Opens the service, or creates it where there is none, whatever its attributes:
     /// `open_or_create_with_attributes` of a verifier that requires none.
     pub fn open_or_create(

@@ -18,8 +18,9 @@ use crate::retries::Retries;
 /// An open or create looks at most 78 times and opens at most 36 times. It makes a segment in at most
 /// 36 attempts, and removes one at most 36 times.
 pub fn open_or_create_is_short<P: Retries>()
-    ensures { (required : Requirements) (node : ℕ) (hash : ServiceHash) (name : List ℕ) (now : Result Span ClockFault)
-        (asked : P) (word : List Letter) (answer : Result Factory (OpenOrCreateRefusal P.OpenError P.CreateError))
+    ensures { (required : Requirements) (node : ℕ) (hash : ServiceHash) (name : List ℕ)
+        (now : Result Span ClockFault) (asked : P) (word : List Letter)
+        (answer : Result Factory (OpenOrCreateRefusal P.OpenError P.CreateError))
         → IsOpenOrCreateWord P.meaning P.adjusted P.retried required node hash name now asked word answer
         → IsWithin word 78 36 36 36 }
 {}
@@ -27,8 +28,9 @@ pub fn open_or_create_is_short<P: Retries>()
 /// Where no refusal of an open is retried, it looks at most 23 times and opens at most six times.
 pub fn open_or_create_is_shorter<P: Retries>()
     ensures { ((error : P.OpenError) → P.retried.of_open error ≡ false)
-        → (required : Requirements) (node : ℕ) (hash : ServiceHash) (name : List ℕ) (now : Result Span ClockFault)
-        (asked : P) (word : List Letter) (answer : Result Factory (OpenOrCreateRefusal P.OpenError P.CreateError))
+        → (required : Requirements) (node : ℕ) (hash : ServiceHash) (name : List ℕ)
+        (now : Result Span ClockFault) (asked : P) (word : List Letter)
+        (answer : Result Factory (OpenOrCreateRefusal P.OpenError P.CreateError))
         → IsOpenOrCreateWord P.meaning P.adjusted P.retried required node hash name now asked word answer
         → IsWithin word 23 6 36 36 }
 {}
@@ -36,8 +38,9 @@ pub fn open_or_create_is_shorter<P: Retries>()
 /// A refused open or create has given back what it made, round by round. Each round leaves only that
 /// for which a removal was refused.
 pub fn refused_open_or_create_gives_back<P: Retries>()
-    ensures { (required : Requirements) (node : ℕ) (hash : ServiceHash) (name : List ℕ) (now : Result Span ClockFault)
-        (asked : P) (word : List Letter) (refusal : OpenOrCreateRefusal P.OpenError P.CreateError)
+    ensures { (required : Requirements) (node : ℕ) (hash : ServiceHash) (name : List ℕ)
+        (now : Result Span ClockFault) (asked : P) (word : List Letter)
+        (refusal : OpenOrCreateRefusal P.OpenError P.CreateError)
         → IsOpenOrCreateWord P.meaning P.adjusted P.retried required node hash name now asked word (Err refusal)
         → GivesBackByRounds node hash word }
 {}
@@ -45,8 +48,8 @@ pub fn refused_open_or_create_gives_back<P: Retries>()
 /// An open or create that succeeds keeps what its last round made, and each round before has given
 /// back what it made.
 pub fn open_or_create_keeps_what_it_made<P: Retries>()
-    ensures { (required : Requirements) (node : ℕ) (hash : ServiceHash) (name : List ℕ) (now : Result Span ClockFault)
-        (asked : P) (word : List Letter) (r : Factory)
+    ensures { (required : Requirements) (node : ℕ) (hash : ServiceHash) (name : List ℕ)
+        (now : Result Span ClockFault) (asked : P) (word : List Letter) (r : Factory)
         → IsOpenOrCreateWord P.meaning P.adjusted P.retried required node hash name now asked word (Ok r)
         → KeepsInTheEnd node hash word r.number }
 {}
@@ -55,8 +58,8 @@ pub fn open_or_create_keeps_what_it_made<P: Retries>()
 /// or published with zeros raised. What that round asks is what was asked first, adjusted by each
 /// create before.
 pub fn granted_open_or_create_carries<P: Retries>()
-    ensures { (required : Requirements) (node : ℕ) (hash : ServiceHash) (name : List ℕ) (now : Result Span ClockFault)
-        (asked : P) (word : List Letter) (r : Factory)
+    ensures { (required : Requirements) (node : ℕ) (hash : ServiceHash) (name : List ℕ)
+        (now : Result Span ClockFault) (asked : P) (word : List Letter) (r : Factory)
         → IsOpenOrCreateWord P.meaning P.adjusted P.retried required node hash name now asked word (Ok r)
         → (r.node ≡ node) × Carries P.meaning P.adjusted required hash name now asked r.description }
 {}

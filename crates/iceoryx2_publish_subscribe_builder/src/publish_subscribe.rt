@@ -43,6 +43,7 @@ use iceoryx2_types::types::{
 };
 use iceoryx2_values::config;
 use iceoryx2_values::time::Time;
+use std::alloc::AllocError;
 use std::marker::{Model, PhantomData};
 
 /// The letter that stands before a name in the hash of a service of publish-subscribe.
@@ -106,6 +107,23 @@ impl<P, U, S: Service> Drop for Builder<P, U, S> {
             payload: _,
             user_header: _,
         } = self;
+    }
+}
+
+impl<P, U, S: Service> Clone for Builder<P, U, S> {
+    ghost use Rattle.std.specs.Prelude.{◌≡◌};
+
+    ghost is_clone = { λ builder copy. copy ≡ builder };
+
+    /// `AllocError` where there was no memory for the name of the service or those of types.
+    fn clone(&self) -> Result<Builder<P, U, S>, AllocError> {
+        Ok(Builder {
+            base: self.base.clone()?,
+            demand: self.demand,
+            types: self.types.clone()?,
+            payload: PhantomData,
+            user_header: PhantomData,
+        })
     }
 }
 
@@ -396,6 +414,7 @@ impl<P: ZeroCopySend, U: ZeroCopySend, S: Service> Builder<P, U, S> {
             Err(error) => Err(error),
         }
     }
+
     /// Opens the service, or creates it where there is none, whatever its attributes:
     /// `open_or_create_with_attributes` of a verifier that requires none.
     pub fn open_or_create(

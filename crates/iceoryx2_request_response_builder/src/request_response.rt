@@ -44,6 +44,7 @@ use iceoryx2_types::types::{
 };
 use iceoryx2_values::config;
 use iceoryx2_values::time::Time;
+use std::alloc::AllocError;
 use std::marker::{Model, PhantomData};
 
 /// The letter that stands before a name in the hash of a service of request-response.
@@ -106,6 +107,22 @@ impl<Q, QU, R, RU, S: Service> Drop for Builder<Q, QU, R, RU, S> {
             types: _,
             kind: _,
         } = self;
+    }
+}
+
+impl<Q, QU, R, RU, S: Service> Clone for Builder<Q, QU, R, RU, S> {
+    ghost use Rattle.std.specs.Prelude.{◌≡◌};
+
+    ghost is_clone = { λ builder copy. copy ≡ builder };
+
+    /// `AllocError` where there was no memory for the name of the service or those of types.
+    fn clone(&self) -> Result<Builder<Q, QU, R, RU, S>, AllocError> {
+        Ok(Builder {
+            base: self.base.clone()?,
+            demand: self.demand,
+            types: self.types.clone()?,
+            kind: PhantomData,
+        })
     }
 }
 

@@ -19,6 +19,20 @@ pub struct RequestedMessages {
     pub response: RequestedTypes,
 }
 
+impl Clone for RequestedMessages {
+    ghost use Rattle.std.specs.Prelude.{◌≡◌};
+
+    ghost is_clone = { λ types copy. copy ≡ types };
+
+    /// `AllocError` where there was no memory for the names of types.
+    fn clone(&self) -> Result<RequestedMessages, AllocError> {
+        Ok(RequestedMessages {
+            request: self.request.clone()?,
+            response: self.response.clone()?,
+        })
+    }
+}
+
 impl RequestedMessages {
     /// Each type is the message's own, and aligned as it is.
     pub(crate) fn none() -> RequestedMessages
