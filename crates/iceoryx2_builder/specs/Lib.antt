@@ -1,1 +1,3 @@
 pub mod Request
+pub mod Setters
+pub mod Weaker

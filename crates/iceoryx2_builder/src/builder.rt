@@ -1,26 +1,43 @@
 //! Nodes, and where their builders begin.
 
 ghost use Rattle.std.specs.Prelude.{◌≡◌};
+ghost use Rattle.iceoryx2_attributes.specs.Requirements.{Requirements};
+ghost use Rattle.iceoryx2_builder.specs.Setters.{AreSetters, event_place, publish_subscribe_place, request_response_place};
+ghost use Rattle.iceoryx2_builder.specs.Weaker.{Accepts, AreSomeOf};
+ghost use Rattle.iceoryx2_builder.specs.Weaker.{IsWeakerEvent, IsWeakerPublishSubscribe, IsWeakerRequestResponse};
 ghost use Rattle.iceoryx2_builder_base.specs.Builders.{IsBuilder};
-ghost use Rattle.iceoryx2_event_builder.specs.Event.{event_creating, event_opening};
-ghost use Rattle.iceoryx2_event_builder.specs.Request.{fresh_request};
+ghost use Rattle.iceoryx2_open_or_create.specs.EndsAtOnce.{EndsAtOnce};
+ghost use Rattle.iceoryx2_pattern.specs.OwnAttributes.{defining, requiring};
+ghost use Rattle.iceoryx2_values.specs.Description.{Description};
+ghost use Rattle.iceoryx2_event_builder.specs.Event.{event_creating, event_opening, event_retried};
+ghost use Rattle.iceoryx2_event_builder.specs.Request.{fresh_request, with_setting as with_event_setting};
 ghost use Rattle.iceoryx2_event_builder.specs.declared.event.demand.EventDemand.{EventDemand};
-ghost use Rattle.iceoryx2_types.specs.Types.{Message};
+ghost use Rattle.iceoryx2_types.specs.Types.{IsCompatible, Message};
 ghost use Rattle.iceoryx2_publish_subscribe_builder.specs.PublishSubscribe.{publish_subscribe_creating};
 ghost use Rattle.iceoryx2_publish_subscribe_builder.specs.PublishSubscribe.{publish_subscribe_opening};
+ghost use Rattle.iceoryx2_publish_subscribe_builder.specs.PublishSubscribe.{publish_subscribe_retried};
+ghost use Rattle.iceoryx2_publish_subscribe_builder.specs.PublishSubscribe.{prepared_meaning as publish_subscribe_meaning};
+ghost use Rattle.iceoryx2_publish_subscribe_builder.specs.PublishSubscribe.{prepared_adjusted as publish_subscribe_adjusted};
 ghost use Rattle.iceoryx2_publish_subscribe_builder.specs.Request.{fresh_request as fresh_publish_subscribe};
+ghost use Rattle.iceoryx2_publish_subscribe_builder.specs.Request.{with_setting as with_publish_subscribe_setting};
 ghost use Rattle.iceoryx2_publish_subscribe_builder.specs.declared.publish_subscribe.demand.PublishSubscribeDemand.{PublishSubscribeDemand};
+ghost use Rattle.iceoryx2_publish_subscribe_builder.specs.declared.publish_subscribe.demand.PreparedDemand.{PreparedDemand as PreparedPublishSubscribe};
 ghost use Rattle.iceoryx2_request_response_builder.specs.Request.{fresh_request as fresh_request_response};
+ghost use Rattle.iceoryx2_request_response_builder.specs.Request.{with_setting as with_request_response_setting};
 ghost use Rattle.iceoryx2_request_response_builder.specs.RequestResponse.{request_response_creating};
 ghost use Rattle.iceoryx2_request_response_builder.specs.RequestResponse.{request_response_opening};
+ghost use Rattle.iceoryx2_request_response_builder.specs.RequestResponse.{request_response_retried};
+ghost use Rattle.iceoryx2_request_response_builder.specs.RequestResponse.{prepared_meaning as request_response_meaning};
+ghost use Rattle.iceoryx2_request_response_builder.specs.RequestResponse.{prepared_adjusted as request_response_adjusted};
 ghost use Rattle.iceoryx2_request_response_builder.specs.declared.request_response.demand.RequestResponseDemand.{RequestResponseDemand};
+ghost use Rattle.iceoryx2_request_response_builder.specs.declared.request_response.demand.PreparedDemand.{PreparedDemand as PreparedRequestResponse};
 
 use iceoryx2_access::storage::Service;
 use iceoryx2_builder_base::base::BuilderWithServiceType;
 pub use iceoryx2_event_builder::event;
 pub use iceoryx2_publish_subscribe_builder::publish_subscribe;
 pub use iceoryx2_request_response_builder::request_response;
-use iceoryx2_types::types::ZeroCopySend;
+use iceoryx2_types::types::{self, ZeroCopySend};
 use iceoryx2_values::config::Config;
 use iceoryx2_values::description::ServiceName;
 use std::marker::{Model, PhantomData};
@@ -166,15 +183,62 @@ impl<S: Service> Builder<S> {
 /// What holds of the builders of each pattern, whatever they ask and whatever the clock says.
 ///
 /// A builder opens what the same builder creates: with its adjusted settings a create publishes
-/// what fits it and meets each setting that it requires, whatever attributes are defined.
+/// what fits it and meets each setting that it requires, whatever attributes are defined. And what a
+/// table that nobody else uses refuses is not tried again by an open or create.
 pub fn laws()
     ensures events { (demand : EventDemand) → IsBuilder (event_creating demand) (event_opening demand) }
     ensures publish_subscribe { (demand : PublishSubscribeDemand) (message : Message)
         → IsBuilder (publish_subscribe_creating demand message) (publish_subscribe_opening demand message) }
     ensures request_response { (demand : RequestResponseDemand) (request response : Message) → IsBuilder
         (request_response_creating demand request response) (request_response_opening demand request response) }
+    ensures events_end_at_once { (demand : EventDemand) (required : Requirements)
+        → EndsAtOnce event_retried (event_creating demand required.pairs) (event_opening demand required) }
+    ensures publish_subscribe_ends_at_once { (asked : PreparedPublishSubscribe) (required : Requirements)
+        → EndsAtOnce publish_subscribe_retried
+        (defining required.pairs (publish_subscribe_meaning (publish_subscribe_adjusted asked)))
+        (requiring required (publish_subscribe_meaning asked)) }
+    ensures request_response_ends_at_once { (asked : PreparedRequestResponse) (required : Requirements)
+        → EndsAtOnce request_response_retried
+        (defining required.pairs (request_response_meaning (request_response_adjusted asked)))
+        (requiring required (request_response_meaning asked)) }
 {
     event::laws();
     publish_subscribe::laws();
     request_response::laws();
+    event::ends_at_once();
+    publish_subscribe::ends_at_once();
+    request_response::ends_at_once();
+}
+
+/// What holds of the setters of each builder: those of different settings may come in either order, and
+/// of two that set the same one the last stands.
+pub fn laws_of_setters()
+    ensures events { AreSetters with_event_setting event_place }
+    ensures publish_subscribe { AreSetters with_publish_subscribe_setting publish_subscribe_place }
+    ensures request_response { AreSetters with_request_response_setting request_response_place }
+{}
+
+/// What one open takes, another that asks no more takes too: each setting that it requires is required by
+/// the first as well, with a number at least as great or with the same value, each required pair and key
+/// is one of the first one's, and its messages are compatible to the first one's. So is each message to
+/// itself, and compatibility is passed on.
+pub fn laws_of_requirements()
+    ensures events { (weaker stronger : EventDemand) (some all : Requirements) (d : Description)
+        → IsWeakerEvent weaker stronger → AreSomeOf some all
+        → Accepts (event_opening stronger all) d → Accepts (event_opening weaker some) d }
+    ensures publish_subscribe { (weaker stronger : PublishSubscribeDemand) (message other : Message)
+        (some all : Requirements) (d : Description)
+        → IsWeakerPublishSubscribe weaker stronger → IsCompatible message other → AreSomeOf some all
+        → Accepts (publish_subscribe_opening stronger other all) d
+        → Accepts (publish_subscribe_opening weaker message some) d }
+    ensures request_response { (weaker stronger : RequestResponseDemand)
+        (request response other_request other_response : Message) (some all : Requirements) (d : Description)
+        → IsWeakerRequestResponse weaker stronger
+        → IsCompatible request other_request → IsCompatible response other_response → AreSomeOf some all
+        → Accepts (request_response_opening stronger other_request other_response all) d
+        → Accepts (request_response_opening weaker request response some) d }
+    ensures reflexive { (message : Message) → IsCompatible message message }
+    ensures transitive { (a b c : Message) → IsCompatible a b → IsCompatible b c → IsCompatible a c }
+{
+    types::laws();
 }

@@ -1,0 +1,7 @@
+pub mod EventSetters
+pub mod PublishSubscribeSetters
+pub mod RequestResponseSetters
+pub mod Weaker
+pub mod WeakerEvent
+pub mod WeakerPublishSubscribe
+pub mod WeakerRequestResponse
