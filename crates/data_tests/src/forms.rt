@@ -190,16 +190,55 @@ fn is_form_by(
     }
 }
 
+/// How often the form is another one by the byte in that place, which has to be so where it may be.
+fn tried(rt: &impl Abort, alloc: Global, place: usize, byte: u8) -> u32 {
+    match is_form_by(rt, alloc, form(rt, alloc, "00"), place, byte) {
+        Some(found) => {
+            assert_same(rt, (place, byte, found), (place, byte, may_be(place, byte)));
+            1
+        }
+        None => 0,
+    }
+}
+
+/// How often it is by all bytes in that place.
+fn all_tried(rt: &impl Abort, alloc: Global, place: usize) -> u32 {
+    let mut count = 0u32;
+    for byte in 0..256u32 {
+        count = count.wrapping_add(tried(rt, alloc, place, byte as u8));
+    }
+    count
+}
+
 #[test]
 fn a_changed_byte_gives_another_description_or_none(rt: HostRuntime) {
+    let mut count = 0u32;
     for place in 0..67usize {
-        for byte in [0x00u8, 0x01, 0x02, 0x11, 0x7f, 0x80, 0xff] {
-            let original = form(&rt, rt.alloc(), "00");
-            if let Some(found) = is_form_by(&rt, rt.alloc(), original, place, byte) {
-                let wanted = may_be(place, byte);
-                assert_same(&rt, (place, byte, found), (place, byte, wanted));
-            }
-        }
+        count = count.wrapping_add(all_tried(&rt, rt.alloc(), place));
+    }
+    assert_same(&rt, count, 17_085);
+}
+
+/// How many bytes and letters the name has, and whether there is a form: none, more than there are, and a
+/// name that isn't UTF-8; and with how many pairs of attributes.
+const NAMES: &[(&str, bool)] = &[
+    ("0001610000", true),
+    ("0000610000", false),
+    ("0100610000", false),
+    ("0001ff0000", false),
+    ("0001610041", false),
+    ("0001614100", false),
+];
+
+/// Events with the default settings and without a deadline.
+const EVENTS: &str = "010000000000000010000000000000001000000000000000ff000000000000002400000000";
+
+#[test]
+fn names_and_counts_have_limits(rt: HostRuntime) {
+    for &(name, wanted) in NAMES {
+        let bytes = bytes_of(&rt, rt.alloc(), &[HASHED, name, EVENTS]);
+        let found = is_form(&rt, rt.alloc(), bytes.as_slice());
+        assert_same(&rt, (name, found), (name, wanted));
     }
 }
 

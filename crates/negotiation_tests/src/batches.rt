@@ -4,5 +4,6 @@ mod accesses;
 mod creates;
 mod drawn;
 mod opens;
+mod opens_or_creates;
 mod sessions;
 mod support;

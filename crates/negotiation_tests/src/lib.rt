@@ -8,6 +8,8 @@ mod attributes;
 #[cfg(test)]
 mod batches;
 #[cfg(test)]
+mod clones;
+#[cfg(test)]
 mod deadlines;
 #[cfg(test)]
 mod events;
@@ -29,5 +31,7 @@ mod sessions;
 mod storages;
 #[cfg(test)]
 mod support;
+#[cfg(test)]
+mod texts;
 #[cfg(test)]
 mod types;

@@ -1,5 +1,5 @@
 //! Services of request-response.
 
 mod calls;
-mod support;
+pub mod support;
 mod typed;

@@ -1,7 +1,7 @@
 //! Runs of commands of a session, and attributes in its calls.
 
 use crate::support::*;
-use iceoryx2_errors::error::{EventCreateError, EventOpenError};
+use iceoryx2_errors::error::{EventCreateError, EventOpenError, EventOpenOrCreateError};
 use iceoryx2_service::command::{Command, How, Refusal, Reply};
 use iceoryx2_service::session::Session;
 use iceoryx2_values::config::Config;
@@ -109,10 +109,10 @@ const CALLS: &[Wanted] = &[
     (How::Open, 2, 1, &[("k", "v")], "k"),
 ];
 
-/// Those calls, a listing, and closes of a slot past the last one and of a taken one.
-fn calls(rt: &impl Abort, alloc: Global) -> Vec<Command> {
+/// These calls, a listing, and closes of a slot past the last one and of a taken one.
+fn calls(rt: &impl Abort, alloc: Global, wanted: &[Wanted]) -> Vec<Command> {
     let mut commands = Vec::new(alloc);
-    for &wanted in CALLS {
+    for &wanted in wanted {
         push(rt, &mut commands, call(rt, alloc, wanted));
     }
     push(rt, &mut commands, Command::List);
@@ -135,6 +135,35 @@ fn a_refusal_does_not_stop_a_run(rt: HostRuntime) {
         Told::NoSlot,
         Told::Closed(1),
     ];
-    let commands = calls(&rt, rt.alloc());
+    let commands = calls(&rt, rt.alloc(), CALLS);
+    assert_same(&rt, are_told(rt.alloc(), commands, &wanted), true);
+}
+
+/// Calls that open the service, or create it where there is none. The first one's key is not created.
+const ROUNDS: &[Wanted] = &[
+    (How::OpenOrCreate, 1, 0, &[("k", "v")], "i"),
+    (How::OpenOrCreate, 2, 64, &[("k", "v")], "k"),
+    (How::OpenOrCreate, 2, 0, &[("k", "v")], "k"),
+    (How::OpenOrCreate, 2, 1, &[("k", "w")], "k"),
+    (How::OpenOrCreate, 2, 1, &[("k", "v")], "i"),
+    (How::OpenOrCreate, 2, 1, &[("k", "v")], "k"),
+];
+
+#[test]
+fn a_run_opens_what_it_has_created(rt: HostRuntime) {
+    let lacking = EventOpenOrCreateError::EventOpenError(EventOpenError::IncompatibleAttributes);
+    let lacking = Refusal::EventOpenOrCreate(lacking);
+    let wanted = [
+        Told::Opened(0, 0),
+        Told::NoSlot,
+        Told::Other,
+        Told::Refused(lacking),
+        Told::Refused(lacking),
+        Told::Opened(1, 0),
+        Told::Listed(1),
+        Told::NoSlot,
+        Told::Closed(1),
+    ];
+    let commands = calls(&rt, rt.alloc(), ROUNDS);
     assert_same(&rt, are_told(rt.alloc(), commands, &wanted), true);
 }

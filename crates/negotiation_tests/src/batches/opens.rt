@@ -66,7 +66,7 @@ fn what_peers_hold_is_not_opened(rt: HostRuntime) {
 }
 
 /// What is left where the other service is open, beside the peer.
-const OTHER: Left = (Row::Published(1), Some((1, 2, 2, false)), (true, 1), 3, 0);
+pub const OTHER: Left = (Row::Published(1), Some((1, 2, 2, false)), (true, 1), 3, 0);
 
 /// Replacements before one access of an open.
 const REPLACEMENTS: &[Opening] = &[

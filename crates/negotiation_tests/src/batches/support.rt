@@ -7,7 +7,7 @@ pub use crate::support::{
 };
 use iceoryx2_attributes::attribute::AttributeSet;
 use iceoryx2_builder::builder::event::Builder;
-use iceoryx2_errors::error::{EventCreateError, EventOpenError};
+use iceoryx2_errors::error::{EventCreateError, EventOpenError, EventOpenOrCreateError};
 use iceoryx2_port_factory::port_factory::event::PortFactory;
 use iceoryx2_script::script::{Faulty, FaultyService};
 use iceoryx2_storage::local::Local;
@@ -195,6 +195,19 @@ pub fn create(
     node: u64,
 ) -> Result<Given, EventCreateError> {
     match events(rt, alloc, node).create(table, Ok(Time::default())) {
+        Ok(factory) => Ok(given(factory)),
+        Err(error) => Err(error),
+    }
+}
+
+/// What an open or create of this node at time zero answers.
+pub fn open_or_create(
+    rt: &impl Abort,
+    alloc: Global,
+    table: &mut CountedTable,
+    node: u64,
+) -> Result<Given, EventOpenOrCreateError> {
+    match events(rt, alloc, node).open_or_create(table, Ok(Time::default())) {
         Ok(factory) => Ok(given(factory)),
         Err(error) => Err(error),
     }

@@ -1,18 +1,14 @@
 //! Calls over storages that answer from a list, and over a table at which a peer's steps wait.
 
+use crate::publish_subscribe::peers::{LEFT, PUBLISHED, Plan, planned};
 use crate::publish_subscribe::support::Ask::*;
 use crate::publish_subscribe::support::*;
 use crate::storages::scripts::AccessAnswer::*;
 use crate::storages::scripts::{Counters, Parts, script};
 use iceoryx2_access::storage::{Existence, Tag};
-use iceoryx2_attributes::attribute::AttributeSet;
 use iceoryx2_errors::error::{PublishSubscribeCreateError, PublishSubscribeOpenError};
 use iceoryx2_script::script::{Script, Scripted};
 use iceoryx2_storage::local::Local;
-use iceoryx2_storage::table::{Act, Step};
-use iceoryx2_types::types::{MessageTypeDetails, TypeVariant};
-use iceoryx2_values::description::{MessagingPattern, ServiceHash, StaticConfig};
-use iceoryx2_values::publish_subscribe;
 use std::alloc::Global;
 use std::process::Abort;
 
@@ -136,73 +132,13 @@ fn a_create_finds_what_is_there(rt: HostRuntime) {
     }
 }
 
-/// The hash of the service of these tests, as other programs make it.
-const SERVICE: ServiceHash = ServiceHash([
-    0x5f, 0xa2, 0x53, 0xad, 0xf3, 0xbd, 0x93, 0x5e, 0x11, 0xff, 0xb7, 0xe0, 0x27, 0x78, 0x10, 0x6a,
-    0x71, 0x53, 0x3f, 0x98,
-]);
-
-/// What that service's messages are made of.
-fn messages(rt: &impl Abort, alloc: Global) -> MessageTypeDetails {
-    let header = (TypeVariant::FixedSize, "publish_subscribe::Header", 32, 8);
-    let user_header = (TypeVariant::FixedSize, "CustomHeaderMarker", 0, 1);
-    let payload = (TypeVariant::Dynamic, "CustomPayloadMarker", 1, 1);
-    MessageTypeDetails::new(
-        detail(rt, alloc, header),
-        detail(rt, alloc, user_header),
-        detail(rt, alloc, payload),
-    )
-}
-
-/// Its description, with the default settings.
-fn described(rt: &impl Abort, alloc: Global) -> StaticConfig {
-    let settings = publish_subscribe::StaticConfig {
-        max_publishers: 2,
-        max_subscribers: 8,
-        subscriber_max_buffer_size: 2,
-        history_size: 0,
-        subscriber_max_borrowed_samples: 2,
-        enable_safe_overflow: true,
-        max_nodes: 20,
-        message_type_details: messages(rt, alloc),
-    };
-    let pattern = MessagingPattern::PublishSubscribe(settings);
-    let name = name(rt, alloc, "xample");
-    StaticConfig::new(SERVICE, name, AttributeSet::new(alloc), pattern)
-}
-
-/// A peer's steps.
-fn steps(rt: &impl Abort, alloc: Global, leaves: bool) -> Vec<Step> {
-    let mut acts = Vec::new(alloc);
-    push(rt, &mut acts, Act::Lock);
-    push(rt, &mut acts, Act::Make { max_nodes: 20 });
-    push(rt, &mut acts, Act::Publish(described(rt, alloc)));
-    if leaves {
-        push(rt, &mut acts, Act::Leave);
-    }
-    let mut steps = Vec::new(alloc);
-    for act in acts {
-        let step = Step {
-            peer: 7,
-            hash: SERVICE,
-            act,
-        };
-        push(rt, &mut steps, step);
-    }
-    steps
-}
-
-/// What an open answers where a peer has created the service, and has left it or not; and how many steps
-/// found no memory.
+/// What an open answers beside a peer, and how many steps found no memory.
 fn opened_beside(
     rt: &impl Abort,
     alloc: Global,
-    leaves: bool,
+    plan: Plan,
 ) -> (Result<Given, PublishSubscribeOpenError>, u64) {
-    let mut batches = Vec::new(alloc);
-    push(rt, &mut batches, steps(rt, alloc, leaves));
-    let mut table = table_from(alloc, 0);
-    table.schedule(batches);
+    let mut table = planned(rt, alloc, plan, 1);
     let answer = open::<Local>(rt, alloc, &mut table, 1, &[]);
     let skipped = table.skipped();
     drop_table(table);
@@ -212,8 +148,8 @@ fn opened_beside(
 #[test]
 fn what_a_peer_has_left_is_not_opened(rt: HostRuntime) {
     let found = [
-        opened_beside(&rt, rt.alloc(), false),
-        opened_beside(&rt, rt.alloc(), true),
+        opened_beside(&rt, rt.alloc(), &[(1, PUBLISHED)]),
+        opened_beside(&rt, rt.alloc(), &[(1, LEFT)]),
     ];
     let marked = Err(PublishSubscribeOpenError::IsMarkedForDestruction);
     let wanted = [(Ok((0, DEFAULTS, true, 1)), 0), (marked, 0)];

@@ -63,13 +63,11 @@ pub fn builder<P: ZeroCopySend, S: Service>(
     builder.publish_subscribe::<P>()
 }
 
+/// A builder with markers in place of types.
+pub type Unnamed<S> = Builder<Slice<CustomPayloadMarker>, CustomHeaderMarker, S>;
+
 /// The builder of this node that is told what is asked, with markers in place of types.
-pub fn asking<S: Service>(
-    rt: &impl Abort,
-    alloc: Global,
-    node: u64,
-    asks: &[Ask],
-) -> Builder<Slice<CustomPayloadMarker>, CustomHeaderMarker, S> {
+pub fn asking<S: Service>(rt: &impl Abort, alloc: Global, node: u64, asks: &[Ask]) -> Unnamed<S> {
     let builder = builder::<Slice<CustomPayloadMarker>, S>(rt, alloc, node);
     let mut builder = builder.user_header::<CustomHeaderMarker>();
     for ask in asks {
@@ -139,6 +137,28 @@ pub fn open_with<S: Service>(
     }
 }
 
+/// What a builder's create answers.
+pub fn created<S: Service>(
+    builder: Unnamed<S>,
+    storage: &mut S::Storage,
+) -> Result<Given, PublishSubscribeCreateError> {
+    match builder.create(storage) {
+        Ok(factory) => Ok(given(factory)),
+        Err(error) => Err(error),
+    }
+}
+
+/// What its open answers.
+pub fn opened<S: Service>(
+    builder: Unnamed<S>,
+    storage: &mut S::Storage,
+) -> Result<Given, PublishSubscribeOpenError> {
+    match builder.open(storage) {
+        Ok(factory) => Ok(given(factory)),
+        Err(error) => Err(error),
+    }
+}
+
 /// What a create without attributes answers.
 pub fn create<S: Service>(
     rt: &impl Abort,
@@ -147,10 +167,7 @@ pub fn create<S: Service>(
     node: u64,
     asks: &[Ask],
 ) -> Result<Given, PublishSubscribeCreateError> {
-    match asking::<S>(rt, alloc, node, asks).create(storage) {
-        Ok(factory) => Ok(given(factory)),
-        Err(error) => Err(error),
-    }
+    created(asking::<S>(rt, alloc, node, asks), storage)
 }
 
 /// What an open without requirements of attributes answers.
@@ -161,8 +178,5 @@ pub fn open<S: Service>(
     node: u64,
     asks: &[Ask],
 ) -> Result<Given, PublishSubscribeOpenError> {
-    match asking::<S>(rt, alloc, node, asks).open(storage) {
-        Ok(factory) => Ok(given(factory)),
-        Err(error) => Err(error),
-    }
+    opened(asking::<S>(rt, alloc, node, asks), storage)
 }

@@ -94,7 +94,7 @@ pub fn unnamed(rt: &impl Abort, alloc: Global, node: u64) -> Unnamed {
 }
 
 /// Such a builder that is told what is asked.
-fn asking(rt: &impl Abort, alloc: Global, node: u64, asks: &[Ask]) -> Unnamed {
+pub fn asking(rt: &impl Abort, alloc: Global, node: u64, asks: &[Ask]) -> Unnamed {
     let mut builder = unnamed(rt, alloc, node);
     for ask in asks {
         builder = builder.with(setting(rt, alloc, *ask));
@@ -149,6 +149,22 @@ pub fn are_of(settings: &StaticConfig, messages: Messages) -> bool {
     requests_are && responses_are
 }
 
+/// What a builder's create answers.
+pub fn created(builder: Unnamed, table: &mut Table) -> Result<Given, RequestResponseCreateError> {
+    match builder.create(table) {
+        Ok(factory) => Ok(given(factory)),
+        Err(error) => Err(error),
+    }
+}
+
+/// What its open answers.
+pub fn opened(builder: Unnamed, table: &mut Table) -> Result<Given, RequestResponseOpenError> {
+    match builder.open(table) {
+        Ok(factory) => Ok(given(factory)),
+        Err(error) => Err(error),
+    }
+}
+
 /// What a create without attributes answers.
 pub fn create(
     rt: &impl Abort,
@@ -156,10 +172,7 @@ pub fn create(
     table: &mut Table,
     asks: &[Ask],
 ) -> Result<Given, RequestResponseCreateError> {
-    match asking(rt, alloc, 1, asks).create(table) {
-        Ok(factory) => Ok(given(factory)),
-        Err(error) => Err(error),
-    }
+    created(asking(rt, alloc, 1, asks), table)
 }
 
 /// Whether a create gives a service with these messages.

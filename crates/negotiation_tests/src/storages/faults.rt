@@ -19,25 +19,25 @@ const HASH: ServiceHash = ServiceHash([
 ]);
 
 /// Whether a node has a tag, and how many tickets.
-type Holding = (bool, u64);
+pub type Holding = (bool, u64);
 
-const NOTHING: Holding = (false, 0);
+pub const NOTHING: Holding = (false, 0);
 
 const TAG: Holding = (true, 0);
 
-const REGISTRATION: Holding = (true, 1);
+pub const REGISTRATION: Holding = (true, 1);
 
 /// What a table has: a row, a segment, what nodes 1 and 2 hold, and the counter.
-type Contents = (Row, Segment, (Holding, Holding), u64);
+pub type Contents = (Row, Segment, (Holding, Holding), u64);
 
 /// A new table.
-const NEW: Contents = (Absent, None, (NOTHING, NOTHING), 0);
+pub const NEW: Contents = (Absent, None, (NOTHING, NOTHING), 0);
 
 /// A table that has handed out a number, with nothing in it.
-const EMPTY: Contents = (Absent, None, (NOTHING, NOTHING), 1);
+pub const EMPTY: Contents = (Absent, None, (NOTHING, NOTHING), 1);
 
 /// The first service of a table, of node 1 alone.
-const SERVICE_OF_1: Contents = (
+pub const SERVICE_OF_1: Contents = (
     Published(0),
     Some((0, 36, 1, false)),
     (REGISTRATION, NOTHING),
@@ -45,7 +45,7 @@ const SERVICE_OF_1: Contents = (
 );
 
 /// The first service of a table, of both nodes.
-const SERVICE_OF_BOTH: Contents = (
+pub const SERVICE_OF_BOTH: Contents = (
     Published(0),
     Some((0, 36, 2, false)),
     (REGISTRATION, REGISTRATION),
@@ -53,7 +53,7 @@ const SERVICE_OF_BOTH: Contents = (
 );
 
 /// The second service of a table, of node 1 alone.
-const LATER_SERVICE: Contents = (
+pub const LATER_SERVICE: Contents = (
     Published(1),
     Some((1, 36, 1, false)),
     (REGISTRATION, NOTHING),
@@ -96,7 +96,7 @@ fn counters_and_contents(
 }
 
 /// The accesses that are refused, calls with their answers, and the counters and the table after them.
-type Run = (
+pub type Run = (
     &'static [u64],
     &'static [(Call, Answer)],
     Counters,
@@ -104,7 +104,7 @@ type Run = (
 );
 
 /// Carries out runs, each over a new table with its counter's first value.
-fn assert_runs(rt: &impl Abort, alloc: Global, counter: u64, runs: &[Run]) {
+pub fn assert_runs(rt: &impl Abort, alloc: Global, counter: u64, runs: &[Run]) {
     for (row, &(refused, calls, counters, contents)) in runs.iter().enumerate() {
         let found = counters_and_contents(rt, alloc, (counter, refused), calls);
         assert_same(rt, (row, found), (row, (counters, contents)));
@@ -166,7 +166,7 @@ fn a_create_with_refused_accesses_leaves_what_it_does_not_remove(rt: HostRuntime
 }
 
 /// The create before a close or an open.
-const FIRST_CREATE: (Call, Answer) = (Create(1), Granted(0));
+pub const FIRST_CREATE: (Call, Answer) = (Create(1), Granted(0));
 
 /// Runs that begin with a create and a close, whose accesses are a release and the removals of the tag,
 /// the segment and the description.

@@ -16,6 +16,15 @@ pub const COMPATIBLE: &str =
     "494f583201c3499c2729730a7f807efb8676a92dcb6f8a3f8f000678616d706c65000001\
                           0000000000000010000000000000001000000000000000ff000000000000002400000000";
 
+/// A service of publish-subscribe under that hash.
+const OTHER_PATTERN: &str =
+    "494f583201c3499c2729730a7f807efb8676a92dcb6f8a3f8f000678616d706c65000002\
+                          0000000000000002000000000000000800000000000000020000000000000000\
+                          0000000000000002010000000000000014\
+                          0000197075626c6973685f7375627363726962653a3a48656164657200000000000000200000000000000008\
+                          000002282900000000000000000000000000000001\
+                          01000369363400000000000000080000000000000008";
+
 /// The same with another hash.
 const OTHER_HASH: &str = "494f5832010111111111111111111111111111111111111111000678616d706c65000001\
                           0000000000000010000000000000001000000000000000ff000000000000002400000000";
@@ -172,6 +181,13 @@ const CREATES: &[(Parts, EventCreateError, Counters, usize)] = &[
         (1, 0, 6),
         0,
     ),
+    // a service of another pattern is there
+    (
+        &[&[Exists(Existence::Yes), Fetch(Ok((3, OTHER_PATTERN)))]],
+        EventCreateError::AlreadyExists,
+        (1, 0, 0),
+        0,
+    ),
     // the tag finds another answer in front
     (
         &[&[Exists(Existence::No), Lock(1)]],
@@ -238,10 +254,16 @@ const OPENS: &[(Parts, EventOpenError, Counters, usize)] = &[
         (2, 1, 0),
         0,
     ),
-    // the description of another hash
+    // the description of another hash, and of another pattern
     (
         &[&[Exists(Existence::Yes), Fetch(Ok((3, OTHER_HASH)))]],
         EventOpenError::ServiceInCorruptedState,
+        (1, 0, 0),
+        0,
+    ),
+    (
+        &[&[Exists(Existence::Yes), Fetch(Ok((3, OTHER_PATTERN)))]],
+        EventOpenError::IncompatibleMessagingPattern,
         (1, 0, 0),
         0,
     ),
@@ -273,6 +295,35 @@ fn opens_are_refused_over_scripts(rt: HostRuntime) {
         let answer = Answer::OpenRefused(error);
         let found = counters_of(&rt, rt.alloc(), parts, (Call::Open(1), answer));
         assert_same(&rt, (row, found), (row, (counters, left)));
+    }
+}
+
+/// Scripts, why the look of an open or create's first round is its answer, and their counters.
+const LOOKS: &[(Parts, EventOpenError, Counters)] = &[
+    (&[], EventOpenError::ServiceInCorruptedState, (1, 0, 0)),
+    (
+        &[&[Exists(Existence::Yes), Fetch(Ok((3, DAMAGED)))]],
+        EventOpenError::ServiceInCorruptedState,
+        (1, 0, 0),
+    ),
+    (
+        &[&[Exists(Existence::Yes), Fetch(Ok((3, OTHER_HASH)))]],
+        EventOpenError::ServiceInCorruptedState,
+        (1, 0, 0),
+    ),
+    (
+        &[&[Exists(Existence::Yes), Fetch(Ok((3, OTHER_PATTERN)))]],
+        EventOpenError::IncompatibleMessagingPattern,
+        (1, 0, 0),
+    ),
+];
+
+#[test]
+fn the_look_of_a_round_is_not_tried_again(rt: HostRuntime) {
+    for (row, &(parts, error, counters)) in LOOKS.iter().enumerate() {
+        let answer = Answer::OpenRefused(error);
+        let found = counters_of(&rt, rt.alloc(), parts, (Call::OpenOrCreate(1), answer));
+        assert_same(&rt, (row, found), (row, (counters, 0)));
     }
 }
 

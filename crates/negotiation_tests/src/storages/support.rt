@@ -6,7 +6,9 @@ pub use crate::support::{
 };
 use iceoryx2_access::storage::Service;
 use iceoryx2_builder::builder::event::Builder;
-use iceoryx2_errors::error::{CloseError, EventCreateError, EventOpenError};
+use iceoryx2_errors::error::{
+    CloseError, EventCreateError, EventOpenError, EventOpenOrCreateError,
+};
 use iceoryx2_port_factory::port_factory::event::PortFactory;
 use iceoryx2_values::config::Config;
 use iceoryx2_values::time::Time;
@@ -18,6 +20,7 @@ use std::process::Abort;
 pub enum Call {
     Create(u64),
     Open(u64),
+    OpenOrCreate(u64),
     /// Closes what the call before has given.
     Close,
 }
@@ -27,8 +30,12 @@ pub enum Call {
 pub enum Answer {
     /// The service of this number.
     Granted(u64),
+    /// Why a create is refused, also one in a round of an open or create.
     CreateRefused(EventCreateError),
+    /// Why an open is refused, also one in a round of an open or create.
     OpenRefused(EventOpenError),
+    /// The last round of an open or create was in vain.
+    SystemInFlux,
     Closed,
     /// What was to be closed still stands.
     NotHere,
@@ -80,6 +87,26 @@ pub fn open<S: Service>(
     }
 }
 
+/// What an open or create answers that is refused.
+fn refused(error: EventOpenOrCreateError) -> Answer {
+    match error {
+        EventOpenOrCreateError::EventOpenError(why) => Answer::OpenRefused(why),
+        EventOpenOrCreateError::EventCreateError(why) => Answer::CreateRefused(why),
+        EventOpenOrCreateError::SystemInFlux => Answer::SystemInFlux,
+    }
+}
+
+/// What an open or create at time zero answers and gives.
+fn open_or_create<S: Service>(
+    builder: Builder<S>,
+    storage: &mut S::Storage,
+) -> (Answer, Option<PortFactory<S>>) {
+    match builder.open_or_create(storage, Ok(Time::default())) {
+        Ok(factory) => (Answer::Granted(factory.number()), Some(factory)),
+        Err(error) => (refused(error), None),
+    }
+}
+
 /// What a close answers, and what still stands.
 fn close<S: Service>(
     rt: &impl Abort,
@@ -115,6 +142,10 @@ fn carry_out<S: Service>(
         Call::Open(node) => {
             abandon(held);
             open(events::<S>(rt, alloc, node), storage)
+        }
+        Call::OpenOrCreate(node) => {
+            abandon(held);
+            open_or_create(events::<S>(rt, alloc, node), storage)
         }
         Call::Close => close(rt, held, storage),
     }
