@@ -71,11 +71,9 @@ fn of_events(
 
 #[test]
 fn a_copy_opens_the_events_that_its_source_created(rt: HostRuntime) {
-    let settings = StaticConfig {
-        max_nodes: 5,
-        notifier_dead_event: Some(EventId::new(3)),
-        ..DEFAULTS
-    };
+    let mut settings = DEFAULTS;
+    settings.max_nodes = 5;
+    settings.notifier_dead_event = Some(EventId::new(3));
     let wanted = ([Ok(settings), Ok(settings)], Ok(settings));
     assert_same(&rt, of_events(&rt, rt.alloc()), wanted);
 }
