@@ -69,12 +69,17 @@ fn of_events(
     (created_ones, opened_one)
 }
 
-#[test]
-fn a_copy_opens_the_events_that_its_source_created(rt: HostRuntime) {
+/// What each of them gives.
+fn settings() -> StaticConfig {
     let mut settings = DEFAULTS;
     settings.max_nodes = 5;
     settings.notifier_dead_event = Some(EventId::new(3));
-    let wanted = ([Ok(settings), Ok(settings)], Ok(settings));
+    settings
+}
+
+#[test]
+fn a_copy_opens_the_events_that_its_source_created(rt: HostRuntime) {
+    let wanted = ([Ok(settings()), Ok(settings())], Ok(settings()));
     assert_same(&rt, of_events(&rt, rt.alloc()), wanted);
 }
 
