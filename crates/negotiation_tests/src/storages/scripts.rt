@@ -298,32 +298,101 @@ fn opens_are_refused_over_scripts(rt: HostRuntime) {
     }
 }
 
-/// Scripts, why the look of an open or create's first round is its answer, and their counters.
-const LOOKS: &[(Parts, EventOpenError, Counters)] = &[
-    (&[], EventOpenError::ServiceInCorruptedState, (1, 0, 0)),
+/// A round's look that finds nothing, and one that finds the service.
+const NOTHING_THERE: &[AccessAnswer] = &[Exists(Existence::No)];
+
+const SERVICE_THERE: &[AccessAnswer] = &[Exists(Existence::Yes), Fetch(Ok((3, COMPATIBLE)))];
+
+/// Scripts, why an open or create is refused over them, their counters, and how many answers are left of
+/// them.
+const ROUNDS: &[(Parts, Answer, Counters, usize)] = &[
+    // the look of a round is not tried again
+    (
+        &[],
+        Answer::OpenRefused(EventOpenError::ServiceInCorruptedState),
+        (1, 0, 0),
+        0,
+    ),
     (
         &[&[Exists(Existence::Yes), Fetch(Ok((3, DAMAGED)))]],
-        EventOpenError::ServiceInCorruptedState,
+        Answer::OpenRefused(EventOpenError::ServiceInCorruptedState),
         (1, 0, 0),
+        0,
     ),
     (
         &[&[Exists(Existence::Yes), Fetch(Ok((3, OTHER_HASH)))]],
-        EventOpenError::ServiceInCorruptedState,
+        Answer::OpenRefused(EventOpenError::ServiceInCorruptedState),
         (1, 0, 0),
+        0,
     ),
     (
         &[&[Exists(Existence::Yes), Fetch(Ok((3, OTHER_PATTERN)))]],
-        EventOpenError::IncompatibleMessagingPattern,
+        Answer::OpenRefused(EventOpenError::IncompatibleMessagingPattern),
         (1, 0, 0),
+        0,
+    ),
+    // a create in a round gives back what it made
+    (
+        &[
+            NOTHING_THERE,
+            NO_SERVICE,
+            &[MakeTag(Tag::Made), Lock(5)],
+            FAILED_PUBLISHING,
+        ],
+        Answer::CreateRefused(EventCreateError::ServiceInCorruptedState),
+        (2, 0, 1),
+        0,
+    ),
+    (
+        &[
+            NOTHING_THERE,
+            NO_SERVICE,
+            &[MakeTag(Tag::Made), Lock(0)],
+            CLEARING,
+            CLEARING,
+            CLEARING,
+            CLEARING,
+            CLEARING,
+            IN_THE_WAY,
+        ],
+        Answer::CreateRefused(EventCreateError::ServiceInCorruptedState),
+        (2, 0, 6),
+        0,
+    ),
+    (
+        &[NOTHING_THERE, &[Exists(Existence::No), Lock(1)]],
+        Answer::CreateRefused(EventCreateError::InternalFailure),
+        (2, 0, 0),
+        1,
+    ),
+    // and so does an open
+    (
+        &[
+            SERVICE_THERE,
+            FAILED_OPENING,
+            &[Exists(Existence::No), RemoveTag],
+        ],
+        Answer::OpenRefused(EventOpenError::DoesNotExist),
+        (3, 1, 0),
+        0,
+    ),
+    (
+        &[
+            SERVICE_THERE,
+            FAILED_OPENING,
+            &[Exists(Existence::Yes), Fetch(Ok((3, DAMAGED))), RemoveTag],
+        ],
+        Answer::OpenRefused(EventOpenError::ServiceInCorruptedState),
+        (3, 1, 0),
+        0,
     ),
 ];
 
 #[test]
-fn the_look_of_a_round_is_not_tried_again(rt: HostRuntime) {
-    for (row, &(parts, error, counters)) in LOOKS.iter().enumerate() {
-        let answer = Answer::OpenRefused(error);
+fn rounds_are_refused_over_scripts(rt: HostRuntime) {
+    for (row, &(parts, answer, counters, left)) in ROUNDS.iter().enumerate() {
         let found = counters_of(&rt, rt.alloc(), parts, (Call::OpenOrCreate(1), answer));
-        assert_same(&rt, (row, found), (row, (counters, 0)));
+        assert_same(&rt, (row, found), (row, (counters, left)));
     }
 }
 
