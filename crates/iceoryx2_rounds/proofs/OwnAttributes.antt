@@ -13,6 +13,7 @@ use Rattle.iceoryx2_rounds.specs.declared.look.Outcome.{Outcome}
 use Rattle.iceoryx2_rounds.specs.Looks.{LeadsTo, gone, not_finalized, not_opened, not_read, not_fetched, not_decoded, malformed, other_hash, misfit, fits, IsLookWord, absent, broken, fetched}
 use Rattle.iceoryx2_rounds.specs.Creates.{IsServiceWord, not_locked, no_segment, not_published, published}
 use Rattle.iceoryx2_rounds.specs.Opens.{IsSecondLook, second_faulty, second_none, second_found}
+use Rattle.iceoryx2_rounds.specs.Opens.{IsOpening, untagged, got, refused, looked, again}
 
 module _ {F E C : Type 0} (m : Meaning F E C) (given : List Pair) (required : Description → List (Clause E)) where
   -- the same, with other attributes and another requirement
@@ -40,6 +41,13 @@ module _ {F E C : Type 0} (m : Meaning F E C) (given : List Pair) (required : De
   looks_again (second_faulty look back) = second_faulty (looks look) back
   looks_again (second_none look back) = second_none (looks look) back
   looks_again (second_found look back) = second_found (looks look) back
+
+  pub opens : {node : ℕ} {hash : ServiceHash} {n : ℕ} {answer : Option (Result ℕ E)} {word : List Letter} → IsOpening m node hash n answer word → IsOpening other node hash n answer word
+  opens (untagged e) = untagged e
+  opens (got t tag) = got t tag
+  opens (refused e is back) = refused e is back
+  opens (looked more) = looked (looks_again more)
+  opens (again more) = again (looks_again more)
 
   pub serves : {node : ℕ} {hash : ServiceHash} {d : Description} {tag : Tag} {word : List Letter} {answer : Result Factory C} → IsServiceWord m node hash d tag word answer → IsServiceWord other node hash d tag word answer
   serves (not_locked e back) = not_locked e back

@@ -81,6 +81,23 @@ module _ {F E C : Type 0} (m : Meaning F E C) (node : ℕ) (hash : ServiceHash) 
         → IsLookWord m node hash v (Found k e) → GivesBack node hash (own_tag tag) w
         → IsSecondLook tag None (v ++ w)
 
+  -- the rest of a round whose service is accepted, with the number of its segment: a ticket, an error, or a wish for
+  -- another round;
+  pub data IsOpening (n : ℕ) : Option (Result ℕ E) → List Letter → Type 0 where
+    untagged : (e : TagError)
+        → IsOpening n (Some (Err (m.open_refusal (of_tag_opening e)))) (MakeTag node hash (Err e) ∷ [])
+    got : (t : ℕ) (tag : Tag)
+        → IsOpening n (Some (Ok t)) (MakeTag node hash (Ok tag) ∷ OpenSegment node hash n (Ok t) ∷ [])
+    refused : {v : List Letter} {tag : Tag} (e : OpenSegmentError) {why : OpenRefusal}
+        → of_opening e ≡ Some why → GivesBack node hash (own_tag tag) v
+        → IsOpening n (Some (Err (m.open_refusal why)))
+        (MakeTag node hash (Ok tag) ∷ OpenSegment node hash n (Err e) ∷ v)
+    looked : {v : List Letter} {tag : Tag} {error : E} → IsSecondLook tag (Some error) v
+        → IsOpening n (Some (Err error))
+        (MakeTag node hash (Ok tag) ∷ OpenSegment node hash n (Err segment.Failed) ∷ v)
+    again : {v : List Letter} {tag : Tag} → IsSecondLook tag None v
+        → IsOpening n None (MakeTag node hash (Ok tag) ∷ OpenSegment node hash n (Err segment.Failed) ∷ v)
+
   -- and one round, which may ask for another.
   abbrev pub IsRound : List Letter → Option (Result Factory E) → Type 0
   IsRound word None = IsFailedRound word

@@ -4,7 +4,7 @@ ghost use Rattle.std.specs.Prelude.{◌≡◌, Option};
 ghost use Rattle.iceoryx2_access.specs.Run.{Joins};
 ghost use Rattle.iceoryx2_pattern.specs.OwnAttributes.{requiring};
 ghost use Rattle.iceoryx2_pattern.specs.Verdict.{verdict};
-ghost use Rattle.iceoryx2_rounds.specs.Opens.{IsOpenWord, IsRound, IsSecondLook};
+ghost use Rattle.iceoryx2_rounds.specs.Opens.{IsOpenWord, IsOpening, IsRound, IsSecondLook};
 ghost use Rattle.iceoryx2_rounds.specs.Refusals.{of_opening, of_tag_opening};
 
 use crate::give_back::give_back_tag;
@@ -85,6 +85,37 @@ fn look_again<P: Pattern, S: Storage>(
     }
 }
 
+/// Makes the node's tag and opens the segment of this number. A ticket, an error, or `None`, which asks
+/// for another round.
+fn open_with_tag<P: Pattern, S: Storage>(
+    pattern: &P,
+    node: u64,
+    hash: &ServiceHash,
+    number: u64,
+    storage: &mut S,
+) -> Option<Result<u64, P::OpenError>>
+    ensures { Joins S.step storage.old
+        (λ word. IsOpening (P.meaning pattern.now) node hash.now number result word) storage.new }
+{
+    let tag = match storage.make_tag(node, hash) {
+        Ok(tag) => tag,
+        Err(error) => return Some(Err(pattern.open_refusal(tag_refusal(error)))),
+    };
+    match storage.open_segment(node, hash, number) {
+        Ok(ticket) => Some(Ok(ticket)),
+        Err(error) => match opening_refusal(error) {
+            Some(refusal) => {
+                give_back_tag(node, hash, tag, storage);
+                Some(Err(pattern.open_refusal(refusal)))
+            }
+            None => match look_again(pattern, node, hash, tag, storage) {
+                Some(error) => Some(Err(error)),
+                None => None,
+            },
+        },
+    }
+}
+
 /// One round. `None` asks for another one.
 fn try_open<P: Pattern, S: Storage>(
     pattern: &P,
@@ -105,22 +136,10 @@ fn try_open<P: Pattern, S: Storage>(
         Ok(()) => {}
         Err(error) => return Some(Err(error)),
     }
-    let tag = match storage.make_tag(node, hash) {
-        Ok(tag) => tag,
-        Err(error) => return Some(Err(pattern.open_refusal(tag_refusal(error)))),
-    };
-    match storage.open_segment(node, hash, number) {
-        Ok(ticket) => Some(Ok(Registration::new(node, number, ticket, description))),
-        Err(error) => match opening_refusal(error) {
-            Some(refusal) => {
-                give_back_tag(node, hash, tag, storage);
-                Some(Err(pattern.open_refusal(refusal)))
-            }
-            None => match look_again(pattern, node, hash, tag, storage) {
-                Some(error) => Some(Err(error)),
-                None => None,
-            },
-        },
+    match open_with_tag(pattern, node, hash, number, storage) {
+        Some(Ok(ticket)) => Some(Ok(Registration::new(node, number, ticket, description))),
+        Some(Err(error)) => Some(Err(error)),
+        None => None,
     }
 }
 

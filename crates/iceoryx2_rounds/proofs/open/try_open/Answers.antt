@@ -1,9 +1,8 @@
-use Rattle.std.proofs.Common.{sym}
-use Rattle.iceoryx2_access.proofs.Run.{joins, one, both}
-use Rattle.iceoryx2_access.specs.Run.{next}
-use Rattle.iceoryx2_rounds.specs.Opens.{ready, look_faulty, look_none, not_accepted, no_tag, not_opened, opened}
-use Rattle.iceoryx2_rounds.proofs.OwnAttributes.{looks, looks_again}
-use Rattle.iceoryx2_rounds.proofs.OpenSteps.{only_failed, ends, goes_on}
+use Rattle.std.proofs.Common.{ap, sym, Some}
+use Rattle.iceoryx2_access.proofs.Run.{joins, both}
+use Rattle.iceoryx2_rounds.specs.Opens.{look_faulty, look_none, not_accepted}
+use Rattle.iceoryx2_rounds.proofs.OwnAttributes.{looks, opens}
+use Rattle.iceoryx2_rounds.proofs.OpenSteps.{gets, stops, repeats}
 use Rattle.iceoryx2_rounds.proofs.open.try_open.Goals as goal
 
 pub returns-in-Faulty : goal.returns-in-Faulty
@@ -15,25 +14,20 @@ returns-in-Nothing g c = let seen = c.in-Nothing.ensures in rw c.open_refusal.en
 pub returns-in-Err : goal.returns-in-Err
 returns-in-Err g c = let seen = c.in-Found.ensures in joins (not_accepted (looks _ _ _ seen.is_word) (sym c.in-Err.ensures)) seen.run
 
-pub returns-in-Err-make_tag : goal.returns-in-Err-make_tag
-returns-in-Err-make_tag g c = let seen = c.in-Found.ensures in rw (c.open_refusal-in-Err-make_tag.ensures, c.tag_refusal.ensures) (joins (no_tag c.in-Err-make_tag.error (looks _ _ _ seen.is_word) (sym c.in-Ok.ensures)) (both seen.run (one c.in-Err-make_tag.ensures)))
-
-pub returns-in-Ok-open_segment : goal.returns-in-Ok-open_segment
-returns-in-Ok-open_segment g c = let seen = c.in-Found.ensures in rw c.new.ensures (joins (opened c.in-Ok-open_segment.ticket (ready c.in-Ok-make_tag.tag (looks _ _ _ seen.is_word) (sym c.in-Ok.ensures))) (both (both seen.run (one c.in-Ok-make_tag.ensures)) (one c.in-Ok-open_segment.ensures)))
-
-pub returns-in-Some : goal.returns-in-Some
-returns-in-Some g c = let seen = c.in-Found.ensures in let back = c.give_back_tag.ensures in rw c.open_refusal-in-Some.ensures (joins (not_opened c.in-Err-open_segment.error (sym c.in-Some.ensures) (ready c.in-Ok-make_tag.tag (looks _ _ _ seen.is_word) (sym c.in-Ok.ensures)) back.is_word) (both (both seen.run (one c.in-Ok-make_tag.ensures)) (next c.in-Err-open_segment.ensures back.run)))
-
-pub returns-in-Some-look_again : goal.returns-in-Some-look_again
-returns-in-Some-look_again g c =
+pub returns-in-Some-Ok : goal.returns-in-Some-Ok
+returns-in-Some-Ok g c =
     let seen = c.in-Found.ensures in
-    let more = c.in-Some-look_again.ensures in
-    let failed = only_failed c.in-Err-open_segment.error (sym c.in-None.ensures) in
-    joins (ends (ready c.in-Ok-make_tag.tag (looks _ _ _ seen.is_word) (sym c.in-Ok.ensures)) (looks_again _ _ _ more.is_word)) (both (both seen.run (one c.in-Ok-make_tag.ensures)) (next (rw failed at c.in-Err-open_segment.ensures) more.run))
+    let more = c.in-Some-Ok.ensures in
+    rw c.new.ensures (joins (gets c.in-Some-Ok.ticket (ap (λ x. Some x) c.in-Some-Ok.field-0-is) (looks _ _ _ seen.is_word) (sym c.in-Ok.ensures) (opens _ _ _ more.is_word)) (both seen.run more.run))
 
-pub returns : goal.returns
-returns g c =
+pub returns-in-Some-Err : goal.returns-in-Some-Err
+returns-in-Some-Err g c =
     let seen = c.in-Found.ensures in
-    let more = c.in-None-look_again.ensures in
-    let failed = only_failed c.in-Err-open_segment.error (sym c.in-None.ensures) in
-    joins (goes_on (ready c.in-Ok-make_tag.tag (looks _ _ _ seen.is_word) (sym c.in-Ok.ensures)) (looks_again _ _ _ more.is_word)) (both (both seen.run (one c.in-Ok-make_tag.ensures)) (next (rw failed at c.in-Err-open_segment.ensures) more.run))
+    let more = c.in-Some-Err.ensures in
+    joins (stops c.in-Some-Err.error (ap (λ x. Some x) c.in-Some-Err.field-0-is) (looks _ _ _ seen.is_word) (sym c.in-Ok.ensures) (opens _ _ _ more.is_word)) (both seen.run more.run)
+
+pub returns-in-None : goal.returns-in-None
+returns-in-None g c =
+    let seen = c.in-Found.ensures in
+    let more = c.in-None.ensures in
+    joins (repeats (looks _ _ _ seen.is_word) (sym c.in-Ok.ensures) (opens _ _ _ more.is_word)) (both seen.run more.run)
