@@ -6,11 +6,8 @@ use Rattle.iceoryx2_values.specs.declared.description.MessagingPattern.{Messagin
 use Rattle.iceoryx2_values.specs.declared.description.MessagingPattern.TheVariants as pattern
 use Rattle.iceoryx2_values.specs.Description.{Description}
 use Rattle.iceoryx2_data.specs.Form.{IsForm}
-use Rattle.iceoryx2_errors.specs.Texts.{event_open_error_name, event_create_error_name}
-use Rattle.iceoryx2_errors.specs.Texts.{publish_subscribe_open_error_name, publish_subscribe_create_error_name}
-use Rattle.iceoryx2_errors.specs.Texts.{request_response_open_error_name, request_response_create_error_name}
-use Rattle.iceoryx2_errors.specs.Texts.{event_open_or_create_error_name, publish_subscribe_open_or_create_error_name}
-use Rattle.iceoryx2_errors.specs.Texts.{request_response_open_or_create_error_name}
+use Rattle.iceoryx2_errors.specs.AnyError.{text_of}
+use Rattle.iceoryx2_errors.specs.AnyError as error
 use Rattle.iceoryx2_world.specs.declared.listing.Entry.{Entry}
 use Rattle.iceoryx2_world.specs.declared.listing.ListedRow.TheVariants as listed
 use Rattle.iceoryx2_world.specs.declared.listing.ListedSegment.{ListedSegment}
@@ -21,21 +18,15 @@ use Rattle.iceoryx2_service.specs.declared.command.Reply.TheVariants as reply
 
 -- an error's text
 abbrev pub refusal_text : Refusal → List ℕ
-refusal_text (refusal.EventOpen e) = codes "EventOpenError::" ++ event_open_error_name e
-refusal_text (refusal.EventCreate e) = codes "EventCreateError::" ++ event_create_error_name e
-refusal_text (refusal.EventOpenOrCreate e) =
-    codes "EventOpenOrCreateError::" ++ event_open_or_create_error_name e
-refusal_text (refusal.PublishSubscribeOpen e) =
-    codes "PublishSubscribeOpenError::" ++ publish_subscribe_open_error_name e
-refusal_text (refusal.PublishSubscribeCreate e) =
-    codes "PublishSubscribeCreateError::" ++ publish_subscribe_create_error_name e
-refusal_text (refusal.PublishSubscribeOpenOrCreate e) =
-    codes "PublishSubscribeOpenOrCreateError::" ++ publish_subscribe_open_or_create_error_name e
-refusal_text (refusal.RequestResponseOpen e) = codes "RequestResponseOpenError::" ++ request_response_open_error_name e
-refusal_text (refusal.RequestResponseCreate e) =
-    codes "RequestResponseCreateError::" ++ request_response_create_error_name e
-refusal_text (refusal.RequestResponseOpenOrCreate e) =
-    codes "RequestResponseOpenOrCreateError::" ++ request_response_open_or_create_error_name e
+refusal_text (refusal.EventOpen e) = text_of (error.EventOpen e)
+refusal_text (refusal.EventCreate e) = text_of (error.EventCreate e)
+refusal_text (refusal.EventOpenOrCreate e) = text_of (error.EventOpenOrCreate e)
+refusal_text (refusal.PublishSubscribeOpen e) = text_of (error.PublishSubscribeOpen e)
+refusal_text (refusal.PublishSubscribeCreate e) = text_of (error.PublishSubscribeCreate e)
+refusal_text (refusal.PublishSubscribeOpenOrCreate e) = text_of (error.PublishSubscribeOpenOrCreate e)
+refusal_text (refusal.RequestResponseOpen e) = text_of (error.RequestResponseOpen e)
+refusal_text (refusal.RequestResponseCreate e) = text_of (error.RequestResponseCreate e)
+refusal_text (refusal.RequestResponseOpenOrCreate e) = text_of (error.RequestResponseOpenOrCreate e)
 
 -- the word by which a pattern's command lines begin
 abbrev pub pattern_word : MessagingPattern → List ℕ

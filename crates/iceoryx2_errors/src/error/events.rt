@@ -1,8 +1,8 @@
 //! Why calls of builders of events are refused.
 
-ghost use Rattle.std.specs.Prelude.{◌≡◌, ◌++◌, codes, Some};
+ghost use Rattle.std.specs.Prelude.{◌≡◌, Some};
+ghost use Rattle.iceoryx2_errors.specs.AnyError.{EventCreate, EventOpen, EventOpenOrCreate, text_of};
 ghost use Rattle.iceoryx2_errors.specs.Texts.{event_create_error_name, event_open_error_name};
-ghost use Rattle.iceoryx2_errors.specs.Texts.{event_open_or_create_error_name};
 ghost use Rattle.iceoryx2_errors.specs.States.{create_error_of_state, open_error_of_state};
 ghost use Rattle.iceoryx2_errors.specs.declared.error.events.EventOpenOrCreateError.TheVariants as either;
 
@@ -85,7 +85,7 @@ impl EventOpenError {
 }
 
 impl fmt::Display for EventOpenError {
-    ghost output = { λ error. Some (codes "EventOpenError::" ++ event_open_error_name error) };
+    ghost output = { λ error. Some (text_of (EventOpen error)) };
 
     fn fmt<W: fmt::Write>(&self, f: &mut fmt::Formatter<W>) -> fmt::Result {
         let name = self.name();
@@ -149,7 +149,7 @@ impl EventCreateError {
 }
 
 impl fmt::Display for EventCreateError {
-    ghost output = { λ error. Some (codes "EventCreateError::" ++ event_create_error_name error) };
+    ghost output = { λ error. Some (text_of (EventCreate error)) };
 
     fn fmt<W: fmt::Write>(&self, f: &mut fmt::Formatter<W>) -> fmt::Result {
         let name = self.name();
@@ -186,8 +186,7 @@ pub enum EventOpenOrCreateError {
 }
 
 impl fmt::Display for EventOpenOrCreateError {
-    ghost output = { λ error.
-        Some (codes "EventOpenOrCreateError::" ++ event_open_or_create_error_name error) };
+    ghost output = { λ error. Some (text_of (EventOpenOrCreate error)) };
 
     fn fmt<W: fmt::Write>(&self, f: &mut fmt::Formatter<W>) -> fmt::Result {
         match self {

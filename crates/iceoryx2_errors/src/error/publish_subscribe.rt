@@ -1,8 +1,8 @@
 //! Why calls of builders of publish-subscribe are refused.
 
-ghost use Rattle.std.specs.Prelude.{◌≡◌, ◌++◌, codes, Some};
+ghost use Rattle.std.specs.Prelude.{◌≡◌, Some};
+ghost use Rattle.iceoryx2_errors.specs.AnyError.{PublishSubscribeCreate, PublishSubscribeOpen, PublishSubscribeOpenOrCreate, text_of};
 ghost use Rattle.iceoryx2_errors.specs.Texts.{publish_subscribe_create_error_name, publish_subscribe_open_error_name};
-ghost use Rattle.iceoryx2_errors.specs.Texts.{publish_subscribe_open_or_create_error_name};
 ghost use Rattle.iceoryx2_errors.specs.States.{publish_subscribe_create_error_of_state, publish_subscribe_open_error_of_state};
 ghost use Rattle.iceoryx2_errors.specs.declared.error.publish_subscribe.PublishSubscribeOpenOrCreateError.TheVariants as either;
 
@@ -98,7 +98,7 @@ impl PublishSubscribeOpenError {
 }
 
 impl fmt::Display for PublishSubscribeOpenError {
-    ghost output = { λ error. Some (codes "PublishSubscribeOpenError::" ++ publish_subscribe_open_error_name error) };
+    ghost output = { λ error. Some (text_of (PublishSubscribeOpen error)) };
 
     fn fmt<W: fmt::Write>(&self, f: &mut fmt::Formatter<W>) -> fmt::Result {
         let name = self.name();
@@ -171,8 +171,7 @@ impl PublishSubscribeCreateError {
 }
 
 impl fmt::Display for PublishSubscribeCreateError {
-    ghost output = { λ error.
-        Some (codes "PublishSubscribeCreateError::" ++ publish_subscribe_create_error_name error) };
+    ghost output = { λ error. Some (text_of (PublishSubscribeCreate error)) };
 
     fn fmt<W: fmt::Write>(&self, f: &mut fmt::Formatter<W>) -> fmt::Result {
         let name = self.name();
@@ -215,8 +214,7 @@ pub enum PublishSubscribeOpenOrCreateError {
 }
 
 impl fmt::Display for PublishSubscribeOpenOrCreateError {
-    ghost output = { λ error.
-        Some (codes "PublishSubscribeOpenOrCreateError::" ++ publish_subscribe_open_or_create_error_name error) };
+    ghost output = { λ error. Some (text_of (PublishSubscribeOpenOrCreate error)) };
 
     fn fmt<W: fmt::Write>(&self, f: &mut fmt::Formatter<W>) -> fmt::Result {
         match self {

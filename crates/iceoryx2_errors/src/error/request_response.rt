@@ -1,8 +1,8 @@
 //! Why calls of builders of request-response are refused.
 
-ghost use Rattle.std.specs.Prelude.{◌≡◌, ◌++◌, codes, Some};
+ghost use Rattle.std.specs.Prelude.{◌≡◌, Some};
+ghost use Rattle.iceoryx2_errors.specs.AnyError.{RequestResponseCreate, RequestResponseOpen, RequestResponseOpenOrCreate, text_of};
 ghost use Rattle.iceoryx2_errors.specs.Texts.{request_response_create_error_name, request_response_open_error_name};
-ghost use Rattle.iceoryx2_errors.specs.Texts.{request_response_open_or_create_error_name};
 ghost use Rattle.iceoryx2_errors.specs.States.{request_response_create_error_of_state, request_response_open_error_of_state};
 ghost use Rattle.iceoryx2_errors.specs.declared.error.request_response.RequestResponseOpenOrCreateError.TheVariants as either;
 
@@ -117,7 +117,7 @@ impl RequestResponseOpenError {
 }
 
 impl fmt::Display for RequestResponseOpenError {
-    ghost output = { λ error. Some (codes "RequestResponseOpenError::" ++ request_response_open_error_name error) };
+    ghost output = { λ error. Some (text_of (RequestResponseOpen error)) };
 
     fn fmt<W: fmt::Write>(&self, f: &mut fmt::Formatter<W>) -> fmt::Result {
         let name = self.name();
@@ -188,8 +188,7 @@ impl RequestResponseCreateError {
 }
 
 impl fmt::Display for RequestResponseCreateError {
-    ghost output = { λ error.
-        Some (codes "RequestResponseCreateError::" ++ request_response_create_error_name error) };
+    ghost output = { λ error. Some (text_of (RequestResponseCreate error)) };
 
     fn fmt<W: fmt::Write>(&self, f: &mut fmt::Formatter<W>) -> fmt::Result {
         let name = self.name();
@@ -234,8 +233,7 @@ pub enum RequestResponseOpenOrCreateError {
 }
 
 impl fmt::Display for RequestResponseOpenOrCreateError {
-    ghost output = { λ error.
-        Some (codes "RequestResponseOpenOrCreateError::" ++ request_response_open_or_create_error_name error) };
+    ghost output = { λ error. Some (text_of (RequestResponseOpenOrCreate error)) };
 
     fn fmt<W: fmt::Write>(&self, f: &mut fmt::Formatter<W>) -> fmt::Result {
         match self {
