@@ -9,7 +9,7 @@ use iceoryx2_access::storage::Storage;
 use iceoryx2_attributes::attribute::AttributeVerifier;
 use iceoryx2_port_factory::port_factory::Registration;
 use iceoryx2_rounds::create::create;
-use iceoryx2_rounds::look::{Outcome, look};
+use iceoryx2_rounds::look::{Sight, look};
 use iceoryx2_rounds::open::open;
 use iceoryx2_values::description::{ServiceHash, ServiceName};
 use iceoryx2_values::time::{ClockFault, Time};
@@ -56,12 +56,12 @@ fn take_turn<P: Retries, S: Storage>(
     ensures { Joins S.step storage.old (λ word. IsTurn P.meaning P.adjusted P.retried verifier.now node hash.now
         name.now now pattern.old word result pattern.new) storage.new }
 {
-    match look(pattern, node, hash, storage) {
-        Outcome::Faulty(fault) => {
+    match look(pattern, node, hash, storage).sight() {
+        Sight::Unclear(fault) => {
             let error = pattern.open_error_of(fault);
             return Some(Err(OpenOrCreateRefusal::Open(error)));
         }
-        Outcome::Found(_, _) => match open(pattern, node, hash, verifier, storage) {
+        Sight::Present => match open(pattern, node, hash, verifier, storage) {
             Ok(registration) => return Some(Ok(registration)),
             Err(error) => {
                 if P::retries_open(error) {
@@ -70,7 +70,7 @@ fn take_turn<P: Retries, S: Storage>(
                 return Some(Err(OpenOrCreateRefusal::Open(error)));
             }
         },
-        Outcome::Nothing => {}
+        Sight::Absent => {}
     }
     let attributes = verifier.required_attributes();
     match create(pattern, node, hash, name, attributes, now, storage) {

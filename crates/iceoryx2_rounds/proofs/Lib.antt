@@ -1,3 +1,4 @@
+pub mod CreateSteps
 pub mod LookSteps
 pub mod OpenSteps
 pub mod OwnAttributes

@@ -1,4 +1,5 @@
 use Rattle.std.proofs.Common.{◌≡◌, ◌∷◌, ◌++◌, [], ℕ, List, Ok, Err, Some, None, Option, Result, refl, append_assoc}
+use Rattle.std.proofs.lemmas.List.{append-nil}
 use Rattle.iceoryx2_values.specs.declared.description.ServiceHash.{ServiceHash}
 use Rattle.iceoryx2_values.specs.Description.{Description}
 use Rattle.iceoryx2_access.specs.declared.storage.Tag.{Tag}
@@ -12,7 +13,7 @@ use Rattle.iceoryx2_rounds.specs.declared.look.Outcome.TheVariants.{Found}
 use Rattle.iceoryx2_rounds.specs.Looks.{IsLookWord}
 use Rattle.iceoryx2_rounds.specs.Refusals.{of_opening, of_tag_opening}
 use Rattle.iceoryx2_rounds.specs.Opens.{IsReady, IsSecondLook, second_faulty, second_none, second_found, IsLastRound, IsFailedRound, ready, no_tag, not_opened, opened, then_faulty, then_none, failed}
-use Rattle.iceoryx2_rounds.specs.Opens.{IsOpening, untagged, got, refused, looked, again}
+use Rattle.iceoryx2_rounds.specs.Opens.{IsTaggedOpening, untagged, got, refused, looked, again, IsRestOfRound, registered, not_accepted}
 
 -- only a failed opening is no refusal
 pub only_failed : (e : OpenSegmentError) → of_opening e ≡ None → e ≡ segment.Failed
@@ -47,44 +48,23 @@ goes_on r s = goes_on_by refl r s
 
 -- ---- the rest of a round, behind a look whose service is accepted
 
--- a tag between a look and an opening belongs to either
-behind : (u : List Letter) (tag letter : Letter) (v : List Letter) → (u ++ tag ∷ []) ++ letter ∷ v ≡ u ++ tag ∷ letter ∷ v
+-- a tag between two words belongs to either
+pub behind : (u : List Letter) (tag letter : Letter) (v : List Letter) → (u ++ tag ∷ []) ++ letter ∷ v ≡ u ++ tag ∷ letter ∷ v
 behind u tag letter v = append_assoc u (tag ∷ []) (letter ∷ v)
 
 module _ {F E C : Type 0} {m : Meaning F E C} {node : ℕ} {hash : ServiceHash} {n : ℕ} {d : Description} where
-  pub gets : {u v : List Letter} {answer : Option (Result ℕ E)} (t : ℕ) → answer ≡ Some (Ok t) → IsLookWord m node hash u (Found n d)
-      → verdict (m.requirement d) ≡ Ok tt → IsOpening m node hash n answer v
-      → IsLastRound m node hash (u ++ v) (Ok (record { node = node; number = n; ticket = t; description = d }))
-  gets t h look accepted (untagged e) = absurd (cc)
-  gets {u} t h look accepted (got s tag) =
-      let same : s ≡ t = cc in
-      rw (← same, ← behind u (MakeTag node hash (Ok tag)) (OpenSegment node hash n (Ok s)) []) (opened s (ready tag look accepted))
-  gets t h look accepted (refused e is back) = absurd (cc)
-  gets t h look accepted (looked more) = absurd (cc)
-  gets t h look accepted (again more) = absurd (cc)
-
-  pub stops : {u v : List Letter} {answer : Option (Result ℕ E)} (error : E) → answer ≡ Some (Err error) → IsLookWord m node hash u (Found n d)
-      → verdict (m.requirement d) ≡ Ok tt → IsOpening m node hash n answer v → IsLastRound m node hash (u ++ v) (Err error)
-  stops error h look accepted (untagged e) =
-      let same : m.open_refusal (of_tag_opening e) ≡ error = cc in rw (← same) (no_tag e look accepted)
-  stops error h look accepted (got s tag) = absurd (cc)
-  stops {u} error h look accepted (refused {v} {tag} e {why} is back) =
-      let same : m.open_refusal why ≡ error = cc in
-      rw (← same, ← behind u (MakeTag node hash (Ok tag)) (OpenSegment node hash n (Err e)) v) (not_opened e is (ready tag look accepted) back)
-  stops {u} error h look accepted (looked {v} {tag} {error = told} more) =
-      let same : told ≡ error = cc in
-      rw (← same, ← behind u (MakeTag node hash (Ok tag)) (OpenSegment node hash n (Err segment.Failed)) v) (ends (ready tag look accepted) more)
-  stops error h look accepted (again more) = absurd (cc)
-
-  repeats_by : {u v : List Letter} {answer : Option (Result ℕ E)} → answer ≡ None → IsLookWord m node hash u (Found n d)
-      → verdict (m.requirement d) ≡ Ok tt → IsOpening m node hash n answer v → IsFailedRound m node hash (u ++ v)
-  repeats_by h look accepted (untagged e) = absurd (cc)
-  repeats_by h look accepted (got s tag) = absurd (cc)
-  repeats_by h look accepted (refused e is back) = absurd (cc)
-  repeats_by h look accepted (looked more) = absurd (cc)
-  repeats_by {u} h look accepted (again {v} {tag} more) =
+  pub round_of : {v : List Letter} {answer : Option (Result ℕ E)} → verdict (m.requirement d) ≡ Ok tt → IsTaggedOpening m node hash n answer v
+      → IsRestOfRound m node hash n d v (registered node n d answer)
+  round_of accepted (untagged e) u look = no_tag e look accepted
+  round_of accepted (got t tag) u look =
+      rw (← behind u (MakeTag node hash (Ok tag)) (OpenSegment node hash n (Ok t)) []) (opened t (ready tag look accepted))
+  round_of accepted (refused {v} {tag} e is back) u look =
+      rw (← behind u (MakeTag node hash (Ok tag)) (OpenSegment node hash n (Err e)) v) (not_opened e is (ready tag look accepted) back)
+  round_of accepted (looked {v} {tag} more) u look =
+      rw (← behind u (MakeTag node hash (Ok tag)) (OpenSegment node hash n (Err segment.Failed)) v) (ends (ready tag look accepted) more)
+  round_of accepted (again {v} {tag} more) u look =
       rw (← behind u (MakeTag node hash (Ok tag)) (OpenSegment node hash n (Err segment.Failed)) v) (goes_on (ready tag look accepted) more)
 
-  pub repeats : {u v : List Letter} → IsLookWord m node hash u (Found n d) → verdict (m.requirement d) ≡ Ok tt
-      → IsOpening m node hash n None v → IsFailedRound m node hash (u ++ v)
-  repeats look accepted more = repeats_by refl look accepted more
+  -- a service that isn't accepted
+  pub not_met : {error : E} → verdict (m.requirement d) ≡ Err error → IsRestOfRound m node hash n d [] (Some (Err error))
+  not_met h u look = rw (append-nil u) (not_accepted look h)

@@ -1,5 +1,5 @@
--- A look, a second look and the part from the lock on know nothing of attributes.
-use Rattle.std.proofs.Common.{ℕ, List, Option, Result}
+-- A look, a second look and what a create does with a given description know nothing of attributes.
+use Rattle.std.proofs.Common.{ℕ, Bool, List, Option, Result}
 use Rattle.iceoryx2_attributes.specs.Attributes.{Pair}
 use Rattle.iceoryx2_values.specs.declared.description.ServiceHash.{ServiceHash}
 use Rattle.iceoryx2_values.specs.Description.{Description}
@@ -12,8 +12,10 @@ use Rattle.iceoryx2_pattern.specs.Verdict.{Clause}
 use Rattle.iceoryx2_rounds.specs.declared.look.Outcome.{Outcome}
 use Rattle.iceoryx2_rounds.specs.Looks.{LeadsTo, gone, not_finalized, not_opened, not_read, not_fetched, not_decoded, malformed, other_hash, misfit, fits, IsLookWord, absent, broken, fetched}
 use Rattle.iceoryx2_rounds.specs.Creates.{IsServiceWord, not_locked, no_segment, not_published, published}
+use Rattle.iceoryx2_rounds.specs.Creates.{IsEntryWord, look_faulty, look_found, counted, no_copies, no_tag, entered}
+use Rattle.iceoryx2_rounds.specs.Creates.{IsCreating, forbidden, not_entered, clock_fault, made}
 use Rattle.iceoryx2_rounds.specs.Opens.{IsSecondLook, second_faulty, second_none, second_found}
-use Rattle.iceoryx2_rounds.specs.Opens.{IsOpening, untagged, got, refused, looked, again}
+use Rattle.iceoryx2_rounds.specs.Opens.{IsTaggedOpening, untagged, got, refused, looked, again}
 
 module _ {F E C : Type 0} (m : Meaning F E C) (given : List Pair) (required : Description → List (Clause E)) where
   -- the same, with other attributes and another requirement
@@ -42,15 +44,29 @@ module _ {F E C : Type 0} (m : Meaning F E C) (given : List Pair) (required : De
   looks_again (second_none look back) = second_none (looks look) back
   looks_again (second_found look back) = second_found (looks look) back
 
-  pub opens : {node : ℕ} {hash : ServiceHash} {n : ℕ} {answer : Option (Result ℕ E)} {word : List Letter} → IsOpening m node hash n answer word → IsOpening other node hash n answer word
+  pub opens : {node : ℕ} {hash : ServiceHash} {n : ℕ} {answer : Option (Result ℕ E)} {word : List Letter} → IsTaggedOpening m node hash n answer word → IsTaggedOpening other node hash n answer word
   opens (untagged e) = untagged e
   opens (got t tag) = got t tag
   opens (refused e is back) = refused e is back
   opens (looked more) = looked (looks_again more)
   opens (again more) = again (looks_again more)
 
-  pub serves : {node : ℕ} {hash : ServiceHash} {d : Description} {tag : Tag} {word : List Letter} {answer : Result Factory C} → IsServiceWord m node hash d tag word answer → IsServiceWord other node hash d tag word answer
+  pub enters : {node : ℕ} {hash : ServiceHash} {word : List Letter} {answer : Result Tag C} → IsEntryWord m node hash word answer → IsEntryWord other node hash word answer
+  enters (look_faulty look) = look_faulty (looks look)
+  enters (look_found look) = look_found (looks look)
+  enters (counted look) = counted (looks look)
+  enters (no_copies look) = no_copies (looks look)
+  enters (no_tag e look) = no_tag e (looks look)
+  enters (entered tag look) = entered tag (looks look)
+
+  serves : {node : ℕ} {hash : ServiceHash} {d : Description} {tag : Tag} {word : List Letter} {answer : Result Factory C} → IsServiceWord m node hash d tag word answer → IsServiceWord other node hash d tag word answer
   serves (not_locked e back) = not_locked e back
   serves (no_segment segment back) = no_segment segment back
   serves (not_published e segment back) = not_published e segment back
   serves (published n t segment) = published n t segment
+
+  pub creates : {node : ℕ} {hash : ServiceHash} {stops : Bool} {d : Description} {word : List Letter} {answer : Result Factory C} → IsCreating m node hash stops d word answer → IsCreating other node hash stops d word answer
+  creates (forbidden h) = forbidden h
+  creates (not_entered h entry) = not_entered h (enters entry)
+  creates (clock_fault h stops entry back) = clock_fault h stops (enters entry) back
+  creates (made h goes_on entry service) = made h goes_on (enters entry) (serves service)

@@ -1,5 +1,5 @@
 -- The words of create, with their answers.
-use Rattle.std.specs.Prelude.{◌≡◌, ℕ, Bool, true, false, List, [], ◌∷◌, ◌++◌, Result, Ok, Err, Some, None}
+use Rattle.std.specs.Prelude.{◌≡◌, ℕ, Bool, true, false, List, [], ◌∷◌, ◌++◌, Result, Ok, Err, Option, Some, None}
 use Rattle.iceoryx2_values.specs.declared.description.ServiceHash.{ServiceHash}
 use Rattle.iceoryx2_values.specs.declared.time.ClockFault.{ClockFault}
 use Rattle.iceoryx2_values.specs.Description.{Description, max_nodes_of}
@@ -10,6 +10,7 @@ use Rattle.iceoryx2_access.specs.declared.storage.LockError.{LockError}
 use Rattle.iceoryx2_access.specs.declared.storage.PublishError.{PublishError}
 use Rattle.iceoryx2_access.specs.Letter.{Letter, Counts, MakeTag, Lock, Publish}
 use Rattle.iceoryx2_rounds.specs.declared.look.Outcome.TheVariants.{Nothing, Found, Faulty}
+use Rattle.iceoryx2_rounds.specs.declared.create.Created.{Created}
 use Rattle.iceoryx2_pattern.specs.declared.pattern.CreateRefusal.{CreateRefusal}
 use Rattle.iceoryx2_pattern.specs.declared.pattern.CreateRefusal.TheVariants as refusal
 use Rattle.iceoryx2_pattern.specs.Meaning.{Meaning}
@@ -39,6 +40,10 @@ description_of m hash name now = record {
   attributes = m.attributes;
   pattern = m.published (time_of now);
 }
+
+-- what the node holds that created a service of this description
+abbrev pub factory_of : ℕ → Description → Created → Factory
+factory_of node d created = record { node = node; number = created.number; ticket = created.ticket; description = d }
 
 module _ {F E C : Type 0} (m : Meaning F E C) (node : ℕ) (hash : ServiceHash) where
   -- The words up to the tag: nothing is found, the node isn't counted, and it has its tag; or what is in the way.
@@ -91,3 +96,17 @@ module _ {F E C : Type 0} (m : Meaning F E C) (node : ℕ) (hash : ServiceHash) 
   abbrev pub IsCreateWord : List ℕ → Result Span ClockFault → List Letter → Result Factory C → Type 0
   IsCreateWord name now word answer =
       IsCreating (clock_stops m.needs_clock now) (description_of m hash name now) word answer
+
+  -- What the code's parts are said by: a look that finds nothing, and a count that doesn't know the node,
+  pub data IsFree : List Letter → Type 0 where
+    free : {u : List Letter} → IsLookWord m node hash u Nothing → IsFree (u ++ Counts node hash false ∷ [])
+
+  -- or what is in the way instead;
+  abbrev pub IsObstacle : List Letter → Option C → Type 0
+  IsObstacle word None = IsFree word
+  IsObstacle word (Some error) = IsEntryWord word (Err error)
+
+  -- and what makes a create behind them.
+  abbrev pub IsRestOfCreate : Bool → Description → List Letter → Result Factory C → Type 0
+  IsRestOfCreate clock_stops d word answer =
+      (u : List Letter) → IsFree u → m.history_refusal ≡ None → IsCreating clock_stops d (u ++ word) answer

@@ -1,5 +1,5 @@
 -- The words of a look, with what it finds: one row a line, the first that fits.
-use Rattle.std.specs.Prelude.{◌≡◌, ◌≢◌, ℕ, List, [], ◌∷◌, Result, Ok, Err, Some, None}
+use Rattle.std.specs.Prelude.{◌≡◌, ◌≢◌, ℕ, List, [], ◌∷◌, Result, Ok, Err, Option, Some, None}
 use Rattle.iceoryx2_values.specs.declared.description.ServiceHash.{ServiceHash}
 use Rattle.iceoryx2_values.specs.Description.{Description}
 use Rattle.iceoryx2_data.specs.Form.{IsForm}
@@ -12,6 +12,8 @@ use Rattle.iceoryx2_pattern.specs.Meaning.{Meaning}
 use Rattle.iceoryx2_errors.specs.declared.error.ServiceState.TheVariants as state
 use Rattle.iceoryx2_rounds.specs.declared.look.Outcome.{Outcome}
 use Rattle.iceoryx2_rounds.specs.declared.look.Outcome.TheVariants.{Nothing, Found, Faulty}
+use Rattle.iceoryx2_rounds.specs.declared.look.Sight.{Sight}
+use Rattle.iceoryx2_rounds.specs.declared.look.Sight.TheVariants as sight
 
 -- Something may be there to be fetched.
 pub data MayBeThere : Existence → Type 0 where
@@ -44,3 +46,14 @@ module _ {F E C : Type 0} (m : Meaning F E C) (node : ℕ) (hash : ServiceHash) 
     fetched : {there : Existence} {answer : Result (ℕ × List ℕ) FetchError} {outcome : Outcome F}
         → MayBeThere there → LeadsTo m hash answer outcome
         → IsLookWord (Exists hash there ∷ Fetch node hash answer ∷ []) outcome
+
+-- A service that was read, unless a fault was seen in it.
+abbrev pub found_unless : {F : Type 0} → Option F → ℕ → Description → Outcome F
+found_unless (Some fault) number d = Faulty fault
+found_unless None number d = Found number d
+
+-- What a look finds, without the number and the description.
+abbrev pub sight_of : {F : Type 0} → Outcome F → Sight F
+sight_of Nothing = sight.Absent
+sight_of (Found number d) = sight.Present
+sight_of (Faulty fault) = sight.Unclear fault

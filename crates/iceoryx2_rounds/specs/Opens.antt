@@ -83,22 +83,34 @@ module _ {F E C : Type 0} (m : Meaning F E C) (node : ℕ) (hash : ServiceHash) 
 
   -- the rest of a round whose service is accepted, with the number of its segment: a ticket, an error, or a wish for
   -- another round;
-  pub data IsOpening (n : ℕ) : Option (Result ℕ E) → List Letter → Type 0 where
+  pub data IsTaggedOpening (n : ℕ) : Option (Result ℕ E) → List Letter → Type 0 where
     untagged : (e : TagError)
-        → IsOpening n (Some (Err (m.open_refusal (of_tag_opening e)))) (MakeTag node hash (Err e) ∷ [])
+        → IsTaggedOpening n (Some (Err (m.open_refusal (of_tag_opening e)))) (MakeTag node hash (Err e) ∷ [])
     got : (t : ℕ) (tag : Tag)
-        → IsOpening n (Some (Ok t)) (MakeTag node hash (Ok tag) ∷ OpenSegment node hash n (Ok t) ∷ [])
+        → IsTaggedOpening n (Some (Ok t)) (MakeTag node hash (Ok tag) ∷ OpenSegment node hash n (Ok t) ∷ [])
     refused : {v : List Letter} {tag : Tag} (e : OpenSegmentError) {why : OpenRefusal}
         → of_opening e ≡ Some why → GivesBack node hash (own_tag tag) v
-        → IsOpening n (Some (Err (m.open_refusal why)))
+        → IsTaggedOpening n (Some (Err (m.open_refusal why)))
         (MakeTag node hash (Ok tag) ∷ OpenSegment node hash n (Err e) ∷ v)
     looked : {v : List Letter} {tag : Tag} {error : E} → IsSecondLook tag (Some error) v
-        → IsOpening n (Some (Err error))
+        → IsTaggedOpening n (Some (Err error))
         (MakeTag node hash (Ok tag) ∷ OpenSegment node hash n (Err segment.Failed) ∷ v)
     again : {v : List Letter} {tag : Tag} → IsSecondLook tag None v
-        → IsOpening n None (MakeTag node hash (Ok tag) ∷ OpenSegment node hash n (Err segment.Failed) ∷ v)
+        → IsTaggedOpening n None (MakeTag node hash (Ok tag) ∷ OpenSegment node hash n (Err segment.Failed) ∷ v)
 
-  -- and one round, which may ask for another.
+  -- one round, which may ask for another;
   abbrev pub IsRound : List Letter → Option (Result Factory E) → Type 0
   IsRound word None = IsFailedRound word
   IsRound word (Some answer) = IsLastRound word answer
+
+  -- and what makes a round behind a look that finds this service.
+  abbrev pub IsRestOfRound : ℕ → Description → List Letter → Option (Result Factory E) → Type 0
+  IsRestOfRound n d word answer =
+      (u : List Letter) → IsLookWord m node hash u (Found n d) → IsRound (u ++ word) answer
+
+-- The same answer with what the node holds in place of its ticket.
+abbrev pub registered : {E : Type 0} → ℕ → ℕ → Description → Option (Result ℕ E)
+    → Option (Result Factory E)
+registered node n d None = None
+registered node n d (Some (Err error)) = Some (Err error)
+registered node n d (Some (Ok t)) = Some (Ok (record { node = node; number = n; ticket = t; description = d }))

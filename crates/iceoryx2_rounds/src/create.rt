@@ -5,12 +5,13 @@ ghost use Rattle.iceoryx2_access.specs.Run.{Joins};
 ghost use Rattle.iceoryx2_pattern.specs.OwnAttributes.{defining};
 ghost use Rattle.iceoryx2_rounds.specs.Answers.{map_ok};
 ghost use Rattle.iceoryx2_rounds.specs.Creates as creates;
-ghost use Rattle.iceoryx2_rounds.specs.Creates.{IsCreateWord, IsEntryWord, IsServiceWord, description_of};
+ghost use Rattle.iceoryx2_rounds.specs.Creates.{IsCreateWord, IsRestOfCreate, IsObstacle, IsServiceWord};
+ghost use Rattle.iceoryx2_rounds.specs.Creates.{description_of, factory_of};
 ghost use Rattle.iceoryx2_rounds.specs.Refusals.{of_lock, of_make, of_publish, of_remove, of_tag};
 ghost use Rattle.iceoryx2_rounds.specs.Segments.{IsSegmentWord};
 
 use crate::give_back::{give_back_lock, give_back_segment, give_back_tag};
-use crate::look::{Outcome, look};
+use crate::look::{Sight, look};
 use iceoryx2_access::storage::{
     LockError, MakeSegmentError, PublishError, RemoveError, Storage, Tag, TagError,
 };
@@ -143,45 +144,25 @@ fn make_own_segment<S: Storage>(
     }
 }
 
-/// What a create has once it entered.
-#[derive(Drop)]
-struct Entered {
-    tag: Tag,
-    description: StaticConfig,
-}
-
-/// Looks, asks for the node, makes the call's own copies and then the tag.
-fn enter<P: Pattern, S: Storage>(
+/// Looks, and asks for the node: why the hash isn't free for it, if it isn't.
+fn obstacle<P: Pattern, S: Storage>(
     pattern: &P,
     node: u64,
     hash: &ServiceHash,
-    name: &ServiceName,
-    attributes: &AttributeSet,
-    now: Result<Time, ClockFault>,
     storage: &mut S,
-) -> Result<Entered, P::CreateError>
-    ensures word { let meaning = defining attributes.now (P.meaning pattern.now) in
-        let tag = map_ok (λ entered. entered.tag) result in
-        Joins S.step storage.old (λ word. IsEntryWord meaning node hash.now word tag) storage.new }
-    ensures copies { let meaning = defining attributes.now (P.meaning pattern.now) in
-        IfOk result (λ entered. entered.description ≡ description_of meaning hash.now name.now now) }
+) -> Option<P::CreateError>
+    ensures { Joins S.step storage.old
+        (λ word. IsObstacle (P.meaning pattern.now) node hash.now word result) storage.new }
 {
-    match look(pattern, node, hash, storage) {
-        Outcome::Faulty(fault) => return Err(pattern.create_error_of(fault)),
-        Outcome::Found(_, _) => return Err(pattern.create_refusal(CreateRefusal::AlreadyExists)),
-        Outcome::Nothing => {}
+    match look(pattern, node, hash, storage).sight() {
+        Sight::Unclear(fault) => return Some(pattern.create_error_of(fault)),
+        Sight::Present => return Some(pattern.create_refusal(CreateRefusal::AlreadyExists)),
+        Sight::Absent => {}
     }
     if storage.counts(node, hash) {
-        return Err(pattern.create_refusal(CreateRefusal::ServiceInCorruptedState));
+        return Some(pattern.create_refusal(CreateRefusal::ServiceInCorruptedState));
     }
-    let description = match describe(pattern, hash, name, attributes, now) {
-        Ok(description) => description,
-        Err(_) => return Err(pattern.create_refusal(CreateRefusal::OutOfMemory)),
-    };
-    match storage.make_tag(node, hash) {
-        Ok(tag) => Ok(Entered { tag, description }),
-        Err(error) => Err(pattern.create_refusal(tag_refusal(error))),
-    }
+    None
 }
 
 /// Creates a service of this hash and name, with these attributes.
@@ -223,12 +204,62 @@ fn create_adjusted<P: Pattern, S: Storage>(
         Some(error) => return Err(error),
         None => {}
     }
-    let entered = match enter(pattern, node, hash, name, attributes, now, storage) {
-        Ok(entered) => entered,
-        Err(error) => return Err(error),
+    match obstacle(pattern, node, hash, storage) {
+        Some(error) => return Err(error),
+        None => {}
+    }
+    let stops = clock_stops(pattern.needs_clock(), &now);
+    match describe(pattern, hash, name, attributes, now) {
+        Ok(description) => {
+            let created = make_tagged(pattern, node, hash, stops, &description, storage);
+            registered(node, created, description)
+        }
+        Err(_) => Err(pattern.create_refusal(CreateRefusal::OutOfMemory)),
+    }
+}
+
+/// Where a created service stands.
+struct Created {
+    number: u64,
+    /// Its creator's.
+    ticket: u64,
+}
+
+/// The registration of the node that created a service of this description.
+fn registered<E>(
+    node: u64,
+    created: Result<Created, E>,
+    description: StaticConfig,
+) -> Result<Registration, E>
+    ensures { result ≡ map_ok (factory_of node description) created }
+{
+    match created {
+        Ok(created) => {
+            let Created { number, ticket } = created;
+            Ok(Registration::new(node, number, ticket, description))
+        }
+        Err(error) => Err(error),
+    }
+}
+
+/// Makes the tag, and then the service, where the clock doesn't stop it.
+fn make_tagged<P: Pattern, S: Storage>(
+    pattern: &P,
+    node: u64,
+    hash: &ServiceHash,
+    clock_stops: bool,
+    description: &StaticConfig,
+    storage: &mut S,
+) -> Result<Created, P::CreateError>
+    ensures { let answer = map_ok (factory_of node description.now) result in
+        let meaning = P.meaning pattern.now in Joins S.step storage.old
+        (λ word. IsRestOfCreate meaning node hash.now clock_stops description.now word answer) storage.new }
+{
+    let tag = match storage.make_tag(node, hash) {
+        Ok(tag) => tag,
+        Err(error) => return Err(pattern.create_refusal(tag_refusal(error))),
     };
-    let Entered { tag, description } = entered;
-    if clock_stops(pattern.needs_clock(), &now) {
+    if clock_stops {
         give_back_tag(node, hash, tag, storage);
         return Err(pattern.create_refusal(CreateRefusal::InternalFailure));
     }
@@ -241,11 +272,11 @@ fn make_service<P: Pattern, S: Storage>(
     node: u64,
     hash: &ServiceHash,
     tag: Tag,
-    description: StaticConfig,
+    description: &StaticConfig,
     storage: &mut S,
-) -> Result<Registration, P::CreateError>
-    ensures { Joins S.step storage.old
-        (λ word. IsServiceWord (P.meaning pattern.now) node hash.now description tag word result) storage.new }
+) -> Result<Created, P::CreateError>
+    ensures { let answer = map_ok (factory_of node description.now) result in Joins S.step storage.old
+        (λ word. IsServiceWord (P.meaning pattern.now) node hash.now description.now tag word answer) storage.new }
 {
     let number = match storage.lock(node, hash) {
         Ok(number) => number,
@@ -262,9 +293,8 @@ fn make_service<P: Pattern, S: Storage>(
             return Err(pattern.create_refusal(refusal));
         }
     }
-    let answer = storage.publish(node, hash, number, &description);
-    match answer {
-        Ok(ticket) => Ok(Registration::new(node, number, ticket, description)),
+    match storage.publish(node, hash, number, description) {
+        Ok(ticket) => Ok(Created { number, ticket }),
         Err(error) => {
             give_back_segment(node, hash, tag, storage);
             Err(pattern.create_refusal(publish_refusal(error)))

@@ -1,9 +1,11 @@
 //! How a call sees whether there is a service.
 
-ghost use Rattle.std.specs.Prelude.{Ok};
+ghost use Rattle.std.specs.Prelude.{◌≡◌, ℕ, List, Ok};
+ghost use Rattle.iceoryx2_data.specs.Form.{IsForm};
 ghost use Rattle.iceoryx2_access.specs.Letter.{fetched};
 ghost use Rattle.iceoryx2_access.specs.Run.{Joins};
-ghost use Rattle.iceoryx2_rounds.specs.Looks.{IsLookWord, LeadsTo};
+ghost use Rattle.iceoryx2_rounds.specs.Looks as looks;
+ghost use Rattle.iceoryx2_rounds.specs.Looks.{IsLookWord, LeadsTo, found_unless, sight_of};
 
 use iceoryx2_access::storage::{Existence, FetchError, Storage};
 use iceoryx2_data::bytes::{DecodeError, decode};
@@ -19,6 +21,29 @@ pub enum Outcome<F> {
     /// A service of the pattern and the message types, with its number.
     Found(u64, StaticConfig),
     Faulty(F),
+}
+
+/// What a look finds, for a call that needs no description of it.
+pub enum Sight<F> {
+    /// There is nothing.
+    Absent,
+    /// There is a service of the pattern and the message types.
+    Present,
+    /// What a look finds wrong.
+    Unclear(F),
+}
+
+impl<F> Outcome<F> {
+    /// Forgets the number and the description of what was found.
+    pub fn sight(self) -> Sight<F>
+        ensures { result ≡ sight_of self }
+    {
+        match self {
+            Outcome::Nothing => Sight::Absent,
+            Outcome::Found(_, _) => Sight::Present,
+            Outcome::Faulty(fault) => Sight::Unclear(fault),
+        }
+    }
 }
 
 /// Asks whether there is a service of this hash, and reads its description.
@@ -74,19 +99,36 @@ fn read<P: Pattern>(
 ) -> Outcome<P::Fault>
     ensures { LeadsTo (P.meaning pattern.now) hash.now (Ok (number, bytes.now)) result }
 {
-    let description = match decode(alloc, bytes) {
-        Ok(description) => description,
-        Err(DecodeError::Malformed) => {
-            return Outcome::Faulty(pattern.fault(ServiceState::Corrupted));
+    match decode(alloc, bytes) {
+        Ok(description) => {
+            let fault = fault_of(pattern, hash, &description);
+            found_unless(fault, number, description)
         }
-        Err(DecodeError::OutOfMemory) => {
-            return Outcome::Faulty(pattern.fault(ServiceState::OutOfMemory));
-        }
-    };
-    if *description.service_hash() != *hash {
-        return Outcome::Faulty(pattern.fault(ServiceState::Corrupted));
+        Err(DecodeError::Malformed) => Outcome::Faulty(pattern.fault(ServiceState::Corrupted)),
+        Err(DecodeError::OutOfMemory) => Outcome::Faulty(pattern.fault(ServiceState::OutOfMemory)),
     }
-    match pattern.misfit(&description) {
+}
+
+/// Why a description is none of the service that is looked for. `None`: it is of the hash, and fits the pattern.
+fn fault_of<P: Pattern>(
+    pattern: &P,
+    hash: &ServiceHash,
+    description: &StaticConfig,
+) -> Option<P::Fault>
+    ensures { (number : ℕ) (bytes : List ℕ) → IsForm description.now bytes
+        → LeadsTo (P.meaning pattern.now) hash.now (Ok (number, bytes)) (found_unless result number description.now) }
+{
+    if *description.service_hash() != *hash {
+        return Some(pattern.fault(ServiceState::Corrupted));
+    }
+    pattern.misfit(description)
+}
+
+/// A service that was read, unless a fault was seen in it.
+fn found_unless<F>(fault: Option<F>, number: u64, description: StaticConfig) -> Outcome<F>
+    ensures { result ≡ looks.found_unless fault number description }
+{
+    match fault {
         Some(fault) => Outcome::Faulty(fault),
         None => Outcome::Found(number, description),
     }

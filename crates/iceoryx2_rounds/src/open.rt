@@ -4,11 +4,12 @@ ghost use Rattle.std.specs.Prelude.{◌≡◌, Option};
 ghost use Rattle.iceoryx2_access.specs.Run.{Joins};
 ghost use Rattle.iceoryx2_pattern.specs.OwnAttributes.{requiring};
 ghost use Rattle.iceoryx2_pattern.specs.Verdict.{verdict};
-ghost use Rattle.iceoryx2_rounds.specs.Opens.{IsOpenWord, IsOpening, IsRound, IsSecondLook};
+ghost use Rattle.iceoryx2_rounds.specs.Opens.{IsOpenWord, IsTaggedOpening, IsRound, IsRestOfRound, IsSecondLook};
+ghost use Rattle.iceoryx2_rounds.specs.Opens as opens;
 ghost use Rattle.iceoryx2_rounds.specs.Refusals.{of_opening, of_tag_opening};
 
 use crate::give_back::give_back_tag;
-use crate::look::{Outcome, look};
+use crate::look::{Outcome, Sight, look};
 use iceoryx2_access::storage::{OpenSegmentError, Storage, Tag, TagError};
 use iceoryx2_attributes::attribute::AttributeVerifier;
 use iceoryx2_pattern::pattern::{OpenRefusal, Pattern};
@@ -76,12 +77,12 @@ fn look_again<P: Pattern, S: Storage>(
     ensures { Joins S.step storage.old
         (λ word. IsSecondLook (P.meaning pattern.now) node hash.now tag result word) storage.new }
 {
-    let seen = look(pattern, node, hash, storage);
+    let seen = look(pattern, node, hash, storage).sight();
     give_back_tag(node, hash, tag, storage);
     match seen {
-        Outcome::Faulty(fault) => return Some(pattern.open_error_of(fault)),
-        Outcome::Nothing => return Some(pattern.open_refusal(OpenRefusal::DoesNotExist)),
-        Outcome::Found(_, _) => return None,
+        Sight::Unclear(fault) => Some(pattern.open_error_of(fault)),
+        Sight::Absent => Some(pattern.open_refusal(OpenRefusal::DoesNotExist)),
+        Sight::Present => None,
     }
 }
 
@@ -95,7 +96,7 @@ fn open_with_tag<P: Pattern, S: Storage>(
     storage: &mut S,
 ) -> Option<Result<u64, P::OpenError>>
     ensures { Joins S.step storage.old
-        (λ word. IsOpening (P.meaning pattern.now) node hash.now number result word) storage.new }
+        (λ word. IsTaggedOpening (P.meaning pattern.now) node hash.now number result word) storage.new }
 {
     let tag = match storage.make_tag(node, hash) {
         Ok(tag) => tag,
@@ -116,6 +117,43 @@ fn open_with_tag<P: Pattern, S: Storage>(
     }
 }
 
+/// Asks of the service that was found what the call requires, and then opens it. A ticket, an error,
+/// or `None`, which asks for another round.
+fn open_found<P: Pattern, S: Storage>(
+    pattern: &P,
+    node: u64,
+    hash: &ServiceHash,
+    verifier: &AttributeVerifier,
+    number: u64,
+    existing: &StaticConfig,
+    storage: &mut S,
+) -> Option<Result<u64, P::OpenError>>
+    ensures { let meaning = requiring verifier.now (P.meaning pattern.now) in
+        let answer = opens.registered node number existing.now result in Joins S.step storage.old
+        (λ word. IsRestOfRound meaning node hash.now number existing.now word answer) storage.new }
+{
+    match verify(pattern, verifier, existing) {
+        Ok(()) => open_with_tag(pattern, node, hash, number, storage),
+        Err(error) => Some(Err(error)),
+    }
+}
+
+/// The registration of the node that opened a service of this number and description.
+fn registered<E>(
+    node: u64,
+    number: u64,
+    answer: Option<Result<u64, E>>,
+    description: StaticConfig,
+) -> Option<Result<Registration, E>>
+    ensures { result ≡ opens.registered node number description answer }
+{
+    match answer {
+        Some(Ok(ticket)) => Some(Ok(Registration::new(node, number, ticket, description))),
+        Some(Err(error)) => Some(Err(error)),
+        None => None,
+    }
+}
+
 /// One round. `None` asks for another one.
 fn try_open<P: Pattern, S: Storage>(
     pattern: &P,
@@ -127,19 +165,13 @@ fn try_open<P: Pattern, S: Storage>(
     ensures { let meaning = requiring verifier.now (P.meaning pattern.now) in
         Joins S.step storage.old (λ word. IsRound meaning node hash.now word result) storage.new }
 {
-    let (number, description) = match look(pattern, node, hash, storage) {
-        Outcome::Faulty(fault) => return Some(Err(pattern.open_error_of(fault))),
-        Outcome::Nothing => return Some(Err(pattern.open_refusal(OpenRefusal::DoesNotExist))),
-        Outcome::Found(number, description) => (number, description),
-    };
-    match verify(pattern, verifier, &description) {
-        Ok(()) => {}
-        Err(error) => return Some(Err(error)),
-    }
-    match open_with_tag(pattern, node, hash, number, storage) {
-        Some(Ok(ticket)) => Some(Ok(Registration::new(node, number, ticket, description))),
-        Some(Err(error)) => Some(Err(error)),
-        None => None,
+    match look(pattern, node, hash, storage) {
+        Outcome::Faulty(fault) => Some(Err(pattern.open_error_of(fault))),
+        Outcome::Nothing => Some(Err(pattern.open_refusal(OpenRefusal::DoesNotExist))),
+        Outcome::Found(number, description) => {
+            let answer = open_found(pattern, node, hash, verifier, number, &description, storage);
+            registered(node, number, answer, description)
+        }
     }
 }
 

@@ -14,13 +14,13 @@ returns-in-Err-make_own_segment g c =
     let back = c.give_back_lock.ensures in
     rw c.create_refusal-in-Err-make_own_segment.ensures (joins (no_segment segment.is_word back.is_word) (next c.in-Ok.ensures (both segment.run back.run)))
 
-pub returns-in-Ok-answer : goal.returns-in-Ok-answer
-returns-in-Ok-answer g c =
+pub returns-in-Ok-publish : goal.returns-in-Ok-publish
+returns-in-Ok-publish g c =
     let segment = rw c.max_nodes-max_nodes.ensures.value at c.in-Ok-make_own_segment.ensures in
-    rw c.new.ensures (joins (published c.in-Ok.number c.in-Ok-answer.ticket segment.is_word) (next c.in-Ok.ensures (both segment.run (one c.in-Ok-answer.ensures))))
+    joins (published c.in-Ok.number c.in-Ok-publish.ticket segment.is_word) (next c.in-Ok.ensures (both segment.run (one c.in-Ok-publish.ensures)))
 
-pub returns-in-Err-answer : goal.returns-in-Err-answer
-returns-in-Err-answer g c =
+pub returns-in-Err-publish : goal.returns-in-Err-publish
+returns-in-Err-publish g c =
     let segment = rw c.max_nodes-max_nodes.ensures.value at c.in-Ok-make_own_segment.ensures in
     let back = c.give_back_segment.ensures in
-    rw (c.create_refusal-in-Err-answer.ensures, c.publish_refusal.ensures) (joins (not_published c.in-Err-answer.error segment.is_word back.is_word) (next c.in-Ok.ensures (both segment.run (next c.in-Err-answer.ensures back.run))))
+    rw (c.create_refusal-in-Err-publish.ensures, c.publish_refusal.ensures) (joins (not_published c.in-Err-publish.error segment.is_word back.is_word) (next c.in-Ok.ensures (both segment.run (next c.in-Err-publish.ensures back.run))))
