@@ -225,44 +225,43 @@ fn with_clients(rt: &impl Abort, alloc: Global, max_clients: u64) -> MessagingPa
 }
 
 #[test]
-fn patterns_are_compared_without_their_settings(rt: HostRuntime) {
-    let is_same = event_for(1).is_same_pattern(&event_for(2));
-    let is_equal = event_for(1) == event_for(2);
-    assert_same(
-        &rt,
-        (EventId::new(9).as_value(), is_same, is_equal),
-        (9, true, false),
-    );
+fn an_event_keeps_its_number(rt: HostRuntime) {
+    assert_same(&rt, EventId::new(9).as_value(), 9);
 }
 
-/// Whether the pattern is that of events, of publish-subscribe and of request-response, each with other
-/// settings, and whether it is equal to them.
-fn compared_patterns(rt: &impl Abort, alloc: Global, pattern: MessagingPattern) -> [bool; 6] {
-    let events = event_for(2);
-    let publish_subscribe = with_history(rt, alloc, 1);
-    let request_response = with_clients(rt, alloc, 1);
-    [
-        pattern.is_same_pattern(&events),
-        pattern.is_same_pattern(&publish_subscribe),
-        pattern.is_same_pattern(&request_response),
-        pattern == events,
-        pattern == publish_subscribe,
-        pattern == request_response,
-    ]
+/// Events, publish-subscribe or request-response, with one number of its settings.
+fn pattern(rt: &impl Abort, alloc: Global, place: usize, number: u64) -> MessagingPattern {
+    match place {
+        0 => event_for(number),
+        1 => with_history(rt, alloc, number),
+        _ => with_clients(rt, alloc, number),
+    }
 }
+
+/// Whether two patterns with different settings are the same pattern, and whether they are equal.
+fn compared(rt: &impl Abort, alloc: Global, one: usize, other: usize) -> (bool, bool) {
+    let one = pattern(rt, alloc, one, 1);
+    let other = pattern(rt, alloc, other, 2);
+    (one.is_same_pattern(&other), one == other)
+}
+
+/// The places of two patterns, and whether they are the same pattern.
+const PATTERNS: &[(usize, usize, bool)] = &[
+    (0, 0, true),
+    (0, 1, false),
+    (0, 2, false),
+    (1, 0, false),
+    (1, 1, true),
+    (1, 2, false),
+    (2, 0, false),
+    (2, 1, false),
+    (2, 2, true),
+];
 
 #[test]
 fn each_pattern_is_of_no_other_pattern(rt: HostRuntime) {
-    let alloc = rt.alloc();
-    let found = [
-        compared_patterns(&rt, alloc, event_for(1)),
-        compared_patterns(&rt, alloc, with_history(&rt, alloc, 0)),
-        compared_patterns(&rt, alloc, with_clients(&rt, alloc, 8)),
-    ];
-    let wanted = [
-        [true, false, false, false, false, false],
-        [false, true, false, false, false, false],
-        [false, false, true, false, false, false],
-    ];
-    assert_same(&rt, found, wanted);
+    for &(one, other, is_same) in PATTERNS {
+        let found = compared(&rt, rt.alloc(), one, other);
+        assert_same(&rt, (one, other, found), (one, other, (is_same, false)));
+    }
 }
