@@ -18,11 +18,15 @@ mod names;
 #[cfg(test)]
 mod open_or_create;
 #[cfg(test)]
+mod peers;
+#[cfg(test)]
 mod publish_subscribe;
 #[cfg(test)]
 mod readme;
 #[cfg(test)]
 mod request_response;
+#[cfg(test)]
+mod retried;
 #[cfg(test)]
 mod runs;
 #[cfg(test)]

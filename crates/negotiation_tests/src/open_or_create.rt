@@ -1,5 +1,6 @@
 //! Open or create: over storages that answer from a list, and over a table.
 
+use crate::peers::PUBLISH_SUBSCRIBE;
 use crate::publish_subscribe::support::Ask::{Buffer, History, Nodes, Overflow};
 use crate::publish_subscribe::support::{self as subscribe, Ask, Given, asking, given};
 use crate::storages::scripts::AccessAnswer::*;
@@ -18,15 +19,7 @@ use iceoryx2_values::time::Time;
 use std::alloc::Global;
 use std::process::Abort;
 
-/// The service of publish-subscribe of these tests for this many nodes, as other programs write it.
-const FOR_TWENTY: &str = "494f5832015fa253adf3bd935e11ffb7e02778106a71533f98000678616d706c65000002\
-                          0000000000000002000000000000000800000000000000020000000000000000\
-                          0000000000000002010000000000000014\
-                          0000197075626c6973685f7375627363726962653a3a48656164657200000000000000200000000000000008\
-                          000012437573746f6d4865616465724d61726b657200000000000000000000000000000001\
-                          010013437573746f6d5061796c6f61644d61726b657200000000000000010000000000000001";
-
-/// The same for none.
+/// That service of publish-subscribe, but for no node.
 const FOR_NONE: &str = "494f5832015fa253adf3bd935e11ffb7e02778106a71533f98000678616d706c65000002\
                         0000000000000002000000000000000800000000000000020000000000000000\
                         0000000000000002010000000000000000\
@@ -121,7 +114,7 @@ fn six_rounds_end_in_flux(rt: HostRuntime) {
     let found = event::<Scripted>(&rt, rt.alloc(), &mut late, (1, None), (&[], &[]));
     let wanted = Err(EventOpenOrCreateError::SystemInFlux);
     assert_same(&rt, (found, counters(&late)), (wanted, ((12, 0, 0), 0)));
-    let mut gone = replaced(&rt, rt.alloc(), FOR_TWENTY);
+    let mut gone = replaced(&rt, rt.alloc(), PUBLISH_SUBSCRIBE.form);
     let found = publish_subscribe::<Scripted>(&rt, rt.alloc(), &mut gone, &[]);
     let wanted = Err(PublishSubscribeOpenOrCreateError::SystemInFlux);
     assert_same(&rt, (found, counters(&gone)), (wanted, ((78, 36, 0), 0)));

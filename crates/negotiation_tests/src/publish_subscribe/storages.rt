@@ -1,6 +1,6 @@
 //! Calls over storages that answer from a list, and over a table at which a peer's steps wait.
 
-use crate::publish_subscribe::peers::{LEFT, PUBLISHED, Plan, planned};
+use crate::peers::{LEFT, PUBLISH_SUBSCRIBE, PUBLISHED, Plan, planned};
 use crate::publish_subscribe::support::Ask::*;
 use crate::publish_subscribe::support::*;
 use crate::storages::scripts::AccessAnswer::*;
@@ -138,7 +138,7 @@ fn opened_beside(
     alloc: Global,
     plan: Plan,
 ) -> (Result<Given, PublishSubscribeOpenError>, u64) {
-    let mut table = planned(rt, alloc, plan, 1);
+    let mut table = planned(rt, alloc, &PUBLISH_SUBSCRIBE, plan, 1);
     let answer = open::<Local>(rt, alloc, &mut table, 1, &[]);
     let skipped = table.skipped();
     drop_table(table);
