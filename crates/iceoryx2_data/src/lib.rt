@@ -2,6 +2,3 @@
 #![tactic(auto)]
 
 pub mod bytes;
-
-pub use iceoryx2_attributes::attribute;
-pub use iceoryx2_values::{config, description, event, publish_subscribe, request_response, time};

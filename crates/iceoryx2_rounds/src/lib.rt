@@ -5,7 +5,3 @@ pub mod create;
 mod give_back;
 pub mod look;
 pub mod open;
-
-pub use iceoryx2_errors::error;
-pub use iceoryx2_pattern::{pattern, verdict};
-pub use iceoryx2_port_factory::port_factory;

@@ -3,6 +3,3 @@
 
 pub mod local;
 pub mod table;
-
-pub use iceoryx2_access::storage;
-pub use iceoryx2_world::laws;

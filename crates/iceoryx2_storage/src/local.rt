@@ -1,7 +1,7 @@
 //! Services within one process.
 
-use crate::storage::{Service, Sha1Hasher};
 use crate::table::Table;
+use iceoryx2_access::storage::{Service, Sha1Hasher};
 
 /// Services that stand in a [`Table`], under hashes by SHA-1.
 #[derive(Clone, Copy, Debug, PartialEq, Eq)]

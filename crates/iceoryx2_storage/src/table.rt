@@ -8,15 +8,14 @@ ghost use Rattle.iceoryx2_batches.specs.Tables.{batch_items, IsBatchRun};
 
 mod stored;
 
-use self::listing::Entry;
 use self::stored::StoredWorld;
-use crate::storage::{
+use iceoryx2_access::storage::{
     Existence, FetchError, LockError, MakeSegmentError, OpenSegmentError, PublishError, Release,
     ReleaseError, RemoveError, Storage, Tag, TagError,
 };
 pub use iceoryx2_batches::batches::{Act, Step};
 use iceoryx2_values::description::{ServiceHash, StaticConfig};
-pub use iceoryx2_world::{listing, world};
+use iceoryx2_world::listing::Entry;
 use std::alloc::{AllocError, Global};
 use std::marker::Model;
 

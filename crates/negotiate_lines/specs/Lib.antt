@@ -5,4 +5,3 @@ pub mod PublishSubscribeMeanings
 pub mod RequestResponseWords
 pub mod RequestResponseMeanings
 pub mod Lines
-pub mod Replies

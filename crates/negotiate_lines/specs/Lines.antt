@@ -3,14 +3,14 @@ use Rattle.std.specs.Prelude.{ℕ, ◌≡◌, ◌≢◌, ◌^◌, ◌-◌, ◌==
 use Rattle.std.specs.Prelude.{length, take, slice_index, if◌then◌else◌}
 use Rattle.std.specs.Str.{IsUtf8}
 use Rattle.iceoryx2_values.specs.Names.{IsName}
-use Rattle.iceoryx2_service.specs.declared.command.Command.{Command}
-use Rattle.iceoryx2_service.specs.declared.command.Command.TheVariants as command
-use Rattle.iceoryx2_service.specs.declared.command.Call.{Call}
-use Rattle.iceoryx2_service.specs.declared.command.How.{How}
-use Rattle.iceoryx2_service.specs.declared.command.How.TheVariants as how
-use Rattle.iceoryx2_service.specs.declared.command.Settings.{Settings}
-use Rattle.iceoryx2_service.specs.declared.command.Settings.TheVariants as settings
-use Rattle.iceoryx2_service.specs.Slots.{slot_count}
+use Rattle.iceoryx2_commands.specs.declared.command.Command.{Command}
+use Rattle.iceoryx2_commands.specs.declared.command.Command.TheVariants as command
+use Rattle.iceoryx2_commands.specs.declared.command.Call.{Call}
+use Rattle.iceoryx2_commands.specs.declared.command.How.{How}
+use Rattle.iceoryx2_commands.specs.declared.command.How.TheVariants as how
+use Rattle.iceoryx2_commands.specs.declared.command.Settings.{Settings}
+use Rattle.iceoryx2_commands.specs.declared.command.Settings.TheVariants as settings
+use Rattle.iceoryx2_commands.specs.Commands.{slot_count}
 use Rattle.negotiate_words.specs.declared.call_word.Admitted.{Admitted}
 use Rattle.negotiate_words.specs.Words.{words_of, IsNumber}
 use Rattle.negotiate_words.specs.Vocabulary.{Vocabulary}

@@ -1,7 +1,7 @@
 //! What a line says.
 
 ghost use Rattle.std.specs.Prelude.{◌≡◌, ◌≢◌, [], ◌∷◌, IfOk, codes};
-ghost use Rattle.iceoryx2_service.specs.Slots.{slot_count};
+ghost use Rattle.iceoryx2_commands.specs.Commands.{slot_count};
 ghost use Rattle.negotiate_words.specs.Words.{Finds, IsNumberOf, words_of};
 ghost use Rattle.negotiate_lines.specs.Lines.{AreLine, IsLine, SaysNamedCall};
 ghost use Rattle.negotiate_lines.specs.Lines.{admitted_of, how_word, without_end_of};
@@ -9,9 +9,8 @@ ghost use Rattle.negotiate_lines.specs.Lines.{admitted_of, how_word, without_end
 use crate::event_words::EventWords;
 use crate::publish_subscribe_words::PublishSubscribeWords;
 use crate::request_response_words::RequestResponseWords;
-use iceoryx2_service::command::{Call, Command, How, Settings};
-use iceoryx2_service::description::{ServiceName, ServiceNameError};
-use iceoryx2_service::session::SLOTS;
+use iceoryx2_commands::command::{Call, Command, How, SLOTS, Settings};
+use iceoryx2_values::description::{ServiceName, ServiceNameError};
 use negotiate_words::call_word::Admitted;
 use negotiate_words::particulars::{CallParts, call_parts};
 use negotiate_words::vocabulary::HasVocabulary;

@@ -5,7 +5,7 @@ ghost use Rattle.negotiate_words.specs.Words.{Finds};
 ghost use Rattle.negotiate_lines.specs.PublishSubscribeWords.{SaysPlainSetting, publish_subscribe_vocabulary};
 ghost use Rattle.negotiate_lines.specs.PublishSubscribeMeanings.{publish_subscribe_words_are_unambiguous};
 
-use iceoryx2_service::command::PublishSubscribeSetting;
+use iceoryx2_publish_subscribe_builder::publish_subscribe::PublishSubscribeSetting;
 use negotiate_words::type_word::{alignment, type_detail};
 use negotiate_words::value::truth_value;
 use negotiate_words::vocabulary::HasVocabulary;

@@ -9,7 +9,7 @@ ghost use Rattle.negotiate_lines.specs.RequestResponseWords.{request_response_vo
 ghost use Rattle.negotiate_lines.specs.RequestResponseMeanings.{request_response_words_are_unambiguous};
 
 use self::RequestResponseSettingName::{Alignment, Flag, Number, Type};
-use iceoryx2_service::command::RequestResponseSetting;
+use iceoryx2_request_response_builder::request_response::RequestResponseSetting;
 use negotiate_words::type_word::{alignment, type_detail};
 use negotiate_words::value::truth_value;
 use negotiate_words::vocabulary::HasVocabulary;

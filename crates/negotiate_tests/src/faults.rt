@@ -1,7 +1,7 @@
 //! Readers and writers that fail, and want of memory.
 
 use crate::support::{Page, Pieces, assert_same};
-use negotiate_lines::serve::{end_by_fault, serve};
+use negotiate_replies::serve::{end_by_fault, serve};
 use std::alloc::Global;
 use std::io::{self, ErrorKind};
 

@@ -1,15 +1,12 @@
 //! The lines that are printed for replies.
 
 use crate::support::assert_same;
-use iceoryx2_service::builder::event::{EventCreateError, EventOpenError};
-use iceoryx2_service::builder::publish_subscribe::{
-    PublishSubscribeCreateError, PublishSubscribeOpenError,
-};
-use iceoryx2_service::builder::request_response::{
+use iceoryx2_commands::command::{Refusal, Reply};
+use iceoryx2_errors::error::{
+    EventCreateError, EventOpenError, PublishSubscribeCreateError, PublishSubscribeOpenError,
     RequestResponseCreateError, RequestResponseOpenError,
 };
-use iceoryx2_service::command::{Refusal, Reply};
-use negotiate_lines::reply::describe;
+use negotiate_replies::reply::describe;
 use std::alloc::Global;
 use std::process::Abort;
 

@@ -1,6 +1,6 @@
 //! A reader and a writer that tests hand to the program, and what it answers then.
 
-use negotiate_lines::serve::serve;
+use negotiate_replies::serve::serve;
 use std::alloc::{AllocError, Global};
 use std::fmt::Debug;
 use std::io::{self, ErrorKind, Read, Write};

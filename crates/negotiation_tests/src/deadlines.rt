@@ -2,8 +2,9 @@
 
 use crate::support::*;
 use iceoryx2_builder::builder::event::{Builder, EventCreateError, EventId, EventOpenError};
-use iceoryx2_service::description::{ClockFault, Deadline, Time};
 use iceoryx2_storage::local::Local;
+use iceoryx2_values::event::Deadline;
+use iceoryx2_values::time::{ClockFault, Time};
 use std::alloc::Global;
 use std::process::Abort;
 

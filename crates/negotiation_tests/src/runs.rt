@@ -1,9 +1,9 @@
 //! Runs of commands of a session, and attributes in its calls.
 
 use crate::support::*;
+use iceoryx2_commands::command::{Command, How, Refusal, Reply};
 use iceoryx2_errors::error::{EventCreateError, EventOpenError, EventOpenOrCreateError};
-use iceoryx2_service::command::{Command, How, Refusal, Reply};
-use iceoryx2_service::session::Session;
+use iceoryx2_session::session::Session;
 use iceoryx2_values::config::Config;
 use iceoryx2_values::time::Time;
 use std::alloc::{AllocError, Global};

@@ -1,10 +1,10 @@
 //! Commands of a session.
 
 use crate::support::*;
+use iceoryx2_attributes::attribute::AttributeVerifier;
+use iceoryx2_commands::command::{Command, EventSetting, How, Refusal, Reply};
 use iceoryx2_errors::error::{EventCreateError, EventOpenError};
-use iceoryx2_service::attribute::AttributeVerifier;
-use iceoryx2_service::command::{Command, EventSetting, How, Refusal, Reply};
-use iceoryx2_service::session::Session;
+use iceoryx2_session::session::Session;
 use iceoryx2_storage::table::Table;
 use iceoryx2_values::config::Config;
 use iceoryx2_values::time::{ClockFault, Duration, Time};

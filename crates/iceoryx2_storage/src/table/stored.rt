@@ -9,15 +9,15 @@ ghost use Rattle.iceoryx2_access.specs.Letter as letter;
 ghost use Rattle.iceoryx2_access.specs.Letter.{fetched};
 ghost use Rattle.iceoryx2_world.specs.Access.{IsOwnPart, has_lock, has_made as has_made_spec, is_ticket};
 
-use super::listing::Entry;
-use super::world::{Participant, Phase, Row, Ticket};
-use crate::storage::{
+use iceoryx2_access::storage::{
     Existence, FetchError, LockError, MakeSegmentError, OpenSegmentError, PublishError, Release,
     ReleaseError, RemoveError, Tag, TagError,
 };
 use iceoryx2_batches::batches::Step;
 use iceoryx2_book::services::Services;
 use iceoryx2_values::description::{ServiceHash, StaticConfig};
+use iceoryx2_world::listing::Entry;
+use iceoryx2_world::world::{Participant, Phase, Row, Ticket};
 use sorted_map::SortedVec;
 use std::alloc::{AllocError, Global};
 use std::marker::Model;

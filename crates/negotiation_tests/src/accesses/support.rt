@@ -7,9 +7,9 @@ use iceoryx2_access::storage::{
     ReleaseError, RemoveError, Storage, Tag, TagError,
 };
 use iceoryx2_attributes::attribute::AttributeSet;
-use iceoryx2_data::{config, event};
 use iceoryx2_storage::table::Table;
 use iceoryx2_values::description::{MessagingPattern, ServiceHash, StaticConfig};
+use iceoryx2_values::{config, event};
 use std::alloc::Global;
 use std::process::Abort;
 

@@ -6,8 +6,8 @@ use iceoryx2_access::storage::{
     ReleaseError, RemoveError, Storage, Tag,
 };
 use iceoryx2_storage::table::Table;
-use iceoryx2_storage::table::listing::{Entry, ListedRow, ListedSegment};
 use iceoryx2_values::description::ServiceHash;
+use iceoryx2_world::listing::{Entry, ListedRow, ListedSegment};
 use std::alloc::Global;
 use std::process::Abort;
 

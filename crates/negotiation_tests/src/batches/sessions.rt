@@ -1,9 +1,9 @@
 //! Sessions over a table at which batches of peers' steps wait.
 
 use crate::batches::support::*;
-use iceoryx2_service::attribute::AttributeVerifier;
-use iceoryx2_service::command::{Command, How, Reply};
-use iceoryx2_service::session::Session;
+use iceoryx2_attributes::attribute::AttributeVerifier;
+use iceoryx2_commands::command::{Command, How, Reply};
+use iceoryx2_session::session::Session;
 use iceoryx2_values::config::Config;
 use iceoryx2_values::time::Time;
 use std::alloc::Global;

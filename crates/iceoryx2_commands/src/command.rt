@@ -1,0 +1,96 @@
+//! What a session is told, and what it answers.
+
+use iceoryx2_attributes::attribute::AttributeVerifier;
+use iceoryx2_errors::error::{
+    EventCreateError, EventOpenError, EventOpenOrCreateError, PublishSubscribeCreateError,
+    PublishSubscribeOpenError, PublishSubscribeOpenOrCreateError, RequestResponseCreateError,
+    RequestResponseOpenError, RequestResponseOpenOrCreateError,
+};
+pub use iceoryx2_event_builder::event::EventSetting;
+pub use iceoryx2_publish_subscribe_builder::publish_subscribe::PublishSubscribeSetting;
+pub use iceoryx2_request_response_builder::request_response::RequestResponseSetting;
+use iceoryx2_values::description::ServiceName;
+use iceoryx2_values::time::{ClockFault, Time};
+use iceoryx2_world::listing::Entry;
+
+/// How many slots a session has.
+pub const SLOTS: usize = 64;
+
+/// How a service is wanted.
+#[derive(Clone, Copy, Debug, PartialEq, Eq)]
+pub enum How {
+    Create,
+    Open,
+    /// Opened, or created where there is none.
+    OpenOrCreate,
+}
+
+/// The setters of one pattern's builder, in the order in which they are called.
+#[derive(Debug, Drop)]
+pub enum Settings {
+    Event(Vec<EventSetting>),
+    /// A payload and a user header whose types aren't named stay markers.
+    PublishSubscribe(Vec<PublishSubscribeSetting>),
+    /// The same holds of a request and of a response.
+    RequestResponse(Vec<RequestResponseSetting>),
+}
+
+/// A builder call of a node, whose factory goes into a slot.
+#[derive(Debug, Drop)]
+pub struct Call {
+    pub how: How,
+    pub node: u64,
+    pub slot: usize,
+    pub name: ServiceName,
+    pub settings: Settings,
+    /// What an open requires. A create, also that of an open or create, defines the required pairs, and
+    /// ignores the keys.
+    pub attributes: AttributeVerifier,
+    /// The time, for what is created with a deadline.
+    pub now: Result<Time, ClockFault>,
+}
+
+/// What a session is told.
+#[derive(Debug, Drop)]
+pub enum Command {
+    Call(Call),
+    /// Closes the factory of a slot.
+    Close { slot: usize },
+    /// Lists the table's services.
+    List,
+}
+
+/// Why a builder call was refused.
+#[derive(Clone, Copy, Debug, PartialEq, Eq)]
+pub enum Refusal {
+    EventOpen(EventOpenError),
+    EventCreate(EventCreateError),
+    EventOpenOrCreate(EventOpenOrCreateError),
+    PublishSubscribeOpen(PublishSubscribeOpenError),
+    PublishSubscribeCreate(PublishSubscribeCreateError),
+    PublishSubscribeOpenOrCreate(PublishSubscribeOpenOrCreateError),
+    RequestResponseOpen(RequestResponseOpenError),
+    RequestResponseCreate(RequestResponseCreateError),
+    RequestResponseOpenOrCreate(RequestResponseOpenOrCreateError),
+}
+
+/// What a session answers.
+#[derive(Debug, Drop, PartialEq, Eq)]
+pub enum Reply {
+    /// The slot holds the factory of the service of this number.
+    Opened { slot: usize, number: u64 },
+    /// The builder call was refused, and the slot is as free as before.
+    Refused(Refusal),
+    /// The slot's factory is closed.
+    Closed { slot: usize },
+    /// Another factory is in the slot, and nothing was called.
+    SlotInUse,
+    /// There is no factory in the slot.
+    SlotEmpty,
+    /// There are only the slots 0 to 63.
+    NoSuchSlot,
+    /// Each service with a row or a segment, in the order of the hashes' bytes.
+    Listing(Vec<Entry>),
+    /// There was no memory for the listing.
+    OutOfMemory,
+}

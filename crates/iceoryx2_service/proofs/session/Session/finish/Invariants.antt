@@ -1,5 +1,0 @@
-use Rattle.iceoryx2_service.proofs.Finishing.{Finishing}
-use Rattle.iceoryx2_service.proofs.session.Session.finish.Given as goal
-
-abbrev pub invariant-loop-slot : goal.invariant-loop-slot
-invariant-loop-slot l = Finishing l.fn.self.table l.fn.self.slots l.slot l.table l.slots

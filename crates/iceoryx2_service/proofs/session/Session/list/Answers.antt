@@ -1,8 +1,0 @@
-use Rattle.iceoryx2_service.specs.Sessions as goes
-use Rattle.iceoryx2_service.proofs.session.Session.list.Goals as goal
-
-pub returns-in-Ok : goal.returns-in-Ok
-returns-in-Ok c = goes.listed c.in-Ok.ensures
-
-pub returns-in-Err : goal.returns-in-Err
-returns-in-Err c = goes.not_listed

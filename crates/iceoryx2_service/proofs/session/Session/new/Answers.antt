@@ -1,9 +1,0 @@
-use Rattle.iceoryx2_service.proofs.StandingSlots.{none_stand}
-use Rattle.iceoryx2_service.proofs.QuietSessions.{is_fresh}
-use Rattle.iceoryx2_service.proofs.session.Session.new.Goals as goal
-
-pub returns-clause-stands : goal.returns-clause-stands
-returns-clause-stands c = none_stand _ c.new.ensures
-
-pub returns-clause-fresh : goal.returns-clause-fresh
-returns-clause-fresh c = λ n e waiting. is_fresh _ n e waiting

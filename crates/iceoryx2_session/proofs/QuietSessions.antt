@@ -1,0 +1,161 @@
+-- One command of a session over a table that nobody else uses.
+use Rattle.std.proofs.Common.{◌≡◌, ℕ, [], Some, None, Result, Ok, Err, refl, sym, ap, subst, ◌∙◌}
+use Rattle.std.specs.FinMap as map
+use Rattle.std.specs.Ordering.{nat_cmp}
+use Rattle.iceoryx2_values.specs.declared.time.ClockFault.{ClockFault}
+use Rattle.iceoryx2_values.specs.Span.{Span}
+use Rattle.iceoryx2_world.specs.declared.world.Ticket.{Ticket}
+use Rattle.iceoryx2_world.specs.World.{World, ticket_of, empty_world}
+use Rattle.iceoryx2_world.specs.Across.{Agrees}
+use Rattle.iceoryx2_batches.specs.Tables.{TableState}
+use Rattle.iceoryx2_batches.proofs.Waiting.{idle_run}
+use Rattle.iceoryx2_world.proofs.agreement.Empty.{empty_agrees}
+use Rattle.iceoryx2_pattern.specs.declared.pattern.CreateRefusal.TheVariants as create_refusal
+use Rattle.iceoryx2_pattern.specs.declared.pattern.OpenRefusal.TheVariants as open_refusal
+use Rattle.iceoryx2_rounds.specs.Creates.{time_of}
+use Rattle.iceoryx2_access.specs.Factory.{Factory}
+use Rattle.iceoryx2_calls.specs.Quiet.{Quiet, Shows, no_service}
+use Rattle.iceoryx2_calls.specs.QuietPrepared.{CreatesPrepared, OpensPrepared}
+use Rattle.iceoryx2_calls.specs.QuietLaws.{HoldsTheSame}
+use Rattle.iceoryx2_calls.proofs.quiet.After.{refused_create, refused_open}
+use Rattle.iceoryx2_calls.proofs.quiet.Listing.{lists_the_machine}
+use Rattle.iceoryx2_calls.proofs.quiet.Calls.{create_follows, open_follows, close_follows, empty_shows}
+use Rattle.iceoryx2_commands.specs.declared.command.How.{How}
+use Rattle.iceoryx2_commands.specs.declared.command.How.TheVariants as how
+use Rattle.iceoryx2_commands.specs.declared.command.Command.{Command}
+use Rattle.iceoryx2_commands.specs.declared.command.Refusal.{Refusal}
+use Rattle.iceoryx2_commands.specs.declared.command.Reply.{Reply}
+use Rattle.iceoryx2_session.specs.BuilderCalls.{BuilderCall, with_refusal}
+use Rattle.iceoryx2_session.specs.Patterns.{builder_call}
+use Rattle.iceoryx2_session.specs.Sessions.{SessionState, Builds, Goes}
+use Rattle.iceoryx2_session.specs.Sessions as goes
+use Rattle.iceoryx2_session.specs.StandingSlots.{SlotsStand, OwnsTickets}
+use Rattle.iceoryx2_session.specs.QuietSessions.{IsQuiet, Answers, Moves, IsMoved, TellsNoChange, IsUnchanged}
+use Rattle.iceoryx2_session.specs.QuietSessions as moves
+use Rattle.iceoryx2_session.proofs.Prepared.{as_prepared, call_follows}
+use Rattle.iceoryx2_calls.specs.QuietAttempts.{AttemptsPrepared, opening}
+use Rattle.iceoryx2_calls.proofs.quiet.Attempts.{attempt_follows, refused_attempt}
+use Rattle.iceoryx2_open_or_create.specs.declared.open_or_create.OpenOrCreateRefusal.TheVariants as either
+use Rattle.iceoryx2_rounds.specs.Answers.{map_err}
+use Rattle.iceoryx2_session.proofs.Patterns.{IsRegularCall, call_is_regular}
+
+-- what a builder call makes of the machine
+record IsBuilt (q : Quiet) (b : BuilderCall) (h : How) (now : Result Span ClockFault) (w : World) (answer : Result Factory Refusal) (v : World) : Type 0 where
+  state : Quiet
+  call : Answers q b h now answer state
+  shows : Shows v state
+  agrees : Agrees v
+
+built : (h : How) (b : BuilderCall) (now : Result Span ClockFault) (answer : Result Factory Refusal) (s t : TableState) (q : Quiet)
+    → IsRegularCall b → Shows s.world q → Agrees s.world → s.waiting ≡ [] → Builds b h now s answer t → IsBuilt q b h now s.world answer t.world
+built how.Create b now answer s t q regular shows agrees waiting is =
+    let c = call_follows b.prepares (b.creating.create_refusal create_refusal.OutOfMemory) s.world t.world shows agrees (λ word a is_word. create_follows b.creating b.node b.hash b.name now s.world t.world q word a regular.creating (regular.takes_nodes (time_of now)) shows agrees is_word) is.2.is_word (idle_run waiting is.2.run).0 in
+    record {
+      state = c.state;
+      call = (is.0, is.1, c.call);
+      shows = c.shows;
+      agrees = c.agrees;
+    }
+built how.Open b now answer s t q regular shows agrees waiting is =
+    let c = call_follows b.prepares (b.opening.open_refusal open_refusal.OutOfMemory) s.world t.world shows agrees (λ word a is_word. open_follows b.opening b.node b.hash s.world t.world q word a regular.opening shows agrees is_word) is.2.is_word (idle_run waiting is.2.run).0 in
+    record {
+      state = c.state;
+      call = (is.0, is.1, c.call);
+      shows = c.shows;
+      agrees = c.agrees;
+    }
+built how.OpenOrCreate b now answer s t q regular shows agrees waiting is =
+    let c = call_follows b.prepares (either.Open ((opening (b.attempt now)).open_refusal open_refusal.OutOfMemory)) s.world t.world shows agrees (λ word a is_word run. attempt_follows (b.attempt now) (regular.steady now) q shows agrees is_word run) is.2.is_word (idle_run waiting is.2.run).0 in
+    record {
+      state = c.state;
+      call = (is.0, is.1, c.call);
+      shows = c.shows;
+      agrees = c.agrees;
+    }
+
+-- ---- commands
+
+-- nothing waits after a builder call, where nothing waited
+none_waits : (h : How) (b : BuilderCall) (now : Result Span ClockFault) (answer : Result Factory Refusal) (s t : TableState)
+    → s.waiting ≡ [] → Builds b h now s answer t → t.waiting ≡ []
+none_waits how.Create b now answer s t waiting is = (idle_run waiting is.2.run).1.0
+none_waits how.Open b now answer s t waiting is = (idle_run waiting is.2.run).1.0
+none_waits how.OpenOrCreate b now answer s t waiting is = (idle_run waiting is.2.run).1.0
+
+quiet_after : (n : SessionState) (q : Quiet) → Shows n.table.world q → Agrees n.table.world → n.table.waiting ≡ [] → IsQuiet n q
+quiet_after n q shows agrees waiting = record { shows = shows; agrees = agrees; waiting = waiting }
+
+pub moved : {s : SessionState} {c : Command} {a : Reply} {n : SessionState} (q : Quiet) → IsQuiet s q → SlotsStand s → Goes s c a n
+    → IsMoved s q c a n
+moved q old slots (goes.call_past le) = record { state = q; moves = moves.call_past le; quiet = old; configured = refl }
+moved q old slots (goes.call_taken t) = record { state = q; moves = moves.call_taken t; quiet = old; configured = refl }
+moved {s = s} q old slots (goes.called {call = call} f {t = t} free is) =
+    let c = built call.how (builder_call s.config call) call.now (Ok f) s.table t q (call_is_regular s.config call) old.shows old.agrees old.waiting is in
+    record { state = c.state; moves = moves.called f free c.call; quiet = quiet_after _ c.state c.shows c.agrees (none_waits call.how (builder_call s.config call) call.now (Ok f) s.table t old.waiting is); configured = refl }
+moved {s = s} q old slots (goes.refused {call = call} {e = e} {t = t} free is) =
+    let c = built call.how (builder_call s.config call) call.now (Err e) s.table t q (call_is_regular s.config call) old.shows old.agrees old.waiting is in
+    record { state = c.state; moves = moves.refused free c.call; quiet = quiet_after _ c.state c.shows c.agrees (none_waits call.how (builder_call s.config call) call.now (Err e) s.table t old.waiting is); configured = refl }
+moved q old slots (goes.close_past le) = record { state = q; moves = moves.close_past le; quiet = old; configured = refl }
+moved q old slots (goes.close_empty free) = record { state = q; moves = moves.close_empty free; quiet = old; configured = refl }
+moved {s = s} q old slots (goes.closed {slot = k} f {t = t} at is) =
+    let c = close_follows f s.table.world t.world q is.1.word is.0 old.shows old.agrees (slots.stand k f at).ticket is.1.is_word (idle_run old.waiting is.1.run).0 in
+    record { state = c.1.state; moves = moves.closed f at c.1.call; quiet = quiet_after _ c.1.state c.1.shows c.1.agrees (idle_run old.waiting is.1.run).1.0; configured = refl }
+moved {s = s} q old slots (goes.listed {entries = entries} lists) =
+    record { state = q; moves = moves.listed (lists_the_machine s.table.world q entries.items old.shows lists); quiet = old; configured = refl }
+moved q old slots goes.not_listed = record { state = q; moves = moves.not_listed; quiet = old; configured = refl }
+
+-- ---- a command that opens and closes nothing
+
+not_ok : (e : Refusal) (f : Factory) → let answer : Result Factory Refusal = Err e in answer ≡ Ok f → ⊥
+not_ok e f is = absurd cc
+
+refused_answer : {E : Type 0} (carry : E → Refusal) (e : Refusal) (a : Result Factory E) (P : Type 0) → Err e ≡ with_refusal carry a
+    → ((x : E) → a ≡ Err x → P) → P
+refused_answer carry e (Ok f) P is then = absurd (not_ok e f is)
+refused_answer carry e (Err x) P is then = then x refl
+
+-- a refused call leaves what there was
+refusal_keeps : (h : How) (b : BuilderCall) (now : Result Span ClockFault) (e : Refusal) (w v : World) (q p : Quiet)
+    → Shows w q → Shows v p → Answers q b h now (Err e) p → HoldsTheSame w v
+refusal_keeps how.Create b now e w v q p s t is =
+    refused_answer b.refusal_of_create e is.0 (HoldsTheSame w v) is.1 (λ x same.
+    refused_create b.creating b.node b.hash b.name now w v q p x s t (subst (λ (a : Result Factory b.create_error). CreatesPrepared b.creating q b.node b.hash b.name now a p) same (as_prepared b.prepares is.2)))
+refusal_keeps how.Open b now e w v q p s t is =
+    refused_answer b.refusal_of_open e is.0 (HoldsTheSame w v) is.1 (λ x same.
+    refused_open b.opening b.node b.hash w v q p x s t (subst (λ (a : Result Factory b.open_error). OpensPrepared b.opening q b.node b.hash a p) same (as_prepared b.prepares is.2)))
+refusal_keeps how.OpenOrCreate b now e w v q p s t is =
+    refused_answer b.refusal_of_open_or_create e is.0 (HoldsTheSame w v) is.1 (λ x same.
+    refused_attempt (b.attempt now) (b.refusal_of_rounds x) s t (subst (λ (a : Result Factory b.open_or_create_error). AttemptsPrepared (b.attempt now) q (map_err b.refusal_of_rounds a) p) same (as_prepared b.prepares is.2)))
+
+pub itself : (s : SessionState) → IsUnchanged s s
+itself s = record { slots = refl; services = record { rows = λ h. refl; segments = λ h. refl; tags = λ i h. refl; counts = λ i h. refl } }
+
+pub unchanged_by : {s : SessionState} {c : Command} {a : Reply} {n : SessionState} (q : Quiet) → IsQuiet s q → Goes s c a n → TellsNoChange a
+    → IsUnchanged s n
+unchanged_by {s = s} q old (goes.call_past le) still = itself s
+unchanged_by {s = s} q old (goes.call_taken t) still = itself s
+unchanged_by q old (goes.called f free is) still = absurd still
+unchanged_by {s = s} q old (goes.refused {call = call} {e = e} {t = t} free is) still =
+    let b = builder_call s.config call in
+    let c = built call.how b call.now (Err e) s.table t q (call_is_regular s.config call) old.shows old.agrees old.waiting is in
+    record { slots = refl; services = refusal_keeps call.how b call.now e s.table.world t.world q c.state old.shows c.shows c.call }
+unchanged_by {s = s} q old (goes.close_past le) still = itself s
+unchanged_by {s = s} q old (goes.close_empty free) still = itself s
+unchanged_by q old (goes.closed f at is) still = absurd still
+unchanged_by {s = s} q old (goes.listed lists) still = itself s
+unchanged_by {s = s} q old goes.not_listed still = itself s
+
+-- ---- a session over a new table
+
+no_ticket : (t : ℕ) (x : Ticket) → Some x ≡ None → ⊥
+no_ticket t x e = absurd cc
+
+pub is_fresh : (s : SessionState) (n : ℕ) → s.table.world ≡ empty_world n → s.table.waiting ≡ [] → IsQuiet s (no_service n) × OwnsTickets s
+is_fresh s n e waiting = (
+  record {
+    shows = subst (λ w. Shows w (no_service n)) (sym e) (empty_shows n);
+    agrees = subst (λ w. Agrees w) (sym e) (empty_agrees n);
+    waiting = waiting;
+  },
+  λ t x at. absurd (no_ticket t x (sym at ∙ ap (λ w. ticket_of w t) e ∙ map.get-empty nat_cmp t)),
+)

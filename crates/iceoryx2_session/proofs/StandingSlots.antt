@@ -1,0 +1,217 @@
+-- The factories of a session's slots stand, over any table whose world agrees.
+use Rattle.std.proofs.Common.{◌≡◌, ◌≢◌, ℕ, ◌<◌, ◌≤◌, List, Option, Some, None, Result, Ok, Err, inl, inr, replicate, refl, sym, ap, subst, ◌∙◌, arith}
+use Rattle.std.specs.Prelude.{slice_set, IfOk}
+use Rattle.iceoryx2_values.specs.declared.description.ServiceHash.{ServiceHash}
+use Rattle.iceoryx2_values.specs.declared.time.ClockFault.{ClockFault}
+use Rattle.iceoryx2_values.specs.Span.{Span}
+use Rattle.iceoryx2_world.specs.World.{World}
+use Rattle.iceoryx2_world.specs.Across.{Agrees}
+use Rattle.iceoryx2_world.specs.Faulty.{IsFaulty}
+use Rattle.iceoryx2_access.specs.Letter.{Letter}
+use Rattle.iceoryx2_world.specs.Peers.{IsAccess}
+use Rattle.iceoryx2_access.specs.Run.{Run, done, next}
+use Rattle.iceoryx2_access.specs.Factory.{Factory}
+use Rattle.iceoryx2_batches.specs.Tables.{TableState, IsTableAccess}
+use Rattle.iceoryx2_batches.proofs.Waiting.{table_run}
+use Rattle.iceoryx2_world.specs.Standing.{Stands, ticket_for}
+use Rattle.iceoryx2_world.proofs.agreement.Accesses.{with_refusals}
+use Rattle.iceoryx2_pattern.specs.Meaning.{Meaning}
+use Rattle.iceoryx2_rounds.specs.Prepared.{IsCreateCall, IsOpenCall}
+use Rattle.iceoryx2_rounds.proofs.Prepared.{granted_call}
+use Rattle.iceoryx2_calls.specs.Calls.{Throughout}
+use Rattle.iceoryx2_calls.specs.Tickets.{tickets_after}
+use Rattle.iceoryx2_calls.proofs.calls.Prepared.{create_call_letters, open_call_letters, create_call_tickets, open_call_tickets}
+use Rattle.iceoryx2_calls.proofs.calls.Words.{agrees_throughout, stands_throughout, all_spared, close_spares}
+use Rattle.iceoryx2_calls.proofs.calls.Created.{create_stands}
+use Rattle.iceoryx2_calls.proofs.calls.Opened.{open_stands}
+use Rattle.iceoryx2_commands.specs.declared.command.How.{How}
+use Rattle.iceoryx2_commands.specs.declared.command.How.TheVariants as how
+use Rattle.iceoryx2_commands.specs.declared.command.Command.{Command}
+use Rattle.iceoryx2_commands.specs.declared.command.Refusal.{Refusal}
+use Rattle.iceoryx2_commands.specs.declared.command.Reply.{Reply}
+use Rattle.iceoryx2_rounds.specs.Answers.{map_err}
+use Rattle.iceoryx2_open_or_create.specs.declared.open_or_create.OpenOrCreateRefusal.{OpenOrCreateRefusal}
+use Rattle.iceoryx2_calls.specs.Attempts.{Attempt, IsAttempted}
+use Rattle.iceoryx2_calls.proofs.calls.Turns.{open_or_create_stands}
+use Rattle.iceoryx2_calls.proofs.calls.Attempts.{attempt_letters, attempt_tickets}
+use Rattle.iceoryx2_session.specs.BuilderCalls.{BuilderCall, with_refusal}
+use Rattle.iceoryx2_session.specs.Patterns.{builder_call}
+use Rattle.iceoryx2_commands.specs.Commands.{slot_count}
+use Rattle.iceoryx2_session.specs.Slots.{HoldsAt}
+use Rattle.iceoryx2_session.specs.Sessions.{SessionState, Builds, ClosesFactory, Goes}
+use Rattle.iceoryx2_session.specs.Sessions as goes
+use Rattle.iceoryx2_session.specs.StandingSlots.{SlotsStand}
+use Rattle.iceoryx2_session.proofs.Prepared.{as_prepared_word}
+use Rattle.iceoryx2_session.proofs.SlotLists.{same_factory, no_factory, set_cases, none_held}
+
+-- ---- runs of the session's table
+
+-- each access of a table is one of a world that peers may share
+pub accesses : {s t : TableState} {word : List Letter} → Run IsTableAccess s word t → Run IsAccess s.world word t.world
+accesses run = table_run run
+
+pub faulty : {s t : TableState} {word : List Letter} → Run IsTableAccess s word t → Run IsFaulty s.world word t.world
+faulty run = with_refusals (accesses run)
+
+-- what is so throughout a word is so after it
+at_end : {step : World → Letter → World → Type 0} (P : World → Type 0) {w v : World} {word : List Letter}
+    → Throughout step P w word → Run step w word v → P v
+at_end P so done = so
+at_end P so (next {mid = u} s rest) = at_end P (so.1 u s) rest
+
+pub agrees_after : {s t : TableState} (word : List Letter) → Run IsTableAccess s word t → Agrees s.world → Agrees t.world
+agrees_after {s = s} word run old = (at_end _ (agrees_throughout s.world word old) (faulty run)).0
+
+-- ---- calls
+
+-- what a builder call leaves: its factory stands, with a ticket that none had, what stood before does, and no other
+-- ticket comes or goes
+pub record Leaves (w : World) (answer : Result Factory Refusal) (v : World) : Type 0 where
+  pub agrees : Agrees v
+  pub given : IfOk answer (λ f. Stands v f × (w.counter ≤ f.ticket))
+  pub kept : (f : Factory) → Stands w f → Stands v f
+  pub tickets : v.tickets ≡ tickets_after w.tickets answer
+
+-- what is so of an Ok answer is so however its error is carried
+carried : {E : Type 0} (P : Factory → Type 0) (carry : E → Refusal) (a : Result Factory E) → IfOk a P → IfOk (with_refusal carry a) P
+carried P carry (Ok f) so = so
+carried P carry (Err e) so = tt
+
+-- the tickets are the same however its error is carried
+carried_tickets : {E : Type 0} (w v : World) (carry : E → Refusal) (a : Result Factory E) → v.tickets ≡ tickets_after w.tickets a
+    → v.tickets ≡ tickets_after w.tickets (with_refusal carry a)
+carried_tickets w v carry (Ok f) e = e
+carried_tickets w v carry (Err x) e = e
+
+module _ {F E C : Type 0} (m : Meaning F E C) (node : ℕ) (hash : ServiceHash) where
+  created : (name : List ℕ) (now : Result Span ClockFault) {word : List Letter} (a : Result Factory C) {w v : World}
+      → IsCreateCall m node hash name now word a → Run IsFaulty w word v → Agrees w
+      → IfOk a (λ f. Stands v f × (w.counter ≤ f.ticket))
+  created name now (Ok f) is run old = let o = create_stands (granted_call is) run old in (o.0, o.3)
+  created name now (Err e) is run old = tt
+
+  opened : {word : List Letter} (a : Result Factory E) {w v : World}
+      → IsOpenCall m node hash word a → Run IsFaulty w word v → Agrees w
+      → IfOk a (λ f. Stands v f × (w.counter ≤ f.ticket))
+  opened (Ok f) is run old = let o = open_stands (granted_call is) run old in (o.stands, o.new_ticket)
+  opened (Err e) is run old = tt
+
+-- nor what the rounds call it
+mapped_tickets : {E X : Type 0} (w v : World) (f : X → E) (a : Result Factory X) → v.tickets ≡ tickets_after w.tickets (map_err f a)
+    → v.tickets ≡ tickets_after w.tickets a
+mapped_tickets w v f (Ok r) e = e
+mapped_tickets w v f (Err x) e = e
+
+attempted : {D F E C X : Type 0} (a : Attempt D F E C) (f : X → OpenOrCreateRefusal E C) {word : List Letter} (answer : Result Factory X) {w v : World}
+    → IsAttempted a word (map_err f answer) → Run IsFaulty w word v → Agrees w
+    → IfOk answer (λ r. Stands v r × (w.counter ≤ r.ticket))
+attempted a f (Ok r) is run old = open_or_create_stands (granted_call is) run old
+attempted a f (Err e) is run old = tt
+
+pub leaves : (h : How) (b : BuilderCall) (now : Result Span ClockFault) (answer : Result Factory Refusal) (s t : TableState)
+    → Agrees s.world → Builds b h now s answer t → Leaves s.world answer t.world
+leaves how.Create b now answer s t old is =
+    let run = faulty is.2.run in
+    let is_call = as_prepared_word b.prepares is.2.is_word in
+    record {
+      agrees = agrees_after is.2.word is.2.run old;
+      given = rw is.1 (carried (λ f. Stands t.world f × (s.world.counter ≤ f.ticket)) b.refusal_of_create is.0 (created b.creating b.node b.hash b.name now is.0 is_call run old));
+      kept = λ f at. at_end _ (stands_throughout s.world is.2.word f (all_spared f is.2.word (create_call_letters is_call)) old at) run;
+      tickets = rw is.1 (carried_tickets s.world t.world b.refusal_of_create is.0 (create_call_tickets refl is_call run));
+    }
+leaves how.Open b now answer s t old is =
+    let run = faulty is.2.run in
+    let is_call = as_prepared_word b.prepares is.2.is_word in
+    record {
+      agrees = agrees_after is.2.word is.2.run old;
+      given = rw is.1 (carried (λ f. Stands t.world f × (s.world.counter ≤ f.ticket)) b.refusal_of_open is.0 (opened b.opening b.node b.hash is.0 is_call run old));
+      kept = λ f at. at_end _ (stands_throughout s.world is.2.word f (all_spared f is.2.word (open_call_letters is_call)) old at) run;
+      tickets = rw is.1 (carried_tickets s.world t.world b.refusal_of_open is.0 (open_call_tickets is_call run));
+    }
+leaves how.OpenOrCreate b now answer s t old is =
+    let run = faulty is.2.run in
+    let is_call = as_prepared_word b.prepares is.2.is_word in
+    record {
+      agrees = agrees_after is.2.word is.2.run old;
+      given = rw is.1 (carried (λ f. Stands t.world f × (s.world.counter ≤ f.ticket)) b.refusal_of_open_or_create is.0 (attempted (b.attempt now) b.refusal_of_rounds is.0 is_call run old));
+      kept = λ f at. at_end _ (stands_throughout s.world is.2.word f (all_spared f is.2.word (attempt_letters is_call)) old at) run;
+      tickets = rw is.1 (carried_tickets s.world t.world b.refusal_of_open_or_create is.0 (mapped_tickets s.world t.world b.refusal_of_rounds is.0 (attempt_tickets is_call run)));
+    }
+
+-- a close leaves each other factory standing
+pub kept_by_close : (s t : TableState) (f : Factory) → Agrees s.world → ClosesFactory s f t
+    → (g : Factory) → g.ticket ≢ f.ticket → Stands s.world g → Stands t.world g
+kept_by_close s t f old is g apart at =
+    at_end _ (stands_throughout s.world is.1.word g (close_spares g apart is.1.is_word) old at) (faulty is.1.run)
+
+-- ---- slots
+
+pub none_stand : (s : SessionState) → s.slots ≡ replicate slot_count None → SlotsStand s
+none_stand s e = record {
+  stand = λ k f at. absurd (none_held slot_count k f (subst (λ (l : List (Option Factory)). HoldsAt l k f) e at));
+  apart = λ j k f g at_j at_k same. absurd (none_held slot_count j f (subst (λ (l : List (Option Factory)). HoldsAt l j f) e at_j));
+}
+
+-- a ticket that is there is older than the counter
+older : (w : World) (f : Factory) → Agrees w → Stands w f → f.ticket < w.counter
+older w f a s = a.numbered.below f.ticket (ticket_for f) s.ticket
+
+put_stands : (s : SessionState) (t : TableState) (k : ℕ) (f : Factory) → Agrees s.table.world → SlotsStand s → Stands t.world f
+    → s.table.world.counter ≤ f.ticket → ((g : Factory) → Stands s.table.world g → Stands t.world g)
+    → SlotsStand (record s { table = t; slots = slice_set s.slots k (Some f) })
+put_stands s t k f agrees old stands new kept =
+    let before : (j : ℕ) (g : Factory) → HoldsAt s.slots j g → g.ticket ≡ f.ticket → ⊥ =
+    λ j g at same. absurd (omega (arith, older s.table.world g agrees (old.stand j g at), same, new)) in
+    record {
+      stand = λ j g at. elim (set_cases s.slots k j (Some f) (Some g) at) [
+        | inl e ↦ subst (λ u. Stands t.world u) (same_factory f g (sym e.1)) stands
+        | inr e ↦ kept g (old.stand j g e.1)
+      ];
+      apart = λ i j a b at_i at_j same. elim (set_cases s.slots k i (Some f) (Some a) at_i) [
+        | inl e ↦ elim (set_cases s.slots k j (Some f) (Some b) at_j) [
+          | inl g ↦ e.0 ∙ sym g.0
+          | inr g ↦ absurd (before j b g.1 (sym same ∙ ap (λ u. u.ticket) (same_factory a f e.1)))
+        ]
+        | inr e ↦ elim (set_cases s.slots k j (Some f) (Some b) at_j) [
+          | inl g ↦ absurd (before i a e.1 (same ∙ ap (λ u. u.ticket) (same_factory b f g.1)))
+          | inr g ↦ old.apart i j a b e.1 g.1 same
+        ]
+      ];
+    }
+
+take_stands : (s : SessionState) (t : TableState) (k : ℕ) (f : Factory) → SlotsStand s → HoldsAt s.slots k f
+    → ((g : Factory) → g.ticket ≢ f.ticket → Stands s.table.world g → Stands t.world g)
+    → SlotsStand (record s { table = t; slots = slice_set s.slots k None })
+take_stands s t k f old taken kept =
+    record {
+      stand = λ j g at. elim (set_cases s.slots k j None (Some g) at) [
+        | inl e ↦ absurd (no_factory g (sym e.1))
+        | inr e ↦ kept g (λ same. e.0 (old.apart j k g f e.1 taken same)) (old.stand j g e.1)
+      ];
+      apart = λ i j a b at_i at_j same. elim (set_cases s.slots k i None (Some a) at_i) [
+        | inl e ↦ absurd (no_factory a (sym e.1))
+        | inr e ↦ elim (set_cases s.slots k j None (Some b) at_j) [
+          | inl g ↦ absurd (no_factory b (sym g.1))
+          | inr g ↦ old.apart i j a b e.1 g.1 same
+        ]
+      ];
+    }
+
+-- ---- commands
+
+pub stand_after : {s : SessionState} {c : Command} {a : Reply} {n : SessionState} → Goes s c a n → Agrees s.table.world → SlotsStand s
+    → Agrees n.table.world × SlotsStand n
+stand_after (goes.call_past le) agrees old = (agrees, old)
+stand_after (goes.call_taken e) agrees old = (agrees, old)
+stand_after {s = s} (goes.called {call = call} f {t = t} free is) agrees old =
+    let c = leaves call.how (builder_call s.config call) call.now (Ok f) s.table t agrees is in
+    (c.agrees, put_stands s t call.slot f agrees old c.given.0 c.given.1 c.kept)
+stand_after {s = s} (goes.refused {call = call} {e = e} {t = t} free is) agrees old =
+    let c = leaves call.how (builder_call s.config call) call.now (Err e) s.table t agrees is in
+    (c.agrees, record { stand = λ k f at. c.kept f (old.stand k f at); apart = old.apart })
+stand_after (goes.close_past le) agrees old = (agrees, old)
+stand_after (goes.close_empty free) agrees old = (agrees, old)
+stand_after {s = s} (goes.closed {slot = k} f {t = t} at is) agrees old =
+    (agrees_after is.1.word is.1.run agrees, take_stands s t k f old at (kept_by_close s.table t f agrees is))
+stand_after (goes.listed lists) agrees old = (agrees, old)
+stand_after goes.not_listed agrees old = (agrees, old)

@@ -1,0 +1,137 @@
+-- A session over a table that nobody else uses, and what a command makes of it: one step of a map.
+use Rattle.std.specs.Prelude.{◌≡◌, ◌≤◌, ◌↔◌, ℕ, List, [], Vec, Option, Some, None, Result, Ok, Err}
+use Rattle.std.specs.Prelude.{IsTrue, slice_set}
+use Rattle.std.specs.declared.alloc.Global.{Global}
+use Rattle.iceoryx2_values.specs.declared.description.ServiceHash.{ServiceHash}
+use Rattle.iceoryx2_values.specs.declared.config.Config.{Config}
+use Rattle.iceoryx2_values.specs.declared.time.ClockFault.{ClockFault}
+use Rattle.iceoryx2_values.specs.Span.{Span}
+use Rattle.iceoryx2_world.specs.declared.listing.Entry.{Entry}
+use Rattle.iceoryx2_world.specs.World.{tag_of}
+use Rattle.iceoryx2_batches.specs.Tables.{TableState}
+use Rattle.iceoryx2_world.specs.Across.{Agrees}
+use Rattle.iceoryx2_access.specs.Run.{Run}
+use Rattle.iceoryx2_access.specs.Factory.{Factory}
+use Rattle.iceoryx2_commands.specs.declared.command.Call.{Call}
+use Rattle.iceoryx2_commands.specs.declared.command.How.{How}
+use Rattle.iceoryx2_commands.specs.declared.command.How.TheVariants as how
+use Rattle.iceoryx2_commands.specs.declared.command.Command.{Command}
+use Rattle.iceoryx2_commands.specs.declared.command.Command.TheVariants as command
+use Rattle.iceoryx2_commands.specs.declared.command.Refusal.{Refusal}
+use Rattle.iceoryx2_commands.specs.declared.command.Reply.{Reply}
+use Rattle.iceoryx2_commands.specs.declared.command.Reply.TheVariants as reply
+use Rattle.iceoryx2_session.specs.BuilderCalls.{BuilderCall, IfPrepares, with_refusal}
+use Rattle.iceoryx2_commands.specs.Commands.{slot_count}
+use Rattle.iceoryx2_session.specs.Slots.{FreeAt, HoldsAt, TakenAt}
+use Rattle.iceoryx2_session.specs.Patterns.{builder_call}
+use Rattle.iceoryx2_session.specs.Sessions.{SessionState}
+use Rattle.iceoryx2_session.specs.CommandLists.{CarriesOut}
+use Rattle.iceoryx2_calls.specs.Quiet.{Quiet, Shows}
+use Rattle.iceoryx2_calls.specs.QuietCalls.{Creates, Opens, Closes}
+use Rattle.iceoryx2_calls.specs.QuietPrepared.{CreatesPrepared, OpensPrepared}
+use Rattle.iceoryx2_calls.specs.QuietAttempts.{Attempts, AttemptsPrepared}
+use Rattle.iceoryx2_rounds.specs.Answers.{map_err}
+use Rattle.iceoryx2_calls.specs.QuietLaws.{HoldsTheSame, times_opened}
+use Rattle.iceoryx2_calls.specs.QuietLists.{listing}
+
+-- The session's table shows the machine's state, its world agrees, and no steps of peers wait at it.
+pub record IsQuiet (s : SessionState) (q : Quiet) : Type 0 where
+  pub shows : Shows s.table.world q
+  pub agrees : Agrees s.table.world
+  pub waiting : s.table.waiting ≡ []
+
+-- What the machine answers to a builder call, and its state after it. One that prepares its types first may also want
+-- memory, and change nothing.
+abbrev pub Answers : Quiet → BuilderCall → How → Result Span ClockFault → Result Factory Refusal
+    → Quiet → Type 0
+Answers q b how.Create now answer p =
+    (a : Result Factory b.create_error) × (answer ≡ with_refusal b.refusal_of_create a)
+    × IfPrepares b.prepares
+    (CreatesPrepared b.creating q b.node b.hash b.name now a p)
+    (Creates b.creating q b.node b.hash b.name now a p)
+Answers q b how.Open now answer p =
+    (a : Result Factory b.open_error) × (answer ≡ with_refusal b.refusal_of_open a)
+    × IfPrepares b.prepares
+    (OpensPrepared b.opening q b.node b.hash a p)
+    (Opens b.opening q b.node b.hash a p)
+Answers q b how.OpenOrCreate now answer p =
+    (a : Result Factory b.open_or_create_error) × (answer ≡ with_refusal b.refusal_of_open_or_create a)
+    × IfPrepares b.prepares
+    (AttemptsPrepared (b.attempt now) q (map_err b.refusal_of_rounds a) p)
+    (Attempts (b.attempt now) q (map_err b.refusal_of_rounds a) p)
+
+-- A command with its reply moves the machine and the slots.
+pub data Moves (config : Config) (q : Quiet) (slots : List (Option Factory))
+    : Command → Reply → Quiet → List (Option Factory) → Type 0 where
+  call_past : {call : Call} → slot_count ≤ call.slot
+      → Moves config q slots (command.Call call) reply.NoSuchSlot q slots
+  call_taken : {call : Call} → TakenAt slots call.slot
+      → Moves config q slots (command.Call call) reply.SlotInUse q slots
+  called : {call : Call} (f : Factory) {p : Quiet} → FreeAt slots call.slot
+      → Answers q (builder_call config call) call.how call.now (Ok f) p
+      → Moves config q slots (command.Call call) (reply.Opened call.slot f.number) p
+      (slice_set slots call.slot (Some f))
+  refused : {call : Call} {e : Refusal} {p : Quiet} → FreeAt slots call.slot
+      → Answers q (builder_call config call) call.how call.now (Err e) p
+      → Moves config q slots (command.Call call) (reply.Refused e) p slots
+  close_past : {slot : ℕ} → slot_count ≤ slot
+      → Moves config q slots (command.Close slot) reply.NoSuchSlot q slots
+  close_empty : {slot : ℕ} → FreeAt slots slot → Moves config q slots (command.Close slot) reply.SlotEmpty q slots
+  closed : {slot : ℕ} (f : Factory) {p : Quiet} → HoldsAt slots slot f → Closes q f.node f.description.hash p
+      → Moves config q slots (command.Close slot) (reply.Closed slot) p (slice_set slots slot None)
+  listed : {entries : Vec Entry Global} → entries.items ≡ listing q
+      → Moves config q slots command.List (reply.Listing entries) q slots
+  not_listed : Moves config q slots command.List reply.OutOfMemory q slots
+
+-- The machine's state after a command, which the session is quiet with again.
+pub record IsMoved (old : SessionState) (q : Quiet) (c : Command) (a : Reply) (new : SessionState) : Type 0 where
+  pub state : Quiet
+  pub moves : Moves old.config q old.slots c a state new.slots
+  pub quiet : IsQuiet new state
+  pub configured : new.config ≡ old.config
+
+-- The machine beside the slots.
+pub record MachineState : Type 0 where
+  pub machine : Quiet
+  pub slots : List (Option Factory)
+
+abbrev pub MovesBoth : Config → MachineState → Command → Reply → MachineState → Type 0
+MovesBoth config u c a v = Moves config u.machine u.slots c a v.machine v.slots
+
+-- The machine's state after commands that were carried out in order, which the session is quiet with
+-- again. The table's tags are exactly those of the nodes that the machine counts.
+pub record AreMoved (old : SessionState) (q : Quiet) (commands : List Command) (replies : List Reply)
+    (new : SessionState) : Type 0 where
+  pub state : Quiet
+  pub moves : CarriesOut (MovesBoth old.config)
+      (record { machine = q; slots = old.slots }) commands replies
+      (record { machine = state; slots = new.slots })
+  pub quiet : IsQuiet new state
+  pub tags : (node : ℕ) (hash : ServiceHash)
+      → IsTrue (tag_of new.table.world node hash) ↔ (1 ≤ times_opened state node hash)
+  pub configured : new.config ≡ old.config
+
+-- The reply tells of no factory that was opened or closed.
+abbrev pub TellsNoChange : Reply → Type 0
+TellsNoChange (reply.Opened slot number) = ⊥
+TellsNoChange (reply.Closed slot) = ⊥
+TellsNoChange _ = Unit {0}
+
+-- The slots hold what they held, and the table has the same descriptions, segments, tags and counts.
+pub record IsUnchanged (old new : SessionState) : Type 0 where
+  pub slots : new.slots ≡ old.slots
+  pub services : HoldsTheSame old.table.world new.table.world
+
+-- the machine's state after what a slot holds is closed, if it holds something
+abbrev pub LeavesPlace : Quiet → Option Factory → Quiet → Type 0
+LeavesPlace q None p = p ≡ q
+LeavesPlace q (Some f) p = Closes q f.node f.description.hash p
+
+-- A session's end: slot after slot its factories are closed, and the table shows what the machine
+-- has then.
+pub record IsFinished (q : Quiet) (slots : List (Option Factory)) (t : TableState) : Type 0 where
+  pub state : Quiet
+  pub moves : Run LeavesPlace q slots state
+  pub shows : Shows t.world state
+  pub agrees : Agrees t.world
+  pub waiting : t.waiting ≡ []

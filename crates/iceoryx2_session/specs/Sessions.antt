@@ -1,0 +1,104 @@
+-- What a command makes of a session.
+use Rattle.std.specs.Prelude.{◌≡◌, ◌≤◌, ℕ, List, Vec, Option, Some, None, Result, Ok, Err}
+use Rattle.std.specs.Prelude.{slice_get, slice_set}
+use Rattle.std.specs.declared.alloc.Global.{Global}
+use Rattle.iceoryx2_values.specs.declared.config.Config.{Config}
+use Rattle.iceoryx2_values.specs.declared.time.ClockFault.{ClockFault}
+use Rattle.iceoryx2_values.specs.Span.{Span}
+use Rattle.iceoryx2_world.specs.declared.listing.Entry.{Entry}
+use Rattle.iceoryx2_world.specs.Listing.{Lists}
+use Rattle.iceoryx2_batches.specs.Tables.{TableState, IsTableAccess}
+use Rattle.iceoryx2_access.specs.Run.{Run, Joins}
+use Rattle.iceoryx2_errors.specs.declared.error.CloseError.{CloseError}
+use Rattle.iceoryx2_access.specs.Factory.{Factory}
+use Rattle.iceoryx2_rounds.specs.Creates.{IsCreateWord}
+use Rattle.iceoryx2_rounds.specs.Opens.{IsOpenWord}
+use Rattle.iceoryx2_rounds.specs.Prepared.{IsCreateCall, IsOpenCall}
+use Rattle.iceoryx2_rounds.specs.Answers.{map_err}
+use Rattle.iceoryx2_calls.specs.Attempts.{IsAttempted, IsAttemptWord}
+use Rattle.iceoryx2_port_factory.specs.Closes.{IsCloseWord}
+use Rattle.iceoryx2_commands.specs.declared.command.Call.{Call}
+use Rattle.iceoryx2_commands.specs.declared.command.How.{How}
+use Rattle.iceoryx2_commands.specs.declared.command.How.TheVariants as how
+use Rattle.iceoryx2_commands.specs.declared.command.Command.{Command}
+use Rattle.iceoryx2_commands.specs.declared.command.Command.TheVariants as command
+use Rattle.iceoryx2_commands.specs.declared.command.Refusal.{Refusal}
+use Rattle.iceoryx2_commands.specs.declared.command.Reply.{Reply}
+use Rattle.iceoryx2_commands.specs.declared.command.Reply.TheVariants as reply
+use Rattle.iceoryx2_session.specs.BuilderCalls.{BuilderCall, IfPrepares, with_refusal}
+use Rattle.iceoryx2_session.specs.Patterns.{builder_call}
+use Rattle.iceoryx2_commands.specs.Commands.{slot_count}
+use Rattle.iceoryx2_session.specs.Slots.{FreeAt, HoldsAt, TakenAt}
+
+-- What a session has.
+pub record SessionState : Type 0 where
+  pub config : Config
+  pub table : TableState
+  pub slots : List (Option Factory)
+
+-- A builder call goes along a word of its grammar, with that answer. One that prepares its types first may also want
+-- memory without an access.
+abbrev pub Builds
+    : BuilderCall → How → Result Span ClockFault → TableState → Result Factory Refusal → TableState → Type 0
+Builds b how.Create now s answer t =
+    (a : Result Factory b.create_error) × (answer ≡ with_refusal b.refusal_of_create a)
+    × Joins IsTableAccess s (λ word. IfPrepares b.prepares
+    (IsCreateCall b.creating b.node b.hash b.name now word a)
+    (IsCreateWord b.creating b.node b.hash b.name now word a)) t
+Builds b how.Open now s answer t =
+    (a : Result Factory b.open_error) × (answer ≡ with_refusal b.refusal_of_open a)
+    × Joins IsTableAccess s (λ word. IfPrepares b.prepares
+    (IsOpenCall b.opening b.node b.hash word a)
+    (IsOpenWord b.opening b.node b.hash word a)) t
+Builds b how.OpenOrCreate now s answer t =
+    (a : Result Factory b.open_or_create_error) × (answer ≡ with_refusal b.refusal_of_open_or_create a)
+    × Joins IsTableAccess s (λ word. IfPrepares b.prepares
+    (IsAttempted (b.attempt now) word (map_err b.refusal_of_rounds a))
+    (IsAttemptWord (b.attempt now) word (map_err b.refusal_of_rounds a))) t
+
+-- A factory is closed along a word of close, whatever it answers.
+abbrev pub ClosesFactory : TableState → Factory → TableState → Type 0
+ClosesFactory s f t =
+    (answer : Result (Unit {0}) (CloseError Factory)) × Joins IsTableAccess s (λ word. IsCloseWord f word answer) t
+
+-- what a slot holds is closed, if it holds something
+abbrev pub ClosesPlace : TableState → Option Factory → TableState → Type 0
+ClosesPlace s None t = t ≡ s
+ClosesPlace s (Some f) t = ClosesFactory s f t
+
+abbrev pub ClosesSlot : TableState → List (Option Factory) → ℕ → TableState → Type 0
+ClosesSlot s slots k t = (o : Option Factory) × (slice_get slots k ≡ Some o) × ClosesPlace s o t
+
+-- Slot after slot is closed, in ascending order.
+abbrev pub ClosesSlots : TableState → List (Option Factory) → TableState → Type 0
+ClosesSlots s slots t = Run ClosesPlace s slots t
+
+-- what a slot holds is closed, and that is Ok
+abbrev pub IsClosedPlace : TableState → Option Factory → TableState → Type 0
+IsClosedPlace s None t = t ≡ s
+IsClosedPlace s (Some f) t = Joins IsTableAccess s (λ word. IsCloseWord f word (Ok tt)) t
+
+-- Slot after slot is closed, in ascending order, and no factory comes back.
+abbrev pub AreClosed : TableState → List (Option Factory) → TableState → Type 0
+AreClosed s slots t = Run IsClosedPlace s slots t
+
+-- A command leads from one state to another, with this reply. The slot is tested before any access,
+-- and the other slots keep what they hold.
+pub data Goes (old : SessionState) : Command → Reply → SessionState → Type 0 where
+  call_past : {call : Call} → slot_count ≤ call.slot → Goes old (command.Call call) reply.NoSuchSlot old
+  call_taken : {call : Call} → TakenAt old.slots call.slot → Goes old (command.Call call) reply.SlotInUse old
+  called : {call : Call} (f : Factory) {t : TableState} → FreeAt old.slots call.slot
+      → Builds (builder_call old.config call) call.how call.now old.table (Ok f) t
+      → Goes old (command.Call call) (reply.Opened call.slot f.number)
+      (record old { table = t; slots = slice_set old.slots call.slot (Some f) })
+  refused : {call : Call} {e : Refusal} {t : TableState} → FreeAt old.slots call.slot
+      → Builds (builder_call old.config call) call.how call.now old.table (Err e) t
+      → Goes old (command.Call call) (reply.Refused e) (record old { table = t })
+  close_past : {slot : ℕ} → slot_count ≤ slot → Goes old (command.Close slot) reply.NoSuchSlot old
+  close_empty : {slot : ℕ} → FreeAt old.slots slot → Goes old (command.Close slot) reply.SlotEmpty old
+  closed : {slot : ℕ} (f : Factory) {t : TableState} → HoldsAt old.slots slot f → ClosesFactory old.table f t
+      → Goes old (command.Close slot) (reply.Closed slot)
+      (record old { table = t; slots = slice_set old.slots slot None })
+  listed : {entries : Vec Entry Global} → Lists old.table.world entries.items
+      → Goes old command.List (reply.Listing entries) old
+  not_listed : Goes old command.List reply.OutOfMemory old

@@ -1,0 +1,60 @@
+//! Builder calls for services of events.
+
+ghost use Rattle.std.specs.Prelude.{◌≡◌};
+ghost use Rattle.iceoryx2_event_builder.specs.Request as request;
+ghost use Rattle.iceoryx2_session.specs.Events.{event_call};
+ghost use Rattle.iceoryx2_session.specs.Sessions.{Builds};
+ghost use Rattle.iceoryx2_session.specs.Setters.{with_settings as set_all};
+
+use crate::open_service::OpenService;
+use crate::setters::{HasSetters, with_settings};
+use iceoryx2_attributes::attribute::{AttributeSpecifier, AttributeVerifier};
+use iceoryx2_builder::builder::event::Builder;
+use iceoryx2_commands::command::{EventSetting, How, Refusal};
+use iceoryx2_storage::local::Local;
+use iceoryx2_storage::table::Table;
+use iceoryx2_values::time::{ClockFault, Time};
+
+impl HasSetters for Builder<Local> {
+    type Setting = EventSetting;
+
+    ghost with_setting = { request.with_setting };
+
+    fn with_setting(self, setting: EventSetting) -> Builder<Local> {
+        self.with(setting)
+    }
+}
+
+/// The builder call, after each setter. A create defines the required pairs.
+pub fn call(
+    builder: Builder<Local>,
+    settings: Vec<EventSetting>,
+    attributes: AttributeVerifier,
+    how: How,
+    now: Result<Time, ClockFault>,
+    table: &mut Table,
+) -> Result<OpenService, Refusal>
+    ensures { Builds (event_call (set_all request.with_setting builder settings.items) attributes) how now
+        table.old result table.new }
+{
+    let builder = with_settings(builder, settings);
+    match how {
+        How::Create => {
+            let specifier = AttributeSpecifier::from(attributes.into_required_attributes());
+            match builder.create_with_attributes(&specifier, table, now) {
+                Ok(factory) => Ok(OpenService::event(factory)),
+                Err(error) => Err(Refusal::EventCreate(error)),
+            }
+        }
+        How::Open => match builder.open_with_attributes(&attributes, table) {
+            Ok(factory) => Ok(OpenService::event(factory)),
+            Err(error) => Err(Refusal::EventOpen(error)),
+        },
+        How::OpenOrCreate => {
+            match builder.open_or_create_with_attributes(&attributes, table, now) {
+                Ok(factory) => Ok(OpenService::event(factory)),
+                Err(error) => Err(Refusal::EventOpenOrCreate(error)),
+            }
+        }
+    }
+}

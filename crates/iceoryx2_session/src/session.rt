@@ -1,0 +1,256 @@
+//! Commands over a table, with places for what they open.
+
+ghost use Rattle.std.specs.Prelude.{◌≡◌, ◌<◌, ℕ, IfOk, OnErr, replicate, slice_set, None, []};
+ghost use Rattle.iceoryx2_session.specs.Patterns.{builder_call};
+ghost use Rattle.iceoryx2_session.specs.Sessions.{Builds, ClosesSlot};
+ghost use Rattle.iceoryx2_commands.specs.Commands.{slot_count};
+
+use crate::open_service::OpenService;
+use crate::slots::Slots;
+use crate::{events, publish_subscribe, request_response};
+use iceoryx2_builder::builder::Node;
+use iceoryx2_commands::command::{Call, Command, Refusal, Reply, SLOTS, Settings};
+use iceoryx2_storage::local::Local;
+use iceoryx2_storage::table::Table;
+use iceoryx2_types::types::{CustomHeaderMarker, CustomPayloadMarker, Slice};
+use iceoryx2_values::config::Config;
+use std::alloc::AllocError;
+
+/// A table, and 64 slots for the factories that commands open over it. It has to be spent by
+/// `finish`.
+pub struct Session {
+    config: Config,
+    table: Table,
+    slots: Slots,
+}
+
+/// The builder call of a command.
+fn build(config: Config, call: Call, table: &mut Table) -> Result<OpenService, Refusal>
+    ensures { Builds (builder_call config call) call.how call.now table.old result table.new }
+{
+    let Call {
+        how,
+        node,
+        slot: _,
+        name,
+        settings,
+        attributes,
+        now,
+    } = call;
+    let builder = Node::<Local>::new(node, config).service_builder(name);
+    match settings {
+        Settings::Event(settings) => {
+            events::call(builder.event(), settings, attributes, how, now, table)
+        }
+        Settings::PublishSubscribe(settings) => {
+            let builder = builder
+                .publish_subscribe::<Slice<CustomPayloadMarker>>()
+                .user_header::<CustomHeaderMarker>();
+            publish_subscribe::call(builder, settings, attributes, how, table)
+        }
+        Settings::RequestResponse(settings) => {
+            let builder = builder
+                .request_response::<Slice<CustomPayloadMarker>, Slice<CustomPayloadMarker>>()
+                .request_user_header::<CustomHeaderMarker>()
+                .response_user_header::<CustomHeaderMarker>();
+            request_response::call(builder, settings, attributes, how, table)
+        }
+    }
+}
+
+/// Closes what the slot holds, if it holds something. It is free then.
+fn close_slot(slots: &mut Slots, slot: usize, table: &mut Table)
+    requires { slot < slot_count }
+    ensures after { slots.new ≡ slice_set slots.old slot None }
+    ensures closed { ClosesSlot table.old slots.old slot table.new }
+{
+    match slots.take(slot) {
+        Some(service) => return service.close(table),
+        None => return,
+    }
+}
+
+impl Session {
+    ghost use Rattle.iceoryx2_values.specs.declared.description.ServiceHash.{ServiceHash};
+    ghost use Rattle.iceoryx2_world.specs.Across.{Agrees};
+    ghost use Rattle.iceoryx2_world.specs.World.{empty_world, ticket_of};
+    ghost use Rattle.iceoryx2_session.specs.SessionStates.{state_of};
+    ghost use Rattle.iceoryx2_session.specs.Sessions.{AreClosed, ClosesSlots, Goes};
+    ghost use Rattle.iceoryx2_session.specs.CommandLists.{CarriesOut};
+    ghost use Rattle.iceoryx2_session.specs.StandingSlots.{GoesStanding, OwnsTickets, SlotsStand};
+    ghost use Rattle.iceoryx2_calls.specs.Quiet.{Quiet, no_service};
+    ghost use Rattle.iceoryx2_calls.specs.QuietLaws.{HasNothingAt};
+    ghost use Rattle.iceoryx2_session.specs.QuietSessions.{AreMoved, IsFinished, IsMoved, IsQuiet};
+    ghost use Rattle.iceoryx2_session.specs.QuietSessions.{IsUnchanged, TellsNoChange};
+    ghost use Rattle.iceoryx2_access.specs.Run.{Each};
+    ghost use Rattle.iceoryx2_commands.specs.declared.command.Command.TheVariants as command;
+
+    /// A session whose nodes have this configuration. All its slots are free.
+    pub fn new(config: Config, table: Table) -> Session
+        ensures state { state_of result
+            ≡ record { config = config; table = table; slots = replicate slot_count None } }
+
+        // So each factory of a slot stands, whatever the table.
+        ensures stands { SlotsStand (state_of result) }
+
+        // Over a new table it is quiet: the table shows the machine that has no service yet.
+        ensures fresh { (n : ℕ) → table.world ≡ empty_world n → table.waiting ≡ []
+            → IsQuiet (state_of result) (no_service n) × OwnsTickets (state_of result) }
+    {
+        Session {
+            config,
+            table,
+            slots: Slots::new(),
+        }
+    }
+
+    /// Carries out one command. The slot is tested before anything is called.
+    pub fn apply(&mut self, command: Command) -> Reply
+        // Over any table it is the builder call or the close that it names, along a word of it.
+        ensures goes { Goes (state_of self.old) command result (state_of self.new) }
+
+        // Over any table whose world agrees, the world agrees afterwards, and the factories of all
+        // slots stand, each with a ticket of its own.
+        ensures stands { Agrees (state_of self.old).table.world → SlotsStand (state_of self.old)
+            → Agrees (state_of self.new).table.world × SlotsStand (state_of self.new) }
+
+        // There the table's tickets stay those of the slots.
+        ensures owns { Agrees (state_of self.old).table.world → SlotsStand (state_of self.old)
+            → OwnsTickets (state_of self.old) → OwnsTickets (state_of self.new) }
+
+        // Over a table that nobody else uses it is one step of the quiet machine.
+        ensures quiet { (q : Quiet) → IsQuiet (state_of self.old) q → SlotsStand (state_of self.old)
+            → IsMoved (state_of self.old) q command result (state_of self.new) }
+    {
+        match command {
+            Command::Call(call) => self.call(call),
+            Command::Close { slot } => self.close(slot),
+            Command::List => self.list(),
+        }
+    }
+
+    /// Carries out commands in order, and gives as many replies, each the one to its command. Room for
+    /// all replies is asked for first.
+    pub fn run(&mut self, commands: Vec<Command>) -> Result<Vec<Reply>, AllocError>
+        // Where there is no room, nothing is carried out.
+        ensures refused { OnErr result (state_of self.new ≡ state_of self.old) }
+
+        // Over any table each command goes as it does by itself, from the state that the one before it left.
+        ensures goes { IfOk result (λ replies.
+            CarriesOut Goes (state_of self.old) commands.items replies.items (state_of self.new)) }
+
+        // Over any table whose world agrees, the world agrees afterwards, and the factories of all
+        // slots stand, each with a ticket of its own,
+        ensures stands { Agrees (state_of self.old).table.world → SlotsStand (state_of self.old)
+            → Agrees (state_of self.new).table.world × SlotsStand (state_of self.new) }
+
+        // and so it is after each of the commands.
+        ensures between { Agrees (state_of self.old).table.world → SlotsStand (state_of self.old)
+            → IfOk result (λ replies.
+            CarriesOut GoesStanding (state_of self.old) commands.items replies.items (state_of self.new)) }
+
+        // There the table's tickets stay those of the slots.
+        ensures owns { Agrees (state_of self.old).table.world → SlotsStand (state_of self.old)
+            → OwnsTickets (state_of self.old) → OwnsTickets (state_of self.new) }
+
+        // Over a table that nobody else uses the commands are as many steps of the quiet machine.
+        ensures quiet { (q : Quiet) → IsQuiet (state_of self.old) q → SlotsStand (state_of self.old)
+            → IfOk result (λ replies.
+            AreMoved (state_of self.old) q commands.items replies.items (state_of self.new)) }
+
+        // There nothing changes where no reply tells of a factory that was opened or closed.
+        ensures unchanged { (q : Quiet) → IsQuiet (state_of self.old) q → SlotsStand (state_of self.old)
+            → IfOk result (λ replies.
+            Each TellsNoChange replies.items → IsUnchanged (state_of self.old) (state_of self.new)) }
+    {
+        let mut replies = Vec::with_capacity(*commands.allocator(), commands.len())?;
+        for command in commands {
+            replies.push_reserved(self.apply(command));
+        }
+        Ok(replies)
+    }
+
+    fn call(&mut self, call: Call) -> Reply
+        ensures { Goes (state_of self.old) (command.Call call) result (state_of self.new) }
+    {
+        let slot = call.slot;
+        if slot >= SLOTS {
+            return Reply::NoSuchSlot;
+        }
+        if self.slots.is_taken(slot) {
+            return Reply::SlotInUse;
+        }
+        match build(self.config, call, &mut self.table) {
+            Ok(service) => {
+                let number = service.number();
+                self.slots.put(slot, service);
+                Reply::Opened { slot, number }
+            }
+            Err(refusal) => Reply::Refused(refusal),
+        }
+    }
+
+    fn close(&mut self, slot: usize) -> Reply
+        ensures { Goes (state_of self.old) (command.Close slot) result (state_of self.new) }
+    {
+        if slot >= SLOTS {
+            return Reply::NoSuchSlot;
+        }
+        match self.slots.take(slot) {
+            Some(service) => {
+                service.close(&mut self.table);
+                Reply::Closed { slot }
+            }
+            None => Reply::SlotEmpty,
+        }
+    }
+
+    fn list(&self) -> Reply
+        ensures { Goes (state_of self.now) command.List result (state_of self.now) }
+    {
+        match self.table.list() {
+            Ok(entries) => Reply::Listing(entries),
+            Err(_) => Reply::OutOfMemory,
+        }
+    }
+
+    /// The table, for its readers.
+    pub fn table(&self) -> &Table
+        ensures { result.now ≡ (state_of self.now).table }
+    {
+        &self.table
+    }
+
+    /// Closes the factories of all slots, in ascending order, and gives the table back.
+    pub fn finish(self) -> Table
+        // Over any table each is closed along a word of close.
+        ensures closes { ClosesSlots (state_of self).table (state_of self).slots result }
+
+        // Over any table whose world agrees each of these closes is Ok, so no factory comes back.
+        ensures stands { Agrees (state_of self).table.world → SlotsStand (state_of self)
+            → Agrees result.world × AreClosed (state_of self).table (state_of self).slots result }
+
+        // There, where the table's tickets are those of the slots, no ticket is left.
+        ensures no_tickets { Agrees (state_of self).table.world → SlotsStand (state_of self)
+            → OwnsTickets (state_of self) → (ticket : ℕ) → ticket_of result.world ticket ≡ None }
+
+        // Over a table that nobody else uses each is the machine's close.
+        ensures quiet { (q : Quiet) → IsQuiet (state_of self) q → SlotsStand (state_of self)
+            → IsFinished q (state_of self).slots result }
+
+        // There nothing of any service is left, where the table's tickets are those of the slots.
+        ensures empty { (q : Quiet) → IsQuiet (state_of self) q → SlotsStand (state_of self)
+            → OwnsTickets (state_of self) → (hash : ServiceHash) → HasNothingAt result.world hash }
+    {
+        let Session {
+            config: _,
+            mut table,
+            mut slots,
+        } = self;
+        for slot in 0..SLOTS {
+            close_slot(&mut slots, slot, &mut table);
+        }
+        slots.destroy();
+        table
+    }
+}

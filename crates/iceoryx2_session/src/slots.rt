@@ -1,0 +1,97 @@
+//! The places for a session's factories.
+
+ghost use Rattle.std.specs.Prelude.{◌≡◌, ◌<◌, slice_set, slice_get, Some, None, MatchBool, replicate, length};
+
+use crate::open_service::OpenService;
+use iceoryx2_commands::command::SLOTS;
+use std::marker::Model;
+
+/// A place for each slot, which may hold a service. They have to be spent.
+pub struct Slots {
+    places: [Option<OpenService>; SLOTS],
+}
+
+impl Model for Slots {
+    ghost use Rattle.std.specs.Prelude.{◌≡◌, List, length, Option};
+    ghost use Rattle.iceoryx2_access.specs.Factory.{Factory};
+    ghost use Rattle.iceoryx2_commands.specs.Commands.{slot_count};
+
+    ghost Value = { List (Option Factory) };
+
+    ghost view = { λ slots. slots.places };
+
+    ghost invariant = { λ slots. length slots.places ≡ slot_count };
+}
+
+fn abandon(place: Option<OpenService>) {
+    match place {
+        None => {}
+        Some(service) => service.abandon(),
+    }
+}
+
+// Takes the places apart, whatever they hold.
+macro_rules! let_go {
+    ($places:expr; $($place:ident)*) => {
+        let [$($place),*] = $places;
+        $(abandon($place);)*
+    };
+}
+
+fn abandon_all(places: [Option<OpenService>; SLOTS]) {
+    let_go!(places;
+        p0 p1 p2 p3 p4 p5 p6 p7 p8 p9 p10 p11 p12 p13 p14 p15
+        p16 p17 p18 p19 p20 p21 p22 p23 p24 p25 p26 p27 p28 p29 p30 p31
+        p32 p33 p34 p35 p36 p37 p38 p39 p40 p41 p42 p43 p44 p45 p46 p47
+        p48 p49 p50 p51 p52 p53 p54 p55 p56 p57 p58 p59 p60 p61 p62 p63);
+}
+
+impl Slots {
+    ghost use Rattle.iceoryx2_commands.specs.Commands.{slot_count};
+    ghost use Rattle.iceoryx2_session.specs.Slots.{FreeAt, TakenAt};
+
+    /// Slots that are all free.
+    pub fn new() -> Slots
+        ensures { result ≡ replicate slot_count None }
+    {
+        Slots {
+            places: Default::default(),
+        }
+    }
+
+    pub fn is_taken(&self, slot: usize) -> bool
+        requires { slot < slot_count }
+        ensures { MatchBool result (TakenAt self.now slot) (FreeAt self.now slot) }
+    {
+        match &self.places[slot] {
+            Some(_) => true,
+            None => false,
+        }
+    }
+
+    /// What the slot holds. It is free then.
+    pub fn take(&mut self, slot: usize) -> Option<OpenService>
+        requires { slot < slot_count }
+        ensures value { slice_get self.old slot ≡ Some result }
+        ensures after { self.new ≡ slice_set self.old slot None }
+    {
+        self.places[slot].take()
+    }
+
+    /// Puts a service into a free slot.
+    pub fn put(&mut self, slot: usize, service: OpenService)
+        requires in_range { slot < slot_count }
+        requires free { FreeAt self.old slot }
+        ensures after { self.new ≡ slice_set self.old slot (Some service) }
+    {
+        abandon(self.places[slot].replace(service))
+    }
+
+    /// Lets go of the places.
+    pub fn destroy(self)
+        ensures { length self ≡ slot_count }
+    {
+        let Slots { places } = self;
+        abandon_all(places);
+    }
+}
