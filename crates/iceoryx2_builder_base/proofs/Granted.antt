@@ -1,8 +1,10 @@
 -- What a call has been granted whose word joins two states of its storage.
-use Rattle.std.proofs.Common.{◌≡◌, ℕ, List, Result, Ok, Err, None}
+use Rattle.std.proofs.Common.{◌≡◌, ◌∙◌, ℕ, Bool, true, List, Result, Ok, Err, IfOk, None, ap}
 use Rattle.iceoryx2_values.specs.declared.description.ServiceHash.{ServiceHash}
 use Rattle.iceoryx2_values.specs.declared.time.ClockFault.{ClockFault}
 use Rattle.iceoryx2_values.specs.Span.{Span}
+use Rattle.iceoryx2_values.specs.Description.{Description}
+use Rattle.iceoryx2_values.specs.declared.description.MessagingPattern.{MessagingPattern}
 use Rattle.iceoryx2_access.specs.Factory.{Factory}
 use Rattle.iceoryx2_access.specs.Letter.{Letter}
 use Rattle.iceoryx2_access.specs.Run.{Joins, done}
@@ -25,6 +27,21 @@ module _ {F E C : Type 0} {m : Meaning F E C} {node : ℕ} {hash : ServiceHash} 
   -- an open carries what fits
   pub opened_fits : Joins step old (λ word. IsOpenWord m node hash word (Ok r)) new → m.misfit r.description ≡ None
   opened_fits joined = (opened_carries joined.is_word).fits
+
+module _ {F E C : Type 0} {m : Meaning F E C} {node : ℕ} {hash : ServiceHash} {S : Type 0} {step : S → Letter → S → Type 0} {old new : S} where
+  -- what a create registers is of a pattern that what it published is of
+  pub created_of : (is_of : MessagingPattern → Bool) (name : List ℕ) (now : Result Span ClockFault) (answer : Result Factory C)
+      → Joins step old (λ word. IsCreateWord m node hash name now word answer) new
+      → is_of (description_of m hash name now).pattern ≡ true → IfOk answer (λ r. is_of r.description.pattern ≡ true)
+  created_of is_of name now (Ok r) joined published = ap (λ d. is_of d.pattern) (created_is name now joined) ∙ published
+  created_of is_of name now (Err e) joined published = tt
+
+  -- what an open registers is of a pattern that all that fits is of
+  pub opened_of : (is_of : MessagingPattern → Bool) (answer : Result Factory E)
+      → Joins step old (λ word. IsOpenWord m node hash word answer) new
+      → ((d : Description) → m.misfit d ≡ None → is_of d.pattern ≡ true) → IfOk answer (λ r. is_of r.description.pattern ≡ true)
+  opened_of is_of (Ok r) joined fits = fits r.description (opened_fits joined)
+  opened_of is_of (Err e) joined fits = tt
 
 module _ {E : Type 0} {no_memory : E} {IsWord : List Letter → Result Factory E → Type 0} {S : Type 0} {step : S → Letter → S → Type 0} {old : S} where
   -- a call whose types are prepared goes along a word of it

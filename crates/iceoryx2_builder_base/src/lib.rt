@@ -1,6 +1,7 @@
 //! What the builders of all patterns have in common.
 #![tactic(auto)]
 
+pub mod answer;
 pub mod base;
 pub mod requested;
 pub mod zeros;

@@ -30,6 +30,7 @@ use crate::event::demand::{EventDemand, open_or_create_error};
 pub use crate::event::setting::EventSetting;
 use iceoryx2_access::storage::Service;
 use iceoryx2_attributes::attribute::{AttributeSpecifier, AttributeVerifier};
+use iceoryx2_builder_base::answer::granted;
 use iceoryx2_builder_base::base::BuilderWithServiceType;
 pub use iceoryx2_errors::error::{EventCreateError, EventOpenError, EventOpenOrCreateError};
 use iceoryx2_open_or_create::open_or_create::open_or_create;
@@ -256,10 +257,7 @@ impl<S: Service> Builder<S> {
         let attributes = specifier.attributes();
         let node = base.node();
         let name = base.name();
-        match create(&mut demand, node, &hash, name, attributes, now, storage) {
-            Ok(registration) => Ok(PortFactory::new(registration)),
-            Err(error) => Err(error),
-        }
+        granted(create(&mut demand, node, &hash, name, attributes, now, storage))
     }
 
     /// Opens the service, whatever its attributes: `open_with_attributes` of a verifier that
@@ -297,10 +295,7 @@ impl<S: Service> Builder<S> {
     {
         let Builder { base, demand } = self;
         let hash = base.hash(LETTER);
-        match open(&demand, base.node(), &hash, verifier, storage) {
-            Ok(registration) => Ok(PortFactory::new(registration)),
-            Err(error) => Err(error),
-        }
+        granted(open(&demand, base.node(), &hash, verifier, storage))
     }
 
     /// Opens the service, or creates it where there is none, whatever its attributes:

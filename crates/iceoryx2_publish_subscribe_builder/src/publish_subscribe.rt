@@ -28,6 +28,7 @@ use crate::publish_subscribe::demand::{
 pub use crate::publish_subscribe::setting::PublishSubscribeSetting;
 use iceoryx2_access::storage::Service;
 use iceoryx2_attributes::attribute::{AttributeSpecifier, AttributeVerifier};
+use iceoryx2_builder_base::answer::granted;
 use iceoryx2_builder_base::base::BuilderWithServiceType;
 use iceoryx2_builder_base::requested::RequestedTypes;
 pub use iceoryx2_errors::error::{
@@ -351,10 +352,7 @@ impl<P: ZeroCopySend, U: ZeroCopySend, S: Service> Builder<P, U, S> {
         let node = base.node();
         let name = base.name();
         let now = Ok(Time::default());
-        match create(&mut asked, node, &hash, name, attributes, now, storage) {
-            Ok(registration) => Ok(PortFactory::new(registration)),
-            Err(error) => Err(error),
-        }
+        granted(create(&mut asked, node, &hash, name, attributes, now, storage))
     }
 
     /// Opens the service, whatever its attributes: `open_with_attributes` of a verifier that
@@ -409,10 +407,7 @@ impl<P: ZeroCopySend, U: ZeroCopySend, S: Service> Builder<P, U, S> {
         };
         let asked = PreparedDemand { demand, message };
         let hash = base.hash(LETTER);
-        match open(&asked, base.node(), &hash, verifier, storage) {
-            Ok(registration) => Ok(PortFactory::new(registration)),
-            Err(error) => Err(error),
-        }
+        granted(open(&asked, base.node(), &hash, verifier, storage))
     }
 
     /// Opens the service, or creates it where there is none, whatever its attributes:

@@ -31,6 +31,7 @@ pub use crate::request_response::setting::RequestResponseSetting;
 use crate::request_response::setting::RequestResponseSetting as Set;
 use iceoryx2_access::storage::Service;
 use iceoryx2_attributes::attribute::{AttributeSpecifier, AttributeVerifier};
+use iceoryx2_builder_base::answer::granted;
 use iceoryx2_builder_base::base::BuilderWithServiceType;
 pub use iceoryx2_errors::error::{
     RequestResponseCreateError, RequestResponseOpenError, RequestResponseOpenOrCreateError,
@@ -429,10 +430,7 @@ impl<Q: ZeroCopySend, QU: ZeroCopySend, R: ZeroCopySend, RU: ZeroCopySend, S: Se
         let node = base.node();
         let name = base.name();
         let now = Ok(Time::default());
-        match create(&mut asked, node, &hash, name, attributes, now, storage) {
-            Ok(registration) => Ok(PortFactory::new(registration)),
-            Err(error) => Err(error),
-        }
+        granted(create(&mut asked, node, &hash, name, attributes, now, storage))
     }
 
     /// Opens the service, whatever its attributes: `open_with_attributes` of a verifier that
@@ -489,10 +487,7 @@ impl<Q: ZeroCopySend, QU: ZeroCopySend, R: ZeroCopySend, RU: ZeroCopySend, S: Se
             return Err(RequestResponseOpenError::OutOfMemory);
         };
         let hash = base.hash(LETTER);
-        match open(&asked, base.node(), &hash, verifier, storage) {
-            Ok(registration) => Ok(PortFactory::new(registration)),
-            Err(error) => Err(error),
-        }
+        granted(open(&asked, base.node(), &hash, verifier, storage))
     }
 
     /// Opens the service, or creates it where there is none, whatever its attributes:

@@ -1,7 +1,12 @@
-use Rattle.std.proofs.Common.{ap}
-use Rattle.iceoryx2_builder_base.proofs.Granted.{created_is}
+use Rattle.std.proofs.Common.{refl}
+use Rattle.iceoryx2_builder_base.proofs.Granted.{created_of}
 use Rattle.iceoryx2_port_factory.specs.Patterns.{is_events}
 use Rattle.iceoryx2_event_builder.proofs.event.Builder.create_with_attributes.Goals as goal
 
-pub new-requires : goal.new-requires
-new-requires g c = ap (λ d. is_events d.pattern) (created_is _ _ c.in-Ok.ensures.word)
+pub granted-requires : goal.granted-requires
+granted-requires g c = created_of is_events _ _ _ c.create.ensures.word refl
+
+pub returns : goal.returns
+returns g c =
+    let made = rw (c.attributes-attributes.ensures.value, c.hash-hash.ensures, c.node-node.ensures, c.name-name.ensures) at c.create.ensures.word in
+    rw (← c.self.view_is, c.granted.ensures) made

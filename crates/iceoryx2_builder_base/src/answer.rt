@@ -1,0 +1,20 @@
+//! What a call that is granted hands out.
+
+ghost use Rattle.std.specs.Prelude.{◌≡◌, IfOk, true};
+
+use iceoryx2_access::storage::Service;
+use iceoryx2_port_factory::port_factory::Registration;
+use iceoryx2_port_factory::port_factory::factory::{Kind, PortFactory};
+
+/// The factory of what a call registered at a service of the pattern, or the call's refusal.
+pub fn granted<S: Service, K: Kind, E>(
+    answer: Result<Registration, E>,
+) -> Result<PortFactory<S, K>, E>
+    requires { IfOk answer (λ registration. K.is_of registration.description.pattern ≡ true) }
+    ensures { result ≡ answer }
+{
+    match answer {
+        Ok(registration) => Ok(PortFactory::new(registration)),
+        Err(error) => Err(error),
+    }
+}
