@@ -1,0 +1,5 @@
+use Rattle.std.proofs.Common.{rules}
+use Rattle.iceoryx2_publish_subscribe_builder.proofs.publish_subscribe.Builder.user_header.Goals as goal
+
+pub returns : goal.returns
+returns g c = search rules
