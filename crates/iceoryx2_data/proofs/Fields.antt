@@ -22,7 +22,7 @@ use Rattle.iceoryx2_parts.proofs.Times.{Reads-deadline, Reads-id}
 use Rattle.iceoryx2_parts.proofs.Messages.{Reads-message}
 use Rattle.iceoryx2_data.specs.declared.bytes.TheConstants.{EVENT_BYTE, PUBLISH_SUBSCRIBE_BYTE, REQUEST_RESPONSE_BYTE}
 use Rattle.iceoryx2_data.specs.Form.{event, publish_subscribe, request_response, pattern, pair, attributes, magic, version, description, IsForm}
-use Rattle.iceoryx2_data.specs.Reading.{pair_from, pair_at, attributes_at, event_from, event_at, publish_subscribe_from, publish_subscribe_at, Counts, request_response_from, request_response_at, pattern_at, description_from, description_at, all_of}
+use Rattle.iceoryx2_data.specs.Reading.{pair_from, pair_at, attributes_at, event_from, event_at, publish_subscribe_from, publish_subscribe_at, Counts, request_response_from, messages_at, request_response_at, pattern_at, description_from, description_at, all_of}
 
 -- ---- attributes
 
@@ -68,7 +68,7 @@ abbrev counts_of : RequestResponseConfig → Counts
 counts_of s = (s.max_active_requests_per_client, (s.max_loaned_requests, (s.max_borrowed_responses_per_pending_response, (s.max_response_buffer_size, (s.max_servers, (s.max_clients, (s.max_nodes, messages_of s)))))))
 
 pub Reads-request_response : Reads request_response_at request_response IsRequestResponse
-unfolding request_response_at
+unfolding request_response_at messages_at
 Reads-request_response = Reads-form _ _ request_response IsRequestResponse (Reads-as request_response_from
     (λ s. (s.enable_safe_overflow_for_requests, (s.enable_safe_overflow_for_responses, (s.enable_fire_and_forget_requests, counts_of s))))
     _ _ _ IsRequestResponse (λ b. refl) (λ a. refl)

@@ -105,11 +105,14 @@ request_response_from p = record {
   response_message_type_details = p.1.1.1.1.1.1.1.1.1.1.1;
 }
 
+-- the messages of its requests and of its responses
+unfoldable pub messages_at : Part (Message × Message)
+messages_at = then_at message_at message_at
+
 unfoldable pub request_response_at : Part RequestResponseConfig
 request_response_at = as_at request_response_from (then_at truth_at (then_at truth_at (then_at truth_at
     (then_at (number_at w64) (then_at (number_at w64) (then_at (number_at w64) (then_at (number_at w64)
-    (then_at (number_at w64) (then_at (number_at w64) (then_at (number_at w64)
-    (then_at message_at message_at)))))))))))
+    (then_at (number_at w64) (then_at (number_at w64) (then_at (number_at w64) messages_at))))))))))
 
 -- ---- the whole
 

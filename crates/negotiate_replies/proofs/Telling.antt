@@ -6,15 +6,15 @@ use Rattle.iceoryx2_data.specs.Form.{IsForm}
 use Rattle.iceoryx2_world.specs.declared.listing.Entry.{Entry}
 use Rattle.iceoryx2_world.specs.declared.listing.ListedRow.TheVariants as listed
 use Rattle.iceoryx2_world.specs.declared.listing.ListedSegment.{ListedSegment}
-use Rattle.negotiate_replies.specs.Replies.{IsService, who_it_is, how_many_it_has, service_line, AreServiceLines, none, service, other, GrowsByEntry}
+use Rattle.negotiate_replies.specs.Replies.{IsService, who_it_is, how_many_it_has, service_line, AreServiceLines, none, service, other, GrowsByEntry, GrowsByService}
 
 -- the line of a published description beside its segment
-pub grows_by_service : (e : Entry) (number : ℕ) (bytes : List ℕ) (d : Description) (s : ListedSegment) (old mid new : List ℕ)
-    → e.row ≡ listed.Published number bytes → IsForm d bytes → e.segment ≡ Some s → mid ≡ old ++ who_it_is e.hash.0 d
-    → new ≡ mid ++ how_many_it_has number s → GrowsByEntry true e old new
-grows_by_service e number bytes d s old mid new row form beside front rest = (
+pub grows_by_service : (e : Entry) (number : ℕ) (bytes : List ℕ) (d : Description) (s : ListedSegment) (found : Bool) (old new : List ℕ)
+    → e.row ≡ listed.Published number bytes → IsForm d bytes → e.segment ≡ Some s
+    → GrowsByService found (who_it_is e.hash.0 d ++ how_many_it_has number s) old new → GrowsByEntry found e old new
+grows_by_service e number bytes d s found old new row form beside grows = subst (λ (b : Bool). GrowsByEntry b e old new) (sym grows.0) (
   record { number = number; bytes = bytes; description = d; segment = s; row = row; form = form; beside = beside },
-  rest ∙ ap (λ (t : List ℕ). t ++ how_many_it_has number s) front ∙ append_assoc old (who_it_is e.hash.0 d) (how_many_it_has number s),
+  grows.1,
 )
 
 -- one more service, and one more entry that is none

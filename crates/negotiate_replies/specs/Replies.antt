@@ -88,6 +88,10 @@ Tells slot reply.OutOfMemory said = ⊥
 abbrev pub GrowsBy : (IsTold : List ℕ → Type 0) → (old new : List ℕ) → Type 0
 GrowsBy IsTold old new = (said : List ℕ) × IsTold said × (new ≡ old ++ said)
 
+-- The text has grown by a service's line, and it is told that this is a service.
+abbrev pub GrowsByService : Bool → (line : List ℕ) → (old new : List ℕ) → Type 0
+GrowsByService found line old new = (found ≡ true) × (new ≡ old ++ line)
+
 -- The text has grown by the entry's line where that is a service, and else it is as it was.
 abbrev pub GrowsByEntry : Bool → Entry → (old new : List ℕ) → Type 0
 GrowsByEntry true e old new = (s : IsService e) × (new ≡ old ++ service_line e s)

@@ -1,7 +1,7 @@
 //! What a reply says.
 
 ghost use Rattle.std.specs.Prelude.{◌≡◌, ◌++◌, IfOk, OnOk, string_bytes};
-ghost use Rattle.negotiate_replies.specs.Replies.{GrowsBy, GrowsByEntry, ListsServices, Tells};
+ghost use Rattle.negotiate_replies.specs.Replies.{GrowsBy, GrowsByEntry, GrowsByService, ListsServices, Tells};
 ghost use Rattle.negotiate_replies.specs.Replies.{how_many_it_has, pattern_word, who_it_is};
 
 use iceoryx2_commands::command::{Refusal, Reply};
@@ -63,14 +63,27 @@ fn describe_entry(entry: &Entry, text: &mut String) -> Result<bool, AllocError>
         return Ok(false);
     };
     match decode(*text.allocator(), bytes.as_slice()) {
-        Ok(description) => {
-            describe_service(&entry.hash, &description, text)?;
-            describe_segment(*number, segment, text)?;
-            Ok(true)
-        }
+        Ok(description) => describe_service(&entry.hash, &description, *number, segment, text),
         Err(DecodeError::Malformed) => Ok(false),
         Err(DecodeError::OutOfMemory) => Err(AllocError),
     }
+}
+
+/// Writes the line of a service, and tells that it is one.
+fn describe_service(
+    hash: &ServiceHash,
+    description: &StaticConfig,
+    number: u64,
+    segment: ListedSegment,
+    text: &mut String,
+) -> Result<bool, AllocError>
+    ensures { IfOk result (λ found. GrowsByService found
+        (who_it_is hash.now.0 description.now ++ how_many_it_has number segment)
+        (string_bytes text.old) (string_bytes text.new)) }
+{
+    describe_identity(hash, description, text)?;
+    describe_segment(number, segment, text)?;
+    Ok(true)
 }
 
 /// The word by which a pattern's command lines begin.
@@ -85,7 +98,7 @@ fn word_of(pattern: &MessagingPattern) -> &'static str
 }
 
 /// Writes the front of a service's line: its pattern, its name and its hash.
-fn describe_service(
+fn describe_identity(
     hash: &ServiceHash,
     description: &StaticConfig,
     text: &mut String,

@@ -4,7 +4,7 @@ ghost use Rattle.std.specs.Prelude.{◌≡◌, ◌<◌, ◌≤◌, length, OnOk}
 ghost use Rattle.iceoryx2_attributes.specs.Attributes.{AreAttributes};
 ghost use Rattle.iceoryx2_parts.specs.Reading.{IsReadBy, bytes_at, text_at};
 ghost use Rattle.iceoryx2_data.specs.Reading.{pairs_at, more_at, attributes_at};
-ghost use Rattle.iceoryx2_data.specs.Reading.{event_at, publish_subscribe_at, request_response_at, pattern_at};
+ghost use Rattle.iceoryx2_data.specs.Reading.{event_at, publish_subscribe_at, messages_at, request_response_at, pattern_at};
 ghost use Rattle.iceoryx2_data.specs.Reading.{description_at, all_of};
 
 use super::{
@@ -17,6 +17,7 @@ use iceoryx2_parts::reading::{
     bytes_of, id_of, literal_of, message_of, optional_deadline_of, text_of, truth_of, u16_at,
     u64_at,
 };
+use iceoryx2_types::types::MessageTypeDetails;
 use iceoryx2_values::description::{
     HASH_LENGTH, MAX_NAME_LENGTH, MIN_NAME_LENGTH, MessagingPattern, ServiceHash, ServiceName,
     StaticConfig,
@@ -96,6 +97,21 @@ fn publish_subscribe_of(
     ))
 }
 
+/// The messages of a service's requests and of its responses.
+#[tactic(auto, unfolding(crate::specs::Reading::messages_at))]
+fn messages_of(
+    alloc: Global,
+    bytes: &[u8],
+) -> Result<((MessageTypeDetails, MessageTypeDetails), &[u8]), DecodeError>
+    ensures { IsReadBy (λ x. (x.0, x.1.now)) result (messages_at bytes.now) }
+{
+    let (request, rest) = message_of(alloc, bytes)?;
+    match message_of(alloc, rest) {
+        Err(error) => Err(error),
+        Ok((response, rest)) => Ok(((request, response), rest)),
+    }
+}
+
 #[tactic(auto, unfolding(crate::specs::Reading::request_response_at))]
 fn request_response_of(
     alloc: Global,
@@ -113,14 +129,8 @@ fn request_response_of(
     let (max_servers, rest) = u64_at(rest)?;
     let (max_clients, rest) = u64_at(rest)?;
     let (max_nodes, rest) = u64_at(rest)?;
-    let (request_message_type_details, rest) = match message_of(alloc, rest) {
-        Err(error) => return Err(error),
-        Ok(found) => found,
-    };
-    let (response_message_type_details, rest) = match message_of(alloc, rest) {
-        Err(error) => return Err(error),
-        Ok(found) => found,
-    };
+    let (messages, rest) = messages_of(alloc, rest)?;
+    let (request_message_type_details, response_message_type_details) = messages;
     Ok((
         request_response::StaticConfig {
             enable_safe_overflow_for_requests,
