@@ -1,6 +1,6 @@
 //! How a service is opened.
 
-ghost use Rattle.std.specs.Prelude.{◌≡◌, Option};
+ghost use Rattle.std.specs.Prelude.{◌≡◌, Option, Some};
 ghost use Rattle.iceoryx2_access.specs.Run.{Joins};
 ghost use Rattle.iceoryx2_pattern.specs.OwnAttributes.{requiring};
 ghost use Rattle.iceoryx2_pattern.specs.Verdict.{verdict};
@@ -139,6 +139,21 @@ fn open_found<P: Pattern, S: Storage>(
 }
 
 /// The registration of the node that opened a service of this number and description.
+fn registration_of<E>(
+    node: u64,
+    number: u64,
+    opened: Result<u64, E>,
+    description: StaticConfig,
+) -> Result<Registration, E>
+    ensures { Some result ≡ opens.registered node number description (Some opened) }
+{
+    match opened {
+        Ok(ticket) => Ok(Registration::new(node, number, ticket, description)),
+        Err(error) => Err(error),
+    }
+}
+
+/// The same of a round that may ask for another one.
 fn registered<E>(
     node: u64,
     number: u64,
@@ -148,8 +163,7 @@ fn registered<E>(
     ensures { result ≡ opens.registered node number description answer }
 {
     match answer {
-        Some(Ok(ticket)) => Some(Ok(Registration::new(node, number, ticket, description))),
-        Some(Err(error)) => Some(Err(error)),
+        Some(opened) => Some(registration_of(node, number, opened, description)),
         None => None,
     }
 }
