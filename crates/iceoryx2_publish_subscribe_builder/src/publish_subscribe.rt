@@ -1,6 +1,6 @@
 //! The builder of services of publish-subscribe.
 
-ghost use Rattle.std.specs.Prelude.{◌≡◌, [], Ok};
+ghost use Rattle.std.specs.Prelude.{◌≡◌, [], Ok, IfOk};
 ghost use Rattle.iceoryx2_access.specs.Run.{Joins};
 ghost use Rattle.iceoryx2_attributes.specs.Requirements.{Requirements, no_requirements};
 ghost use Rattle.iceoryx2_builder_base.specs.Builders.{IsBuilder};
@@ -299,6 +299,24 @@ impl<P: ZeroCopySend, U: ZeroCopySend, S: Service> Builder<P, U, S> {
         Builder::from_parts(base, demand, types)
     }
 
+    /// What every builder keeps, and what a call of this one asks, with its types made. `AllocError`
+    /// where there was no memory for their names.
+    fn prepared(self) -> Result<(BuilderWithServiceType<S>, PreparedDemand), AllocError>
+        ensures { let message = message_for P.detail U.detail self.types in
+            IfOk result (λ made. (made.0 ≡ record { node = self.node; name = self.name })
+            × (made.1 ≡ record { demand = self.demand; message = message })) }
+    {
+        let Builder {
+            base,
+            demand,
+            types,
+            payload: _,
+            user_header: _,
+        } = self;
+        let message = types.prepare::<Header, P, U>(base.name().allocator())?;
+        Ok((base, PreparedDemand { demand, message }))
+    }
+
     /// Creates the service without attributes: `create_with_attributes` of a specifier that
     /// defines none.
     pub fn create(
@@ -336,17 +354,9 @@ impl<P: ZeroCopySend, U: ZeroCopySend, S: Service> Builder<P, U, S> {
             (S.ServiceNameHasher.hash_of letter_of_publish_subscribe self.name) self.name (Ok zero_span) word result)
             storage.new }
     {
-        let Builder {
-            base,
-            demand,
-            types,
-            payload: _,
-            user_header: _,
-        } = self;
-        let Ok(message) = types.prepare::<Header, P, U>(base.name().allocator()) else {
+        let Ok((base, mut asked)) = self.prepared() else {
             return Err(PublishSubscribeCreateError::OutOfMemory);
         };
-        let mut asked = PreparedDemand { demand, message };
         let hash = base.hash(LETTER);
         let attributes = specifier.attributes();
         let node = base.node();
@@ -395,17 +405,9 @@ impl<P: ZeroCopySend, U: ZeroCopySend, S: Service> Builder<P, U, S> {
             (S.ServiceNameHasher.hash_of letter_of_publish_subscribe self.name) word result)
             storage.new }
     {
-        let Builder {
-            base,
-            demand,
-            types,
-            payload: _,
-            user_header: _,
-        } = self;
-        let Ok(message) = types.prepare::<Header, P, U>(base.name().allocator()) else {
+        let Ok((base, asked)) = self.prepared() else {
             return Err(PublishSubscribeOpenError::OutOfMemory);
         };
-        let asked = PreparedDemand { demand, message };
         let hash = base.hash(LETTER);
         granted(open(&asked, base.node(), &hash, verifier, storage))
     }
@@ -452,21 +454,13 @@ impl<P: ZeroCopySend, U: ZeroCopySend, S: Service> Builder<P, U, S> {
             asked word (map_err publish_subscribe_refusal result))
             storage.new }
     {
-        let Builder {
-            base,
-            demand,
-            types,
-            payload: _,
-            user_header: _,
-        } = self;
-        let Ok(message) = types.prepare::<Header, P, U>(base.name().allocator()) else {
+        let Ok((base, mut asked)) = self.prepared() else {
             return Err(
                 PublishSubscribeOpenOrCreateError::PublishSubscribeOpenError(
                     PublishSubscribeOpenError::OutOfMemory,
                 ),
             );
         };
-        let mut asked = PreparedDemand { demand, message };
         let hash = base.hash(LETTER);
         let node = base.node();
         let name = base.name();

@@ -1,6 +1,6 @@
 //! The builder of services of request-response.
 
-ghost use Rattle.std.specs.Prelude.{◌≡◌, [], Ok};
+ghost use Rattle.std.specs.Prelude.{◌≡◌, [], Ok, IfOk};
 ghost use Rattle.iceoryx2_access.specs.Run.{Joins};
 ghost use Rattle.iceoryx2_attributes.specs.Requirements.{Requirements, no_requirements};
 ghost use Rattle.iceoryx2_builder_base.specs.Builders.{IsBuilder};
@@ -377,6 +377,23 @@ impl<Q: ZeroCopySend, QU: ZeroCopySend, R: ZeroCopySend, RU: ZeroCopySend, S: Se
         self.with_headers()
     }
 
+    /// What every builder keeps, and what a call of this one asks, with its types made. `AllocError`
+    /// where there was no memory for their names.
+    fn prepared(self) -> Result<(BuilderWithServiceType<S>, PreparedDemand), AllocError>
+        ensures { let messages = messages_for Q.detail QU.detail R.detail RU.detail self.types in
+            IfOk result (λ made. (made.0 ≡ record { node = self.node; name = self.name })
+            × (made.1 ≡ asked_with self.demand messages)) }
+    {
+        let Builder {
+            base,
+            demand,
+            types,
+            kind: _,
+        } = self;
+        let asked = types.prepare::<Q, QU, R, RU>(demand, base.name().allocator())?;
+        Ok((base, asked))
+    }
+
     /// Creates the service without attributes: `create_with_attributes` of a specifier that
     /// defines none.
     pub fn create(
@@ -415,14 +432,7 @@ impl<Q: ZeroCopySend, QU: ZeroCopySend, R: ZeroCopySend, RU: ZeroCopySend, S: Se
             (S.ServiceNameHasher.hash_of letter_of_request_response self.name) self.name (Ok zero_span) word result)
             storage.new }
     {
-        let Builder {
-            base,
-            demand,
-            types,
-            kind: _,
-        } = self;
-        let alloc = base.name().allocator();
-        let Ok(mut asked) = types.prepare::<Q, QU, R, RU>(demand, alloc) else {
+        let Ok((base, mut asked)) = self.prepared() else {
             return Err(RequestResponseCreateError::OutOfMemory);
         };
         let hash = base.hash(LETTER);
@@ -476,14 +486,7 @@ impl<Q: ZeroCopySend, QU: ZeroCopySend, R: ZeroCopySend, RU: ZeroCopySend, S: Se
             (S.ServiceNameHasher.hash_of letter_of_request_response self.name) word result)
             storage.new }
     {
-        let Builder {
-            base,
-            demand,
-            types,
-            kind: _,
-        } = self;
-        let alloc = base.name().allocator();
-        let Ok(asked) = types.prepare::<Q, QU, R, RU>(demand, alloc) else {
+        let Ok((base, asked)) = self.prepared() else {
             return Err(RequestResponseOpenError::OutOfMemory);
         };
         let hash = base.hash(LETTER);
@@ -530,14 +533,7 @@ impl<Q: ZeroCopySend, QU: ZeroCopySend, R: ZeroCopySend, RU: ZeroCopySend, S: Se
             (asked_with self.demand messages) word (map_err request_response_refusal result))
             storage.new }
     {
-        let Builder {
-            base,
-            demand,
-            types,
-            kind: _,
-        } = self;
-        let alloc = base.name().allocator();
-        let Ok(mut asked) = types.prepare::<Q, QU, R, RU>(demand, alloc) else {
+        let Ok((base, mut asked)) = self.prepared() else {
             return Err(RequestResponseOpenOrCreateError::RequestResponseOpenError(
                 RequestResponseOpenError::OutOfMemory,
             ));

@@ -12,10 +12,10 @@ new-requires g c = what_is_carried (joined_carries c.in-Ok-open_or_create.ensure
 
 pub returns-in-Ok-open_or_create : goal.returns-in-Ok-open_or_create
 returns-in-Ok-open_or_create g c =
-    let granted = rw (c.in-Ok.ensures, c.hash-hash.ensures, c.node-node.ensures, c.name-name.ensures, c.default.ensures) at c.in-Ok-open_or_create.ensures in
-    rw (← c.self.view_is, c.new.ensures) (with_types granted)
+    let granted = rw (c.in-Ok.ensures.1, c.hash-hash.ensures, c.node-node.ensures, c.name-name.ensures, c.default.ensures, c.in-Ok.ensures.0) at c.in-Ok-open_or_create.ensures in
+    rw (c.new.ensures) (with_types granted)
 
 pub returns : goal.returns
 returns g c =
-    let refused = rw (c.in-Ok.ensures, c.hash-hash.ensures, c.node-node.ensures, c.name-name.ensures, c.default.ensures) at c.in-Err.ensures in
-    rw (← c.self.view_is, c.open_or_create_error.ensures) (with_types refused)
+    let refused = rw (c.in-Ok.ensures.1, c.hash-hash.ensures, c.node-node.ensures, c.name-name.ensures, c.default.ensures, c.in-Ok.ensures.0) at c.in-Err.ensures in
+    rw (c.open_or_create_error.ensures) (with_types refused)

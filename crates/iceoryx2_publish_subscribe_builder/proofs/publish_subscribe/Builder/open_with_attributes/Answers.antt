@@ -7,9 +7,9 @@ pub returns-in_default : goal.returns-in_default
 returns-in_default g c = without_types
 
 pub granted-requires : goal.granted-requires
-granted-requires g c = opened_of is_publish_subscribe _ c.open.ensures (λ d. what_fits c.in-Ok.message d.pattern)
+granted-requires g c = opened_of is_publish_subscribe _ c.open.ensures (λ d. what_fits _ d.pattern)
 
 pub returns : goal.returns
 returns g c =
-    let answer = rw (c.in-Ok.ensures, c.hash-hash.ensures, c.node.ensures) at c.open.ensures in
-    rw (← c.self.view_is, c.granted.ensures) (with_types answer)
+    let answer = rw (c.in-Ok.ensures.1, c.hash-hash.ensures, c.node.ensures, c.in-Ok.ensures.0) at c.open.ensures in
+    rw (c.granted.ensures) (with_types answer)

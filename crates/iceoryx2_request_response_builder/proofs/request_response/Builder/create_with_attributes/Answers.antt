@@ -12,5 +12,5 @@ granted-requires g c = created_of is_request_response _ (Ok zero_span) _ c.creat
 
 pub returns : goal.returns
 returns g c =
-    let made = rw (c.in-Ok.ensures, c.attributes-attributes.ensures.value, c.hash-hash.ensures, c.node-node.ensures, c.name-name.ensures) at c.create.ensures.word in
-    rw (← c.self.view_is, c.granted.ensures) (with_types made)
+    let made = rw (c.in-Ok.ensures.1, c.attributes-attributes.ensures.value, c.hash-hash.ensures, c.node-node.ensures, c.name-name.ensures, c.in-Ok.ensures.0) at c.create.ensures.word in
+    rw (c.granted.ensures) (with_types made)

@@ -11,5 +11,5 @@ granted-requires g c = opened_of is_request_response _ c.open.ensures (λ d. wha
 
 pub returns : goal.returns
 returns g c =
-    let answer = rw (c.in-Ok.ensures, c.hash-hash.ensures, c.node.ensures) at c.open.ensures in
-    rw (← c.self.view_is, c.granted.ensures) (with_types answer)
+    let answer = rw (c.in-Ok.ensures.1, c.hash-hash.ensures, c.node.ensures, c.in-Ok.ensures.0) at c.open.ensures in
+    rw (c.granted.ensures) (with_types answer)
