@@ -238,11 +238,15 @@ fn pattern(rt: &impl Abort, alloc: Global, place: usize, number: u64) -> Messagi
     }
 }
 
-/// Whether two patterns with different settings are the same pattern, and whether they are equal.
-fn compared(rt: &impl Abort, alloc: Global, one: usize, other: usize) -> (bool, bool) {
-    let one = pattern(rt, alloc, one, 1);
+/// Whether another pattern, with other settings, is the same pattern, and whether the two are equal.
+fn likeness(rt: &impl Abort, alloc: Global, one: &MessagingPattern, other: usize) -> (bool, bool) {
     let other = pattern(rt, alloc, other, 2);
-    (one.is_same_pattern(&other), one == other)
+    (one.is_same_pattern(&other), *one == other)
+}
+
+/// The same of the patterns at two places.
+fn compared(rt: &impl Abort, alloc: Global, one: usize, other: usize) -> (bool, bool) {
+    likeness(rt, alloc, &pattern(rt, alloc, one, 1), other)
 }
 
 /// The places of two patterns, and whether they are the same pattern.

@@ -87,17 +87,17 @@ fn deadline(rt: &impl Abort) -> Deadline {
     }
 }
 
-/// Whether the bytes are a form. What is read from a form has to be written as the form again.
-fn is_form(rt: &impl Abort, alloc: Global, bytes: &[u8]) -> bool {
-    match read(rt, alloc, bytes) {
-        Some(found) => written(rt, alloc, &found).as_slice() == bytes,
-        None => false,
-    }
-}
-
 /// Whether the bytes are what is written for the description.
 fn are_written(rt: &impl Abort, alloc: Global, bytes: &[u8], made: &StaticConfig) -> bool {
     written(rt, alloc, made).as_slice() == bytes
+}
+
+/// Whether the bytes are a form. What is read from a form has to be written as the form again.
+fn is_form(rt: &impl Abort, alloc: Global, bytes: &[u8]) -> bool {
+    match read(rt, alloc, bytes) {
+        Some(found) => are_written(rt, alloc, bytes, &found),
+        None => false,
+    }
 }
 
 /// Whether the description is what is read from the bytes.
@@ -110,18 +110,28 @@ fn are_read(rt: &impl Abort, alloc: Global, bytes: &[u8], made: &StaticConfig) -
 
 /// How many bytes there are, whether they are written for the description, whether it is read from
 /// them, and for how many nodes it is.
+fn found_of(
+    rt: &impl Abort,
+    alloc: Global,
+    bytes: &[u8],
+    made: &StaticConfig,
+) -> (usize, bool, bool, u64) {
+    (
+        bytes.len(),
+        are_written(rt, alloc, bytes, made),
+        are_read(rt, alloc, bytes, made),
+        made.max_nodes(),
+    )
+}
+
+/// The same of what is let go.
 fn compared(
     rt: &impl Abort,
     alloc: Global,
     bytes: Vec<u8>,
     made: StaticConfig,
 ) -> (usize, bool, bool, u64) {
-    (
-        bytes.len(),
-        are_written(rt, alloc, &bytes, &made),
-        are_read(rt, alloc, &bytes, &made),
-        made.max_nodes(),
-    )
+    found_of(rt, alloc, &bytes, &made)
 }
 
 #[test]

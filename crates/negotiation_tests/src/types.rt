@@ -163,11 +163,22 @@ const MANY: [Told<'static>; 3] = [
     (Dynamic, "i64", 8, 8),
 ];
 
+/// Whether a message of these types is made of this.
+fn is_made_of<H: ZeroCopySend, U: ZeroCopySend, P: ZeroCopySend>(
+    rt: &impl Abort,
+    alloc: Global,
+    variant: TypeVariant,
+    wanted: [Told; 3],
+) -> bool {
+    consists_of(&from::<H, U, P>(rt, alloc, variant), wanted)
+}
+
 #[test]
 fn a_message_holds_what_its_types_say(rt: HostRuntime) {
-    let own = from::<i32, i64, MyPayload>(&rt, rt.alloc(), FixedSize);
-    let many = from::<i32, bool, i64>(&rt, rt.alloc(), Dynamic);
-    let found = (consists_of(&own, OWN), consists_of(&many, MANY));
+    let found = (
+        is_made_of::<i32, i64, MyPayload>(&rt, rt.alloc(), FixedSize, OWN),
+        is_made_of::<i32, bool, i64>(&rt, rt.alloc(), Dynamic, MANY),
+    );
     assert_same(&rt, found, (true, true));
 }
 

@@ -85,14 +85,30 @@ pub fn description(
     )
 }
 
+/// The number under which a node fetches a description, which is let go.
+fn fetched(storage: &mut Table, node: u64) -> Result<u64, FetchError> {
+    match storage.fetch(node, &SERVICE) {
+        Ok((number, _)) => Ok(number),
+        Err(error) => Err(error),
+    }
+}
+
+/// What a publish of a description of so many nodes answers.
+fn published(
+    rt: &impl Abort,
+    storage: &mut Table,
+    alloc: Global,
+    (node, number, hash, max_nodes): (u64, u64, ServiceHash, u64),
+) -> Result<u64, PublishError> {
+    let description = description(rt, alloc, hash, max_nodes);
+    storage.publish(node, &SERVICE, number, &description)
+}
+
 /// What a table answers, for the service of all accesses.
 fn ask(rt: &impl Abort, storage: &mut Table, alloc: Global, access: Access) -> Answer {
     match access {
         Access::Exists => Answer::Exists(storage.exists(&SERVICE)),
-        Access::Fetch(node) => Answer::Fetched(match storage.fetch(node, &SERVICE) {
-            Ok((number, _)) => Ok(number),
-            Err(error) => Err(error),
-        }),
+        Access::Fetch(node) => Answer::Fetched(fetched(storage, node)),
         Access::Counts(node) => Answer::Counts(storage.counts(node, &SERVICE)),
         Access::MakeTag(node) => Answer::Tagged(storage.make_tag(node, &SERVICE)),
         Access::RemoveTag(node) => Answer::Removed(storage.remove_tag(node, &SERVICE)),
@@ -105,8 +121,8 @@ fn ask(rt: &impl Abort, storage: &mut Table, alloc: Global, access: Access) -> A
             node, &SERVICE,
         )),
         Access::Publish(node, number, hash, max_nodes) => {
-            let description = description(rt, alloc, hash, max_nodes);
-            Answer::Published(storage.publish(node, &SERVICE, number, &description))
+            let asked = (node, number, hash, max_nodes);
+            Answer::Published(published(rt, storage, alloc, asked))
         }
         Access::OpenSegment(node, number) => Answer::Opened(storage.open_segment(
             node, &SERVICE, number,
