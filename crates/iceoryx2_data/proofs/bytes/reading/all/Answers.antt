@@ -1,0 +1,7 @@
+use Rattle.std.proofs.Common.{rules}
+use Rattle.iceoryx2_data.specs.Reading.{all_of}
+use Rattle.iceoryx2_data.proofs.bytes.reading.all.Goals as goal
+
+pub returns-else-is_empty : goal.returns-else-is_empty
+unfolding all_of
+returns-else-is_empty c = search rules

@@ -1,0 +1,27 @@
+use Rattle.std.proofs.Common.{rules}
+use Rattle.iceoryx2_data.specs.Reading.{description_at}
+use Rattle.iceoryx2_data.proofs.bytes.reading.description_of.Goals as goal
+
+pub returns : goal.returns
+unfolding description_at
+returns c = search rules
+
+pub returns-in_err-rest-2 : goal.returns-in_err-rest-2
+unfolding description_at
+returns-in_err-rest-2 c = search rules
+
+pub returns-in_err-hash : goal.returns-in_err-hash
+unfolding description_at
+returns-in_err-hash c = search rules
+
+pub returns-in-Err : goal.returns-in-Err
+unfolding description_at
+returns-in-Err c = search rules
+
+pub returns-in-Err-attributes_of : goal.returns-in-Err-attributes_of
+unfolding description_at
+returns-in-Err-attributes_of c = search rules
+
+pub returns-in-Err-pattern_of : goal.returns-in-Err-pattern_of
+unfolding description_at
+returns-in-Err-pattern_of c = search rules
