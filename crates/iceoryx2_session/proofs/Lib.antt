@@ -1,7 +1,6 @@
 pub mod Places
 pub mod SlotLists
 pub mod Patterns
-pub mod Timeless
 pub mod TakenSetters
 pub mod Commands
 pub mod Prepared

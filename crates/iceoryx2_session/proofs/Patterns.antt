@@ -30,14 +30,14 @@ pub record IsRegularCall (b : BuilderCall) : Type 0 where
   pub creating : IsRegular b.creating
   pub opening : IsRegular b.opening
   pub takes_nodes : TakesNodes b.creating
-  pub steady : (now : Result Span ClockFault) → IsSteady (b.attempt now)
+  pub steady : IsSteady b.attempt
 
-event_call_is_regular : (b : EventRequest) (attributes : Requirements) → IsRegularCall (event_call b attributes)
-event_call_is_regular b attributes = record {
+event_call_is_regular : (b : EventRequest) (attributes : Requirements) (now : Result Span ClockFault) → IsRegularCall (event_call b attributes now)
+event_call_is_regular b attributes now = record {
   creating = (event_builder b.demand).creating_is_regular attributes.pairs;
   opening = (event_builder b.demand).opening_is_regular attributes;
   takes_nodes = (event_builder b.demand).takes_nodes attributes.pairs;
-  steady = λ now. record {
+  steady = record {
     making_is_regular = (event_builder b.demand).creating_is_regular attributes.pairs;
     opening_is_regular = (event_builder b.demand).opening_is_regular attributes;
     takes_nodes = (event_builder b.demand).takes_nodes attributes.pairs;
@@ -50,7 +50,7 @@ publish_subscribe_call_is_regular b attributes = record {
   creating = (publish_subscribe_builder b.demand (named_message b)).creating_is_regular attributes.pairs;
   opening = (publish_subscribe_builder b.demand (named_message b)).opening_is_regular attributes;
   takes_nodes = (publish_subscribe_builder b.demand (named_message b)).takes_nodes attributes.pairs;
-  steady = λ now. record {
+  steady = record {
     making_is_regular = (publish_subscribe_builder b.demand (named_message b)).creating_is_regular attributes.pairs;
     opening_is_regular = (publish_subscribe_builder b.demand (named_message b)).opening_is_regular attributes;
     takes_nodes = (publish_subscribe_builder b.demand (named_message b)).takes_nodes attributes.pairs;
@@ -65,7 +65,7 @@ request_response_call_is_regular b attributes =
       creating = builder.creating_is_regular attributes.pairs;
       opening = builder.opening_is_regular attributes;
       takes_nodes = builder.takes_nodes attributes.pairs;
-      steady = λ now. record {
+      steady = record {
         making_is_regular = builder.creating_is_regular attributes.pairs;
         opening_is_regular = builder.opening_is_regular attributes;
         takes_nodes = builder.takes_nodes attributes.pairs;
@@ -74,12 +74,13 @@ request_response_call_is_regular b attributes =
     }
 
 -- one row a pattern
-regular_by : (config : Config) (node : ℕ) (name : List ℕ) (attributes : Requirements) (settings : Settings) → IsRegularCall (call_by config node name attributes settings)
-regular_by config node name attributes (settings.Event xs) = event_call_is_regular (with_settings event.with_setting (event.fresh_request node name config.event) xs.items) attributes
-regular_by config node name attributes (settings.PublishSubscribe xs) =
+regular_by : (config : Config) (node : ℕ) (name : List ℕ) (attributes : Requirements) (now : Result Span ClockFault) (settings : Settings)
+    → IsRegularCall (call_by config node name attributes now settings)
+regular_by config node name attributes now (settings.Event xs) = event_call_is_regular (with_settings event.with_setting (event.fresh_request node name config.event) xs.items) attributes now
+regular_by config node name attributes now (settings.PublishSubscribe xs) =
     publish_subscribe_call_is_regular (with_settings publish_subscribe.with_setting (publish_subscribe.fresh_request node name config.publish_subscribe) xs.items) attributes
-regular_by config node name attributes (settings.RequestResponse xs) =
+regular_by config node name attributes now (settings.RequestResponse xs) =
     request_response_call_is_regular (with_settings request_response.with_setting (request_response.fresh_request node name config.request_response) xs.items) attributes
 
 pub call_is_regular : (config : Config) (call : Call) → IsRegularCall (builder_call config call)
-call_is_regular config call = regular_by config call.node call.name call.attributes call.settings
+call_is_regular config call = regular_by config call.node call.name call.attributes call.now call.settings

@@ -2,8 +2,6 @@
 use Rattle.std.proofs.Common.{◌≡◌, ℕ, [], Some, None, Result, Ok, Err, refl, sym, ap, subst, ◌∙◌}
 use Rattle.std.specs.FinMap as map
 use Rattle.std.specs.Ordering.{nat_cmp}
-use Rattle.iceoryx2_values.specs.declared.time.ClockFault.{ClockFault}
-use Rattle.iceoryx2_values.specs.Span.{Span}
 use Rattle.iceoryx2_world.specs.declared.world.Ticket.{Ticket}
 use Rattle.iceoryx2_world.specs.World.{World, ticket_of, empty_world}
 use Rattle.iceoryx2_world.specs.Across.{Agrees}
@@ -40,23 +38,23 @@ use Rattle.iceoryx2_rounds.specs.Answers.{map_err}
 use Rattle.iceoryx2_session.proofs.Patterns.{IsRegularCall, call_is_regular}
 
 -- what a builder call makes of the machine
-record IsBuilt (q : Quiet) (b : BuilderCall) (h : How) (now : Result Span ClockFault) (w : World) (answer : Result Factory Refusal) (v : World) : Type 0 where
+record IsBuilt (q : Quiet) (b : BuilderCall) (h : How) (w : World) (answer : Result Factory Refusal) (v : World) : Type 0 where
   state : Quiet
-  call : Answers q b h now answer state
+  call : Answers q b h answer state
   shows : Shows v state
   agrees : Agrees v
 
-built : (h : How) (b : BuilderCall) (now : Result Span ClockFault) (answer : Result Factory Refusal) (s t : TableState) (q : Quiet)
-    → IsRegularCall b → Shows s.world q → Agrees s.world → s.waiting ≡ [] → Builds b h now s answer t → IsBuilt q b h now s.world answer t.world
-built how.Create b now answer s t q regular shows agrees waiting is =
-    let c = call_follows b.prepares (b.creating.create_refusal create_refusal.OutOfMemory) s.world t.world shows agrees (λ word a is_word. create_follows b.creating b.node b.hash b.name now s.world t.world q word a regular.creating (regular.takes_nodes (time_of now)) shows agrees is_word) is.2.is_word (idle_run waiting is.2.run).0 in
+built : (h : How) (b : BuilderCall) (answer : Result Factory Refusal) (s t : TableState) (q : Quiet)
+    → IsRegularCall b → Shows s.world q → Agrees s.world → s.waiting ≡ [] → Builds b h s answer t → IsBuilt q b h s.world answer t.world
+built how.Create b answer s t q regular shows agrees waiting is =
+    let c = call_follows b.prepares (b.creating.create_refusal create_refusal.OutOfMemory) s.world t.world shows agrees (λ word a is_word. create_follows b.creating b.node b.hash b.name b.now s.world t.world q word a regular.creating (regular.takes_nodes (time_of b.now)) shows agrees is_word) is.2.is_word (idle_run waiting is.2.run).0 in
     record {
       state = c.state;
       call = (is.0, is.1, c.call);
       shows = c.shows;
       agrees = c.agrees;
     }
-built how.Open b now answer s t q regular shows agrees waiting is =
+built how.Open b answer s t q regular shows agrees waiting is =
     let c = call_follows b.prepares (b.opening.open_refusal open_refusal.OutOfMemory) s.world t.world shows agrees (λ word a is_word. open_follows b.opening b.node b.hash s.world t.world q word a regular.opening shows agrees is_word) is.2.is_word (idle_run waiting is.2.run).0 in
     record {
       state = c.state;
@@ -64,8 +62,8 @@ built how.Open b now answer s t q regular shows agrees waiting is =
       shows = c.shows;
       agrees = c.agrees;
     }
-built how.OpenOrCreate b now answer s t q regular shows agrees waiting is =
-    let c = call_follows b.prepares (either.Open ((opening (b.attempt now)).open_refusal open_refusal.OutOfMemory)) s.world t.world shows agrees (λ word a is_word run. attempt_follows (b.attempt now) (regular.steady now) q shows agrees is_word run) is.2.is_word (idle_run waiting is.2.run).0 in
+built how.OpenOrCreate b answer s t q regular shows agrees waiting is =
+    let c = call_follows b.prepares (either.Open ((opening b.attempt).open_refusal open_refusal.OutOfMemory)) s.world t.world shows agrees (λ word a is_word run. attempt_follows b.attempt (regular.steady) q shows agrees is_word run) is.2.is_word (idle_run waiting is.2.run).0 in
     record {
       state = c.state;
       call = (is.0, is.1, c.call);
@@ -76,11 +74,11 @@ built how.OpenOrCreate b now answer s t q regular shows agrees waiting is =
 -- ---- commands
 
 -- nothing waits after a builder call, where nothing waited
-none_waits : (h : How) (b : BuilderCall) (now : Result Span ClockFault) (answer : Result Factory Refusal) (s t : TableState)
-    → s.waiting ≡ [] → Builds b h now s answer t → t.waiting ≡ []
-none_waits how.Create b now answer s t waiting is = (idle_run waiting is.2.run).1.0
-none_waits how.Open b now answer s t waiting is = (idle_run waiting is.2.run).1.0
-none_waits how.OpenOrCreate b now answer s t waiting is = (idle_run waiting is.2.run).1.0
+none_waits : (h : How) (b : BuilderCall) (answer : Result Factory Refusal) (s t : TableState)
+    → s.waiting ≡ [] → Builds b h s answer t → t.waiting ≡ []
+none_waits how.Create b answer s t waiting is = (idle_run waiting is.2.run).1.0
+none_waits how.Open b answer s t waiting is = (idle_run waiting is.2.run).1.0
+none_waits how.OpenOrCreate b answer s t waiting is = (idle_run waiting is.2.run).1.0
 
 quiet_after : (n : SessionState) (q : Quiet) → Shows n.table.world q → Agrees n.table.world → n.table.waiting ≡ [] → IsQuiet n q
 quiet_after n q shows agrees waiting = record { shows = shows; agrees = agrees; waiting = waiting }
@@ -90,11 +88,11 @@ pub moved : {s : SessionState} {c : Command} {a : Reply} {n : SessionState} (q :
 moved q old slots (goes.call_past le) = record { state = q; moves = moves.call_past le; quiet = old; configured = refl }
 moved q old slots (goes.call_taken t) = record { state = q; moves = moves.call_taken t; quiet = old; configured = refl }
 moved {s = s} q old slots (goes.called {call = call} f {t = t} free is) =
-    let c = built call.how (builder_call s.config call) call.now (Ok f) s.table t q (call_is_regular s.config call) old.shows old.agrees old.waiting is in
-    record { state = c.state; moves = moves.called f free c.call; quiet = quiet_after _ c.state c.shows c.agrees (none_waits call.how (builder_call s.config call) call.now (Ok f) s.table t old.waiting is); configured = refl }
+    let c = built call.how (builder_call s.config call) (Ok f) s.table t q (call_is_regular s.config call) old.shows old.agrees old.waiting is in
+    record { state = c.state; moves = moves.called f free c.call; quiet = quiet_after _ c.state c.shows c.agrees (none_waits call.how (builder_call s.config call) (Ok f) s.table t old.waiting is); configured = refl }
 moved {s = s} q old slots (goes.refused {call = call} {e = e} {t = t} free is) =
-    let c = built call.how (builder_call s.config call) call.now (Err e) s.table t q (call_is_regular s.config call) old.shows old.agrees old.waiting is in
-    record { state = c.state; moves = moves.refused free c.call; quiet = quiet_after _ c.state c.shows c.agrees (none_waits call.how (builder_call s.config call) call.now (Err e) s.table t old.waiting is); configured = refl }
+    let c = built call.how (builder_call s.config call) (Err e) s.table t q (call_is_regular s.config call) old.shows old.agrees old.waiting is in
+    record { state = c.state; moves = moves.refused free c.call; quiet = quiet_after _ c.state c.shows c.agrees (none_waits call.how (builder_call s.config call) (Err e) s.table t old.waiting is); configured = refl }
 moved q old slots (goes.close_past le) = record { state = q; moves = moves.close_past le; quiet = old; configured = refl }
 moved q old slots (goes.close_empty free) = record { state = q; moves = moves.close_empty free; quiet = old; configured = refl }
 moved {s = s} q old slots (goes.closed {slot = k} f {t = t} at is) =
@@ -115,17 +113,17 @@ refused_answer carry e (Ok f) P is then = absurd (not_ok e f is)
 refused_answer carry e (Err x) P is then = then x refl
 
 -- a refused call leaves what there was
-refusal_keeps : (h : How) (b : BuilderCall) (now : Result Span ClockFault) (e : Refusal) (w v : World) (q p : Quiet)
-    → Shows w q → Shows v p → Answers q b h now (Err e) p → HoldsTheSame w v
-refusal_keeps how.Create b now e w v q p s t is =
+refusal_keeps : (h : How) (b : BuilderCall) (e : Refusal) (w v : World) (q p : Quiet)
+    → Shows w q → Shows v p → Answers q b h (Err e) p → HoldsTheSame w v
+refusal_keeps how.Create b e w v q p s t is =
     refused_answer b.refusal_of_create e is.0 (HoldsTheSame w v) is.1 (λ x same.
-    refused_create b.creating b.node b.hash b.name now w v q p x s t (subst (λ (a : Result Factory b.create_error). CreatesPrepared b.creating q b.node b.hash b.name now a p) same (as_prepared b.prepares is.2)))
-refusal_keeps how.Open b now e w v q p s t is =
+    refused_create b.creating b.node b.hash b.name b.now w v q p x s t (subst (λ (a : Result Factory b.create_error). CreatesPrepared b.creating q b.node b.hash b.name b.now a p) same (as_prepared b.prepares is.2)))
+refusal_keeps how.Open b e w v q p s t is =
     refused_answer b.refusal_of_open e is.0 (HoldsTheSame w v) is.1 (λ x same.
     refused_open b.opening b.node b.hash w v q p x s t (subst (λ (a : Result Factory b.open_error). OpensPrepared b.opening q b.node b.hash a p) same (as_prepared b.prepares is.2)))
-refusal_keeps how.OpenOrCreate b now e w v q p s t is =
+refusal_keeps how.OpenOrCreate b e w v q p s t is =
     refused_answer b.refusal_of_open_or_create e is.0 (HoldsTheSame w v) is.1 (λ x same.
-    refused_attempt (b.attempt now) (b.refusal_of_rounds x) s t (subst (λ (a : Result Factory b.open_or_create_error). AttemptsPrepared (b.attempt now) q (map_err b.refusal_of_rounds a) p) same (as_prepared b.prepares is.2)))
+    refused_attempt b.attempt (b.refusal_of_rounds x) s t (subst (λ (a : Result Factory b.open_or_create_error). AttemptsPrepared b.attempt q (map_err b.refusal_of_rounds a) p) same (as_prepared b.prepares is.2)))
 
 pub itself : (s : SessionState) → IsUnchanged s s
 itself s = record { slots = refl; services = record { rows = λ h. refl; segments = λ h. refl; tags = λ i h. refl; counts = λ i h. refl } }
@@ -137,8 +135,8 @@ unchanged_by {s = s} q old (goes.call_taken t) still = itself s
 unchanged_by q old (goes.called f free is) still = absurd still
 unchanged_by {s = s} q old (goes.refused {call = call} {e = e} {t = t} free is) still =
     let b = builder_call s.config call in
-    let c = built call.how b call.now (Err e) s.table t q (call_is_regular s.config call) old.shows old.agrees old.waiting is in
-    record { slots = refl; services = refusal_keeps call.how b call.now e s.table.world t.world q c.state old.shows c.shows c.call }
+    let c = built call.how b (Err e) s.table t q (call_is_regular s.config call) old.shows old.agrees old.waiting is in
+    record { slots = refl; services = refusal_keeps call.how b e s.table.world t.world q c.state old.shows c.shows c.call }
 unchanged_by {s = s} q old (goes.close_past le) still = itself s
 unchanged_by {s = s} q old (goes.close_empty free) still = itself s
 unchanged_by q old (goes.closed f at is) still = absurd still

@@ -108,18 +108,18 @@ attempted : {D F E C X : Type 0} (a : Attempt D F E C) (f : X → OpenOrCreateRe
 attempted a f (Ok r) is run old = open_or_create_stands (granted_call is) run old
 attempted a f (Err e) is run old = tt
 
-pub leaves : (h : How) (b : BuilderCall) (now : Result Span ClockFault) (answer : Result Factory Refusal) (s t : TableState)
-    → Agrees s.world → Builds b h now s answer t → Leaves s.world answer t.world
-leaves how.Create b now answer s t old is =
+pub leaves : (h : How) (b : BuilderCall) (answer : Result Factory Refusal) (s t : TableState)
+    → Agrees s.world → Builds b h s answer t → Leaves s.world answer t.world
+leaves how.Create b answer s t old is =
     let run = faulty is.2.run in
     let is_call = as_prepared_word b.prepares is.2.is_word in
     record {
       agrees = agrees_after is.2.word is.2.run old;
-      given = rw is.1 (carried (λ f. Stands t.world f × (s.world.counter ≤ f.ticket)) b.refusal_of_create is.0 (created b.creating b.node b.hash b.name now is.0 is_call run old));
+      given = rw is.1 (carried (λ f. Stands t.world f × (s.world.counter ≤ f.ticket)) b.refusal_of_create is.0 (created b.creating b.node b.hash b.name b.now is.0 is_call run old));
       kept = λ f at. at_end _ (stands_throughout s.world is.2.word f (all_spared f is.2.word (create_call_letters is_call)) old at) run;
       tickets = rw is.1 (carried_tickets s.world t.world b.refusal_of_create is.0 (create_call_tickets refl is_call run));
     }
-leaves how.Open b now answer s t old is =
+leaves how.Open b answer s t old is =
     let run = faulty is.2.run in
     let is_call = as_prepared_word b.prepares is.2.is_word in
     record {
@@ -128,12 +128,12 @@ leaves how.Open b now answer s t old is =
       kept = λ f at. at_end _ (stands_throughout s.world is.2.word f (all_spared f is.2.word (open_call_letters is_call)) old at) run;
       tickets = rw is.1 (carried_tickets s.world t.world b.refusal_of_open is.0 (open_call_tickets is_call run));
     }
-leaves how.OpenOrCreate b now answer s t old is =
+leaves how.OpenOrCreate b answer s t old is =
     let run = faulty is.2.run in
     let is_call = as_prepared_word b.prepares is.2.is_word in
     record {
       agrees = agrees_after is.2.word is.2.run old;
-      given = rw is.1 (carried (λ f. Stands t.world f × (s.world.counter ≤ f.ticket)) b.refusal_of_open_or_create is.0 (attempted (b.attempt now) b.refusal_of_rounds is.0 is_call run old));
+      given = rw is.1 (carried (λ f. Stands t.world f × (s.world.counter ≤ f.ticket)) b.refusal_of_open_or_create is.0 (attempted b.attempt b.refusal_of_rounds is.0 is_call run old));
       kept = λ f at. at_end _ (stands_throughout s.world is.2.word f (all_spared f is.2.word (attempt_letters is_call)) old at) run;
       tickets = rw is.1 (carried_tickets s.world t.world b.refusal_of_open_or_create is.0 (mapped_tickets s.world t.world b.refusal_of_rounds is.0 (attempt_tickets is_call run)));
     }
@@ -204,10 +204,10 @@ pub stand_after : {s : SessionState} {c : Command} {a : Reply} {n : SessionState
 stand_after (goes.call_past le) agrees old = (agrees, old)
 stand_after (goes.call_taken e) agrees old = (agrees, old)
 stand_after {s = s} (goes.called {call = call} f {t = t} free is) agrees old =
-    let c = leaves call.how (builder_call s.config call) call.now (Ok f) s.table t agrees is in
+    let c = leaves call.how (builder_call s.config call) (Ok f) s.table t agrees is in
     (c.agrees, put_stands s t call.slot f agrees old c.given.0 c.given.1 c.kept)
 stand_after {s = s} (goes.refused {call = call} {e = e} {t = t} free is) agrees old =
-    let c = leaves call.how (builder_call s.config call) call.now (Err e) s.table t agrees is in
+    let c = leaves call.how (builder_call s.config call) (Err e) s.table t agrees is in
     (c.agrees, record { stand = λ k f at. c.kept f (old.stand k f at); apart = old.apart })
 stand_after (goes.close_past le) agrees old = (agrees, old)
 stand_after (goes.close_empty free) agrees old = (agrees, old)

@@ -22,10 +22,12 @@ pub record BuilderCall : Type 1 where
   pub node : ℕ
   pub hash : ServiceHash
   pub name : List ℕ
+  -- what the clock answers it
+  pub now : Result Span ClockFault
   pub creating : Meaning fault open_error create_error
   pub opening : Meaning fault open_error create_error
-  -- its open or create, by the clock's answer
-  pub attempt : Result Span ClockFault → Attempt asks fault open_error create_error
+  -- its open or create
+  pub attempt : Attempt asks fault open_error create_error
   -- whether it prepares the types of its messages before its first access
   pub prepares : Bool
   pub refusal_of_create : create_error → Refusal

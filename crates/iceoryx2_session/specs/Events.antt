@@ -1,11 +1,13 @@
 -- Builder calls for services of events.
-use Rattle.std.specs.Prelude.{false}
+use Rattle.std.specs.Prelude.{Result, false}
 use Rattle.iceoryx2_errors.specs.declared.error.ServiceState.{ServiceState}
 use Rattle.iceoryx2_errors.specs.declared.error.events.EventOpenError.{EventOpenError}
 use Rattle.iceoryx2_errors.specs.declared.error.events.EventCreateError.{EventCreateError}
 use Rattle.iceoryx2_errors.specs.declared.error.events.EventOpenOrCreateError.{EventOpenOrCreateError}
 use Rattle.iceoryx2_event_builder.specs.Request.{EventRequest, letter_of_events}
 use Rattle.iceoryx2_attributes.specs.Requirements.{Requirements}
+use Rattle.iceoryx2_values.specs.declared.time.ClockFault.{ClockFault}
+use Rattle.iceoryx2_values.specs.Span.{Span}
 use Rattle.iceoryx2_event_builder.specs.declared.event.demand.EventDemand.{EventDemand}
 use Rattle.iceoryx2_event_builder.specs.Event.{event_adjusted, event_creating, event_meaning, event_opening}
 use Rattle.iceoryx2_event_builder.specs.Event.{event_refusal, event_retried}
@@ -13,8 +15,8 @@ use Rattle.iceoryx2_commands.specs.declared.command.Refusal.TheVariants as refus
 use Rattle.iceoryx2_session.specs.BuilderCalls.{BuilderCall, hash_for}
 
 -- what the calls of this builder ask: a create defines the pairs, and an open requires pairs and keys
-abbrev pub event_call : EventRequest → Requirements → BuilderCall
-event_call b attributes = record {
+abbrev pub event_call : EventRequest → Requirements → Result Span ClockFault → BuilderCall
+event_call b attributes now = record {
   fault = ServiceState;
   open_error = EventOpenError;
   create_error = EventCreateError;
@@ -23,9 +25,10 @@ event_call b attributes = record {
   node = b.node;
   hash = hash_for letter_of_events b.name;
   name = b.name;
+  now = now;
   creating = event_creating b.demand attributes.pairs;
   opening = event_opening b.demand attributes;
-  attempt = λ now. record {
+  attempt = record {
     meaning = event_meaning;
     adjusted = event_adjusted;
     retried = event_retried;

@@ -1,7 +1,9 @@
 -- Which builder a command calls: the one place where the settings choose the pattern.
-use Rattle.std.specs.Prelude.{ℕ, List}
+use Rattle.std.specs.Prelude.{ℕ, List, Result}
 use Rattle.iceoryx2_attributes.specs.Requirements.{Requirements}
 use Rattle.iceoryx2_values.specs.declared.config.Config.{Config}
+use Rattle.iceoryx2_values.specs.declared.time.ClockFault.{ClockFault}
+use Rattle.iceoryx2_values.specs.Span.{Span}
 use Rattle.iceoryx2_event_builder.specs.Request as event
 use Rattle.iceoryx2_publish_subscribe_builder.specs.Request as publish_subscribe
 use Rattle.iceoryx2_request_response_builder.specs.Request as request_response
@@ -15,16 +17,16 @@ use Rattle.iceoryx2_session.specs.PublishSubscribe.{publish_subscribe_call}
 use Rattle.iceoryx2_session.specs.RequestResponse.{request_response_call}
 
 -- by the pattern of the settings, one row each
-abbrev pub call_by : Config → ℕ → List ℕ → Requirements → Settings → BuilderCall
-call_by config node name attributes (settings.Event xs) =
-    event_call (with_settings event.with_setting (event.fresh_request node name config.event) xs.items) attributes
-call_by config node name attributes (settings.PublishSubscribe xs) =
+abbrev pub call_by : Config → ℕ → List ℕ → Requirements → Result Span ClockFault → Settings → BuilderCall
+call_by config node name attributes now (settings.Event xs) =
+    event_call (with_settings event.with_setting (event.fresh_request node name config.event) xs.items) attributes now
+call_by config node name attributes now (settings.PublishSubscribe xs) =
     publish_subscribe_call (with_settings publish_subscribe.with_setting
     (publish_subscribe.fresh_request node name config.publish_subscribe) xs.items) attributes
-call_by config node name attributes (settings.RequestResponse xs) =
+call_by config node name attributes now (settings.RequestResponse xs) =
     request_response_call (with_settings request_response.with_setting
     (request_response.fresh_request node name config.request_response) xs.items) attributes
 
 -- what a command's call asks
 abbrev pub builder_call : Config → Call → BuilderCall
-builder_call config call = call_by config call.node call.name call.attributes call.settings
+builder_call config call = call_by config call.node call.name call.attributes call.now call.settings

@@ -31,10 +31,11 @@ publish_subscribe_call b attributes = record {
   node = b.node;
   hash = hash_for letter_of_publish_subscribe b.name;
   name = b.name;
+  -- time zero: its calls don't ask the clock
+  now = Ok zero_span;
   creating = publish_subscribe_creating b.demand (named_message b) attributes.pairs;
   opening = publish_subscribe_opening b.demand (named_message b) attributes;
-  -- at time zero, whatever the clock answers
-  attempt = λ now. record {
+  attempt = record {
     meaning = prepared_meaning;
     adjusted = prepared_adjusted;
     retried = publish_subscribe_retried;

@@ -4,8 +4,6 @@ use Rattle.std.specs.Prelude.{IsTrue, slice_set}
 use Rattle.std.specs.declared.alloc.Global.{Global}
 use Rattle.iceoryx2_values.specs.declared.description.ServiceHash.{ServiceHash}
 use Rattle.iceoryx2_values.specs.declared.config.Config.{Config}
-use Rattle.iceoryx2_values.specs.declared.time.ClockFault.{ClockFault}
-use Rattle.iceoryx2_values.specs.Span.{Span}
 use Rattle.iceoryx2_world.specs.declared.listing.Entry.{Entry}
 use Rattle.iceoryx2_world.specs.World.{tag_of}
 use Rattle.iceoryx2_batches.specs.Tables.{TableState}
@@ -42,23 +40,22 @@ pub record IsQuiet (s : SessionState) (q : Quiet) : Type 0 where
 
 -- What the machine answers to a builder call, and its state after it. One that prepares its types first may also want
 -- memory, and change nothing.
-abbrev pub Answers : Quiet → BuilderCall → How → Result Span ClockFault → Result Factory Refusal
-    → Quiet → Type 0
-Answers q b how.Create now answer p =
+abbrev pub Answers : Quiet → BuilderCall → How → Result Factory Refusal → Quiet → Type 0
+Answers q b how.Create answer p =
     (a : Result Factory b.create_error) × (answer ≡ with_refusal b.refusal_of_create a)
     × IfPrepares b.prepares
-    (CreatesPrepared b.creating q b.node b.hash b.name now a p)
-    (Creates b.creating q b.node b.hash b.name now a p)
-Answers q b how.Open now answer p =
+    (CreatesPrepared b.creating q b.node b.hash b.name b.now a p)
+    (Creates b.creating q b.node b.hash b.name b.now a p)
+Answers q b how.Open answer p =
     (a : Result Factory b.open_error) × (answer ≡ with_refusal b.refusal_of_open a)
     × IfPrepares b.prepares
     (OpensPrepared b.opening q b.node b.hash a p)
     (Opens b.opening q b.node b.hash a p)
-Answers q b how.OpenOrCreate now answer p =
+Answers q b how.OpenOrCreate answer p =
     (a : Result Factory b.open_or_create_error) × (answer ≡ with_refusal b.refusal_of_open_or_create a)
     × IfPrepares b.prepares
-    (AttemptsPrepared (b.attempt now) q (map_err b.refusal_of_rounds a) p)
-    (Attempts (b.attempt now) q (map_err b.refusal_of_rounds a) p)
+    (AttemptsPrepared b.attempt q (map_err b.refusal_of_rounds a) p)
+    (Attempts b.attempt q (map_err b.refusal_of_rounds a) p)
 
 -- A command with its reply moves the machine and the slots.
 pub data Moves (config : Config) (q : Quiet) (slots : List (Option Factory))
@@ -68,11 +65,11 @@ pub data Moves (config : Config) (q : Quiet) (slots : List (Option Factory))
   call_taken : {call : Call} → TakenAt slots call.slot
       → Moves config q slots (command.Call call) reply.SlotInUse q slots
   called : {call : Call} (f : Factory) {p : Quiet} → FreeAt slots call.slot
-      → Answers q (builder_call config call) call.how call.now (Ok f) p
+      → Answers q (builder_call config call) call.how (Ok f) p
       → Moves config q slots (command.Call call) (reply.Opened call.slot f.number) p
       (slice_set slots call.slot (Some f))
   refused : {call : Call} {e : Refusal} {p : Quiet} → FreeAt slots call.slot
-      → Answers q (builder_call config call) call.how call.now (Err e) p
+      → Answers q (builder_call config call) call.how (Err e) p
       → Moves config q slots (command.Call call) (reply.Refused e) p slots
   close_past : {slot : ℕ} → slot_count ≤ slot
       → Moves config q slots (command.Close slot) reply.NoSuchSlot q slots

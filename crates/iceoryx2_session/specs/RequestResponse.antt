@@ -30,10 +30,11 @@ request_response_call b attributes = record {
   node = b.node;
   hash = hash_for letter_of_request_response b.name;
   name = b.name;
+  -- time zero: its calls don't ask the clock
+  now = Ok zero_span;
   creating = request_response_creating b.demand (named_messages b).request (named_messages b).response attributes.pairs;
   opening = request_response_opening b.demand (named_messages b).request (named_messages b).response attributes;
-  -- at time zero, whatever the clock answers
-  attempt = λ now. record {
+  attempt = record {
     meaning = prepared_meaning;
     adjusted = prepared_adjusted;
     retried = request_response_retried;

@@ -3,8 +3,6 @@ use Rattle.std.specs.Prelude.{◌≡◌, ◌≤◌, ℕ, List, Vec, Option, Some
 use Rattle.std.specs.Prelude.{slice_get, slice_set}
 use Rattle.std.specs.declared.alloc.Global.{Global}
 use Rattle.iceoryx2_values.specs.declared.config.Config.{Config}
-use Rattle.iceoryx2_values.specs.declared.time.ClockFault.{ClockFault}
-use Rattle.iceoryx2_values.specs.Span.{Span}
 use Rattle.iceoryx2_world.specs.declared.listing.Entry.{Entry}
 use Rattle.iceoryx2_world.specs.Listing.{Lists}
 use Rattle.iceoryx2_batches.specs.Tables.{TableState, IsTableAccess}
@@ -39,22 +37,22 @@ pub record SessionState : Type 0 where
 -- A builder call goes along a word of its grammar, with that answer. One that prepares its types first may also want
 -- memory without an access.
 abbrev pub Builds
-    : BuilderCall → How → Result Span ClockFault → TableState → Result Factory Refusal → TableState → Type 0
-Builds b how.Create now s answer t =
+    : BuilderCall → How → TableState → Result Factory Refusal → TableState → Type 0
+Builds b how.Create s answer t =
     (a : Result Factory b.create_error) × (answer ≡ with_refusal b.refusal_of_create a)
     × Joins IsTableAccess s (λ word. IfPrepares b.prepares
-    (IsCreateCall b.creating b.node b.hash b.name now word a)
-    (IsCreateWord b.creating b.node b.hash b.name now word a)) t
-Builds b how.Open now s answer t =
+    (IsCreateCall b.creating b.node b.hash b.name b.now word a)
+    (IsCreateWord b.creating b.node b.hash b.name b.now word a)) t
+Builds b how.Open s answer t =
     (a : Result Factory b.open_error) × (answer ≡ with_refusal b.refusal_of_open a)
     × Joins IsTableAccess s (λ word. IfPrepares b.prepares
     (IsOpenCall b.opening b.node b.hash word a)
     (IsOpenWord b.opening b.node b.hash word a)) t
-Builds b how.OpenOrCreate now s answer t =
+Builds b how.OpenOrCreate s answer t =
     (a : Result Factory b.open_or_create_error) × (answer ≡ with_refusal b.refusal_of_open_or_create a)
     × Joins IsTableAccess s (λ word. IfPrepares b.prepares
-    (IsAttempted (b.attempt now) word (map_err b.refusal_of_rounds a))
-    (IsAttemptWord (b.attempt now) word (map_err b.refusal_of_rounds a))) t
+    (IsAttempted b.attempt word (map_err b.refusal_of_rounds a))
+    (IsAttemptWord b.attempt word (map_err b.refusal_of_rounds a))) t
 
 -- A factory is closed along a word of close, whatever it answers.
 abbrev pub ClosesFactory : TableState → Factory → TableState → Type 0
@@ -88,11 +86,11 @@ pub data Goes (old : SessionState) : Command → Reply → SessionState → Type
   call_past : {call : Call} → slot_count ≤ call.slot → Goes old (command.Call call) reply.NoSuchSlot old
   call_taken : {call : Call} → TakenAt old.slots call.slot → Goes old (command.Call call) reply.SlotInUse old
   called : {call : Call} (f : Factory) {t : TableState} → FreeAt old.slots call.slot
-      → Builds (builder_call old.config call) call.how call.now old.table (Ok f) t
+      → Builds (builder_call old.config call) call.how old.table (Ok f) t
       → Goes old (command.Call call) (reply.Opened call.slot f.number)
       (record old { table = t; slots = slice_set old.slots call.slot (Some f) })
   refused : {call : Call} {e : Refusal} {t : TableState} → FreeAt old.slots call.slot
-      → Builds (builder_call old.config call) call.how call.now old.table (Err e) t
+      → Builds (builder_call old.config call) call.how old.table (Err e) t
       → Goes old (command.Call call) (reply.Refused e) (record old { table = t })
   close_past : {slot : ℕ} → slot_count ≤ slot → Goes old (command.Close slot) reply.NoSuchSlot old
   close_empty : {slot : ℕ} → FreeAt old.slots slot → Goes old (command.Close slot) reply.SlotEmpty old

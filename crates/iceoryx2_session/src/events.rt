@@ -6,11 +6,11 @@ ghost use Rattle.iceoryx2_session.specs.Events.{event_call};
 ghost use Rattle.iceoryx2_session.specs.Sessions.{Builds};
 ghost use Rattle.iceoryx2_session.specs.Setters.{with_settings as set_all};
 
-use crate::open_service::OpenService;
 use crate::setters::{HasSetters, with_settings};
 use iceoryx2_attributes::attribute::{AttributeSpecifier, AttributeVerifier};
 use iceoryx2_builder::builder::event::Builder;
 use iceoryx2_commands::command::{EventSetting, How, Refusal};
+use iceoryx2_port_factory::port_factory::Registration;
 use iceoryx2_storage::local::Local;
 use iceoryx2_storage::table::Table;
 use iceoryx2_values::time::{ClockFault, Time};
@@ -33,8 +33,8 @@ pub fn call(
     how: How,
     now: Result<Time, ClockFault>,
     table: &mut Table,
-) -> Result<OpenService, Refusal>
-    ensures { Builds (event_call (set_all request.with_setting builder settings.items) attributes) how now
+) -> Result<Registration, Refusal>
+    ensures { Builds (event_call (set_all request.with_setting builder settings.items) attributes now) how
         table.old result table.new }
 {
     let builder = with_settings(builder, settings);
@@ -42,17 +42,17 @@ pub fn call(
         How::Create => {
             let specifier = AttributeSpecifier::from(attributes.into_required_attributes());
             match builder.create_with_attributes(&specifier, table, now) {
-                Ok(factory) => Ok(OpenService::event(factory)),
+                Ok(factory) => Ok(factory.into_registration()),
                 Err(error) => Err(Refusal::EventCreate(error)),
             }
         }
         How::Open => match builder.open_with_attributes(&attributes, table) {
-            Ok(factory) => Ok(OpenService::event(factory)),
+            Ok(factory) => Ok(factory.into_registration()),
             Err(error) => Err(Refusal::EventOpen(error)),
         },
         How::OpenOrCreate => {
             match builder.open_or_create_with_attributes(&attributes, table, now) {
-                Ok(factory) => Ok(OpenService::event(factory)),
+                Ok(factory) => Ok(factory.into_registration()),
                 Err(error) => Err(Refusal::EventOpenOrCreate(error)),
             }
         }

@@ -1,8 +1,8 @@
 //! A session of commands over a table.
 #![tactic(auto)]
 
+mod closing;
 mod events;
-mod open_service;
 mod publish_subscribe;
 mod request_response;
 pub mod session;

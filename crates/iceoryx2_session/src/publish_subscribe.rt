@@ -1,17 +1,16 @@
 //! Builder calls for services of publish-subscribe.
 
-ghost use Rattle.std.specs.Prelude.{◌≡◌, Ok};
+ghost use Rattle.std.specs.Prelude.{◌≡◌};
 ghost use Rattle.iceoryx2_publish_subscribe_builder.specs.Request as request;
 ghost use Rattle.iceoryx2_session.specs.PublishSubscribe.{publish_subscribe_call};
 ghost use Rattle.iceoryx2_session.specs.Sessions.{Builds};
 ghost use Rattle.iceoryx2_session.specs.Setters.{with_settings as set_all};
-ghost use Rattle.iceoryx2_values.specs.Span.{zero_span};
 
-use crate::open_service::OpenService;
 use crate::setters::{HasSetters, with_settings};
 use iceoryx2_attributes::attribute::{AttributeSpecifier, AttributeVerifier};
 use iceoryx2_builder::builder::publish_subscribe;
 use iceoryx2_commands::command::{How, PublishSubscribeSetting, Refusal};
+use iceoryx2_port_factory::port_factory::Registration;
 use iceoryx2_storage::local::Local;
 use iceoryx2_storage::table::Table;
 use iceoryx2_types::types::{CustomHeaderMarker, CustomPayloadMarker, Slice};
@@ -37,26 +36,26 @@ pub fn call(
     attributes: AttributeVerifier,
     how: How,
     table: &mut Table,
-) -> Result<OpenService, Refusal>
+) -> Result<Registration, Refusal>
     ensures { Builds (publish_subscribe_call (set_all request.with_setting builder settings.items) attributes) how
-        (Ok zero_span) table.old result table.new }
+        table.old result table.new }
 {
     let builder = with_settings(builder, settings);
     match how {
         How::Create => {
             let specifier = AttributeSpecifier::from(attributes.into_required_attributes());
             match builder.create_with_attributes(&specifier, table) {
-                Ok(factory) => Ok(OpenService::publish_subscribe(factory)),
+                Ok(factory) => Ok(factory.into_registration()),
                 Err(error) => Err(Refusal::PublishSubscribeCreate(error)),
             }
         }
         How::Open => match builder.open_with_attributes(&attributes, table) {
-            Ok(factory) => Ok(OpenService::publish_subscribe(factory)),
+            Ok(factory) => Ok(factory.into_registration()),
             Err(error) => Err(Refusal::PublishSubscribeOpen(error)),
         },
         How::OpenOrCreate => {
             match builder.open_or_create_with_attributes(&attributes, table) {
-                Ok(factory) => Ok(OpenService::publish_subscribe(factory)),
+                Ok(factory) => Ok(factory.into_registration()),
                 Err(error) => Err(Refusal::PublishSubscribeOpenOrCreate(error)),
             }
         }

@@ -5,11 +5,11 @@ ghost use Rattle.iceoryx2_session.specs.Patterns.{builder_call};
 ghost use Rattle.iceoryx2_session.specs.Sessions.{Builds, ClosesSlot};
 ghost use Rattle.iceoryx2_commands.specs.Commands.{slot_count};
 
-use crate::open_service::OpenService;
 use crate::slots::Slots;
-use crate::{events, publish_subscribe, request_response};
+use crate::{closing, events, publish_subscribe, request_response};
 use iceoryx2_builder::builder::Node;
 use iceoryx2_commands::command::{Call, Command, Refusal, Reply, SLOTS, Settings};
+use iceoryx2_port_factory::port_factory::Registration;
 use iceoryx2_storage::local::Local;
 use iceoryx2_storage::table::Table;
 use iceoryx2_types::types::{CustomHeaderMarker, CustomPayloadMarker, Slice};
@@ -25,8 +25,8 @@ pub struct Session {
 }
 
 /// The builder call of a command.
-fn build(config: Config, call: Call, table: &mut Table) -> Result<OpenService, Refusal>
-    ensures { Builds (builder_call config call) call.how call.now table.old result table.new }
+fn build(config: Config, call: Call, table: &mut Table) -> Result<Registration, Refusal>
+    ensures { Builds (builder_call config call) call.how table.old result table.new }
 {
     let Call {
         how,
@@ -65,7 +65,7 @@ fn close_slot(slots: &mut Slots, slot: usize, table: &mut Table)
     ensures closed { ClosesSlot table.old slots.old slot table.new }
 {
     match slots.take(slot) {
-        Some(service) => return service.close(table),
+        Some(registration) => return closing::close(registration, table),
         None => return,
     }
 }
@@ -181,9 +181,9 @@ impl Session {
             return Reply::SlotInUse;
         }
         match build(self.config, call, &mut self.table) {
-            Ok(service) => {
-                let number = service.number();
-                self.slots.put(slot, service);
+            Ok(registration) => {
+                let number = registration.number();
+                self.slots.put(slot, registration);
                 Reply::Opened { slot, number }
             }
             Err(refusal) => Reply::Refused(refusal),
@@ -197,8 +197,8 @@ impl Session {
             return Reply::NoSuchSlot;
         }
         match self.slots.take(slot) {
-            Some(service) => {
-                service.close(&mut self.table);
+            Some(registration) => {
+                closing::close(registration, &mut self.table);
                 Reply::Closed { slot }
             }
             None => Reply::SlotEmpty,

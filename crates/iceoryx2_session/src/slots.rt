@@ -1,14 +1,14 @@
-//! The places for a session's factories.
+//! The places for what a session's factories hold.
 
 ghost use Rattle.std.specs.Prelude.{◌≡◌, ◌<◌, slice_set, slice_get, Some, None, MatchBool, replicate, length};
 
-use crate::open_service::OpenService;
 use iceoryx2_commands::command::SLOTS;
+use iceoryx2_port_factory::port_factory::Registration;
 use std::marker::Model;
 
-/// A place for each slot, which may hold a service. They have to be spent.
+/// A place for each slot, which may hold the registration of a factory. They have to be spent.
 pub struct Slots {
-    places: [Option<OpenService>; SLOTS],
+    places: [Option<Registration>; SLOTS],
 }
 
 impl Model for Slots {
@@ -23,10 +23,10 @@ impl Model for Slots {
     ghost invariant = { λ slots. length slots.places ≡ slot_count };
 }
 
-fn abandon(place: Option<OpenService>) {
+fn abandon(place: Option<Registration>) {
     match place {
         None => {}
-        Some(service) => service.abandon(),
+        Some(registration) => registration.abandon(),
     }
 }
 
@@ -38,7 +38,7 @@ macro_rules! let_go {
     };
 }
 
-fn abandon_all(places: [Option<OpenService>; SLOTS]) {
+fn abandon_all(places: [Option<Registration>; SLOTS]) {
     let_go!(places;
         p0 p1 p2 p3 p4 p5 p6 p7 p8 p9 p10 p11 p12 p13 p14 p15
         p16 p17 p18 p19 p20 p21 p22 p23 p24 p25 p26 p27 p28 p29 p30 p31
@@ -70,7 +70,7 @@ impl Slots {
     }
 
     /// What the slot holds. It is free then.
-    pub fn take(&mut self, slot: usize) -> Option<OpenService>
+    pub fn take(&mut self, slot: usize) -> Option<Registration>
         requires { slot < slot_count }
         ensures value { slice_get self.old slot ≡ Some result }
         ensures after { self.new ≡ slice_set self.old slot None }
@@ -78,13 +78,13 @@ impl Slots {
         self.places[slot].take()
     }
 
-    /// Puts a service into a free slot.
-    pub fn put(&mut self, slot: usize, service: OpenService)
+    /// Puts a registration into a free slot.
+    pub fn put(&mut self, slot: usize, registration: Registration)
         requires in_range { slot < slot_count }
         requires free { FreeAt self.old slot }
-        ensures after { self.new ≡ slice_set self.old slot (Some service) }
+        ensures after { self.new ≡ slice_set self.old slot (Some registration) }
     {
-        abandon(self.places[slot].replace(service))
+        abandon(self.places[slot].replace(registration))
     }
 
     /// Lets go of the places.

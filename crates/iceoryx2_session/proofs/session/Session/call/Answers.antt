@@ -12,7 +12,7 @@ pub returns-then-is_taken : goal.returns-then-is_taken
 returns-then-is_taken c = goes.call_taken (when_true _ c.is_taken.result c.is_taken.ensures c.if-is_taken.true)
 
 pub returns-in-Ok : goal.returns-in-Ok
-returns-in-Ok c = calling (state_of c.args.self.now) c.args.call c.in-Ok.service c.number-number.result c.build.new.table c.put.new.self (when_false _ c.is_taken.result c.is_taken.ensures c.if-is_taken.false) c.in-Ok.ensures c.number-number.ensures c.put.ensures.after
+returns-in-Ok c = calling (state_of c.args.self.now) c.args.call c.in-Ok.registration c.number-number.result c.build.new.table c.put.new.self (when_false _ c.is_taken.result c.is_taken.ensures c.if-is_taken.false) c.in-Ok.ensures c.number-number.ensures c.put.ensures.after
 
 pub returns-in-Err : goal.returns-in-Err
 returns-in-Err c = goes.refused (when_false _ c.is_taken.result c.is_taken.ensures c.if-is_taken.false) c.in-Err.ensures

@@ -8,7 +8,7 @@ pub returns-then-slot-ge-SLOTS : goal.returns-then-slot-ge-SLOTS
 returns-then-slot-ge-SLOTS c = goes.close_past (omega arith)
 
 pub returns-in-Some : goal.returns-in-Some
-returns-in-Some c = closing (state_of c.args.self.now) c.args.slot c.in-Some.service c.close.new.table c.take.new.self c.in-Some.ensures.value c.in-Some.ensures.after c.close.ensures
+returns-in-Some c = closing (state_of c.args.self.now) c.args.slot c.in-Some.registration c.close.new.table c.take.new.self c.in-Some.ensures.value c.in-Some.ensures.after c.close.ensures
 
 pub returns-in-None : goal.returns-in-None
 returns-in-None c = nothing_to_close (state_of c.args.self.now) c.args.slot c.take.new.self c.in-None.ensures.value c.in-None.ensures.after

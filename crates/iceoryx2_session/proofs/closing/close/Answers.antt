@@ -1,5 +1,5 @@
 use Rattle.std.proofs.Common.{rules}
-use Rattle.iceoryx2_session.proofs.open_service.OpenService.close.Goals as goal
+use Rattle.iceoryx2_session.proofs.closing.close.Goals as goal
 
 pub returns-in-Ok : goal.returns-in-Ok
 returns-in-Ok c = search rules
