@@ -5,3 +5,7 @@ use Rattle.iceoryx2_data.proofs.bytes.reading.all.Goals as goal
 pub returns-else-is_empty : goal.returns-else-is_empty
 unfolding all_of
 returns-else-is_empty c = search rules
+
+pub returns-then-is_empty : goal.returns-then-is_empty
+unfolding all_of
+returns-then-is_empty c = search rules
