@@ -21,6 +21,13 @@ pub const MIN_NAME_LENGTH: usize = 1;
 /// The length of the longest name, in bytes.
 pub const MAX_NAME_LENGTH: usize = 255;
 
+/// The limits as numbers, since a wrong constant would go with the definitions that cite it.
+pub fn limits()
+    ensures hash { HASH_LENGTH ≡ 20 }
+    ensures min_name { MIN_NAME_LENGTH ≡ 1 }
+    ensures max_name { MAX_NAME_LENGTH ≡ 255 }
+{}
+
 /// A service's name: 1 to 255 bytes of UTF-8.
 #[derive(Debug, Drop)]
 pub struct ServiceName {

@@ -8,6 +8,11 @@ use std::marker::Model;
 /// How many nanoseconds a second has.
 pub const NANOSECONDS_PER_SECOND: u32 = 1_000_000_000;
 
+/// A second has 1,000,000,000 nanoseconds.
+pub fn second_has_a_billion_nanoseconds()
+    ensures { NANOSECONDS_PER_SECOND ≡ 1000000000 }
+{}
+
 /// A length of time: seconds, and fewer than 1,000,000,000 nanoseconds.
 #[derive(Clone, Copy, Debug, PartialEq, Eq, PartialOrd, Ord)]
 pub struct Duration {
