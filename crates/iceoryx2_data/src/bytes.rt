@@ -27,6 +27,14 @@ pub const PUBLISH_SUBSCRIBE_BYTE: u8 = 2;
 /// The byte that says that a service is one of request-response.
 pub const REQUEST_RESPONSE_BYTE: u8 = 3;
 
+/// The bytes of the patterns as numbers, since a wrong constant would go with the form that cites it.
+/// The form spells the magic and the version itself.
+pub fn pattern_bytes()
+    ensures events { EVENT_BYTE ≡ 1 }
+    ensures publish_subscribe { PUBLISH_SUBSCRIBE_BYTE ≡ 2 }
+    ensures request_response { REQUEST_RESPONSE_BYTE ≡ 3 }
+{}
+
 /// The byte form of the description.
 pub fn encode(alloc: Global, description: &StaticConfig) -> Result<Vec<u8>, AllocError>
     ensures { IfOk result (λ bytes. IsForm description.now bytes.items) }
