@@ -1,6 +1,7 @@
 -- What a session is told.
 use Rattle.std.specs.Prelude.{ℕ}
+use Rattle.iceoryx2_commands.specs.declared.command.TheConstants.{SLOTS}
 
 -- how many slots a session has, from 0 on
 abbrev pub slot_count : ℕ
-slot_count = 64
+slot_count = SLOTS

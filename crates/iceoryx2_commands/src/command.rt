@@ -1,5 +1,7 @@
 //! What a session is told, and what it answers.
 
+ghost use Rattle.std.specs.Prelude.{◌≡◌};
+
 use iceoryx2_attributes::attribute::AttributeVerifier;
 use iceoryx2_errors::error::{
     EventCreateError, EventOpenError, EventOpenOrCreateError, PublishSubscribeCreateError,
@@ -15,6 +17,11 @@ use iceoryx2_world::listing::Entry;
 
 /// How many slots a session has.
 pub const SLOTS: usize = 64;
+
+/// There are 64 slots.
+pub fn slots_are_64()
+    ensures { SLOTS ≡ 64 }
+{}
 
 /// How a service is wanted.
 #[derive(Clone, Copy, Debug, PartialEq, Eq)]
