@@ -73,9 +73,6 @@ module _ {N S : Type 0} (v : Vocabulary N S) (clear : IsUnambiguous v) where
     no_such_value word front back n cut same none said is = none said (behind word front back n said cut same is)
 
 module _ {N S : Type 0} (v : Vocabulary N S) (admitted : Admitted) where
-  pub no_equals_sign : (word : List ℕ) → ((front back : List ℕ) → AreAround 61 word front back → ⊥) → (said : Instruction S) → SaysWord v admitted word said → ⊥
-  no_equals_sign word none said is = none (name_word v is.name) is.value is.around
-
   pub no_such_name : (word front back : List ℕ) → AreAround 61 word front back → ((n : WordName N) → front ≢ name_word v n) → (said : Instruction S) → SaysWord v admitted word said → ⊥
   no_such_name word front back cut none said is =
       none is.name (one_cut 61 word front (name_word v is.name) back is.value cut is.around).front

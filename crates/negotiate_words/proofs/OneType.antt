@@ -2,7 +2,7 @@
 use Rattle.std.proofs.Common.{◌≡◌, ℕ, List, bytes_eq, codes, refl, sym, ap, subst, ◌∙◌}
 use Rattle.iceoryx2_types.specs.declared.types.TypeVariant.{TypeVariant}
 use Rattle.iceoryx2_types.specs.declared.types.TypeVariant.TheVariants.{FixedSize, Dynamic}
-use Rattle.iceoryx2_types.specs.Types.{Detail, HasNameLength, IsAlignment, detail_of}
+use Rattle.iceoryx2_types.specs.Types.{Detail, HasNameLength, IsAlignment}
 use Rattle.negotiate_words.specs.Words.{AreAround}
 use Rattle.negotiate_words.specs.Values.{IsNatural, IsAlignmentWord, IsVariantWord, AreParts, IsDetailWord}
 use Rattle.negotiate_words.proofs.Around.{one_cut}
@@ -65,20 +65,6 @@ module _ (value variant name size alignment : List ℕ) (parts : AreParts value 
   not_aligned n number out d is =
       let same = one_natural alignment n d.alignment number (subst (λ (t : List ℕ). IsNatural t d.alignment) (sym (same_parts d is).fourth) is.alignment_is.0) in
       out (subst (λ (m : ℕ). IsAlignment m) (sym same) is.alignment_is.1)
-
-  pub detail_told : (v : TypeVariant) (s n : ℕ) (d : Detail) → IsVariantWord variant v → IsNatural size s → IsNatural alignment n → HasNameLength name → IsAlignment n
-      → d ≡ detail_of v name s n → IsDetailWord value d
-  detail_told v s n d variant_is size_is alignment_is name_is aligned same =
-      subst (λ (e : Detail). IsDetailWord value e) (sym same) (record {
-        variant = variant;
-        size = size;
-        alignment = alignment;
-        parts = parts;
-        variant_is = variant_is;
-        name_is = name_is;
-        size_is = size_is;
-        alignment_is = (alignment_is, aligned);
-      })
 
 pub no_parts : (value : List ℕ) → ((first second third fourth : List ℕ) → AreParts value first second third fourth → ⊥) → (d : Detail) → IsDetailWord value d → ⊥
 no_parts value none d is = none is.variant d.name is.size is.alignment is.parts

@@ -42,9 +42,6 @@ module _ (bs : List ℕ) (part after : Bor (List ℕ)) (cut : IsSplitOnceResult 
   pub word_found : (length part.now == 0) ≡ false → words_of bs ≡ part.now ∷ words_of after.now
   word_found some = ap chosen parted ∙ chosen_first part.now (parts_of after.now) some
 
-  pub nothing_between : (length part.now == 0) ≡ true → words_of bs ≡ words_of after.now
-  nothing_between none = ap chosen parted ∙ chosen_after part.now (parts_of after.now) none
-
   pub shorter_after : length after.now < length bs
   shorter_after = omega (arith, ap (λ (t : List ℕ). length t) (split_parts 32 bs (Some (part, after)) cut (lit< tt)).0, length-append part.now (32 ∷ after.now))
 

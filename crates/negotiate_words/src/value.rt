@@ -5,10 +5,7 @@ ghost use Rattle.negotiate_words.specs.Values.{IsClockWord, IsNatural, IsNoneOr,
 
 use crate::word::{around, number, number_below};
 use iceoryx2_values::event::EventId;
-use iceoryx2_values::time::{ClockFault, Duration, Time};
-
-/// How many nanoseconds a second has.
-const NANOSECONDS: u64 = 1_000_000_000;
+use iceoryx2_values::time::{ClockFault, Duration, NANOSECONDS_PER_SECOND, Time};
 
 /// Seconds and nanoseconds, around a comma. The nanoseconds are fewer than 1,000,000,000.
 fn duration(value: &str) -> Option<Duration>
@@ -18,7 +15,7 @@ fn duration(value: &str) -> Option<Duration>
     let Some(seconds) = number(seconds) else {
         return None;
     };
-    let Some(nanoseconds) = number_below(nanoseconds, NANOSECONDS) else {
+    let Some(nanoseconds) = number_below(nanoseconds, NANOSECONDS_PER_SECOND as u64) else {
         return None;
     };
     Duration::new(seconds, nanoseconds as u32)
