@@ -1,5 +1,5 @@
 -- Pairs in their order.
-use Rattle.std.proofs.Common.{◌≡◌, ℕ, ◌-◌, ◌<◌, ◌≤◌, Bool, true, false, List, ◌∷◌, [], ◌++◌, length, All, Option, Some, None, Result, Ok, Err, IfOk, IfErr, is_ok, if◌then◌else◌, refl, length-append, sym, ap, subst, ◌∙◌, arith}
+use Rattle.std.proofs.Common.{◌≡◌, ℕ, ◌-◌, ◌<◌, ◌≤◌, Bool, true, false, List, ◌∷◌, [], ◌++◌, length, Option, Some, None, Result, Ok, Err, IfOk, IfErr, is_ok, if◌then◌else◌, refl, length-append, sym, ap, subst, ◌∙◌, arith}
 use Rattle.std.specs.List.{insert, list_any, slice_get}
 use Rattle.std.specs.List.Sorted.{IsSearchInRange, IsBinarySearchResult}
 use Rattle.std.specs.Ordering.{ordering_index, is_lt, is_eq}
@@ -9,7 +9,7 @@ use Rattle.std.specs.Cmp.{IsTotalOrder, both_tied, tied_itself}
 use Rattle.std.specs.Cmp.Lexicographic.{texts_ties}
 use Rattle.std.proofs.lemmas.Cmp.{on_total, then_total, nat_list_cmp_total}
 use Rattle.std.proofs.lemmas.List.Edits.{length-insert}
-use Rattle.std.proofs.lemmas.List.Elements.{All-nil, All-cons, All-head, All-tail, All-push, All-contains, Contains-push}
+use Rattle.std.proofs.lemmas.List.Elements.{All-nil, All-push}
 use Rattle.std.proofs.lemmas.List.Folds.{Any-from_list_any}
 use Rattle.std.proofs.lemmas.Str.{is_utf8-from_IsUtf8}
 use Rattle.std.specs.Str.{IsUtf8}
@@ -124,24 +124,6 @@ next_fits ps p fits one few ascending = record {
   few = omega (arith, length-append ps (p ∷ []));
   each = All-push IsPair ps p fits.each one;
   ascending = ascending;
-}
-
-pub next_is_pair : (ps : List Pair) (p : Pair) → AreAttributes (ps ++ p ∷ []) → IsPair p
-next_is_pair ps p fits = All-contains IsPair _ p fits.each (Contains-push ps p)
-
-pub next_is_few : (ps : List Pair) (p : Pair) → AreAttributes (ps ++ p ∷ []) → length ps < MAX_ATTRIBUTES
-next_is_few ps p fits = omega (arith, fits.few, length-append ps (p ∷ []))
-
-front_each : (xs ys : List Pair) → All IsPair (xs ++ ys) → All IsPair xs
-front_each [] ys h = All-nil IsPair
-front_each (x ∷ xs) ys h = All-cons IsPair x xs (All-head IsPair x _ h) (front_each xs ys (All-tail IsPair x _ h))
-
--- the front of a list of attributes
-pub front_fits : (xs ys : List Pair) → AreAttributes (xs ++ ys) → AreAttributes xs
-front_fits xs ys fits = record {
-  few = omega (arith, fits.few, length-append xs ys);
-  each = front_each xs ys fits.each;
-  ascending = ascending.ascends_front pair_before xs ys fits.ascending;
 }
 
 -- ---- equality

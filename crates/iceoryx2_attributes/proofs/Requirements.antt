@@ -1,12 +1,10 @@
 -- What attributes lack.
-use Rattle.std.proofs.Common.{◌≡◌, ℕ, Bool, true, false, not, List, [], ◌∷◌, get_or, All, Option, Some, None, refl}
+use Rattle.std.proofs.Common.{◌≡◌, ℕ, Bool, true, false, not, List, [], ◌∷◌, All, Option, Some, None, refl}
 use Rattle.std.specs.Prelude.{IsTrue}
 use Rattle.std.specs.List.{find}
 use Rattle.std.proofs.lemmas.List.Elements.{All-nil, All-cons, All-head, All-tail}
-use Rattle.std.proofs.lemmas.List.Folds.{list_any_at}
 use Rattle.iceoryx2_attributes.specs.Attributes.{Pair, has_pair, has_key}
-use Rattle.iceoryx2_attributes.specs.Requirements.{Requirements, no_requirements, lacking_pair, lacking_key, first_lacking, AreMetBy, pair_or_key}
-use Rattle.iceoryx2_attributes.proofs.Pairs.{same_itself}
+use Rattle.iceoryx2_attributes.specs.Requirements.{Requirements, lacking_pair, lacking_key, first_lacking, AreMetBy, pair_or_key}
 
 module _ {A : Type 0} (there : A → Bool) where
   all_there : (xs : List A) → find (λ x. not (there x)) xs ≡ None → All (λ x. IsTrue (there x)) xs
@@ -39,13 +37,3 @@ none_lacking r ps all = rw (none_lacks (has_pair ps) r.pairs all.0, none_lacks (
 -- where something is lacking, they are not met
 pub is_unmet : (r : Requirements) (ps : List Pair) (key : List ℕ) → first_lacking r ps ≡ Some key → AreMetBy r ps → ⊥
 is_unmet r ps key h all = let none = none_lacking r ps all in absurd (cc)
-
--- where nothing is required nothing is lacking
-pub none_required : (ps : List Pair) → first_lacking no_requirements ps ≡ None
-unfolding first_lacking lacking_pair lacking_key
-none_required ps = refl
-
--- attributes have their own pairs
-pub has_each : (ps : List Pair) → All (λ p. IsTrue (has_pair ps p)) ps
-unfolding has_pair
-has_each ps i d l = list_any_at _ ps i d l (same_itself (get_or ps i d))

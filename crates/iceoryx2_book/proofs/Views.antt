@@ -1,15 +1,12 @@
--- What stands already is set to no effect, and a phase that is not Idle is stored.
-use Rattle.std.proofs.Common.{◌≡◌, ◌≢◌, Bool, true, false, cond, Option, Some, None, refl, sym, ap, ◌∙◌}
+-- What stands already is set to no effect, and what a test says of a value.
+use Rattle.std.proofs.Common.{◌≡◌, Bool, true, false, cond, Option, Some, None, refl, sym, ap, ◌∙◌}
 use Rattle.std.specs.Prelude.{is_some, is_err, ◌&&◌, Result, Ok, Err, OnErr}
-use mathlib.Core.Bool.{true≢false}
 use Rattle.std.specs.FinMap as map
 use Rattle.std.specs.FinMap.{same_map, IsAntisymmetric, get-remove, get-insert}
 use Rattle.std.specs.Ordering.{eq_by_cmp}
 use Rattle.std.specs.declared.cmp.Ordering.{Ordering}
 use Rattle.std.specs.Cmp.{IsTotalOrder, Equal-is}
-use Rattle.iceoryx2_world.specs.declared.world.Phase.{Phase}
-use Rattle.iceoryx2_world.specs.declared.world.Phase.TheVariants as at
-use Rattle.iceoryx2_world.specs.World.{or_idle, unless_idle, set_to}
+use Rattle.iceoryx2_world.specs.World.{set_to}
 
 module _ {K X : Type 0} {R : K → K → Ordering} (o : IsTotalOrder R) (exact : IsAntisymmetric R) where
   pub get-set_to : (m : map.FinMap R X) (k : K) (v : Option X) (q : K) → map.get (set_to m k v) q ≡ cond (eq_by_cmp R q k) v (map.get m q)
@@ -23,25 +20,6 @@ module _ {K X : Type 0} {R : K → K → Ordering} (o : IsTotalOrder R) (exact :
         | true ↦ λ e. ap (λ x. map.get m x) (sym (exact q k ((Equal-is (R q k)).0 e)))
         | false ↦ λ e. refl
       ] refl))
-
-  pub kept_at : (m : map.FinMap R X) (k : K) (v : Option X) → map.get m k ≡ v → m ≡ set_to m k v
-  kept_at m k v e = kept m k ∙ ap (set_to m k) e
-
--- a phase that is stored
-pub there : (o : Option Phase) (x : Phase) → or_idle o ≡ x → x ≢ at.Idle → o ≢ None
-there o x e n is = n (sym e ∙ ap or_idle is)
-
-pub stored : (x : Phase) → x ≢ at.Idle → Some x ≡ unless_idle x
-stored at.Idle n = absurd (n refl)
-stored (at.Read n) _ = refl
-stored (at.Locked n) _ = refl
-stored (at.Made n) _ = refl
-stored (at.Joined n k) _ = refl
-stored (at.Leaving n) _ = refl
-stored (at.Cleared n) _ = refl
-
-pub there_by : (o : Option Phase) (x : Phase) → or_idle o ≡ x → is_some (unless_idle x) ≡ true → o ≢ None
-there_by o x e t n = true≢false (sym t ∙ ap (λ y. is_some (unless_idle y)) (sym e ∙ ap or_idle n))
 
 pub none_of : {A : Type 0} (o : Option A) → is_some o ≡ false → o ≡ None
 none_of None e = refl

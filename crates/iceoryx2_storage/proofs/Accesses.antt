@@ -1,6 +1,6 @@
 -- The own parts of accesses, from what was tested and done.
 use Rattle.std.proofs.Common.{◌≡◌, ℕ, ◌+◌, Bool, true, false, Option, Some, None, inl, inr, refl, sym, ap, subst, ◌∙◌}
-use Rattle.std.specs.Prelude.{Result, Ok, Err, is_some, nat_lt, ◌&&◌, ◌==◌, if◌then◌else◌}
+use Rattle.std.specs.Prelude.{Result, Ok, Err, nat_lt, ◌&&◌, ◌==◌, if◌then◌else◌}
 use Rattle.std.specs.FinMap as map
 use Rattle.iceoryx2_values.specs.declared.description.ServiceHash.{ServiceHash}
 use Rattle.iceoryx2_values.specs.Description.{Description}
@@ -49,10 +49,6 @@ module _ {A E : Type 0} where
 pub record There {A : Type 0} (o : Option A) : Type 0 where
   pub it : A
   pub is : o ≡ Some it
-
-pub some_of : {A : Type 0} (o : Option A) → is_some o ≡ true → There o
-some_of None e = absurd (cc)
-some_of (Some x) e = record { it = x; is = refl }
 
 -- who may not read what is published has read it before
 pub read_or_not : (i : ℕ) (h : ServiceHash) (b c : Book) (t : set.FinSet tag_cmp) (k : Tickets) (done : Bool) → TakesStep b (Node i) h act.Read done c → world_with c t k ≡ write (world_with b t k) i h (read_change (step_at b (Node i) h act.Read))

@@ -118,7 +118,3 @@ module _ {F E C : Type 0} (m : Meaning F E C) (i : ℕ) (h : ServiceHash) where
   accepted q p x r there good fits place room (call.no_number y is_y _ _ _ end) = absurd (omega (arith, end, room))
   accepted q p x r there good fits place room (call.opened y is_y _ _ _ _) = tt
   accepted q p x r there good fits place room (call.no_memory y is_y) = refl
-
-  -- The service that a create gave stands in the machine, with the factory's description and number.
-  pub created_there : (name : List ℕ) (now : Result Span ClockFault) (q p : Quiet) (r : Factory) → Creates m q i h name now (Ok r) p → service_at p h ≡ Some (created_by i r.description r.number)
-  created_there name now q p r (call.created fits gone runs room) = with_service_has q h (created_by i r.description q.counter)

@@ -115,9 +115,6 @@ module _ (i : ℕ) (h : ServiceHash) (n : ℕ) (b : List ℕ) (sg : Option Segme
         let f = head r in
         leads (fetch_there x _ _ (last (from (f.first.is ∙ ap (seat_after _) f.first.own.1) f.rest))) l
 
-    pub finds_something : {x : Phase} {t : Seat} → LooksThere x outcome.Nothing t → ⊥
-    finds_something l = elim l [ ]
-
 -- where only the phase of one node changed, and it counts as before
 module _ (i : ℕ) (h : ServiceHash) (w v : World) (q : Quiet) (a : Apart i h w v) (s : Shows w q) (x : QuietService) (is_there : service_at q h ≡ Some x) where
   pub was_there : IsThere h x (row_of w h) (segment_of w h) (λ j. phase_of w (Node j) h) (λ j. tag_of w j h)
