@@ -1,17 +1,17 @@
 -- The count of skipped steps, and which steps are never skipped.
-use Rattle.std.proofs.Common.{◌≡◌, ℕ, ◌+◌, ◌≤◌, true, false, List, refl, sym, ap, subst, ◌∙◌, inl, inr, arith}
-use Rattle.std.specs.Prelude.{nat_lt, if◌then◌else◌, unwrap_or, ◌⊎◌}
-use Rattle.std.proofs.lemmas.Bool.Decides.{nat_tests}
+use Rattle.std.proofs.Common.{◌≡◌, ℕ, ◌≤◌, false, List, refl, sym, ap, subst, ◌∙◌, inl, inr, arith}
+use Rattle.std.specs.Prelude.{unwrap_or, ◌⊎◌}
 use Rattle.iceoryx2_world.specs.declared.world.Phase.TheVariants as at
 use Rattle.iceoryx2_world.specs.declared.world.Participant.TheVariants.{Peer}
 use Rattle.iceoryx2_world.specs.World.{World, phase_of}
 use Rattle.iceoryx2_world.specs.Steps.{last_number}
+use Rattle.iceoryx2_access.specs.Counts.{one_more}
 use Rattle.iceoryx2_access.specs.Letter.{Letter}
 use Rattle.iceoryx2_access.specs.MayRefuse.{MayRefuse}
 use Rattle.iceoryx2_access.specs.Run.{Run}
 use Rattle.iceoryx2_batches.specs.declared.batches.Act.TheVariants as stored
 use Rattle.iceoryx2_batches.specs.declared.batches.Step.{Step}
-use Rattle.iceoryx2_batches.specs.Batches.{act_of, effect, needs_room, may_starve, one_more, IsPeerStep, forbidden, acts, starves}
+use Rattle.iceoryx2_batches.specs.Batches.{act_of, effect, needs_room, may_starve, IsPeerStep, forbidden, acts, starves}
 use Rattle.iceoryx2_batches.specs.Tables.{TableState, IsTableAccess}
 use Rattle.iceoryx2_batches.proofs.Runs as runs
 
@@ -20,10 +20,7 @@ abbrev pub IsCount : ℕ → ℕ → Type 0
 IsCount k n = (k ≤ n) × (n ≤ last_number)
 
 one_more_counts : (k n : ℕ) → IsCount k n → IsCount k (one_more n)
-one_more_counts k n c = elim (nat_lt n last_number) as (λ b. nat_lt n last_number ≡ b → IsCount k (if b then n + 1 else n)) [
-  | true ↦ λ e. (grind (arith, c.0), grind (arith, nat_tests, e))
-  | false ↦ λ e. c
-] refl
+one_more_counts k n c = (omega (arith, c.0, c.1), omega arith)
 
 step_counts : (k : ℕ) (s t : World × ℕ) (x : Step) → IsPeerStep s x t → IsCount k s.1 → IsCount k t.1
 step_counts k s t x (forbidden e is) c = subst (IsCount k) (sym (ap (λ p. p.1) is)) c

@@ -1,6 +1,5 @@
 -- A batch: steps of peers, one after the other, of which any may find no memory.
-use Rattle.std.specs.Prelude.{◌≡◌, ℕ, ◌+◌, Bool, true, false, nat_lt, if◌then◌else◌}
-use Rattle.std.specs.Prelude.{List, Option, Some, None, Result, Ok, Err}
+use Rattle.std.specs.Prelude.{◌≡◌, ℕ, Bool, true, false, List, Option, Some, None, Result, Ok, Err}
 use Rattle.std.specs.declared.alloc.AllocError.{AllocError}
 use Rattle.iceoryx2_world.specs.declared.world.Participant.TheVariants.{Peer}
 use Rattle.iceoryx2_world.specs.declared.world.Phase.{Phase}
@@ -8,7 +7,8 @@ use Rattle.iceoryx2_world.specs.declared.world.Phase.TheVariants as at
 use Rattle.iceoryx2_world.specs.World.{World, phase_of}
 use Rattle.iceoryx2_world.specs.Acts.{IsAct}
 use Rattle.iceoryx2_world.specs.Acts as act
-use Rattle.iceoryx2_world.specs.Steps.{world_after, last_number}
+use Rattle.iceoryx2_world.specs.Steps.{world_after}
+use Rattle.iceoryx2_access.specs.Counts.{one_more}
 use Rattle.iceoryx2_access.specs.Run.{Run}
 use Rattle.iceoryx2_batches.specs.declared.batches.Act.{Act}
 use Rattle.iceoryx2_batches.specs.declared.batches.Act.TheVariants as stored
@@ -41,10 +41,6 @@ needs_room _ _ = false
 -- whether the step may find no memory
 abbrev pub may_starve : World → Step → Bool
 may_starve w x = needs_room (act_of x.act) (phase_of w (Peer x.peer) x.hash)
-
--- the count of skipped steps stops at the last number
-abbrev pub one_more : ℕ → ℕ
-one_more k = if nat_lt k last_number then k + 1 else k
 
 -- the count after a step that answered this: one that found no memory is counted
 abbrev pub counted : Result Bool AllocError → ℕ → ℕ

@@ -1,12 +1,9 @@
 -- How often three of the accesses were asked for.
-use Rattle.std.specs.Prelude.{List, [], ◌∷◌, ℕ, ◌+◌, ◌-◌, ◌^◌, min}
+use Rattle.std.specs.Prelude.{List, [], ◌∷◌}
 use Rattle.iceoryx2_script.specs.declared.script.counters.Counters.{Counters}
 use Rattle.iceoryx2_access.specs.Letter.{Letter}
 use Rattle.iceoryx2_access.specs.Letter as letter
-
--- a count that stops at the last number
-abbrev pub one_more : ℕ → ℕ
-one_more n = min (n + 1) (2 ^ 64 - 1)
+use Rattle.iceoryx2_access.specs.Counts.{one_more}
 
 -- what an access makes of the counts
 abbrev pub counters_after : Letter → Counters → Counters

@@ -4,7 +4,8 @@ use Rattle.std.specs.List.{list_any}
 use Rattle.iceoryx2_access.specs.Letter.{Letter}
 use Rattle.iceoryx2_access.specs.MayRefuse.{IsFault}
 use Rattle.iceoryx2_script.specs.declared.script.counters.Counters.{Counters}
-use Rattle.iceoryx2_script.specs.Counters.{one_more, counters_after}
+use Rattle.iceoryx2_access.specs.Counts.{one_more}
+use Rattle.iceoryx2_script.specs.Counters.{counters_after}
 
 -- the storage inside, the numbers of the accesses that are refused, and how often was asked
 pub record FaultyState (S : Type 0) : Type 0 where

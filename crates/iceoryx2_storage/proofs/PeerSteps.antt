@@ -9,7 +9,8 @@ use Rattle.iceoryx2_world.specs.World.{Tickets}
 use Rattle.iceoryx2_world.specs.Acts.{IsAct}
 use Rattle.iceoryx2_world.specs.Steps.{put}
 use Rattle.iceoryx2_batches.specs.declared.batches.Step.{Step}
-use Rattle.iceoryx2_batches.specs.Batches.{act_of, IsPeerStep, forbidden, acts, starves, one_more, counted}
+use Rattle.iceoryx2_access.specs.Counts.{one_more}
+use Rattle.iceoryx2_batches.specs.Batches.{act_of, IsPeerStep, forbidden, acts, starves, counted}
 use Rattle.iceoryx2_book.specs.Book.{Book, TakesStep, MayTakeStep, world_with}
 
 module _ (t : set.FinSet tag_cmp) (k : Tickets) (n : ℕ) (b c : Book) (x : Step) where

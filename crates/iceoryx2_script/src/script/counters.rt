@@ -1,7 +1,7 @@
 //! How often a storage was asked.
 
 ghost use Rattle.std.specs.Prelude.{◌≡◌};
-ghost use Rattle.iceoryx2_script.specs.Counters.{one_more};
+ghost use Rattle.iceoryx2_access.specs.Counts.{one_more};
 
 /// How often three of the accesses were asked for. Each count stops at `u64::MAX`.
 #[derive(Clone, Copy, Debug, PartialEq, Eq)]

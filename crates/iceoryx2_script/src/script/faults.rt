@@ -1,7 +1,7 @@
 //! A storage that refuses chosen accesses of another.
 
 ghost use Rattle.std.specs.Prelude.{◌≡◌};
-ghost use Rattle.iceoryx2_script.specs.Counters.{one_more};
+ghost use Rattle.iceoryx2_access.specs.Counts.{one_more};
 ghost use Rattle.iceoryx2_script.specs.Faults.{is_refused};
 
 use super::counters::Counters;

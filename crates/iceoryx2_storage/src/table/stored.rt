@@ -91,12 +91,7 @@ fn count_after(taken: Result<bool, AllocError>, skipped: u64) -> u64
 {
     match taken {
         Ok(_) => skipped,
-        Err(_) => {
-            if skipped < u64::MAX {
-                return skipped + 1;
-            }
-            skipped
-        }
+        Err(_) => skipped.saturating_add(1),
     }
 }
 
