@@ -191,8 +191,8 @@ fn try_open<P: Pattern, S: Storage>(
 
 /// Opens the service of this hash, in at most six rounds.
 ///
-/// The attributes are required first, and then the settings as they are. The registration carries the description that was read
-/// and accepted in the round that opened.
+/// The attributes are required first, and then the settings as they are. The registration carries the
+/// description that was read and accepted in the round that opened.
 pub fn open<P: Pattern, S: Storage>(
     pattern: &P,
     node: u64,

@@ -7,10 +7,13 @@ use Rattle.iceoryx2_errors.specs.declared.error.publish_subscribe.PublishSubscri
 use Rattle.iceoryx2_errors.specs.declared.error.publish_subscribe.PublishSubscribeOpenOrCreateError.{PublishSubscribeOpenOrCreateError}
 use Rattle.iceoryx2_attributes.specs.Requirements.{Requirements}
 use Rattle.iceoryx2_values.specs.Span.{zero_span}
-use Rattle.iceoryx2_publish_subscribe_builder.specs.Request.{PublishSubscribeRequest, letter_of_publish_subscribe, message_for}
-use Rattle.iceoryx2_publish_subscribe_builder.specs.PublishSubscribe.{publish_subscribe_creating, publish_subscribe_opening}
+use Rattle.iceoryx2_publish_subscribe_builder.specs.Request.{PublishSubscribeRequest}
+use Rattle.iceoryx2_publish_subscribe_builder.specs.Request.{letter_of_publish_subscribe, message_for}
+use Rattle.iceoryx2_publish_subscribe_builder.specs.PublishSubscribe.{publish_subscribe_creating}
+use Rattle.iceoryx2_publish_subscribe_builder.specs.PublishSubscribe.{publish_subscribe_opening}
 use Rattle.iceoryx2_publish_subscribe_builder.specs.PublishSubscribe.{prepared_adjusted, prepared_meaning}
-use Rattle.iceoryx2_publish_subscribe_builder.specs.PublishSubscribe.{publish_subscribe_refusal, publish_subscribe_retried}
+use Rattle.iceoryx2_publish_subscribe_builder.specs.PublishSubscribe.{publish_subscribe_refusal}
+use Rattle.iceoryx2_publish_subscribe_builder.specs.PublishSubscribe.{publish_subscribe_retried}
 use Rattle.iceoryx2_publish_subscribe_builder.specs.declared.publish_subscribe.demand.PreparedDemand.{PreparedDemand}
 use Rattle.iceoryx2_commands.specs.declared.command.Refusal.TheVariants as refusal
 use Rattle.iceoryx2_session.specs.BuilderCalls.{BuilderCall, hash_for}

@@ -6,7 +6,8 @@ use Rattle.iceoryx2_errors.specs.declared.error.request_response.RequestResponse
 use Rattle.iceoryx2_errors.specs.declared.error.request_response.RequestResponseOpenOrCreateError.{RequestResponseOpenOrCreateError}
 use Rattle.iceoryx2_attributes.specs.Requirements.{Requirements}
 use Rattle.iceoryx2_values.specs.Span.{zero_span}
-use Rattle.iceoryx2_request_response_builder.specs.Request.{RequestResponseRequest, Messages, letter_of_request_response, messages_for}
+use Rattle.iceoryx2_request_response_builder.specs.Request.{RequestResponseRequest, Messages}
+use Rattle.iceoryx2_request_response_builder.specs.Request.{letter_of_request_response, messages_for}
 use Rattle.iceoryx2_request_response_builder.specs.RequestResponse.{request_response_creating, request_response_opening}
 use Rattle.iceoryx2_request_response_builder.specs.RequestResponse.{prepared_adjusted, prepared_meaning}
 use Rattle.iceoryx2_request_response_builder.specs.RequestResponse.{request_response_refusal, request_response_retried}
