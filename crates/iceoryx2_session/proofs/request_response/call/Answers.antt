@@ -3,30 +3,48 @@ use Rattle.iceoryx2_session.proofs.request_response.call.Goals as goal
 
 pub returns-in-Ok : goal.returns-in-Ok
 returns-in-Ok c =
-    rw c.in-Create.is (Ok c.in-Ok.factory, ap Ok c.into_registration.ensures.value,
-    rw (c.with_settings-builder.ensures, c.from-specifier.ensures, c.into_required_attributes.ensures, c.in-Ok.is) at c.create_with_attributes.ensures)
+    rw c.in-Create.is (
+      Ok c.in-Ok.factory,
+      ap Ok c.into_registration.ensures.value,
+      rw (c.with_settings-builder.ensures, c.from-specifier.ensures, c.into_required_attributes.ensures, c.in-Ok.is) at c.create_with_attributes.ensures,
+    )
 
 pub returns-in-Create : goal.returns-in-Create
 returns-in-Create c =
-    rw c.in-Create.is (Err c.in-Err.error, refl,
-    rw (c.with_settings-builder.ensures, c.from-specifier.ensures, c.into_required_attributes.ensures, c.in-Err.is) at c.create_with_attributes.ensures)
+    rw c.in-Create.is (
+      Err c.in-Err.error,
+      refl,
+      rw (c.with_settings-builder.ensures, c.from-specifier.ensures, c.into_required_attributes.ensures, c.in-Err.is) at c.create_with_attributes.ensures,
+    )
 
 pub returns-in-Ok-open_with_attributes : goal.returns-in-Ok-open_with_attributes
 returns-in-Ok-open_with_attributes c =
-    rw c.in-Open.is (Ok c.in-Ok-open_with_attributes.factory, ap Ok c.into_registration-in-Ok-open_with_attributes.ensures.value,
-    rw (c.with_settings-builder.ensures, c.in-Ok-open_with_attributes.is) at c.open_with_attributes.ensures)
+    rw c.in-Open.is (
+      Ok c.in-Ok-open_with_attributes.factory,
+      ap Ok c.into_registration-in-Ok-open_with_attributes.ensures.value,
+      rw (c.with_settings-builder.ensures, c.in-Ok-open_with_attributes.is) at c.open_with_attributes.ensures,
+    )
 
 pub returns-in-Open : goal.returns-in-Open
 returns-in-Open c =
-    rw c.in-Open.is (Err c.in-Err-open_with_attributes.error, refl,
-    rw (c.with_settings-builder.ensures, c.in-Err-open_with_attributes.is) at c.open_with_attributes.ensures)
+    rw c.in-Open.is (
+      Err c.in-Err-open_with_attributes.error,
+      refl,
+      rw (c.with_settings-builder.ensures, c.in-Err-open_with_attributes.is) at c.open_with_attributes.ensures,
+    )
 
 pub returns-in-Ok-open_or_create_with_attributes : goal.returns-in-Ok-open_or_create_with_attributes
 returns-in-Ok-open_or_create_with_attributes c =
-    rw c.in-OpenOrCreate.is (Ok c.in-Ok-open_or_create_with_attributes.factory, ap Ok c.into_registration-in-Ok-open_or_create_with_attributes.ensures.value,
-    rw (c.with_settings-builder.ensures, c.in-Ok-open_or_create_with_attributes.is) at c.open_or_create_with_attributes.ensures)
+    rw c.in-OpenOrCreate.is (
+      Ok c.in-Ok-open_or_create_with_attributes.factory,
+      ap Ok c.into_registration-in-Ok-open_or_create_with_attributes.ensures.value,
+      rw (c.with_settings-builder.ensures, c.in-Ok-open_or_create_with_attributes.is) at c.open_or_create_with_attributes.ensures,
+    )
 
 pub returns : goal.returns
 returns c =
-    rw c.in-OpenOrCreate.is (Err c.in-Err-open_or_create_with_attributes.error, refl,
-    rw (c.with_settings-builder.ensures, c.in-Err-open_or_create_with_attributes.is) at c.open_or_create_with_attributes.ensures)
+    rw c.in-OpenOrCreate.is (
+      Err c.in-Err-open_or_create_with_attributes.error,
+      refl,
+      rw (c.with_settings-builder.ensures, c.in-Err-open_or_create_with_attributes.is) at c.open_or_create_with_attributes.ensures,
+    )
