@@ -22,12 +22,22 @@ use std::marker::Model;
 /// A storage within one process: what stands for each service, where each participant is with
 /// it, the nodes' tags and tickets, and a counter for numbers. Steps of peers may wait at it in
 /// batches: before each of the twelve accesses the next batch runs, step by step.
-#[derive(Drop)]
 pub struct Table {
     world: StoredWorld,
     // the batches, the next one last, so that none is moved when it runs
     waiting: Vec<Vec<Step>>,
     skipped: u64,
+}
+
+// Written out, so that a proof of what lets one go doesn't take its fields apart.
+impl Drop for Table {
+    fn drop(self) {
+        let Table {
+            world: _,
+            waiting: _,
+            skipped: _,
+        } = self;
+    }
 }
 
 impl Model for Table {

@@ -9,9 +9,16 @@ use std::alloc::Global;
 use std::marker::Model;
 
 /// The attributes that a service is to be created with.
-#[derive(Debug, Drop)]
+#[derive(Debug)]
 pub struct AttributeSpecifier {
     set: AttributeSet,
+}
+
+// Written out, so that a proof of what lets one go doesn't take its fields apart.
+impl Drop for AttributeSpecifier {
+    fn drop(self) {
+        let AttributeSpecifier { set: _ } = self;
+    }
 }
 
 impl Model for AttributeSpecifier {
@@ -57,7 +64,7 @@ impl AttributeSpecifier {
         ensures value { result ≡ self }
         ensures limits { AreAttributes result }
     {
-        let set = self.set;
+        let AttributeSpecifier { set } = self;
         let _pairs = set.pairs();
         set
     }

@@ -13,10 +13,17 @@ use std::alloc::{AllocError, Global};
 use std::marker::Model;
 
 /// The pairs that a service has to have, and the keys that it has to have with any value.
-#[derive(Debug, Drop)]
+#[derive(Debug)]
 pub struct AttributeVerifier {
     pairs: AttributeSet,
     keys: KeyList,
+}
+
+// Written out, so that a proof of what lets one go doesn't take its fields apart.
+impl Drop for AttributeVerifier {
+    fn drop(self) {
+        let AttributeVerifier { pairs: _, keys: _ } = self;
+    }
 }
 
 impl Model for AttributeVerifier {
@@ -73,7 +80,8 @@ impl AttributeVerifier {
     pub fn into_required_attributes(self) -> AttributeSet
         ensures { result ≡ self.pairs }
     {
-        self.pairs
+        let AttributeVerifier { pairs, keys: _ } = self;
+        pairs
     }
 
     /// The required keys, ascending by their bytes.

@@ -79,12 +79,24 @@ impl Clone for TypeName {
 
 /// What is told of a type: whether a message holds one value or a number of them, and the name, the
 /// size and the alignment of one.
-#[derive(Debug, Drop, PartialEq, Eq)]
+#[derive(Debug, PartialEq, Eq)]
 pub struct TypeDetail {
     variant: TypeVariant,
     type_name: TypeName,
     size: u64,
     alignment: Alignment,
+}
+
+// Written out, so that a proof of what lets one go doesn't take its fields apart.
+impl Drop for TypeDetail {
+    fn drop(self) {
+        let TypeDetail {
+            variant: _,
+            type_name: _,
+            size: _,
+            alignment: _,
+        } = self;
+    }
 }
 
 impl Model for TypeDetail {
@@ -216,7 +228,13 @@ impl TypeDetail {
         if asked.value() <= own {
             return self;
         }
-        TypeDetail::from_parts(self.variant, self.type_name, self.size, asked)
+        let TypeDetail {
+            variant,
+            type_name,
+            size,
+            alignment: _,
+        } = self;
+        TypeDetail::from_parts(variant, type_name, size, asked)
     }
 
     /// Whether they are the same in all fields.

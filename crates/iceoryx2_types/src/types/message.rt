@@ -10,11 +10,22 @@ use std::alloc::{AllocError, Global};
 use std::marker::Model;
 
 /// The types of a message: of its header, of its user header and of its payload.
-#[derive(Debug, Drop, PartialEq, Eq)]
+#[derive(Debug, PartialEq, Eq)]
 pub struct MessageTypeDetails {
     header: TypeDetail,
     user_header: TypeDetail,
     payload: TypeDetail,
+}
+
+// Written out, so that a proof of what lets one go doesn't take its fields apart.
+impl Drop for MessageTypeDetails {
+    fn drop(self) {
+        let MessageTypeDetails {
+            header: _,
+            user_header: _,
+            payload: _,
+        } = self;
+    }
 }
 
 impl Model for MessageTypeDetails {
@@ -81,9 +92,14 @@ impl MessageTypeDetails {
         ensures value { result ≡ prepared_from self user_header payload alignment }
         ensures limits { IsMessage result }
     {
-        let user_header = user_header.unwrap_or(self.user_header);
-        let payload = payload.unwrap_or(self.payload).aligned(alignment);
-        MessageTypeDetails::new(self.header, user_header, payload)
+        let MessageTypeDetails {
+            header,
+            user_header: own_user_header,
+            payload: own_payload,
+        } = self;
+        let user_header = user_header.unwrap_or(own_user_header);
+        let payload = payload.unwrap_or(own_payload).aligned(alignment);
+        MessageTypeDetails::new(header, user_header, payload)
     }
 
     /// The header's type.
