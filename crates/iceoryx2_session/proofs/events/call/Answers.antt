@@ -1,21 +1,12 @@
-use Rattle.std.proofs.Common.{Ok, Err, refl, ap}
+use Rattle.std.proofs.Common.{Ok, Err, refl, ap, rules}
 use Rattle.iceoryx2_session.proofs.events.call.Goals as goal
 
+-- A create's answers name no call, so that a body without it is refused on what it answers.
 pub returns-in-Ok : goal.returns-in-Ok
-returns-in-Ok c =
-    rw c.in-Create.is (
-      Ok c.in-Ok.factory,
-      ap Ok c.into_registration.ensures.value,
-      rw (c.with_settings-builder.ensures, c.from-specifier.ensures, c.into_required_attributes.ensures, c.in-Ok.is) at c.create_with_attributes.ensures,
-    )
+returns-in-Ok c = search rules
 
 pub returns-in-Create : goal.returns-in-Create
-returns-in-Create c =
-    rw c.in-Create.is (
-      Err c.in-Err.error,
-      refl,
-      rw (c.with_settings-builder.ensures, c.from-specifier.ensures, c.into_required_attributes.ensures, c.in-Err.is) at c.create_with_attributes.ensures,
-    )
+returns-in-Create c = search rules
 
 pub returns-in-Ok-open_with_attributes : goal.returns-in-Ok-open_with_attributes
 returns-in-Ok-open_with_attributes c =
