@@ -60,6 +60,6 @@ service_of (OpenSegment i h n a) = h
 service_of (Release t i h n a) = h
 
 -- a fetch's answer, with its bytes as a list
-abbrev pub fetched : {A : Type 0} → Result (ℕ × Vec ℕ A) FetchError → Result (ℕ × List ℕ) FetchError
-fetched (Ok p) = Ok (p.0, p.1.items)
-fetched (Err e) = Err e
+abbrev pub fetch_answer : {A : Type 0} → Result (ℕ × Vec ℕ A) FetchError → Result (ℕ × List ℕ) FetchError
+fetch_answer (Ok p) = Ok (p.0, p.1.items)
+fetch_answer (Err e) = Err e

@@ -1,7 +1,7 @@
 //! What a builder calls of a storage, and what it may answer.
 
 ghost use Rattle.std.specs.Prelude.{◌≡◌, ◌∷◌, ℕ, List};
-ghost use Rattle.iceoryx2_access.specs.Letter.{Letter, fetched};
+ghost use Rattle.iceoryx2_access.specs.Letter.{Letter, fetch_answer};
 ghost use Rattle.iceoryx2_access.specs.Letter as letter;
 ghost use Rattle.sha1.specs.Sha1.{sha1};
 
@@ -135,7 +135,7 @@ pub trait Storage {
 
     /// The service's number, and its description's bytes.
     fn fetch(&mut self, node: u64, hash: &ServiceHash) -> Result<(u64, Vec<u8>), FetchError>
-        ensures { step self.old (letter.Fetch node hash.now (fetched result)) self.new };
+        ensures { step self.old (letter.Fetch node hash.now (fetch_answer result)) self.new };
 
     /// Whether the node is registered at the service already.
     fn counts(&mut self, node: u64, hash: &ServiceHash) -> bool

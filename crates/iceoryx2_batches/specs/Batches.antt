@@ -43,9 +43,9 @@ abbrev pub may_starve : World → Step → Bool
 may_starve w x = needs_room (act_of x.act) (phase_of w (Peer x.peer) x.hash)
 
 -- the count after a step that answered this: one that found no memory is counted
-abbrev pub counted : Result Bool AllocError → ℕ → ℕ
-counted (Ok done) k = k
-counted (Err e) k = one_more k
+abbrev pub skipped_after : Result Bool AllocError → ℕ → ℕ
+skipped_after (Ok done) k = k
+skipped_after (Err e) k = one_more k
 
 -- A step of a batch, with the world and the count of skipped steps before and after.
 pub data IsPeerStep (s : World × ℕ) (x : Step) (t : World × ℕ) : Type 0 where

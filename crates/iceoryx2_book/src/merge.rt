@@ -38,7 +38,7 @@ fn push(
 {
     let row = listed_row(row)?;
     let segment = match segment {
-        Some(segment) => Some(segment.listed()),
+        Some(segment) => Some(segment.to_listed()),
         None => None,
     };
     let entry = Entry {
@@ -92,7 +92,7 @@ fn push_next(
 }
 
 /// The rows and the segments, each hash once, in ascending order.
-pub fn merged(
+pub fn merge_entries(
     alloc: Global,
     rows: &[(ServiceHash, Row)],
     segments: &[(ServiceHash, StoredSegment)],

@@ -115,7 +115,7 @@ impl StoredSegment {
     }
 
     /// The segment as it is listed.
-    pub fn listed(&self) -> ListedSegment
+    pub fn to_listed(&self) -> ListedSegment
         ensures { result ≡ listed_segment self.now }
     {
         ListedSegment {

@@ -15,7 +15,7 @@ ghost use Rattle.iceoryx2_world.specs.Listing.{ListsAll};
 ghost use Rattle.iceoryx2_book.specs.Book.{TakesLeave, MayTakeStep, TakesDescription, TakesSegment, TakesStep};
 ghost use Rattle.iceoryx2_book.specs.Book.{position_in, published_number, segment_fits};
 
-use crate::merge::merged;
+use crate::merge::merge_entries;
 use crate::segments::StoredSegment;
 use iceoryx2_access::storage::{OpenSegmentError, Release};
 use iceoryx2_data::bytes::encode;
@@ -147,7 +147,7 @@ impl Services {
     pub fn list(&self) -> Result<Vec<Entry>, AllocError>
         ensures { IfOk result (λ entries. ListsAll self.now.rows self.now.segments entries.items) }
     {
-        merged(
+        merge_entries(
             self.rows.allocator(),
             self.rows.entries(),
             self.segments.entries(),

@@ -1,6 +1,6 @@
 -- What a builder asks of a message's types, whatever its pattern.
 use Rattle.std.specs.Prelude.{None}
-use Rattle.iceoryx2_types.specs.Types.{Detail, Message, message_of, prepared, with_variant}
+use Rattle.iceoryx2_types.specs.Types.{Detail, Message, message_of, with_overrides, with_variant}
 use Rattle.iceoryx2_types.specs.declared.types.TypeVariant.TheVariants.{FixedSize}
 use Rattle.iceoryx2_builder_base.specs.declared.requested.RequestedTypes.{RequestedTypes}
 
@@ -12,5 +12,5 @@ no_types = record { user_header = None; payload = None; alignment = None }
 -- aligned.
 abbrev pub requested_message : (header payload user_header : Detail) → RequestedTypes → Message
 requested_message header payload user_header types =
-    prepared (message_of (with_variant header FixedSize) (with_variant user_header FixedSize) payload)
+    with_overrides (message_of (with_variant header FixedSize) (with_variant user_header FixedSize) payload)
     types.user_header types.payload types.alignment

@@ -7,7 +7,7 @@ use iceoryx2_port_factory::port_factory::Registration;
 use iceoryx2_port_factory::port_factory::factory::{Kind, PortFactory};
 
 /// The factory of what a call registered at a service of the pattern, or the call's refusal.
-pub fn granted<S: Service, K: Kind, E>(
+pub fn hand_out<S: Service, K: Kind, E>(
     answer: Result<Registration, E>,
 ) -> Result<PortFactory<S, K>, E>
     requires { IfOk answer (λ registration. K.is_of registration.description.pattern ≡ true) }

@@ -64,6 +64,6 @@ impl RequestedTypes {
         ensures { IfOk result (λ message. message ≡ requested_message H.detail P.detail U.detail self) }
     {
         let own = MessageTypeDetails::from::<H, U, P>(alloc, P::variant())?;
-        Ok(own.prepared(self.user_header, self.payload, self.alignment))
+        Ok(own.with_overrides(self.user_header, self.payload, self.alignment))
     }
 }

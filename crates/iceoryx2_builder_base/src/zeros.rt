@@ -4,7 +4,7 @@ ghost use Rattle.std.specs.Prelude.{◌≡◌};
 ghost use Rattle.iceoryx2_builder_base.specs.Zeros.{at_least_one};
 
 /// Zero becomes one.
-pub fn raised(value: u64) -> u64
+pub fn raise_zero(value: u64) -> u64
     ensures { result ≡ at_least_one value }
 {
     if value == 0 { 1 } else { value }

@@ -30,7 +30,7 @@ use crate::event::demand::{EventDemand, open_or_create_error};
 pub use crate::event::setting::EventSetting;
 use iceoryx2_access::storage::Service;
 use iceoryx2_attributes::attribute::{AttributeSpecifier, AttributeVerifier};
-use iceoryx2_builder_base::answer::granted;
+use iceoryx2_builder_base::answer::hand_out;
 use iceoryx2_builder_base::base::BuilderWithServiceType;
 pub use iceoryx2_errors::error::{EventCreateError, EventOpenError, EventOpenOrCreateError};
 use iceoryx2_open_or_create::open_or_create::open_or_create;
@@ -257,7 +257,7 @@ impl<S: Service> Builder<S> {
         let attributes = specifier.attributes();
         let node = base.node();
         let name = base.name();
-        granted(create(&mut demand, node, &hash, name, attributes, now, storage))
+        hand_out(create(&mut demand, node, &hash, name, attributes, now, storage))
     }
 
     /// Opens the service, whatever its attributes: `open_with_attributes` of a verifier that
@@ -295,7 +295,7 @@ impl<S: Service> Builder<S> {
     {
         let Builder { base, demand } = self;
         let hash = base.hash(LETTER);
-        granted(open(&demand, base.node(), &hash, verifier, storage))
+        hand_out(open(&demand, base.node(), &hash, verifier, storage))
     }
 
     /// Opens the service, or creates it where there is none, whatever its attributes:

@@ -28,7 +28,7 @@ use crate::publish_subscribe::demand::{
 pub use crate::publish_subscribe::setting::PublishSubscribeSetting;
 use iceoryx2_access::storage::Service;
 use iceoryx2_attributes::attribute::{AttributeSpecifier, AttributeVerifier};
-use iceoryx2_builder_base::answer::granted;
+use iceoryx2_builder_base::answer::hand_out;
 use iceoryx2_builder_base::base::BuilderWithServiceType;
 use iceoryx2_builder_base::requested::RequestedTypes;
 pub use iceoryx2_errors::error::{
@@ -147,7 +147,7 @@ impl<S: Service> Builder<Slice<CustomPayloadMarker>, CustomHeaderMarker, S> {
     pub fn with(self, setting: PublishSubscribeSetting) -> Self
         ensures { result ≡ with_setting self setting }
     {
-        self.told(setting)
+        self.set(setting)
     }
 }
 
@@ -156,7 +156,7 @@ impl<U: ZeroCopySend, S: Service> Builder<Slice<CustomPayloadMarker>, U, S> {
     pub fn internal_set_payload_type_details(self, value: TypeDetail) -> Self
         ensures { result ≡ with_setting self (PublishSubscribeSetting.PayloadType value) }
     {
-        self.told(PublishSubscribeSetting::PayloadType(value))
+        self.set(PublishSubscribeSetting::PayloadType(value))
     }
 }
 
@@ -165,7 +165,7 @@ impl<P: ZeroCopySend, S: Service> Builder<P, CustomHeaderMarker, S> {
     pub fn internal_set_user_header_type_details(self, value: TypeDetail) -> Self
         ensures { result ≡ with_setting self (PublishSubscribeSetting.UserHeaderType value) }
     {
-        self.told(PublishSubscribeSetting::UserHeaderType(value))
+        self.set(PublishSubscribeSetting::UserHeaderType(value))
     }
 }
 
@@ -187,7 +187,7 @@ impl<P: ZeroCopySend, U: ZeroCopySend, S: Service> Builder<P, U, S> {
     }
 
     /// Carries out one setter, whatever the types are: sets the value, and marks a setting.
-    fn told(mut self, setting: PublishSubscribeSetting) -> Self
+    fn set(mut self, setting: PublishSubscribeSetting) -> Self
         ensures { result ≡ with_setting self setting }
     {
         match setting {
@@ -230,21 +230,21 @@ impl<P: ZeroCopySend, U: ZeroCopySend, S: Service> Builder<P, U, S> {
     pub fn max_publishers(self, value: u64) -> Self
         ensures { result ≡ with_setting self (PublishSubscribeSetting.MaxPublishers value) }
     {
-        self.told(PublishSubscribeSetting::MaxPublishers(value))
+        self.set(PublishSubscribeSetting::MaxPublishers(value))
     }
 
     /// For how many subscribers the service is. Zero is one in a create.
     pub fn max_subscribers(self, value: u64) -> Self
         ensures { result ≡ with_setting self (PublishSubscribeSetting.MaxSubscribers value) }
     {
-        self.told(PublishSubscribeSetting::MaxSubscribers(value))
+        self.set(PublishSubscribeSetting::MaxSubscribers(value))
     }
 
     /// How many samples a subscriber's buffer has room for. Zero is one in a create.
     pub fn subscriber_max_buffer_size(self, value: u64) -> Self
         ensures { result ≡ with_setting self (PublishSubscribeSetting.SubscriberMaxBufferSize value) }
     {
-        self.told(PublishSubscribeSetting::SubscriberMaxBufferSize(value))
+        self.set(PublishSubscribeSetting::SubscriberMaxBufferSize(value))
     }
 
     /// How many of the last samples a subscriber gets that comes later. Without safe overflow its
@@ -252,14 +252,14 @@ impl<P: ZeroCopySend, U: ZeroCopySend, S: Service> Builder<P, U, S> {
     pub fn history_size(self, value: u64) -> Self
         ensures { result ≡ with_setting self (PublishSubscribeSetting.HistorySize value) }
     {
-        self.told(PublishSubscribeSetting::HistorySize(value))
+        self.set(PublishSubscribeSetting::HistorySize(value))
     }
 
     /// How many samples a subscriber may borrow at one time. Zero is one in a create.
     pub fn subscriber_max_borrowed_samples(self, value: u64) -> Self
         ensures { result ≡ with_setting self (PublishSubscribeSetting.SubscriberMaxBorrowedSamples value) }
     {
-        self.told(PublishSubscribeSetting::SubscriberMaxBorrowedSamples(value))
+        self.set(PublishSubscribeSetting::SubscriberMaxBorrowedSamples(value))
     }
 
     /// Whether a full buffer's oldest sample gives way to a new one. An existing service has to do
@@ -267,14 +267,14 @@ impl<P: ZeroCopySend, U: ZeroCopySend, S: Service> Builder<P, U, S> {
     pub fn enable_safe_overflow(self, value: bool) -> Self
         ensures { result ≡ with_setting self (PublishSubscribeSetting.EnableSafeOverflow value) }
     {
-        self.told(PublishSubscribeSetting::EnableSafeOverflow(value))
+        self.set(PublishSubscribeSetting::EnableSafeOverflow(value))
     }
 
     /// For how many nodes the service is. Zero is one in a create.
     pub fn max_nodes(self, value: u64) -> Self
         ensures { result ≡ with_setting self (PublishSubscribeSetting.MaxNodes value) }
     {
-        self.told(PublishSubscribeSetting::MaxNodes(value))
+        self.set(PublishSubscribeSetting::MaxNodes(value))
     }
 
     /// How far the payload is aligned at least, in bytes; it stays aligned as far as its type says.
@@ -282,7 +282,7 @@ impl<P: ZeroCopySend, U: ZeroCopySend, S: Service> Builder<P, U, S> {
     pub fn payload_alignment(self, value: Alignment) -> Self
         ensures { result ≡ with_setting self (PublishSubscribeSetting.PayloadAlignment value) }
     {
-        self.told(PublishSubscribeSetting::PayloadAlignment(value))
+        self.set(PublishSubscribeSetting::PayloadAlignment(value))
     }
 
     /// The same builder for messages with another user header.
@@ -301,7 +301,7 @@ impl<P: ZeroCopySend, U: ZeroCopySend, S: Service> Builder<P, U, S> {
 
     /// What every builder keeps, and what a call of this one asks, with its types made. `AllocError`
     /// where there was no memory for their names.
-    fn prepared(self) -> Result<(BuilderWithServiceType<S>, PreparedDemand), AllocError>
+    fn into_prepared(self) -> Result<(BuilderWithServiceType<S>, PreparedDemand), AllocError>
         ensures { let message = message_for P.detail U.detail self.types in
             IfOk result (λ made. (made.0 ≡ record { node = self.node; name = self.name })
             × (made.1 ≡ record { demand = self.demand; message = message })) }
@@ -354,7 +354,7 @@ impl<P: ZeroCopySend, U: ZeroCopySend, S: Service> Builder<P, U, S> {
             (S.ServiceNameHasher.hash_of letter_of_publish_subscribe self.name) self.name (Ok zero_span) word result)
             storage.new }
     {
-        let Ok((base, mut asked)) = self.prepared() else {
+        let Ok((base, mut asked)) = self.into_prepared() else {
             return Err(PublishSubscribeCreateError::OutOfMemory);
         };
         let hash = base.hash(LETTER);
@@ -362,7 +362,7 @@ impl<P: ZeroCopySend, U: ZeroCopySend, S: Service> Builder<P, U, S> {
         let node = base.node();
         let name = base.name();
         let now = Ok(Time::default());
-        granted(create(&mut asked, node, &hash, name, attributes, now, storage))
+        hand_out(create(&mut asked, node, &hash, name, attributes, now, storage))
     }
 
     /// Opens the service, whatever its attributes: `open_with_attributes` of a verifier that
@@ -405,11 +405,11 @@ impl<P: ZeroCopySend, U: ZeroCopySend, S: Service> Builder<P, U, S> {
             (S.ServiceNameHasher.hash_of letter_of_publish_subscribe self.name) word result)
             storage.new }
     {
-        let Ok((base, asked)) = self.prepared() else {
+        let Ok((base, asked)) = self.into_prepared() else {
             return Err(PublishSubscribeOpenError::OutOfMemory);
         };
         let hash = base.hash(LETTER);
-        granted(open(&asked, base.node(), &hash, verifier, storage))
+        hand_out(open(&asked, base.node(), &hash, verifier, storage))
     }
 
     /// Opens the service, or creates it where there is none, whatever its attributes:
@@ -454,7 +454,7 @@ impl<P: ZeroCopySend, U: ZeroCopySend, S: Service> Builder<P, U, S> {
             asked word (map_err publish_subscribe_refusal result))
             storage.new }
     {
-        let Ok((base, mut asked)) = self.prepared() else {
+        let Ok((base, mut asked)) = self.into_prepared() else {
             return Err(
                 PublishSubscribeOpenOrCreateError::PublishSubscribeOpenError(
                     PublishSubscribeOpenError::OutOfMemory,

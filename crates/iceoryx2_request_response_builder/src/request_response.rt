@@ -31,7 +31,7 @@ pub use crate::request_response::setting::RequestResponseSetting;
 use crate::request_response::setting::RequestResponseSetting as Set;
 use iceoryx2_access::storage::Service;
 use iceoryx2_attributes::attribute::{AttributeSpecifier, AttributeVerifier};
-use iceoryx2_builder_base::answer::granted;
+use iceoryx2_builder_base::answer::hand_out;
 use iceoryx2_builder_base::base::BuilderWithServiceType;
 pub use iceoryx2_errors::error::{
     RequestResponseCreateError, RequestResponseOpenError, RequestResponseOpenOrCreateError,
@@ -379,7 +379,7 @@ impl<Q: ZeroCopySend, QU: ZeroCopySend, R: ZeroCopySend, RU: ZeroCopySend, S: Se
 
     /// What every builder keeps, and what a call of this one asks, with its types made. `AllocError`
     /// where there was no memory for their names.
-    fn prepared(self) -> Result<(BuilderWithServiceType<S>, PreparedDemand), AllocError>
+    fn into_prepared(self) -> Result<(BuilderWithServiceType<S>, PreparedDemand), AllocError>
         ensures { let messages = messages_for Q.detail QU.detail R.detail RU.detail self.types in
             IfOk result (λ made. (made.0 ≡ record { node = self.node; name = self.name })
             × (made.1 ≡ asked_with self.demand messages)) }
@@ -432,7 +432,7 @@ impl<Q: ZeroCopySend, QU: ZeroCopySend, R: ZeroCopySend, RU: ZeroCopySend, S: Se
             (S.ServiceNameHasher.hash_of letter_of_request_response self.name) self.name (Ok zero_span) word result)
             storage.new }
     {
-        let Ok((base, mut asked)) = self.prepared() else {
+        let Ok((base, mut asked)) = self.into_prepared() else {
             return Err(RequestResponseCreateError::OutOfMemory);
         };
         let hash = base.hash(LETTER);
@@ -440,7 +440,7 @@ impl<Q: ZeroCopySend, QU: ZeroCopySend, R: ZeroCopySend, RU: ZeroCopySend, S: Se
         let node = base.node();
         let name = base.name();
         let now = Ok(Time::default());
-        granted(create(&mut asked, node, &hash, name, attributes, now, storage))
+        hand_out(create(&mut asked, node, &hash, name, attributes, now, storage))
     }
 
     /// Opens the service, whatever its attributes: `open_with_attributes` of a verifier that
@@ -486,11 +486,11 @@ impl<Q: ZeroCopySend, QU: ZeroCopySend, R: ZeroCopySend, RU: ZeroCopySend, S: Se
             (S.ServiceNameHasher.hash_of letter_of_request_response self.name) word result)
             storage.new }
     {
-        let Ok((base, asked)) = self.prepared() else {
+        let Ok((base, asked)) = self.into_prepared() else {
             return Err(RequestResponseOpenError::OutOfMemory);
         };
         let hash = base.hash(LETTER);
-        granted(open(&asked, base.node(), &hash, verifier, storage))
+        hand_out(open(&asked, base.node(), &hash, verifier, storage))
     }
 
     /// Opens the service, or creates it where there is none, whatever its attributes:
@@ -533,7 +533,7 @@ impl<Q: ZeroCopySend, QU: ZeroCopySend, R: ZeroCopySend, RU: ZeroCopySend, S: Se
             (asked_with self.demand messages) word (map_err request_response_refusal result))
             storage.new }
     {
-        let Ok((base, mut asked)) = self.prepared() else {
+        let Ok((base, mut asked)) = self.into_prepared() else {
             return Err(RequestResponseOpenOrCreateError::RequestResponseOpenError(
                 RequestResponseOpenError::OutOfMemory,
             ));

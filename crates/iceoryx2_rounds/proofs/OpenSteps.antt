@@ -13,7 +13,7 @@ use Rattle.iceoryx2_rounds.specs.declared.look.Outcome.TheVariants.{Found}
 use Rattle.iceoryx2_rounds.specs.Looks.{IsLookWord}
 use Rattle.iceoryx2_rounds.specs.Refusals.{of_opening, of_tag_opening}
 use Rattle.iceoryx2_rounds.specs.Opens.{IsReady, IsSecondLook, second_faulty, second_none, second_found, IsLastRound, IsFailedRound, ready, no_tag, not_opened, opened, then_faulty, then_none, failed}
-use Rattle.iceoryx2_rounds.specs.Opens.{IsTaggedOpening, untagged, got, refused, looked, again, IsRestOfRound, registered, not_accepted}
+use Rattle.iceoryx2_rounds.specs.Opens.{IsTaggedOpening, untagged, got, refused, looked, again, IsRestOfRound, round_registration, not_accepted}
 
 -- only a failed opening is no refusal
 pub only_failed : (e : OpenSegmentError) → of_opening e ≡ None → e ≡ segment.Failed
@@ -54,7 +54,7 @@ behind u tag letter v = append_assoc u (tag ∷ []) (letter ∷ v)
 
 module _ {F E C : Type 0} {m : Meaning F E C} {node : ℕ} {hash : ServiceHash} {n : ℕ} {d : Description} where
   pub round_of : {v : List Letter} {answer : Option (Result ℕ E)} → verdict (m.requirement d) ≡ Ok tt → IsTaggedOpening m node hash n answer v
-      → IsRestOfRound m node hash n d v (registered node n d answer)
+      → IsRestOfRound m node hash n d v (round_registration node n d answer)
   round_of accepted (untagged e) u look = no_tag e look accepted
   round_of accepted (got t tag) u look =
       rw (← behind u (MakeTag node hash (Ok tag)) (OpenSegment node hash n (Ok t)) []) (opened t (ready tag look accepted))

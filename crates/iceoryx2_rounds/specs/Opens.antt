@@ -109,8 +109,8 @@ module _ {F E C : Type 0} (m : Meaning F E C) (node : ℕ) (hash : ServiceHash) 
       (u : List Letter) → IsLookWord m node hash u (Found n d) → IsRound (u ++ word) answer
 
 -- The same answer with what the node holds in place of its ticket.
-abbrev pub registered : {E : Type 0} → ℕ → ℕ → Description → Option (Result ℕ E)
+abbrev pub round_registration : {E : Type 0} → ℕ → ℕ → Description → Option (Result ℕ E)
     → Option (Result Factory E)
-registered node n d None = None
-registered node n d (Some (Err error)) = Some (Err error)
-registered node n d (Some (Ok t)) = Some (Ok (record { node = node; number = n; ticket = t; description = d }))
+round_registration node n d None = None
+round_registration node n d (Some (Err error)) = Some (Err error)
+round_registration node n d (Some (Ok t)) = Some (Ok (record { node = node; number = n; ticket = t; description = d }))

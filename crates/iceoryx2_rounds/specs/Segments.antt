@@ -16,15 +16,15 @@ module _ (node : ℕ) (hash : ServiceHash) (number max_nodes : ℕ) where
   finds = MakeSegment node hash number max_nodes (Err make.AlreadyExists)
 
   -- so many times a segment that was left is found and removed
-  abbrev pub cleared : ℕ → List Letter
-  cleared zero = []
-  cleared (suc k) = cleared k ++ finds ∷ RemoveSegment node hash (Ok tt) ∷ []
+  abbrev pub clearings : ℕ → List Letter
+  clearings zero = []
+  clearings (suc k) = clearings k ++ finds ∷ RemoveSegment node hash (Ok tt) ∷ []
 
   pub data IsSegmentWord : List Letter → Result (Unit {0}) CreateRefusal → Type 0 where
     made : (k : ℕ) → k ≤ CLEARING_LIMIT
-        → IsSegmentWord (cleared k ++ MakeSegment node hash number max_nodes (Ok tt) ∷ []) (Ok tt)
+        → IsSegmentWord (clearings k ++ MakeSegment node hash number max_nodes (Ok tt) ∷ []) (Ok tt)
     not_made : (k : ℕ) (e : MakeSegmentError) → k ≤ CLEARING_LIMIT → e ≢ make.AlreadyExists
-        → IsSegmentWord (cleared k ++ MakeSegment node hash number max_nodes (Err e) ∷ []) (Err (of_make e))
+        → IsSegmentWord (clearings k ++ MakeSegment node hash number max_nodes (Err e) ∷ []) (Err (of_make e))
     not_removed : (k : ℕ) (e : RemoveError) → k < CLEARING_LIMIT
-        → IsSegmentWord (cleared k ++ finds ∷ RemoveSegment node hash (Err e) ∷ []) (Err (of_remove e))
-    still_there : IsSegmentWord (cleared CLEARING_LIMIT ++ finds ∷ []) (Err create_refusal.ServiceInCorruptedState)
+        → IsSegmentWord (clearings k ++ finds ∷ RemoveSegment node hash (Err e) ∷ []) (Err (of_remove e))
+    still_there : IsSegmentWord (clearings CLEARING_LIMIT ++ finds ∷ []) (Err create_refusal.ServiceInCorruptedState)

@@ -212,7 +212,7 @@ fn create_adjusted<P: Pattern, S: Storage>(
     match describe(pattern, hash, name, attributes, now) {
         Ok(description) => {
             let created = make_tagged(pattern, node, hash, stops, &description, storage);
-            registered(node, created, description)
+            registration_of(node, created, description)
         }
         Err(_) => Err(pattern.create_refusal(CreateRefusal::OutOfMemory)),
     }
@@ -226,7 +226,7 @@ struct Created {
 }
 
 /// The registration of the node that created a service of this description.
-fn registered<E>(
+fn registration_of<E>(
     node: u64,
     created: Result<Created, E>,
     description: StaticConfig,

@@ -2,7 +2,7 @@
 
 ghost use Rattle.std.specs.Prelude.{◌≡◌, ℕ, List, Ok};
 ghost use Rattle.iceoryx2_data.specs.Form.{IsForm};
-ghost use Rattle.iceoryx2_access.specs.Letter.{fetched};
+ghost use Rattle.iceoryx2_access.specs.Letter.{fetch_answer};
 ghost use Rattle.iceoryx2_access.specs.Run.{Joins};
 ghost use Rattle.iceoryx2_rounds.specs.Looks as looks;
 ghost use Rattle.iceoryx2_rounds.specs.Looks.{IsLookWord, LeadsTo, found_unless, sight_of};
@@ -72,7 +72,7 @@ fn outcome_of<P: Pattern>(
     hash: &ServiceHash,
     answer: Result<(u64, Vec<u8>), FetchError>,
 ) -> Outcome<P::Fault>
-    ensures { LeadsTo (P.meaning pattern.now) hash.now (fetched answer) result }
+    ensures { LeadsTo (P.meaning pattern.now) hash.now (fetch_answer answer) result }
 {
     match answer {
         Ok((number, bytes)) => read(pattern, hash, number, *bytes.allocator(), &bytes),

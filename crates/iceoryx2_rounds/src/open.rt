@@ -129,7 +129,7 @@ fn open_found<P: Pattern, S: Storage>(
     storage: &mut S,
 ) -> Option<Result<u64, P::OpenError>>
     ensures { let meaning = requiring verifier.now (P.meaning pattern.now) in
-        let answer = opens.registered node number existing.now result in Joins S.step storage.old
+        let answer = opens.round_registration node number existing.now result in Joins S.step storage.old
         (λ word. IsRestOfRound meaning node hash.now number existing.now word answer) storage.new }
 {
     match verify(pattern, verifier, existing) {
@@ -138,32 +138,19 @@ fn open_found<P: Pattern, S: Storage>(
     }
 }
 
-/// The registration of the node that opened a service of this number and description.
+/// The registration of the node that opened a service of this number and description, or the error;
+/// `None` asks for another round.
 fn registration_of<E>(
-    node: u64,
-    number: u64,
-    opened: Result<u64, E>,
-    description: StaticConfig,
-) -> Result<Registration, E>
-    ensures { Some result ≡ opens.registered node number description (Some opened) }
-{
-    match opened {
-        Ok(ticket) => Ok(Registration::new(node, number, ticket, description)),
-        Err(error) => Err(error),
-    }
-}
-
-/// The same of a round that may ask for another one.
-fn registered<E>(
     node: u64,
     number: u64,
     answer: Option<Result<u64, E>>,
     description: StaticConfig,
 ) -> Option<Result<Registration, E>>
-    ensures { result ≡ opens.registered node number description answer }
+    ensures { result ≡ opens.round_registration node number description answer }
 {
     match answer {
-        Some(opened) => Some(registration_of(node, number, opened, description)),
+        Some(Ok(ticket)) => Some(Ok(Registration::new(node, number, ticket, description))),
+        Some(Err(error)) => Some(Err(error)),
         None => None,
     }
 }
@@ -184,7 +171,7 @@ fn try_open<P: Pattern, S: Storage>(
         Outcome::Nothing => Some(Err(pattern.open_refusal(OpenRefusal::DoesNotExist))),
         Outcome::Found(number, description) => {
             let answer = open_found(pattern, node, hash, verifier, number, &description, storage);
-            registered(node, number, answer, description)
+            registration_of(node, number, answer, description)
         }
     }
 }

@@ -1,6 +1,6 @@
 -- A storage that answers from a list.
 use Rattle.std.specs.Prelude.{◌≡◌, Bool, true, false, List, [], ◌∷◌}
-use Rattle.iceoryx2_access.specs.Letter.{Letter, fetched}
+use Rattle.iceoryx2_access.specs.Letter.{Letter, fetch_answer}
 use Rattle.iceoryx2_access.specs.Letter as letter
 use Rattle.iceoryx2_access.specs.MayRefuse.{IsFault}
 use Rattle.iceoryx2_script.specs.declared.script.Answer.{Answer}
@@ -32,7 +32,7 @@ is_for _ _ = false
 -- The access answers this.
 abbrev pub Carries : Letter → Answer → Type 0
 Carries (letter.Exists h a) (answer.Exists b) = a ≡ b
-Carries (letter.Fetch i h a) (answer.Fetch b) = a ≡ fetched b
+Carries (letter.Fetch i h a) (answer.Fetch b) = a ≡ fetch_answer b
 Carries (letter.Counts i h a) (answer.Counts b) = a ≡ b
 Carries (letter.MakeTag i h a) (answer.MakeTag b) = a ≡ b
 Carries (letter.RemoveTag i h a) (answer.RemoveTag b) = a ≡ b

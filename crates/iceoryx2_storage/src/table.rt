@@ -145,7 +145,7 @@ impl Storage for Table {
     ghost use Rattle.iceoryx2_world.specs.Across.{Agrees};
     ghost use Rattle.iceoryx2_world.specs.Agreement.{Later};
     ghost use Rattle.iceoryx2_batches.specs.Tables.{IsTableAccess};
-    ghost use Rattle.iceoryx2_access.specs.Letter.{fetched};
+    ghost use Rattle.iceoryx2_access.specs.Letter.{fetch_answer};
     ghost use Rattle.iceoryx2_access.specs.Letter as letter;
 
     ghost step = { λ old letter new. IsTableAccess old letter new };
@@ -160,7 +160,7 @@ impl Storage for Table {
     }
 
     fn fetch(&mut self, node: u64, hash: &ServiceHash) -> Result<(u64, Vec<u8>), FetchError>
-        ensures part { IsTableAccess self.old (letter.Fetch node hash.now (fetched result)) self.new }
+        ensures part { IsTableAccess self.old (letter.Fetch node hash.now (fetch_answer result)) self.new }
         ensures agrees { Agrees self.old.world → Agrees self.new.world }
         ensures later { Agrees self.old.world → Later self.old.world self.new.world }
     {

@@ -67,19 +67,19 @@ pub record IsMessage (m : Message) : Type 0 where
 -- ---- a message as it is sent: other types in place of its own, and a further alignment
 
 -- what is told of a type, or what is told in its place
-abbrev pub overridden : Detail → Option Detail → Detail
-overridden own None = own
-overridden own (Some other) = other
+abbrev pub in_place_of : Detail → Option Detail → Detail
+in_place_of own None = own
+in_place_of own (Some other) = other
 
 -- aligned as far as it is, and at least as far as is asked
-abbrev pub aligned : Detail → Option ℕ → Detail
-aligned d None = d
-aligned d (Some asked) = detail_of d.variant d.name d.size (max d.alignment asked)
+abbrev pub with_alignment : Detail → Option ℕ → Detail
+with_alignment d None = d
+with_alignment d (Some asked) = detail_of d.variant d.name d.size (max d.alignment asked)
 
 -- the header as it is, and what is told in place of user header and payload; the payload is then aligned
-unfoldable pub prepared : Message → Option Detail → Option Detail → Option ℕ → Message
-prepared m user_header payload alignment = message_of m.header (overridden m.user_header user_header)
-    (aligned (overridden m.payload payload) alignment)
+unfoldable pub with_overrides : Message → Option Detail → Option Detail → Option ℕ → Message
+with_overrides m user_header payload alignment = message_of m.header (in_place_of m.user_header user_header)
+    (with_alignment (in_place_of m.payload payload) alignment)
 
 -- ---- compatibility: one's own, and what is there
 

@@ -13,7 +13,8 @@ use Rattle.iceoryx2_pattern.specs.Meaning.{Meaning}
 use Rattle.iceoryx2_access.specs.Factory.{Factory}
 use Rattle.iceoryx2_rounds.specs.Looks.{IsLookWord, absent, broken, fetched}
 use Rattle.iceoryx2_rounds.specs.GivesBack.{Thing, OwnTag, OwnLock, OwnSegment, own_tag, GivesBack, nothing_left, segment_back, lock_back, tag_back}
-use Rattle.iceoryx2_rounds.specs.Segments.{cleared, IsSegmentWord, made, not_made, not_removed, still_there}
+use Rattle.iceoryx2_rounds.specs.Segments.{clearings, IsSegmentWord, made, not_made, not_removed, still_there}
+use Rattle.iceoryx2_rounds.specs.declared.create.TheConstants.{CLEARING_LIMIT}
 use Rattle.iceoryx2_rounds.specs.Creates as creates
 use Rattle.iceoryx2_rounds.specs.Creates.{IsEntryWord, IsServiceWord, IsCreating, forbidden, not_entered, clock_fault, not_locked, no_segment, not_published, published, counted, no_copies, entered}
 use Rattle.iceoryx2_rounds.specs.Opens as opens
@@ -91,15 +92,15 @@ module _ (node : ℕ) (hash : ServiceHash) where
   all_within Found b = back_within b
 
   module _ (number max_nodes : ℕ) where
-    cleared_within : (k : ℕ) → IsWithin (cleared node hash number max_nodes k) 0 0 k k
-    cleared_within zero = none_within
-    cleared_within (suc k) = within_more _ _ _ _ (omega arith) (omega arith) (omega arith) (omega arith) (within_append (cleared_within k) (within_append (makes number max_nodes _) (removes_segment _)))
+    clearings_within : (k : ℕ) → IsWithin (clearings node hash number max_nodes k) 0 0 k k
+    clearings_within zero = none_within
+    clearings_within (suc k) = within_more _ _ _ _ (omega arith) (omega arith) (omega arith) (omega arith) (within_append (clearings_within k) (within_append (makes number max_nodes _) (removes_segment _)))
 
     pub segment_within : {w : List Letter} {r : Result (Unit {0}) CreateRefusal} → IsSegmentWord node hash number max_nodes w r → IsWithin w 0 0 6 5
-    segment_within (made k small) = within_more _ _ _ _ (omega arith) (omega arith) (omega arith) (omega arith) (within_append (cleared_within k) (makes number max_nodes _))
-    segment_within (not_made k e small _) = within_more _ _ _ _ (omega arith) (omega arith) (omega arith) (omega arith) (within_append (cleared_within k) (makes number max_nodes _))
-    segment_within (not_removed k e small) = within_more _ _ _ _ (omega arith) (omega arith) (omega arith) (omega arith) (within_append (cleared_within k) (within_append (makes number max_nodes _) (removes_segment _)))
-    segment_within still_there = within_append (cleared_within 5) (makes number max_nodes _)
+    segment_within (made k small) = within_more _ _ _ _ (omega arith) (omega arith) (omega arith) (omega arith) (within_append (clearings_within k) (makes number max_nodes _))
+    segment_within (not_made k e small _) = within_more _ _ _ _ (omega arith) (omega arith) (omega arith) (omega arith) (within_append (clearings_within k) (makes number max_nodes _))
+    segment_within (not_removed k e small) = within_more _ _ _ _ (omega arith) (omega arith) (omega arith) (omega arith) (within_append (clearings_within k) (within_append (makes number max_nodes _) (removes_segment _)))
+    segment_within still_there = within_append (clearings_within CLEARING_LIMIT) (makes number max_nodes _)
 
 module _ {F E C : Type 0} (m : Meaning F E C) (node : ℕ) (hash : ServiceHash) where
   pub look_within : {w : List Letter} {o : Outcome F} → IsLookWord m node hash w o → IsWithin w 1 0 0 0

@@ -16,7 +16,7 @@ use Rattle.iceoryx2_access.specs.Factory.{Factory}
 use Rattle.iceoryx2_rounds.specs.Looks.{IsLookWord, absent, broken, fetched}
 use Rattle.iceoryx2_rounds.specs.GivesBack.{GivesBack, OwnLock, OwnSegment, own_tag, nothing_left, segment_back, lock_back, tag_back}
 use Rattle.iceoryx2_rounds.specs.Segments as segments
-use Rattle.iceoryx2_rounds.specs.Segments.{cleared, IsSegmentWord, not_made, not_removed, still_there}
+use Rattle.iceoryx2_rounds.specs.Segments.{clearings, IsSegmentWord, not_made, not_removed, still_there}
 use Rattle.iceoryx2_rounds.specs.Creates as creates
 use Rattle.iceoryx2_rounds.specs.Creates.{IsEntryWord, IsServiceWord, IsCreating, forbidden, not_entered, clock_fault, made, not_locked, no_segment, not_published, published, counted, no_copies, entered}
 use Rattle.iceoryx2_rounds.specs.Opens as opens
@@ -65,18 +65,18 @@ module _ {node : ℕ} {hash : ServiceHash} where
   tag_returns Made is_left free (tag_back answer nothing_left) = record { is_left = is_err answer; keeps = removes_tag answer free ends }
   tag_returns Found is_left free nothing_left = record { is_left = is_left; keeps = ends }
 
-  cleared_keeps : (number max_nodes : ℕ) {t : KeptTag} (k : ℕ) → Keeps node hash t (Locked number false) (cleared node hash number max_nodes k) t (Locked number false)
-  cleared_keeps number max_nodes zero = ends
-  cleared_keeps number max_nodes (suc k) = then_keeps (cleared_keeps number max_nodes k) (clears ends)
+  clearings_keeps : (number max_nodes : ℕ) {t : KeptTag} (k : ℕ) → Keeps node hash t (Locked number false) (clearings node hash number max_nodes k) t (Locked number false)
+  clearings_keeps number max_nodes zero = ends
+  clearings_keeps number max_nodes (suc k) = then_keeps (clearings_keeps number max_nodes k) (clears ends)
 
   module _ {number max_nodes : ℕ} {t : KeptTag} where
     segment_kept : {w : List Letter} → IsSegmentWord node hash number max_nodes w (Ok tt) → Keeps node hash t (Locked number false) w t (WithSegment number)
-    segment_kept (segments.made k small) = then_keeps (cleared_keeps number max_nodes k) (makes_segment ends)
+    segment_kept (segments.made k small) = then_keeps (clearings_keeps number max_nodes k) (makes_segment ends)
 
     segment_refused : {w : List Letter} {why : CreateRefusal} → IsSegmentWord node hash number max_nodes w (Err why) → Keeps node hash t (Locked number false) w t (Locked number false)
-    segment_refused (not_made k e small _) = then_keeps (cleared_keeps number max_nodes k) (goes_on keeps.gets_no_segment ends)
-    segment_refused (not_removed k e small) = then_keeps (cleared_keeps number max_nodes k) (clears ends)
-    segment_refused still_there = then_keeps (cleared_keeps number max_nodes CLEARING_LIMIT) (goes_on keeps.gets_no_segment ends)
+    segment_refused (not_made k e small _) = then_keeps (clearings_keeps number max_nodes k) (goes_on keeps.gets_no_segment ends)
+    segment_refused (not_removed k e small) = then_keeps (clearings_keeps number max_nodes k) (clears ends)
+    segment_refused still_there = then_keeps (clearings_keeps number max_nodes CLEARING_LIMIT) (goes_on keeps.gets_no_segment ends)
 
   then_returns : {s t : KeptTag} {j k : KeptLock} {v w : List Letter} → Keeps node hash s j v t k → Returns node hash t k w → Returns node hash s j (v ++ w)
   then_returns p r = record { lock = r.lock; is_unlocked = r.is_unlocked; tag = then_untags p r.tag }

@@ -233,7 +233,7 @@ fn a_message_fits_one_that_is_aligned_further(rt: HostRuntime) {
 }
 
 /// Payloads in place of an `i64`, alignments that are asked, and what the payload is then.
-const PREPARED: &[(Option<Told<'static>>, u64, Told<'static>)] = &[
+const OVERRIDES: &[(Option<Told<'static>>, u64, Told<'static>)] = &[
     (None, 4, (FixedSize, "i64", 8, 8)),
     (None, 16, (FixedSize, "i64", 8, 16)),
     (
@@ -246,7 +246,7 @@ const PREPARED: &[(Option<Told<'static>>, u64, Told<'static>)] = &[
 
 /// Whether a message whose payload is an `i64` has the wanted one when this payload and this alignment
 /// are asked for, and its header and its user header as before.
-fn is_prepared(
+fn overrides_to(
     rt: &impl Abort,
     alloc: Global,
     payload: Option<Told>,
@@ -258,14 +258,14 @@ fn is_prepared(
         None => None,
     };
     let message = from::<Header, (), i64>(rt, alloc, FixedSize);
-    let prepared = message.prepared(None, payload, Alignment::new(alignment));
-    consists_of(&prepared, [said::<Header>(), said::<()>(), wanted])
+    let overridden = message.with_overrides(None, payload, Alignment::new(alignment));
+    consists_of(&overridden, [said::<Header>(), said::<()>(), wanted])
 }
 
 #[test]
 fn a_payload_is_aligned_as_far_as_it_is_and_as_is_asked(rt: HostRuntime) {
-    for &(payload, alignment, wanted) in PREPARED {
-        let found = is_prepared(&rt, rt.alloc(), payload, alignment, wanted);
+    for &(payload, alignment, wanted) in OVERRIDES {
+        let found = overrides_to(&rt, rt.alloc(), payload, alignment, wanted);
         assert_same(&rt, (wanted, found), (wanted, true));
     }
 }

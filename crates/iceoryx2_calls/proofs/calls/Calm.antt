@@ -21,7 +21,8 @@ use Rattle.iceoryx2_pattern.specs.Meaning.{Meaning}
 use Rattle.iceoryx2_access.specs.Factory.{Factory}
 use Rattle.iceoryx2_rounds.specs.Looks.{IsLookWord, absent, broken, fetched}
 use Rattle.iceoryx2_rounds.specs.GivesBack.{OwnLock, OwnSegment, own_tag, GivesBack, nothing_left, segment_back, lock_back, tag_back}
-use Rattle.iceoryx2_rounds.specs.Segments.{cleared, IsSegmentWord, made, not_made, not_removed, still_there}
+use Rattle.iceoryx2_rounds.specs.Segments.{clearings, IsSegmentWord, made, not_made, not_removed, still_there}
+use Rattle.iceoryx2_rounds.specs.declared.create.TheConstants.{CLEARING_LIMIT}
 use Rattle.iceoryx2_rounds.specs.Creates as creates
 use Rattle.iceoryx2_rounds.specs.Creates.{IsEntryWord, IsServiceWord, IsCreating, forbidden, not_entered, clock_fault, not_locked, no_segment, not_published, published, counted, no_copies, entered}
 use Rattle.iceoryx2_rounds.specs.Opens as opens
@@ -62,15 +63,15 @@ module _ {node : ℕ} {hash : ServiceHash} where
   segment_tame : {w : List Letter} (tag : Tag) → GivesBack node hash (OwnSegment ∷ OwnLock ∷ own_tag tag) w → Tame node hash true w false
   segment_tame tag (segment_back answer rest) = goes tt (lock_tame tag rest)
 
-  cleared_tame : (number max_nodes k : ℕ) → Tame node hash true (cleared node hash number max_nodes k) true
-  cleared_tame number max_nodes zero = ends
-  cleared_tame number max_nodes (suc k) = tame_both (cleared_tame number max_nodes k) (goes tt (goes tt ends))
+  clearings_tame : (number max_nodes k : ℕ) → Tame node hash true (clearings node hash number max_nodes k) true
+  clearings_tame number max_nodes zero = ends
+  clearings_tame number max_nodes (suc k) = tame_both (clearings_tame number max_nodes k) (goes tt (goes tt ends))
 
   pub making_tame : {number max_nodes : ℕ} {w : List Letter} {r : Result (Unit {0}) CreateRefusal} → IsSegmentWord node hash number max_nodes w r → Tame node hash true w true
-  making_tame {number} {max_nodes} (made k _) = tame_both (cleared_tame number max_nodes k) (goes tt ends)
-  making_tame {number} {max_nodes} (not_made k e _ _) = tame_both (cleared_tame number max_nodes k) (goes tt ends)
-  making_tame {number} {max_nodes} (not_removed k e _) = tame_both (cleared_tame number max_nodes k) (goes tt (goes tt ends))
-  making_tame {number} {max_nodes} still_there = tame_both (cleared_tame number max_nodes 5) (goes tt ends)
+  making_tame {number} {max_nodes} (made k _) = tame_both (clearings_tame number max_nodes k) (goes tt ends)
+  making_tame {number} {max_nodes} (not_made k e _ _) = tame_both (clearings_tame number max_nodes k) (goes tt ends)
+  making_tame {number} {max_nodes} (not_removed k e _) = tame_both (clearings_tame number max_nodes k) (goes tt (goes tt ends))
+  making_tame {number} {max_nodes} still_there = tame_both (clearings_tame number max_nodes CLEARING_LIMIT) (goes tt ends)
 
 module _ {F E C : Type 0} {m : Meaning F E C} {node : ℕ} {hash : ServiceHash} where
   pub look_tame : {b : Bool} {w : List Letter} {o : Outcome F} → IsLookWord m node hash w o → Tame node hash b w b

@@ -26,7 +26,7 @@ use Rattle.iceoryx2_world.specs.Access.{write, release_answer}
 use Rattle.iceoryx2_world.specs.Faulty.{IsFaulty}
 use Rattle.iceoryx2_world.specs.StepCases.{IsStep, leaves_once, leaves, leaves_last}
 use Rattle.iceoryx2_world.proofs.agreement.StepCases.{step_case}
-use Rattle.iceoryx2_world.proofs.agreement.Effects.{stepped}
+use Rattle.iceoryx2_world.proofs.agreement.Effects.{allowed_step}
 use Rattle.iceoryx2_world.proofs.agreement.Worlds.{step_tickets}
 use Rattle.iceoryx2_world.proofs.agreement.Parts.{mine, clearing, unlocking, releasing}
 use Rattle.iceoryx2_world.proofs.agreement.Accesses.{joined_means, later_trans, peers_keep, faulty_keeps, granted}
@@ -72,7 +72,7 @@ release_to r a w v x old =
     let b = granted w (letter.Release t i h n (Ok a)) v (λ e. cc) x in
     let u = b.between in
     let rel = releasing u v t i h n a b.own in
-    let st = stepped u rel.mid (Node i) h act.Leave rel.step in
+    let st = allowed_step u rel.mid (Node i) h act.Leave rel.step in
     let same = peers_leave b.peers in
     let here : ticket_of w t ≡ Some (mine i h n) = ap (λ k. map.get k t) (sym same.tickets) ∙ rel.ticket in
     let joined = old.held.number t (mine i h n) here in
@@ -137,7 +137,7 @@ module _ (i : ℕ) (h : ServiceHash) where
       let b = granted w (letter.RemoveDescription i h (Ok y)) v (λ e. cc) x in
       let u = b.between in
       let e = unlocking u v i h y b.own in
-      let st = stepped u v (Node i) h act.RemoveDescription e in
+      let st = allowed_step u v (Node i) h act.RemoveDescription e in
       let k = unlock_row (step_case (Node i) h act.RemoveDescription (phase_of u (Node i) h) (row_of u h) (segment_of u h) u.counter st.spot st.is) in
       let s = still u n segment (peers_keep b.peers old).0 (peers_phase b.peers i h ∙ is) in
       record {

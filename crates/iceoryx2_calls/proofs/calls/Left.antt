@@ -30,7 +30,7 @@ use Rattle.iceoryx2_world.specs.Faulty.{IsFaulty}
 use Rattle.iceoryx2_world.specs.StepCases.{IsStep, locks as row_locks, clears as row_clears, unmakes, unlocks as row_unlocks, clears_last, ends as row_ends, makes as row_makes}
 use Rattle.iceoryx2_world.proofs.agreement.StepCases.{step_case}
 use Rattle.iceoryx2_world.proofs.agreement.Maps.{set_has, either, self}
-use Rattle.iceoryx2_world.proofs.agreement.Effects.{stepped as stepped_world}
+use Rattle.iceoryx2_world.proofs.agreement.Effects.{allowed_step}
 use Rattle.iceoryx2_world.proofs.agreement.Worlds.{peer_places, peer_keeps, not_peer, step_counter, step_tickets}
 use Rattle.iceoryx2_world.proofs.agreement.Parts.{making, clearing, unlocking, locking}
 use Rattle.iceoryx2_world.proofs.agreement.Accesses.{peers_keep, own_keeps, access_keeps, faulty_keeps, granted, with_refusals}
@@ -51,7 +51,7 @@ pub peers_leave : {w v : World} → Peers w v → PeersLeave w v
 peers_leave none = record { tags = refl; tickets = refl }
 peers_leave {w = u} (peer {v = v} id g a ok e rest) =
     let more = peers_leave rest in
-    record { tags = more.tags ∙ step_tags u v (Peer id) g a e; tickets = more.tickets ∙ step_tickets u v (Peer id) g a (stepped_world u v (Peer id) g a e) }
+    record { tags = more.tags ∙ step_tags u v (Peer id) g a e; tickets = more.tickets ∙ step_tickets u v (Peer id) g a (allowed_step u v (Peer id) g a e) }
 
 -- what makes nothing is plain
 makes_nothing : {node : ℕ} {hash : ServiceHash} {l : Letter} → MakesNothing node hash l → IsPlain l
@@ -73,7 +73,7 @@ lacks_peers {w = u} {v = w} i h n (peer {v = v} id g a ok e rest) old lock lacks
       | inl z ↦ lacks z.0 z.1 (z.2 ∙ same)
       | inr l ↦ not_peer i id ((old.everywhere h).one_holder (Node i) (Peer id) n y.number lock l)
     ] in
-    let st = stepped_world u v (Peer id) g a e in
+    let st = allowed_step u v (Peer id) g a e in
     lacks_peers i h n rest (peer_keeps u v id g a ok e old).0 (ap locked_number (peer_places u v id g a st i h) ∙ lock) next_lacks
 
 -- a phase that holds a lock doesn't begin
@@ -261,7 +261,7 @@ module _ (node : ℕ) (hash : ServiceHash) where
   kept_step : {start : World} (t : KeptTag) (j k : KeptLock) (w v : World) (a : Act) → world_after w (Node node) hash a ≡ Some v
       → IsAt node hash k (phase_of start (Node node) hash) (phase_of v (Node node) hash) → HoldsLock node hash k v → Kept node hash start t j w → Kept node hash start t k v
   kept_step {start} t j k w v a e phase holds h = record {
-    tickets = step_tickets w v (Node node) hash a (stepped_world w v (Node node) hash a e) ∙ h.tickets;
+    tickets = step_tickets w v (Node node) hash a (allowed_step w v (Node node) hash a e) ∙ h.tickets;
     tags = tag_after node hash t start.tags w.tags v.tags (step_tags w v (Node node) hash a e) h.tags;
     phase = phase;
     holds = holds;
@@ -274,7 +274,7 @@ module _ (node : ℕ) (hash : ServiceHash) where
       let agrees = (peers_keep a.peers old).0 in
       let now = kept_peers node hash t NoLock a.peers old h in
       let k = locking u v node hash n a.own in
-      let st = stepped_world u v (Node node) hash act.Lock k.1 in
+      let st = allowed_step u v (Node node) hash act.Lock k.1 in
       let b = lock_row (step_case (Node node) hash act.Lock (phase_of u (Node node) hash) (row_of u hash) (segment_of u hash) u.counter st.spot st.is) in
       let lacks : LacksSegment v hash n = λ y is same. elim (world_segment u v (Node node) hash act.Lock k.1 hash y is) [
         | inl z ↦ grind (arith, (agrees.everywhere hash).segment_below z.0 z.1, z.2, same, k.0)
@@ -288,7 +288,7 @@ module _ (node : ℕ) (hash : ServiceHash) where
       let u = a.between in
       let now = kept_peers node hash t (Locked n false) a.peers old h in
       let e = making u v node hash n m y a.own in
-      let st = stepped_world u v (Node node) hash (act.Make m) e in
+      let st = allowed_step u v (Node node) hash (act.Make m) e in
       let b = make_row (step_case (Node node) hash (act.Make m) (phase_of u (Node node) hash) (row_of u hash) (segment_of u hash) u.counter st.spot st.is) in
       kept_step t (Locked n false) (WithSegment n) u v (act.Make m) e now.phase (ap locked_number (own_phase u v node hash (act.Make m) st) ∙ b ∙ now.holds.0, λ kept. absurd (cc)) now
 
@@ -298,7 +298,7 @@ module _ (node : ℕ) (hash : ServiceHash) where
       let u = a.between in
       let now = kept_peers node hash t (Locked n l) a.peers old h in
       let e = clearing u v node hash y a.own in
-      let st = stepped_world u v (Node node) hash act.RemoveSegment e in
+      let st = allowed_step u v (Node node) hash act.RemoveSegment e in
       let b = clear_row (step_case (Node node) hash act.RemoveSegment (phase_of u (Node node) hash) (row_of u hash) (segment_of u hash) u.counter st.spot st.is) in
       let gone : segment_of v hash ≡ None = own_segment u v (Node node) hash act.RemoveSegment st ∙ b.segment in
       let lacks : LacksSegment v hash n = λ z is. absurd (cc) in
@@ -315,7 +315,7 @@ module _ (node : ℕ) (hash : ServiceHash) where
       let agrees = (peers_keep a.peers old).0 in
       let now = kept_peers node hash t (Locked n l) a.peers old h in
       let e = unlocking u v node hash y a.own in
-      let st = stepped_world u v (Node node) hash act.RemoveDescription e in
+      let st = allowed_step u v (Node node) hash act.RemoveDescription e in
       let b = unlock_row (step_case (Node node) hash act.RemoveDescription (phase_of u (Node node) hash) (row_of u hash) (segment_of u hash) u.counter st.spot st.is) in
       let below : n < v.counter = grind (arith, step_counter u v (Node node) hash act.RemoveDescription st, (agrees.everywhere hash).row_below (row.Locked n) ((agrees.everywhere hash).locked (Node node) n now.holds.0)) in
       let gone : row_of v hash ≡ None = own_row u v (Node node) hash act.RemoveDescription st ∙ b.row in

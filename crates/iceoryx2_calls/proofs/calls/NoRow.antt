@@ -35,7 +35,7 @@ use Rattle.iceoryx2_pattern.specs.declared.pattern.CreateRefusal.{CreateRefusal}
 use Rattle.iceoryx2_pattern.specs.declared.pattern.CreateRefusal.TheVariants as refusal
 use Rattle.iceoryx2_pattern.specs.Meaning.{Meaning}
 use Rattle.iceoryx2_rounds.specs.Refusals.{of_tag, of_lock, of_make, of_publish}
-use Rattle.iceoryx2_rounds.specs.Segments.{IsSegmentWord, cleared}
+use Rattle.iceoryx2_rounds.specs.Segments.{IsSegmentWord, clearings}
 use Rattle.iceoryx2_rounds.specs.Segments as segment
 use Rattle.iceoryx2_rounds.specs.Creates.{IsEntryWord, IsServiceWord, IsCreating, IsCreateWord, clock_stops, description_of, time_of}
 use Rattle.iceoryx2_rounds.specs.Creates as create
@@ -67,16 +67,16 @@ module _ (i : ℕ) (h : ServiceHash) where
   clear_left : (n c : ℕ) (k : Tickets) (s : Option Segment) {a : Result (Unit {0}) RemoveError} {t : Seat} → AtSeat i h (at_lock n s c k) (letter.RemoveSegment i h a) t → (a ≡ Ok tt) × (t ≡ locked n c k)
   clear_left n c k s r = (r.own.0, r.is ∙ ap (seat_after _) r.own.1)
 
-  left_cleared : (n m c : ℕ) (k : Tickets) (y : Segment) (j : ℕ) {t : Seat} → nat_lt 0 m ≡ true → Run (AtSeat i h) (at_lock n (Some y) c k) (cleared i h n m (suc j)) t → t ≡ locked n c k
-  left_cleared n m c k y zero positive r =
+  left_clearings : (n m c : ℕ) (k : Tickets) (y : Segment) (j : ℕ) {t : Seat} → nat_lt 0 m ≡ true → Run (AtSeat i h) (at_lock n (Some y) c k) (clearings i h n m (suc j)) t → t ≡ locked n c k
+  left_clearings n m c k y zero positive r =
       let f = head r in
       (clear_left n c k (Some y) (last (from (find_left n m c k y positive f.first).1 f.rest))).1
-  left_cleared n m c k y (suc j) positive r =
-      let s = split (cleared i h n m (suc j)) _ r in
-      elim (make_and i h n m c k positive (from (left_cleared n m c k y j positive s.first) s.second)) [ inl z ↦ absurd (grind (arith, z.0)) | inr z ↦ absurd (grind (arith, z.0)) ]
+  left_clearings n m c k y (suc j) positive r =
+      let s = split (clearings i h n m (suc j)) _ r in
+      elim (make_and i h n m c k positive (from (left_clearings n m c k y j positive s.first) s.second)) [ inl z ↦ absurd (grind (arith, z.0)) | inr z ↦ absurd (grind (arith, z.0)) ]
 
-  make_next : (n m c : ℕ) (k : Tickets) (y : Segment) (j : ℕ) {a : Result (Unit {0}) MakeSegmentError} {w : List Letter} {t : Seat} → nat_lt 0 m ≡ true → Run (AtSeat i h) (at_lock n (Some y) c k) (cleared i h n m (suc j) ++ letter.MakeSegment i h n m a ∷ w) t → ((a ≡ Ok tt) × Run (AtSeat i h) (with_segment i h n m c k) w t) ⊎ ((a ≡ Err Making.OutOfMemory) × Run (AtSeat i h) (locked n c k) w t)
-  make_next n m c k y j positive r = let s = split (cleared i h n m (suc j)) _ r in make_and i h n m c k positive (from (left_cleared n m c k y j positive s.first) s.second)
+  make_next : (n m c : ℕ) (k : Tickets) (y : Segment) (j : ℕ) {a : Result (Unit {0}) MakeSegmentError} {w : List Letter} {t : Seat} → nat_lt 0 m ≡ true → Run (AtSeat i h) (at_lock n (Some y) c k) (clearings i h n m (suc j) ++ letter.MakeSegment i h n m a ∷ w) t → ((a ≡ Ok tt) × Run (AtSeat i h) (with_segment i h n m c k) w t) ⊎ ((a ≡ Err Making.OutOfMemory) × Run (AtSeat i h) (locked n c k) w t)
+  make_next n m c k y j positive r = let s = split (clearings i h n m (suc j)) _ r in make_and i h n m c k positive (from (left_clearings n m c k y j positive s.first) s.second)
 
   left_part : (n m c : ℕ) (k : Tickets) (y : Segment) {a : Result (Unit {0}) CreateRefusal} {w : List Letter} {t : Seat} → nat_lt 0 m ≡ true → IsSegmentWord i h n m w a → Run (AtSeat i h) (at_lock n (Some y) c k) w t → Makes i h n m c k a t
   left_part n m c k y positive (segment.made zero le) r = let f = find_left n m c k y positive (last r) in absurd (grind (arith, f.0))

@@ -18,7 +18,7 @@ use Rattle.iceoryx2_world.specs.Access.{Change, seat, write, own_step, read_chan
 use Rattle.iceoryx2_world.specs.StepCases.{IsStep, reads}
 use Rattle.iceoryx2_world.proofs.agreement.StepCases.{step_case}
 use Rattle.iceoryx2_world.proofs.agreement.Maps.{set_cases}
-use Rattle.iceoryx2_world.proofs.agreement.Effects.{stepped as stepped_world}
+use Rattle.iceoryx2_world.proofs.agreement.Effects.{allowed_step}
 use Rattle.iceoryx2_world.proofs.agreement.Worlds.{place_cases, step_tickets}
 use Rattle.iceoryx2_world.proofs.agreement.Parts.{answer_cases, sure_answer_cases, moved_world, unchanged, fetched_ok}
 use Rattle.iceoryx2_calls.specs.Leaves.{HasAtMostRead, LacksRow}
@@ -92,7 +92,7 @@ read_both (inr e) (inr f) = inr (e.0, f.1)
 
 -- a step changes no tag
 pub step_tags : (w v : World) (p : Participant) (g : ServiceHash) (a : Act) → world_after w p g a ≡ Some v → v.tags ≡ w.tags
-step_tags w v p g a e = subst (λ (z : World). z.tags ≡ w.tags) (stepped_world w v p g a e).world refl
+step_tags w v p g a e = subst (λ (z : World). z.tags ≡ w.tags) (allowed_step w v p g a e).world refl
 
 -- what a reading finds and leaves
 record Read (x : Phase) (s : Option Segment) (new : Spot) : Type 0 where
@@ -105,7 +105,7 @@ read_row (reads free) = record { before = free; now = refl; segment = refl }
 
 read_untouched : (w v : World) (i : ℕ) (g : ServiceHash) → world_after w (Node i) g act.Read ≡ Some v → Untouched w v
 read_untouched w v i g e =
-    let st = stepped_world w v (Node i) g act.Read e in
+    let st = allowed_step w v (Node i) g act.Read e in
     let r = read_row (step_case (Node i) g act.Read (phase_of w (Node i) g) (row_of w g) (segment_of w g) w.counter st.spot st.is) in
     record {
       tags = step_tags w v (Node i) g act.Read e;

@@ -25,7 +25,7 @@ use Rattle.iceoryx2_world.specs.Peers.{Peers, none, peer}
 use Rattle.iceoryx2_world.specs.Standing.{ticket_for}
 use Rattle.iceoryx2_world.proofs.agreement.Accesses.{granted}
 use Rattle.iceoryx2_world.proofs.agreement.Calm.{Tame, ends, goes, locks, unlocks}
-use Rattle.iceoryx2_world.proofs.agreement.Effects.{stepped}
+use Rattle.iceoryx2_world.proofs.agreement.Effects.{allowed_step}
 use Rattle.iceoryx2_world.proofs.agreement.Maps.{set_cases}
 use Rattle.iceoryx2_world.proofs.agreement.Parts.{mine, Part, stays, tagged, calm, removed, publishes, joins, releases, own_part, publishing, joining, releasing}
 use Rattle.iceoryx2_world.proofs.agreement.Worlds.{ticket_put, step_tickets}
@@ -49,13 +49,13 @@ KeepsTickets _ = Unit {0}
 
 peers_tickets : {w v : World} → Peers w v → v.tickets ≡ w.tickets
 peers_tickets none = refl
-peers_tickets {w = u} (peer {v = v} id g a ok e rest) = peers_tickets rest ∙ step_tickets u v _ g a (stepped u v _ g a e)
+peers_tickets {w = u} (peer {v = v} id g a ok e rest) = peers_tickets rest ∙ step_tickets u v _ g a (allowed_step u v _ g a e)
 
 part_tickets : (w : World) (l : Letter) (v : World) → KeepsTickets l → Part w l v → v.tickets ≡ w.tickets
 part_tickets w l v ok (stays e) = ap (λ (z : World). z.tickets) e
 part_tickets w l v ok (tagged t e) = ap (λ (z : World). z.tickets) e
-part_tickets w l v ok (calm i h a is e) = step_tickets w v (Node i) h a (stepped w v (Node i) h a e)
-part_tickets w l v ok (removed i h is e) = step_tickets w v (Node i) h act.RemoveDescription (stepped w v (Node i) h act.RemoveDescription e)
+part_tickets w l v ok (calm i h a is e) = step_tickets w v (Node i) h a (allowed_step w v (Node i) h a e)
+part_tickets w l v ok (removed i h is e) = step_tickets w v (Node i) h act.RemoveDescription (allowed_step w v (Node i) h act.RemoveDescription e)
 part_tickets w l v ok (publishes i h n d t is p) = absurd (subst KeepsTickets is ok)
 part_tickets w l v ok (joins i h n t is p) = absurd (subst KeepsTickets is ok)
 part_tickets w l v ok (releases t i h n a is p) = absurd (subst KeepsTickets is ok)
@@ -90,7 +90,7 @@ publish_tickets : (w v : World) (i : ℕ) (h : ServiceHash) (n : ℕ) (d : Descr
 publish_tickets w v i h n d t s =
     let a = granted w (letter.Publish i h n d (Ok t)) v (λ x. cc) s in
     let p = publishing a.between v i h n d t a.own in
-    put_tickets w p.mid v t (mine i h n) p.is (step_tickets a.between p.mid (Node i) h (act.Publish d) (stepped a.between p.mid (Node i) h (act.Publish d) p.step) ∙ peers_tickets a.peers)
+    put_tickets w p.mid v t (mine i h n) p.is (step_tickets a.between p.mid (Node i) h (act.Publish d) (allowed_step a.between p.mid (Node i) h (act.Publish d) p.step) ∙ peers_tickets a.peers)
 
 opening_tickets : (w v : World) (i : ℕ) (h : ServiceHash) (n t : ℕ) → IsFaulty w (letter.OpenSegment i h n (Ok t)) v
     → v.tickets ≡ map.insert w.tickets t (mine i h n)
@@ -98,14 +98,14 @@ opening_tickets w v i h n t s =
     let a = granted w (letter.OpenSegment i h n (Ok t)) v (λ x. cc) s in
     let p = joining a.between v i h n t a.own in
     let mid : World = record p.mid { counter = a.between.counter + 1 } in
-    put_tickets w mid v t (mine i h n) p.is (step_tickets a.between p.mid (Node i) h act.Join (stepped a.between p.mid (Node i) h act.Join p.step) ∙ peers_tickets a.peers)
+    put_tickets w mid v t (mine i h n) p.is (step_tickets a.between p.mid (Node i) h act.Join (allowed_step a.between p.mid (Node i) h act.Join p.step) ∙ peers_tickets a.peers)
 
 release_tickets : (w v : World) (t i : ℕ) (h : ServiceHash) (n : ℕ) (x : Released) → IsFaulty w (letter.Release t i h n (Ok x)) v
     → v.tickets ≡ map.remove w.tickets t
 release_tickets w v t i h n x s =
     let a = granted w (letter.Release t i h n (Ok x)) v (λ y. cc) s in
     let p = releasing a.between v t i h n x a.own in
-    let before = step_tickets a.between p.mid (Node i) h act.Leave (stepped a.between p.mid (Node i) h act.Leave p.step) ∙ peers_tickets a.peers in
+    let before = step_tickets a.between p.mid (Node i) h act.Leave (allowed_step a.between p.mid (Node i) h act.Leave p.step) ∙ peers_tickets a.peers in
     ap (λ (z : World). z.tickets) p.is ∙ ap (λ k. map.remove k t) before
 
 -- ---- a create and an open

@@ -23,7 +23,8 @@ use Rattle.iceoryx2_words.specs.Counts.{IsWithin}
 use Rattle.iceoryx2_pattern.specs.Meaning.{Meaning}
 use Rattle.iceoryx2_rounds.specs.Looks.{IsLookWord, absent, broken, fetched}
 use Rattle.iceoryx2_rounds.specs.GivesBack.{Thing, GivesBack, nothing_left, segment_back, lock_back, tag_back}
-use Rattle.iceoryx2_rounds.specs.Segments.{cleared, IsSegmentWord, made, not_made, not_removed, still_there}
+use Rattle.iceoryx2_rounds.specs.Segments.{clearings, IsSegmentWord, made, not_made, not_removed, still_there}
+use Rattle.iceoryx2_rounds.specs.declared.create.TheConstants.{CLEARING_LIMIT}
 use Rattle.iceoryx2_rounds.specs.Creates as creates
 use Rattle.iceoryx2_rounds.specs.Creates.{IsEntryWord, IsServiceWord, IsCreating, forbidden, not_entered, clock_fault, not_locked, no_segment, not_published, published, counted, no_copies, entered}
 use Rattle.iceoryx2_rounds.specs.Opens as opens
@@ -68,9 +69,9 @@ pub spared : (f : Factory) (l : Letter) → IsNoRelease l → Spares f l
 spared f (letter.Release t i h n a) o = absurd o
 spared f _ o = tt
 
-cleared_letters : (node : ℕ) (hash : ServiceHash) (number max_nodes k : ℕ) → Each IsNoRelease (cleared node hash number max_nodes k)
-cleared_letters node hash number max_nodes zero = tt
-cleared_letters node hash number max_nodes (suc k) = each_append IsNoRelease (cleared node hash number max_nodes k) _ (cleared_letters node hash number max_nodes k) (tt, (tt, tt))
+clearings_letters : (node : ℕ) (hash : ServiceHash) (number max_nodes k : ℕ) → Each IsNoRelease (clearings node hash number max_nodes k)
+clearings_letters node hash number max_nodes zero = tt
+clearings_letters node hash number max_nodes (suc k) = each_append IsNoRelease (clearings node hash number max_nodes k) _ (clearings_letters node hash number max_nodes k) (tt, (tt, tt))
 
 module _ {node : ℕ} {hash : ServiceHash} where
   back_letters : {things : List Thing} {w : List Letter} → GivesBack node hash things w → Each IsNoRelease w
@@ -80,10 +81,10 @@ module _ {node : ℕ} {hash : ServiceHash} where
   back_letters (tag_back answer r) = (tt, back_letters r)
 
   segment_letters : {number max_nodes : ℕ} {w : List Letter} {r : Result (Unit {0}) CreateRefusal} → IsSegmentWord node hash number max_nodes w r → Each IsNoRelease w
-  segment_letters {number} {max_nodes} (made k _) = each_append IsNoRelease (cleared node hash number max_nodes k) _ (cleared_letters node hash number max_nodes k) (tt, tt)
-  segment_letters {number} {max_nodes} (not_made k e _ _) = each_append IsNoRelease (cleared node hash number max_nodes k) _ (cleared_letters node hash number max_nodes k) (tt, tt)
-  segment_letters {number} {max_nodes} (not_removed k e _) = each_append IsNoRelease (cleared node hash number max_nodes k) _ (cleared_letters node hash number max_nodes k) (tt, (tt, tt))
-  segment_letters {number} {max_nodes} still_there = each_append IsNoRelease (cleared node hash number max_nodes 5) (letter.MakeSegment node hash number max_nodes (Err make.AlreadyExists) ∷ []) (cleared_letters node hash number max_nodes 5) (tt, tt)
+  segment_letters {number} {max_nodes} (made k _) = each_append IsNoRelease (clearings node hash number max_nodes k) _ (clearings_letters node hash number max_nodes k) (tt, tt)
+  segment_letters {number} {max_nodes} (not_made k e _ _) = each_append IsNoRelease (clearings node hash number max_nodes k) _ (clearings_letters node hash number max_nodes k) (tt, tt)
+  segment_letters {number} {max_nodes} (not_removed k e _) = each_append IsNoRelease (clearings node hash number max_nodes k) _ (clearings_letters node hash number max_nodes k) (tt, (tt, tt))
+  segment_letters {number} {max_nodes} still_there = each_append IsNoRelease (clearings node hash number max_nodes CLEARING_LIMIT) (letter.MakeSegment node hash number max_nodes (Err make.AlreadyExists) ∷ []) (clearings_letters node hash number max_nodes CLEARING_LIMIT) (tt, tt)
 
 module _ {F E C : Type 0} {m : Meaning F E C} {node : ℕ} {hash : ServiceHash} where
   pub look_letters : {w : List Letter} {o : Outcome F} → IsLookWord m node hash w o → Each IsNoRelease w

@@ -43,7 +43,7 @@ use Rattle.iceoryx2_rounds.specs.Looks.{IsLookWord}
 use Rattle.iceoryx2_rounds.specs.Looks as look
 use Rattle.iceoryx2_rounds.specs.GivesBack.{GivesBack, OwnTag, OwnLock, OwnSegment, own_tag}
 use Rattle.iceoryx2_rounds.specs.GivesBack as back
-use Rattle.iceoryx2_rounds.specs.Segments.{IsSegmentWord, cleared}
+use Rattle.iceoryx2_rounds.specs.Segments.{IsSegmentWord, clearings}
 use Rattle.iceoryx2_rounds.specs.Segments as segment
 use Rattle.iceoryx2_rounds.specs.Creates.{IsEntryWord, IsServiceWord, IsCreating}
 use Rattle.iceoryx2_rounds.specs.Creates as create
@@ -140,14 +140,14 @@ module _ (i : ℕ) (h : ServiceHash) where
   make_and n m c k {a = a} positive r = let f = head r in elim (make_locked n m c k a f.mid positive f.first) [ inl y ↦ inl (y.0, from y.1 f.rest) | inr y ↦ inr (y.0, from y.1 f.rest) ]
 
   -- the segment is made at the first try
-  none_cleared : (n m c : ℕ) (k : Tickets) (j : ℕ) {t : Seat} → nat_lt 0 m ≡ true → Run (AtSeat i h) (locked n c k) (cleared i h n m j) t → t ≡ locked n c k
-  none_cleared n m c k zero positive r = ended r
-  none_cleared n m c k (suc j) positive r =
-      let s = split (cleared i h n m j) _ r in
-      elim (make_and n m c k positive (from (none_cleared n m c k j positive s.first) s.second)) [ inl y ↦ absurd (grind (arith, y.0)) | inr y ↦ absurd (grind (arith, y.0)) ]
+  none_clearings : (n m c : ℕ) (k : Tickets) (j : ℕ) {t : Seat} → nat_lt 0 m ≡ true → Run (AtSeat i h) (locked n c k) (clearings i h n m j) t → t ≡ locked n c k
+  none_clearings n m c k zero positive r = ended r
+  none_clearings n m c k (suc j) positive r =
+      let s = split (clearings i h n m j) _ r in
+      elim (make_and n m c k positive (from (none_clearings n m c k j positive s.first) s.second)) [ inl y ↦ absurd (grind (arith, y.0)) | inr y ↦ absurd (grind (arith, y.0)) ]
 
-  make_after : (n m c : ℕ) (k : Tickets) (j : ℕ) {a : Result (Unit {0}) MakeSegmentError} {w : List Letter} {t : Seat} → nat_lt 0 m ≡ true → Run (AtSeat i h) (locked n c k) (cleared i h n m j ++ letter.MakeSegment i h n m a ∷ w) t → ((a ≡ Ok tt) × Run (AtSeat i h) (with_segment n m c k) w t) ⊎ ((a ≡ Err Making.OutOfMemory) × Run (AtSeat i h) (locked n c k) w t)
-  make_after n m c k j positive r = let s = split (cleared i h n m j) _ r in make_and n m c k positive (from (none_cleared n m c k j positive s.first) s.second)
+  make_after : (n m c : ℕ) (k : Tickets) (j : ℕ) {a : Result (Unit {0}) MakeSegmentError} {w : List Letter} {t : Seat} → nat_lt 0 m ≡ true → Run (AtSeat i h) (locked n c k) (clearings i h n m j ++ letter.MakeSegment i h n m a ∷ w) t → ((a ≡ Ok tt) × Run (AtSeat i h) (with_segment n m c k) w t) ⊎ ((a ≡ Err Making.OutOfMemory) × Run (AtSeat i h) (locked n c k) w t)
+  make_after n m c k j positive r = let s = split (clearings i h n m j) _ r in make_and n m c k positive (from (none_clearings n m c k j positive s.first) s.second)
 
   pub data Makes (n m c : ℕ) (k : Tickets) : Result (Unit {0}) CreateRefusal → Seat → Type 0 where
     makes : Makes n m c k (Ok tt) (with_segment n m c k)

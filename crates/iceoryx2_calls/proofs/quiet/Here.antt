@@ -13,7 +13,8 @@ use Rattle.iceoryx2_rounds.specs.Looks.{IsLookWord}
 use Rattle.iceoryx2_rounds.specs.Looks as look
 use Rattle.iceoryx2_rounds.specs.GivesBack.{GivesBack, Thing}
 use Rattle.iceoryx2_rounds.specs.GivesBack as back
-use Rattle.iceoryx2_rounds.specs.Segments.{IsSegmentWord, cleared}
+use Rattle.iceoryx2_rounds.specs.Segments.{IsSegmentWord, clearings}
+use Rattle.iceoryx2_rounds.specs.declared.create.TheConstants.{CLEARING_LIMIT}
 use Rattle.iceoryx2_rounds.specs.Segments as segment
 use Rattle.iceoryx2_rounds.specs.Creates.{IsEntryWord, IsServiceWord, IsCreating}
 use Rattle.iceoryx2_rounds.specs.Creates as create
@@ -30,15 +31,15 @@ module _ {i : ℕ} {h : ServiceHash} where
   back_here (back.lock_back a r) = more (refl, refl) (back_here r)
   back_here (back.tag_back a r) = more (refl, refl) (back_here r)
 
-cleared_here : (i : ℕ) (h : ServiceHash) (n m j : ℕ) → AllHere i h (cleared i h n m j)
-cleared_here i h n m zero = none
-cleared_here i h n m (suc j) = all_both (cleared_here i h n m j) (more (refl, refl) (more (refl, refl) none))
+clearings_here : (i : ℕ) (h : ServiceHash) (n m j : ℕ) → AllHere i h (clearings i h n m j)
+clearings_here i h n m zero = none
+clearings_here i h n m (suc j) = all_both (clearings_here i h n m j) (more (refl, refl) (more (refl, refl) none))
 
 segment_here : {i : ℕ} {h : ServiceHash} {n m : ℕ} {w : List Letter} {r : Result (Unit {0}) CreateRefusal} → IsSegmentWord i h n m w r → AllHere i h w
-segment_here {i} {h} {n} {m} (segment.made j _) = all_both (cleared_here i h n m j) (more (refl, refl) none)
-segment_here {i} {h} {n} {m} (segment.not_made j e _ _) = all_both (cleared_here i h n m j) (more (refl, refl) none)
-segment_here {i} {h} {n} {m} (segment.not_removed j e _) = all_both (cleared_here i h n m j) (more (refl, refl) (more (refl, refl) none))
-segment_here {i} {h} {n} {m} segment.still_there = all_both (cleared_here i h n m 5) (more (refl, refl) none)
+segment_here {i} {h} {n} {m} (segment.made j _) = all_both (clearings_here i h n m j) (more (refl, refl) none)
+segment_here {i} {h} {n} {m} (segment.not_made j e _ _) = all_both (clearings_here i h n m j) (more (refl, refl) none)
+segment_here {i} {h} {n} {m} (segment.not_removed j e _) = all_both (clearings_here i h n m j) (more (refl, refl) (more (refl, refl) none))
+segment_here {i} {h} {n} {m} segment.still_there = all_both (clearings_here i h n m CLEARING_LIMIT) (more (refl, refl) none)
 
 module _ {F E C : Type 0} {m : Meaning F E C} {i : ℕ} {h : ServiceHash} where
   pub look_here : {o : Outcome F} {w : List Letter} → IsLookWord m i h w o → AllHere i h w

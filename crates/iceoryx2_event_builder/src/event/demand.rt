@@ -8,7 +8,7 @@ ghost use Rattle.iceoryx2_event_builder.specs.Event.{deadline_value as value_of}
 ghost use Rattle.iceoryx2_event_builder.specs.Request.{fresh_demand, demand_with, demanded_deadline};
 
 use crate::event::setting::EventSetting;
-use iceoryx2_builder_base::zeros::raised;
+use iceoryx2_builder_base::zeros::raise_zero;
 use iceoryx2_errors::error::{
     EventCreateError, EventOpenError, EventOpenOrCreateError, ServiceState,
 };
@@ -234,9 +234,9 @@ impl Pattern for EventDemand {
     ghost adjusted = { event_adjusted };
 
     fn adjust(&mut self) {
-        self.settings.max_notifiers = raised(self.settings.max_notifiers);
-        self.settings.max_listeners = raised(self.settings.max_listeners);
-        self.settings.max_nodes = raised(self.settings.max_nodes);
+        self.settings.max_notifiers = raise_zero(self.settings.max_notifiers);
+        self.settings.max_listeners = raise_zero(self.settings.max_listeners);
+        self.settings.max_nodes = raise_zero(self.settings.max_nodes);
     }
 
     fn fault(&self, state: ServiceState) -> ServiceState {

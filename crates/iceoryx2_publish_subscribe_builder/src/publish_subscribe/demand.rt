@@ -5,7 +5,7 @@ ghost use Rattle.iceoryx2_pattern.specs.Verdict.{verdict, marked_clauses};
 ghost use Rattle.iceoryx2_publish_subscribe_builder.specs.PublishSubscribe.{publish_subscribe_refusal, setting_rows};
 ghost use Rattle.iceoryx2_publish_subscribe_builder.specs.Request.{fresh_demand};
 
-use iceoryx2_builder_base::zeros::raised;
+use iceoryx2_builder_base::zeros::raise_zero;
 use iceoryx2_errors::error::publish_subscribe::ServiceAvailabilityState;
 use iceoryx2_errors::error::{
     PublishSubscribeCreateError, PublishSubscribeOpenError, PublishSubscribeOpenOrCreateError,
@@ -152,11 +152,13 @@ impl Pattern for PreparedDemand {
 
     fn adjust(&mut self) {
         let settings = &mut self.demand.settings;
-        settings.max_publishers = raised(settings.max_publishers);
-        settings.max_subscribers = raised(settings.max_subscribers);
-        settings.subscriber_max_buffer_size = raised(settings.subscriber_max_buffer_size);
-        settings.subscriber_max_borrowed_samples = raised(settings.subscriber_max_borrowed_samples);
-        settings.max_nodes = raised(settings.max_nodes);
+        settings.max_publishers = raise_zero(settings.max_publishers);
+        settings.max_subscribers = raise_zero(settings.max_subscribers);
+        settings.subscriber_max_buffer_size = raise_zero(settings.subscriber_max_buffer_size);
+        settings.subscriber_max_borrowed_samples = raise_zero(
+            settings.subscriber_max_borrowed_samples,
+        );
+        settings.max_nodes = raise_zero(settings.max_nodes);
     }
 
     fn fault(&self, state: ServiceState) -> ServiceAvailabilityState {

@@ -5,7 +5,7 @@ ghost use Rattle.iceoryx2_pattern.specs.Verdict.{verdict, marked_clauses};
 ghost use Rattle.iceoryx2_request_response_builder.specs.Request.{fresh_demand};
 ghost use Rattle.iceoryx2_request_response_builder.specs.RequestResponse.{request_response_refusal, setting_rows};
 
-use iceoryx2_builder_base::zeros::raised;
+use iceoryx2_builder_base::zeros::raise_zero;
 use iceoryx2_errors::error::request_response::ServiceAvailabilityState;
 use iceoryx2_errors::error::{
     RequestResponseCreateError, RequestResponseOpenError, RequestResponseOpenOrCreateError,
@@ -192,15 +192,17 @@ impl Pattern for PreparedDemand {
 
     fn adjust(&mut self) {
         let settings = &mut self.demand.settings;
-        settings.max_active_requests_per_client = raised(settings.max_active_requests_per_client);
-        settings.max_loaned_requests = raised(settings.max_loaned_requests);
-        settings.max_borrowed_responses_per_pending_response = raised(
+        settings.max_active_requests_per_client = raise_zero(
+            settings.max_active_requests_per_client,
+        );
+        settings.max_loaned_requests = raise_zero(settings.max_loaned_requests);
+        settings.max_borrowed_responses_per_pending_response = raise_zero(
             settings.max_borrowed_responses_per_pending_response,
         );
-        settings.max_response_buffer_size = raised(settings.max_response_buffer_size);
-        settings.max_servers = raised(settings.max_servers);
-        settings.max_clients = raised(settings.max_clients);
-        settings.max_nodes = raised(settings.max_nodes);
+        settings.max_response_buffer_size = raise_zero(settings.max_response_buffer_size);
+        settings.max_servers = raise_zero(settings.max_servers);
+        settings.max_clients = raise_zero(settings.max_clients);
+        settings.max_nodes = raise_zero(settings.max_nodes);
     }
 
     fn fault(&self, state: ServiceState) -> ServiceAvailabilityState {

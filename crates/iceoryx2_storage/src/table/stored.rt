@@ -4,9 +4,9 @@ ghost use Rattle.std.specs.Prelude.{◌≡◌, ◌&&◌, IfOk, nat_lt, filter, l
 ghost use Rattle.iceoryx2_world.specs.World.{belongs, empty_world, ticket_count, tag_of};
 ghost use Rattle.iceoryx2_world.specs.Listing.{Lists};
 ghost use Rattle.std.specs.Option.{option_copied};
-ghost use Rattle.iceoryx2_batches.specs.Batches.{counted, IsBatch, IsPeerStep};
+ghost use Rattle.iceoryx2_batches.specs.Batches.{IsBatch, IsPeerStep, skipped_after};
 ghost use Rattle.iceoryx2_access.specs.Letter as letter;
-ghost use Rattle.iceoryx2_access.specs.Letter.{fetched};
+ghost use Rattle.iceoryx2_access.specs.Letter.{fetch_answer};
 ghost use Rattle.iceoryx2_world.specs.Access.{IsOwnPart, has_lock, has_made as has_made_spec, is_ticket};
 
 use iceoryx2_access::storage::{
@@ -87,7 +87,7 @@ fn may_make(phase: Phase, number: u64, max_nodes: u64) -> bool
 
 // The count of skipped steps after one that answered this.
 fn count_after(taken: Result<bool, AllocError>, skipped: u64) -> u64
-    ensures { result ≡ counted taken skipped }
+    ensures { result ≡ skipped_after taken skipped }
 {
     match taken {
         Ok(_) => skipped,
@@ -165,7 +165,7 @@ impl StoredWorld {
     }
 
     pub fn fetch(&mut self, node: u64, hash: &ServiceHash) -> Result<(u64, Vec<u8>), FetchError>
-        ensures { IsOwnPart self.old (letter.Fetch node hash.now (fetched result)) self.new }
+        ensures { IsOwnPart self.old (letter.Fetch node hash.now (fetch_answer result)) self.new }
     {
         let Some(row) = self.services.row(hash) else {
             return Err(FetchError::DoesNotExist);

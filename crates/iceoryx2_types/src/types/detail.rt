@@ -2,7 +2,7 @@
 
 ghost use Rattle.std.specs.Prelude.{◌≡◌, ◌<◌, ◌^◌, ◌↔◌, Err, IfOk, IsTrue, string_bytes};
 ghost use Rattle.iceoryx2_types.specs.Types.{HasNameLength, IsAlignment, IsDetail, IsTypeName};
-ghost use Rattle.iceoryx2_types.specs.Types.{Fits, aligned as aligned_as, detail_of, fits, same_detail};
+ghost use Rattle.iceoryx2_types.specs.Types.{Fits, detail_of, fits, same_detail, with_alignment as aligned_as};
 ghost use Rattle.iceoryx2_types.specs.Types.{with_variant};
 
 use super::{Alignment, TypeDetailError, TypeVariant, ZeroCopySend, has_name_length};
@@ -217,7 +217,7 @@ impl TypeDetail {
     }
 
     /// The same type, aligned at least as far as is asked.
-    pub(super) fn aligned(self, asked: Option<Alignment>) -> TypeDetail
+    pub(super) fn with_alignment(self, asked: Option<Alignment>) -> TypeDetail
         ensures value { result ≡ aligned_as self asked }
         ensures limits { IsDetail result }
     {

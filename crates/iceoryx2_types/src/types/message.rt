@@ -2,7 +2,7 @@
 
 ghost use Rattle.std.specs.Prelude.{◌≡◌, ◌↔◌, IfOk, IsTrue};
 ghost use Rattle.iceoryx2_types.specs.Types.{IsCompatible, IsDetail, IsMessage};
-ghost use Rattle.iceoryx2_types.specs.Types.{compatible, message_of, prepared as prepared_from, with_variant};
+ghost use Rattle.iceoryx2_types.specs.Types.{compatible, message_of, with_overrides as overridden_by, with_variant};
 ghost use Rattle.iceoryx2_types.specs.declared.types.TypeVariant.TheVariants.{FixedSize};
 
 use super::{Alignment, TypeDetail, TypeVariant, ZeroCopySend};
@@ -82,14 +82,14 @@ impl MessageTypeDetails {
     /// These types as a call asks for them: where a user header or a payload is given, it takes
     /// the place of its own, and the payload is then aligned at least as far as is asked. So a
     /// payload that is given and an alignment that is asked come to the same in either order.
-    #[tactic(auto, unfolding(crate::specs::Types::prepared))]
-    pub fn prepared(
+    #[tactic(auto, unfolding(crate::specs::Types::with_overrides))]
+    pub fn with_overrides(
         self,
         user_header: Option<TypeDetail>,
         payload: Option<TypeDetail>,
         alignment: Option<Alignment>,
     ) -> MessageTypeDetails
-        ensures value { result ≡ prepared_from self user_header payload alignment }
+        ensures value { result ≡ overridden_by self user_header payload alignment }
         ensures limits { IsMessage result }
     {
         let MessageTypeDetails {
@@ -98,7 +98,7 @@ impl MessageTypeDetails {
             payload: own_payload,
         } = self;
         let user_header = user_header.unwrap_or(own_user_header);
-        let payload = payload.unwrap_or(own_payload).aligned(alignment);
+        let payload = payload.unwrap_or(own_payload).with_alignment(alignment);
         MessageTypeDetails::new(header, user_header, payload)
     }
 

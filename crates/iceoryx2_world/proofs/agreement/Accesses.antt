@@ -25,7 +25,7 @@ use Rattle.iceoryx2_world.proofs.agreement.Whole.{after_keeps}
 use Rattle.iceoryx2_world.specs.StepCases.{IsStep, joins as row_joins, joins_again}
 use Rattle.iceoryx2_world.proofs.agreement.StepCases.{step_case}
 use Rattle.iceoryx2_world.proofs.agreement.Step.{later_same}
-use Rattle.iceoryx2_world.proofs.agreement.Effects.{stepped}
+use Rattle.iceoryx2_world.proofs.agreement.Effects.{allowed_step}
 use Rattle.iceoryx2_world.proofs.agreement.Tickets.{one_if, belongs_means}
 use Rattle.iceoryx2_world.proofs.agreement.Worlds.{ticket_put, is_none, peer_keeps, idle_keeps, gain_keeps, lose_keeps, step_locks, step_places}
 use Rattle.iceoryx2_world.proofs.agreement.Parts.{mine, Publishing, Joining, IsCalm, Part, stays, tagged, calm, removed, publishes, joins, releases, own_part}
@@ -106,7 +106,7 @@ published_keeps w v id h n d t p old =
     let u = p.mid in
     let locked : row_of w h ≡ Some (row.Locked n) = (old.everywhere h).locked (Node id) n (ap locked_number p.phase) in
     let below : n < w.counter = (old.everywhere h).row_below (row.Locked n) locked in
-    let st = stepped w u (Node id) h (act.Publish d) p.step in
+    let st = allowed_step w u (Node id) h (act.Publish d) p.step in
     let kept = after_keeps w u (Node id) h (act.Publish d) p.limits p.step old.everywhere in
     let places = step_places w u id h (act.Publish d) st in
     let joined : joined_number (phase_of u (Node id) h) ≡ Some n = elim (places id h) [ inl q ↦ q.2.number ∙ ap phase_number p.phase | inr q ↦ absurd (q.0 refl refl) ] in
@@ -121,7 +121,7 @@ published_keeps w v id h n d t p old =
 opened_keeps : (w v : World) (id : ℕ) (h : ServiceHash) (n t : ℕ) → Joining w id h n t v → Agrees w → Agrees v × Later w v
 opened_keeps w v id h n t p old =
     let u = p.mid in
-    let st = stepped w u (Node id) h act.Join p.step in
+    let st = allowed_step w u (Node id) h act.Join p.step in
     let kept = after_keeps w u (Node id) h act.Join tt p.step old.everywhere in
     let still : u.counter ≡ w.counter = subst (λ (z : World). z.counter ≡ w.counter) st.world (join_counter (step_case (Node id) h act.Join (phase_of w (Node id) h) (row_of w h) (segment_of w h) w.counter st.spot st.is)) in
     let free : (g : ServiceHash) → row_of u g ≢ Some (row.Locked w.counter) = λ g l. absurd (grind (arith, (kept.0 g).row_below (row.Locked w.counter) l, still)) in

@@ -22,7 +22,7 @@ use Rattle.iceoryx2_world.specs.Calm.{published_of, SameServices, IsCalmLetter}
 use Rattle.iceoryx2_world.specs.StepCases.{IsStep, reads, locks as row_locks, clears, makes, unmakes, unlocks as row_unlocks, publishes as row_publishes, joins as row_joins, joins_again, leaves_once, leaves, leaves_last, clears_last, ends as row_ends}
 use Rattle.iceoryx2_world.proofs.agreement.StepCases.{step_case}
 use Rattle.iceoryx2_world.proofs.agreement.Maps.{set_cases}
-use Rattle.iceoryx2_world.proofs.agreement.Effects.{PhaseChange, Gains, Idles, Stepped, stepped, step_effect}
+use Rattle.iceoryx2_world.proofs.agreement.Effects.{PhaseChange, Gains, Idles, AllowedStep, allowed_step, step_effect}
 use Rattle.iceoryx2_world.proofs.agreement.Worlds.{place_cases, step_places}
 use Rattle.iceoryx2_world.proofs.agreement.Parts.{IsCalm, Part, stays, tagged, calm, removed, publishes, joins, releases, own_part, publishing, joining, releasing}
 use Rattle.iceoryx2_world.proofs.agreement.Accesses.{joined_means}
@@ -67,7 +67,7 @@ unlock_row : {p : Participant} {h : ServiceHash} {x : Phase} {r : Option Row} {s
 unlock_row (row_unlocks lock) = refl
 unlock_row (row_ends last) = refl
 
-step_same : (w v : World) (p : Participant) (g : ServiceHash) (a : Act) → (st : Stepped w v p g a) → published_of st.spot.row ≡ published_of (row_of w g) → join_count st.spot.phase ≡ join_count (phase_of w p g) → SameServices w v
+step_same : (w v : World) (p : Participant) (g : ServiceHash) (a : Act) → (st : AllowedStep w v p g a) → published_of st.spot.row ≡ published_of (row_of w g) → join_count st.spot.phase ≡ join_count (phase_of w p g) → SameServices w v
 step_same w v p g a st row count = subst (λ u. SameServices w u) st.world (record {
   published = λ h. elim (set_cases hash_total hash_exact w.rows g st.spot.row h) [
     | inl e ↦ ap published_of e.1 ∙ row ∙ ap (λ k. published_of (row_of w k)) (sym e.0)
@@ -89,7 +89,7 @@ calmed_same w v e = subst (λ u. Calmed w u) (sym e) (record { same = record { p
 
 calmed : (w v : World) (id : ℕ) (g : ServiceHash) (a : Act) → IsCalm a → world_after w (Node id) g a ≡ Some v → Calmed w v
 calmed w v id g a ok e =
-    let st = stepped w v (Node id) g a e in
+    let st = allowed_step w v (Node id) g a e in
     let c = calm_row (step_case (Node id) g a (phase_of w (Node id) g) (row_of w g) (segment_of w g) w.counter st.spot st.is) ok in
     let i = calm_idles a _ _ ok (step_effect (Node id) g a (phase_of w (Node id) g) (row_of w g) (segment_of w g) w.counter st.spot st.is).change in
     record {
@@ -120,7 +120,7 @@ part_unlocks w v i h n a lock old (removed j g is e) =
     let node : i ≡ j = cc in
     let hash : h ≡ g = cc in
     let here : world_after w (Node i) h act.RemoveDescription ≡ Some v = (λ k. world_after w (Node (node k)) (hash k) act.RemoveDescription) ∙ e in
-    let st = stepped w v (Node i) h act.RemoveDescription here in
+    let st = allowed_step w v (Node i) h act.RemoveDescription here in
     let row = unlock_row (step_case (Node i) h act.RemoveDescription (phase_of w (Node i) h) (row_of w h) (segment_of w h) w.counter st.spot st.is) in
     let was = (old.everywhere h).locked (Node i) n lock in
     let c = (step_effect (Node i) h act.RemoveDescription (phase_of w (Node i) h) (row_of w h) (segment_of w h) w.counter st.spot st.is).change in
@@ -135,7 +135,7 @@ own_unlocks w v i h n a lock old o = part_unlocks w v i h n a lock old (own_part
 
 -- the count at a step's place, in a world with the same phases
 gained : (w u : World) (i : ℕ) (h : ServiceHash) (a : Act) → ((x y : Phase) → PhaseChange a x y → Gains x y) → world_after w (Node i) h a ≡ Some u → join_count (phase_of u (Node i) h) ≡ join_count (phase_of w (Node i) h) + 1
-gained w u i h a gain e = elim (step_places w u i h a (stepped w u (Node i) h a e) i h) [ inl k ↦ (gain _ _ k.2).count | inr k ↦ absurd (k.0 refl refl) ]
+gained w u i h a gain e = elim (step_places w u i h a (allowed_step w u (Node i) h a e) i h) [ inl k ↦ (gain _ _ k.2).count | inr k ↦ absurd (k.0 refl refl) ]
 
 -- A publishing and an opening raise the count of their node by one.
 pub publishing_counts : (w v : World) (i : ℕ) (h : ServiceHash) (n : ℕ) (d : Description) (t : ℕ) → IsOwnPart w (letter.Publish i h n d (Ok t)) v → join_count (phase_of v (Node i) h) ≡ join_count (phase_of w (Node i) h) + 1
@@ -150,7 +150,7 @@ releasing_counts w v t i h n a o old =
     let p = releasing w v t i h n a o in
     let j = joined_means _ n (old.held.number t _ p.ticket) in
     let some : 1 ≤ join_count (phase_of w (Node i) h) = subst (λ x. 1 ≤ join_count x) (sym j.1) ((old.everywhere h).joined (Node i) n j.0 j.1).0 in
-    elim (step_places w p.mid i h act.Leave (stepped w p.mid (Node i) h act.Leave p.step) i h) [
+    elim (step_places w p.mid i h act.Leave (allowed_step w p.mid (Node i) h act.Leave p.step) i h) [
       | inl k ↦ k.2.count some ∙ ap (λ z. join_count (phase_of z (Node i) h) + 1) (sym p.is)
       | inr k ↦ absurd (k.0 refl refl)
     ]
@@ -178,7 +178,7 @@ lock_spot (row_locks free below) = refl
 
 -- who locks has the lock, and its number
 pub locked_now : (w v : World) (id : ℕ) (h : ServiceHash) → world_after w (Node id) h act.Lock ≡ Some v → locked_number (phase_of v (Node id) h) ≡ Some w.counter
-locked_now w v id h e = let st = stepped w v (Node id) h act.Lock e in
+locked_now w v id h e = let st = allowed_step w v (Node id) h act.Lock e in
     subst (λ u. locked_number (phase_of u (Node id) h) ≡ Some w.counter) st.world (elim (place_cases w (Node id) h st.spot (Node id) h) [
       | inl k ↦ ap locked_number k.2 ∙ lock_spot (step_case (Node id) h act.Lock (phase_of w (Node id) h) (row_of w h) (segment_of w h) w.counter st.spot st.is)
       | inr k ↦ absurd (k.0 refl refl)

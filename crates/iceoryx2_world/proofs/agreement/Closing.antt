@@ -15,7 +15,7 @@ use Rattle.iceoryx2_world.specs.Steps.{Spot, spot_after}
 use Rattle.iceoryx2_access.specs.Letter as letter
 use Rattle.iceoryx2_world.specs.Access.{write, spot_becomes_with, release_answer, is_ticket, IsOwnPart}
 use Rattle.iceoryx2_world.specs.Faulty.{IsFaulty}
-use Rattle.iceoryx2_world.proofs.agreement.Effects.{stepped as stepped_world}
+use Rattle.iceoryx2_world.proofs.agreement.Effects.{allowed_step}
 use Rattle.iceoryx2_world.proofs.agreement.Worlds.{place_cases}
 use Rattle.iceoryx2_world.proofs.agreement.Parts.{clearing, sure_answer_cases, passed, release_ok}
 use Rattle.iceoryx2_world.proofs.agreement.Accesses.{granted}
@@ -64,5 +64,5 @@ segment_removed_phase w v i h m a is e =
     let b = granted w (letter.RemoveSegment i h (Ok a)) v (λ x. cc) e in
     let was = peers_phase b.peers i h ∙ is in
     let done = clearing b.between v i h a b.own in
-    let st = stepped_world b.between v (Node i) h act.RemoveSegment done in
+    let st = allowed_step b.between v (Node i) h act.RemoveSegment done in
     own_phase b.between v i h act.RemoveSegment st ∙ clear_phase (Node i) h m (row_of b.between h) (segment_of b.between h) (b.between).counter st.spot (subst (λ x. spot_after (Node i) h act.RemoveSegment x (row_of b.between h) (segment_of b.between h) (b.between).counter ≡ Some st.spot) was st.is)

@@ -91,14 +91,14 @@ pub step_effect : (p : Participant) (h : ServiceHash) (act : Act) (x : Phase) (r
 step_effect p h act x r s c new e = row_effect (step_case p h act x r s c new e)
 
 -- an allowed step of a world
-pub record Stepped (w v : World) (p : Participant) (h : ServiceHash) (act : Act) : Type 0 where
+pub record AllowedStep (w v : World) (p : Participant) (h : ServiceHash) (act : Act) : Type 0 where
   pub spot : Spot
   pub is : spot_after p h act (phase_of w p h) (row_of w h) (segment_of w h) w.counter ≡ Some spot
   pub world : put w p h spot ≡ v
 
-of_option : (w v : World) (p : Participant) (h : ServiceHash) (act : Act) (o : Option Spot) → spot_after p h act (phase_of w p h) (row_of w h) (segment_of w h) w.counter ≡ o → option_map (put w p h) o ≡ Some v → Stepped w v p h act
+of_option : (w v : World) (p : Participant) (h : ServiceHash) (act : Act) (o : Option Spot) → spot_after p h act (phase_of w p h) (row_of w h) (segment_of w h) w.counter ≡ o → option_map (put w p h) o ≡ Some v → AllowedStep w v p h act
 of_option w v p h act None is e = absurd (cc)
 of_option w v p h act (Some s) is e = record { spot = s; is = is; world = cc }
 
-pub stepped : (w v : World) (p : Participant) (h : ServiceHash) (act : Act) → world_after w p h act ≡ Some v → Stepped w v p h act
-stepped w v p h act e = of_option w v p h act _ refl e
+pub allowed_step : (w v : World) (p : Participant) (h : ServiceHash) (act : Act) → world_after w p h act ≡ Some v → AllowedStep w v p h act
+allowed_step w v p h act e = of_option w v p h act _ refl e

@@ -23,7 +23,7 @@ use Rattle.iceoryx2_world.specs.Peers.{Peers, none, peer, IsAccess}
 use Rattle.iceoryx2_access.specs.Factory.{Factory}
 use Rattle.iceoryx2_world.specs.Standing.{ticket_for, Stands}
 use Rattle.iceoryx2_world.proofs.agreement.Maps.{self}
-use Rattle.iceoryx2_world.proofs.agreement.Effects.{stepped as stepped_world}
+use Rattle.iceoryx2_world.proofs.agreement.Effects.{allowed_step}
 use Rattle.iceoryx2_world.proofs.agreement.Worlds.{peer_places}
 use Rattle.iceoryx2_world.proofs.agreement.Accesses.{joined_means, peers_keep}
 use Rattle.iceoryx2_world.proofs.agreement.Stands.{peers_ticket}
@@ -31,7 +31,7 @@ use Rattle.iceoryx2_world.proofs.agreement.Stands.{peers_ticket}
 -- peers leave a node where it is
 pub peers_phase : {w v : World} → Peers w v → (i : ℕ) (h : ServiceHash) → phase_of v (Node i) h ≡ phase_of w (Node i) h
 peers_phase none i h = refl
-peers_phase {w = u} {v = w} (peer {v = v} id g a ok e rest) i h = peers_phase rest i h ∙ peer_places u v id g a (stepped_world u v (Peer id) g a e) i h
+peers_phase {w = u} {v = w} (peer {v = v} id g a ok e rest) i h = peers_phase rest i h ∙ peer_places u v id g a (allowed_step u v (Peer id) g a e) i h
 
 own_ticket : (i : ℕ) (h : ServiceHash) (n : ℕ) → is_ticket i h n (Some (record { node = i; hash = h; number = n })) ≡ true
 own_ticket i h n = rw (self hash_total hash_exact h) (grind (arith, nat_tests))

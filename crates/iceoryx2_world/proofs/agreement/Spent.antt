@@ -21,7 +21,7 @@ use Rattle.iceoryx2_world.proofs.agreement.Whole.{after_keeps}
 use Rattle.iceoryx2_world.specs.StepCases.{IsStep, reads, locks, clears, makes, unmakes, unlocks, publishes, joins as adds, joins_again, leaves_once, leaves, leaves_last, clears_last, ends}
 use Rattle.iceoryx2_world.proofs.agreement.StepCases.{step_case}
 use Rattle.iceoryx2_world.proofs.agreement.Maps.{set_cases}
-use Rattle.iceoryx2_world.proofs.agreement.Effects.{stepped}
+use Rattle.iceoryx2_world.proofs.agreement.Effects.{allowed_step}
 use Rattle.iceoryx2_world.proofs.agreement.Worlds.{peer_keeps}
 use Rattle.iceoryx2_world.proofs.agreement.Parts.{IsCalm, Part, stays, tagged, calm, removed, publishes, joins, releases, own_part}
 use Rattle.iceoryx2_world.proofs.agreement.Accesses.{peers_keep}
@@ -59,7 +59,7 @@ row_segment (ends last) = same_origin _ _
 -- the same in worlds, at each service
 pub world_segment : (w v : World) (p : Participant) (g : ServiceHash) (a : Act) → world_after w p g a ≡ Some v → (h : ServiceHash) (y : Segment) → segment_of v h ≡ Some y → ((z : Segment) × (segment_of w h ≡ Some z) × (z.number ≡ y.number)) ⊎ (locked_number (phase_of w p h) ≡ Some y.number)
 world_segment w v p g a e h y is =
-    let st = stepped w v p g a e in
+    let st = allowed_step w v p g a e in
     let there : segment_of (put w p g st.spot) h ≡ Some y = ap (λ u. segment_of u h) st.world ∙ is in
     elim (set_cases hash_total hash_exact w.segments g st.spot.segment h) [
       | inl k ↦ elim (row_segment (step_case p g a (phase_of w p g) (row_of w g) (segment_of w g) w.counter st.spot st.is) y (sym k.1 ∙ there)) [

@@ -33,7 +33,7 @@ use Rattle.iceoryx2_world.proofs.agreement.Whole.{after_keeps}
 use Rattle.iceoryx2_world.specs.StepCases.{IsStep, publishes as row_publishes}
 use Rattle.iceoryx2_world.proofs.agreement.StepCases.{step_case}
 use Rattle.iceoryx2_world.proofs.agreement.Maps.{set_cases}
-use Rattle.iceoryx2_world.proofs.agreement.Effects.{Stepped, stepped}
+use Rattle.iceoryx2_world.proofs.agreement.Effects.{AllowedStep, allowed_step}
 use Rattle.iceoryx2_world.proofs.agreement.Worlds.{ticket_put, ticket_removed, place_cases, step_tickets}
 use Rattle.iceoryx2_world.proofs.agreement.Parts.{mine, Part, stays, tagged, calm, removed, publishes, joins, releases, own_part, publishing, joining, releasing, fetching, locking}
 use Rattle.iceoryx2_world.proofs.agreement.Accesses.{later_refl, later_trans, joined_means, peers_keep, own_keeps, access_keeps, faulty_keeps, run_keeps, granted}
@@ -68,7 +68,7 @@ ticket_stands w t x a e =
 -- A step of another participant.
 pub other_stands : (w v : World) (p : Participant) (g : ServiceHash) (a : Act) (f : Factory) → (Node f.node ≢ p) → IsAct a → world_after w p g a ≡ Some v → Agrees w → Stands w f → Stands v f
 other_stands w v p g a f apart ok e old s =
-    let st = stepped w v p g a e in
+    let st = allowed_step w v p g a e in
     let kept = after_keeps w v p g a ok e old.everywhere in
     let still : phase_of v (Node f.node) f.description.hash ≡ phase_of w (Node f.node) f.description.hash = subst (λ (u : World). phase_of u (Node f.node) f.description.hash ≡ phase_of w (Node f.node) f.description.hash) st.world (elim (place_cases w p g st.spot (Node f.node) f.description.hash) [
       | inl k ↦ absurd (apart k.0)
@@ -78,7 +78,7 @@ other_stands w v p g a f apart ok e old s =
 
 -- a step leaves all tickets
 step_ticket : (w v : World) (p : Participant) (g : ServiceHash) (a : Act) (t : ℕ) (x : Ticket) → world_after w p g a ≡ Some v → ticket_of w t ≡ Some x → ticket_of v t ≡ Some x
-step_ticket w v p g a t x e k = ap (λ m. map.get m t) (step_tickets w v p g a (stepped w v p g a e)) ∙ k
+step_ticket w v p g a t x e k = ap (λ m. map.get m t) (step_tickets w v p g a (allowed_step w v p g a e)) ∙ k
 
 -- another ticket comes or goes
 other_ticket : (u v : World) (s t : ℕ) (o : Option Ticket) (x : Ticket) → s ≢ t → ((q : ℕ) → ((q ≡ s) × (ticket_of v q ≡ o)) ⊎ ((q ≢ s) × (ticket_of v q ≡ ticket_of u q))) → ticket_of u t ≡ Some x → ticket_of v t ≡ Some x
@@ -125,13 +125,13 @@ publish_spot : {p : Participant} {h : ServiceHash} {d : Description} {n : ℕ} {
     → IsStep p h (act.Publish d) x r s c new → (new.row ≡ Some (row.Published n (form.description d))) × (d.hash ≡ h)
 publish_spot {d = d} {n = n} is (row_publishes {n = m} hash nodes) = let same : m ≡ n = cc in (ap (λ k. Some (row.Published k (form.description d))) same, hash)
 
-pub own_row : (w v : World) (p : Participant) (h : ServiceHash) (a : Act) → (st : Stepped w v p h a) → row_of v h ≡ st.spot.row
+pub own_row : (w v : World) (p : Participant) (h : ServiceHash) (a : Act) → (st : AllowedStep w v p h a) → row_of v h ≡ st.spot.row
 own_row w v p h a st = subst (λ u. row_of u h ≡ st.spot.row) st.world (elim (set_cases hash_total hash_exact w.rows h st.spot.row h) [ inl e ↦ e.1 | inr e ↦ absurd (e.0 refl) ])
 
-pub own_phase : (w v : World) (i : ℕ) (h : ServiceHash) (a : Act) → (st : Stepped w v (Node i) h a) → phase_of v (Node i) h ≡ st.spot.phase
+pub own_phase : (w v : World) (i : ℕ) (h : ServiceHash) (a : Act) → (st : AllowedStep w v (Node i) h a) → phase_of v (Node i) h ≡ st.spot.phase
 own_phase w v i h a st = subst (λ u. phase_of u (Node i) h ≡ st.spot.phase) st.world (elim (place_cases w (Node i) h st.spot (Node i) h) [ inl k ↦ k.2 | inr k ↦ absurd (k.0 refl refl) ])
 
-pub own_segment : (w v : World) (p : Participant) (h : ServiceHash) (a : Act) → (st : Stepped w v p h a) → segment_of v h ≡ st.spot.segment
+pub own_segment : (w v : World) (p : Participant) (h : ServiceHash) (a : Act) → (st : AllowedStep w v p h a) → segment_of v h ≡ st.spot.segment
 own_segment w v p h a st = subst (λ u. segment_of u h ≡ st.spot.segment) st.world (elim (set_cases hash_total hash_exact w.segments h st.spot.segment h) [ inl e ↦ e.1 | inr e ↦ absurd (e.0 refl) ])
 
 -- a ticket that was put is there
@@ -143,7 +143,7 @@ pub published_stands : (w v : World) (i : ℕ) (h : ServiceHash) (n : ℕ) (d : 
 published_stands w v i h n d t e old =
     let a = granted w (letter.Publish i h n d (Ok t)) v (λ x. cc) e in
     let p = publishing a.between v i h n d t a.own in
-    let st = stepped a.between p.mid (Node i) h (act.Publish d) p.step in
+    let st = allowed_step a.between p.mid (Node i) h (act.Publish d) p.step in
     let new = (access_keeps w (letter.Publish i h n d (Ok t)) v a old).0 in
     let is = publish_spot p.phase (step_case (Node i) h (act.Publish d) (phase_of a.between (Node i) h) (row_of a.between h) (segment_of a.between h) a.between.counter st.spot st.is) in
     let f : Factory = record { node = i; number = n; ticket = t; description = d } in

@@ -18,7 +18,7 @@ use Rattle.iceoryx2_world.specs.Agreement.{AgreesEverywhere, Later}
 use Rattle.iceoryx2_world.proofs.agreement.Whole.{AgreesAt-later, after_keeps, stored}
 use Rattle.iceoryx2_world.specs.Across.{AgreesOnNumbers, Agrees}
 use Rattle.iceoryx2_world.proofs.agreement.Maps.{set_cases}
-use Rattle.iceoryx2_world.proofs.agreement.Effects.{Gains, Idles, PhaseChange, Stepped, stepped, step_effect}
+use Rattle.iceoryx2_world.proofs.agreement.Effects.{Gains, Idles, PhaseChange, AllowedStep, allowed_step, step_effect}
 use Rattle.iceoryx2_world.proofs.agreement.Holding.{Places, held_same, held_more, held_less}
 use Rattle.iceoryx2_world.proofs.agreement.Tickets.{one_if, count_insert, count_remove}
 
@@ -43,27 +43,27 @@ place_cases w p h s q g = elim (set_cases place_total place_exact w.phases (p, h
 ]
 
 -- a step moves one place of a node
-pub step_places : (w v : World) (id : ℕ) (h : ServiceHash) (a : Act) → Stepped w v (Node id) h a → Places w v id h (PhaseChange a)
+pub step_places : (w v : World) (id : ℕ) (h : ServiceHash) (a : Act) → AllowedStep w v (Node id) h a → Places w v id h (PhaseChange a)
 step_places w v id h a st = subst (λ u. Places w u id h (PhaseChange a)) st.world (λ i g. elim (place_cases w (Node id) h st.spot (Node i) g) [
   | inl e ↦ inl (same_node i id e.0, e.1, rw (ap (λ q. phase_of (put w (Node id) h st.spot) q h) (sym e.0) ∙ ap (phase_of (put w (Node id) h st.spot) (Node i)) (sym e.1) ∙ e.2) (step_effect (Node id) h a (phase_of w (Node id) h) (row_of w h) (segment_of w h) w.counter st.spot st.is).change)
   | inr e ↦ inr (λ x y. e.0 (ap Node x) y, e.1)
 ])
 
 -- no peer moves a node
-pub peer_places : (w v : World) (id : ℕ) (h : ServiceHash) (a : Act) → Stepped w v (Peer id) h a → (i : ℕ) (g : ServiceHash) → phase_of v (Node i) g ≡ phase_of w (Node i) g
+pub peer_places : (w v : World) (id : ℕ) (h : ServiceHash) (a : Act) → AllowedStep w v (Peer id) h a → (i : ℕ) (g : ServiceHash) → phase_of v (Node i) g ≡ phase_of w (Node i) g
 peer_places w v id h a st i g = subst (λ (u : World). phase_of u (Node i) g ≡ phase_of w (Node i) g) st.world (elim (place_cases w (Peer id) h st.spot (Node i) g) [
   | inl e ↦ absurd (not_peer i id e.0)
   | inr e ↦ e.1
 ])
 
-pub step_tickets : (w v : World) (p : Participant) (h : ServiceHash) (a : Act) → Stepped w v p h a → v.tickets ≡ w.tickets
+pub step_tickets : (w v : World) (p : Participant) (h : ServiceHash) (a : Act) → AllowedStep w v p h a → v.tickets ≡ w.tickets
 step_tickets w v p h a st = subst (λ (u : World). u.tickets ≡ w.tickets) st.world refl
 
-pub step_counter : (w v : World) (p : Participant) (h : ServiceHash) (a : Act) → Stepped w v p h a → w.counter ≤ v.counter
+pub step_counter : (w v : World) (p : Participant) (h : ServiceHash) (a : Act) → AllowedStep w v p h a → w.counter ≤ v.counter
 step_counter w v p h a st = subst (λ (u : World). w.counter ≤ u.counter) st.world (step_effect p h a (phase_of w p h) (row_of w h) (segment_of w h) w.counter st.spot st.is).rises
 
 -- Each lock of the new world is an old one, or the step's with the counter as number.
-pub step_locks : (w v : World) (p : Participant) (h : ServiceHash) (a : Act) → Stepped w v p h a → (g : ServiceHash) (n : ℕ) → row_of v g ≡ Some (row.Locked n) → (row_of w g ≡ Some (row.Locked n)) ⊎ ((g ≡ h) × (n ≡ w.counter) × (n < v.counter))
+pub step_locks : (w v : World) (p : Participant) (h : ServiceHash) (a : Act) → AllowedStep w v p h a → (g : ServiceHash) (n : ℕ) → row_of v g ≡ Some (row.Locked n) → (row_of w g ≡ Some (row.Locked n)) ⊎ ((g ≡ h) × (n ≡ w.counter) × (n < v.counter))
 step_locks w v p h a st g n = subst (λ (u : World). row_of u g ≡ Some (row.Locked n) → (row_of w g ≡ Some (row.Locked n)) ⊎ ((g ≡ h) × (n ≡ w.counter) × (n < u.counter))) st.world (λ l. elim (set_cases hash_total hash_exact w.rows h st.spot.row g) [
   | inl e ↦ elim ((step_effect p h a (phase_of w p h) (row_of w h) (segment_of w h) w.counter st.spot st.is).locks n (sym e.1 ∙ l)) [
     | inl same ↦ inl (ap (row_of w) e.0 ∙ same)
@@ -76,7 +76,7 @@ pub is_none : (o : Option Ticket) → ((x : Ticket) → o ≡ Some x → ⊥) �
 is_none None f = refl
 is_none (Some x) f = absurd (f x refl)
 
-pub step_numbered : (w v : World) (p : Participant) (h : ServiceHash) (a : Act) → Stepped w v p h a → AgreesEverywhere w → AgreesOnNumbers w → AgreesOnNumbers v
+pub step_numbered : (w v : World) (p : Participant) (h : ServiceHash) (a : Act) → AllowedStep w v p h a → AgreesEverywhere w → AgreesOnNumbers w → AgreesOnNumbers v
 step_numbered w v p h a st each old =
     let tickets = step_tickets w v p h a st in
     let rises = step_counter w v p h a st in
@@ -134,12 +134,12 @@ numbered_less w v t x there tickets rows rises old =
 pub bare_keeps : (w v : World) (p : Participant) (h : ServiceHash) (a : Act) → IsAct a → world_after w p h a ≡ Some v → AgreesEverywhere w → AgreesOnNumbers w → AgreesEverywhere v × AgreesOnNumbers v × Later w v
 bare_keeps w v p h a ok e each numbered =
     let kept = after_keeps w v p h a ok e each in
-    (kept.0, step_numbered w v p h a (stepped w v p h a e) each numbered, kept.1)
+    (kept.0, step_numbered w v p h a (allowed_step w v p h a e) each numbered, kept.1)
 
 -- a step of a peer keeps all
 pub peer_keeps : (w v : World) (id : ℕ) (h : ServiceHash) (a : Act) → IsAct a → world_after w (Peer id) h a ≡ Some v → Agrees w → Agrees v × Later w v
 peer_keeps w v id h a ok e old =
-    let st = stepped w v (Peer id) h a e in
+    let st = allowed_step w v (Peer id) h a e in
     let kept = after_keeps w v (Peer id) h a ok e old.everywhere in (
       record {
         everywhere = kept.0;
@@ -152,7 +152,7 @@ peer_keeps w v id h a ok e old =
 -- a node's step that join_count nothing
 pub idle_keeps : (w v : World) (id : ℕ) (h : ServiceHash) (a : Act) → IsAct a → ((x y : Phase) → PhaseChange a x y → Idles x y) → world_after w (Node id) h a ≡ Some v → Agrees w → Agrees v × Later w v
 idle_keeps w v id h a ok idle e old =
-    let st = stepped w v (Node id) h a e in
+    let st = allowed_step w v (Node id) h a e in
     let kept = after_keeps w v (Node id) h a ok e old.everywhere in
     let places = step_places w v id h a st in (
       record {
@@ -169,7 +169,7 @@ idle_keeps w v id h a ok idle e old =
 -- a node's step by which it gains a use, with a new ticket
 pub gain_keeps : (w u : World) (id : ℕ) (h : ServiceHash) (a : Act) (n t c : ℕ) → IsAct a → ((x y : Phase) → PhaseChange a x y → Gains x y) → world_after w (Node id) h a ≡ Some u → phase_number (phase_of w (Node id) h) ≡ Some n → ticket_of w t ≡ None → t < c → u.counter ≤ c → ((g : ServiceHash) → row_of u g ≢ Some (row.Locked t)) → ((i : ℕ) (g : ServiceHash) → one_if (belongs i g (t, record { node = id; hash = h; number = n })) + ticket_count w.tickets i g ≤ c) → Agrees w → Agrees (ticket_put (record u { counter = c }) t (record { node = id; hash = h; number = n })) × Later w (ticket_put (record u { counter = c }) t (record { node = id; hash = h; number = n }))
 gain_keeps w u id h a n t c ok gain e is fresh below rises free few old =
-    let st = stepped w u (Node id) h a e in
+    let st = allowed_step w u (Node id) h a e in
     let kept = after_keeps w u (Node id) h a ok e old.everywhere in
     let places = step_places w u id h a st in
     let tickets = step_tickets w u (Node id) h a st in
@@ -187,7 +187,7 @@ gain_keeps w u id h a n t c ok gain e is fresh below rises free few old =
 
 pub lose_keeps : (w u : World) (id : ℕ) (h : ServiceHash) (n t : ℕ) → world_after w (Node id) h act.Leave ≡ Some u → ticket_of w t ≡ Some (record { node = id; hash = h; number = n }) → Agrees w → Agrees (ticket_removed u t) × Later w (ticket_removed u t)
 lose_keeps w u id h n t e there old =
-    let st = stepped w u (Node id) h act.Leave e in
+    let st = allowed_step w u (Node id) h act.Leave e in
     let kept = after_keeps w u (Node id) h act.Leave tt e old.everywhere in
     let tickets = step_tickets w u (Node id) h act.Leave st in (
       record {

@@ -16,7 +16,7 @@ pub returns-in-Ok : goal.returns-in-Ok
 returns-in-Ok g c =
     let first = c.in-None-obstacle.ensures in
     let rest = rw (c.in-Ok.ensures, c.clock_stops-stops.ensures, c.needs_clock.ensures) at c.make_tagged-created.ensures in
-    rw (c.registered.ensures, c.in-Ok.ensures) (joins (creates _ _ _ (rest.is_word _ first.is_word (sym c.in-None.ensures))) (both first.run rest.run))
+    rw (c.registration_of.ensures, c.in-Ok.ensures) (joins (creates _ _ _ (rest.is_word _ first.is_word (sym c.in-None.ensures))) (both first.run rest.run))
 
 pub returns-in-Err : goal.returns-in-Err
 returns-in-Err g c = let first = c.in-None-obstacle.ensures in rw c.create_refusal.ensures (joins (not_entered (sym c.in-None.ensures) (enters _ _ _ (not_copied first.is_word))) first.run)

@@ -13,4 +13,4 @@ pub returns-in-Found : goal.returns-in-Found
 returns-in-Found g c =
     let seen = c.in-Found.ensures in
     let more = c.open_found-answer.ensures in
-    rw c.registered.ensures (joins (more.is_word _ (looks _ _ _ seen.is_word)) (both seen.run more.run))
+    rw c.registration_of.ensures (joins (more.is_word _ (looks _ _ _ seen.is_word)) (both seen.run more.run))

@@ -13,7 +13,7 @@ pub returns : goal.returns
 returns c =
     let rows = map_of hash_cmp c.self.inside.rows in
     let segments = map_of hash_cmp c.self.inside.segments in
-    IfOk-weaker c.merged.result _ _
+    IfOk-weaker c.merge_entries.result _ _
     (λ es is. subst (λ (b : Book). ListsAll b.rows b.segments es.items) c.self.view_is
     (subst (λ (l : List Entry). ListsAll rows segments l) (sym (is ∙ (λ i. merge (c.entries.ensures i) (c.entries-2.ensures i)))) (lists rows segments)))
-    c.merged.ensures
+    c.merge_entries.ensures

@@ -3,10 +3,10 @@ use Rattle.iceoryx2_builder_base.proofs.Granted.{created_of}
 use Rattle.iceoryx2_port_factory.specs.Patterns.{is_events}
 use Rattle.iceoryx2_event_builder.proofs.event.Builder.create_with_attributes.Goals as goal
 
-pub granted-requires : goal.granted-requires
-granted-requires g c = created_of is_events _ _ _ c.create.ensures.word refl
+pub hand_out-requires : goal.hand_out-requires
+hand_out-requires g c = created_of is_events _ _ _ c.create.ensures.word refl
 
 pub returns : goal.returns
 returns g c =
     let made = rw (c.attributes-attributes.ensures.value, c.hash-hash.ensures, c.node-node.ensures, c.name-name.ensures) at c.create.ensures.word in
-    rw (← c.self.view_is, c.granted.ensures) made
+    rw (← c.self.view_is, c.hand_out.ensures) made

@@ -7,10 +7,10 @@ use Rattle.iceoryx2_publish_subscribe_builder.proofs.publish_subscribe.Builder.c
 pub returns-in_default : goal.returns-in_default
 returns-in_default g c = without_types
 
-pub granted-requires : goal.granted-requires
-granted-requires g c = created_of is_publish_subscribe _ (Ok zero_span) _ c.create.ensures.word refl
+pub hand_out-requires : goal.hand_out-requires
+hand_out-requires g c = created_of is_publish_subscribe _ (Ok zero_span) _ c.create.ensures.word refl
 
 pub returns : goal.returns
 returns g c =
     let made = rw (c.in-Ok.ensures.1, c.attributes-attributes.ensures.value, c.hash-hash.ensures, c.node-node.ensures, c.name-name.ensures, c.in-Ok.ensures.0) at c.create.ensures.word in
-    rw (c.granted.ensures) (with_types made)
+    rw (c.hand_out.ensures) (with_types made)

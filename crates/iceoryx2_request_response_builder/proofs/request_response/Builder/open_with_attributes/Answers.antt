@@ -6,10 +6,10 @@ use Rattle.iceoryx2_request_response_builder.proofs.request_response.Builder.ope
 pub returns-in_default : goal.returns-in_default
 returns-in_default g c = without_types
 
-pub granted-requires : goal.granted-requires
-granted-requires g c = opened_of is_request_response _ c.open.ensures (λ d. what_fits _ _ d.pattern)
+pub hand_out-requires : goal.hand_out-requires
+hand_out-requires g c = opened_of is_request_response _ c.open.ensures (λ d. what_fits _ _ d.pattern)
 
 pub returns : goal.returns
 returns g c =
     let answer = rw (c.in-Ok.ensures.1, c.hash-hash.ensures, c.node.ensures, c.in-Ok.ensures.0) at c.open.ensures in
-    rw (c.granted.ensures) (with_types answer)
+    rw (c.hand_out.ensures) (with_types answer)

@@ -1,6 +1,6 @@
 use Rattle.std.proofs.Common.{◌≡◌, ◌+◌, ◌-◌, ◌≤◌, ◌++◌, length, drop}
 use Rattle.iceoryx2_book.specs.Merge.{merge}
-use Rattle.iceoryx2_book.proofs.merge.merged.Given as goal
+use Rattle.iceoryx2_book.proofs.merge.merge_entries.Given as goal
 
 abbrev pub invariant-loop-row : goal.invariant-loop-row
 invariant-loop-row l = record {
