@@ -17,7 +17,8 @@ use Rattle.iceoryx2_session.specs.PublishSubscribe.{publish_subscribe_call}
 use Rattle.iceoryx2_session.specs.RequestResponse.{request_response_call}
 
 -- by the pattern of the settings, one row each
-abbrev pub call_by : Config → ℕ → List ℕ → Requirements → Result Span ClockFault → Settings → BuilderCall
+abbrev pub call_by
+    : Config → ℕ → List ℕ → Requirements → Result Span ClockFault → Settings → BuilderCall
 call_by config node name attributes now (settings.Event xs) =
     event_call (with_settings event.with_setting (event.fresh_request node name config.event) xs.items) attributes now
 call_by config node name attributes now (settings.PublishSubscribe xs) =
