@@ -7,11 +7,13 @@ use Rattle.iceoryx2_values.specs.Span.{Span}
 use Rattle.iceoryx2_access.specs.Factory.{Factory}
 use Rattle.iceoryx2_access.specs.Letter.{Letter}
 use Rattle.iceoryx2_pattern.specs.Meaning.{Meaning}
+use Rattle.iceoryx2_rounds.proofs.Prepared.{each_call}
 use Rattle.iceoryx2_words.specs.Counts.{IsWithin}
 use Rattle.iceoryx2_words.proofs.Counts.{within_append, within_more, none_within, look_within, create_within, open_within}
 use Rattle.iceoryx2_open_or_create.specs.Retried.{Retried}
 use Rattle.iceoryx2_open_or_create.specs.declared.open_or_create.OpenOrCreateRefusal.{OpenOrCreateRefusal}
 use Rattle.iceoryx2_open_or_create.specs.OpenOrCreates.{IsRetriedTurn, open_retried, create_retried, IsLastTurn, look_faulty, not_opened, opened, not_created, created, AreRetriedTurns, no_turn, one_more, IsOpenOrCreateWord, ended, in_flux}
+use Rattle.iceoryx2_open_or_create.specs.Prepared.{IsOpenOrCreateCall}
 
 module _ {D F E C : Type 0} (meaning : D → Meaning F E C) (adjusted : D → D) (retried : Retried E C) (required : Requirements) (node : ℕ) (hash : ServiceHash) (name : List ℕ) (now : Result Span ClockFault) where
   last_within : {asked : D} {w : List Letter} {r : Result Factory (OpenOrCreateRefusal E C)} → IsLastTurn meaning adjusted retried required node hash name now asked w r → IsWithin w 13 6 6 6
@@ -34,6 +36,9 @@ module _ {D F E C : Type 0} (meaning : D → Meaning F E C) (adjusted : D → D)
   open_or_create_within (ended small before t) = within_more _ _ _ _ (omega arith) (omega arith) (omega arith) (omega arith) (within_append (turns_within before) (last_within t))
   open_or_create_within (in_flux before) = turns_within before
 
+  pub open_or_create_call_within : {first : D} {w : List Letter} {r : Result Factory (OpenOrCreateRefusal E C)} → IsOpenOrCreateCall meaning adjusted retried required node hash name now first w r → IsWithin w 78 36 36 36
+  open_or_create_call_within = each_call (λ w r. IsWithin w 78 36 36 36) (within_more _ _ _ _ (omega arith) (omega arith) (omega arith) (omega arith) none_within) (λ w r is. open_or_create_within is)
+
   module _ (never : (error : E) → retried.of_open error ≡ false) where
     -- a round that is retried is a create's
     created_within : {asked next : D} {w : List Letter} → IsRetriedTurn meaning adjusted retried required node hash name now asked w next → IsWithin w 2 0 6 6
@@ -47,3 +52,6 @@ module _ {D F E C : Type 0} (meaning : D → Meaning F E C) (adjusted : D → D)
     pub open_or_create_within_fewer : {first : D} {w : List Letter} {r : Result Factory (OpenOrCreateRefusal E C)} → IsOpenOrCreateWord meaning adjusted retried required node hash name now first w r → IsWithin w 23 6 36 36
     open_or_create_within_fewer (ended small before t) = within_more _ _ _ _ (omega arith) (omega arith) (omega arith) (omega arith) (within_append (creates_within before) (last_within t))
     open_or_create_within_fewer (in_flux before) = within_more _ _ _ _ (omega arith) (omega arith) (omega arith) (omega arith) (creates_within before)
+
+    pub open_or_create_call_within_fewer : {first : D} {w : List Letter} {r : Result Factory (OpenOrCreateRefusal E C)} → IsOpenOrCreateCall meaning adjusted retried required node hash name now first w r → IsWithin w 23 6 36 36
+    open_or_create_call_within_fewer = each_call (λ w r. IsWithin w 23 6 36 36) (within_more _ _ _ _ (omega arith) (omega arith) (omega arith) (omega arith) none_within) (λ w r is. open_or_create_within_fewer is)

@@ -10,12 +10,14 @@ use Rattle.iceoryx2_pattern.specs.Meaning.{Meaning}
 use Rattle.iceoryx2_rounds.specs.declared.look.Outcome.{Outcome}
 use Rattle.iceoryx2_rounds.specs.Looks.{IsLookWord}
 use Rattle.iceoryx2_rounds.specs.Opens.{IsOpenWord}
+use Rattle.iceoryx2_rounds.proofs.Prepared.{refused_call}
 use Rattle.iceoryx2_words.specs.Keeps.{GivesAllBack, NoLock}
 use Rattle.iceoryx2_words.proofs.Kept.{then_keeps, look_keeps, refused_create_keeps, refused_open_keeps, created_keeps, opened_keeps}
 use Rattle.iceoryx2_open_or_create.specs.Retried.{Retried}
 use Rattle.iceoryx2_open_or_create.specs.declared.open_or_create.OpenOrCreateRefusal.{OpenOrCreateRefusal}
 use Rattle.iceoryx2_open_or_create.specs.OpenOrCreates as words
 use Rattle.iceoryx2_open_or_create.specs.OpenOrCreates.{IsRetriedTurn, open_retried, create_retried, IsLastTurn, look_faulty, not_opened, opened, not_created, created, AreRetriedTurns, no_turn, IsOpenOrCreateWord, ended, in_flux}
+use Rattle.iceoryx2_open_or_create.specs.Prepared.{IsOpenOrCreateCall}
 use Rattle.iceoryx2_open_or_create.specs.Leaves.{GivesBackByRounds, no_round, one_more, KeepsInTheEnd}
 
 module _ {node : ℕ} {hash : ServiceHash} where
@@ -46,6 +48,9 @@ module _ {D F E C : Type 0} {meaning : D → Meaning F E C} {adjusted : D → D}
   pub refused_gives_back : {first : D} {w : List Letter} {refusal : OpenOrCreateRefusal E C} → IsOpenOrCreateWord meaning adjusted retried required node hash name now first w (Err refusal) → GivesBackByRounds node hash w
   refused_gives_back (ended small before t) = one_more (turns_give_back before) (last_gives_back t)
   refused_gives_back (in_flux before) = turns_give_back before
+
+  pub refused_call_gives_back : {first : D} {w : List Letter} {refusal : OpenOrCreateRefusal E C} → IsOpenOrCreateCall meaning adjusted retried required node hash name now first w (Err refusal) → GivesBackByRounds node hash w
+  refused_call_gives_back = refused_call (GivesBackByRounds node hash) no_round (λ w refusal is. refused_gives_back is)
 
   then_ends : {u v : List Letter} {asked : D} {r : Factory} → GivesBackByRounds node hash u → IsLastTurn meaning adjusted retried required node hash name now asked v (Ok r) → KeepsInTheEnd node hash (u ++ v) r.number
   then_ends back (opened l o) = let kept = opened_keeps o in record { before = _; in_the_end = _; is_word = refl; gives_back = back; is_tag_left = kept.0; tag = kept.1; keeps = then_keeps (look_keeps l) kept.2 }

@@ -1,4 +1,5 @@
 pub mod Counts
 pub mod Granted
+pub mod Adjusting
 pub mod Left
 pub mod Ends

@@ -3,4 +3,5 @@ pub mod OpenOrCreates
 pub mod Prepared
 pub mod EndsAtOnce
 pub mod Grants
+pub mod Adjusting
 pub mod Leaves

@@ -1,4 +1,7 @@
 //! What holds of every word of an open or create, whatever the pattern and the storage.
+//!
+//! It may prepare the types of its messages first. One that doesn't goes along a word of its grammar, which is a word of
+//! such a call too.
 
 ghost use Rattle.std.specs.Prelude.{◌≡◌, ℕ, Bool, false, List, ◌++◌, Result, Ok, Err};
 ghost use Rattle.iceoryx2_attributes.specs.Requirements.{Requirements};
@@ -8,9 +11,10 @@ ghost use Rattle.iceoryx2_values.specs.declared.time.ClockFault.{ClockFault};
 ghost use Rattle.iceoryx2_access.specs.Factory.{Factory};
 ghost use Rattle.iceoryx2_access.specs.Letter.{Letter};
 ghost use Rattle.iceoryx2_words.specs.Counts.{IsWithin};
-ghost use Rattle.iceoryx2_open_or_create.specs.OpenOrCreates.{IsOpenOrCreateWord};
+ghost use Rattle.iceoryx2_open_or_create.specs.Adjusting.{MeetsOrHolds, OnlyRaises};
 ghost use Rattle.iceoryx2_open_or_create.specs.Grants.{Carries};
 ghost use Rattle.iceoryx2_open_or_create.specs.Leaves.{GivesBackByRounds, KeepsInTheEnd};
+ghost use Rattle.iceoryx2_open_or_create.specs.Prepared.{IsOpenOrCreateCall};
 ghost use Rattle.iceoryx2_open_or_create.specs.declared.open_or_create.OpenOrCreateRefusal.{OpenOrCreateRefusal};
 
 use crate::retries::Retries;
@@ -21,7 +25,7 @@ pub fn open_or_create_is_short<P: Retries>()
     ensures { (required : Requirements) (node : ℕ) (hash : ServiceHash) (name : List ℕ)
         (now : Result Span ClockFault) (asked : P) (word : List Letter)
         (answer : Result Factory (OpenOrCreateRefusal P.OpenError P.CreateError))
-        → IsOpenOrCreateWord P.meaning P.adjusted P.retried required node hash name now asked word answer
+        → IsOpenOrCreateCall P.meaning P.adjusted P.retried required node hash name now asked word answer
         → IsWithin word 78 36 36 36 }
 {}
 
@@ -31,7 +35,7 @@ pub fn open_or_create_is_shorter<P: Retries>()
         → (required : Requirements) (node : ℕ) (hash : ServiceHash) (name : List ℕ)
         (now : Result Span ClockFault) (asked : P) (word : List Letter)
         (answer : Result Factory (OpenOrCreateRefusal P.OpenError P.CreateError))
-        → IsOpenOrCreateWord P.meaning P.adjusted P.retried required node hash name now asked word answer
+        → IsOpenOrCreateCall P.meaning P.adjusted P.retried required node hash name now asked word answer
         → IsWithin word 23 6 36 36 }
 {}
 
@@ -41,7 +45,7 @@ pub fn refused_open_or_create_gives_back<P: Retries>()
     ensures { (required : Requirements) (node : ℕ) (hash : ServiceHash) (name : List ℕ)
         (now : Result Span ClockFault) (asked : P) (word : List Letter)
         (refusal : OpenOrCreateRefusal P.OpenError P.CreateError)
-        → IsOpenOrCreateWord P.meaning P.adjusted P.retried required node hash name now asked word (Err refusal)
+        → IsOpenOrCreateCall P.meaning P.adjusted P.retried required node hash name now asked word (Err refusal)
         → GivesBackByRounds node hash word }
 {}
 
@@ -50,7 +54,7 @@ pub fn refused_open_or_create_gives_back<P: Retries>()
 pub fn open_or_create_keeps_what_it_made<P: Retries>()
     ensures { (required : Requirements) (node : ℕ) (hash : ServiceHash) (name : List ℕ)
         (now : Result Span ClockFault) (asked : P) (word : List Letter) (r : Factory)
-        → IsOpenOrCreateWord P.meaning P.adjusted P.retried required node hash name now asked word (Ok r)
+        → IsOpenOrCreateCall P.meaning P.adjusted P.retried required node hash name now asked word (Ok r)
         → KeepsInTheEnd node hash word r.number }
 {}
 
@@ -60,6 +64,16 @@ pub fn open_or_create_keeps_what_it_made<P: Retries>()
 pub fn granted_open_or_create_carries<P: Retries>()
     ensures { (required : Requirements) (node : ℕ) (hash : ServiceHash) (name : List ℕ)
         (now : Result Span ClockFault) (asked : P) (word : List Letter) (r : Factory)
-        → IsOpenOrCreateWord P.meaning P.adjusted P.retried required node hash name now asked word (Ok r)
+        → IsOpenOrCreateCall P.meaning P.adjusted P.retried required node hash name now asked word (Ok r)
         → (r.node ≡ node) × Carries P.meaning P.adjusted required hash name now asked r.description }
+{}
+
+/// Where a create only raises minima, what an open or create carries that succeeds meets what was
+/// asked first, whatever its rounds adjusted, or was published with that adjusted once.
+pub fn granted_open_or_create_meets_or_holds<P: Retries>()
+    ensures { OnlyRaises P.meaning P.adjusted
+        → (required : Requirements) (node : ℕ) (hash : ServiceHash) (name : List ℕ)
+        (now : Result Span ClockFault) (asked : P) (word : List Letter) (r : Factory)
+        → IsOpenOrCreateCall P.meaning P.adjusted P.retried required node hash name now asked word (Ok r)
+        → MeetsOrHolds P.meaning P.adjusted required hash name now asked r.description }
 {}
