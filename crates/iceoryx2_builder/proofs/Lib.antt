@@ -5,3 +5,4 @@ pub mod Weaker
 pub mod WeakerEvent
 pub mod WeakerPublishSubscribe
 pub mod WeakerRequestResponse
+pub mod Adjusting

@@ -8,7 +8,8 @@ use Rattle.iceoryx2_values.specs.declared.event.StaticConfig.{StaticConfig as Ex
 use Rattle.iceoryx2_pattern.specs.Verdict.{verdict, marked_clauses}
 use Rattle.iceoryx2_event_builder.specs.Event.{setting_rows, setting_clauses, event_opening}
 use Rattle.iceoryx2_event_builder.specs.declared.event.demand.EventDemand.{EventDemand}
-use Rattle.iceoryx2_builder.specs.Weaker.{Accepts, AreSomeOf, IsWeakerEvent}
+use Rattle.iceoryx2_open_or_create.specs.Adjusting.{Accepts}
+use Rattle.iceoryx2_builder.specs.Weaker.{AreSomeOf, IsWeakerEvent}
 use Rattle.iceoryx2_builder.proofs.Weaker.{more_rows, fewer_clauses, no_more, same_number_row, same_span_row}
 
 settings_too : (weaker stronger : EventDemand) (there : Existing) → IsWeakerEvent weaker stronger

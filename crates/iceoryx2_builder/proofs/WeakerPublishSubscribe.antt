@@ -8,7 +8,8 @@ use Rattle.iceoryx2_values.specs.declared.publish_subscribe.StaticConfig.{Static
 use Rattle.iceoryx2_pattern.specs.Verdict.{verdict, marked_clauses}
 use Rattle.iceoryx2_publish_subscribe_builder.specs.PublishSubscribe.{setting_rows, setting_clauses, publish_subscribe_opening, misfit_of}
 use Rattle.iceoryx2_publish_subscribe_builder.specs.declared.publish_subscribe.demand.PublishSubscribeDemand.{PublishSubscribeDemand}
-use Rattle.iceoryx2_builder.specs.Weaker.{Accepts, AreSomeOf, IsWeakerPublishSubscribe}
+use Rattle.iceoryx2_open_or_create.specs.Adjusting.{Accepts}
+use Rattle.iceoryx2_builder.specs.Weaker.{AreSomeOf, IsWeakerPublishSubscribe}
 use Rattle.iceoryx2_builder.proofs.Weaker.{more_rows, fewer_clauses, no_more, same_flag_row, fits_further, passed}
 use Rattle.iceoryx2_types.specs.Types.{Message, IsCompatible}
 

@@ -8,7 +8,8 @@ use Rattle.iceoryx2_values.specs.declared.request_response.StaticConfig.{StaticC
 use Rattle.iceoryx2_pattern.specs.Verdict.{verdict, marked_clauses}
 use Rattle.iceoryx2_request_response_builder.specs.RequestResponse.{setting_rows, setting_clauses, request_response_opening, misfit_of}
 use Rattle.iceoryx2_request_response_builder.specs.declared.request_response.demand.RequestResponseDemand.{RequestResponseDemand}
-use Rattle.iceoryx2_builder.specs.Weaker.{Accepts, AreSomeOf, IsWeakerRequestResponse}
+use Rattle.iceoryx2_open_or_create.specs.Adjusting.{Accepts}
+use Rattle.iceoryx2_builder.specs.Weaker.{AreSomeOf, IsWeakerRequestResponse}
 use Rattle.iceoryx2_builder.proofs.Weaker.{more_rows, fewer_clauses, no_more, same_flag_row, fits_further, passed}
 use Rattle.iceoryx2_types.specs.Types.{Message, IsCompatible}
 

@@ -1,18 +1,10 @@
 -- One requirement that asks no more than another of services of the same pattern.
-use Rattle.std.specs.Prelude.{◌≡◌, ◌≤◌, ℕ, Bool, true, All, Contains, None, Ok}
+use Rattle.std.specs.Prelude.{◌≡◌, ◌≤◌, ℕ, Bool, true, All, Contains}
 use Rattle.iceoryx2_attributes.specs.Requirements.{Requirements}
-use Rattle.iceoryx2_values.specs.Description.{Description}
-use Rattle.iceoryx2_pattern.specs.Meaning.{Meaning}
-use Rattle.iceoryx2_pattern.specs.Verdict.{verdict}
 use Rattle.iceoryx2_event_builder.specs.Event.{deadline_value}
 use Rattle.iceoryx2_event_builder.specs.declared.event.demand.EventDemand.{EventDemand}
 use Rattle.iceoryx2_publish_subscribe_builder.specs.declared.publish_subscribe.demand.PublishSubscribeDemand.{PublishSubscribeDemand}
 use Rattle.iceoryx2_request_response_builder.specs.declared.request_response.demand.RequestResponseDemand.{RequestResponseDemand}
-
--- what an open takes: the service fits, and meets each of its requirements
-pub record Accepts {F E C : Type 0} (opening : Meaning F E C) (d : Description) : Type 0 where
-  pub fits : opening.misfit d ≡ None
-  pub meets : verdict (opening.requirement d) ≡ Ok tt
 
 -- A number is asked for only where the stronger one asks for as much.
 abbrev pub AsksNoMore : {D : Type 0} (weaker stronger : D) (is_marked : D → Bool) (value : D → ℕ) → Type 0

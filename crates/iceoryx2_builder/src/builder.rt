@@ -3,16 +3,18 @@
 ghost use Rattle.std.specs.Prelude.{◌≡◌};
 ghost use Rattle.iceoryx2_attributes.specs.Requirements.{Requirements};
 ghost use Rattle.iceoryx2_builder.specs.Setters.{AreSetters, event_place, publish_subscribe_place, request_response_place};
-ghost use Rattle.iceoryx2_builder.specs.Weaker.{Accepts, AreSomeOf};
+ghost use Rattle.iceoryx2_builder.specs.Weaker.{AreSomeOf};
 ghost use Rattle.iceoryx2_builder.specs.Weaker.{IsWeakerEvent, IsWeakerPublishSubscribe, IsWeakerRequestResponse};
 ghost use Rattle.iceoryx2_builder_base.specs.Builders.{IsBuilder};
+ghost use Rattle.iceoryx2_open_or_create.specs.Adjusting.{Accepts, OnlyRaises};
 ghost use Rattle.iceoryx2_open_or_create.specs.EndsAtOnce.{EndsAtOnce};
 ghost use Rattle.iceoryx2_pattern.specs.OwnAttributes.{defining, requiring};
 ghost use Rattle.iceoryx2_values.specs.Description.{Description};
-ghost use Rattle.iceoryx2_event_builder.specs.Event.{event_creating, event_opening, event_retried};
+ghost use Rattle.iceoryx2_event_builder.specs.Event.{event_adjusted, event_creating, event_meaning, event_opening, event_retried};
 ghost use Rattle.iceoryx2_event_builder.specs.Request.{fresh_request, with_setting as with_event_setting};
 ghost use Rattle.iceoryx2_event_builder.specs.declared.event.demand.EventDemand.{EventDemand};
 ghost use Rattle.iceoryx2_types.specs.Types.{IsCompatible, Message};
+ghost use Rattle.iceoryx2_publish_subscribe_builder.specs.PublishSubscribe.{publish_subscribe_adjusted as raised_publish_subscribe};
 ghost use Rattle.iceoryx2_publish_subscribe_builder.specs.PublishSubscribe.{publish_subscribe_creating};
 ghost use Rattle.iceoryx2_publish_subscribe_builder.specs.PublishSubscribe.{publish_subscribe_opening};
 ghost use Rattle.iceoryx2_publish_subscribe_builder.specs.PublishSubscribe.{publish_subscribe_retried};
@@ -24,6 +26,7 @@ ghost use Rattle.iceoryx2_publish_subscribe_builder.specs.declared.publish_subsc
 ghost use Rattle.iceoryx2_publish_subscribe_builder.specs.declared.publish_subscribe.demand.PreparedDemand.{PreparedDemand as PreparedPublishSubscribe};
 ghost use Rattle.iceoryx2_request_response_builder.specs.Request.{fresh_request as fresh_request_response};
 ghost use Rattle.iceoryx2_request_response_builder.specs.Request.{with_setting as with_request_response_setting};
+ghost use Rattle.iceoryx2_request_response_builder.specs.RequestResponse.{request_response_adjusted as raised_request_response};
 ghost use Rattle.iceoryx2_request_response_builder.specs.RequestResponse.{request_response_creating};
 ghost use Rattle.iceoryx2_request_response_builder.specs.RequestResponse.{request_response_opening};
 ghost use Rattle.iceoryx2_request_response_builder.specs.RequestResponse.{request_response_retried};
@@ -180,12 +183,43 @@ impl<S: Service> Builder<S> {
     }
 }
 
-/// What holds of the builders of each pattern, whatever they ask and whatever the clock says.
+/// What holds of each builder's setters and of what it requires.
+///
+/// Setters of different settings may come in either order, and of two that set the same one the last
+/// stands. Each message is compatible to itself, and compatibility is passed on. What one open accepts,
+/// another that asks no more accepts too: each setting that it requires is required by the first as well,
+/// with a number at least as great or with the same value, each required pair and key is one of the first
+/// one's, and its messages are compatible to the first one's.
+pub fn laws()
+    ensures event_setters { AreSetters with_event_setting event_place }
+    ensures publish_subscribe_setters { AreSetters with_publish_subscribe_setting publish_subscribe_place }
+    ensures request_response_setters { AreSetters with_request_response_setting request_response_place }
+    ensures reflexive { (message : Message) → IsCompatible message message }
+    ensures transitive { (a b c : Message) → IsCompatible a b → IsCompatible b c → IsCompatible a c }
+    ensures weaker_events { (weaker stronger : EventDemand) (some all : Requirements) (d : Description)
+        → IsWeakerEvent weaker stronger → AreSomeOf some all
+        → Accepts (event_opening stronger all) d → Accepts (event_opening weaker some) d }
+    ensures weaker_publish_subscribe { (weaker stronger : PublishSubscribeDemand) (message other : Message)
+        (some all : Requirements) (d : Description)
+        → IsWeakerPublishSubscribe weaker stronger → IsCompatible message other → AreSomeOf some all
+        → Accepts (publish_subscribe_opening stronger other all) d
+        → Accepts (publish_subscribe_opening weaker message some) d }
+    ensures weaker_request_response { (weaker stronger : RequestResponseDemand)
+        (request response other_request other_response : Message) (some all : Requirements) (d : Description)
+        → IsWeakerRequestResponse weaker stronger
+        → IsCompatible request other_request → IsCompatible response other_response → AreSomeOf some all
+        → Accepts (request_response_opening stronger other_request other_response all) d
+        → Accepts (request_response_opening weaker request response some) d }
+{
+    types::laws();
+}
+
+/// What holds of the calls of each builder, whatever they ask and whatever the clock says.
 ///
 /// A builder opens what the same builder creates: with its adjusted settings a create publishes
 /// what fits it and meets each setting that it requires, whatever attributes are defined. And what a
 /// table that nobody else uses refuses is not tried again by an open or create.
-pub fn laws()
+pub fn laws_of_calls()
     ensures events { (demand : EventDemand) → IsBuilder (event_creating demand) (event_opening demand) }
     ensures publish_subscribe { (demand : PublishSubscribeDemand) (message : Message)
         → IsBuilder (publish_subscribe_creating demand message) (publish_subscribe_opening demand message) }
@@ -210,35 +244,19 @@ pub fn laws()
     request_response::ends_at_once();
 }
 
-/// What holds of the setters of each builder: those of different settings may come in either order, and
-/// of two that set the same one the last stands.
-pub fn laws_of_setters()
-    ensures events { AreSetters with_event_setting event_place }
-    ensures publish_subscribe { AreSetters with_publish_subscribe_setting publish_subscribe_place }
-    ensures request_response { AreSetters with_request_response_setting request_response_place }
-{}
-
-/// What one open takes, another that asks no more takes too: each setting that it requires is required by
-/// the first as well, with a number at least as great or with the same value, each required pair and key
-/// is one of the first one's, and its messages are compatible to the first one's. So is each message to
-/// itself, and compatibility is passed on.
-pub fn laws_of_requirements()
-    ensures events { (weaker stronger : EventDemand) (some all : Requirements) (d : Description)
-        → IsWeakerEvent weaker stronger → AreSomeOf some all
-        → Accepts (event_opening stronger all) d → Accepts (event_opening weaker some) d }
-    ensures publish_subscribe { (weaker stronger : PublishSubscribeDemand) (message other : Message)
-        (some all : Requirements) (d : Description)
-        → IsWeakerPublishSubscribe weaker stronger → IsCompatible message other → AreSomeOf some all
-        → Accepts (publish_subscribe_opening stronger other all) d
-        → Accepts (publish_subscribe_opening weaker message some) d }
-    ensures request_response { (weaker stronger : RequestResponseDemand)
-        (request response other_request other_response : Message) (some all : Requirements) (d : Description)
-        → IsWeakerRequestResponse weaker stronger
-        → IsCompatible request other_request → IsCompatible response other_response → AreSomeOf some all
-        → Accepts (request_response_opening stronger other_request other_response all) d
-        → Accepts (request_response_opening weaker request response some) d }
-    ensures reflexive { (message : Message) → IsCompatible message message }
-    ensures transitive { (a b c : Message) → IsCompatible a b → IsCompatible b c → IsCompatible a c }
+/// What a create adjusts only raises minima.
+///
+/// What is asked asks no more than what a create makes of it, so what is accepted with the adjusted
+/// settings is accepted as it was asked too; and adjusting twice is adjusting once.
+pub fn laws_of_adjusting()
+    ensures events_ask_no_more { (demand : EventDemand) → IsWeakerEvent demand (event_adjusted demand) }
+    ensures publish_subscribe_asks_no_more { (demand : PublishSubscribeDemand)
+        → IsWeakerPublishSubscribe demand (raised_publish_subscribe demand) }
+    ensures request_response_asks_no_more { (demand : RequestResponseDemand)
+        → IsWeakerRequestResponse demand (raised_request_response demand) }
+    ensures events_only_raise { OnlyRaises event_meaning event_adjusted }
+    ensures publish_subscribe_only_raises { OnlyRaises publish_subscribe_meaning publish_subscribe_adjusted }
+    ensures request_response_only_raises { OnlyRaises request_response_meaning request_response_adjusted }
 {
     types::laws();
 }
