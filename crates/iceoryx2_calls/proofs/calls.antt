@@ -13,3 +13,6 @@ pub mod Prepared
 pub mod Turns
 pub mod Rounds
 pub mod Attempts
+pub mod AnyCalls
+pub mod Headline
+pub mod AnyLeft

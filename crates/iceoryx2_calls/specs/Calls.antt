@@ -8,12 +8,12 @@ use Rattle.iceoryx2_world.specs.Peers.{IsAccess}
 use Rattle.iceoryx2_world.specs.Faulty.{IsFaulty}
 use Rattle.iceoryx2_world.specs.Calm.{SameServices}
 
--- Whatever worlds the accesses of this word lead through, it is true of each: before the first access, between
+-- Whatever states the accesses of this word lead through, it is true of each: before the first access, between
 -- any two and after the last.
-abbrev pub Throughout : (World → Letter → World → Type 0) → (World → Type 0) → World → List Letter
+abbrev pub Throughout : {S : Type 0} → (S → Letter → S → Type 0) → (S → Type 0) → S → List Letter
     → Type 0
 Throughout step P w [] = P w
-Throughout step P w (l ∷ word) = P w × ((v : World) → step w l v → Throughout step P v word)
+Throughout {S} step P w (l ∷ word) = P w × ((v : S) → step w l v → Throughout step P v word)
 
 -- Whatever worlds the accesses of this word lead through, it is true of each access.
 abbrev pub AtEach : (step P : World → Letter → World → Type 0) → World → List Letter → Type 0

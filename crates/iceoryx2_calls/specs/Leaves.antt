@@ -1,5 +1,5 @@
 -- What a refused call leaves in the world.
-use Rattle.std.specs.Prelude.{◌≡◌, ◌≢◌, ◌⊎◌, ℕ, Bool, true, false, List, [], ◌++◌, Some, Ok}
+use Rattle.std.specs.Prelude.{◌≡◌, ◌≢◌, ◌⊎◌, ◌<◌, ℕ, Bool, true, false, List, [], ◌++◌, Some, Ok}
 use Rattle.iceoryx2_values.specs.declared.description.ServiceHash.{ServiceHash}
 use Rattle.iceoryx2_access.specs.Letter.{Letter}
 use Rattle.iceoryx2_access.specs.Letter as letter
@@ -8,9 +8,10 @@ use Rattle.iceoryx2_world.specs.declared.world.Participant.TheVariants.{Node}
 use Rattle.iceoryx2_world.specs.declared.world.Phase.{Phase}
 use Rattle.iceoryx2_world.specs.declared.world.Row.{Row}
 use Rattle.iceoryx2_world.specs.Orders.{tag_cmp}
-use Rattle.iceoryx2_world.specs.World.{World, Segment, row_of, segment_of, phase_of, begins, row_number}
+use Rattle.iceoryx2_world.specs.World.{World, Segment, row_of, segment_of, phase_of, begins, locked_number, row_number}
 use Rattle.iceoryx2_world.specs.Agreement.{IsSpent}
-use Rattle.iceoryx2_access.specs.Run.{Each}
+use Rattle.iceoryx2_access.specs.Run.{Each, Run}
+use Rattle.iceoryx2_world.specs.Faulty.{IsFaulty}
 use Rattle.iceoryx2_words.specs.Keeps.{KeptLock, NoLock, GivenBack, GivesAllBack}
 
 -- A removal is granted.
@@ -46,13 +47,20 @@ module _ (node : ℕ) (hash : ServiceHash) where
   abbrev pub NodeHasRead : (w v : World) → Type 0
   NodeHasRead w v = HasAtMostRead (phase_of w (Node node) hash) (phase_of v (Node node) hash)
 
-  -- A call that locked nothing has read at most. Of one that locked, the node's lock is gone unless its removal was
-  -- refused, and the segment of the lock's number unless the removal of that was.
+  -- Of a call that had the lock of this number and gave it back: the node held nothing before, and the number is
+  -- spent. The lock is gone, and the node has read at most, unless the lock's removal was refused: then the node has it
+  -- still. The segment of the number is gone unless the removal of that was refused.
+  pub record LeavesGivenBack (n : ℕ) (is_lock_left is_segment_left : Bool) (w v : World) : Type 0 where
+    pub begun : begins (phase_of w (Node node) hash) ≡ true
+    pub below : n < v.counter
+    pub unlocked : is_lock_left ≡ false → (begins (phase_of v (Node node) hash) ≡ true) × LacksRow v hash n
+    pub locked : is_lock_left ≡ true → locked_number (phase_of v (Node node) hash) ≡ Some n
+    pub segment : is_segment_left ≡ false → LacksSegment v hash n
+
+  -- A call that locked nothing has read at most.
   abbrev pub LeavesOfLock : KeptLock → (w v : World) → Type 0
   LeavesOfLock NoLock w v = NodeHasRead w v
-  LeavesOfLock (GivenBack n is_lock_left is_segment_left) w v =
-      (is_lock_left ≡ false → NodeHasRead w v × LacksRow v hash n)
-      × (is_segment_left ≡ false → LacksSegment v hash n)
+  LeavesOfLock (GivenBack n is_lock_left is_segment_left) w v = LeavesGivenBack n is_lock_left is_segment_left w v
   LeavesOfLock _ w v = ⊥
 
   -- All that stays, where the call's removals left this of its tag and its lock.
@@ -68,9 +76,20 @@ module _ (node : ℕ) (hash : ServiceHash) where
     pub phase : NodeHasRead w v
     pub numbers : Each (SpendsNumber hash v) word
 
-  -- What the rounds of an open or create leave, one after the other: each leaves only that for which a removal was
-  -- refused.
-  pub data LeavesByRounds (w : World) : List Letter → World → Type 0 where
-    no_round : LeavesByRounds w [] w
-    one_more : {u v : List Letter} {x y : World} → LeavesByRounds w u x → (g : GivesAllBack node hash v)
-        → Leaves g.is_tag_left g.lock x y → LeavesByRounds w (u ++ v) y
+  -- What was given back of a lock never comes again: no row has its number, and no segment unless that was left.
+  abbrev pub IsGone : ℕ → (is_segment_left : Bool) → World → Type 0
+  IsGone n false v = IsSpent v hash n
+  IsGone n true v = (n < v.counter) × LacksRow v hash n
+
+  abbrev pub StaysAway : KeptLock → World → Type 0
+  StaysAway (GivenBack n false is_segment_left) v = IsGone n is_segment_left v
+  StaysAway _ v = Unit {0}
+
+  -- What the rounds of a call leave, one after the other, of which the last ends in this world: each round is a run, it
+  -- leaves only that for which a removal was refused, and the numbers of the locks that it gave back whole are spent in
+  -- the end.
+  pub data LeavesByRounds (w end : World) : List Letter → World → Type 0 where
+    no_round : LeavesByRounds w end [] w
+    one_more : {u v : List Letter} {x y : World} → LeavesByRounds w end u x → Run IsFaulty x v y
+        → (g : GivesAllBack node hash v) → Leaves g.is_tag_left g.lock x y → StaysAway g.lock end
+        → LeavesByRounds w end (u ++ v) y

@@ -6,6 +6,9 @@ pub mod QuietAttempts
 pub mod QuietLists
 pub mod QuietLaws
 pub mod Attempts
+pub mod AnyCalls
+pub mod Headline
+pub mod CallLeaves
 pub mod Leaves
 pub mod CloseLeaves
 pub mod OverNoRow

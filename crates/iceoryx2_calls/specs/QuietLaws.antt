@@ -42,6 +42,13 @@ pub record HasOpened (q : Quiet) (i : ℕ) (h : ServiceHash) (n : ℕ) : Type 0 
   pub count : ℕ
   pub counted : times_counted service i ≡ Some count
 
+-- Under the factory's hash the machine has a service of the factory's description and number.
+pub record HasServiceOf (q : Quiet) (f : Factory) : Type 0 where
+  pub service : QuietService
+  pub there : service_at q f.description.hash ≡ Some service
+  pub description : service.description ≡ f.description
+  pub number : service.number ≡ f.number
+
 -- how often a node has opened the service under a hash
 abbrev pub times_at : Option QuietService → ℕ → ℕ
 times_at None i = 0

@@ -1,13 +1,13 @@
 //! What is true of whole calls over a table of which any access may be refused.
 
-ghost use Rattle.std.specs.Prelude.{◌≡◌, ◌≢◌, ℕ, ◌<◌, ◌≤◌, Bool, List, Result, Ok, Err, None};
+ghost use Rattle.std.specs.Prelude.{◌≡◌, ◌≢◌, ℕ, ◌<◌, List, Result, Ok, Err, None};
 ghost use Rattle.iceoryx2_values.specs.Description.{max_nodes_of};
 ghost use Rattle.iceoryx2_values.specs.Span.{Span};
 ghost use Rattle.iceoryx2_values.specs.declared.description.ServiceHash.{ServiceHash};
 ghost use Rattle.iceoryx2_values.specs.declared.time.ClockFault.{ClockFault};
 ghost use Rattle.iceoryx2_world.specs.World.{World, row_of, ticket_of};
 ghost use Rattle.iceoryx2_access.specs.Letter.{Letter};
-ghost use Rattle.iceoryx2_access.specs.Run.{Run};
+ghost use Rattle.iceoryx2_access.specs.Run.{Each, Run};
 ghost use Rattle.iceoryx2_world.specs.Access.{IsOwnPart};
 ghost use Rattle.iceoryx2_world.specs.Agreement.{Later};
 ghost use Rattle.iceoryx2_world.specs.Across.{Agrees};
@@ -15,19 +15,18 @@ ghost use Rattle.iceoryx2_world.specs.Faulty.{IsFaulty};
 ghost use Rattle.iceoryx2_batches.specs.Tables.{TableState, IsTableAccess};
 ghost use Rattle.iceoryx2_script.specs.Faults.{FaultyState, IsFaultyAccess};
 ghost use Rattle.iceoryx2_access.specs.Factory.{Factory};
-ghost use Rattle.iceoryx2_world.specs.Standing.{Stands};
+ghost use Rattle.iceoryx2_world.specs.Standing.{Spares, Stands};
 ghost use Rattle.iceoryx2_errors.specs.declared.error.CloseError.{CloseError};
 ghost use Rattle.iceoryx2_errors.specs.declared.error.CloseError.TheVariants.{NotHere};
 ghost use Rattle.iceoryx2_port_factory.specs.Closes.{IsCloseWord};
-ghost use Rattle.iceoryx2_rounds.specs.Creates.{time_of, description_of};
-ghost use Rattle.iceoryx2_rounds.specs.Prepared.{IsCreateCall, IsOpenCall};
-ghost use Rattle.iceoryx2_words.specs.Keeps.{GivesAllBack, Keeps, NoLock, NoTag, no_own_tag};
+ghost use Rattle.iceoryx2_rounds.specs.Creates.{time_of};
+ghost use Rattle.iceoryx2_rounds.specs.Prepared.{IsCreateCall};
 ghost use Rattle.iceoryx2_pattern.specs.Meaning.{Meaning};
-ghost use Rattle.iceoryx2_pattern.specs.Verdict.{verdict};
-ghost use Rattle.iceoryx2_open_or_create.specs.declared.open_or_create.OpenOrCreateRefusal.{OpenOrCreateRefusal};
-ghost use Rattle.iceoryx2_calls.specs.Attempts.{Attempt, IsAttempted, MayCarry};
+ghost use Rattle.iceoryx2_open_or_create.specs.Adjusting.{OnlyRaises};
+ghost use Rattle.iceoryx2_calls.specs.CallLeaves.{LeavesBy};
+ghost use Rattle.iceoryx2_calls.specs.AnyCalls.{AnyCall, ErrorBy, IsWordOf};
+ghost use Rattle.iceoryx2_calls.specs.Headline.{IsAsPromised, IsOpenAsAsked, IsOpenSince};
 ghost use Rattle.iceoryx2_calls.specs.Calls.{Throughout};
-ghost use Rattle.iceoryx2_calls.specs.Leaves.{Leaves, LeavesByRounds};
 ghost use Rattle.iceoryx2_calls.specs.CloseLeaves.{CloseLeaves};
 ghost use Rattle.iceoryx2_calls.specs.OverNoRow.{AnswersOverNoRow};
 
@@ -48,44 +47,35 @@ pub fn agreement_under_faults<D, F: Copy, E: Copy, C: Copy>()
     ensures agrees { (word : List Letter) (w : World)
         → Agrees w → Throughout IsFaulty (λ v. Agrees v × Later w v) w word }
 
-    // A create that answers Ok leaves its factory standing, with the published description.
-    ensures created { (m : Meaning F E C) (node : ℕ) (hash : ServiceHash)
-        (name : List ℕ) (now : Result Span ClockFault)
-        (word : List Letter) (r : Factory) (w v : World)
-        → IsCreateCall m node hash name now word (Ok r) → Run IsFaulty w word v → Agrees w
-        → Stands v r × (r.node ≡ node) × (r.description ≡ description_of m hash name now)
-        × (w.counter ≤ r.ticket) × ((f : Factory) → Stands w f → f.ticket ≢ r.ticket) }
+    // A factory that stands goes on standing whatever accesses follow, refused ones and those of peers among
+    // them, as long as none of them is a granted release of its own ticket.
+    ensures stands { (word : List Letter) (w : World) (f : Factory)
+        → Each (Spares f) word → Agrees w → Stands w f → Throughout IsFaulty (λ v. Stands v f) w word }
 
-    // So does an open, with a description on which its requirement was accepted.
-    ensures opened { (m : Meaning F E C) (node : ℕ) (hash : ServiceHash)
-        (word : List Letter) (r : Factory) (w v : World)
-        → IsOpenCall m node hash word (Ok r) → Run IsFaulty w word v → Agrees w
-        → Stands v r × (r.node ≡ node) × (r.description.hash ≡ hash)
-        × (m.misfit r.description ≡ None)
-        × (verdict (m.requirement r.description) ≡ Ok tt)
-        × (w.counter ≤ r.ticket) × ((f : Factory) → Stands w f → f.ticket ≢ r.ticket) }
+    // Every open factory stands. Of every call, whichever it is, whichever accesses are refused and whatever it
+    // answers: it is within fixed counts; after each of its accesses, whatever steps peers take, each factory that
+    // was open is open; and the factory with which it answered Ok has a new ticket, is of its caller and its
+    // service, meets what was asked or holds what was published, and is open until its own ticket is released: it
+    // carries the one published description of its hash, its segment is there, and its node is among at most
+    // `max_nodes`.
+    ensures every_open_factory_stands { (c : AnyCall D F E C) (word : List Letter)
+        (answer : Result Factory (ErrorBy E C c.way)) (s t : FaultyState TableState)
+        → OnlyRaises c.asks.meaning c.asks.adjusted
+        → IsWordOf c word answer → Run (IsFaultyAccess IsTableAccess) s word t → Agrees s.inner.world
+        → IsAsPromised (IsFaultyAccess IsTableAccess) (λ u. u.inner.world) c s word answer t }
 
-    // So does an open or create, with a description that a round accepted or published.
-    ensures opened_or_created { (a : Attempt D F E C) (word : List Letter) (r : Factory) (w v : World)
-        → IsAttempted a word (Ok r) → Run IsFaulty w word v → Agrees w
-        → Stands v r × (r.node ≡ a.node) × MayCarry a r.description
-        × (w.counter ≤ r.ticket) × ((f : Factory) → Stands w f → f.ticket ≢ r.ticket) }
+    // The same by history: at any state that such a table comes to after some call answered Ok with a factory, and
+    // before the release of its ticket, this factory is open, with what that call asked.
+    ensures open_until_released { (c : AnyCall D F E C) (f : Factory) (s : FaultyState TableState)
+        → OnlyRaises c.asks.meaning c.asks.adjusted
+        → IsOpenSince (IsFaultyAccess IsTableAccess) (λ u. u.inner.world) c f s
+        → IsOpenAsAsked c s.inner.world f }
 
-    // Each factory that stands before a create stands throughout it, whatever it answers; so does each
-    // before an open and before an open or create, and each with another ticket before a close.
-    ensures create_spares { (m : Meaning F E C) (node : ℕ) (hash : ServiceHash)
-        (name : List ℕ) (now : Result Span ClockFault)
-        (word : List Letter) (answer : Result Factory C) (w : World) (f : Factory)
-        → IsCreateCall m node hash name now word answer → Agrees w
-        → Stands w f → Throughout IsFaulty (λ v. Stands v f) w word }
-    ensures open_spares { (m : Meaning F E C) (node : ℕ) (hash : ServiceHash) (word : List Letter)
-        (answer : Result Factory E) (w : World) (f : Factory)
-        → IsOpenCall m node hash word answer → Agrees w
-        → Stands w f → Throughout IsFaulty (λ v. Stands v f) w word }
-    ensures open_or_create_spares { (a : Attempt D F E C) (word : List Letter)
-        (answer : Result Factory (OpenOrCreateRefusal E C)) (w : World) (f : Factory)
-        → IsAttempted a word answer → Agrees w
-        → Stands w f → Throughout IsFaulty (λ v. Stands v f) w word }
+    // A refused call leaves nothing of its own but that for which a removal was refused.
+    ensures leaves { (c : AnyCall D F E C) (word : List Letter) (refusal : ErrorBy E C c.way) (w v : World)
+        → IsWordOf c word (Err refusal) → Run IsFaulty w word v → Agrees w → LeavesBy c c.way w word v }
+
+    // Each factory with another ticket that stands before a close stands throughout it.
     ensures close_spares { (r : Factory) (word : List Letter) (answer : Result (Unit {0}) (CloseError Factory))
         (w : World) (f : Factory)
         → IsCloseWord r word answer → Agrees w → f.ticket ≢ r.ticket
@@ -95,24 +85,6 @@ pub fn agreement_under_faults<D, F: Copy, E: Copy, C: Copy>()
     ensures not_here { (r s : Factory) (word : List Letter) (w : World)
         → IsCloseWord r word (Err (NotHere s)) → Agrees w
         → (s ≡ r) × (Stands w r → Throughout IsFaulty (λ v. Stands v r) w word) }
-
-    // A refused create leaves of its own only the phase Read, spent numbers and that for which a removal
-    // was refused, as its word tells; a refused open leaves at most the phase Read and its tag; and of a
-    // refused open or create each round leaves no more than that.
-    ensures refused_create_leaves { (m : Meaning F E C) (node : ℕ) (hash : ServiceHash) (name : List ℕ)
-        (now : Result Span ClockFault) (word : List Letter) (error : C) (w v : World)
-        → IsCreateCall m node hash name now word (Err error) → Run IsFaulty w word v → Agrees w
-        → (g : GivesAllBack node hash word) × Leaves node hash g.is_tag_left g.lock w v }
-    ensures refused_open_leaves { (m : Meaning F E C) (node : ℕ) (hash : ServiceHash)
-        (word : List Letter) (error : E) (w v : World)
-        → IsOpenCall m node hash word (Err error) → Run IsFaulty w word v → Agrees w
-        → (is_left : Bool) × Keeps node hash no_own_tag NoLock word (NoTag is_left) NoLock
-        × Leaves node hash is_left NoLock w v }
-
-    ensures refused_open_or_create_leaves { (a : Attempt D F E C) (word : List Letter)
-        (refusal : OpenOrCreateRefusal E C) (w v : World)
-        → IsAttempted a word (Err refusal) → Run IsFaulty w word v → Agrees w
-        → LeavesByRounds a.node a.hash w word v }
 
     // A close that doesn't hand its factory back takes the ticket out,
     ensures taken_out { (r : Factory) (word : List Letter) (answer : Result (Unit {0}) (CloseError Factory))

@@ -16,7 +16,7 @@ ghost use Rattle.iceoryx2_access.specs.Letter.{Letter};
 ghost use Rattle.iceoryx2_access.specs.Run.{Run};
 ghost use Rattle.iceoryx2_world.specs.Access.{IsOwnPart};
 ghost use Rattle.iceoryx2_world.specs.Across.{Agrees};
-ghost use Rattle.iceoryx2_world.specs.Standing.{ticket_for};
+ghost use Rattle.iceoryx2_world.specs.Standing.{Stands, ticket_for};
 ghost use Rattle.iceoryx2_world.specs.Listing.{Lists};
 ghost use Rattle.iceoryx2_pattern.specs.declared.pattern.OpenRefusal.TheVariants.{OutOfMemory};
 ghost use Rattle.iceoryx2_errors.specs.declared.error.CloseError.{CloseError};
@@ -36,7 +36,8 @@ ghost use Rattle.iceoryx2_calls.specs.Attempts.{Attempt, IsAttempted, IsAttemptW
 ghost use Rattle.iceoryx2_calls.specs.QuietAttempts.{Attempts, AttemptsPrepared, IsSteady};
 ghost use Rattle.iceoryx2_open_or_create.specs.declared.open_or_create.OpenOrCreateRefusal.{OpenOrCreateRefusal};
 ghost use Rattle.iceoryx2_calls.specs.QuietLists.{listing};
-ghost use Rattle.iceoryx2_calls.specs.QuietLaws.{IsCall, IsClose, HasOpened, HoldsTheSame, HasNothingAt, times_opened};
+ghost use Rattle.iceoryx2_calls.specs.QuietLaws.{IsCall, IsClose, HasOpened, HasServiceOf};
+ghost use Rattle.iceoryx2_calls.specs.QuietLaws.{HoldsTheSame, HasNothingAt, times_opened};
 
 /// What holds of a table that nobody else uses, whatever the patterns of its services.
 pub fn quiet_laws()
@@ -50,11 +51,14 @@ pub fn quiet_laws()
         → IsCloseWord r word answer → Run IsOwnPart w word v
         → (answer ≡ Ok tt) × IsClose w q r v }
 
-    // Who has a ticket has opened its service,
+    // Who has a ticket has opened its service.
     ensures ticket { (w : World) (q : Quiet) (t : ℕ) (x : Ticket)
         → Shows w q → Agrees w → ticket_of w t ≡ Some x → HasOpened q x.node x.hash x.number }
 
-    // and has as many tickets for it as the machine counts.
+    // What a standing factory carries is the machine's description of its service,
+    ensures standing { (w : World) (q : Quiet) (f : Factory) → Shows w q → Stands w f → HasServiceOf q f }
+
+    // and a node has as many tickets for a service as the machine counts.
     ensures tickets { (w : World) (q : Quiet) (node : ℕ) (hash : ServiceHash)
         → Shows w q → Agrees w → ticket_count w.tickets node hash ≡ times_opened q node hash }
 
@@ -162,14 +166,16 @@ pub fn quiet_calls<D, F: Copy, E: Copy, C: Copy>()
         → OpensPrepared m q node hash answer p
         → IfErr answer (λ e. e ≡ m.open_refusal OutOfMemory) }
 
-    // What a builder has created the same builder opens, if it accepts what it creates: while the
-    // service stands, with a place and a number left, its open is Ok or wants memory.
+    // What a builder has created the same builder opens, if it accepts what it creates, whichever node calls:
+    // while the created factory stands, whatever came between, with a place and a number left, its open is Ok
+    // or out of memory.
     ensures own_settings { (creating opening : Meaning F E C) (hash : ServiceHash) (name : List ℕ)
-        (now : Result Span ClockFault) (creator node : ℕ) (q p u z : Quiet) (f : Factory) (x : QuietService)
+        (now : Result Span ClockFault) (creator node : ℕ) (q p u z : Quiet) (f : Factory) (w : World)
         (answer : Result Factory E)
         → AcceptsOwn creating opening hash name now
         → CreatesPrepared creating q creator hash name now (Ok f) p
-        → service_at u hash ≡ Some x → x.description ≡ f.description → HasPlace x node → HasNumber u
+        → Shows w u → Stands w f
+        → ((x : QuietService) → service_at u hash ≡ Some x → HasPlace x node) → HasNumber u
         → OpensPrepared opening u node hash answer z
         → IfErr answer (λ e. e ≡ opening.open_refusal OutOfMemory) }
 {}

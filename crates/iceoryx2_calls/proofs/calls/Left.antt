@@ -33,13 +33,13 @@ use Rattle.iceoryx2_world.proofs.agreement.Maps.{set_has, either, self}
 use Rattle.iceoryx2_world.proofs.agreement.Effects.{allowed_step}
 use Rattle.iceoryx2_world.proofs.agreement.Worlds.{peer_places, peer_keeps, not_peer, step_counter, step_tickets}
 use Rattle.iceoryx2_world.proofs.agreement.Parts.{making, clearing, unlocking, locking}
-use Rattle.iceoryx2_world.proofs.agreement.Accesses.{peers_keep, own_keeps, access_keeps, faulty_keeps, granted, with_refusals}
+use Rattle.iceoryx2_world.proofs.agreement.Accesses.{peers_keep, own_keeps, access_keeps, faulty_keeps, granted, run_keeps, with_refusals}
 use Rattle.iceoryx2_world.proofs.agreement.Granted.{peers_phase, tag_granted, segment_granted, description_granted, MayClear, MayEnd}
 use Rattle.iceoryx2_world.proofs.agreement.Spent.{world_segment, spent_own, spent_peers}
 use Rattle.iceoryx2_world.proofs.agreement.Stands.{own_row, own_phase, own_segment}
 use Rattle.iceoryx2_words.specs.Keeps as keeps
 use Rattle.iceoryx2_words.specs.Keeps.{KeptTag, NoTag, HasTag, KeptLock, NoLock, Locked, WithSegment, GivenBack, HasService, IsUnlocked, MakesNothing, Keeps, GivesAllBack}
-use Rattle.iceoryx2_calls.specs.Leaves.{IsGranted, HasAtMostRead, LacksRow, LacksSegment, NodeHasRead, Leaves, LeavesOfLock, LeavesNothing, SpendsNumber, tags_after}
+use Rattle.iceoryx2_calls.specs.Leaves.{IsGranted, HasAtMostRead, LacksRow, LacksSegment, NodeHasRead, Leaves, LeavesOfLock, LeavesNothing, StaysAway, SpendsNumber, tags_after}
 use Rattle.iceoryx2_calls.proofs.calls.Plain.{IsPlain, Untouched, plain_untouched, read_both, step_tags, row_stays_away}
 
 -- peers change no tag and no ticket
@@ -412,20 +412,39 @@ module _ (node : ℕ) (hash : ServiceHash) where
   tags_left false old new h = h
   tags_left true old new h = h.0
 
-  lock_left : (k : KeptLock) (w v : World) → IsUnlocked k → IsAt node hash k (phase_of w (Node node) hash) (phase_of v (Node node) hash) → HoldsLock node hash k v → LeavesOfLock node hash k w v
-  lock_left NoLock w v free phase holds = phase
-  lock_left (GivenBack n false false) w v free phase holds = (λ _. (inr phase, holds.row), λ _. holds.segment)
-  lock_left (GivenBack n false true) w v free phase holds = (λ _. (inr phase, holds.1), λ kept. absurd (cc))
-  lock_left (GivenBack n true l) w v free phase holds = (λ kept. absurd (cc), holds.1)
-  lock_left (Locked n l) w v free phase holds = absurd free
-  lock_left (WithSegment n) w v free phase holds = absurd free
-  lock_left (HasService n) w v free phase holds = absurd free
+  lock_left : (k : KeptLock) (w v : World) → Agrees v → IsUnlocked k → IsAt node hash k (phase_of w (Node node) hash) (phase_of v (Node node) hash) → HoldsLock node hash k v → LeavesOfLock node hash k w v
+  lock_left NoLock w v new free phase holds = phase
+  lock_left (GivenBack n false false) w v new free phase holds = record { begun = phase.0; below = holds.below; unlocked = λ _. (phase.1, holds.row); locked = λ kept. absurd (cc); segment = λ _. holds.segment }
+  lock_left (GivenBack n false true) w v new free phase holds = record { begun = phase.0; below = holds.0; unlocked = λ _. (phase.1, holds.1); locked = λ kept. absurd (cc); segment = λ kept. absurd (cc) }
+  lock_left (GivenBack n true l) w v new free phase holds = record {
+    begun = phase;
+    below = (new.everywhere hash).row_below (row.Locked n) ((new.everywhere hash).locked (Node node) n holds.0);
+    unlocked = λ kept. absurd (cc);
+    locked = λ _. holds.0;
+    segment = holds.1;
+  }
+  lock_left (Locked n l) w v new free phase holds = absurd free
+  lock_left (WithSegment n) w v new free phase holds = absurd free
+  lock_left (HasService n) w v new free phase holds = absurd free
 
   -- A word that gives back leaves only that for which a removal was refused.
   pub gives_back : {word : List Letter} {w v : World} (g : GivesAllBack node hash word) → Run IsFaulty w word v → Agrees w → Leaves node hash g.is_tag_left g.lock w v
   gives_back {w = w} {v = v} g run old =
       let h = kept_run g.keeps g.is_unlocked run old (begin_kept w) in
-      record { tickets = h.tickets; tags = tags_left g.is_tag_left w.tags v.tags h.tags; of_lock = lock_left g.lock w v g.is_unlocked h.phase h.holds }
+      record { tickets = h.tickets; tags = tags_left g.is_tag_left w.tags v.tags h.tags; of_lock = lock_left g.lock w v (run_keeps run old).0 g.is_unlocked h.phase h.holds }
+
+  -- and what it gave back of a lock stays away
+  away : (k : KeptLock) (v : World) → IsUnlocked k → HoldsLock node hash k v → StaysAway node hash k v
+  away (GivenBack n false false) v free holds = record { below = holds.below; row = holds.row; segment = holds.segment }
+  away (GivenBack n false true) v free holds = holds
+  away (GivenBack n true l) v free holds = tt
+  away NoLock v free holds = tt
+  away (Locked n l) v free holds = absurd free
+  away (WithSegment n) v free holds = absurd free
+  away (HasService n) v free holds = absurd free
+
+  pub stays_away : {word : List Letter} {w v : World} (g : GivesAllBack node hash word) → Run IsFaulty w word v → Agrees w → StaysAway node hash g.lock v
+  stays_away {w = w} {v = v} g run old = away g.lock v g.is_unlocked (kept_run g.keeps g.is_unlocked run old (begin_kept w)).holds
 
 -- a word that leaves at most a tag
 abbrev pub only_tag : {node : ℕ} {hash : ServiceHash} {word : List Letter} (is_left : Bool) → Keeps node hash (NoTag false) NoLock word (NoTag is_left) NoLock → GivesAllBack node hash word

@@ -6,6 +6,7 @@ use Rattle.std.proofs.lemmas.Map.Lookups.{exact_unsigned}
 use Rattle.iceoryx2_values.specs.declared.description.ServiceHash.{ServiceHash}
 use Rattle.iceoryx2_values.specs.Description.{IsDescription}
 use Rattle.iceoryx2_data.specs.Form as form
+use Rattle.iceoryx2_data.proofs.Fields.{one_description}
 use Rattle.iceoryx2_world.specs.declared.world.Participant.TheVariants.{Node}
 use Rattle.iceoryx2_world.specs.declared.world.Phase.{Phase}
 use Rattle.iceoryx2_world.specs.declared.world.Phase.TheVariants as at
@@ -20,7 +21,7 @@ use Rattle.iceoryx2_world.proofs.agreement.Accesses.{later_refl}
 use Rattle.iceoryx2_world.proofs.agreement.Maps.{set_cases}
 use Rattle.iceoryx2_world.proofs.agreement.Stands.{stands_by_ticket, older_ticket}
 use Rattle.iceoryx2_calls.specs.Quiet.{QuietService, Quiet, ShowsService, Shows, CountIs, service_at, times_counted}
-use Rattle.iceoryx2_calls.specs.QuietLaws.{HasOpened}
+use Rattle.iceoryx2_calls.specs.QuietLaws.{HasOpened, HasServiceOf}
 use Rattle.iceoryx2_calls.specs.Tickets.{tickets_after}
 
 not_begun : (x : Phase) (n : ℕ) → begins x ≡ true → joined_number x ≡ Some n → ⊥
@@ -39,6 +40,18 @@ open_by w q i h n (Some x) is s e = let c = counted_by (phase_of w (Node i) h) n
 -- who has a ticket has opened its service
 pub has_opened : (w : World) (q : Quiet) (t : ℕ) (x : Ticket) → Shows w q → Agrees w → ticket_of w t ≡ Some x → HasOpened q x.node x.hash x.number
 has_opened w q t x s old e = open_by w q x.node x.hash x.number (service_at q x.hash) refl (s.services x.hash) (old.held.number t x e)
+
+-- who stands carries the machine's description
+service_by : (w : World) (q : Quiet) (f : Factory) (o : Option QuietService) → service_at q f.description.hash ≡ o → ShowsService w f.description.hash o → Stands w f → HasServiceOf q f
+service_by w q f None is s stands = let gone = sym s.row ∙ stands.row in absurd (cc)
+service_by w q f (Some x) is s stands =
+    let same = sym s.row ∙ stands.row in
+    let number : x.number ≡ f.number = cc in
+    let bytes : form.description x.description ≡ form.description f.description = cc in
+    record { service = x; there = is; description = one_description (form.description x.description) x.description f.description (s.limits, refl) (stands.limits, bytes); number = number }
+
+pub service_of : (w : World) (q : Quiet) (f : Factory) → Shows w q → Stands w f → HasServiceOf q f
+service_of w q f s stands = service_by w q f (service_at q f.description.hash) refl (s.services f.description.hash) stands
 
 -- a factory whose ticket stays stands
 pub still_stands : (w v : World) (f : Factory) → Later w v → Agrees v → Stands w f → ticket_of v f.ticket ≡ ticket_of w f.ticket → Stands v f

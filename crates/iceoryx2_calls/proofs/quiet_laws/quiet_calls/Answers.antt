@@ -39,9 +39,9 @@ returns-clause-accepted g c = λ m node hash q p x answer there good fits place 
     each_prepared (λ answer p. IfErr answer (λ e. e ≡ m.open_refusal refusal.OutOfMemory)) refl (λ answer p is. accepted m node hash q p x answer there good fits place room is) call
 
 pub returns-clause-own_settings : goal.returns-clause-own_settings
-returns-clause-own_settings g c = λ creating opening hash name now creator node q p u z f x answer own made there same place room opened.
+returns-clause-own_settings g c = λ creating opening hash name now creator node q p u z f w answer own made s stands place room opened.
     each_prepared (λ answer z. IfErr answer (λ e. e ≡ opening.open_refusal refusal.OutOfMemory)) refl
-    (λ answer z is. opens_own creating opening hash name now own creator node q p u z f x answer (granted_prepared made) there same place room is) opened
+    (λ answer z is. opens_own creating opening hash name now own creator node q p u z f w answer (granted_prepared made) s stands place room is) opened
 
 pub returns-clause-open_or_create : goal.returns-clause-open_or_create
 returns-clause-open_or_create g c = λ a w v q word answer steady s old is run. attempt_follows a steady q s old is run

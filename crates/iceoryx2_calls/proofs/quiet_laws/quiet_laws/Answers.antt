@@ -1,5 +1,5 @@
 use Rattle.iceoryx2_calls.proofs.quiet.Calls.{empty_shows, close_follows}
-use Rattle.iceoryx2_calls.proofs.quiet.Tickets.{has_opened}
+use Rattle.iceoryx2_calls.proofs.quiet.Tickets.{has_opened, service_of}
 use Rattle.iceoryx2_calls.proofs.quiet.Same.{holds_the_same, nothing_at, tickets_counted, tags_counted, all_gone}
 use Rattle.iceoryx2_calls.proofs.quiet.Listing.{lists_the_machine}
 use Rattle.iceoryx2_calls.proofs.quiet_laws.quiet_laws.Goals as goal
@@ -12,6 +12,9 @@ returns-clause-close c = λ r w v q word answer s old here is_word run. close_fo
 
 pub returns-clause-ticket : goal.returns-clause-ticket
 returns-clause-ticket c = λ w q t x s old here. has_opened w q t x s old here
+
+pub returns-clause-standing : goal.returns-clause-standing
+returns-clause-standing c = λ w q f s stands. service_of w q f s stands
 
 pub returns-clause-tickets : goal.returns-clause-tickets
 returns-clause-tickets c = λ w q node hash s old. tickets_counted w q node hash s old
