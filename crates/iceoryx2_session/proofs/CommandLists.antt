@@ -1,6 +1,5 @@
 -- Commands one after the other, over any table and over one that nobody else uses.
-use Rattle.std.proofs.Common.{List, [], ◌∷◌, ◌++◌, refl, subst, ◌∙◌}
-use Rattle.iceoryx2_values.specs.declared.config.Config.{Config}
+use Rattle.std.proofs.Common.{List, [], ◌∷◌, ◌++◌, refl, ◌∙◌}
 use Rattle.iceoryx2_access.specs.Run.{Each}
 use Rattle.iceoryx2_world.specs.Across.{Agrees}
 use Rattle.iceoryx2_calls.specs.Quiet.{Quiet}
@@ -10,8 +9,8 @@ use Rattle.iceoryx2_commands.specs.declared.command.Reply.{Reply}
 use Rattle.iceoryx2_session.specs.Sessions.{SessionState, Goes}
 use Rattle.iceoryx2_session.specs.CommandLists.{CarriesOut, none, first}
 use Rattle.iceoryx2_session.specs.StandingSlots.{GoesStanding, SlotsStand, OwnsTickets}
-use Rattle.iceoryx2_session.specs.QuietSessions.{IsQuiet, MachineState, MovesBoth, AreMoved, TellsNoChange, IsUnchanged}
-use Rattle.iceoryx2_session.proofs.StandingSlots.{stand_after}
+use Rattle.iceoryx2_session.specs.QuietSessions.{IsQuiet, IsMoved, QuietState, MovesTogether, AreMoved, TellsNoChange, IsUnchanged}
+use Rattle.iceoryx2_session.proofs.StandingSlots.{stand_after, closes_taken}
 use Rattle.iceoryx2_session.proofs.QuietSessions.{moved, itself, unchanged_by}
 use Rattle.iceoryx2_session.proofs.OwnedTickets.{owns_after}
 
@@ -32,7 +31,7 @@ pub stand_between : {s n : SessionState} {commands : List Command} {replies : Li
     → Agrees s.table.world → SlotsStand s → CarriesOut GoesStanding s commands replies n
 stand_between none agrees old = none
 stand_between (first one rest) agrees old =
-    let after = stand_after one agrees old in first (one, after.0, after.1) (stand_between rest after.0 after.1)
+    let after = stand_after one agrees old in first (one, after.0, after.1, closes_taken one agrees old) (stand_between rest after.0 after.1)
 
 pub all_own : {s n : SessionState} {commands : List Command} {replies : List Reply} → CarriesOut Goes s commands replies n
     → Agrees s.table.world → SlotsStand s → OwnsTickets s → OwnsTickets n
@@ -42,18 +41,21 @@ all_own (first one rest) agrees old owned =
 
 -- ---- over a table that nobody else uses
 
+together : (q : Quiet) (s n : SessionState) (c : Command) (a : Reply) → IsQuiet s q → Goes s c a n → (m : IsMoved s q c a n)
+    → MovesTogether (record { session = s; machine = q }) c a (record { session = n; machine = m.state })
+together q s n c a quiet one m = record { goes = one; moves = m.moves; quiet = m.quiet; unchanged = λ still. unchanged_by q quiet one still }
+
 pub all_moved : (q : Quiet) {s n : SessionState} {commands : List Command} {replies : List Reply} → IsQuiet s q → SlotsStand s
     → CarriesOut Goes s commands replies n → AreMoved s q commands replies n
 all_moved q quiet old (none {s = s}) =
     record { state = q; moves = none; quiet = quiet; tags = λ node hash. tags_counted s.table.world q node hash quiet.shows; configured = refl }
-all_moved q {n = n} quiet old (first {old = s} {mid = m} {commands = commands} {replies = replies} one rest) =
+all_moved q {n = n} quiet old (first {old = s} {mid = m} {c = c} {a = a} one rest) =
     let now = moved q quiet old one in
     let after = all_moved now.state now.quiet (stand_after one quiet.agrees old).1 rest in
-    let mid : MachineState = record { machine = now.state; slots = m.slots } in
-    let end : MachineState = record { machine = after.state; slots = n.slots } in
+    let mid : QuietState = record { session = m; machine = now.state } in
     record {
       state = after.state;
-      moves = first {mid = mid} now.moves (subst (λ (k : Config). CarriesOut (MovesBoth k) mid commands replies end) now.configured after.moves);
+      moves = first {mid = mid} (together q s m c a quiet one now) after.moves;
       quiet = after.quiet;
       tags = after.tags;
       configured = after.configured ∙ now.configured;

@@ -10,3 +10,4 @@ pub mod QuietSessions
 pub mod CommandLists
 pub mod Finishing
 pub mod Finished
+pub mod Promised

@@ -22,6 +22,8 @@ use Rattle.iceoryx2_calls.specs.Calls.{Throughout}
 use Rattle.iceoryx2_calls.specs.Tickets.{tickets_after}
 use Rattle.iceoryx2_calls.proofs.calls.Prepared.{create_call_letters, open_call_letters, create_call_tickets, open_call_tickets}
 use Rattle.iceoryx2_calls.proofs.calls.Words.{agrees_throughout, stands_throughout, all_spared, close_spares}
+use Rattle.iceoryx2_calls.proofs.calls.Closed.{close_ok}
+use Rattle.iceoryx2_port_factory.specs.Closes.{IsCloseWord}
 use Rattle.iceoryx2_calls.proofs.calls.Created.{create_stands}
 use Rattle.iceoryx2_calls.proofs.calls.Opened.{open_stands}
 use Rattle.iceoryx2_commands.specs.declared.command.How.{How}
@@ -38,11 +40,11 @@ use Rattle.iceoryx2_session.specs.BuilderCalls.{BuilderCall, with_refusal}
 use Rattle.iceoryx2_session.specs.Patterns.{builder_call}
 use Rattle.iceoryx2_commands.specs.Commands.{slot_count}
 use Rattle.iceoryx2_session.specs.Slots.{HoldsAt}
-use Rattle.iceoryx2_session.specs.Sessions.{SessionState, Builds, ClosesFactory, Goes}
+use Rattle.iceoryx2_session.specs.Sessions.{SessionState, Builds, ClosesFactory, Goes, IsClosedPlace}
 use Rattle.iceoryx2_session.specs.Sessions as goes
-use Rattle.iceoryx2_session.specs.StandingSlots.{SlotsStand}
+use Rattle.iceoryx2_session.specs.StandingSlots.{ClosesTaken, SlotsStand}
 use Rattle.iceoryx2_session.proofs.Prepared.{as_prepared_word}
-use Rattle.iceoryx2_session.proofs.SlotLists.{same_factory, no_factory, set_cases, none_held}
+use Rattle.iceoryx2_session.proofs.SlotLists.{same_factory, same_slot, no_factory, not_free, set_cases, none_held}
 
 -- ---- runs of the session's table
 
@@ -215,3 +217,22 @@ stand_after {s = s} (goes.closed {slot = k} f {t = t} at is) agrees old =
     (agrees_after is.1.word is.1.run agrees, take_stands s t k f old at (kept_by_close s.table t f agrees is))
 stand_after (goes.listed lists) agrees old = (agrees, old)
 stand_after goes.not_listed agrees old = (agrees, old)
+
+-- a taken slot is closed with Ok
+close_is_ok : (s t : TableState) (f : Factory) → Agrees s.world → Stands s.world f → ClosesFactory s f t → IsClosedPlace s (Some f) t
+close_is_ok s t f agrees stood is =
+    let ok = close_ok is.1.is_word (accesses is.1.run) agrees stood in
+    record { word = is.1.word; is_word = subst (λ a. IsCloseWord f is.1.word a) ok is.1.is_word; run = is.1.run }
+
+pub closes_taken : {s : SessionState} {c : Command} {a : Reply} {n : SessionState} → Goes s c a n → Agrees s.table.world → SlotsStand s → ClosesTaken s c n
+closes_taken (goes.call_past le) agrees old = tt
+closes_taken (goes.call_taken e) agrees old = tt
+closes_taken (goes.called f free is) agrees old = tt
+closes_taken (goes.refused free is) agrees old = tt
+closes_taken (goes.close_past le) agrees old = λ f few at. absurd (omega (arith, le, few))
+closes_taken {s = s} (goes.close_empty {slot = k} free) agrees old = λ f few at. absurd (not_free s.slots k k f free at refl)
+closes_taken {s = s} (goes.closed {slot = k} f {t = t} at is) agrees old = λ g few held.
+    let same : f ≡ g = same_slot s.slots k k f g at held refl in
+    subst (λ u. IsClosedPlace s.table (Some u) t) same (close_is_ok s.table t f agrees (old.stand k f at) is)
+closes_taken (goes.listed lists) agrees old = tt
+closes_taken goes.not_listed agrees old = tt

@@ -22,7 +22,7 @@ use Rattle.iceoryx2_session.specs.BuilderCalls.{BuilderCall, IfPrepares, with_re
 use Rattle.iceoryx2_commands.specs.Commands.{slot_count}
 use Rattle.iceoryx2_session.specs.Slots.{FreeAt, HoldsAt, TakenAt}
 use Rattle.iceoryx2_session.specs.Patterns.{builder_call}
-use Rattle.iceoryx2_session.specs.Sessions.{SessionState}
+use Rattle.iceoryx2_session.specs.Sessions.{SessionState, Goes}
 use Rattle.iceoryx2_session.specs.CommandLists.{CarriesOut}
 use Rattle.iceoryx2_calls.specs.Quiet.{Quiet, Shows}
 use Rattle.iceoryx2_calls.specs.QuietCalls.{Creates, Opens, Closes}
@@ -87,27 +87,6 @@ pub record IsMoved (old : SessionState) (q : Quiet) (c : Command) (a : Reply) (n
   pub quiet : IsQuiet new state
   pub configured : new.config ≡ old.config
 
--- The machine beside the slots.
-pub record MachineState : Type 0 where
-  pub machine : Quiet
-  pub slots : List (Option Factory)
-
-abbrev pub MovesBoth : Config → MachineState → Command → Reply → MachineState → Type 0
-MovesBoth config u c a v = Moves config u.machine u.slots c a v.machine v.slots
-
--- The machine's state after commands that were carried out in order, which the session is quiet with
--- again. The table's tags are exactly those of the nodes that the machine counts.
-pub record AreMoved (old : SessionState) (q : Quiet) (commands : List Command) (replies : List Reply)
-    (new : SessionState) : Type 0 where
-  pub state : Quiet
-  pub moves : CarriesOut (MovesBoth old.config)
-      (record { machine = q; slots = old.slots }) commands replies
-      (record { machine = state; slots = new.slots })
-  pub quiet : IsQuiet new state
-  pub tags : (node : ℕ) (hash : ServiceHash)
-      → IsTrue (tag_of new.table.world node hash) ↔ (1 ≤ times_opened state node hash)
-  pub configured : new.config ≡ old.config
-
 -- The reply tells of no factory that was opened or closed.
 abbrev pub TellsNoChange : Reply → Type 0
 TellsNoChange (reply.Opened slot number) = ⊥
@@ -118,6 +97,31 @@ TellsNoChange _ = Unit {0}
 pub record IsUnchanged (old new : SessionState) : Type 0 where
   pub slots : new.slots ≡ old.slots
   pub services : HoldsTheSame old.table.world new.table.world
+
+-- The session beside the machine that its table shows.
+pub record QuietState : Type 0 where
+  pub session : SessionState
+  pub machine : Quiet
+
+-- A command with its reply moves both, and afterwards the table shows the machine again. Nothing changes where the
+-- reply tells of no factory that was opened or closed.
+pub record MovesTogether (old : QuietState) (c : Command) (a : Reply) (new : QuietState) : Type 0 where
+  pub goes : Goes old.session c a new.session
+  pub moves : Moves old.session.config old.machine old.session.slots c a new.machine new.session.slots
+  pub quiet : IsQuiet new.session new.machine
+  pub unchanged : TellsNoChange a → IsUnchanged old.session new.session
+
+-- The machine's state after commands that were carried out in order, session and machine together, which the session is
+-- quiet with again. The table's tags are exactly those of the nodes that the machine counts.
+pub record AreMoved (old : SessionState) (q : Quiet) (commands : List Command) (replies : List Reply)
+    (new : SessionState) : Type 0 where
+  pub state : Quiet
+  pub moves : CarriesOut MovesTogether
+      (record { session = old; machine = q }) commands replies (record { session = new; machine = state })
+  pub quiet : IsQuiet new state
+  pub tags : (node : ℕ) (hash : ServiceHash)
+      → IsTrue (tag_of new.table.world node hash) ↔ (1 ≤ times_opened state node hash)
+  pub configured : new.config ≡ old.config
 
 -- the machine's state after what a slot holds is closed, if it holds something
 abbrev pub LeavesPlace : Quiet → Option Factory → Quiet → Type 0

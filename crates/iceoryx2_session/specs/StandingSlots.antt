@@ -1,5 +1,5 @@
 -- The factories of a session's slots, over any table whose world agrees.
-use Rattle.std.specs.Prelude.{◌≡◌, ℕ, List, Option, Some}
+use Rattle.std.specs.Prelude.{◌≡◌, ◌<◌, ℕ, List, Option, Some}
 use Rattle.iceoryx2_world.specs.declared.world.Ticket.{Ticket}
 use Rattle.iceoryx2_world.specs.World.{ticket_of}
 use Rattle.iceoryx2_world.specs.Across.{Agrees}
@@ -7,8 +7,10 @@ use Rattle.iceoryx2_world.specs.Standing.{Stands}
 use Rattle.iceoryx2_access.specs.Factory.{Factory}
 use Rattle.iceoryx2_session.specs.Slots.{HoldsAt}
 use Rattle.iceoryx2_commands.specs.declared.command.Command.{Command}
+use Rattle.iceoryx2_commands.specs.declared.command.Command.TheVariants as command
 use Rattle.iceoryx2_commands.specs.declared.command.Reply.{Reply}
-use Rattle.iceoryx2_session.specs.Sessions.{SessionState, Goes}
+use Rattle.iceoryx2_commands.specs.Commands.{slot_count}
+use Rattle.iceoryx2_session.specs.Sessions.{SessionState, Goes, IsClosedPlace}
 
 -- Each slot's factory stands, with a ticket of its own.
 pub record SlotsStand (s : SessionState) : Type 0 where
@@ -16,9 +18,16 @@ pub record SlotsStand (s : SessionState) : Type 0 where
   pub apart : (j k : ℕ) (f g : Factory) → HoldsAt s.slots j f → HoldsAt s.slots k g
       → f.ticket ≡ g.ticket → j ≡ k
 
--- A command leads to a state whose world agrees, and in which the factories of all slots stand.
+-- The close of a slot that holds a factory is Ok: the factory doesn't come back.
+abbrev pub ClosesTaken : SessionState → Command → SessionState → Type 0
+ClosesTaken old (command.Close slot) new =
+    (f : Factory) → slot < slot_count → HoldsAt old.slots slot f → IsClosedPlace old.table (Some f) new.table
+ClosesTaken old (command.Call call) new = Unit {0}
+ClosesTaken old command.List new = Unit {0}
+
+-- A command leads to a state whose world agrees, and in which the factories of all slots stand; and a close is Ok.
 abbrev pub GoesStanding : SessionState → Command → Reply → SessionState → Type 0
-GoesStanding old c a new = Goes old c a new × Agrees new.table.world × SlotsStand new
+GoesStanding old c a new = Goes old c a new × Agrees new.table.world × SlotsStand new × ClosesTaken old c new
 
 -- A slot's factory has this ticket.
 pub record HasTicket (slots : List (Option Factory)) (t : ℕ) : Type 0 where

@@ -77,9 +77,10 @@ impl Session {
     ghost use Rattle.iceoryx2_session.specs.SessionStates.{state_of};
     ghost use Rattle.iceoryx2_session.specs.Sessions.{AreClosed, ClosesSlots, Goes};
     ghost use Rattle.iceoryx2_session.specs.CommandLists.{CarriesOut};
-    ghost use Rattle.iceoryx2_session.specs.StandingSlots.{GoesStanding, OwnsTickets, SlotsStand};
+    ghost use Rattle.iceoryx2_session.specs.StandingSlots.{ClosesTaken, GoesStanding, OwnsTickets, SlotsStand};
     ghost use Rattle.iceoryx2_calls.specs.Quiet.{Quiet, no_service};
     ghost use Rattle.iceoryx2_calls.specs.QuietLaws.{HasNothingAt};
+    ghost use Rattle.iceoryx2_session.specs.Promised.{CallsAsPromised};
     ghost use Rattle.iceoryx2_session.specs.QuietSessions.{AreMoved, IsFinished, IsMoved, IsQuiet};
     ghost use Rattle.iceoryx2_session.specs.QuietSessions.{IsUnchanged, TellsNoChange};
     ghost use Rattle.iceoryx2_access.specs.Run.{Each};
@@ -110,9 +111,14 @@ impl Session {
         ensures goes { Goes (state_of self.old) command result (state_of self.new) }
 
         // Over any table whose world agrees, the world agrees afterwards, and the factories of all
-        // slots stand, each with a ticket of its own.
+        // slots stand, each with a ticket of its own. The close of a slot that holds one is Ok.
         ensures stands { Agrees (state_of self.old).table.world → SlotsStand (state_of self.old)
-            → Agrees (state_of self.new).table.world × SlotsStand (state_of self.new) }
+            → Agrees (state_of self.new).table.world × SlotsStand (state_of self.new)
+            × ClosesTaken (state_of self.old) command (state_of self.new) }
+
+        // The call of a free slot is as every call is: within fixed counts, and over a table whose world
+        // agrees its factory is as it was asked, and stays open; and those that were open are open throughout.
+        ensures promised { CallsAsPromised (state_of self.old) command (state_of self.new) }
 
         // There the table's tickets stay those of the slots.
         ensures owns { Agrees (state_of self.old).table.world → SlotsStand (state_of self.old)
@@ -121,6 +127,10 @@ impl Session {
         // Over a table that nobody else uses it is one step of the quiet machine.
         ensures quiet { (q : Quiet) → IsQuiet (state_of self.old) q → SlotsStand (state_of self.old)
             → IsMoved (state_of self.old) q command result (state_of self.new) }
+
+        // There nothing changes where the reply tells of no factory that was opened or closed.
+        ensures unchanged { (q : Quiet) → IsQuiet (state_of self.old) q → SlotsStand (state_of self.old)
+            → TellsNoChange result → IsUnchanged (state_of self.old) (state_of self.new) }
     {
         match command {
             Command::Call(call) => self.call(call),
@@ -153,7 +163,8 @@ impl Session {
         ensures owns { Agrees (state_of self.old).table.world → SlotsStand (state_of self.old)
             → OwnsTickets (state_of self.old) → OwnsTickets (state_of self.new) }
 
-        // Over a table that nobody else uses the commands are as many steps of the quiet machine.
+        // Over a table that nobody else uses each command moves the session and the quiet machine together, and
+        // one whose reply tells of no factory that was opened or closed changes nothing, wherever in the run it is.
         ensures quiet { (q : Quiet) → IsQuiet (state_of self.old) q → SlotsStand (state_of self.old)
             → IfOk result (λ replies.
             AreMoved (state_of self.old) q commands.items replies.items (state_of self.new)) }

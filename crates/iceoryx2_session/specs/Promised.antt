@@ -1,0 +1,46 @@
+-- What a session's builder calls come to: each is one call, whichever of a builder's three it is.
+use Rattle.std.specs.Prelude.{◌≡◌, ◌<◌, List, Result, Ok, IfOk}
+use Rattle.iceoryx2_access.specs.Factory.{Factory}
+use Rattle.iceoryx2_access.specs.Letter.{Letter}
+use Rattle.iceoryx2_access.specs.Run.{Run}
+use Rattle.iceoryx2_world.specs.Across.{Agrees}
+use Rattle.iceoryx2_batches.specs.Tables.{TableState, IsTableAccess}
+use Rattle.iceoryx2_calls.specs.AnyCalls.{AnyCall, ErrorBy, Way, ToCreate, ToOpen, ToOpenOrCreate, IsWordOf}
+use Rattle.iceoryx2_calls.specs.Headline.{IsAsPromised}
+use Rattle.iceoryx2_commands.specs.declared.command.How.{How}
+use Rattle.iceoryx2_commands.specs.declared.command.How.TheVariants as how
+use Rattle.iceoryx2_commands.specs.declared.command.Command.{Command}
+use Rattle.iceoryx2_commands.specs.declared.command.Command.TheVariants as command
+use Rattle.iceoryx2_commands.specs.declared.command.Refusal.{Refusal}
+use Rattle.iceoryx2_commands.specs.Commands.{slot_count}
+use Rattle.iceoryx2_session.specs.BuilderCalls.{BuilderCall}
+use Rattle.iceoryx2_session.specs.Patterns.{builder_call}
+use Rattle.iceoryx2_session.specs.Slots.{FreeAt}
+use Rattle.iceoryx2_session.specs.Sessions.{SessionState}
+
+abbrev pub way_of : How → Way
+way_of how.Create = ToCreate
+way_of how.Open = ToOpen
+way_of how.OpenOrCreate = ToOpenOrCreate
+
+abbrev pub any_call : (b : BuilderCall) → How → AnyCall b.asks b.fault b.open_error b.create_error
+any_call b h = record { way = way_of h; asks = b.attempt; prepares = b.prepares }
+
+-- A builder call over a table goes along a word of it, and is as every call is. Where it answers Ok it is with that
+-- factory.
+pub record IsPromised (b : BuilderCall) (h : How) (s : TableState) (answer : Result Factory Refusal) (t : TableState)
+    : Type 0 where
+  pub own : Result Factory (ErrorBy b.open_error b.create_error (way_of h))
+  pub granted : IfOk answer (λ f. own ≡ Ok f)
+  pub word : List Letter
+  pub is_word : IsWordOf (any_call b h) word own
+  pub run : Run IsTableAccess s word t
+  pub promised : Agrees s.world → IsAsPromised IsTableAccess (λ u. u.world) (any_call b h) s word own t
+
+-- So is the call of a free slot.
+abbrev pub CallsAsPromised : SessionState → Command → SessionState → Type 0
+CallsAsPromised old (command.Call call) new = call.slot < slot_count → FreeAt old.slots call.slot
+    → (answer : Result Factory Refusal)
+    × IsPromised (builder_call old.config call) call.how old.table answer new.table
+CallsAsPromised old (command.Close slot) new = Unit {0}
+CallsAsPromised old command.List new = Unit {0}
