@@ -1,1 +1,2 @@
 pub mod agreement
+pub mod AccessCases

@@ -6,6 +6,7 @@ pub mod Steps
 pub mod StepCases
 pub mod Codes
 pub mod Access
+pub mod AccessCases
 pub mod Agreement
 pub mod Across
 pub mod Peers

@@ -17,6 +17,7 @@ ghost use Rattle.iceoryx2_access.specs.declared.storage.RemoveError.{RemoveError
 ghost use Rattle.iceoryx2_access.specs.declared.storage.Release.{Release as Released};
 ghost use Rattle.iceoryx2_access.specs.declared.storage.ReleaseError.{ReleaseError};
 ghost use Rattle.iceoryx2_world.specs.Access.{IsOwnPart};
+ghost use Rattle.iceoryx2_world.specs.AccessCases.{IsOwnCase};
 ghost use Rattle.iceoryx2_access.specs.Letter.{Letter, Lock, Publish, Fetch, OpenSegment, RemoveDescription, Release};
 ghost use Rattle.iceoryx2_access.specs.Run.{Run, Each};
 ghost use Rattle.iceoryx2_world.specs.Agreement.{AgreesEverywhere, Later, IsSpent};
@@ -133,4 +134,14 @@ pub fn agreement_of_worlds()
     ensures releasing { (w v : World) (node number ticket : ℕ) (h : ServiceHash) (left : Released)
         → IsOwnPart w (Release ticket node h number (Ok left)) v → Agrees w
         → count_of w (Node node) h ≡ count_of v (Node node) h + 1 }
+{}
+
+/// What a node's own part of an access answers and changes stands twice: as functions that make its
+/// tests in their order, and as a relation with one line for each line of the table. They are one.
+pub fn accesses()
+    // What the tests come to is a line of the table.
+    ensures listed { (w v : World) (l : Letter) → IsOwnPart w l v → IsOwnCase w l v }
+
+    // And the tests come to each line of it.
+    ensures each_listed { (w v : World) (l : Letter) → IsOwnCase w l v → IsOwnPart w l v }
 {}
