@@ -17,3 +17,4 @@ pub mod Calm
 pub mod Granted
 pub mod Spent
 pub mod Closing
+pub mod Few

@@ -1,5 +1,5 @@
 -- What is always true of all services together: of the numbers of locks, and of the tickets.
-use Rattle.std.specs.Prelude.{◌≡◌, ℕ, ◌<◌, ◌≤◌, Some, None}
+use Rattle.std.specs.Prelude.{◌≡◌, ℕ, ◌<◌, Some, None}
 use Rattle.iceoryx2_values.specs.declared.description.ServiceHash.{ServiceHash}
 use Rattle.iceoryx2_world.specs.declared.world.Participant.TheVariants.{Node}
 use Rattle.iceoryx2_world.specs.declared.world.Ticket.{Ticket}
@@ -16,8 +16,6 @@ pub record AgreesOnNumbers (w : World) : Type 0 where
       → row_of w g ≡ Some (row.Locked n) → row_of w h ≡ Some (row.Locked n) → g ≡ h
   -- a lock's number is no ticket
   pub free : (h : ServiceHash) (n : ℕ) → row_of w h ≡ Some (row.Locked n) → ticket_of w n ≡ None
-  -- no node has more tickets for a service than the counter says
-  pub few : (i : ℕ) (h : ServiceHash) → ticket_count w.tickets i h ≤ w.counter
 
 -- The tickets of nodes: a node that is Joined n k has k tickets, all of number n, and any other node none.
 pub record AgreesOnTickets (w : World) : Type 0 where

@@ -7,7 +7,8 @@ ghost use Rattle.iceoryx2_data.specs.Form.{IsForm};
 ghost use Rattle.iceoryx2_world.specs.declared.world.Participant.{Participant};
 ghost use Rattle.iceoryx2_world.specs.declared.world.Participant.TheVariants.{Node, Peer};
 ghost use Rattle.iceoryx2_world.specs.declared.world.Ticket.{Ticket};
-ghost use Rattle.iceoryx2_world.specs.World.{World, Segment, phase_of, locked_number, empty_world, ticket_of, count_of};
+ghost use Rattle.iceoryx2_world.specs.World.{World, Segment, phase_of, locked_number, empty_world};
+ghost use Rattle.iceoryx2_world.specs.World.{ticket_of, ticket_count, count_of};
 ghost use Rattle.iceoryx2_world.specs.Acts.{Act, IsAct};
 ghost use Rattle.iceoryx2_world.specs.Steps.{Spot, spot_after, world_after};
 ghost use Rattle.iceoryx2_world.specs.StepCases.{IsStep};
@@ -61,6 +62,9 @@ pub fn agreement_of_worlds()
     // And so does any run of these.
     ensures run { (w v : World) (word : List Letter)
         → Run IsFaulty w word v → Agrees w → Agrees v × Later w v }
+
+    // No node has more tickets for a service than the counter says.
+    ensures few { (w : World) (i : ℕ) (h : ServiceHash) → Agrees w → ticket_count w.tickets i h ≤ w.counter }
 
     // What is later than a later world is later, where the first one agrees.
     ensures later { (u v w : World) → Agrees u → Later u v → Later v w → Later u w }

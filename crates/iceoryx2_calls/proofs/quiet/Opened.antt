@@ -21,6 +21,7 @@ use Rattle.iceoryx2_access.specs.Run.{Run}
 use Rattle.iceoryx2_world.specs.Access.{Seat, seat}
 use Rattle.iceoryx2_world.specs.Across.{Agrees}
 use Rattle.iceoryx2_world.proofs.agreement.Moved.{contains_inserted}
+use Rattle.iceoryx2_world.proofs.agreement.Few.{few_tickets}
 use Rattle.iceoryx2_pattern.specs.Meaning.{Meaning}
 use Rattle.iceoryx2_access.specs.Factory.{Factory}
 use Rattle.iceoryx2_rounds.specs.Opens.{IsOpenWord}
@@ -129,7 +130,7 @@ module _ {F E C : Type 0} (m : Meaning F E C) (regular : IsRegular m) (i : ℕ) 
       let count = subst (λ o. CountIs x.number (phase_of w (Node i) h) o) e (before.phases i) in
       let held = old.held.count i h ∙ ap join_count count.0 in
       let above : q.counter < last_number = grind (arith, nat_tests, room) in
-      let under : j < last_number = omega (arith, held, old.numbered.few i h, above, s.counter) in
+      let under : j < last_number = omega (arith, held, few_tickets w old.numbered i h, above, s.counter) in
       grind (arith, nat_tests, under)
 
   abbrev MadeHere : Result Factory E → Type 0

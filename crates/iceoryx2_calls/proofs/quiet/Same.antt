@@ -18,7 +18,7 @@ use Rattle.iceoryx2_world.specs.declared.world.Ticket.{Ticket}
 use Rattle.iceoryx2_world.specs.Orders.{hash_cmp, hash_total, hash_exact, participant_cmp, participant_total, participant_exact}
 use Rattle.iceoryx2_world.specs.World.{World, Segment, row_of, segment_of, phase_of, begins, tag_of, ticket_of, ticket_count, join_count}
 use Rattle.iceoryx2_world.specs.Across.{Agrees}
-use Rattle.iceoryx2_world.proofs.agreement.Empty.{empty_agrees}
+use Rattle.iceoryx2_world.proofs.agreement.Empty.{no_count}
 use Rattle.iceoryx2_calls.specs.Quiet.{NodeCounts, QuietService, Quiet, ShowsService, Shows, CountIs, service_at, times_counted, is_counted}
 use Rattle.iceoryx2_calls.specs.QuietLaws.{HoldsTheSame, HasNothingAt, times_at, times_opened}
 
@@ -113,7 +113,7 @@ unused w q s a none h = gone (service_at q h) refl (s.services h)
     never : (i : ℕ) → times_opened q i h ≡ 0
     never i =
         let told = tickets_counted w q i h s a in
-        let few = (empty_agrees 0).numbered.few i h in
+        let few = no_count 0 i h in
         let zero = ap (λ k. ticket_count k i h) (no_tickets w none) in
         omega (arith, told, few, zero)
 

@@ -1,5 +1,5 @@
 -- Each access keeps the agreement, and so does each run of accesses.
-use Rattle.std.proofs.Common.{◌≡◌, ◌≢◌, ℕ, ◌+◌, ◌<◌, ◌≤◌, true, false, ◌⊎◌, inl, inr, List, Option, Some, None, refl, sym, ap, subst, ◌∙◌, arith}
+use Rattle.std.proofs.Common.{◌≡◌, ◌≢◌, ℕ, ◌+◌, ◌<◌, ◌⊎◌, inl, inr, List, Option, Some, None, refl, sym, ap, subst, ◌∙◌, arith}
 use Rattle.iceoryx2_values.specs.declared.description.ServiceHash.{ServiceHash}
 use Rattle.iceoryx2_world.specs.Sets as set
 use Rattle.iceoryx2_world.specs.declared.world.Participant.{Participant}
@@ -9,7 +9,7 @@ use Rattle.iceoryx2_world.specs.declared.world.Phase.TheVariants as at
 use Rattle.iceoryx2_world.specs.declared.world.Row.{Row}
 use Rattle.iceoryx2_world.specs.declared.world.Row.TheVariants as row
 use Rattle.iceoryx2_world.specs.Orders.{tag_cmp}
-use Rattle.iceoryx2_world.specs.World.{World, Segment, row_of, segment_of, phase_of, joined_number, locked_number, phase_number, row_number, ticket_of, join_count, belongs, ticket_count}
+use Rattle.iceoryx2_world.specs.World.{World, Segment, row_of, segment_of, phase_of, joined_number, locked_number, phase_number, row_number, ticket_of}
 use Rattle.iceoryx2_world.specs.Acts.{Act, IsAct}
 use Rattle.iceoryx2_world.specs.Acts as act
 use Rattle.iceoryx2_world.specs.Steps.{Spot, world_after}
@@ -26,7 +26,6 @@ use Rattle.iceoryx2_world.specs.StepCases.{IsStep, joins as row_joins, joins_aga
 use Rattle.iceoryx2_world.proofs.agreement.StepCases.{step_case}
 use Rattle.iceoryx2_world.proofs.agreement.Step.{later_same}
 use Rattle.iceoryx2_world.proofs.agreement.Effects.{allowed_step}
-use Rattle.iceoryx2_world.proofs.agreement.Tickets.{one_if, belongs_means}
 use Rattle.iceoryx2_world.proofs.agreement.Worlds.{ticket_put, is_none, peer_keeps, idle_keeps, gain_keeps, lose_keeps, step_locks, step_places}
 use Rattle.iceoryx2_world.proofs.agreement.Parts.{mine, Publishing, Joining, IsCalm, Part, stays, tagged, calm, removed, publishes, joins, releases, own_part}
 
@@ -73,7 +72,7 @@ peers_keep {w = u} {v = w} (peer {v = v} id h a ok e rest) old =
     (more.0, later_trans u v w old.everywhere one.1 more.1)
 
 tags_keep : (w : World) (t : set.FinSet tag_cmp) → Agrees w → Agrees (record w { tags = t }) × Later w (record w { tags = t })
-tags_keep w t old = (record { everywhere = old.everywhere; numbered = record { below = old.numbered.below; apart = old.numbered.apart; free = old.numbered.free; few = old.numbered.few }; held = record { number = old.held.number; count = old.held.count } }, record { counter = omega arith; rows = λ h. later_same _ _ })
+tags_keep w t old = (record { everywhere = old.everywhere; numbered = record { below = old.numbered.below; apart = old.numbered.apart; free = old.numbered.free }; held = record { number = old.held.number; count = old.held.count } }, record { counter = omega arith; rows = λ h. later_same _ _ })
 
 -- a Join changes neither row nor counter
 join_counter : {p : Participant} {h : ServiceHash} {x : Phase} {r : Option Row} {s : Option Segment} {c : ℕ} {new : Spot} → IsStep p h act.Join x r s c new → new.counter ≡ c
@@ -86,20 +85,6 @@ joined_means _ n e = absurd (cc)
 
 joined_published : (u : World) (id : ℕ) (h : ServiceHash) (n : ℕ) → AgreesAt u.counter h (row_of u h) (segment_of u h) (λ q. phase_of u q h) → joined_number (phase_of u (Node id) h) ≡ Some n → IsPublished n (row_of u h)
 joined_published u id h n a e = let j = joined_means _ n e in (a.joined (Node id) n j.0 j.1).1
-
--- who is Made has no ticket, so one more is still few
-few_made : (w : World) (id : ℕ) (h : ServiceHash) (n t : ℕ) → phase_of w (Node id) h ≡ at.Made n → n < w.counter → Agrees w → (i : ℕ) (g : ServiceHash) → one_if (belongs i g (t, mine id h n)) + ticket_count w.tickets i g ≤ w.counter
-few_made w id h n t phase below old i g = elim (belongs i g (t, mine id h n)) as (λ b. belongs i g (t, mine id h n) ≡ b → one_if b + ticket_count w.tickets i g ≤ w.counter) [
-  | true ↦ λ e. let m = belongs_means i g t (mine id h n) e in
-      let none : ticket_count w.tickets i g ≡ 0 = old.held.count i g ∙ ap join_count ((λ j. phase_of w (Node (sym m.0 j)) (sym m.1 j)) ∙ phase) in omega arith
-  | false ↦ λ e. omega (arith, old.numbered.few i g)
-] refl
-
-few_more : (w : World) (id : ℕ) (h : ServiceHash) (n t : ℕ) → Agrees w → (i : ℕ) (g : ServiceHash) → one_if (belongs i g (t, mine id h n)) + ticket_count w.tickets i g ≤ w.counter + 1
-few_more w id h n t old i g = elim (belongs i g (t, mine id h n)) as (λ b. one_if b + ticket_count w.tickets i g ≤ w.counter + 1) [
-  | true ↦ omega (arith, old.numbered.few i g)
-  | false ↦ omega (arith, old.numbered.few i g)
-]
 
 published_keeps : (w v : World) (id : ℕ) (h : ServiceHash) (n : ℕ) (d : _) (t : ℕ) → Publishing w id h n d t v → Agrees w → Agrees v × Later w v
 published_keeps w v id h n d t p old =
@@ -115,8 +100,7 @@ published_keeps w v id h n d t p old =
       | inl i ↦ let own : row_of u h ≡ Some (row.Locked n) = subst (λ k. row_of u k ≡ Some (row.Locked n)) (old.numbered.apart g h n i locked) l in absurd (grind (arith, there.1))
       | inr i ↦ grind (arith, i.1, below)
     ] in
-    let few : (i : ℕ) (g : ServiceHash) → one_if (belongs i g (n, mine id h n)) + ticket_count w.tickets i g ≤ u.counter = λ i g. omega (arith, few_made w id h n n p.phase below old i g, kept.1.counter) in
-    subst (λ z. Agrees z × Later w z) (sym (p.is ∙ ap (λ s. ticket_put u s (mine id h n)) p.ticket)) (gain_keeps w u id h (act.Publish d) n n u.counter p.limits (λ x y g. g) p.step (ap phase_number p.phase) (old.numbered.free h n locked) (grind (arith, below, kept.1.counter)) (omega arith) free few old)
+    subst (λ z. Agrees z × Later w z) (sym (p.is ∙ ap (λ s. ticket_put u s (mine id h n)) p.ticket)) (gain_keeps w u id h (act.Publish d) n n u.counter p.limits (λ x y g. g) p.step (ap phase_number p.phase) (old.numbered.free h n locked) (grind (arith, below, kept.1.counter)) (omega arith) free old)
 
 opened_keeps : (w v : World) (id : ℕ) (h : ServiceHash) (n t : ℕ) → Joining w id h n t v → Agrees w → Agrees v × Later w v
 opened_keeps w v id h n t p old =
@@ -126,7 +110,7 @@ opened_keeps w v id h n t p old =
     let still : u.counter ≡ w.counter = subst (λ (z : World). z.counter ≡ w.counter) st.world (join_counter (step_case (Node id) h act.Join (phase_of w (Node id) h) (row_of w h) (segment_of w h) w.counter st.spot st.is)) in
     let free : (g : ServiceHash) → row_of u g ≢ Some (row.Locked w.counter) = λ g l. absurd (grind (arith, (kept.0 g).row_below (row.Locked w.counter) l, still)) in
     let fresh : ticket_of w w.counter ≡ None = is_none _ (λ x i. grind (arith, old.numbered.below w.counter x i)) in
-    subst (λ z. Agrees z × Later w z) (sym (p.is ∙ ap (λ s. ticket_put (record u { counter = w.counter + 1 }) s (mine id h n)) p.ticket)) (gain_keeps w u id h act.Join n w.counter (w.counter + 1) tt (λ x y g. g) p.step p.number fresh (omega arith) (omega (arith, still)) free (few_more w id h n w.counter old) old)
+    subst (λ z. Agrees z × Later w z) (sym (p.is ∙ ap (λ s. ticket_put (record u { counter = w.counter + 1 }) s (mine id h n)) p.ticket)) (gain_keeps w u id h act.Join n w.counter (w.counter + 1) tt (λ x y g. g) p.step p.number fresh (omega arith) (omega (arith, still)) free old)
 
 calm_keeps : (w v : World) (id : ℕ) (h : ServiceHash) (a : Act) → IsCalm a → world_after w (Node id) h a ≡ Some v → Agrees w → Agrees v × Later w v
 calm_keeps w v id h act.Read ok e old = idle_keeps w v id h act.Read tt (λ x y i. i) e old

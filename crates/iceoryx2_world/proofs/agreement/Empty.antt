@@ -47,7 +47,7 @@ none_pass : (i : ℕ) (h : ServiceHash) (es : List (ℕ × Ticket)) → length e
 none_pass i h [] e = refl
 none_pass i h (x ∷ es) e = absurd (omega arith)
 
-no_count : (c : ℕ) (i : ℕ) (h : ServiceHash) → ticket_count (empty_world c).tickets i h ≡ 0
+pub no_count : (c : ℕ) (i : ℕ) (h : ServiceHash) → ticket_count (empty_world c).tickets i h ≡ 0
 no_count c i h = none_pass i h _ (sym (map.len-entries (map.empty {R = nat_cmp})) ∙ map.len-empty nat_cmp Ticket)
 
 pub empty_agrees : (c : ℕ) → Agrees (empty_world c)
@@ -57,7 +57,6 @@ empty_agrees c = record {
     below = λ t x e. let gone = no_ticket c t in absurd (cc);
     apart = λ g h n e f. let gone = no_row c g in absurd (cc);
     free = λ h n e. no_ticket c n;
-    few = λ i h. let zero = no_count c i h in omega arith;
   };
   held = record {
     number = λ t x e. let gone = no_ticket c t in absurd (cc);

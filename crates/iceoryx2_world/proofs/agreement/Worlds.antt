@@ -1,5 +1,5 @@
 -- Each access keeps the agreement.
-use Rattle.std.proofs.Common.{◌≡◌, ◌≢◌, ℕ, ◌+◌, ◌<◌, ◌≤◌, ◌⊎◌, inl, inr, Option, Some, None, refl, sym, ap, subst, ◌∙◌, arith}
+use Rattle.std.proofs.Common.{◌≡◌, ◌≢◌, ℕ, ◌<◌, ◌≤◌, ◌⊎◌, inl, inr, Option, Some, None, refl, sym, ap, subst, ◌∙◌, arith}
 use Rattle.std.specs.FinMap as map
 use Rattle.std.proofs.lemmas.Cmp.{nat_cmp_total}
 use Rattle.std.proofs.lemmas.Map.Lookups.{exact_unsigned}
@@ -10,7 +10,7 @@ use Rattle.iceoryx2_world.specs.declared.world.Phase.{Phase}
 use Rattle.iceoryx2_world.specs.declared.world.Row.TheVariants as row
 use Rattle.iceoryx2_world.specs.declared.world.Ticket.{Ticket}
 use Rattle.iceoryx2_world.specs.Orders.{hash_total, hash_exact, place_total, place_exact}
-use Rattle.iceoryx2_world.specs.World.{World, row_of, segment_of, phase_of, or_idle, unless_idle, joined_number, phase_number, ticket_of, join_count, belongs, ticket_count}
+use Rattle.iceoryx2_world.specs.World.{World, row_of, segment_of, phase_of, or_idle, unless_idle, joined_number, phase_number, ticket_of, join_count}
 use Rattle.iceoryx2_world.specs.Acts.{Act, IsAct}
 use Rattle.iceoryx2_world.specs.Acts as act
 use Rattle.iceoryx2_world.specs.Steps.{Spot, put, world_after}
@@ -20,7 +20,6 @@ use Rattle.iceoryx2_world.specs.Across.{AgreesOnNumbers, Agrees}
 use Rattle.iceoryx2_world.proofs.agreement.Maps.{set_cases}
 use Rattle.iceoryx2_world.proofs.agreement.Effects.{Gains, Idles, PhaseChange, AllowedStep, allowed_step, step_effect}
 use Rattle.iceoryx2_world.proofs.agreement.Holding.{Places, held_same, held_more, held_less}
-use Rattle.iceoryx2_world.proofs.agreement.Tickets.{one_if, count_insert, count_remove}
 
 -- the world with a ticket more
 abbrev pub ticket_put : World → ℕ → Ticket → World
@@ -98,12 +97,11 @@ step_numbered w v p h a st each old =
         | inl i ↦ ap (λ m. map.get m n) tickets ∙ old.free g n i
         | inr i ↦ is_none _ (λ x e. grind (arith, old.below n x (was n x e), i.1))
       ];
-      few = λ i g. let same = ap (λ m. ticket_count m i g) tickets in omega (arith, old.few i g);
     }
 
 -- a ticket more
-numbered_more : (w v : World) (t : ℕ) (x : Ticket) → v.tickets ≡ map.insert w.tickets t x → v.rows ≡ w.rows → w.counter ≤ v.counter → t < v.counter → ((g : ServiceHash) → row_of w g ≢ Some (row.Locked t)) → ((i : ℕ) (g : ServiceHash) → ticket_count v.tickets i g ≤ v.counter) → AgreesOnNumbers w → AgreesOnNumbers v
-numbered_more w v t x tickets rows rises below free few old =
+numbered_more : (w v : World) (t : ℕ) (x : Ticket) → v.tickets ≡ map.insert w.tickets t x → v.rows ≡ w.rows → w.counter ≤ v.counter → t < v.counter → ((g : ServiceHash) → row_of w g ≢ Some (row.Locked t)) → AgreesOnNumbers w → AgreesOnNumbers v
+numbered_more w v t x tickets rows rises below free old =
     let lock : (g : ServiceHash) (n : ℕ) → row_of v g ≡ Some (row.Locked n) → row_of w g ≡ Some (row.Locked n) = λ g n e. ap (λ m. map.get m g) (sym rows) ∙ e in
     let from : (s : ℕ) (y : Ticket) → ticket_of v s ≡ Some y → (s ≡ t) ⊎ (ticket_of w s ≡ Some y) = λ s y e. elim (set_cases nat_cmp_total exact_unsigned w.tickets t (Some x) s) [
       | inl i ↦ inl i.0
@@ -113,7 +111,6 @@ numbered_more w v t x tickets rows rises below free few old =
       below = λ s y e. elim (from s y e) [ inl i ↦ grind (arith, below) | inr i ↦ grind (arith, rises, old.below s y i) ];
       apart = λ g k n a b. old.apart g k n (lock g n a) (lock k n b);
       free = λ g n l. is_none _ (λ y e. elim (from n y e) [ inl i ↦ free g (lock g n l ∙ ap (λ m. Some (row.Locked m)) i) | inr i ↦ let gone = old.free g n (lock g n l) in cc ]);
-      few = few;
     }
 
 numbered_less : (w v : World) (t : ℕ) (x : Ticket) → ticket_of w t ≡ Some x → v.tickets ≡ map.remove w.tickets t → v.rows ≡ w.rows → w.counter ≤ v.counter → AgreesOnNumbers w → AgreesOnNumbers v
@@ -127,7 +124,6 @@ numbered_less w v t x there tickets rows rises old =
       below = λ s y e. grind (arith, rises, old.below s y (from s y e));
       apart = λ g k n a b. old.apart g k n (lock g n a) (lock k n b);
       free = λ g n l. is_none _ (λ y e. let was = from n y e in let gone = old.free g n (lock g n l) in cc);
-      few = λ i g. omega (arith, count_remove w.tickets t x i g there, ap (λ m. ticket_count m i g) tickets, old.few i g);
     }
 
 -- any step keeps all but the tickets of nodes
@@ -167,8 +163,8 @@ idle_keeps w v id h a ok idle e old =
     )
 
 -- a node's step by which it gains a use, with a new ticket
-pub gain_keeps : (w u : World) (id : ℕ) (h : ServiceHash) (a : Act) (n t c : ℕ) → IsAct a → ((x y : Phase) → PhaseChange a x y → Gains x y) → world_after w (Node id) h a ≡ Some u → phase_number (phase_of w (Node id) h) ≡ Some n → ticket_of w t ≡ None → t < c → u.counter ≤ c → ((g : ServiceHash) → row_of u g ≢ Some (row.Locked t)) → ((i : ℕ) (g : ServiceHash) → one_if (belongs i g (t, record { node = id; hash = h; number = n })) + ticket_count w.tickets i g ≤ c) → Agrees w → Agrees (ticket_put (record u { counter = c }) t (record { node = id; hash = h; number = n })) × Later w (ticket_put (record u { counter = c }) t (record { node = id; hash = h; number = n }))
-gain_keeps w u id h a n t c ok gain e is fresh below rises free few old =
+pub gain_keeps : (w u : World) (id : ℕ) (h : ServiceHash) (a : Act) (n t c : ℕ) → IsAct a → ((x y : Phase) → PhaseChange a x y → Gains x y) → world_after w (Node id) h a ≡ Some u → phase_number (phase_of w (Node id) h) ≡ Some n → ticket_of w t ≡ None → t < c → u.counter ≤ c → ((g : ServiceHash) → row_of u g ≢ Some (row.Locked t)) → Agrees w → Agrees (ticket_put (record u { counter = c }) t (record { node = id; hash = h; number = n })) × Later w (ticket_put (record u { counter = c }) t (record { node = id; hash = h; number = n }))
+gain_keeps w u id h a n t c ok gain e is fresh below rises free old =
     let st = allowed_step w u (Node id) h a e in
     let kept = after_keeps w u (Node id) h a ok e old.everywhere in
     let places = step_places w u id h a st in
@@ -179,7 +175,7 @@ gain_keeps w u id h a n t c ok gain e is fresh below rises free few old =
     let here : joined_number (phase_of v (Node id) h) ≡ Some n = elim (gains id h) [ inl p ↦ p.2.number ∙ is | inr p ↦ absurd (p.0 refl refl) ] in (
       record {
         everywhere = λ g. AgreesAt-later u.counter c g (row_of u g) (segment_of u g) (λ q. phase_of u q g) rises (kept.0 g);
-        numbered = numbered_more u v t mine refl refl rises below free (λ i g. omega (arith, few i g, ap (λ m. ticket_count (map.insert m t mine) i g) tickets, count_insert w.tickets t mine i g fresh)) (step_numbered w u (Node id) h a st old.everywhere old.numbered);
+        numbered = numbered_more u v t mine refl refl rises below free (step_numbered w u (Node id) h a st old.everywhere old.numbered);
         held = held_more w v id h n t fresh (ap (λ m. map.insert m t mine) tickets) gains here old.held;
       },
       record { counter = grind (arith, kept.1.counter, rises); rows = kept.1.rows },

@@ -6,6 +6,7 @@ use Rattle.iceoryx2_world.proofs.agreement.Stands.{ticket_stands, other_stands, 
 use Rattle.iceoryx2_world.proofs.agreement.Calm.{own_calmed, own_unlocks, publishing_counts, joining_counts, releasing_counts}
 use Rattle.iceoryx2_world.proofs.agreement.Granted.{release_granted}
 use Rattle.iceoryx2_world.proofs.agreement.Spent.{spent_access}
+use Rattle.iceoryx2_world.proofs.agreement.Few.{few_tickets}
 use Rattle.iceoryx2_world.proofs.laws.agreement_of_worlds.Goals as goal
 
 pub returns-clause-empty : goal.returns-clause-empty
@@ -31,6 +32,9 @@ returns-clause-refusable g = λ w v l a old. faulty_keeps w l v a old
 
 pub returns-clause-run : goal.returns-clause-run
 returns-clause-run g = λ w v word r old. run_keeps r old
+
+pub returns-clause-few : goal.returns-clause-few
+returns-clause-few g = λ w i h old. few_tickets w old.numbered i h
 
 pub returns-clause-later : goal.returns-clause-later
 returns-clause-later g = λ u v w old a b. later_trans u v w old.everywhere a b
