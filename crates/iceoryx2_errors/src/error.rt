@@ -1,8 +1,10 @@
 //! Why calls are refused, and what their texts are.
 
-ghost use Rattle.std.specs.Prelude.{◌≡◌, ◌++◌, codes, Some};
+ghost use Rattle.std.specs.Prelude.{◌≡◌, ◌↔◌, ◌++◌, IsTrue, codes, Some};
 ghost use Rattle.iceoryx2_errors.specs.AnyError.{AnyError, text_of};
 ghost use Rattle.iceoryx2_errors.specs.Texts.{close_error_name};
+ghost use Rattle.iceoryx2_errors.specs.declared.error.publish_subscribe.ServiceAvailabilityState.{ServiceAvailabilityState as PublishSubscribeState};
+ghost use Rattle.iceoryx2_errors.specs.declared.error.request_response.ServiceAvailabilityState.{ServiceAvailabilityState as RequestResponseState};
 
 use std::error::Error;
 use std::fmt;
@@ -22,6 +24,35 @@ pub use request_response::{
 /// An error is known by its text: of the 163 values of the nine enums, no two have the same one.
 pub fn laws()
     ensures { (one other : AnyError) → text_of one ≡ text_of other → one ≡ other }
+{}
+
+/// Two errors of one enum, or two states of a look, are equal by `==` exactly if they are the same
+/// variant, with the same value inside.
+pub fn equality_of_errors()
+    ensures event_open { (a b : EventOpenError)
+        → IsTrue (⟦<EventOpenError as PartialEq>⟧.eq a b) ↔ (a ≡ b) }
+    ensures event_create { (a b : EventCreateError)
+        → IsTrue (⟦<EventCreateError as PartialEq>⟧.eq a b) ↔ (a ≡ b) }
+    ensures event_open_or_create { (a b : EventOpenOrCreateError)
+        → IsTrue (⟦<EventOpenOrCreateError as PartialEq>⟧.eq a b) ↔ (a ≡ b) }
+    ensures publish_subscribe_open { (a b : PublishSubscribeOpenError)
+        → IsTrue (⟦<PublishSubscribeOpenError as PartialEq>⟧.eq a b) ↔ (a ≡ b) }
+    ensures publish_subscribe_create { (a b : PublishSubscribeCreateError)
+        → IsTrue (⟦<PublishSubscribeCreateError as PartialEq>⟧.eq a b) ↔ (a ≡ b) }
+    ensures publish_subscribe_open_or_create { (a b : PublishSubscribeOpenOrCreateError)
+        → IsTrue (⟦<PublishSubscribeOpenOrCreateError as PartialEq>⟧.eq a b) ↔ (a ≡ b) }
+    ensures request_response_open { (a b : RequestResponseOpenError)
+        → IsTrue (⟦<RequestResponseOpenError as PartialEq>⟧.eq a b) ↔ (a ≡ b) }
+    ensures request_response_create { (a b : RequestResponseCreateError)
+        → IsTrue (⟦<RequestResponseCreateError as PartialEq>⟧.eq a b) ↔ (a ≡ b) }
+    ensures request_response_open_or_create { (a b : RequestResponseOpenOrCreateError)
+        → IsTrue (⟦<RequestResponseOpenOrCreateError as PartialEq>⟧.eq a b) ↔ (a ≡ b) }
+    ensures state { (a b : ServiceState)
+        → IsTrue (⟦<ServiceState as PartialEq>⟧.eq a b) ↔ (a ≡ b) }
+    ensures publish_subscribe_state { (a b : PublishSubscribeState)
+        → IsTrue (⟦<publish_subscribe::ServiceAvailabilityState as PartialEq>⟧.eq a b) ↔ (a ≡ b) }
+    ensures request_response_state { (a b : RequestResponseState)
+        → IsTrue (⟦<request_response::ServiceAvailabilityState as PartialEq>⟧.eq a b) ↔ (a ≡ b) }
 {}
 
 /// What a look finds wrong, whatever the pattern.
