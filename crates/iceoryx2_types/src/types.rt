@@ -1,8 +1,10 @@
 //! Types of messages: what nodes have to know of them, and which types say it of themselves.
 
-ghost use Rattle.std.specs.Prelude.{◌≡◌, ◌↔◌, ℕ, IsTrue};
+ghost use Rattle.std.specs.Prelude.{◌≡◌, ◌↔◌, ℕ, IsTrue, codes};
 ghost use Rattle.std.specs.Int.{IsPowerOfTwo};
 ghost use Rattle.iceoryx2_types.specs.Types.{Message, HasNameLength, IsAlignment, IsCompatible, compatible};
+ghost use Rattle.iceoryx2_types.specs.Types.{fixed_size, with_variant};
+ghost use Rattle.iceoryx2_types.specs.declared.types.TypeVariant.TheVariants.{Dynamic};
 
 use std::error::Error;
 use std::fmt;
@@ -80,6 +82,41 @@ pub fn laws()
     ensures transitive { (a b c : Message) → IsCompatible a b → IsCompatible b c → IsCompatible a c }
     ensures decided { (a b : Message) → IsTrue (compatible a b) ↔ IsCompatible a b }
     ensures alignments { (n : ℕ) → IsAlignment n ↔ IsPowerOfTwo n }
+{}
+
+/// What each type says of itself as written values, since a wrong name, size or alignment would go
+/// with the ghost `detail` of its implementation. All are of one value.
+pub fn details_of_types()
+    ensures unit { ⟦<() as ZeroCopySend>⟧.detail ≡ fixed_size (codes "()") 0 1 }
+    ensures truth { ⟦<bool as ZeroCopySend>⟧.detail ≡ fixed_size (codes "bool") 1 1 }
+    ensures u8 { ⟦<u8 as ZeroCopySend>⟧.detail ≡ fixed_size (codes "u8") 1 1 }
+    ensures i8 { ⟦<i8 as ZeroCopySend>⟧.detail ≡ fixed_size (codes "i8") 1 1 }
+    ensures u16 { ⟦<u16 as ZeroCopySend>⟧.detail ≡ fixed_size (codes "u16") 2 2 }
+    ensures i16 { ⟦<i16 as ZeroCopySend>⟧.detail ≡ fixed_size (codes "i16") 2 2 }
+    ensures u32 { ⟦<u32 as ZeroCopySend>⟧.detail ≡ fixed_size (codes "u32") 4 4 }
+    ensures i32 { ⟦<i32 as ZeroCopySend>⟧.detail ≡ fixed_size (codes "i32") 4 4 }
+    ensures u64 { ⟦<u64 as ZeroCopySend>⟧.detail ≡ fixed_size (codes "u64") 8 8 }
+    ensures i64 { ⟦<i64 as ZeroCopySend>⟧.detail ≡ fixed_size (codes "i64") 8 8 }
+    ensures usize { ⟦<usize as ZeroCopySend>⟧.detail ≡ fixed_size (codes "usize") 8 8 }
+    ensures isize { ⟦<isize as ZeroCopySend>⟧.detail ≡ fixed_size (codes "isize") 8 8 }
+    ensures u128 { ⟦<u128 as ZeroCopySend>⟧.detail ≡ fixed_size (codes "u128") 16 16 }
+    ensures i128 { ⟦<i128 as ZeroCopySend>⟧.detail ≡ fixed_size (codes "i128") 16 16 }
+    ensures header_marker { ⟦<CustomHeaderMarker as ZeroCopySend>⟧.detail
+        ≡ fixed_size (codes "CustomHeaderMarker") 0 1 }
+    ensures payload_marker { ⟦<CustomPayloadMarker as ZeroCopySend>⟧.detail
+        ≡ fixed_size (codes "CustomPayloadMarker") 1 1 }
+    ensures key_marker { ⟦<CustomKeyMarker as ZeroCopySend>⟧.detail ≡ fixed_size (codes "CustomKeyMarker") 1 1 }
+    ensures header { ⟦<publish_subscribe::Header as ZeroCopySend>⟧.detail
+        ≡ fixed_size (codes "publish_subscribe::Header") 32 8 }
+    ensures request_header { ⟦<request_response::RequestHeader as ZeroCopySend>⟧.detail
+        ≡ fixed_size (codes "request_response::RequestHeader") 32 8 }
+    ensures response_header { ⟦<request_response::ResponseHeader as ZeroCopySend>⟧.detail
+        ≡ fixed_size (codes "request_response::ResponseHeader") 32 8 }
+{}
+
+/// A number of values has the name, the size and the alignment of one.
+pub fn details_of_slices<P: ZeroCopySend>()
+    ensures { ⟦<Slice<P> as ZeroCopySend>⟧.detail ≡ with_variant P.detail Dynamic }
 {}
 
 /// Whether a text has as many bytes as a type's name may have.
