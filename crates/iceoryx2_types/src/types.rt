@@ -3,7 +3,7 @@
 ghost use Rattle.std.specs.Prelude.{◌≡◌, ◌↔◌, ℕ, IsTrue, codes};
 ghost use Rattle.std.specs.Int.{IsPowerOfTwo};
 ghost use Rattle.iceoryx2_types.specs.Types.{Message, HasNameLength, IsAlignment, IsCompatible, compatible};
-ghost use Rattle.iceoryx2_types.specs.Types.{fixed_size, with_variant};
+ghost use Rattle.iceoryx2_types.specs.Types.{Detail, fixed_size, with_variant};
 ghost use Rattle.iceoryx2_types.specs.declared.types.TypeVariant.TheVariants.{Dynamic};
 
 use std::error::Error;
@@ -117,6 +117,17 @@ pub fn details_of_types()
 /// A number of values has the name, the size and the alignment of one.
 pub fn details_of_slices<P: ZeroCopySend>()
     ensures { ⟦<Slice<P> as ZeroCopySend>⟧.detail ≡ with_variant P.detail Dynamic }
+{}
+
+/// Two values of one of these types are equal by `==` exactly if they are the same value: the same
+/// variant, or the same in all fields.
+#[tactic(auto, using(crate::proofs::Equality::messages))]
+pub fn equality_of_types()
+    ensures variant { (a b : TypeVariant) → IsTrue (⟦<TypeVariant as PartialEq>⟧.eq a b) ↔ (a ≡ b) }
+    ensures error { (a b : TypeDetailError) → IsTrue (⟦<TypeDetailError as PartialEq>⟧.eq a b) ↔ (a ≡ b) }
+    ensures alignment { (a b : ℕ) → IsTrue (⟦<Alignment as PartialEq>⟧.eq a b) ↔ (a ≡ b) }
+    ensures detail { (a b : Detail) → IsTrue (⟦<TypeDetail as PartialEq>⟧.eq a b) ↔ (a ≡ b) }
+    ensures message { (a b : Message) → IsTrue (⟦<MessageTypeDetails as PartialEq>⟧.eq a b) ↔ (a ≡ b) }
 {}
 
 /// Whether a text has as many bytes as a type's name may have.
