@@ -149,9 +149,11 @@ impl fmt::Display for ServiceName {
 }
 
 impl Clone for ServiceName {
-    fn clone(&self) -> Result<ServiceName, AllocError>
-        ensures { IfOk result (λ copy. copy ≡ self.now) }
-    {
+    ghost use Rattle.std.specs.Prelude.{◌≡◌};
+
+    ghost is_clone = { λ name copy. copy ≡ name };
+
+    fn clone(&self) -> Result<ServiceName, AllocError> {
         Ok(ServiceName {
             text: self.text.clone()?,
         })
