@@ -1,6 +1,6 @@
 //! Lengths of time and points of it.
 
-ghost use Rattle.std.specs.Prelude.{◌≡◌, ◌<◌, ◌≤◌, ◌^◌, IfSome, MatchOption};
+ghost use Rattle.std.specs.Prelude.{◌≡◌, ◌<◌, ◌≤◌, ◌^◌, ◌↔◌, IfSome, IsTrue, MatchOption};
 ghost use Rattle.iceoryx2_values.specs.Span.{Span, zero_span};
 
 use std::marker::Model;
@@ -131,6 +131,13 @@ impl Default for Time {
         }
     }
 }
+
+/// Two lengths or two points of time are equal by `==` exactly if they are the same in seconds and
+/// nanoseconds.
+pub fn equality_of_times()
+    ensures length { (a b : Span) → IsTrue (⟦<Duration as PartialEq>⟧.eq a b) ↔ (a ≡ b) }
+    ensures point { (a b : Span) → IsTrue (⟦<Time as PartialEq>⟧.eq a b) ↔ (a ≡ b) }
+{}
 
 /// A clock that could not be read.
 #[derive(Clone, Copy, Debug, PartialEq, Eq)]
