@@ -193,12 +193,13 @@ fn builders_start_from_the_defaults(rt: HostRuntime) {
     );
 }
 
-fn event_for(max_nodes: u64) -> MessagingPattern {
+/// Events up to this number, and else always the same.
+fn events_up_to(event_id_max_value: u64) -> MessagingPattern {
     MessagingPattern::Event(event::StaticConfig {
         max_notifiers: 1,
         max_listeners: 1,
-        event_id_max_value: 1,
-        max_nodes,
+        event_id_max_value,
+        max_nodes: 1,
         notifier_created_event: Some(EventId::new(9)),
         notifier_dropped_event: None,
         notifier_dead_event: None,
@@ -229,10 +230,11 @@ fn an_event_keeps_its_number(rt: HostRuntime) {
     assert_same(&rt, EventId::new(9).as_value(), 9);
 }
 
-/// Events, publish-subscribe or request-response, with one number of its settings.
+/// Events, publish-subscribe or request-response, with this as one number of its settings: the greatest of
+/// an event, the length of the history, and how many clients there may be.
 fn pattern(rt: &impl Abort, alloc: Global, place: usize, number: u64) -> MessagingPattern {
     match place {
-        0 => event_for(number),
+        0 => events_up_to(number),
         1 => with_history(rt, alloc, number),
         _ => with_clients(rt, alloc, number),
     }

@@ -1,5 +1,6 @@
 //! The byte form.
 
+use self::Reading::{Form, Malformed};
 use crate::support::*;
 use iceoryx2_attributes::attribute::AttributeSet;
 use iceoryx2_data::bytes::{DecodeError, laws};
@@ -29,13 +30,19 @@ const DEADLINE: &str = "010000000000000001000001f4000000000000000000000000";
 const NUMBERED: &str =
     "0000010000000000000001000000000000000200000000000000030000000000000004010000000000000005010000000000000006010000000000000007";
 
-/// Ends behind the settings, and whether the whole is a form then: the nanoseconds of a deadline and
-/// of its creation are at their limit, and past it.
-const NANOSECONDS: &[(&str, bool)] = &[
-    ("0100000000000000013b9ac9ff000000000000000000000000", true),
-    ("0100000000000000013b9aca00000000000000000000000000", false),
-    ("010000000000000001000001f400000000000000003b9ac9ff", true),
-    ("010000000000000001000001f400000000000000003b9aca00", false),
+/// Ends behind the settings, and what a reader makes of the whole: the nanoseconds of a deadline and of
+/// its creation are at their limit, and past it.
+const NANOSECONDS: &[(&str, Reading)] = &[
+    ("0100000000000000013b9ac9ff000000000000000000000000", Form),
+    (
+        "0100000000000000013b9aca00000000000000000000000000",
+        Malformed,
+    ),
+    ("010000000000000001000001f400000000000000003b9ac9ff", Form),
+    (
+        "010000000000000001000001f400000000000000003b9aca00",
+        Malformed,
+    ),
 ];
 
 /// The type of a user header: one `()`.
@@ -87,27 +94,6 @@ fn deadline(rt: &impl Abort) -> Deadline {
     }
 }
 
-/// Whether the bytes are what is written for the description.
-fn are_written(rt: &impl Abort, alloc: Global, bytes: &[u8], made: &StaticConfig) -> bool {
-    written(rt, alloc, made).as_slice() == bytes
-}
-
-/// Whether the bytes are a form. What is read from a form has to be written as the form again.
-fn is_form(rt: &impl Abort, alloc: Global, bytes: &[u8]) -> bool {
-    match read(rt, alloc, bytes) {
-        Some(found) => are_written(rt, alloc, bytes, &found),
-        None => false,
-    }
-}
-
-/// Whether the description is what is read from the bytes.
-fn are_read(rt: &impl Abort, alloc: Global, bytes: &[u8], made: &StaticConfig) -> bool {
-    match read(rt, alloc, bytes) {
-        Some(found) => found == *made,
-        None => false,
-    }
-}
-
 /// How many bytes there are, whether they are written for the description, whether it is read from
 /// them, and for how many nodes it is.
 fn found_of(
@@ -119,7 +105,7 @@ fn found_of(
     (
         bytes.len(),
         are_written(rt, alloc, bytes, made),
-        are_read(rt, alloc, bytes, made),
+        are_read(alloc, bytes, made),
         made.max_nodes(),
     )
 }
@@ -149,95 +135,178 @@ fn a_deadline_is_read_and_written(rt: HostRuntime) {
     assert_same(&rt, found, (91, true, true, 36));
 }
 
-/// Whether the bytes without their last ones are malformed, however many are left out.
-fn has_no_form_in_front(rt: &impl Abort, alloc: Global, bytes: &[u8]) -> bool {
+/// How many of the bytes' proper fronts are malformed.
+fn malformed_fronts(rt: &impl Abort, alloc: Global, bytes: &[u8]) -> usize {
+    let mut count = 0usize;
     for len in 0..bytes.len() {
-        if is_form(rt, alloc, &bytes[..len]) {
-            return false;
+        if read(rt, alloc, &bytes[..len]) == Malformed {
+            count = count.wrapping_add(1);
         }
     }
-    true
+    count
 }
 
-/// Whether the whole is a form with these digits behind the settings.
-fn is_form_with(rt: &impl Abort, alloc: Global, last: &str) -> bool {
-    is_form(rt, alloc, form(rt, alloc, last).as_slice())
+/// What a reader makes of bytes with one more behind them.
+fn reading_of_longer(rt: &impl Abort, alloc: Global, bytes: &[u8], last: u8) -> Reading {
+    let mut longer = Vec::new(alloc);
+    if longer.extend_from_slice(bytes).is_err() || longer.push(last).is_err() {
+        panic!(rt; "no memory")
+    }
+    read(rt, alloc, &longer)
+}
+
+/// With how many of all bytes behind them the bytes are malformed.
+fn malformed_longer(rt: &impl Abort, alloc: Global, bytes: &[u8]) -> usize {
+    let mut count = 0usize;
+    for last in 0..256u32 {
+        if reading_of_longer(rt, alloc, bytes, last as u8) == Malformed {
+            count = count.wrapping_add(1);
+        }
+    }
+    count
+}
+
+/// What a reader makes of a form, how many of its proper fronts are malformed, and with how many of all
+/// bytes behind it it is malformed.
+fn bounds(rt: &impl Abort, alloc: Global, bytes: Vec<u8>) -> (Reading, usize, usize) {
+    (
+        read(rt, alloc, &bytes),
+        malformed_fronts(rt, alloc, &bytes),
+        malformed_longer(rt, alloc, &bytes),
+    )
 }
 
 #[test]
-fn fronts_are_malformed(rt: HostRuntime) {
-    let found = has_no_form_in_front(&rt, rt.alloc(), form(&rt, rt.alloc(), "00").as_slice());
-    assert_same(&rt, found, true);
+fn each_front_and_each_longer_list_is_malformed(rt: HostRuntime) {
+    let found = bounds(&rt, rt.alloc(), form(&rt, rt.alloc(), "00"));
+    assert_same(&rt, found, (Form, 67, 256));
+    let found = bounds(&rt, rt.alloc(), form(&rt, rt.alloc(), DEADLINE));
+    assert_same(&rt, found, (Form, 91, 256));
 }
 
-#[test]
-fn a_longer_list_is_malformed(rt: HostRuntime) {
-    assert_same(&rt, is_form_with(&rt, rt.alloc(), "0000"), false);
-}
+/// Where the form of the default settings without a deadline is damaged, and by which bytes.
+const DAMAGES: &[(usize, &[u8])] = &[
+    // the magic, and the version
+    (0, &[0x4a]),
+    (4, &[0]),
+    (4, &[2]),
+    (4, &[3]),
+    // a name without a byte, one longer than a name may be, and one that isn't UTF-8
+    (25, &[0, 0]),
+    (25, &[1, 0]),
+    (27, &[0xff]),
+    // more pairs than there may be
+    (28, &[0, 0x41]),
+    // no pattern
+    (30, &[0]),
+    (30, &[4]),
+    // three events and a deadline that are neither there nor not there
+    (63, &[2]),
+    (64, &[2]),
+    (65, &[2]),
+    (66, &[2]),
+];
 
-/// Whether the form is still one with the byte in that place.
-fn may_be(place: usize, byte: u8) -> bool {
-    match place {
-        5..25 | 31..63 => true,
-        27 => byte < 0x80,
-        _ => false,
+/// Puts bytes in the place of those that stand there.
+fn put(bytes: &mut Vec<u8>, place: usize, others: &[u8]) {
+    for (offset, other) in others.iter().enumerate() {
+        let at = place.wrapping_add(offset);
+        if at < bytes.len() {
+            bytes[at] = *other;
+        }
     }
 }
 
-/// Whether a form is one with the byte in that place, if another one stands there.
-fn is_form_by(
+/// What a reader makes of that form with these bytes in that place.
+fn reading_of_damaged(rt: &impl Abort, alloc: Global, place: usize, others: &[u8]) -> Reading {
+    let mut bytes = form(rt, alloc, "00");
+    put(&mut bytes, place, others);
+    read(rt, alloc, &bytes)
+}
+
+#[test]
+fn damaged_bytes_are_malformed_and_not_out_of_memory(rt: HostRuntime) {
+    for &(place, others) in DAMAGES {
+        let found = reading_of_damaged(&rt, rt.alloc(), place, others);
+        assert_same(&rt, (place, others, found), (place, others, Malformed));
+    }
+}
+
+/// What a reader has to make of that form with another byte in that place.
+fn wanted_by(place: usize, byte: u8) -> Reading {
+    match place {
+        5..25 | 31..63 => Form,
+        27 if byte < 0x80 => Form,
+        _ => Malformed,
+    }
+}
+
+/// What a reader makes of bytes with the byte in that place, if another one stands there.
+fn reading_by(
     rt: &impl Abort,
     alloc: Global,
     mut bytes: Vec<u8>,
     place: usize,
     byte: u8,
-) -> Option<bool> {
+) -> Option<Reading> {
     if place < bytes.len() && byte != bytes[place] {
         bytes[place] = byte;
-        Some(is_form(rt, alloc, &bytes))
+        Some(read(rt, alloc, &bytes))
     } else {
         None
     }
 }
 
-/// How often the form is another one by the byte in that place, which has to be so where it may be.
-fn tried(rt: &impl Abort, alloc: Global, place: usize, byte: u8) -> u32 {
-    match is_form_by(rt, alloc, form(rt, alloc, "00"), place, byte) {
+/// How many lists of bytes are tried, and how many of them are forms.
+type Tried = (u32, u32);
+
+/// Tries that form with the byte in that place, if another one stands there. It has to be malformed, or
+/// the form of what is read from it, as it is wanted of this place.
+fn tried(rt: &impl Abort, alloc: Global, place: usize, byte: u8) -> Tried {
+    match reading_by(rt, alloc, form(rt, alloc, "00"), place, byte) {
         Some(found) => {
-            assert_same(rt, (place, byte, found), (place, byte, may_be(place, byte)));
-            1
+            let wanted = wanted_by(place, byte);
+            assert_same(rt, (place, byte, found), (place, byte, wanted));
+            if found == Form { (1, 1) } else { (1, 0) }
         }
-        None => 0,
+        None => (0, 0),
     }
 }
 
-/// How often it is by all bytes in that place.
-fn all_tried(rt: &impl Abort, alloc: Global, place: usize) -> u32 {
-    let mut count = 0u32;
+/// The sums of two counts.
+fn added(one: Tried, other: Tried) -> Tried {
+    (one.0.wrapping_add(other.0), one.1.wrapping_add(other.1))
+}
+
+/// Tries it with all bytes in that place.
+fn all_tried(rt: &impl Abort, alloc: Global, place: usize) -> Tried {
+    let mut count = (0, 0);
     for byte in 0..256u32 {
-        count = count.wrapping_add(tried(rt, alloc, place, byte as u8));
+        count = added(count, tried(rt, alloc, place, byte as u8));
     }
     count
 }
 
+/// Of 17,085 lists, a reader that was written in another language from the description of the form alone
+/// takes 13,387.
 #[test]
-fn a_changed_byte_gives_another_description_or_none(rt: HostRuntime) {
-    let mut count = 0u32;
+fn one_changed_byte_gives_malformed_bytes_or_the_form_of_another_description(rt: HostRuntime) {
+    let mut count = (0, 0);
     for place in 0..67usize {
-        count = count.wrapping_add(all_tried(&rt, rt.alloc(), place));
+        count = added(count, all_tried(&rt, rt.alloc(), place));
     }
-    assert_same(&rt, count, 17_085);
+    assert_same(&rt, count, (17_085, 13_387));
 }
 
-/// How many bytes and letters the name has, and whether there is a form: none, more than there are, and a
-/// name that isn't UTF-8; and with how many pairs of attributes.
-const NAMES: &[(&str, bool)] = &[
-    ("0001610000", true),
-    ("0000610000", false),
-    ("0100610000", false),
-    ("0001ff0000", false),
-    ("0001610041", false),
-    ("0001614100", false),
+/// How many bytes and letters the name has, and what a reader makes of the whole: none, more than there
+/// are, and a name that isn't UTF-8; and with how many pairs of attributes.
+const NAMES: &[(&str, Reading)] = &[
+    ("0001610000", Form),
+    ("0000610000", Malformed),
+    ("0100610000", Malformed),
+    ("0001ff0000", Malformed),
+    ("0001610041", Malformed),
+    ("0001614100", Malformed),
 ];
 
 /// Events with the default settings and without a deadline.
@@ -247,15 +316,20 @@ const EVENTS: &str = "010000000000000010000000000000001000000000000000ff00000000
 fn names_and_counts_have_limits(rt: HostRuntime) {
     for &(name, wanted) in NAMES {
         let bytes = bytes_of(&rt, rt.alloc(), &[HASHED, name, EVENTS]);
-        let found = is_form(&rt, rt.alloc(), bytes.as_slice());
+        let found = read(&rt, rt.alloc(), bytes.as_slice());
         assert_same(&rt, (name, found), (name, wanted));
     }
+}
+
+/// What a reader makes of events with these digits as their deadline.
+fn reading_with(rt: &impl Abort, alloc: Global, last: &str) -> Reading {
+    read(rt, alloc, form(rt, alloc, last).as_slice())
 }
 
 #[test]
 fn nanoseconds_have_a_limit(rt: HostRuntime) {
     for &(last, wanted) in NANOSECONDS {
-        let found = is_form_with(&rt, rt.alloc(), last);
+        let found = reading_with(&rt, rt.alloc(), last);
         assert_same(&rt, (last, found), (last, wanted));
     }
 }

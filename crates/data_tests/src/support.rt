@@ -90,12 +90,47 @@ pub fn written(rt: &impl Abort, alloc: Global, made: &StaticConfig) -> Vec<u8> {
     }
 }
 
-/// The description that is read from bytes, if they are a form.
-pub fn read(rt: &impl Abort, alloc: Global, bytes: &[u8]) -> Option<StaticConfig> {
+/// Whether the bytes are what is written for the description.
+pub fn are_written(rt: &impl Abort, alloc: Global, bytes: &[u8], made: &StaticConfig) -> bool {
+    written(rt, alloc, made).as_slice() == bytes
+}
+
+/// What a reader makes of bytes.
+#[derive(Clone, Copy, Debug, PartialEq, Eq)]
+pub enum Reading {
+    /// It finds a description, for which these bytes are written.
+    Form,
+    /// It finds a description, for which other bytes are written.
+    WrittenOtherwise,
+    /// It says that they are malformed.
+    Malformed,
+    /// It says that there is no memory for what they are.
+    OutOfMemory,
+}
+
+/// What a reader finds where it finds a description.
+fn by_form(are_written: bool) -> Reading {
+    if are_written {
+        Reading::Form
+    } else {
+        Reading::WrittenOtherwise
+    }
+}
+
+/// What a reader makes of the bytes.
+pub fn read(rt: &impl Abort, alloc: Global, bytes: &[u8]) -> Reading {
     match decode(alloc, bytes) {
-        Ok(found) => Some(found),
-        Err(DecodeError::Malformed) => None,
-        Err(DecodeError::OutOfMemory) => panic!(rt; "no memory"),
+        Ok(description) => by_form(are_written(rt, alloc, bytes, &description)),
+        Err(DecodeError::Malformed) => Reading::Malformed,
+        Err(DecodeError::OutOfMemory) => Reading::OutOfMemory,
+    }
+}
+
+/// Whether the description is what is read from the bytes.
+pub fn are_read(alloc: Global, bytes: &[u8], made: &StaticConfig) -> bool {
+    match decode(alloc, bytes) {
+        Ok(description) => description == *made,
+        Err(_) => false,
     }
 }
 

@@ -9,74 +9,76 @@ const NAMED: &str = "494f5832011111111111111111111111111111111111111111000161";
 /// Events with the default settings.
 const EVENTS: &str = "010000000000000010000000000000001000000000000000ff000000000000002400000000";
 
-/// The bytes of attributes, and whether the whole is a form then.
-const ATTRIBUTES: [(&str, bool); 12] = [
+/// The bytes of attributes, and what a reader makes of the whole.
+const ATTRIBUTES: [(&str, Reading); 12] = [
     // the pair of `k` and `v`, and one without a value
-    ("000100016b000176", true),
-    ("000100016b0000", true),
+    ("000100016b000176", Form),
+    ("000100016b0000", Form),
     // two values of a key, two keys, and a key that begins with another
-    ("000200016b00017600016b000177", true),
-    ("000200016b00017700016c000176", true),
-    ("000200016b00017700026b6b0000", true),
+    ("000200016b00017600016b000177", Form),
+    ("000200016b00017700016c000176", Form),
+    ("000200016b00017700026b6b0000", Form),
     // descending values, descending keys, and one pair twice
-    ("000200016b00017700016b000176", false),
-    ("000200016c00017600016b000177", false),
-    ("000200016b00017600016b000176", false),
+    ("000200016b00017700016b000176", Malformed),
+    ("000200016c00017600016b000177", Malformed),
+    ("000200016b00017600016b000176", Malformed),
     // a count without pairs, and a pair that isn't counted
-    ("0001", false),
-    ("000000016b000176", false),
+    ("0001", Malformed),
+    ("000000016b000176", Malformed),
     // a key and a value that aren't UTF-8
-    ("00010001ff000176", false),
-    ("000100016b0001ff", false),
+    ("00010001ff000176", Malformed),
+    ("000100016b0001ff", Malformed),
 ];
 
-/// How many letters a key and a value have, each behind the number in digits, and whether a pair of them
-/// has a form.
-const LENGTHS: [(&str, usize, &str, usize, bool); 5] = [
-    ("0001", 1, "0000", 0, true),
-    ("0040", 64, "0100", 256, true),
-    ("0000", 0, "0001", 1, false),
-    ("0041", 65, "0001", 1, false),
-    ("0001", 1, "0101", 257, false),
+/// How many letters a key and a value have, each behind the number in digits, and what a reader makes of a
+/// pair of them.
+type Length = (&'static str, usize, &'static str, usize, Reading);
+
+const LENGTHS: [Length; 5] = [
+    ("0001", 1, "0000", 0, Form),
+    ("0040", 64, "0100", 256, Form),
+    ("0000", 0, "0001", 1, Malformed),
+    ("0041", 65, "0001", 1, Malformed),
+    ("0001", 1, "0101", 257, Malformed),
 ];
 
-/// How many pairs there are, in digits and as a number, and whether they have a form.
-const COUNTS: [(&str, u8, bool); 2] = [("0040", 64, true), ("0041", 65, false)];
+/// How many pairs there are, in digits and as a number, and what a reader makes of them.
+const COUNTS: [(&str, u8, Reading); 2] = [("0040", 64, Form), ("0041", 65, Malformed)];
 
 /// The service `a` of events with the default settings and these digits of attributes.
 fn form_with(rt: &impl Abort, alloc: Global, attributes: &str) -> Vec<u8> {
     bytes_of(rt, alloc, &[NAMED, attributes, EVENTS])
 }
 
-/// Whether there is a form with these digits of attributes.
-fn is_form_with_attributes(rt: &impl Abort, alloc: Global, attributes: &str) -> bool {
-    is_form(rt, alloc, form_with(rt, alloc, attributes).as_slice())
+/// What a reader makes of it.
+fn reading_with_attributes(rt: &impl Abort, alloc: Global, attributes: &str) -> Reading {
+    read(rt, alloc, form_with(rt, alloc, attributes).as_slice())
 }
 
 #[test]
 fn attributes_ascend_and_are_counted(rt: HostRuntime) {
     for (attributes, wanted) in ATTRIBUTES {
-        let found = is_form_with_attributes(&rt, rt.alloc(), attributes);
+        let found = reading_with_attributes(&rt, rt.alloc(), attributes);
         assert_same(&rt, (attributes, found), (attributes, wanted));
     }
 }
 
 /// The digits of one pair of texts of so many letters.
-fn one_pair(rt: &impl Abort, alloc: Global, row: &(&str, usize, &str, usize, bool)) -> String {
+fn one_pair(rt: &impl Abort, alloc: Global, row: &Length) -> String {
     let key = repeated(rt, alloc, "6b", row.1);
     let value = repeated(rt, alloc, "76", row.3);
     joined(rt, alloc, &["0001", row.0, &key, row.2, &value])
 }
 
-/// Whether a pair of texts of so many letters has a form.
-fn has_form(rt: &impl Abort, alloc: Global, row: &(&str, usize, &str, usize, bool)) -> bool {
-    is_form_with_attributes(rt, alloc, one_pair(rt, alloc, row).as_str())
+/// What a reader makes of a pair of texts of so many letters.
+fn reading_of_one(rt: &impl Abort, alloc: Global, row: &Length) -> Reading {
+    reading_with_attributes(rt, alloc, one_pair(rt, alloc, row).as_str())
 }
 
 #[test]
 fn keys_have_1_to_64_bytes_and_values_at_most_256(rt: HostRuntime) {
     for row in LENGTHS {
-        let found = has_form(&rt, rt.alloc(), &row);
+        let found = reading_of_one(&rt, rt.alloc(), &row);
         assert_same(&rt, (row.1, row.3, found), (row.1, row.3, row.4));
     }
 }
@@ -93,15 +95,15 @@ fn many_pairs(rt: &impl Abort, alloc: Global, counted: &str, count: u8) -> Strin
     digits
 }
 
-/// Whether so many pairs have a form.
-fn have_form(rt: &impl Abort, alloc: Global, counted: &str, count: u8) -> bool {
-    is_form_with_attributes(rt, alloc, many_pairs(rt, alloc, counted, count).as_str())
+/// What a reader makes of so many pairs.
+fn reading_of_many(rt: &impl Abort, alloc: Global, counted: &str, count: u8) -> Reading {
+    reading_with_attributes(rt, alloc, many_pairs(rt, alloc, counted, count).as_str())
 }
 
 #[test]
 fn there_are_64_attributes_at_most(rt: HostRuntime) {
     for (counted, count, wanted) in COUNTS {
-        let found = have_form(&rt, rt.alloc(), counted, count);
+        let found = reading_of_many(&rt, rt.alloc(), counted, count);
         assert_same(&rt, (count, found), (count, wanted));
     }
 }
@@ -134,4 +136,11 @@ fn a_pair_is_read_and_written(rt: HostRuntime) {
         compared(&rt, rt.alloc(), bytes, made),
         (73, true, true, 36),
     );
+}
+
+#[test]
+fn fronts_and_longer_lists_with_a_pair_are_malformed(rt: HostRuntime) {
+    let bytes = form_with(&rt, rt.alloc(), "000100016b000176");
+    let found = bounds(&rt, rt.alloc(), bytes);
+    assert_same(&rt, found, (Form, 73, 256));
 }

@@ -20,33 +20,54 @@ const HEADER: &str =
 /// A number of `i64`.
 const PAYLOAD: &str = "01000369363400000000000000080000000000000008";
 
-/// Safe overflow, the payload's type, and whether the whole is a form with them.
-const FORMS: [(&str, &str, bool); 13] = [
-    ("00", PAYLOAD, true),
-    ("02", PAYLOAD, false),
-    ("ff", PAYLOAD, false),
+/// Safe overflow, the payload's type, and what a reader makes of the whole.
+const FORMS: [(&str, &str, Reading); 13] = [
+    ("00", PAYLOAD, Form),
+    ("02", PAYLOAD, Malformed),
+    ("ff", PAYLOAD, Malformed),
     // one of them, and a variant that is none
-    ("01", "00000369363400000000000000080000000000000008", true),
-    ("01", "02000369363400000000000000080000000000000008", false),
+    ("01", "00000369363400000000000000080000000000000008", Form),
+    (
+        "01",
+        "02000369363400000000000000080000000000000008",
+        Malformed,
+    ),
     // any size, and alignments that are powers of two, up to 2^63
-    ("01", "010003693634ffffffffffffffff0000000000000001", true),
-    ("01", "01000369363400000000000000088000000000000000", true),
-    ("01", "01000369363400000000000000080000000000000000", false),
-    ("01", "01000369363400000000000000080000000000000003", false),
+    ("01", "010003693634ffffffffffffffff0000000000000001", Form),
+    ("01", "01000369363400000000000000088000000000000000", Form),
+    (
+        "01",
+        "01000369363400000000000000080000000000000000",
+        Malformed,
+    ),
+    (
+        "01",
+        "01000369363400000000000000080000000000000003",
+        Malformed,
+    ),
     // a name without a byte, and one that isn't UTF-8
-    ("01", "01000000000000000000080000000000000008", false),
-    ("01", "010003ff363400000000000000080000000000000008", false),
+    ("01", "01000000000000000000080000000000000008", Malformed),
+    (
+        "01",
+        "010003ff363400000000000000080000000000000008",
+        Malformed,
+    ),
     // one byte more, and one less
     (
         "01",
         "0100036936340000000000000008000000000000000800",
-        false,
+        Malformed,
     ),
-    ("01", "010003693634000000000000000800000000000008", false),
+    (
+        "01",
+        "010003693634000000000000000800000000000008",
+        Malformed,
+    ),
 ];
 
-/// How many letters the payload's name has, behind the number in digits, and whether there is a form.
-const NAME_LENGTHS: [(&str, usize, bool); 2] = [("0100", 256, true), ("0101", 257, false)];
+/// How many letters the payload's name has, behind the number in digits, and what a reader makes of
+/// the whole.
+const NAME_LENGTHS: [(&str, usize, Reading); 2] = [("0100", 256, Form), ("0101", 257, Malformed)];
 
 /// The service `a` of publish-subscribe with these digits as safe overflow and as the payload's type.
 fn form_of(rt: &impl Abort, alloc: Global, overflow: &str, payload: &str) -> Vec<u8> {
@@ -81,37 +102,37 @@ fn publish_subscribe_is_read_and_written(rt: HostRuntime) {
 }
 
 #[test]
-fn fronts_of_publish_subscribe_are_malformed(rt: HostRuntime) {
+fn fronts_and_longer_lists_of_publish_subscribe_are_malformed(rt: HostRuntime) {
     let bytes = form_of(&rt, rt.alloc(), "01", PAYLOAD);
-    let found = has_no_form_in_front(&rt, rt.alloc(), bytes.as_slice());
-    assert_same(&rt, found, true);
+    let found = bounds(&rt, rt.alloc(), bytes);
+    assert_same(&rt, found, (Form, 167, 256));
 }
 
-/// Whether there is a form with such a safe overflow and payload.
-fn is_form_of(rt: &impl Abort, alloc: Global, overflow: &str, payload: &str) -> bool {
-    is_form(rt, alloc, form_of(rt, alloc, overflow, payload).as_slice())
+/// What a reader makes of such a safe overflow and payload.
+fn reading_of(rt: &impl Abort, alloc: Global, overflow: &str, payload: &str) -> Reading {
+    read(rt, alloc, form_of(rt, alloc, overflow, payload).as_slice())
 }
 
 #[test]
 fn truth_values_and_types_have_limits(rt: HostRuntime) {
     for (overflow, payload, wanted) in FORMS {
-        let found = is_form_of(&rt, rt.alloc(), overflow, payload);
+        let found = reading_of(&rt, rt.alloc(), overflow, payload);
         assert_same(&rt, (overflow, payload, found), (overflow, payload, wanted));
     }
 }
 
-/// Whether there is a form with a payload whose name has so many letters.
-fn is_form_named(rt: &impl Abort, alloc: Global, digits: &str, letters: usize) -> bool {
+/// What a reader makes of a payload whose name has so many letters.
+fn reading_of_named(rt: &impl Abort, alloc: Global, digits: &str, letters: usize) -> Reading {
     let name = repeated(rt, alloc, "6e", letters);
     let numbers = "00000000000000080000000000000008";
     let payload = joined(rt, alloc, &["01", digits, &name, numbers]);
-    is_form_of(rt, alloc, "01", &payload)
+    reading_of(rt, alloc, "01", &payload)
 }
 
 #[test]
 fn names_of_types_have_a_limit(rt: HostRuntime) {
     for (digits, letters, wanted) in NAME_LENGTHS {
-        let found = is_form_named(&rt, rt.alloc(), digits, letters);
+        let found = reading_of_named(&rt, rt.alloc(), digits, letters);
         assert_same(&rt, (letters, found), (letters, wanted));
     }
 }

@@ -17,8 +17,14 @@ const NONE: &str =
 const MOST: &str =
     "010101ffffffffffffffffffffffffffffffffffffffffffffffffffffffffffffffffffffffffffffffffffffffffffffffffffffffffffffffff";
 
-/// The default settings with 2 for fire and forget.
-const TWICE: &str =
+/// The default settings with 2 for the overflow of requests, for that of responses, and for fire and forget.
+const REQUESTS_TWICE: &str =
+    "0201010000000000000004000000000000000200000000000000020000000000000002000000000000000200000000000000080000000000000014";
+
+const RESPONSES_TWICE: &str =
+    "0102010000000000000004000000000000000200000000000000020000000000000002000000000000000200000000000000080000000000000014";
+
+const FORGOTTEN_TWICE: &str =
     "0101020000000000000004000000000000000200000000000000020000000000000002000000000000000200000000000000080000000000000014";
 
 /// One `request_response::RequestHeader` of 32 bytes, aligned to 8.
@@ -45,13 +51,15 @@ const MESSAGES: [&str; 6] = [
     RESPONSE,
 ];
 
-/// The pattern's byte, the settings, the types, and whether the whole is a form with them.
-const FORMS: [(&str, &str, &[&str], bool); 9] = [
-    ("02", SETTINGS, &MESSAGES, false),
-    ("04", SETTINGS, &MESSAGES, false),
-    ("03", NONE, &MESSAGES, true),
-    ("03", MOST, &MESSAGES, true),
-    ("03", TWICE, &MESSAGES, false),
+/// The pattern's byte, the settings, the types, and what a reader makes of the whole.
+const FORMS: [(&str, &str, &[&str], Reading); 11] = [
+    ("02", SETTINGS, &MESSAGES, Malformed),
+    ("04", SETTINGS, &MESSAGES, Malformed),
+    ("03", NONE, &MESSAGES, Form),
+    ("03", MOST, &MESSAGES, Form),
+    ("03", REQUESTS_TWICE, &MESSAGES, Malformed),
+    ("03", RESPONSES_TWICE, &MESSAGES, Malformed),
+    ("03", FORGOTTEN_TWICE, &MESSAGES, Malformed),
     // a message of any types may be a request, and so may one be a response
     (
         "03",
@@ -64,14 +72,14 @@ const FORMS: [(&str, &str, &[&str], bool); 9] = [
             USER_HEADER,
             REQUEST,
         ],
-        true,
+        Form,
     ),
     // a request alone, a third message, and a byte more
     (
         "03",
         SETTINGS,
         &[REQUEST_HEADER, USER_HEADER, REQUEST],
-        false,
+        Malformed,
     ),
     (
         "03",
@@ -87,7 +95,7 @@ const FORMS: [(&str, &str, &[&str], bool); 9] = [
             USER_HEADER,
             RESPONSE,
         ],
-        false,
+        Malformed,
     ),
     (
         "03",
@@ -101,7 +109,7 @@ const FORMS: [(&str, &str, &[&str], bool); 9] = [
             RESPONSE,
             "00",
         ],
-        false,
+        Malformed,
     ),
 ];
 
@@ -135,21 +143,21 @@ fn request_response_is_read_and_written(rt: HostRuntime) {
 }
 
 #[test]
-fn fronts_of_request_response_are_malformed(rt: HostRuntime) {
+fn fronts_and_longer_lists_of_request_response_are_malformed(rt: HostRuntime) {
     let bytes = form_of(&rt, rt.alloc(), "03", SETTINGS, &MESSAGES);
-    let found = has_no_form_in_front(&rt, rt.alloc(), bytes.as_slice());
-    assert_same(&rt, found, true);
+    let found = bounds(&rt, rt.alloc(), bytes);
+    assert_same(&rt, found, (Form, 276, 256));
 }
 
-/// Whether there is a form with such a pattern's byte, settings and types.
-fn is_form_of(
+/// What a reader makes of such a pattern's byte, settings and types.
+fn reading_of(
     rt: &impl Abort,
     alloc: Global,
     pattern: &str,
     settings: &str,
     messages: &[&str],
-) -> bool {
-    is_form(
+) -> Reading {
+    read(
         rt,
         alloc,
         form_of(rt, alloc, pattern, settings, messages).as_slice(),
@@ -159,7 +167,7 @@ fn is_form_of(
 #[test]
 fn settings_are_free_and_two_messages_follow(rt: HostRuntime) {
     for (pattern, settings, messages, wanted) in FORMS {
-        let found = is_form_of(&rt, rt.alloc(), pattern, settings, messages);
+        let found = reading_of(&rt, rt.alloc(), pattern, settings, messages);
         assert_same(&rt, (pattern, settings, found), (pattern, settings, wanted));
     }
 }
