@@ -3,6 +3,7 @@
 use crate::support::*;
 use iceoryx2_builder::builder::event::{Builder, EventCreateError, EventId, EventOpenError};
 use iceoryx2_storage::local::Local;
+use iceoryx2_storage::table::Table;
 use iceoryx2_values::event::Deadline;
 use iceoryx2_values::time::{ClockFault, Time};
 use std::alloc::Global;
@@ -18,43 +19,60 @@ fn due(rt: &impl Abort, seconds: u64) -> Deadline {
     deadline(rt, (seconds, 0), (5, 0))
 }
 
-/// The deadline of a service that any node may open, and why it isn't opened with a deadline of
-/// 1 second, with one of 2 seconds, and with none.
+/// The deadline that an open finds, or why it is refused.
+type Answer = Result<Option<Deadline>, EventOpenError>;
+
+/// What an open answers. Where it isn't refused, what it gives is closed again.
+fn answer(rt: &impl Abort, builder: Builder<Local>, table: &mut Table) -> Answer {
+    match open(builder, table) {
+        Ok(factory) => {
+            let deadline = settings(&factory).deadline;
+            closed(rt, factory, table);
+            Ok(deadline)
+        }
+        Err(error) => Err(error),
+    }
+}
+
+/// The deadline of a service for the node that creates it, and what opens answer that want a deadline of
+/// 1 second, one of 2 seconds, none, and any.
 fn answers(
     rt: &impl Abort,
     alloc: Global,
     builder: Builder<Local>,
     now: Time,
-) -> (Option<Deadline>, [Option<EventOpenError>; 3]) {
+) -> (Option<Deadline>, [Answer; 4]) {
     let mut table = table_from(alloc, 0);
     let factory = created_at(rt, builder, &mut table, now);
+    let deadline = settings(&factory).deadline;
     let (one, two) = (due(rt, 1).value, due(rt, 2).value);
-    let same = refusal(rt, wanting(rt, alloc, 2).deadline(one), &mut table);
-    let longer = refusal(rt, wanting(rt, alloc, 2).deadline(two), &mut table);
-    let none = refusal(rt, wanting(rt, alloc, 2).disable_deadline(), &mut table);
-    let opened = opened(rt, wanting(rt, alloc, 2), &mut table);
-    let deadline = settings(&opened).deadline;
-    closed(rt, opened, &mut table);
+    let same = answer(rt, wanting(rt, alloc, 2).deadline(one), &mut table);
+    let longer = answer(rt, wanting(rt, alloc, 2).deadline(two), &mut table);
+    let none = answer(rt, wanting(rt, alloc, 2).disable_deadline(), &mut table);
+    let any = answer(rt, wanting(rt, alloc, 2), &mut table);
     closed(rt, factory, &mut table);
     drop_table(table);
-    (deadline, [same, longer, none])
+    (deadline, [same, longer, none, any])
 }
 
 #[test]
-fn a_deadline_is_compared_without_its_creation_time(rt: HostRuntime) {
+fn an_open_with_the_same_deadline_has_the_creation_time_of_the_service(rt: HostRuntime) {
     let deadline = due(&rt, 1);
     let builder = wanting(&rt, rt.alloc(), 1).deadline(deadline.value);
     let found = answers(&rt, rt.alloc(), builder, deadline.creation_time);
-    let other = Some(EventOpenError::IncompatibleDeadline);
-    assert_same(&rt, found, (Some(deadline), [None, other, other]));
+    let (same, other) = (
+        Ok(Some(deadline)),
+        Err(EventOpenError::IncompatibleDeadline),
+    );
+    assert_same(&rt, found, (Some(deadline), [same, other, other, same]));
 }
 
 #[test]
 fn a_service_without_deadline_is_none_with_one(rt: HostRuntime) {
     let builder = wanting(&rt, rt.alloc(), 1).disable_deadline();
     let found = answers(&rt, rt.alloc(), builder, Time::default());
-    let other = Some(EventOpenError::IncompatibleDeadline);
-    assert_same(&rt, found, (None, [other, other, None]));
+    let (same, other) = (Ok(None), Err(EventOpenError::IncompatibleDeadline));
+    assert_same(&rt, found, (None, [other, other, same, same]));
 }
 
 /// Why a create is refused where there is no time, and what the table has then: whether there is a

@@ -6,7 +6,7 @@ use crate::publish_subscribe::support::{self as subscribe, Ask, Given, asking, g
 use crate::storages::scripts::AccessAnswer::*;
 use crate::storages::scripts::{AccessAnswer, COMPATIBLE, Counters, push_all};
 use crate::storages::support::events;
-use crate::support::{Pairs, assert_same, drop_table, table_from, verifier};
+use crate::support::{Pairs, assert_same, drop_table, hash_of_events, held, table_from, verifier};
 use iceoryx2_access::storage::{Existence, OpenSegmentError, Service, Tag};
 use iceoryx2_errors::error::{
     EventCreateError, EventOpenError, EventOpenOrCreateError, PublishSubscribeCreateError,
@@ -93,6 +93,28 @@ fn replaced(rt: &impl Abort, alloc: Global, description: &'static str) -> Script
     Script::new(answers)
 }
 
+/// A script whose first five rounds find that somebody else is faster, and whose sixth finds the service, of
+/// which each of six openings fails.
+fn late_and_replaced(rt: &impl Abort, alloc: Global) -> Script {
+    let found = [Exists(Existence::Yes), Fetch(Ok((3, COMPATIBLE)))];
+    let failed = [
+        MakeTag(Tag::Made),
+        OpenSegment(Err(OpenSegmentError::Failed)),
+    ];
+    let mut answers = Vec::new(alloc);
+    for _round in 0..5 {
+        push_all(rt, alloc, &mut answers, TOO_LATE);
+    }
+    push_all(rt, alloc, &mut answers, &found);
+    for _opening in 0..6 {
+        push_all(rt, alloc, &mut answers, &found);
+        push_all(rt, alloc, &mut answers, &failed);
+        push_all(rt, alloc, &mut answers, &found);
+        push_all(rt, alloc, &mut answers, &[RemoveTag]);
+    }
+    Script::new(answers)
+}
+
 /// The counters of a script, and how many answers are left of it.
 fn counters(script: &Script) -> (Counters, usize) {
     let counters = (script.looks(), script.openings(), script.makings());
@@ -131,6 +153,15 @@ fn events_open_once(rt: HostRuntime) {
 }
 
 #[test]
+fn events_are_looked_for_23_times_and_opened_6_times_at_most(rt: HostRuntime) {
+    let mut last = late_and_replaced(&rt, rt.alloc());
+    let found = event::<Scripted>(&rt, rt.alloc(), &mut last, (1, None), (&[], &[]));
+    let why = EventOpenError::ServiceInCorruptedState;
+    let wanted = Err(EventOpenOrCreateError::EventOpenError(why));
+    assert_same(&rt, (found, counters(&last)), (wanted, ((23, 6, 0), 0)));
+}
+
+#[test]
 fn a_look_of_its_own_is_not_tried_again(rt: HostRuntime) {
     let mut empty = script(&rt, rt.alloc(), &[]);
     let found = publish_subscribe::<Scripted>(&rt, rt.alloc(), &mut empty, &[]);
@@ -149,37 +180,62 @@ fn what_a_create_raised_stays_raised(rt: HostRuntime) {
     assert_same(&rt, (found, counters(&later)), (wanted, ((4, 0, 0), 0)));
 }
 
-/// What two nodes' open or create answer over a table that begins here, the second with these keys.
+/// What an open or create of each of two nodes answers, and whether the node has a tag and how many tickets
+/// then.
+type Both = [(Result<u64, EventOpenOrCreateError>, (bool, u64)); 2];
+
+/// That of nodes 1 and 2 over a table that begins here, where each requires its keys. What the first gives
+/// stays open.
 fn both(
     rt: &impl Abort,
     alloc: Global,
     counter: u64,
     max_nodes: Option<u64>,
-    keys: &[&str],
-) -> [Result<u64, EventOpenOrCreateError>; 2] {
+    keys: [&[&str]; 2],
+) -> Both {
     let mut table = table_from(alloc, counter);
-    let first = event::<Local>(rt, alloc, &mut table, (1, max_nodes), (&[], &[]));
-    let second = event::<Local>(rt, alloc, &mut table, (2, max_nodes), (&[], keys));
+    let [first, second] = keys;
+    let first = event::<Local>(rt, alloc, &mut table, (1, max_nodes), (&[], first));
+    let second = event::<Local>(rt, alloc, &mut table, (2, max_nodes), (&[], second));
+    let hash = hash_of_events(rt, alloc, "xample");
+    let holds = [held(&table, 1, &hash), held(&table, 2, &hash)];
     drop_table(table);
-    [first, second]
+    let [of_first, of_second] = holds;
+    [(first, of_first), (second, of_second)]
 }
+
+/// What a node has that has opened or created the service, and one that hasn't.
+const REGISTERED: (bool, u64) = (true, 1);
+
+const NOTHING: (bool, u64) = (false, 0);
 
 #[test]
 fn a_second_node_opens_what_the_first_created(rt: HostRuntime) {
-    let not_opened = |why| Err(EventOpenOrCreateError::EventOpenError(why));
-    let found = both(&rt, rt.alloc(), 0, None, &[]);
-    assert_same(&rt, found, [Ok(0), Ok(0)]);
-    let found = both(&rt, rt.alloc(), 0, None, &["k"]);
-    let wanted = [Ok(0), not_opened(EventOpenError::IncompatibleAttributes)];
+    let found = both(&rt, rt.alloc(), 0, None, [&[], &[]]);
+    assert_same(&rt, found, [(Ok(0), REGISTERED), (Ok(0), REGISTERED)]);
+}
+
+#[test]
+fn a_required_key_is_not_created(rt: HostRuntime) {
+    let why = EventOpenError::IncompatibleAttributes;
+    let lacking = Err(EventOpenOrCreateError::EventOpenError(why));
+    let wanted = [(Ok(0), REGISTERED), (lacking, NOTHING)];
+    let found = both(&rt, rt.alloc(), 0, None, [&["k"], &["k"]]);
     assert_same(&rt, found, wanted);
-    let found = both(&rt, rt.alloc(), 0, Some(1), &[]);
-    let wanted = [Ok(0), not_opened(EventOpenError::ExceedsMaxNumberOfNodes)];
+    let found = both(&rt, rt.alloc(), 0, None, [&[], &["k"]]);
     assert_same(&rt, found, wanted);
-    let found = both(&rt, rt.alloc(), u64::MAX, None, &[]);
-    let no_number = Err(EventOpenOrCreateError::EventCreateError(
-        EventCreateError::InternalFailure,
-    ));
-    assert_same(&rt, found, [no_number, no_number]);
+}
+
+#[test]
+fn a_refused_open_or_create_leaves_no_tag(rt: HostRuntime) {
+    let why = EventOpenError::ExceedsMaxNumberOfNodes;
+    let full = Err(EventOpenOrCreateError::EventOpenError(why));
+    let found = both(&rt, rt.alloc(), 0, Some(1), [&[], &[]]);
+    assert_same(&rt, found, [(Ok(0), REGISTERED), (full, NOTHING)]);
+    let why = EventCreateError::InternalFailure;
+    let no_number = Err(EventOpenOrCreateError::EventCreateError(why));
+    let found = both(&rt, rt.alloc(), u64::MAX, None, [&[], &[]]);
+    assert_same(&rt, found, [(no_number, NOTHING), (no_number, NOTHING)]);
 }
 
 /// What an open or create answers that wants a longer history than its buffer has room for, where these

@@ -18,7 +18,8 @@ enum Told {
     Listed(usize),
     NoSlot,
     Empty,
-    Other,
+    InUse,
+    NoMemory,
 }
 
 fn in_short(reply: &Reply) -> Told {
@@ -29,7 +30,8 @@ fn in_short(reply: &Reply) -> Told {
         Reply::Listing(entries) => Told::Listed(entries.len()),
         Reply::NoSuchSlot => Told::NoSlot,
         Reply::SlotEmpty => Told::Empty,
-        Reply::SlotInUse | Reply::OutOfMemory => Told::Other,
+        Reply::SlotInUse => Told::InUse,
+        Reply::OutOfMemory => Told::NoMemory,
     }
 }
 
@@ -156,7 +158,7 @@ fn a_run_opens_what_it_has_created(rt: HostRuntime) {
     let wanted = [
         Told::Opened(0, 0),
         Told::NoSlot,
-        Told::Other,
+        Told::InUse,
         Told::Refused(lacking),
         Told::Refused(lacking),
         Told::Opened(1, 0),

@@ -297,6 +297,16 @@ pub fn only_one(rt: &impl Abort, entries: &[Entry]) -> (Row, Segment) {
     }
 }
 
+/// The row and the segment that are listed under a hash.
+pub fn row_and_segment_of(rt: &impl Abort, table: &Table, hash: &ServiceHash) -> (Row, Segment) {
+    for entry in &entries(rt, table) {
+        if entry.hash == *hash {
+            return (row_of(entry), segment_of(entry));
+        }
+    }
+    (Row::Absent, None)
+}
+
 /// The row and the segment of a table's only service, or of none.
 pub fn row_and_segment(rt: &impl Abort, table: &Table) -> (Row, Segment) {
     only_one(rt, entries(rt, table).as_slice())

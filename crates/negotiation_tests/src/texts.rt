@@ -2,11 +2,15 @@
 //! names.
 
 use crate::support::assert_same;
+use iceoryx2_errors::error::publish_subscribe::ServiceAvailabilityState as Availability;
+use iceoryx2_errors::error::request_response::ServiceAvailabilityState as Readiness;
 use iceoryx2_errors::error::{
-    EventCreateError, EventOpenError, EventOpenOrCreateError, PublishSubscribeCreateError,
-    PublishSubscribeOpenError, PublishSubscribeOpenOrCreateError, RequestResponseCreateError,
-    RequestResponseOpenError, RequestResponseOpenOrCreateError, ServiceState,
+    CloseError, EventCreateError, EventOpenError, EventOpenOrCreateError,
+    PublishSubscribeCreateError, PublishSubscribeOpenError, PublishSubscribeOpenOrCreateError,
+    RequestResponseCreateError, RequestResponseOpenError, RequestResponseOpenOrCreateError,
+    ServiceState,
 };
+use iceoryx2_types::types::TypeDetailError;
 use std::alloc::Global;
 use std::fmt::Display;
 use std::process::Abort;
@@ -474,13 +478,221 @@ fn errors_of_request_response_have_texts(rt: HostRuntime) {
     );
 }
 
+/// What a look finds of events, and the errors of an open and of a create for it.
+const EVENT_STATES: &[(ServiceState, EventOpenError, EventCreateError)] = &[
+    (
+        ServiceState::IncompatibleMessagingPattern,
+        EventOpenError::IncompatibleMessagingPattern,
+        EventCreateError::AlreadyExists,
+    ),
+    (
+        ServiceState::InsufficientPermissions,
+        EventOpenError::InsufficientPermissions,
+        EventCreateError::InsufficientPermissions,
+    ),
+    (
+        ServiceState::HangsInCreation,
+        EventOpenError::HangsInCreation,
+        EventCreateError::HangsInCreation,
+    ),
+    (
+        ServiceState::Corrupted,
+        EventOpenError::ServiceInCorruptedState,
+        EventCreateError::ServiceInCorruptedState,
+    ),
+    (
+        ServiceState::OutOfMemory,
+        EventOpenError::OutOfMemory,
+        EventCreateError::OutOfMemory,
+    ),
+];
+
 #[test]
-fn what_a_look_finds_has_its_names(rt: HostRuntime) {
-    let created = EventCreateError::from(ServiceState::IncompatibleMessagingPattern);
-    assert_same(&rt, created, EventCreateError::AlreadyExists);
-    let opened = EventOpenError::from(ServiceState::OutOfMemory);
-    assert_same(&rt, opened, EventOpenError::OutOfMemory);
-    let either = EventOpenOrCreateError::from(ServiceState::HangsInCreation);
-    let inner = EventOpenOrCreateError::from(EventOpenError::HangsInCreation);
-    assert_same(&rt, either, inner);
+fn what_a_look_finds_of_events_has_its_names(rt: HostRuntime) {
+    for &(state, opened, created) in EVENT_STATES {
+        let found = (
+            EventOpenError::from(state),
+            EventCreateError::from(state),
+            EventOpenOrCreateError::from(state),
+        );
+        let either = EventOpenOrCreateError::EventOpenError(opened);
+        assert_same(&rt, found, (opened, created, either));
+    }
+}
+
+/// What a look finds of publish-subscribe, and the errors of an open and of a create for it.
+const PUBLISH_SUBSCRIBE_STATES: &[(
+    Availability,
+    PublishSubscribeOpenError,
+    PublishSubscribeCreateError,
+)] = &[
+    (
+        Availability::ServiceState(ServiceState::IncompatibleMessagingPattern),
+        PublishSubscribeOpenError::IncompatibleMessagingPattern,
+        PublishSubscribeCreateError::AlreadyExists,
+    ),
+    (
+        Availability::ServiceState(ServiceState::InsufficientPermissions),
+        PublishSubscribeOpenError::InsufficientPermissions,
+        PublishSubscribeCreateError::InsufficientPermissions,
+    ),
+    (
+        Availability::ServiceState(ServiceState::HangsInCreation),
+        PublishSubscribeOpenError::HangsInCreation,
+        PublishSubscribeCreateError::HangsInCreation,
+    ),
+    (
+        Availability::ServiceState(ServiceState::Corrupted),
+        PublishSubscribeOpenError::ServiceInCorruptedState,
+        PublishSubscribeCreateError::ServiceInCorruptedState,
+    ),
+    (
+        Availability::ServiceState(ServiceState::OutOfMemory),
+        PublishSubscribeOpenError::OutOfMemory,
+        PublishSubscribeCreateError::OutOfMemory,
+    ),
+    (
+        Availability::IncompatibleTypes,
+        PublishSubscribeOpenError::IncompatibleTypes,
+        PublishSubscribeCreateError::AlreadyExists,
+    ),
+];
+
+#[test]
+fn what_a_look_finds_of_publish_subscribe_has_its_names(rt: HostRuntime) {
+    for &(state, opened, created) in PUBLISH_SUBSCRIBE_STATES {
+        let found = (
+            PublishSubscribeOpenError::from(state),
+            PublishSubscribeCreateError::from(state),
+            PublishSubscribeOpenOrCreateError::from(state),
+        );
+        let either = PublishSubscribeOpenOrCreateError::PublishSubscribeOpenError(opened);
+        assert_same(&rt, found, (opened, created, either));
+    }
+}
+
+/// What a look finds of request-response, and the errors of an open and of a create for it.
+const REQUEST_RESPONSE_STATES: &[(
+    Readiness,
+    RequestResponseOpenError,
+    RequestResponseCreateError,
+)] = &[
+    (
+        Readiness::ServiceState(ServiceState::IncompatibleMessagingPattern),
+        RequestResponseOpenError::IncompatibleMessagingPattern,
+        RequestResponseCreateError::AlreadyExists,
+    ),
+    (
+        Readiness::ServiceState(ServiceState::InsufficientPermissions),
+        RequestResponseOpenError::InsufficientPermissions,
+        RequestResponseCreateError::InsufficientPermissions,
+    ),
+    (
+        Readiness::ServiceState(ServiceState::HangsInCreation),
+        RequestResponseOpenError::HangsInCreation,
+        RequestResponseCreateError::HangsInCreation,
+    ),
+    (
+        Readiness::ServiceState(ServiceState::Corrupted),
+        RequestResponseOpenError::ServiceInCorruptedState,
+        RequestResponseCreateError::ServiceInCorruptedState,
+    ),
+    (
+        Readiness::ServiceState(ServiceState::OutOfMemory),
+        RequestResponseOpenError::OutOfMemory,
+        RequestResponseCreateError::OutOfMemory,
+    ),
+    (
+        Readiness::IncompatibleRequestType,
+        RequestResponseOpenError::IncompatibleRequestType,
+        RequestResponseCreateError::AlreadyExists,
+    ),
+    (
+        Readiness::IncompatibleResponseType,
+        RequestResponseOpenError::IncompatibleResponseType,
+        RequestResponseCreateError::AlreadyExists,
+    ),
+];
+
+#[test]
+fn what_a_look_finds_of_request_response_has_its_names(rt: HostRuntime) {
+    for &(state, opened, created) in REQUEST_RESPONSE_STATES {
+        let found = (
+            RequestResponseOpenError::from(state),
+            RequestResponseCreateError::from(state),
+            RequestResponseOpenOrCreateError::from(state),
+        );
+        let either = RequestResponseOpenOrCreateError::RequestResponseOpenError(opened);
+        assert_same(&rt, found, (opened, created, either));
+    }
+}
+
+#[test]
+fn errors_of_an_open_and_of_a_create_are_errors_of_an_open_or_create(rt: HostRuntime) {
+    let found = (
+        EventOpenOrCreateError::from(EventOpenError::OutOfMemory),
+        EventOpenOrCreateError::from(EventCreateError::AlreadyExists),
+        PublishSubscribeOpenOrCreateError::from(PublishSubscribeOpenError::OutOfMemory),
+        PublishSubscribeOpenOrCreateError::from(PublishSubscribeCreateError::AlreadyExists),
+        RequestResponseOpenOrCreateError::from(RequestResponseOpenError::OutOfMemory),
+        RequestResponseOpenOrCreateError::from(RequestResponseCreateError::AlreadyExists),
+    );
+    let wanted = (
+        EventOpenOrCreateError::EventOpenError(EventOpenError::OutOfMemory),
+        EventOpenOrCreateError::EventCreateError(EventCreateError::AlreadyExists),
+        PublishSubscribeOpenOrCreateError::PublishSubscribeOpenError(
+            PublishSubscribeOpenError::OutOfMemory,
+        ),
+        PublishSubscribeOpenOrCreateError::PublishSubscribeCreateError(
+            PublishSubscribeCreateError::AlreadyExists,
+        ),
+        RequestResponseOpenOrCreateError::RequestResponseOpenError(
+            RequestResponseOpenError::OutOfMemory,
+        ),
+        RequestResponseOpenOrCreateError::RequestResponseCreateError(
+            RequestResponseCreateError::AlreadyExists,
+        ),
+    );
+    assert_same(&rt, found, wanted);
+}
+
+/// Why something isn't closed, and what is printed for it. What is handed back here is a number.
+const CLOSES: [(CloseError<u64>, &str); 4] = [
+    (CloseError::NotHere(1), "CloseError::NotHere"),
+    (CloseError::TagNotRemoved, "CloseError::TagNotRemoved"),
+    (
+        CloseError::SegmentNotRemoved,
+        "CloseError::SegmentNotRemoved",
+    ),
+    (
+        CloseError::DescriptionNotRemoved,
+        "CloseError::DescriptionNotRemoved",
+    ),
+];
+
+#[test]
+fn errors_of_a_close_have_texts(rt: HostRuntime) {
+    for (error, text) in CLOSES {
+        assert_text(&rt, rt.alloc(), &error, &[text]);
+    }
+}
+
+/// Why there are no details of a type, and what is printed for it.
+const DETAILS: [(TypeDetailError, &str); 3] = [
+    (
+        TypeDetailError::NameLength,
+        "a type's name has 1 to 256 bytes",
+    ),
+    (
+        TypeDetailError::Alignment,
+        "a type's alignment is a power of two",
+    ),
+    (TypeDetailError::OutOfMemory, "out of memory"),
+];
+
+#[test]
+fn errors_of_details_have_texts(rt: HostRuntime) {
+    for (error, text) in DETAILS {
+        assert_text(&rt, rt.alloc(), &error, &[text]);
+    }
 }

@@ -1,9 +1,10 @@
-//! A session that takes all slots, and the same calls at the plain table.
+//! A session that takes all slots, and the same commands at the plain table.
 
 use crate::plain::{Plain, PlainTable};
-use crate::support::{assert_same, close, created, drop_table, entries, name, new_table, push};
+use crate::support::{assert_same, close, drop_table, entries, name, new_table, push};
 use iceoryx2_attributes::attribute::AttributeVerifier;
-use iceoryx2_commands::command::{Call, Command, How, Reply, Settings};
+use iceoryx2_builder::builder::Node;
+use iceoryx2_commands::command::{Call, Command, How, Refusal, Reply, Settings};
 use iceoryx2_port_factory::port_factory::event::PortFactory;
 use iceoryx2_session::session::Session;
 use iceoryx2_values::config::Config;
@@ -63,28 +64,8 @@ fn commands(rt: &impl Abort, alloc: Global) -> Vec<Command> {
     commands
 }
 
-/// The numbers of the services in the order of their creates, the listing at the end, and the counter.
-type Seen = (Vec<u64>, Vec<Entry>, u64);
-
-/// The numbers that replies tell.
-fn numbers_of(rt: &impl Abort, alloc: Global, replies: &[Reply]) -> Vec<u64> {
-    let mut numbers = Vec::new(alloc);
-    for reply in replies {
-        if let Reply::Opened { number, .. } = reply {
-            push(rt, &mut numbers, *number);
-        }
-    }
-    numbers
-}
-
-/// The listing that the last of the replies is.
-fn listing_of(rt: &impl Abort, replies: Vec<Reply>) -> Vec<Entry> {
-    let mut replies = replies;
-    match replies.pop() {
-        Some(Reply::Listing(entries)) => entries,
-        _ => panic!(rt; "no listing"),
-    }
-}
+/// The replies to all commands, and the counter of the table afterwards.
+type Seen = (Vec<Reply>, u64);
 
 /// What the session answers to all commands in one go, and the counter of its table afterwards.
 fn run(alloc: Global, commands: Vec<Command>) -> (Result<Vec<Reply>, AllocError>, u64) {
@@ -97,14 +78,9 @@ fn run(alloc: Global, commands: Vec<Command>) -> (Result<Vec<Reply>, AllocError>
 
 /// What is seen of the session.
 fn seen_of_session(rt: &impl Abort, alloc: Global) -> Seen {
-    let (replies, counter) = run(alloc, commands(rt, alloc));
-    match replies {
-        Ok(replies) => (
-            numbers_of(rt, alloc, replies.as_slice()),
-            listing_of(rt, replies),
-            counter,
-        ),
-        Err(_) => panic!(rt; "no memory"),
+    match run(alloc, commands(rt, alloc)) {
+        (Ok(replies), counter) => (replies, counter),
+        _ => panic!(rt; "no memory"),
     }
 }
 
@@ -121,18 +97,6 @@ impl Drop for Kept {
 }
 
 impl Kept {
-    /// Creates the service at this place.
-    fn created(rt: &impl Abort, alloc: Global, table: &mut PlainTable, place: usize) -> Kept {
-        Kept {
-            factory: created::<Plain>(rt, name_at(rt, alloc, place), table),
-        }
-    }
-
-    /// The service's number.
-    fn number(&self) -> u64 {
-        self.factory.number()
-    }
-
     /// Closes it.
     fn close(self, rt: &impl Abort, table: &mut PlainTable) {
         let Kept { factory } = self;
@@ -140,44 +104,145 @@ impl Kept {
     }
 }
 
-/// Creates all services.
-fn create_all(rt: &impl Abort, alloc: Global, table: &mut PlainTable) -> Vec<Kept> {
-    let mut all = Vec::new(alloc);
-    for place in 0..SERVICES {
-        push(rt, &mut all, Kept::created(rt, alloc, table, place));
+/// What stands in each slot.
+type Slots = Vec<Option<Kept>>;
+
+/// As many slots as there are services, in which nothing stands.
+fn empty_slots(rt: &impl Abort, alloc: Global) -> Slots {
+    let mut slots = Vec::new(alloc);
+    for _ in 0..SERVICES {
+        push(rt, &mut slots, None);
     }
-    all
+    slots
 }
 
-/// The numbers of factories.
-fn numbers(rt: &impl Abort, alloc: Global, all: &[Kept]) -> Vec<u64> {
-    let mut numbers = Vec::new(alloc);
-    for kept in all {
-        push(rt, &mut numbers, kept.number());
+/// Why nothing may be put into a slot.
+fn refusal_of(slots: &Slots, slot: usize) -> Option<Reply> {
+    match slots.get(slot) {
+        Some(None) => None,
+        Some(Some(_)) => Some(Reply::SlotInUse),
+        None => Some(Reply::NoSuchSlot),
     }
-    numbers
 }
 
-/// Closes the factories at even places, and lets the others go.
-fn close_even(rt: &impl Abort, all: Vec<Kept>, table: &mut PlainTable) {
-    let mut is_even = true;
-    for kept in all {
-        if is_even {
-            kept.close(rt, table);
+/// Puts a factory into a slot.
+fn put(slots: &mut Slots, slot: usize, factory: PortFactory<Plain>) {
+    let kept = Some(Kept { factory });
+    if let Some(place) = slots.get_mut(slot) {
+        *place = kept;
+    }
+}
+
+/// What the plain table answers to a create of events with the default settings, which is put into a slot.
+fn create_at_plain(
+    table: &mut PlainTable,
+    slots: &mut Slots,
+    (node, slot): (u64, usize),
+    name: ServiceName,
+    now: Time,
+) -> Reply {
+    let node = Node::<Plain>::new(node, Config::default());
+    match node.service_builder(name).event().create(table, Ok(now)) {
+        Ok(factory) => {
+            let number = factory.number();
+            put(slots, slot, factory);
+            Reply::Opened { slot, number }
         }
-        is_even = !is_even;
+        Err(error) => Reply::Refused(Refusal::EventCreate(error)),
     }
 }
 
-/// What is seen of the same calls at the plain table.
+/// What the plain table answers to a call.
+fn call_at_plain(rt: &impl Abort, table: &mut PlainTable, slots: &mut Slots, call: Call) -> Reply {
+    let Call {
+        how,
+        node,
+        slot,
+        name,
+        now,
+        ..
+    } = call;
+    if let Some(refusal) = refusal_of(slots, slot) {
+        return refusal;
+    }
+    match (how, now) {
+        (How::Create, Ok(now)) => create_at_plain(table, slots, (node, slot), name, now),
+        _ => panic!(rt; "no create, or no time"),
+    }
+}
+
+/// What the plain table answers to a close.
+fn close_at_plain(
+    rt: &impl Abort,
+    table: &mut PlainTable,
+    slots: &mut Slots,
+    slot: usize,
+) -> Reply {
+    let Some(place) = slots.get_mut(slot) else {
+        return Reply::NoSuchSlot;
+    };
+    match place.take() {
+        Some(kept) => {
+            kept.close(rt, table);
+            Reply::Closed { slot }
+        }
+        None => Reply::SlotEmpty,
+    }
+}
+
+/// What the plain table answers to a command.
+fn answer_of_plain(
+    rt: &impl Abort,
+    table: &mut PlainTable,
+    slots: &mut Slots,
+    command: Command,
+) -> Reply {
+    match command {
+        Command::Call(call) => call_at_plain(rt, table, slots, call),
+        Command::Close { slot } => close_at_plain(rt, table, slots, slot),
+        Command::List => Reply::Listing(entries(rt, table.list())),
+    }
+}
+
+/// What is seen of the same commands at the plain table.
 fn seen_of_plain(rt: &impl Abort, alloc: Global) -> Seen {
     let mut table = PlainTable::new(alloc);
-    let all = create_all(rt, alloc, &mut table);
-    let mut numbers = numbers(rt, alloc, all.as_slice());
-    close_even(rt, all, &mut table);
-    let anew = Kept::created(rt, alloc, &mut table, 0);
-    push(rt, &mut numbers, anew.number());
-    (numbers, entries(rt, table.list()), table.counter())
+    let mut slots = empty_slots(rt, alloc);
+    let mut replies = Vec::new(alloc);
+    for command in commands(rt, alloc) {
+        let reply = answer_of_plain(rt, &mut table, &mut slots, command);
+        push(rt, &mut replies, reply);
+    }
+    (replies, table.counter())
+}
+
+/// The replies before the listing: each service has the number of its place, and the one that is created
+/// anew the next number.
+fn replies_before_the_listing(rt: &impl Abort, alloc: Global) -> Vec<Reply> {
+    let mut replies = Vec::new(alloc);
+    for slot in 0..SERVICES {
+        let number = slot as u64;
+        push(rt, &mut replies, Reply::Opened { slot, number });
+    }
+    push_closed(rt, &mut replies);
+    let (slot, number) = (0, 64);
+    push(rt, &mut replies, Reply::Opened { slot, number });
+    replies
+}
+
+/// The replies to the closes of the slots at even places.
+fn push_closed(rt: &impl Abort, replies: &mut Vec<Reply>) {
+    for half in 0..SERVICES / 2 {
+        push(rt, replies, Reply::Closed { slot: 2 * half });
+    }
+}
+
+/// Takes away the last of the replies, which is a listing.
+fn take_listing(rt: &impl Abort, replies: &mut Vec<Reply>) -> Vec<Entry> {
+    match replies.pop() {
+        Some(Reply::Listing(entries)) => entries,
+        _ => panic!(rt; "no listing"),
+    }
 }
 
 /// Whether the hashes of entries ascend strictly.
@@ -194,14 +259,16 @@ fn ascends(entries: &[Entry]) -> bool {
 
 #[test]
 fn all_slots_are_used_again(rt: HostRuntime) {
-    let (numbers, listing, counter) = seen_of_session(&rt, rt.alloc());
-    assert_same(&rt, numbers.last().copied(), Some(64));
-    assert_same(&rt, (numbers.len(), listing.len(), counter), (65, 33, 65));
-    assert_same(&rt, ascends(listing.as_slice()), true);
+    let (mut replies, counter) = seen_of_session(&rt, rt.alloc());
+    let listing = take_listing(&rt, &mut replies);
+    let wanted = replies_before_the_listing(&rt, rt.alloc());
+    assert_same(&rt, replies, wanted);
+    let found = (listing.len(), ascends(listing.as_slice()), counter);
+    assert_same(&rt, found, (33, true, 65));
 }
 
 #[test]
-fn the_plain_table_answers_a_session(rt: HostRuntime) {
+fn both_tables_answer_the_same_commands_alike(rt: HostRuntime) {
     let found = seen_of_plain(&rt, rt.alloc());
     assert_same(&rt, found, seen_of_session(&rt, rt.alloc()));
 }

@@ -8,7 +8,6 @@ use iceoryx2_port_factory::port_factory::event::PortFactory;
 use iceoryx2_storage::table::Table;
 use iceoryx2_values::config::Config;
 use iceoryx2_values::description::ServiceName;
-use iceoryx2_values::time::Time;
 use iceoryx2_world::listing::Entry;
 use std::alloc::{AllocError, Global};
 use std::fmt::Debug;
@@ -58,18 +57,6 @@ pub fn events<S: Service>(name: ServiceName) -> Builder<S> {
     Node::<S>::new(1, Config::default())
         .service_builder(name)
         .event()
-}
-
-/// A service that node 1 creates at time zero.
-pub fn created<S: Service>(
-    rt: &impl Abort,
-    name: ServiceName,
-    storage: &mut S::Storage,
-) -> PortFactory<S> {
-    match events::<S>(name).create(storage, Ok(Time::default())) {
-        Ok(factory) => factory,
-        Err(error) => panic!(rt; "refused: {error}"),
-    }
 }
 
 /// Closes a factory that stands.

@@ -3,7 +3,7 @@
 
 pub use crate::support::{
     Row, Segment, assert_same, command, configured, drop_table, held, name, only_one, push,
-    row_and_segment,
+    row_and_segment, row_and_segment_of,
 };
 use iceoryx2_attributes::attribute::AttributeSet;
 use iceoryx2_builder::builder::event::Builder;

@@ -74,6 +74,59 @@ fn a_service_is_created_as_it_is_asked_for(rt: HostRuntime) {
     }
 }
 
+/// What is asked of a create, and what its messages are made of.
+const MESSAGES: &[(Asks, [Told<'static>; 3])] = &[
+    (
+        &[],
+        [
+            HEADER,
+            (TypeVariant::FixedSize, "CustomHeaderMarker", 0, 1),
+            (TypeVariant::Dynamic, "CustomPayloadMarker", 1, 1),
+        ],
+    ),
+    // a payload and its alignment, in either order
+    (
+        &[Payload(IMAGE), Alignment(64)],
+        [
+            HEADER,
+            (TypeVariant::FixedSize, "CustomHeaderMarker", 0, 1),
+            (TypeVariant::FixedSize, "Img", 24, 64),
+        ],
+    ),
+    (
+        &[Alignment(64), Payload(IMAGE)],
+        [
+            HEADER,
+            (TypeVariant::FixedSize, "CustomHeaderMarker", 0, 1),
+            (TypeVariant::FixedSize, "Img", 24, 64),
+        ],
+    ),
+    // beside another user header
+    (
+        &[Alignment(64), UserHeader(U32), Payload(SLICE)],
+        [HEADER, U32, (TypeVariant::Dynamic, "i64", 8, 64)],
+    ),
+];
+
+/// The header of each message.
+const HEADER: Told<'static> = (TypeVariant::FixedSize, "publish_subscribe::Header", 32, 8);
+
+/// Whether a create over a new table gives a service whose messages are made of this.
+fn has_messages(rt: &impl Abort, alloc: Global, asks: &[Ask], wanted: [Told<'static>; 3]) -> bool {
+    let mut table = table_from(alloc, 0);
+    let answer = creates(rt, alloc, &mut table, asks, wanted);
+    drop_table(table);
+    answer
+}
+
+#[test]
+fn an_overridden_payload_keeps_its_variant_its_name_and_its_size(rt: HostRuntime) {
+    for &(asks, wanted) in MESSAGES {
+        let found = has_messages(&rt, rt.alloc(), asks, wanted);
+        assert_same(&rt, (asks, found), (asks, true));
+    }
+}
+
 /// What is asked of a create by node 1 and of an open by node 2, and what the open answers.
 const OPENS: &[(Asks, Asks, Result<Given, PublishSubscribeOpenError>)] = &[
     (

@@ -10,6 +10,8 @@ use iceoryx2_builder::builder::Node;
 use iceoryx2_builder::builder::publish_subscribe::{Builder, PublishSubscribeSetting};
 use iceoryx2_errors::error::{PublishSubscribeCreateError, PublishSubscribeOpenError};
 use iceoryx2_port_factory::port_factory::publish_subscribe::PortFactory;
+use iceoryx2_storage::local::Local;
+use iceoryx2_storage::table::Table;
 use iceoryx2_types::types::{CustomHeaderMarker, CustomPayloadMarker, Slice, ZeroCopySend};
 use iceoryx2_values::config::Config;
 use std::alloc::Global;
@@ -168,6 +170,24 @@ pub fn create<S: Service>(
     asks: &[Ask],
 ) -> Result<Given, PublishSubscribeCreateError> {
     created(asking::<S>(rt, alloc, node, asks), storage)
+}
+
+/// Whether a create by node 1 gives a service whose messages are made of this.
+pub fn creates(
+    rt: &impl Abort,
+    alloc: Global,
+    table: &mut Table,
+    asks: &[Ask],
+    wanted: [Told; 3],
+) -> bool {
+    match asking::<Local>(rt, alloc, 1, asks).create(table) {
+        Ok(factory) => {
+            let is_of_them = consists_of(&factory.static_config().message_type_details, wanted);
+            factory.abandon();
+            is_of_them
+        }
+        Err(_) => false,
+    }
 }
 
 /// What an open without requirements of attributes answers.

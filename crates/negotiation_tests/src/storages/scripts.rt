@@ -102,18 +102,29 @@ pub fn script(rt: &impl Abort, alloc: Global, parts: Parts) -> Script {
 /// How many looks, openings and makings a script was asked for.
 pub type Counters = (u64, u64, u64);
 
-/// The counters of a script of which a call asked that answers this, and how many answers are left.
+/// Ends a test that finds other answers left in a script than it wants.
+fn assert_left(rt: &impl Abort, alloc: Global, script: &Script, wanted: &[AccessAnswer]) {
+    let mut answers = Vec::new(alloc);
+    push_all(rt, alloc, &mut answers, wanted);
+    assert_same(rt, script.left(), answers.as_slice());
+}
+
+/// The counters of a script of which a call asked that answers this, and in which this is left.
 fn counters_of(
     rt: &impl Abort,
     alloc: Global,
     parts: Parts,
     row: (Call, Answer),
-) -> (Counters, usize) {
+    left: &[AccessAnswer],
+) -> Counters {
     let mut script = script(rt, alloc, parts);
     drive::<Scripted>(rt, alloc, &mut script, &[row]);
-    let counters = (script.looks(), script.openings(), script.makings());
-    (counters, script.left().len())
+    assert_left(rt, alloc, &script, left);
+    (script.looks(), script.openings(), script.makings())
 }
+
+/// Answers that are left.
+type Left = &'static [AccessAnswer];
 
 /// The answers to a create that finds nothing.
 const NO_SERVICE: &[AccessAnswer] = &[Exists(Existence::No), Counts(false)];
@@ -140,10 +151,16 @@ const IN_THE_WAY: &[AccessAnswer] = &[
     RemoveTag,
 ];
 
-/// Scripts, why a create is refused over them, their counters, and how many answers are left of them.
-const CREATES: &[(Parts, EventCreateError, Counters, usize)] = &[
+/// Scripts, why a create is refused over them, their counters, and the answers that are left
+/// in them.
+const CREATES: &[(Parts, EventCreateError, Counters, Left)] = &[
     // no answer at all
-    (&[], EventCreateError::ServiceInCorruptedState, (1, 0, 0), 0),
+    (
+        &[],
+        EventCreateError::ServiceInCorruptedState,
+        (1, 0, 0),
+        &[],
+    ),
     // a tag that the create made is removed, and one that it found is not
     (
         &[
@@ -153,7 +170,7 @@ const CREATES: &[(Parts, EventCreateError, Counters, usize)] = &[
         ],
         EventCreateError::ServiceInCorruptedState,
         (1, 0, 1),
-        0,
+        &[],
     ),
     (
         &[
@@ -163,7 +180,7 @@ const CREATES: &[(Parts, EventCreateError, Counters, usize)] = &[
         ],
         EventCreateError::ServiceInCorruptedState,
         (1, 0, 1),
-        1,
+        &[RemoveTag],
     ),
     // five segments are cleared away, and a sixth is not
     (
@@ -179,21 +196,21 @@ const CREATES: &[(Parts, EventCreateError, Counters, usize)] = &[
         ],
         EventCreateError::ServiceInCorruptedState,
         (1, 0, 6),
-        0,
+        &[],
     ),
     // a service of another pattern is there
     (
         &[&[Exists(Existence::Yes), Fetch(Ok((3, OTHER_PATTERN)))]],
         EventCreateError::AlreadyExists,
         (1, 0, 0),
-        0,
+        &[],
     ),
     // the tag finds another answer in front
     (
         &[&[Exists(Existence::No), Lock(1)]],
         EventCreateError::InternalFailure,
         (1, 0, 0),
-        1,
+        &[Lock(1)],
     ),
 ];
 
@@ -201,8 +218,8 @@ const CREATES: &[(Parts, EventCreateError, Counters, usize)] = &[
 fn creates_are_refused_over_scripts(rt: HostRuntime) {
     for (row, &(parts, error, counters, left)) in CREATES.iter().enumerate() {
         let answer = Answer::CreateRefused(error);
-        let found = counters_of(&rt, rt.alloc(), parts, (Call::Create(1), answer));
-        assert_same(&rt, (row, found), (row, (counters, left)));
+        let found = counters_of(&rt, rt.alloc(), parts, (Call::Create(1), answer), left);
+        assert_same(&rt, (row, found), (row, counters));
     }
 }
 
@@ -221,29 +238,30 @@ const REPLACEMENT: &[AccessAnswer] = &[
     RemoveTag,
 ];
 
-/// Scripts, why an open is refused over them, their counters, and how many answers are left of them.
-const OPENS: &[(Parts, EventOpenError, Counters, usize)] = &[
+/// Scripts, why an open is refused over them, their counters, and the answers that are left
+/// in them.
+const OPENS: &[(Parts, EventOpenError, Counters, Left)] = &[
     // no answer at all
-    (&[], EventOpenError::ServiceInCorruptedState, (1, 0, 0), 0),
+    (&[], EventOpenError::ServiceInCorruptedState, (1, 0, 0), &[]),
     // a service that goes before it is read, and one that goes before it is opened
     (
         &[&[Exists(Existence::Yes), Fetch(Err(FetchError::DoesNotExist))]],
         EventOpenError::DoesNotExist,
         (1, 0, 0),
-        0,
+        &[],
     ),
     (
         &[FAILED_OPENING, &[Exists(Existence::No), RemoveTag]],
         EventOpenError::DoesNotExist,
         (2, 1, 0),
-        0,
+        &[],
     ),
     // bytes that are damaged, at the first look and at the second
     (
         &[&[Exists(Existence::Yes), Fetch(Ok((3, DAMAGED)))]],
         EventOpenError::ServiceInCorruptedState,
         (1, 0, 0),
-        0,
+        &[],
     ),
     (
         &[
@@ -252,20 +270,20 @@ const OPENS: &[(Parts, EventOpenError, Counters, usize)] = &[
         ],
         EventOpenError::ServiceInCorruptedState,
         (2, 1, 0),
-        0,
+        &[],
     ),
     // the description of another hash, and of another pattern
     (
         &[&[Exists(Existence::Yes), Fetch(Ok((3, OTHER_HASH)))]],
         EventOpenError::ServiceInCorruptedState,
         (1, 0, 0),
-        0,
+        &[],
     ),
     (
         &[&[Exists(Existence::Yes), Fetch(Ok((3, OTHER_PATTERN)))]],
         EventOpenError::IncompatibleMessagingPattern,
         (1, 0, 0),
-        0,
+        &[],
     ),
     // a service that is replaced in each of the six rounds
     (
@@ -285,7 +303,7 @@ const OPENS: &[(Parts, EventOpenError, Counters, usize)] = &[
         ],
         EventOpenError::ServiceInCorruptedState,
         (12, 6, 0),
-        0,
+        &[],
     ),
 ];
 
@@ -293,8 +311,8 @@ const OPENS: &[(Parts, EventOpenError, Counters, usize)] = &[
 fn opens_are_refused_over_scripts(rt: HostRuntime) {
     for (row, &(parts, error, counters, left)) in OPENS.iter().enumerate() {
         let answer = Answer::OpenRefused(error);
-        let found = counters_of(&rt, rt.alloc(), parts, (Call::Open(1), answer));
-        assert_same(&rt, (row, found), (row, (counters, left)));
+        let found = counters_of(&rt, rt.alloc(), parts, (Call::Open(1), answer), left);
+        assert_same(&rt, (row, found), (row, counters));
     }
 }
 
@@ -303,33 +321,33 @@ const NOTHING_THERE: &[AccessAnswer] = &[Exists(Existence::No)];
 
 const SERVICE_THERE: &[AccessAnswer] = &[Exists(Existence::Yes), Fetch(Ok((3, COMPATIBLE)))];
 
-/// Scripts, why an open or create is refused over them, their counters, and how many answers are left of
-/// them.
-const ROUNDS: &[(Parts, Answer, Counters, usize)] = &[
+/// Scripts, why an open or create is refused over them, their counters, and the answers that are
+/// left in them.
+const ROUNDS: &[(Parts, Answer, Counters, Left)] = &[
     // the look of a round is not tried again
     (
         &[],
         Answer::OpenRefused(EventOpenError::ServiceInCorruptedState),
         (1, 0, 0),
-        0,
+        &[],
     ),
     (
         &[&[Exists(Existence::Yes), Fetch(Ok((3, DAMAGED)))]],
         Answer::OpenRefused(EventOpenError::ServiceInCorruptedState),
         (1, 0, 0),
-        0,
+        &[],
     ),
     (
         &[&[Exists(Existence::Yes), Fetch(Ok((3, OTHER_HASH)))]],
         Answer::OpenRefused(EventOpenError::ServiceInCorruptedState),
         (1, 0, 0),
-        0,
+        &[],
     ),
     (
         &[&[Exists(Existence::Yes), Fetch(Ok((3, OTHER_PATTERN)))]],
         Answer::OpenRefused(EventOpenError::IncompatibleMessagingPattern),
         (1, 0, 0),
-        0,
+        &[],
     ),
     // a create in a round gives back what it made
     (
@@ -341,7 +359,7 @@ const ROUNDS: &[(Parts, Answer, Counters, usize)] = &[
         ],
         Answer::CreateRefused(EventCreateError::ServiceInCorruptedState),
         (2, 0, 1),
-        0,
+        &[],
     ),
     (
         &[
@@ -357,13 +375,13 @@ const ROUNDS: &[(Parts, Answer, Counters, usize)] = &[
         ],
         Answer::CreateRefused(EventCreateError::ServiceInCorruptedState),
         (2, 0, 6),
-        0,
+        &[],
     ),
     (
         &[NOTHING_THERE, &[Exists(Existence::No), Lock(1)]],
         Answer::CreateRefused(EventCreateError::InternalFailure),
         (2, 0, 0),
-        1,
+        &[Lock(1)],
     ),
     // and so does an open
     (
@@ -374,7 +392,7 @@ const ROUNDS: &[(Parts, Answer, Counters, usize)] = &[
         ],
         Answer::OpenRefused(EventOpenError::DoesNotExist),
         (3, 1, 0),
-        0,
+        &[],
     ),
     (
         &[
@@ -384,15 +402,21 @@ const ROUNDS: &[(Parts, Answer, Counters, usize)] = &[
         ],
         Answer::OpenRefused(EventOpenError::ServiceInCorruptedState),
         (3, 1, 0),
-        0,
+        &[],
     ),
 ];
 
 #[test]
 fn rounds_are_refused_over_scripts(rt: HostRuntime) {
     for (row, &(parts, answer, counters, left)) in ROUNDS.iter().enumerate() {
-        let found = counters_of(&rt, rt.alloc(), parts, (Call::OpenOrCreate(1), answer));
-        assert_same(&rt, (row, found), (row, (counters, left)));
+        let found = counters_of(
+            &rt,
+            rt.alloc(),
+            parts,
+            (Call::OpenOrCreate(1), answer),
+            left,
+        );
+        assert_same(&rt, (row, found), (row, counters));
     }
 }
 
