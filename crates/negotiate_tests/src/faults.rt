@@ -1,9 +1,10 @@
 //! Readers and writers that fail, and want of memory.
 
-use crate::support::{Page, Pieces, assert_same};
+use crate::support::{Page, Pieces, assert_same, text_of};
 use negotiate_replies::serve::{end_by_fault, serve};
 use std::alloc::Global;
 use std::io::{self, ErrorKind};
+use std::process::Abort;
 
 /// Faults of a reader behind a whole line, and what is printed in all.
 const READING: [(ErrorKind, &str); 3] = [
@@ -12,8 +13,14 @@ const READING: [(ErrorKind, &str); 3] = [
     (ErrorKind::OutOfMemory, "ok 0 number=0\nout of memory\n"),
 ];
 
-/// Whether this is printed where the reader fails in the middle of the second line, and the status.
-fn read_until_fault(alloc: Global, fault: ErrorKind, wanted: &str) -> (bool, u8) {
+/// Ends a test that finds another text printed, or another status, than it wants.
+fn assert_printed(rt: &impl Abort, (bytes, status): (Vec<u8>, u8), wanted: (&str, u8)) {
+    let text = text_of(rt, bytes.as_slice());
+    assert_same(rt, (text, status), wanted);
+}
+
+/// What is printed where the reader fails in the middle of the second line, and the status.
+fn read_until_fault(alloc: Global, fault: ErrorKind) -> (Vec<u8>, u8) {
     let mut page = Page::new(alloc);
     let input = Pieces {
         bytes: "event create 1 0 a\nclose 0".as_bytes(),
@@ -21,20 +28,19 @@ fn read_until_fault(alloc: Global, fault: ErrorKind, wanted: &str) -> (bool, u8)
         fault: Some(fault),
     };
     let status = serve(alloc, input, &mut page);
-    (page.text.as_slice() == wanted.as_bytes(), status)
+    (page.text, status)
 }
 
 #[test]
 fn a_reader_that_fails_ends_the_program(rt: HostRuntime) {
     for (fault, wanted) in READING {
-        let found = read_until_fault(rt.alloc(), fault, wanted);
-        assert_same(&rt, (wanted, found), (wanted, (true, 3)));
+        assert_printed(&rt, read_until_fault(rt.alloc(), fault), (wanted, 3));
     }
 }
 
-/// How many bytes are printed, and the status, where the writer has so much room and may be
-/// flushed so often.
-fn written(alloc: Global, room: usize, flushes: u64) -> (usize, u8) {
+/// What is printed for a create and two closes, and the status, where the writer has so much room and may
+/// be flushed so often.
+fn written(alloc: Global, room: usize, flushes: u64) -> (Vec<u8>, u8) {
     let mut page = Page {
         text: Vec::new(alloc),
         room,
@@ -46,41 +52,62 @@ fn written(alloc: Global, room: usize, flushes: u64) -> (usize, u8) {
         fault: None,
     };
     let status = serve(alloc, input, &mut page);
-    (page.text.len(), status)
+    (page.text, status)
 }
+
+/// How much room there is, and what is printed in it.
+const ROOMS: [(usize, &str); 7] = [
+    (0, ""),
+    (1, "o"),
+    (13, "ok 0 number=0"),
+    (14, "ok 0 number=0\n"),
+    (22, "ok 0 number=0\nclosed 0"),
+    (23, "ok 0 number=0\nclosed 0\n"),
+    (35, "ok 0 number=0\nclosed 0\nslot 0 empty"),
+];
+
+/// What is printed where there is room for all.
+const WHOLE: &str = "ok 0 number=0\nclosed 0\nslot 0 empty\n";
 
 #[test]
 fn a_writer_that_fails_ends_the_program(rt: HostRuntime) {
-    for room in [0, 1, 13, 14, 22, 23, 35] {
-        assert_same(&rt, written(rt.alloc(), room, 10), (room, 3));
+    for (room, wanted) in ROOMS {
+        assert_printed(&rt, written(rt.alloc(), room, 10), (wanted, 3));
     }
-    assert_same(&rt, written(rt.alloc(), 36, 10), (36, 0));
+    assert_printed(&rt, written(rt.alloc(), 36, 10), (WHOLE, 0));
 }
+
+/// How often the writer may be flushed, what is printed then, and the status.
+const FLUSHES: [(u64, &str, u8); 4] = [
+    (0, "ok 0 number=0\n", 3),
+    (1, "ok 0 number=0\nclosed 0\n", 3),
+    (2, WHOLE, 3),
+    (3, WHOLE, 0),
+];
 
 #[test]
 fn a_flush_that_fails_ends_the_program(rt: HostRuntime) {
-    for (flushes, wanted) in [(0, (14, 3)), (1, (23, 3)), (2, (36, 3)), (3, (36, 0))] {
+    for (flushes, wanted, status) in FLUSHES {
         let found = written(rt.alloc(), 1000, flushes);
-        assert_same(&rt, (flushes, found), (flushes, wanted));
+        assert_printed(&rt, found, (wanted, status));
     }
 }
 
-/// Whether this is printed for a fault outside the lines, and the status.
-fn ended(alloc: Global, fault: ErrorKind, room: usize, wanted: &str) -> (bool, u8) {
+/// What is printed for a fault outside the lines, and the status.
+fn ended(alloc: Global, fault: ErrorKind, room: usize) -> (Vec<u8>, u8) {
     let mut page = Page::new(alloc);
     page.room = room;
     let status = end_by_fault(&io::Error::from(fault), &mut page);
-    (page.text.as_slice() == wanted.as_bytes(), status)
+    (page.text, status)
 }
 
 #[test]
-fn want_of_memory_is_printed(rt: HostRuntime) {
+fn a_fault_of_memory_is_printed_and_no_other_one(rt: HostRuntime) {
     for (fault, room, wanted) in [
         (ErrorKind::OutOfMemory, 100, "out of memory\n"),
         (ErrorKind::OutOfMemory, 3, "out"),
         (ErrorKind::StorageFull, 100, ""),
     ] {
-        let found = ended(rt.alloc(), fault, room, wanted);
-        assert_same(&rt, (wanted, found), (wanted, (true, 3)));
+        assert_printed(&rt, ended(rt.alloc(), fault, room), (wanted, 3));
     }
 }

@@ -74,8 +74,7 @@ fn what_is_no_command_ends_the_program(rt: HostRuntime) {
 #[test]
 fn what_is_no_text_ends_the_program(rt: HostRuntime) {
     for &line in NO_TEXTS {
-        let found = answers(rt.alloc(), line, 1000, "line 1: not a command\n");
-        assert_same(&rt, (line, found), (line, (true, 2)));
+        assert_pieces(&rt, rt.alloc(), (line, 1000), "line 1: not a command\n", 2);
     }
 }
 

@@ -6,6 +6,9 @@ use iceoryx2_errors::error::{
     EventCreateError, EventOpenError, PublishSubscribeCreateError, PublishSubscribeOpenError,
     RequestResponseCreateError, RequestResponseOpenError,
 };
+use iceoryx2_values::description::ServiceHash;
+use iceoryx2_world::listing::{Entry, ListedRow, ListedSegment};
+use iceoryx2_world::world::Bytes;
 use negotiate_replies::reply::describe;
 use std::alloc::Global;
 use std::process::Abort;
@@ -82,4 +85,47 @@ fn each_reply_is_one_line(rt: HostRuntime) {
     for (reply, wanted) in REPLIES {
         assert_line(&rt, rt.alloc(), reply, wanted);
     }
+}
+
+/// The listing of one entry with this row and a segment.
+fn listing(rt: &impl Abort, alloc: Global, row: ListedRow) -> Reply {
+    let entry = Entry {
+        hash: ServiceHash([0x11; 20]),
+        row,
+        segment: Some(ListedSegment {
+            number: 0,
+            max_nodes: 36,
+            participants: 1,
+            marked: false,
+        }),
+    };
+    let mut entries = Vec::new(alloc);
+    match entries.push(entry) {
+        Ok(()) => Reply::Listing(entries),
+        Err(_) => panic!(rt; "no memory"),
+    }
+}
+
+/// The front of a description's bytes.
+fn damaged(rt: &impl Abort, alloc: Global) -> Bytes {
+    let mut bytes = Vec::new(alloc);
+    match bytes.extend_from_slice(b"IOX2\x01") {
+        Ok(()) => Bytes::from_vec(bytes),
+        Err(_) => panic!(rt; "no memory"),
+    }
+}
+
+#[test]
+fn damaged_bytes_are_no_service_of_a_listing_and_not_out_of_memory(rt: HostRuntime) {
+    let row = ListedRow::Published(0, damaged(&rt, rt.alloc()));
+    let reply = listing(&rt, rt.alloc(), row);
+    assert_line(&rt, rt.alloc(), reply, "0 services\n");
+}
+
+#[test]
+fn a_segment_without_a_description_is_no_service_of_a_listing(rt: HostRuntime) {
+    let absent = listing(&rt, rt.alloc(), ListedRow::Absent);
+    assert_line(&rt, rt.alloc(), absent, "0 services\n");
+    let locked = listing(&rt, rt.alloc(), ListedRow::Locked(0));
+    assert_line(&rt, rt.alloc(), locked, "0 services\n");
 }

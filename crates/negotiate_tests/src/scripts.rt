@@ -99,9 +99,20 @@ fn two_nodes_share_a_service(rt: HostRuntime) {
     let lines = "event create 1 0 xample\nevent open 2 1 xample\nclose 1\nclose 0\n";
     let wanted = "ok 0 number=0\nok 1 number=0\nclosed 1\nclosed 0\n";
     for piece in [1, 3, 1000] {
-        let found = answers(rt.alloc(), lines.as_bytes(), piece, wanted);
-        assert_same(&rt, (piece, found), (piece, (true, 0)));
+        assert_pieces(&rt, rt.alloc(), (lines.as_bytes(), piece), wanted, 0);
     }
+}
+
+/// Services of three patterns, of which one is closed, and what is listed before and then.
+const THREE_PATTERNS: (&str, &str) = (
+    "event create 1 0 xample\npubsub create 1 1 cam payload=dynamic,u8,1,1 payload_alignment=4\nrr create 1 2 oot request_payload=fixed,u64,8,8 response_payload=dynamic,u8,1,1\nlist\nclose 0\nlist\n",
+    "ok 0 number=0\nok 1 number=1\nok 2 number=2\nevent xample c3499c2729730a7f807efb8676a92dcb6f8a3f8f number=0 nodes=1/36\nrr oot dc76e9f0c0006e8f919e0c515c66dbba3982f785 number=2 nodes=1/20\npubsub cam e574a72231749d0b9da7dbb485b2d8eb017e2cb7 number=1 nodes=1/20\n3 services\nclosed 0\nrr oot dc76e9f0c0006e8f919e0c515c66dbba3982f785 number=2 nodes=1/20\npubsub cam e574a72231749d0b9da7dbb485b2d8eb017e2cb7 number=1 nodes=1/20\n2 services\n",
+);
+
+#[test]
+fn services_of_three_patterns_are_listed_while_they_stand(rt: HostRuntime) {
+    let (lines, wanted) = THREE_PATTERNS;
+    assert_answers(&rt, rt.alloc(), lines, wanted, 0);
 }
 
 /// So many blank lines, and then one that is no command.

@@ -85,10 +85,30 @@ pub fn answered(alloc: Global, input: &[u8], piece: usize) -> (Vec<u8>, u8) {
     (page.text, status)
 }
 
-/// Whether an input that comes in pieces of this length is answered by this text, and the status.
-pub fn answers(alloc: Global, input: &[u8], piece: usize, wanted: &str) -> (bool, u8) {
-    let (text, status) = answered(alloc, input, piece);
-    (text.as_slice() == wanted.as_bytes(), status)
+/// Printed bytes as a text.
+pub fn text_of<'a>(rt: &impl Abort, bytes: &'a [u8]) -> &'a str {
+    match std::str::from_utf8(bytes) {
+        Ok(text) => text,
+        Err(_) => panic!(rt; "no text"),
+    }
+}
+
+/// Ends a test whose input, which comes in pieces of this length, isn't answered by this text, or doesn't
+/// end with this status.
+pub fn assert_pieces(
+    rt: &impl Abort,
+    alloc: Global,
+    (input, piece): (&[u8], usize),
+    wanted: &str,
+    status: u8,
+) {
+    let (bytes, found) = answered(alloc, input, piece);
+    let text = text_of(rt, bytes.as_slice());
+    assert_same(
+        rt,
+        (input, piece, text, found),
+        (input, piece, wanted, status),
+    );
 }
 
 /// Ends a test that finds another value than it wants. Only here is a value compared and printed, since
@@ -99,8 +119,9 @@ pub fn assert_same<T: Debug + PartialEq + Drop>(rt: &impl Abort, found: T, wante
 
 /// Ends a test whose input isn't answered by this text, or doesn't end with this status.
 pub fn assert_answers(rt: &impl Abort, alloc: Global, input: &str, wanted: &str, status: u8) {
-    let found = answers(alloc, input.as_bytes(), 1000, wanted);
-    assert_same(rt, (input, found), (input, (true, status)));
+    let (bytes, found) = answered(alloc, input.as_bytes(), 1000);
+    let text = text_of(rt, bytes.as_slice());
+    assert_same(rt, (input, text, found), (input, wanted, status));
 }
 
 /// Ends a test whose input can't be built, isn't answered by this text, or doesn't end with this
