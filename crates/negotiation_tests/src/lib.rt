@@ -4,6 +4,8 @@
 #[cfg(test)]
 mod accesses;
 #[cfg(test)]
+mod ample_memory;
+#[cfg(test)]
 mod attributes;
 #[cfg(test)]
 mod batches;
