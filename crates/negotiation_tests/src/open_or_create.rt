@@ -12,7 +12,7 @@ use iceoryx2_errors::error::{
     EventCreateError, EventOpenError, EventOpenOrCreateError, PublishSubscribeCreateError,
     PublishSubscribeOpenError, PublishSubscribeOpenOrCreateError,
 };
-use iceoryx2_script::script::{Script, Scripted};
+use iceoryx2_script::script::{Answer, Script, Scripted};
 use iceoryx2_storage::local::Local;
 use iceoryx2_storage::table::Table;
 use iceoryx2_values::time::Time;
@@ -73,45 +73,44 @@ fn publish_subscribe<S: Service>(
     }
 }
 
-/// Six rounds of which each finds this service, whose segment is never the one that was found.
-fn replaced(rt: &impl Abort, alloc: Global, description: &'static str) -> Script {
+/// Puts the answers to a round behind others that finds this service, whose segment is never the one that was
+/// found.
+fn push_replaced(
+    rt: &impl Abort,
+    alloc: Global,
+    answers: &mut Vec<Answer>,
+    description: &'static str,
+) {
     let found = [Exists(Existence::Yes), Fetch(Ok((3, description)))];
     let failed = [
         MakeTag(Tag::Made),
         OpenSegment(Err(OpenSegmentError::Failed)),
     ];
+    push_all(rt, alloc, answers, &found);
+    for _opening in 0..6 {
+        push_all(rt, alloc, answers, &found);
+        push_all(rt, alloc, answers, &failed);
+        push_all(rt, alloc, answers, &found);
+        push_all(rt, alloc, answers, &[RemoveTag]);
+    }
+}
+
+/// Six rounds of which each finds this service so.
+fn replaced(rt: &impl Abort, alloc: Global, description: &'static str) -> Script {
     let mut answers = Vec::new(alloc);
     for _round in 0..6 {
-        push_all(rt, alloc, &mut answers, &found);
-        for _opening in 0..6 {
-            push_all(rt, alloc, &mut answers, &found);
-            push_all(rt, alloc, &mut answers, &failed);
-            push_all(rt, alloc, &mut answers, &found);
-            push_all(rt, alloc, &mut answers, &[RemoveTag]);
-        }
+        push_replaced(rt, alloc, &mut answers, description);
     }
     Script::new(answers)
 }
 
-/// A script whose first five rounds find that somebody else is faster, and whose sixth finds the service, of
-/// which each of six openings fails.
+/// Five rounds in which somebody else is faster, and one that finds the service of events so.
 fn late_and_replaced(rt: &impl Abort, alloc: Global) -> Script {
-    let found = [Exists(Existence::Yes), Fetch(Ok((3, COMPATIBLE)))];
-    let failed = [
-        MakeTag(Tag::Made),
-        OpenSegment(Err(OpenSegmentError::Failed)),
-    ];
     let mut answers = Vec::new(alloc);
     for _round in 0..5 {
         push_all(rt, alloc, &mut answers, TOO_LATE);
     }
-    push_all(rt, alloc, &mut answers, &found);
-    for _opening in 0..6 {
-        push_all(rt, alloc, &mut answers, &found);
-        push_all(rt, alloc, &mut answers, &failed);
-        push_all(rt, alloc, &mut answers, &found);
-        push_all(rt, alloc, &mut answers, &[RemoveTag]);
-    }
+    push_replaced(rt, alloc, &mut answers, COMPATIBLE);
     Script::new(answers)
 }
 
