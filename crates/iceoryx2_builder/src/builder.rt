@@ -43,6 +43,7 @@ pub use iceoryx2_request_response_builder::request_response;
 use iceoryx2_types::types::{self, ZeroCopySend};
 use iceoryx2_values::config::Config;
 use iceoryx2_values::description::ServiceName;
+use std::alloc::AllocError;
 use std::marker::{Model, PhantomData};
 
 /// One that creates and opens services: a number, and the settings that its builders start from.
@@ -135,6 +136,28 @@ impl<S: Service> Drop for Builder<S> {
             name: _,
             service: _,
         } = self;
+    }
+}
+
+impl<S: Service> Clone for Builder<S> {
+    ghost use Rattle.std.specs.Prelude.{◌≡◌};
+
+    ghost is_clone = { λ builder copy. copy ≡ builder };
+
+    /// `AllocError` where there was no memory for the name.
+    fn clone(&self) -> Result<Builder<S>, AllocError> {
+        let Builder {
+            node,
+            config,
+            name,
+            service: _,
+        } = self;
+        Ok(Builder {
+            node: *node,
+            config: *config,
+            name: name.clone()?,
+            service: PhantomData,
+        })
     }
 }
 
