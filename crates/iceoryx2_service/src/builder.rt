@@ -1,0 +1,10 @@
+//! Nodes and builders, what a look may find wrong, and the markers in whose place a type may be told.
+
+pub mod event;
+pub mod publish_subscribe;
+pub mod request_response;
+
+pub use iceoryx2_builder::builder::{Builder, Node, laws, laws_of_adjusting, laws_of_calls};
+pub use iceoryx2_builder_base::base::BuilderWithServiceType;
+pub use iceoryx2_errors::error::{ServiceState, equality_of_errors};
+pub use iceoryx2_types::types::{CustomHeaderMarker, CustomKeyMarker, CustomPayloadMarker};

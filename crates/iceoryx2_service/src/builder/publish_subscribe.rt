@@ -1,0 +1,9 @@
+//! The builder of services of publish-subscribe, its errors, what a look may find wrong, and its laws.
+
+pub use iceoryx2_errors::error::publish_subscribe::{
+    PublishSubscribeCreateError, PublishSubscribeOpenError, PublishSubscribeOpenOrCreateError,
+    ServiceAvailabilityState,
+};
+pub use iceoryx2_publish_subscribe_builder::publish_subscribe::{
+    Builder, LETTER, PublishSubscribeSetting, demand, ends_at_once, laws, letter_is_p, setting,
+};
