@@ -147,8 +147,8 @@ fn events_open_once(rt: HostRuntime) {
     let found = event::<Scripted>(&rt, rt.alloc(), &mut gone, (1, None), (&[], &[]));
     let why = EventOpenError::ServiceInCorruptedState;
     let wanted = Err(EventOpenOrCreateError::EventOpenError(why));
-    let (counts, _left) = counters(&gone);
-    assert_same(&rt, (found, counts), (wanted, (13, 6, 0)));
+    // the answers to five rounds are left
+    assert_same(&rt, (found, counters(&gone)), (wanted, ((13, 6, 0), 220)));
 }
 
 #[test]
