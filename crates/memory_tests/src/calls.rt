@@ -1,0 +1,477 @@
+//! Calls of builders over a counted table, each of which makes its accesses one by one.
+
+use crate::asks::{Asks, Counted, Over, Told};
+use crate::refusing::{Refused, Refusing, end, refuse};
+use crate::samples::{self, BESIDE, NAME, OTHERS};
+use crate::seen::{Seen, drop_table, is_as_before, look};
+use crate::trial::{Mode, Tally, Trial, Wrong, each_request};
+use iceoryx2_attributes::attribute::{AttributeSpecifier, AttributeVerifier};
+use iceoryx2_builder::builder::{event, publish_subscribe, request_response};
+use iceoryx2_commands::command::How;
+use iceoryx2_script::script::Faulty;
+use iceoryx2_storage::table::Table;
+use iceoryx2_types::types::{CustomHeaderMarker, CustomPayloadMarker, Slice, ZeroCopySend};
+use std::alloc::Global;
+use std::marker::PhantomData;
+
+/// What node 2 has created before.
+#[derive(Clone, Copy, PartialEq, Eq)]
+pub enum Standing {
+    Nothing,
+    /// The service with its attributes.
+    Service,
+    /// The service without attributes.
+    Bare,
+    /// The service for one node.
+    Full,
+}
+
+/// A call of node 1, and what it comes to with ample memory.
+#[derive(Clone, Copy)]
+pub struct Row {
+    pub label: &'static str,
+    how: How,
+    has_attributes: bool,
+    standing: Standing,
+    /// The call's accesses that a fault refuses.
+    refused: &'static [u64],
+    told: Told,
+    looks: u64,
+    openings: u64,
+    accesses: u64,
+}
+
+/// A row in columns: what it is called, the call and whether it has attributes, what stands before and which
+/// accesses are refused, the answer, and how many looks, openings and accesses there are.
+pub type Columns = (
+    &'static str,
+    (How, bool),
+    (Standing, &'static [u64]),
+    Told,
+    (u64, u64, u64),
+);
+
+/// The row of these columns.
+pub fn row_of((label, call, before, told, counts): Columns) -> Row {
+    let (how, has_attributes) = call;
+    let (standing, refused) = before;
+    let (looks, openings, accesses) = counts;
+    Row {
+        label,
+        how,
+        has_attributes,
+        standing,
+        refused,
+        told,
+        looks,
+        openings,
+        accesses,
+    }
+}
+
+const CREATE: (How, bool) = (How::Create, false);
+
+const CREATE_WITH: (How, bool) = (How::Create, true);
+
+const OPEN: (How, bool) = (How::Open, false);
+
+const OPEN_WITH: (How, bool) = (How::Open, true);
+
+const EITHER: (How, bool) = (How::OpenOrCreate, false);
+
+const EITHER_WITH: (How, bool) = (How::OpenOrCreate, true);
+
+const NOTHING: (Standing, &[u64]) = (Standing::Nothing, &[]);
+
+const SERVICE: (Standing, &[u64]) = (Standing::Service, &[]);
+
+/// The calls that are granted with ample memory.
+pub const GRANTED: [Columns; 8] = [
+    ("create", CREATE, NOTHING, Told::Granted, (1, 0, 6)),
+    (
+        "create_with_attributes",
+        CREATE_WITH,
+        NOTHING,
+        Told::Granted,
+        (1, 0, 6),
+    ),
+    ("open", OPEN, SERVICE, Told::Granted, (1, 1, 4)),
+    (
+        "open_with_attributes",
+        OPEN_WITH,
+        SERVICE,
+        Told::Granted,
+        (1, 1, 4),
+    ),
+    (
+        "open_or_create that creates",
+        EITHER,
+        NOTHING,
+        Told::Granted,
+        (2, 0, 7),
+    ),
+    (
+        "open_or_create_with_attributes that creates",
+        EITHER_WITH,
+        NOTHING,
+        Told::Granted,
+        (2, 0, 7),
+    ),
+    (
+        "open_or_create that opens",
+        EITHER,
+        SERVICE,
+        Told::Granted,
+        (2, 1, 6),
+    ),
+    (
+        "open_or_create_with_attributes that opens",
+        EITHER_WITH,
+        SERVICE,
+        Told::Granted,
+        (2, 1, 6),
+    ),
+];
+
+/// Calls that go on or are refused with ample memory too, most of which give something back.
+pub const OTHERWISE: [Columns; 7] = [
+    (
+        "create of a service that is there",
+        CREATE,
+        SERVICE,
+        Told::AlreadyExists,
+        (1, 0, 2),
+    ),
+    (
+        "create whose lock is refused",
+        CREATE_WITH,
+        (Standing::Nothing, &[4]),
+        Told::InternalFailure,
+        (1, 0, 5),
+    ),
+    (
+        "open that lacks an attribute",
+        OPEN_WITH,
+        (Standing::Bare, &[]),
+        Told::IncompatibleAttributes,
+        (1, 0, 2),
+    ),
+    (
+        "open of a full service",
+        OPEN,
+        (Standing::Full, &[]),
+        Told::Full,
+        (1, 1, 5),
+    ),
+    (
+        "open whose first opening is refused",
+        OPEN_WITH,
+        (Standing::Service, &[4]),
+        Told::Granted,
+        (3, 2, 11),
+    ),
+    (
+        "open whose second look is refused",
+        OPEN_WITH,
+        (Standing::Service, &[4, 5]),
+        Told::ServiceInCorruptedState,
+        (2, 1, 6),
+    ),
+    (
+        "open_or_create of a full service",
+        EITHER,
+        (Standing::Full, &[]),
+        Told::Full,
+        (2, 1, 7),
+    ),
+];
+
+/// What a create and an open are given.
+struct Attributes {
+    specifier: Option<AttributeSpecifier>,
+    verifier: Option<AttributeVerifier>,
+}
+
+impl Drop for Attributes {
+    fn drop(self) {
+        let Attributes {
+            specifier: _,
+            verifier: _,
+        } = self;
+    }
+}
+
+/// The attributes of a row.
+fn attributes_of(alloc: Global, row: Row) -> Result<Attributes, Wrong> {
+    if !row.has_attributes {
+        return Ok(Attributes {
+            specifier: None,
+            verifier: None,
+        });
+    }
+    Ok(Attributes {
+        specifier: Some(samples::specifier(alloc)?),
+        verifier: Some(samples::verifier(alloc)?),
+    })
+}
+
+/// Makes the call of a row.
+fn ask<A: Asks>(builder: A, row: Row, attributes: &Attributes, storage: &mut Counted) -> Told {
+    match row.how {
+        How::Create => builder.create(attributes.specifier.as_ref(), storage),
+        How::Open => builder.open(attributes.verifier.as_ref(), storage),
+        How::OpenOrCreate => builder.open_or_create(attributes.verifier.as_ref(), storage),
+    }
+}
+
+/// A create of node 2 that has to be granted.
+fn create_before<A: Asks>(
+    builder: A,
+    specifier: Option<&AttributeSpecifier>,
+    storage: &mut Counted,
+) -> Result<(), Wrong> {
+    if builder.create(specifier, storage) == Told::Granted {
+        Ok(())
+    } else {
+        Err(Wrong::Preparation)
+    }
+}
+
+/// Node 2 creates other services.
+fn create_others<A: Asks>(
+    alloc: Global,
+    others: usize,
+    storage: &mut Counted,
+) -> Result<(), Wrong> {
+    for text in OTHERS.iter().take(others) {
+        create_before(A::builder(alloc, 2, text)?, None, storage)?;
+    }
+    Ok(())
+}
+
+/// Node 2 creates what stands before a row's call.
+fn create_standing<A: Asks>(alloc: Global, row: Row, storage: &mut Counted) -> Result<(), Wrong> {
+    let builder = A::builder(alloc, 2, NAME)?;
+    match row.standing {
+        Standing::Nothing => Ok(()),
+        Standing::Service => create_before(builder, Some(&samples::specifier(alloc)?), storage),
+        Standing::Bare => create_before(builder, None, storage),
+        Standing::Full => create_before(builder.for_nodes(1), None, storage),
+    }
+}
+
+/// The answers to a call of which a request was refused: whether an open error says so, if one may.
+fn is_open_error(row: Row, told: Told, accesses: u64) -> Result<bool, Wrong> {
+    let is_created = row.standing == Standing::Nothing;
+    match (row.how, told) {
+        (How::Open, Told::OpenOutOfMemory) => Ok(true),
+        (How::Create, Told::CreateOutOfMemory) => Ok(false),
+        (How::OpenOrCreate, Told::OpenOutOfMemory) => {
+            // of what is created, only types are an open error, before any access
+            if is_created && accesses != 0 {
+                Err(Wrong::NotTold)
+            } else {
+                Ok(true)
+            }
+        }
+        (How::OpenOrCreate, Told::CreateOutOfMemory) => {
+            if is_created {
+                Ok(false)
+            } else {
+                Err(Wrong::NotTold)
+            }
+        }
+        _ => Err(Wrong::NotTold),
+    }
+}
+
+/// Whether a call of which no request was refused did as its row says.
+fn ends_as_wanted(row: Row, told: Told, storage: &Counted, before: Seen, after: &Seen) -> bool {
+    let counts = (storage.looks(), storage.openings(), storage.accesses());
+    let is_wanted = told == row.told && counts == (row.looks, row.openings, row.accesses);
+    let numbers = storage.makings().min(1);
+    is_wanted && (told == Told::Granted || is_as_before(before, after, numbers))
+}
+
+/// What a call with a refused request comes to.
+fn tally(
+    row: Row,
+    told: Told,
+    storage: &Counted,
+    before: Seen,
+    after: &Seen,
+) -> Result<Tally, Wrong> {
+    let is_open_error = is_open_error(row, told, storage.accesses())?;
+    if storage.looks() > row.looks || storage.openings() > row.openings || storage.makings() > 1 {
+        return Err(Wrong::Retried);
+    }
+    // a number is spent by the lock, which a making follows
+    let numbers = storage.makings();
+    if !is_as_before(before, after, numbers) {
+        return Err(Wrong::Changed);
+    }
+    Ok(Tally {
+        refused: 1,
+        by_open: u64::from(is_open_error),
+        by_create: u64::from(!is_open_error),
+        numbers,
+    })
+}
+
+/// Makes the call once more with ample memory.
+fn ask_again<A: Asks>(alloc: Global, row: Row, storage: &mut Counted) -> Result<(), Wrong> {
+    let attributes = attributes_of(alloc, row)?;
+    let told = ask(A::builder(alloc, 1, NAME)?, row, &attributes, storage);
+    if told == row.told {
+        Ok(())
+    } else {
+        Err(Wrong::Changed)
+    }
+}
+
+/// One try at a storage that is prepared.
+fn attempt_at<A: Asks>(
+    alloc: Global,
+    row: Row,
+    refusing: Refusing,
+    storage: &mut Counted,
+) -> Result<Option<Tally>, Wrong> {
+    let builder = A::builder(alloc, 1, NAME)?;
+    let attributes = attributes_of(alloc, row)?;
+    let before = look(alloc, storage.inner())?;
+    refuse(alloc, refusing);
+    let told = ask(builder, row, &attributes, storage);
+    let refused = end(alloc);
+    let after = look(alloc, storage.inner())?;
+    match refused {
+        Refused::None => {
+            if ends_as_wanted(row, told, storage, before, &after) {
+                Ok(None)
+            } else {
+                Err(Wrong::Answer)
+            }
+        }
+        Refused::One => Ok(Some(tally(row, told, storage, before, &after)?)),
+        Refused::More => Err(Wrong::AskedAgain),
+    }
+}
+
+/// A counted table with these refused accesses, which are counted from now on.
+fn counted(alloc: Global, table: Table, refused: &[u64]) -> Result<Counted, Wrong> {
+    match refused.to_vec(alloc) {
+        Ok(refused) => Ok(Faulty::new(table, refused)),
+        Err(_) => {
+            drop_table(table);
+            Err(Wrong::Preparation)
+        }
+    }
+}
+
+/// What node 2 creates, and then one try, and once more the same call.
+fn attempt_over<A: Asks>(
+    alloc: Global,
+    row: Row,
+    others: usize,
+    refusing: Refusing,
+) -> Result<Option<Tally>, Wrong> {
+    let mut storage = counted(alloc, Table::new(alloc), &[])?;
+    create_others::<A>(alloc, others, &mut storage)?;
+    create_standing::<A>(alloc, row, &mut storage)?;
+    let mut storage = counted(alloc, storage.into_inner(), row.refused)?;
+    let came = attempt_at::<A>(alloc, row, refusing, &mut storage)?;
+    if came.is_some() {
+        let mut storage = counted(alloc, storage.into_inner(), row.refused)?;
+        ask_again::<A>(alloc, row, &mut storage)?;
+        drop_table(storage.into_inner());
+    }
+    Ok(came)
+}
+
+/// The trial of a call.
+#[derive(Drop)]
+struct Calling<A> {
+    row: Row,
+    others: usize,
+    builder: PhantomData<A>,
+}
+
+impl<A: Asks> Trial for Calling<A> {
+    fn attempt(&mut self, alloc: Global, refusing: Refusing) -> Result<Option<Tally>, Wrong> {
+        attempt_over::<A>(alloc, self.row, self.others, refusing)
+    }
+}
+
+/// Refuses each request of a row's call beside this number of other services.
+fn beside<A: Asks>(alloc: Global, mode: Mode, row: Row, others: usize) -> Result<Tally, Wrong> {
+    let mut trial = Calling::<A> {
+        row,
+        others,
+        builder: PhantomData,
+    };
+    each_request(alloc, &mut trial, mode)
+}
+
+/// Refuses each request of a row's call beside each number of other services.
+fn beside_others<A: Asks>(alloc: Global, mode: Mode, row: Row) -> Result<Tally, Wrong> {
+    let mut all = Tally::NONE;
+    for others in BESIDE {
+        all = all.and(beside::<A>(alloc, mode, row, others)?);
+    }
+    Ok(all)
+}
+
+/// The call of a row by events.
+pub fn of_events(alloc: Global, mode: Mode, row: Row) -> Result<Tally, Wrong> {
+    beside_others::<event::Builder<Over>>(alloc, mode, row)
+}
+
+/// Builders of publish-subscribe.
+type Messages<P, U> = publish_subscribe::Builder<P, U, Over>;
+
+/// Builders of request-response.
+type Requests<Q, R> = request_response::Builder<Q, u32, R, (), Over>;
+
+/// The call of a row by publish-subscribe.
+pub fn of_messages(alloc: Global, mode: Mode, row: Row) -> Result<Tally, Wrong> {
+    beside_others::<Messages<u64, u32>>(alloc, mode, row)
+}
+
+/// The call of a row by request-response.
+pub fn of_requests(alloc: Global, mode: Mode, row: Row) -> Result<Tally, Wrong> {
+    beside_others::<Requests<u64, Slice<u8>>>(alloc, mode, row)
+}
+
+/// The call of a row by publish-subscribe with this payload, and with no user header, one with a type, and
+/// a marker.
+fn of_payload<P: ZeroCopySend>(alloc: Global, mode: Mode, row: Row) -> Result<Tally, Wrong> {
+    let without = beside::<Messages<P, ()>>(alloc, mode, row, 0)?;
+    let with_type = beside::<Messages<P, u32>>(alloc, mode, row, 0)?;
+    let with_marker = beside::<Messages<P, CustomHeaderMarker>>(alloc, mode, row, 0)?;
+    Ok(without.and(with_type).and(with_marker))
+}
+
+/// The call of a row by publish-subscribe with one value, a number of values, and a marker, each with
+/// three user headers.
+pub fn of_all_messages(alloc: Global, mode: Mode, row: Row) -> Result<Tally, Wrong> {
+    let fixed = of_payload::<u64>(alloc, mode, row)?;
+    let slice = of_payload::<Slice<u64>>(alloc, mode, row)?;
+    let marker = of_payload::<Slice<CustomPayloadMarker>>(alloc, mode, row)?;
+    Ok(fixed.and(slice).and(marker))
+}
+
+/// The call of a row by request-response with these requests and three kinds of responses.
+fn of_request<Q: ZeroCopySend>(alloc: Global, mode: Mode, row: Row) -> Result<Tally, Wrong> {
+    let fixed = beside::<Requests<Q, u8>>(alloc, mode, row, 0)?;
+    let slice = beside::<Requests<Q, Slice<u8>>>(alloc, mode, row, 0)?;
+    let marker = beside::<Requests<Q, Slice<CustomPayloadMarker>>>(alloc, mode, row, 0)?;
+    Ok(fixed.and(slice).and(marker))
+}
+
+/// The call of a row by request-response with one value, a number of values, and a marker as requests,
+/// each with three kinds of responses.
+pub fn of_all_requests(alloc: Global, mode: Mode, row: Row) -> Result<Tally, Wrong> {
+    let fixed = of_request::<u64>(alloc, mode, row)?;
+    let slice = of_request::<Slice<u64>>(alloc, mode, row)?;
+    let marker = of_request::<Slice<CustomPayloadMarker>>(alloc, mode, row)?;
+    Ok(fixed.and(slice).and(marker))
+}

@@ -1,0 +1,241 @@
+//! Calls of the layer while memory is refused, request by request.
+//!
+//! The program asks for blocks of reserved sizes to say which requests are to be refused, and a preloaded
+//! allocator obeys (`tools/refuse.c`). Without one nothing is refused, and each scenario ends at its first
+//! try. Each line tells a scenario and how many requests were refused in it.
+#![tactic(auto)]
+
+mod asks;
+mod calls;
+mod peers;
+mod refusing;
+mod samples;
+mod seen;
+mod sessions;
+mod trial;
+mod unneeded;
+mod values;
+
+use crate::calls::{Columns, Row, row_of};
+use crate::samples::{PATTERNS, Pattern};
+use crate::trial::Mode::{Alone, AndLater};
+use crate::trial::{Mode, Tally, Wrong};
+use crate::values::{Newly, Requiring};
+use std::alloc::Global;
+use std::io;
+use std::process::ExitCode;
+
+/// What a scenario came to.
+type Outcome = Result<Tally, Wrong>;
+
+/// Writes what a scenario came to, and tells whether it went well.
+fn tell(rt: &HostRuntime, whose: &str, label: &str, outcome: Outcome) -> io::Result<bool> {
+    let Tally {
+        refused,
+        by_open,
+        by_create,
+        numbers,
+    } = match outcome {
+        Ok(tally) => tally,
+        Err(wrong) => {
+            println!(rt; "{whose}: {label}: WRONG {wrong:?}")?;
+            return Ok(false);
+        }
+    };
+    print!(rt; "{whose}: {label}: {refused} refused")?;
+    if by_open != 0 || by_create != 0 {
+        print!(rt; ", {by_open} open errors, {by_create} create errors, {numbers} numbers spent")?;
+    }
+    println!(rt)?;
+    Ok(true)
+}
+
+/// Writes what scenarios came to.
+fn tell_all(rt: &HostRuntime, whose: &str, outcomes: &[(&str, Outcome)]) -> io::Result<bool> {
+    let mut is_well = true;
+    for (label, outcome) in outcomes {
+        is_well = tell(rt, whose, label, *outcome)? && is_well;
+    }
+    Ok(is_well)
+}
+
+/// Both together.
+fn sum(one: Outcome, other: Outcome) -> Outcome {
+    Ok(one?.and(other?))
+}
+
+/// The call of a row by a pattern.
+fn call(alloc: Global, mode: Mode, pattern: Pattern, row: Row) -> Outcome {
+    match pattern {
+        Pattern::Event => calls::of_events(alloc, mode, row),
+        Pattern::PublishSubscribe => calls::of_messages(alloc, mode, row),
+        Pattern::RequestResponse => calls::of_requests(alloc, mode, row),
+    }
+}
+
+/// The call of a row by each combination of a pattern's types.
+fn call_with_types(alloc: Global, mode: Mode, pattern: Pattern, row: Row) -> Outcome {
+    match pattern {
+        Pattern::Event => Ok(Tally::NONE),
+        Pattern::PublishSubscribe => calls::of_all_messages(alloc, mode, row),
+        Pattern::RequestResponse => calls::of_all_requests(alloc, mode, row),
+    }
+}
+
+/// The calls of a pattern, each beside other services.
+fn tell_calls(rt: &HostRuntime, pattern: Pattern, rows: &[Columns]) -> io::Result<bool> {
+    let alloc = rt.alloc();
+    let mut is_well = true;
+    for columns in rows {
+        let row = row_of(*columns);
+        let alone = call(alloc, Alone, pattern, row);
+        let outcome = sum(alone, call(alloc, AndLater, pattern, row));
+        is_well = tell(rt, pattern.name(), row.label, outcome)? && is_well;
+    }
+    Ok(is_well)
+}
+
+/// The calls of a pattern by each combination of its types.
+fn tell_calls_with_types(rt: &HostRuntime, pattern: Pattern) -> io::Result<bool> {
+    let alloc = rt.alloc();
+    let mut is_well = true;
+    for columns in &calls::GRANTED {
+        let row = row_of(*columns);
+        let alone = call_with_types(alloc, Alone, pattern, row);
+        let outcome = sum(alone, call_with_types(alloc, AndLater, pattern, row));
+        is_well = tell(rt, pattern.name_with_types(), row.label, outcome)? && is_well;
+    }
+    Ok(is_well)
+}
+
+/// Commands of a session, of which requests are refused.
+fn of_sessions(alloc: Global, mode: Mode) -> [(&'static str, Outcome); 5] {
+    let [event, publish_subscribe, request_response] = PATTERNS;
+    [
+        ("calls of event", sessions::calls(alloc, mode, event)),
+        (
+            "calls of publish-subscribe",
+            sessions::calls(alloc, mode, publish_subscribe),
+        ),
+        (
+            "calls of request-response",
+            sessions::calls(alloc, mode, request_response),
+        ),
+        ("list", sessions::listings(alloc, mode)),
+        ("run", sessions::run(alloc, mode)),
+    ]
+}
+
+/// Attributes, copies, texts and types.
+fn of_values(alloc: Global, mode: Mode) -> [(&'static str, Outcome); 9] {
+    [
+        ("define", values::define(alloc, mode)),
+        ("require", values::require(alloc, mode, Requiring::Pair)),
+        ("require_key", values::require(alloc, mode, Requiring::Key)),
+        ("clone of builders", values::clone_builders(alloc, mode)),
+        ("clone of values", values::clone_values(alloc, mode)),
+        (
+            "ServiceName::new",
+            values::make_newly(alloc, mode, Newly::Name),
+        ),
+        ("ServiceHash::to_text", values::hash_text(alloc, mode)),
+        (
+            "TypeDetail::new",
+            values::make_newly(alloc, mode, Newly::Detail),
+        ),
+        (
+            "MessageTypeDetails::from",
+            values::make_newly(alloc, mode, Newly::Messages),
+        ),
+    ]
+}
+
+/// Byte forms of the three patterns.
+fn of_forms(alloc: Global, mode: Mode) -> [(&'static str, Outcome); 6] {
+    let [event, publish_subscribe, request_response] = PATTERNS;
+    [
+        ("encode of event", values::encode(alloc, mode, event)),
+        (
+            "encode of publish-subscribe",
+            values::encode(alloc, mode, publish_subscribe),
+        ),
+        (
+            "encode of request-response",
+            values::encode(alloc, mode, request_response),
+        ),
+        ("decode of event", values::decode(alloc, mode, event)),
+        (
+            "decode of publish-subscribe",
+            values::decode(alloc, mode, publish_subscribe),
+        ),
+        (
+            "decode of request-response",
+            values::decode(alloc, mode, request_response),
+        ),
+    ]
+}
+
+/// Peers whose steps find no memory.
+fn of_peers(alloc: Global) -> [(&'static str, Outcome); 3] {
+    [
+        ("skipped step", peers::skip(alloc)),
+        (
+            "service replaced inside an open, each request alone",
+            peers::replace(alloc, Alone),
+        ),
+        (
+            "service replaced inside an open, each request and all later ones",
+            peers::replace(alloc, AndLater),
+        ),
+    ]
+}
+
+/// What asks for no memory, with every request refused.
+fn of_unneeded(alloc: Global) -> [(&'static str, Outcome); 10] {
+    [
+        ("new table and session", sessions::begin(alloc)),
+        ("close of a session", sessions::close(alloc)),
+        ("finish", sessions::finish(alloc)),
+        ("steps that are never skipped", peers::never_skip(alloc)),
+        ("close of a factory", unneeded::close(alloc)),
+        ("readers and abandon", unneeded::read(alloc)),
+        ("open of a service that isn't there", unneeded::open(alloc)),
+        ("setters and header changes", unneeded::set(alloc)),
+        ("verdicts", unneeded::judge(alloc)),
+        ("Display", unneeded::display(alloc)),
+    ]
+}
+
+/// All scenarios but the calls of builders.
+fn tell_others(rt: &HostRuntime) -> io::Result<bool> {
+    let alloc = rt.alloc();
+    let mut is_well = true;
+    for mode in [Alone, AndLater] {
+        is_well = tell_all(rt, mode.name(), &of_sessions(alloc, mode))? && is_well;
+        is_well = tell_all(rt, mode.name(), &of_values(alloc, mode))? && is_well;
+        is_well = tell_all(rt, mode.name(), &of_forms(alloc, mode))? && is_well;
+    }
+    is_well = tell_all(rt, "peers", &of_peers(alloc))? && is_well;
+    is_well = tell_all(rt, "every request", &of_unneeded(alloc))? && is_well;
+    Ok(is_well)
+}
+
+/// All scenarios.
+fn tell_everything(rt: &HostRuntime) -> io::Result<bool> {
+    let mut is_well = true;
+    for pattern in PATTERNS {
+        is_well = tell_calls(rt, pattern, &calls::GRANTED)? && is_well;
+        is_well = tell_calls(rt, pattern, &calls::OTHERWISE)? && is_well;
+    }
+    is_well = tell_calls_with_types(rt, Pattern::PublishSubscribe)? && is_well;
+    is_well = tell_calls_with_types(rt, Pattern::RequestResponse)? && is_well;
+    Ok(tell_others(rt)? && is_well)
+}
+
+fn main(rt: HostRuntime) -> ExitCode {
+    match tell_everything(&rt) {
+        Ok(true) => ExitCode::from(0),
+        Ok(false) => ExitCode::from(1),
+        Err(_) => ExitCode::from(3),
+    }
+}

@@ -1,0 +1,226 @@
+//! What asks for no memory, with every request refused.
+
+use crate::asks::{Asks, Counted, Over, Told};
+use crate::samples::{self, NAME, Pattern, prepared};
+use crate::seen::drop_table;
+use crate::trial::{Tally, Wrong, refuse_all, without_memory};
+use iceoryx2_builder::builder::{Node, event};
+use iceoryx2_commands::command::{EventSetting, RequestResponseSetting};
+use iceoryx2_errors::error::{CloseError, EventOpenError, EventOpenOrCreateError};
+use iceoryx2_port_factory::port_factory::event::PortFactory;
+use iceoryx2_script::script::Faulty;
+use iceoryx2_storage::local::Local;
+use iceoryx2_storage::table::Table;
+use iceoryx2_types::types::publish_subscribe::Header;
+use iceoryx2_types::types::{Alignment, CustomHeaderMarker, CustomPayloadMarker, Slice};
+use iceoryx2_values::config::Config;
+use iceoryx2_values::description::ServiceHash;
+use iceoryx2_values::event::EventId;
+use iceoryx2_values::time::{Duration, Time};
+use std::alloc::Global;
+
+/// Lets a builder go.
+fn drop_builder<B: Drop>(builder: B) {
+    let _builder = builder;
+}
+
+/// The setters of events, behind the choice of the pattern.
+fn set_events(alloc: Global) -> Result<Tally, Wrong> {
+    let node = Node::<Local>::new(1, Config::default());
+    let name = samples::name(alloc, NAME)?;
+    refuse_all(alloc);
+    let builder = node
+        .service_builder(name)
+        .event()
+        .max_notifiers(3)
+        .max_listeners(3)
+        .event_id_max_value(9)
+        .max_nodes(2)
+        .notifier_created_event(EventId::new(1))
+        .disable_notifier_dropped_event()
+        .notifier_dead_event(EventId::new(2))
+        .disable_deadline()
+        .with(EventSetting::Deadline(Duration::new(1, 0)));
+    let came = without_memory(alloc, true);
+    drop_builder(builder);
+    came
+}
+
+/// The setters of publish-subscribe, with another user header.
+fn set_messages(alloc: Global) -> Result<Tally, Wrong> {
+    let node = Node::<Local>::new(1, Config::default());
+    let name = samples::name(alloc, NAME)?;
+    let payload = samples::detail(alloc)?;
+    let user_header = samples::detail(alloc)?;
+    let Some(alignment) = Alignment::new(16) else {
+        return Err(Wrong::Preparation);
+    };
+    refuse_all(alloc);
+    let builder = node
+        .service_builder(name)
+        .publish_subscribe::<Slice<CustomPayloadMarker>>()
+        .max_publishers(3)
+        .max_subscribers(3)
+        .subscriber_max_buffer_size(4)
+        .history_size(1)
+        .subscriber_max_borrowed_samples(2)
+        .enable_safe_overflow(false)
+        .max_nodes(2)
+        .payload_alignment(alignment)
+        .internal_set_payload_type_details(payload)
+        .user_header::<CustomHeaderMarker>()
+        .internal_set_user_header_type_details(user_header);
+    let came = without_memory(alloc, true);
+    drop_builder(builder);
+    came
+}
+
+/// The setters of request-response, with other user headers.
+fn set_requests(alloc: Global) -> Result<Tally, Wrong> {
+    let node = Node::<Local>::new(1, Config::default());
+    let name = samples::name(alloc, NAME)?;
+    let payload = samples::detail(alloc)?;
+    let user_header = samples::detail(alloc)?;
+    refuse_all(alloc);
+    let builder = node
+        .service_builder(name)
+        .request_response::<Slice<CustomPayloadMarker>, Slice<CustomPayloadMarker>>()
+        .enable_safe_overflow_for_requests(false)
+        .enable_safe_overflow_for_responses(false)
+        .enable_fire_and_forget_requests(false)
+        .max_active_requests_per_client(1)
+        .max_loaned_requests(1)
+        .max_borrowed_responses_per_pending_response(1)
+        .max_response_buffer_size(1)
+        .max_servers(1)
+        .max_clients(1)
+        .max_nodes(1)
+        .request_user_header::<CustomHeaderMarker>()
+        .response_user_header::<CustomHeaderMarker>()
+        .internal_set_request_payload_type_details(payload)
+        .with(RequestResponseSetting::ResponseHeaderType(user_header));
+    let came = without_memory(alloc, true);
+    drop_builder(builder);
+    came
+}
+
+/// The setters of all patterns.
+pub fn set(alloc: Global) -> Result<Tally, Wrong> {
+    Ok(
+        set_events(alloc)?
+            .and(set_messages(alloc)?)
+            .and(set_requests(alloc)?),
+    )
+}
+
+/// What is required of attributes, and whether messages are compatible.
+pub fn judge(alloc: Global) -> Result<Tally, Wrong> {
+    let attributes = samples::specifier(alloc)?;
+    let met = samples::verifier(alloc)?;
+    let unmet = samples::requirements(alloc, 2)?;
+    let message = samples::message::<Header>(alloc)?;
+    refuse_all(alloc);
+    let is_met = met.verify_requirements(attributes.attributes()).is_ok();
+    let is_unmet = unmet.verify_requirements(attributes.attributes()).is_err();
+    let is_compatible = message.is_compatible_to(&message);
+    without_memory(alloc, is_met && is_unmet && is_compatible)
+}
+
+/// Writes an error into a text that has room for it.
+pub fn display(alloc: Global) -> Result<Tally, Wrong> {
+    let error = EventOpenOrCreateError::EventOpenError(EventOpenError::OutOfMemory);
+    let mut text = prepared(String::with_capacity(alloc, 200))?;
+    refuse_all(alloc);
+    let is_written = write!(text, "{error}").is_ok();
+    let wanted = "EventOpenOrCreateError::EventOpenError(OutOfMemory)";
+    without_memory(alloc, is_written && text.as_str() == wanted)
+}
+
+/// An event open of a service that isn't there.
+fn open_nothing(alloc: Global, storage: &mut Counted) -> Result<Tally, Wrong> {
+    let builder: event::Builder<Over> = Asks::builder(alloc, 1, NAME)?;
+    refuse_all(alloc);
+    let told = Asks::open(builder, None, storage);
+    without_memory(alloc, told == Told::DoesNotExist)
+}
+
+/// The same over a new table.
+pub fn open(alloc: Global) -> Result<Tally, Wrong> {
+    let mut storage = Faulty::new(Table::new(alloc), Vec::new(alloc));
+    let came = open_nothing(alloc, &mut storage);
+    drop_table(storage.into_inner());
+    came
+}
+
+/// Events that node 1 creates.
+fn created(alloc: Global, table: &mut Table) -> Result<PortFactory<Local>, Wrong> {
+    let node = Node::<Local>::new(1, Config::default());
+    let builder = node.service_builder(samples::name(alloc, NAME)?).event();
+    match builder.create(table, Ok(Time::default())) {
+        Ok(factory) => Ok(factory),
+        Err(_) => Err(Wrong::Preparation),
+    }
+}
+
+/// A factory's close at its table.
+fn close_factory(
+    alloc: Global,
+    factory: PortFactory<Local>,
+    table: &mut Table,
+) -> Result<Tally, Wrong> {
+    refuse_all(alloc);
+    let is_closed = match factory.close(table) {
+        Ok(()) => true,
+        Err(CloseError::NotHere(factory)) => {
+            factory.abandon();
+            false
+        }
+        Err(CloseError::TagNotRemoved) => false,
+        Err(CloseError::SegmentNotRemoved) => false,
+        Err(CloseError::DescriptionNotRemoved) => false,
+    };
+    without_memory(alloc, is_closed)
+}
+
+/// What a factory and its table tell, and the end of the factory without an access.
+fn read_factory(
+    alloc: Global,
+    hash: ServiceHash,
+    factory: PortFactory<Local>,
+    table: &Table,
+) -> Result<Tally, Wrong> {
+    refuse_all(alloc);
+    let is_told = factory.name().as_str() == NAME
+        && factory.service_hash() == &hash
+        && factory.attributes().is_empty()
+        && factory.static_config().max_nodes == 36
+        && factory.number() == 0
+        && factory.node() == 1;
+    factory.abandon();
+    let is_held = table.has_tag(1, &hash) && table.tickets(1, &hash) == 1;
+    let is_counted = table.counter() == 1 && table.pending() == 0 && table.skipped() == 0;
+    without_memory(alloc, is_told && is_held && is_counted)
+}
+
+/// A factory that is closed.
+pub fn close(alloc: Global) -> Result<Tally, Wrong> {
+    let mut table = Table::new(alloc);
+    let came = match created(alloc, &mut table) {
+        Ok(factory) => close_factory(alloc, factory, &mut table),
+        Err(wrong) => Err(wrong),
+    };
+    drop_table(table);
+    came
+}
+
+/// A factory that is read and abandoned, and what its table tells of it.
+pub fn read(alloc: Global) -> Result<Tally, Wrong> {
+    let hash = samples::hash(alloc, Pattern::Event)?;
+    let mut table = Table::new(alloc);
+    let came = match created(alloc, &mut table) {
+        Ok(factory) => read_factory(alloc, hash, factory, &table),
+        Err(wrong) => Err(wrong),
+    };
+    drop_table(table);
+    came
+}
