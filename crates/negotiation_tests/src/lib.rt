@@ -20,6 +20,8 @@ mod names;
 #[cfg(test)]
 mod open_or_create;
 #[cfg(test)]
+mod out_of_memory;
+#[cfg(test)]
 mod paths;
 #[cfg(test)]
 mod peers;
