@@ -14,11 +14,7 @@ use std::alloc::Global;
 pub const NAME: &str = "xample";
 
 /// The services that may stand beside it.
-pub const OTHERS: [&str; 8] = ["s0", "s1", "s2", "s3", "s4", "s5", "s6", "s7"];
-
-/// Beside how many of them a call is made: what a table is kept in grows at a power of two, with or without
-/// the service that is called for.
-pub const BESIDE: [usize; 7] = [0, 1, 2, 3, 4, 7, 8];
+pub const OTHERS: [&str; 9] = ["s0", "s1", "s2", "s3", "s4", "s5", "s6", "s7", "s8"];
 
 /// Keys in no order.
 pub const KEYS: [&str; 9] = ["d", "h", "b", "a", "i", "f", "c", "g", "e"];

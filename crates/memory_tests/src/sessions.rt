@@ -2,7 +2,7 @@
 
 use crate::asks::{self, Told};
 use crate::refusing::{Refused, Refusing, end, is_obeyed, refuse};
-use crate::samples::{self, BESIDE, NAME, OTHERS, PATTERNS, Pattern, prepared};
+use crate::samples::{self, NAME, OTHERS, PATTERNS, Pattern, prepared};
 use crate::seen::{Seen, drop_table, is_as_before, look};
 use crate::trial::{Mode, Tally, Trial, Wrong, each_request, refuse_all, without_memory};
 use iceoryx2_commands::command::{
@@ -235,14 +235,14 @@ impl Trial for Wanted {
     }
 }
 
-/// Refuses each request of a call beside each number of other services.
+/// Refuses each request of a call beside none, one and each further number of other services.
 fn beside_others(
     alloc: Global,
     mode: Mode,
     (pattern, how, is_there): (Pattern, How, bool),
 ) -> Result<Tally, Wrong> {
     let mut all = Tally::NONE;
-    for others in BESIDE {
+    for others in 0..10usize {
         let mut wanted = Wanted {
             pattern,
             how,
@@ -306,7 +306,6 @@ fn list(
     session: &mut Session,
 ) -> Result<Option<Tally>, Wrong> {
     create_others(alloc, listed.pattern, listed.others, session)?;
-    let _ = session.apply(call(alloc, listed.pattern, How::Create, (2, 1, NAME))?);
     list_in(alloc, refusing, session)
 }
 
@@ -319,10 +318,10 @@ impl Trial for Listed {
     }
 }
 
-/// Lists each number of services, and the one that is called for beside them.
+/// Lists one and each further number of services.
 pub fn listings(alloc: Global, mode: Mode) -> Result<Tally, Wrong> {
     let mut all = Tally::NONE;
-    for others in BESIDE {
+    for others in 1..10usize {
         let mut listed = Listed {
             pattern: Pattern::PublishSubscribe,
             others,
