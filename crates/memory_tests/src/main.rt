@@ -193,7 +193,7 @@ fn of_peers(alloc: Global) -> [(&'static str, Outcome); 3] {
 /// What asks for no memory, with every request refused.
 fn of_unneeded(alloc: Global) -> [(&'static str, Outcome); 10] {
     [
-        ("new table and session", sessions::begin(alloc)),
+        ("new tables and a session", sessions::begin(alloc)),
         ("close of a session", sessions::close(alloc)),
         ("finish", sessions::finish(alloc)),
         ("steps that are never skipped", peers::never_skip(alloc)),

@@ -10,7 +10,7 @@ const ORDERS: usize = 0x14_0000;
 const SPAN: usize = 0x1000;
 
 /// More requests than are ever refused.
-const NEVER: usize = 0xfff;
+const NEVER: u16 = 0xfff;
 
 /// Asks for so many bytes, gives them back, and tells whether they were there.
 fn ask(alloc: Global, bytes: usize) -> bool {
@@ -51,8 +51,8 @@ fn refuse_none(alloc: Global) {
 }
 
 /// Whether as many were refused since the last order to refuse. Where nobody obeys, any number was.
-fn were_refused(alloc: Global, number: usize) -> bool {
-    ask(alloc, ORDERS + 3 * SPAN + number)
+fn were_refused(alloc: Global, number: u16) -> bool {
+    ask(alloc, ORDERS + 3 * SPAN + usize::from(number))
 }
 
 /// Whether orders are obeyed.

@@ -435,13 +435,15 @@ pub fn finish(alloc: Global) -> Result<Tally, Wrong> {
     if is_empty { came } else { Err(Wrong::Changed) }
 }
 
-/// A new table and a session over it.
+/// New tables and a session over one.
 pub fn begin(alloc: Global) -> Result<Tally, Wrong> {
     refuse_all(alloc);
+    let empty = Table::new(alloc);
     let table = Table::starting_at(alloc, 7);
     let session = Session::new(Config::default(), table);
     let is_wanted = session.table().counter() == 7;
     let came = without_memory(alloc, is_wanted);
+    drop_table(empty);
     end_session(session);
     came
 }
