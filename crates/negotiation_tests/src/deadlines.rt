@@ -60,10 +60,8 @@ fn an_open_with_the_same_deadline_has_the_creation_time_of_the_service(rt: HostR
     let deadline = due(&rt, 1);
     let builder = wanting(&rt, rt.alloc(), 1).deadline(deadline.value);
     let found = answers(&rt, rt.alloc(), builder, deadline.creation_time);
-    let (same, other) = (
-        Ok(Some(deadline)),
-        Err(EventOpenError::IncompatibleDeadline),
-    );
+    let same: Answer = Ok(Some(deadline));
+    let other: Answer = Err(EventOpenError::IncompatibleDeadline);
     assert_same(&rt, found, (Some(deadline), [same, other, other, same]));
 }
 
@@ -71,7 +69,8 @@ fn an_open_with_the_same_deadline_has_the_creation_time_of_the_service(rt: HostR
 fn a_service_without_deadline_is_none_with_one(rt: HostRuntime) {
     let builder = wanting(&rt, rt.alloc(), 1).disable_deadline();
     let found = answers(&rt, rt.alloc(), builder, Time::default());
-    let (same, other) = (Ok(None), Err(EventOpenError::IncompatibleDeadline));
+    let same: Answer = Ok(None);
+    let other: Answer = Err(EventOpenError::IncompatibleDeadline);
     assert_same(&rt, found, (None, [other, other, same, same]));
 }
 

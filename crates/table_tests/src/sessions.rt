@@ -78,9 +78,10 @@ fn run(alloc: Global, commands: Vec<Command>) -> (Result<Vec<Reply>, AllocError>
 
 /// What is seen of the session.
 fn seen_of_session(rt: &impl Abort, alloc: Global) -> Seen {
-    match run(alloc, commands(rt, alloc)) {
-        (Ok(replies), counter) => (replies, counter),
-        _ => panic!(rt; "no memory"),
+    let (answer, counter) = run(alloc, commands(rt, alloc));
+    match answer {
+        Ok(replies) => (replies, counter),
+        Err(_) => panic!(rt; "no memory"),
     }
 }
 
