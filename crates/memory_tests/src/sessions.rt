@@ -2,7 +2,7 @@
 
 use crate::asks::{self, Told};
 use crate::refusing::{Refused, Refusing, end, is_obeyed, refuse};
-use crate::samples::{self, NAME, OTHERS, PATTERNS, Pattern, prepared};
+use crate::samples::{self, NAME, OTHERS, Pattern, prepared};
 use crate::seen::{Seen, drop_table, is_as_before, look};
 use crate::trial::{Mode, Tally, Trial, Wrong, each_request, refuse_all, without_memory};
 use iceoryx2_commands::command::{
@@ -378,14 +378,16 @@ pub fn run(alloc: Global, mode: Mode) -> Result<Tally, Wrong> {
     came
 }
 
-/// Two nodes have the service of each pattern, in two slots each.
+/// Node 1 has the service of each pattern in two slots, and node 2 in one.
 fn open_all(alloc: Global, session: &mut Session) -> Result<(), Wrong> {
-    let mut slot = 0usize;
-    for pattern in PATTERNS {
-        let _ = session.apply(call(alloc, pattern, How::Create, (1, slot, NAME))?);
-        let _ = session.apply(call(alloc, pattern, How::Open, (1, slot + 1, NAME))?);
-        let _ = session.apply(call(alloc, pattern, How::Open, (2, slot + 2, NAME))?);
-        slot = slot.saturating_add(3).min(60);
+    for (pattern, created, opened, opened_by_2) in [
+        (Pattern::Event, 0usize, 1usize, 2usize),
+        (Pattern::PublishSubscribe, 3, 4, 5),
+        (Pattern::RequestResponse, 6, 7, 8),
+    ] {
+        let _ = session.apply(call(alloc, pattern, How::Create, (1, created, NAME))?);
+        let _ = session.apply(call(alloc, pattern, How::Open, (1, opened, NAME))?);
+        let _ = session.apply(call(alloc, pattern, How::Open, (2, opened_by_2, NAME))?);
     }
     Ok(())
 }
