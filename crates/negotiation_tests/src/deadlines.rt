@@ -19,14 +19,33 @@ fn due(rt: &impl Abort, seconds: u64) -> Deadline {
     deadline(rt, (seconds, 0), (5, 0))
 }
 
+/// Seconds and nanoseconds of a deadline, and of its creation time.
+type Due = (u64, u32, u64, u32);
+
 /// The deadline that an open finds, or why it is refused.
-type Answer = Result<Option<Deadline>, EventOpenError>;
+type Answer = Result<Option<Due>, EventOpenError>;
+
+/// The deadline of a service for the node that creates it, and what opens answer that want a deadline of
+/// 1 second, one of 2 seconds, none, and any.
+type Seen = (Option<Due>, [Answer; 4]);
+
+/// A deadline in numbers.
+fn numbers(deadline: Option<Deadline>) -> Option<Due> {
+    let deadline = deadline?;
+    let (value, creation_time) = (deadline.value, deadline.creation_time);
+    Some((
+        value.seconds(),
+        value.nanoseconds(),
+        creation_time.seconds(),
+        creation_time.nanoseconds(),
+    ))
+}
 
 /// What an open answers. Where it isn't refused, what it gives is closed again.
 fn answer(rt: &impl Abort, builder: Builder<Local>, table: &mut Table) -> Answer {
     match open(builder, table) {
         Ok(factory) => {
-            let deadline = settings(&factory).deadline;
+            let deadline = numbers(settings(&factory).deadline);
             closed(rt, factory, table);
             Ok(deadline)
         }
@@ -34,17 +53,11 @@ fn answer(rt: &impl Abort, builder: Builder<Local>, table: &mut Table) -> Answer
     }
 }
 
-/// The deadline of a service for the node that creates it, and what opens answer that want a deadline of
-/// 1 second, one of 2 seconds, none, and any.
-fn answers(
-    rt: &impl Abort,
-    alloc: Global,
-    builder: Builder<Local>,
-    now: Time,
-) -> (Option<Deadline>, [Answer; 4]) {
+/// What is seen of a service that any node may open.
+fn answers(rt: &impl Abort, alloc: Global, builder: Builder<Local>, now: Time) -> Seen {
     let mut table = table_from(alloc, 0);
     let factory = created_at(rt, builder, &mut table, now);
-    let deadline = settings(&factory).deadline;
+    let deadline = numbers(settings(&factory).deadline);
     let (one, two) = (due(rt, 1).value, due(rt, 2).value);
     let same = answer(rt, wanting(rt, alloc, 2).deadline(one), &mut table);
     let longer = answer(rt, wanting(rt, alloc, 2).deadline(two), &mut table);
@@ -55,23 +68,28 @@ fn answers(
     (deadline, [same, longer, none, any])
 }
 
+/// A deadline of 1 second that was created at 5 seconds.
+const DUE: Due = (1, 0, 5, 0);
+
+const OTHER: Answer = Err(EventOpenError::IncompatibleDeadline);
+
+const WITH_DEADLINE: Seen = (Some(DUE), [Ok(Some(DUE)), OTHER, OTHER, Ok(Some(DUE))]);
+
+const WITHOUT_DEADLINE: Seen = (None, [OTHER, OTHER, Ok(None), Ok(None)]);
+
 #[test]
 fn an_open_with_the_same_deadline_has_the_creation_time_of_the_service(rt: HostRuntime) {
     let deadline = due(&rt, 1);
     let builder = wanting(&rt, rt.alloc(), 1).deadline(deadline.value);
     let found = answers(&rt, rt.alloc(), builder, deadline.creation_time);
-    let same: Answer = Ok(Some(deadline));
-    let other: Answer = Err(EventOpenError::IncompatibleDeadline);
-    assert_same(&rt, found, (Some(deadline), [same, other, other, same]));
+    assert_same(&rt, found, WITH_DEADLINE);
 }
 
 #[test]
 fn a_service_without_deadline_is_none_with_one(rt: HostRuntime) {
     let builder = wanting(&rt, rt.alloc(), 1).disable_deadline();
     let found = answers(&rt, rt.alloc(), builder, Time::default());
-    let same: Answer = Ok(None);
-    let other: Answer = Err(EventOpenError::IncompatibleDeadline);
-    assert_same(&rt, found, (None, [other, other, same, same]));
+    assert_same(&rt, found, WITHOUT_DEADLINE);
 }
 
 /// Why a create is refused where there is no time, and what the table has then: whether there is a

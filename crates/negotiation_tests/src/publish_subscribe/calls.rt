@@ -74,37 +74,29 @@ fn a_service_is_created_as_it_is_asked_for(rt: HostRuntime) {
     }
 }
 
-/// What is asked of a create, and what its messages are made of.
-const MESSAGES: &[(Asks, [Told<'static>; 3])] = &[
+/// What is asked of a create, and the user header and the payload of its messages.
+const MESSAGES: &[(Asks, Told<'static>, Told<'static>)] = &[
     (
         &[],
-        [
-            HEADER,
-            (TypeVariant::FixedSize, "CustomHeaderMarker", 0, 1),
-            (TypeVariant::Dynamic, "CustomPayloadMarker", 1, 1),
-        ],
+        (TypeVariant::FixedSize, "CustomHeaderMarker", 0, 1),
+        (TypeVariant::Dynamic, "CustomPayloadMarker", 1, 1),
     ),
     // a payload and its alignment, in either order
     (
         &[Payload(IMAGE), Alignment(64)],
-        [
-            HEADER,
-            (TypeVariant::FixedSize, "CustomHeaderMarker", 0, 1),
-            (TypeVariant::FixedSize, "Img", 24, 64),
-        ],
+        (TypeVariant::FixedSize, "CustomHeaderMarker", 0, 1),
+        (TypeVariant::FixedSize, "Img", 24, 64),
     ),
     (
         &[Alignment(64), Payload(IMAGE)],
-        [
-            HEADER,
-            (TypeVariant::FixedSize, "CustomHeaderMarker", 0, 1),
-            (TypeVariant::FixedSize, "Img", 24, 64),
-        ],
+        (TypeVariant::FixedSize, "CustomHeaderMarker", 0, 1),
+        (TypeVariant::FixedSize, "Img", 24, 64),
     ),
     // beside another user header
     (
         &[Alignment(64), UserHeader(U32), Payload(SLICE)],
-        [HEADER, U32, (TypeVariant::Dynamic, "i64", 8, 64)],
+        U32,
+        (TypeVariant::Dynamic, "i64", 8, 64),
     ),
 ];
 
@@ -121,8 +113,8 @@ fn has_messages(rt: &impl Abort, alloc: Global, asks: &[Ask], wanted: [Told<'sta
 
 #[test]
 fn an_overridden_payload_keeps_its_variant_its_name_and_its_size(rt: HostRuntime) {
-    for &(asks, wanted) in MESSAGES {
-        let found = has_messages(&rt, rt.alloc(), asks, wanted);
+    for &(asks, user_header, payload) in MESSAGES {
+        let found = has_messages(&rt, rt.alloc(), asks, [HEADER, user_header, payload]);
         assert_same(&rt, (asks, found), (asks, true));
     }
 }
