@@ -11,7 +11,7 @@ use Rattle.iceoryx2_rounds.specs.Creates.{IsCreateWord, description_of}
 use Rattle.iceoryx2_rounds.specs.Opens.{IsOpenWord}
 use Rattle.iceoryx2_rounds.specs.Prepared.{IsPrepared}
 use Rattle.iceoryx2_words.specs.Counts.{IsWithin}
-use Rattle.iceoryx2_open_or_create.specs.Adjusting.{Accepts}
+use Rattle.iceoryx2_open_or_create.specs.Adjusting.{Accepts, OnlyRaises}
 use Rattle.iceoryx2_open_or_create.specs.declared.open_or_create.OpenOrCreateRefusal.{OpenOrCreateRefusal}
 use Rattle.iceoryx2_open_or_create.specs.declared.open_or_create.OpenOrCreateRefusal.TheVariants as refusal
 use Rattle.iceoryx2_calls.specs.Attempts.{Attempt, IsAttemptWord}
@@ -72,10 +72,11 @@ module _ {D F E C : Type 0} (c : AnyCall D F E C) where
   abbrev pub Holds : Description → Type 0
   Holds d = d ≡ description_of creating c.asks.hash c.asks.name c.asks.now
 
+  -- Of an open or create it is one of both if its create only raises minima, as each builder's does.
   abbrev pub MayCarryBy : Way → Description → Type 0
   MayCarryBy ToCreate d = Holds d
   MayCarryBy ToOpen d = Meets d
-  MayCarryBy ToOpenOrCreate d = Meets d ⊎ Holds d
+  MayCarryBy ToOpenOrCreate d = OnlyRaises c.asks.meaning c.asks.adjusted → Meets d ⊎ Holds d
 
 -- How many looks, openings, makings and removals of a segment a call has at most.
 abbrev pub IsShortBy : Way → List Letter → Type 0

@@ -22,7 +22,6 @@ ghost use Rattle.iceoryx2_port_factory.specs.Closes.{IsCloseWord};
 ghost use Rattle.iceoryx2_rounds.specs.Creates.{time_of};
 ghost use Rattle.iceoryx2_rounds.specs.Prepared.{IsCreateCall};
 ghost use Rattle.iceoryx2_pattern.specs.Meaning.{Meaning};
-ghost use Rattle.iceoryx2_open_or_create.specs.Adjusting.{OnlyRaises};
 ghost use Rattle.iceoryx2_calls.specs.CallLeaves.{LeavesBy};
 ghost use Rattle.iceoryx2_calls.specs.AnyCalls.{AnyCall, ErrorBy, IsWordOf};
 ghost use Rattle.iceoryx2_calls.specs.Headline.{IsAsPromised, IsOpenAsAsked, IsOpenSince};
@@ -60,14 +59,12 @@ pub fn agreement_under_faults<D, F: Copy, E: Copy, C: Copy>()
     // `max_nodes`.
     ensures every_open_factory_stands { (c : AnyCall D F E C) (word : List Letter)
         (answer : Result Factory (ErrorBy E C c.way)) (s t : FaultyState TableState)
-        → OnlyRaises c.asks.meaning c.asks.adjusted
         → IsWordOf c word answer → Run (IsFaultyAccess IsTableAccess) s word t → Agrees s.inner.world
         → IsAsPromised (IsFaultyAccess IsTableAccess) (λ u. u.inner.world) c s word answer t }
 
     // The same by history: at any state that such a table comes to after some call answered Ok with a factory, and
     // before the release of its ticket, this factory is open, with what that call asked.
     ensures open_until_released { (c : AnyCall D F E C) (f : Factory) (s : FaultyState TableState)
-        → OnlyRaises c.asks.meaning c.asks.adjusted
         → IsOpenSince (IsFaultyAccess IsTableAccess) (λ u. u.inner.world) c f s
         → IsOpenAsAsked c s.inner.world f }
 

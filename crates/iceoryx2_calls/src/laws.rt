@@ -15,7 +15,6 @@ ghost use Rattle.iceoryx2_errors.specs.declared.error.CloseError.{CloseError};
 ghost use Rattle.iceoryx2_errors.specs.declared.error.CloseError.TheVariants.{NotHere};
 ghost use Rattle.iceoryx2_port_factory.specs.Closes.{IsCloseWord};
 ghost use Rattle.iceoryx2_words.specs.Counts.{IsWithin};
-ghost use Rattle.iceoryx2_open_or_create.specs.Adjusting.{OnlyRaises};
 ghost use Rattle.iceoryx2_calls.specs.CallLeaves.{LeavesBy};
 ghost use Rattle.iceoryx2_calls.specs.AnyCalls.{AnyCall, ErrorBy, IsShortBy, IsWordOf};
 ghost use Rattle.iceoryx2_calls.specs.Headline.{IsAsPromised, IsOpenAsAsked, IsOpenSince};
@@ -61,14 +60,18 @@ pub fn agreement<D, F: Copy, E: Copy, C: Copy>()
     // published description of its hash, its segment is there, and its node is among at most `max_nodes`.
     ensures every_open_factory_stands { (c : AnyCall D F E C) (word : List Letter)
         (answer : Result Factory (ErrorBy E C c.way)) (s t : TableState)
-        → OnlyRaises c.asks.meaning c.asks.adjusted
         → IsWordOf c word answer → Run IsTableAccess s word t → Agrees s.world
         → IsAsPromised IsTableAccess (λ u. u.world) c s word answer t }
+
+    // So it is over any world that agrees, and whichever accesses are refused by a fault.
+    ensures in_any_world { (c : AnyCall D F E C) (word : List Letter)
+        (answer : Result Factory (ErrorBy E C c.way)) (w v : World)
+        → IsWordOf c word answer → Run IsFaulty w word v → Agrees w
+        → IsAsPromised IsFaulty (λ u. u) c w word answer v }
 
     // The same by history: at any state that a table comes to after some call answered Ok with a factory, and before
     // the release of its ticket, this factory is open, with what that call asked.
     ensures open_until_released { (c : AnyCall D F E C) (f : Factory) (s : TableState)
-        → OnlyRaises c.asks.meaning c.asks.adjusted
         → IsOpenSince IsTableAccess (λ u. u.world) c f s → IsOpenAsAsked c s.world f }
 
     // Every call is short over every storage: its word alone tells so. Where no refusal of an open is tried

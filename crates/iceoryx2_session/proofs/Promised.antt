@@ -56,7 +56,8 @@ promised b h s t answer own raises granted word run is = record {
   word = word;
   is_word = is;
   run = run;
-  promised = λ agrees. as_promised IsTableAccess (λ u. u.world) of_table (any_call b h) word own raises is run agrees;
+  only_raises = raises;
+  promised = λ agrees. as_promised IsTableAccess (λ u. u.world) of_table (any_call b h) word own is run agrees;
 }
 
 event_promised : (b : EventRequest) (attributes : Requirements) (now : Result Span ClockFault) (h : How) (answer : Result Factory Refusal) (s t : TableState) → Builds (event_call b attributes now) h s answer t → IsPromised (event_call b attributes now) h s answer t

@@ -5,6 +5,7 @@ use Rattle.iceoryx2_access.specs.Letter.{Letter}
 use Rattle.iceoryx2_access.specs.Run.{Run}
 use Rattle.iceoryx2_world.specs.Across.{Agrees}
 use Rattle.iceoryx2_batches.specs.Tables.{TableState, IsTableAccess}
+use Rattle.iceoryx2_open_or_create.specs.Adjusting.{OnlyRaises}
 use Rattle.iceoryx2_calls.specs.AnyCalls.{AnyCall, ErrorBy, Way, ToCreate, ToOpen, ToOpenOrCreate, IsWordOf}
 use Rattle.iceoryx2_calls.specs.Headline.{IsAsPromised}
 use Rattle.iceoryx2_commands.specs.declared.command.How.{How}
@@ -26,8 +27,8 @@ way_of how.OpenOrCreate = ToOpenOrCreate
 abbrev pub any_call : (b : BuilderCall) → How → AnyCall b.asks b.fault b.open_error b.create_error
 any_call b h = record { way = way_of h; asks = b.attempt; prepares = b.prepares }
 
--- A builder call over a table goes along a word of it, and is as every call is. Where it answers Ok it is with that
--- factory.
+-- A builder call over a table goes along a word of it, and is as every call is; its create only raises minima. Where
+-- it answers Ok it is with that factory.
 pub record IsPromised (b : BuilderCall) (h : How) (s : TableState) (answer : Result Factory Refusal) (t : TableState)
     : Type 0 where
   pub own : Result Factory (ErrorBy b.open_error b.create_error (way_of h))
@@ -35,6 +36,7 @@ pub record IsPromised (b : BuilderCall) (h : How) (s : TableState) (answer : Res
   pub word : List Letter
   pub is_word : IsWordOf (any_call b h) word own
   pub run : Run IsTableAccess s word t
+  pub only_raises : OnlyRaises b.attempt.meaning b.attempt.adjusted
   pub promised : Agrees s.world → IsAsPromised IsTableAccess (λ u. u.world) (any_call b h) s word own t
 
 -- So is the call of a free slot.

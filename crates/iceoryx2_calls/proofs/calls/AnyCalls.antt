@@ -15,7 +15,8 @@ use Rattle.iceoryx2_rounds.specs.Prepared.{IsPrepared, prepared, IsCreateCall, I
 use Rattle.iceoryx2_rounds.proofs.Prepared.{granted_call}
 use Rattle.iceoryx2_words.specs.Counts.{IsWithin}
 use Rattle.iceoryx2_words.proofs.Counts.{create_call_within, open_call_within, within_more}
-use Rattle.iceoryx2_open_or_create.specs.Adjusting.{OnlyRaises, MeetsOrHolds, meets, holds}
+use Rattle.iceoryx2_open_or_create.specs.Adjusting.{MeetsOrHolds, meets, holds}
+use Rattle.iceoryx2_open_or_create.specs.Grants.{Carries, accepted, published}
 use Rattle.iceoryx2_open_or_create.specs.declared.open_or_create.OpenOrCreateRefusal.{OpenOrCreateRefusal}
 use Rattle.iceoryx2_open_or_create.proofs.Adjusting.{carries_once}
 use Rattle.iceoryx2_open_or_create.proofs.Counts.{open_or_create_call_within, open_or_create_call_within_fewer}
@@ -86,18 +87,21 @@ module _ {D F E C : Type 0} (c : AnyCall D F E C) where
     ticket = o.new_ticket;
   }
 
-  carried : {d : Description} → MeetsOrHolds c.asks.meaning c.asks.adjusted c.asks.required c.asks.hash c.asks.name c.asks.now c.asks.asked d → (d.hash ≡ c.asks.hash) × MayCarryBy c ToOpenOrCreate d
-  carried (meets same accepts) = (same, inl (record { hash = same; accepted = accepts }))
-  carried holds = (refl, inr refl)
+  carries_hash : {d : Description} → Carries c.asks.meaning c.asks.adjusted c.asks.required c.asks.hash c.asks.name c.asks.now c.asks.asked d → d.hash ≡ c.asks.hash
+  carries_hash (accepted is same fits met) = same
+  carries_hash (published is) = refl
 
-  given_either : {w v : World} → OnlyRaises c.asks.meaning c.asks.adjusted → (word : List Letter) (answer : Result Factory (OpenOrCreateRefusal E C)) → IsAttempted c.asks word answer → Run IsFaulty w word v → Agrees w → IfOk answer (Given ToOpenOrCreate w v)
-  given_either raises word (Err e) is run old = tt
-  given_either raises word (Ok r) is run old =
+  carried : {d : Description} → MeetsOrHolds c.asks.meaning c.asks.adjusted c.asks.required c.asks.hash c.asks.name c.asks.now c.asks.asked d → Meets c d ⊎ Holds c d
+  carried (meets same accepts) = inl (record { hash = same; accepted = accepts })
+  carried holds = inr refl
+
+  given_either : {w v : World} (word : List Letter) (answer : Result Factory (OpenOrCreateRefusal E C)) → IsAttempted c.asks word answer → Run IsFaulty w word v → Agrees w → IfOk answer (Given ToOpenOrCreate w v)
+  given_either word (Err e) is run old = tt
+  given_either word (Ok r) is run old =
       let o = open_or_create_stands (granted_call is) run old in
       let carries = granted_carries (granted_call is) in
-      let once = carried (carries_once raises carries.1) in
-      record { stands = o.0; node = carries.0; hash = once.0; carries = once.1; ticket = o.1 }
+      record { stands = o.0; node = carries.0; hash = carries_hash carries.1; carries = λ raises. carried (carries_once raises carries.1); ticket = o.1 }
 
-  pub any_given : (w v : World) (word : List Letter) (answer : Result Factory (ErrorBy E C c.way)) → OnlyRaises c.asks.meaning c.asks.adjusted → IsWordOf c word answer → Run IsFaulty w word v → Agrees w → IfOk answer (Given c.way w v)
-  any_given w v word answer raises is = each_word (λ way word answer. Run IsFaulty w word v → Agrees w → IfOk answer (Given way w v))
-      given_create given_open (given_either raises) c.way word answer is
+  pub any_given : (w v : World) (word : List Letter) (answer : Result Factory (ErrorBy E C c.way)) → IsWordOf c word answer → Run IsFaulty w word v → Agrees w → IfOk answer (Given c.way w v)
+  any_given w v word answer is = each_word (λ way word answer. Run IsFaulty w word v → Agrees w → IfOk answer (Given way w v))
+      given_create given_open given_either c.way word answer is

@@ -17,7 +17,6 @@ use Rattle.iceoryx2_world.specs.Faulty.{IsFaulty}
 use Rattle.iceoryx2_world.specs.Standing.{Spares, Stands}
 use Rattle.iceoryx2_world.proofs.agreement.Accesses.{faulty_keeps, run_keeps}
 use Rattle.iceoryx2_world.proofs.agreement.Stands.{faulty_stands, older_ticket}
-use Rattle.iceoryx2_open_or_create.specs.Adjusting.{OnlyRaises}
 use Rattle.iceoryx2_calls.specs.Calls.{Throughout}
 use Rattle.iceoryx2_calls.specs.AnyCalls.{AnyCall, ErrorBy, IsWordOf, MayCarryBy}
 use Rattle.iceoryx2_calls.specs.Headline.{IsOpen, IsOpenAsAsked, IsOpenSince, IsGiven, IsAsPromised, answered, spared}
@@ -52,15 +51,15 @@ module _ {S : Type 0} (step : S → Letter → S → Type 0) (world : S → Worl
       stays_open = λ more spares. along (λ u. IsOpen u r) t more (open_throughout (world t) more r spares new g.stands);
     }
 
-    pub as_promised : {s t : S} (word : List Letter) (answer : Result Factory (ErrorBy E C c.way)) → OnlyRaises c.asks.meaning c.asks.adjusted → IsWordOf c word answer → Run step s word t → Agrees (world s) → IsAsPromised step world c s word answer t
-    as_promised {s} {t} word answer raises is run old =
+    pub as_promised : {s t : S} (word : List Letter) (answer : Result Factory (ErrorBy E C c.way)) → IsWordOf c word answer → Run step s word t → Agrees (world s) → IsAsPromised step world c s word answer t
+    as_promised {s} {t} word answer is run old =
         let worlds : Run IsFaulty (world s) word (world t) = run_map world of_world run in
         let new = (run_keeps worlds old).0 in
         record {
           counts = any_short c word answer is;
           fewer = λ never. any_shorter c never word answer is;
           stay_open = λ f stood. along (λ u. IsOpen u f) s word (open_throughout (world s) word f (all_spared f word (any_letters c word answer is)) old stood);
-          given = gives s t answer old new (any_given c (world s) (world t) word answer raises is worlds old);
+          given = gives s t answer old new (any_given c (world s) (world t) word answer is worlds old);
           agrees = new;
         }
 
@@ -73,13 +72,13 @@ module _ {S : Type 0} (step : S → Letter → S → Type 0) (world : S → Worl
     pub hash : f.description.hash ≡ c.asks.hash
     pub carries : MayCarryBy c c.way f.description
 
-  still_open : {f : Factory} {s : S} → OnlyRaises c.asks.meaning c.asks.adjusted → IsOpenSince step world c f s → StillOpen f s
-  still_open {f} raises (answered {word = word} {s = s} {t = t} old is run) =
+  still_open : {f : Factory} {s : S} → IsOpenSince step world c f s → StillOpen f s
+  still_open {f} (answered {word = word} {s = s} {t = t} old is run) =
       let worlds : Run IsFaulty (world s) word (world t) = run_map world of_world run in
-      let g = any_given c (world s) (world t) word (Ok f) raises is worlds old in
+      let g = any_given c (world s) (world t) word (Ok f) is worlds old in
       record { agrees = (run_keeps worlds old).0; stands = g.stands; node = g.node; hash = g.hash; carries = g.carries }
-  still_open {f} raises (spared {letter = l} {s = s} {t = t} before spares a) =
-      let o = still_open raises before in
+  still_open {f} (spared {letter = l} {s = s} {t = t} before spares a) =
+      let o = still_open before in
       record {
         agrees = (faulty_keeps (world s) l (world t) (of_world s t l a) o.agrees).0;
         stands = faulty_stands (world s) l (world t) f (of_world s t l a) spares o.agrees o.stands;
@@ -88,8 +87,8 @@ module _ {S : Type 0} (step : S → Letter → S → Type 0) (world : S → Worl
         carries = o.carries;
       }
 
-  pub open_as_asked : {f : Factory} {s : S} → OnlyRaises c.asks.meaning c.asks.adjusted → IsOpenSince step world c f s → IsOpenAsAsked c (world s) f
-  open_as_asked {f} {s} raises is = let o = still_open raises is in record { is_open = is_open (world s) f o.agrees o.stands; node = o.node; hash = o.hash; carries = o.carries }
+  pub open_as_asked : {f : Factory} {s : S} → IsOpenSince step world c f s → IsOpenAsAsked c (world s) f
+  open_as_asked {f} {s} is = let o = still_open is in record { is_open = is_open (world s) f o.agrees o.stands; node = o.node; hash = o.hash; carries = o.carries }
 
 -- a table's accesses, and those of a faulty storage with a table inside
 pub of_table : (s t : TableState) (l : Letter) → IsTableAccess s l t → IsFaulty s.world l t.world

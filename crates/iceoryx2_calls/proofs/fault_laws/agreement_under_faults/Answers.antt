@@ -36,10 +36,10 @@ pub returns-clause-over_no_row : goal.returns-clause-over_no_row
 returns-clause-over_no_row g c = λ m node hash name now word answer w v room old gone is run. create_call_over_no_row name now room old gone is run
 
 pub returns-clause-every_open_factory_stands : goal.returns-clause-every_open_factory_stands
-returns-clause-every_open_factory_stands g c = λ call word answer s t raises is run old. as_promised (IsFaultyAccess IsTableAccess) (λ u. u.inner.world) of_faulty_table call word answer raises is run old
+returns-clause-every_open_factory_stands g c = λ call word answer s t is run old. as_promised (IsFaultyAccess IsTableAccess) (λ u. u.inner.world) of_faulty_table call word answer is run old
 
 pub returns-clause-leaves : goal.returns-clause-leaves
 returns-clause-leaves g c = λ call word refusal w v is run old. any_leaves call w v old word (Err refusal) is run
 
 pub returns-clause-open_until_released : goal.returns-clause-open_until_released
-returns-clause-open_until_released g c = λ call f s raises is. open_as_asked (IsFaultyAccess IsTableAccess) (λ u. u.inner.world) of_faulty_table call raises is
+returns-clause-open_until_released g c = λ call f s is. open_as_asked (IsFaultyAccess IsTableAccess) (λ u. u.inner.world) of_faulty_table call is

@@ -7,6 +7,7 @@ use Rattle.iceoryx2_calls.proofs.calls.Left.{gives_back}
 use Rattle.iceoryx2_batches.proofs.Waiting.{table_run}
 use Rattle.iceoryx2_calls.proofs.calls.Headline.{open_as_asked, as_promised, of_table}
 use Rattle.iceoryx2_batches.specs.Tables.{IsTableAccess}
+use Rattle.iceoryx2_world.specs.Faulty.{IsFaulty}
 use Rattle.iceoryx2_calls.proofs.calls.AnyCalls.{any_short, any_shorter}
 use Rattle.iceoryx2_calls.proofs.calls.AnyLeft.{any_tickets, any_refused, any_granted, any_leaves, any_gives_back}
 use Rattle.std.specs.Prelude.{Ok, Err}
@@ -43,7 +44,10 @@ pub returns-clause-close_is_short : goal.returns-clause-close_is_short
 returns-clause-close_is_short g c = λ r word answer is. close_within is
 
 pub returns-clause-every_open_factory_stands : goal.returns-clause-every_open_factory_stands
-returns-clause-every_open_factory_stands g c = λ call word answer s t raises is run old. as_promised IsTableAccess (λ u. u.world) of_table call word answer raises is run old
+returns-clause-every_open_factory_stands g c = λ call word answer s t is run old. as_promised IsTableAccess (λ u. u.world) of_table call word answer is run old
+
+pub returns-clause-in_any_world : goal.returns-clause-in_any_world
+returns-clause-in_any_world g c = λ call word answer w v is run old. as_promised IsFaulty (λ u. u) (λ s t l a. a) call word answer is run old
 
 pub returns-clause-tickets : goal.returns-clause-tickets
 returns-clause-tickets g c = λ call word answer w v is run. any_tickets call w v word answer is run
@@ -61,7 +65,7 @@ pub returns-clause-gives_back : goal.returns-clause-gives_back
 returns-clause-gives_back g c = λ call word refusal w v is run old. any_gives_back call w v old word (Err refusal) is run
 
 pub returns-clause-open_until_released : goal.returns-clause-open_until_released
-returns-clause-open_until_released g c = λ call f s raises is. open_as_asked IsTableAccess (λ u. u.world) of_table call raises is
+returns-clause-open_until_released g c = λ call f s is. open_as_asked IsTableAccess (λ u. u.world) of_table call is
 
 pub returns-clause-is_short : goal.returns-clause-is_short
 returns-clause-is_short g c = λ call word answer is. any_short call word answer is
