@@ -29,6 +29,9 @@ ghost use Rattle.iceoryx2_rounds.specs.Opens.{IsOpenWord};
 ghost use Rattle.iceoryx2_rounds.specs.OwnSettings.{AcceptsOwn};
 ghost use Rattle.iceoryx2_rounds.specs.Prepared.{IsCreateCall, IsOpenCall};
 ghost use Rattle.iceoryx2_port_factory.specs.Closes.{IsCloseWord};
+ghost use Rattle.iceoryx2_open_or_create.specs.Adjusting.{OnlyRaises};
+ghost use Rattle.iceoryx2_calls.specs.AnyCalls.{AnyCall, creating, opening};
+ghost use Rattle.iceoryx2_calls.specs.Headline.{IsOpenAsAsked};
 ghost use Rattle.iceoryx2_calls.specs.Quiet.{Quiet, QuietService, Shows, no_service, service_at, times_counted};
 ghost use Rattle.iceoryx2_calls.specs.QuietCalls.{Creates, Opens, Closes, HasPlace, HasNumber};
 ghost use Rattle.iceoryx2_calls.specs.QuietPrepared.{CreatesPrepared, OpensPrepared};
@@ -166,16 +169,15 @@ pub fn quiet_calls<D, F: Copy, E: Copy, C: Copy>()
         → OpensPrepared m q node hash answer p
         → IfErr answer (λ e. e ≡ m.open_refusal OutOfMemory) }
 
-    // What a builder has created the same builder opens, if it accepts what it creates, whichever node calls:
-    // while the created factory stands, whatever came between, with a place and a number left, its open is Ok
-    // or out of memory.
-    ensures own_settings { (creating opening : Meaning F E C) (hash : ServiceHash) (name : List ℕ)
-        (now : Result Span ClockFault) (creator node : ℕ) (q p u z : Quiet) (f : Factory) (w : World)
+    // What a call of a builder has given the same builder opens, whichever node calls, if it accepts what it
+    // creates and its create only raises minima: while the factory is open, whatever came between, with a place
+    // and a number left, the open is Ok or out of memory.
+    ensures own_settings { (c : AnyCall D F E C) (node : ℕ) (q p : Quiet) (f : Factory) (w : World)
         (answer : Result Factory E)
-        → AcceptsOwn creating opening hash name now
-        → CreatesPrepared creating q creator hash name now (Ok f) p
-        → Shows w u → Stands w f
-        → ((x : QuietService) → service_at u hash ≡ Some x → HasPlace x node) → HasNumber u
-        → OpensPrepared opening u node hash answer z
-        → IfErr answer (λ e. e ≡ opening.open_refusal OutOfMemory) }
+        → AcceptsOwn (creating c) (opening c) c.asks.hash c.asks.name c.asks.now
+        → OnlyRaises c.asks.meaning c.asks.adjusted
+        → IsOpenAsAsked c w f → Shows w q
+        → ((x : QuietService) → service_at q c.asks.hash ≡ Some x → HasPlace x node) → HasNumber q
+        → OpensPrepared (opening c) q node c.asks.hash answer p
+        → IfErr answer (λ e. e ≡ (opening c).open_refusal OutOfMemory) }
 {}

@@ -1,48 +1,47 @@
--- A builder that accepts what it creates opens the services that it has created.
-use Rattle.std.proofs.Common.{◌≡◌, ℕ, List, Some, Result, Ok, refl, sym, ap, ◌∙◌}
-use Rattle.std.specs.Prelude.{IfOk, IfErr}
-use Rattle.iceoryx2_values.specs.declared.description.ServiceHash.{ServiceHash}
-use Rattle.iceoryx2_values.specs.declared.time.ClockFault.{ClockFault}
-use Rattle.iceoryx2_values.specs.Span.{Span}
+-- A builder that accepts what it creates opens what its calls have given.
+use Rattle.std.proofs.Common.{◌≡◌, ℕ, Some, Result, Ok, ◌⊎◌, inl, inr, refl, sym, ap, ◌∙◌}
+use Rattle.std.specs.Prelude.{None, IfErr}
+use Rattle.iceoryx2_values.specs.Description.{Description}
 use Rattle.iceoryx2_access.specs.Factory.{Factory}
 use Rattle.iceoryx2_pattern.specs.declared.pattern.OpenRefusal.TheVariants as refusal
-use Rattle.iceoryx2_pattern.specs.Meaning.{Meaning}
-use Rattle.iceoryx2_rounds.specs.Creates.{description_of}
 use Rattle.iceoryx2_pattern.specs.Verdict.{verdict}
 use Rattle.iceoryx2_rounds.specs.OwnSettings.{AcceptsOwn}
+use Rattle.iceoryx2_open_or_create.specs.Adjusting.{Accepts, OnlyRaises}
 use Rattle.iceoryx2_world.specs.World.{World}
-use Rattle.iceoryx2_world.specs.Standing.{Stands}
+use Rattle.iceoryx2_calls.specs.AnyCalls.{AnyCall, Way, ToCreate, ToOpen, ToOpenOrCreate, creating, opening, Meets, Holds, MayCarryBy}
+use Rattle.iceoryx2_calls.specs.Headline.{IsOpenAsAsked}
 use Rattle.iceoryx2_calls.specs.Quiet.{QuietService, Quiet, Shows, service_at}
-use Rattle.iceoryx2_calls.specs.QuietCalls.{Creates, Opens, HasPlace, HasNumber}
-use Rattle.iceoryx2_calls.specs.QuietCalls as call
+use Rattle.iceoryx2_calls.specs.QuietCalls.{Opens, HasPlace, HasNumber}
 use Rattle.iceoryx2_calls.proofs.quiet.After.{accepted}
 use Rattle.iceoryx2_calls.proofs.quiet.Tickets.{service_of}
 
-module _ {F E C : Type 0} (creating opening : Meaning F E C) (hash : ServiceHash) (name : List ℕ) (now : Result Span ClockFault) where
-  -- what a create has given carries what it published
-  carries : (q : Quiet) (node : ℕ) (r : Result Factory C) (p : Quiet) → Creates creating q node hash name now r p
-      → IfOk r (λ f. f.description ≡ description_of creating hash name now)
-  carries q node r p (call.created fits gone runs room) = refl
-  carries q node r p (call.forbidden bad) = tt
-  carries q node r p (call.exists x fits there) = tt
-  carries q node r p (call.no_time fits gone stops) = tt
-  carries q node r p (call.no_number fits gone runs end) = tt
-  carries q node r p (call.no_memory fits) = tt
-  carries q node r p (call.no_memory_locked fits gone runs room) = tt
+module _ {D F E C : Type 0} (c : AnyCall D F E C) (own : AcceptsOwn (creating c) (opening c) c.asks.hash c.asks.name c.asks.now) (raises : OnlyRaises c.asks.meaning c.asks.adjusted) where
+  -- what it publishes it accepts
+  holds_accepted : (d : Description) → Holds c d → Accepts (opening c) d
+  holds_accepted d is = record {
+    fits = ap (λ d. (opening c).misfit d) is ∙ own.fits;
+    meets = ap (λ d. verdict ((opening c).requirement d)) is ∙ own.accepted;
+  }
 
-  -- so it is the description of the service's hash
-  under_hash : (q : Quiet) (node : ℕ) (f : Factory) (p : Quiet) → Creates creating q node hash name now (Ok f) p → f.description.hash ≡ hash
-  under_hash q node f p (call.created fits gone runs room) = refl
+  either_accepted : (d : Description) → Meets c d ⊎ Holds c d → Accepts (opening c) d
+  either_accepted d (inl meets) = meets.accepted
+  either_accepted d (inr holds) = holds_accepted d holds
 
-  pub opens_own : AcceptsOwn creating opening hash name now → (creator node : ℕ) (q p u z : Quiet) (f : Factory) (w : World) (answer : Result Factory E)
-      → Creates creating q creator hash name now (Ok f) p → Shows w u → Stands w f
-      → ((x : QuietService) → service_at u hash ≡ Some x → HasPlace x node) → HasNumber u → Opens opening u node hash answer z
-      → IfErr answer (λ e. e ≡ opening.open_refusal refusal.OutOfMemory)
-  opens_own own creator node q p u z f w answer made s stands place room opened =
-      let has = service_of w u f s stands in
-      let there : service_at u hash ≡ Some has.service = ap (λ h. service_at u h) (sym (under_hash q creator f p made)) ∙ has.there in
-      let is : has.service.description ≡ description_of creating hash name now = has.description ∙ carries q creator (Ok f) p made in
-      accepted opening node hash u z has.service answer there
-      (ap (λ d. opening.misfit d) is ∙ own.fits)
-      (ap (λ d. verdict (opening.requirement d)) is ∙ own.accepted)
+  -- and so what any of its calls gives
+  given_accepted : (way : Way) (d : Description) → MayCarryBy c way d → Accepts (opening c) d
+  given_accepted ToCreate d holds = holds_accepted d holds
+  given_accepted ToOpen d meets = meets.accepted
+  given_accepted ToOpenOrCreate d carries = either_accepted d (carries raises)
+
+  pub opens_own : (node : ℕ) (q p : Quiet) (f : Factory) (w : World) (answer : Result Factory E)
+      → IsOpenAsAsked c w f → Shows w q
+      → ((x : QuietService) → service_at q c.asks.hash ≡ Some x → HasPlace x node) → HasNumber q → Opens (opening c) q node c.asks.hash answer p
+      → IfErr answer (λ e. e ≡ (opening c).open_refusal refusal.OutOfMemory)
+  opens_own node q p f w answer is s place room opened =
+      let has = service_of w q f s is.is_open.stands in
+      let there : service_at q c.asks.hash ≡ Some has.service = ap (λ h. service_at q h) (sym is.hash) ∙ has.there in
+      let taken = given_accepted c.way f.description is.carries in
+      accepted (opening c) node c.asks.hash q p has.service answer there
+      (ap (λ d. (opening c).misfit d) has.description ∙ taken.fits)
+      (ap (λ d. verdict ((opening c).requirement d)) has.description ∙ taken.meets)
       (place has.service there) room opened

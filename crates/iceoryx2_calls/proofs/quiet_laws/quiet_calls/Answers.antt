@@ -5,6 +5,7 @@ use Rattle.iceoryx2_calls.proofs.quiet.Prepared.{prepared_follows, each_prepared
 use Rattle.iceoryx2_calls.proofs.quiet.Calls.{create_follows, open_follows}
 use Rattle.iceoryx2_calls.proofs.quiet.Attempts.{attempt_follows, attempt_call_follows, refused_attempt}
 use Rattle.iceoryx2_calls.proofs.quiet.After.{refused_create, refused_open, create_and_close, opened_again, accepted}
+use Rattle.iceoryx2_calls.specs.AnyCalls.{opening}
 use Rattle.iceoryx2_calls.proofs.quiet.Own.{opens_own}
 use Rattle.iceoryx2_calls.proofs.quiet_laws.quiet_calls.Goals as goal
 
@@ -39,9 +40,9 @@ returns-clause-accepted g c = λ m node hash q p x answer there good fits place 
     each_prepared (λ answer p. IfErr answer (λ e. e ≡ m.open_refusal refusal.OutOfMemory)) refl (λ answer p is. accepted m node hash q p x answer there good fits place room is) call
 
 pub returns-clause-own_settings : goal.returns-clause-own_settings
-returns-clause-own_settings g c = λ creating opening hash name now creator node q p u z f w answer own made s stands place room opened.
-    each_prepared (λ answer z. IfErr answer (λ e. e ≡ opening.open_refusal refusal.OutOfMemory)) refl
-    (λ answer z is. opens_own creating opening hash name now own creator node q p u z f w answer (granted_prepared made) s stands place room is) opened
+returns-clause-own_settings g c = λ call node q p f w answer own raises is s place room opened.
+    each_prepared (λ answer p. IfErr answer (λ e. e ≡ (opening call).open_refusal refusal.OutOfMemory)) refl
+    (λ answer p made. opens_own call own raises node q p f w answer is s place room made) opened
 
 pub returns-clause-open_or_create : goal.returns-clause-open_or_create
 returns-clause-open_or_create g c = λ a w v q word answer steady s old is run. attempt_follows a steady q s old is run
