@@ -1,9 +1,17 @@
 -- A builder of events is a builder like each other one.
-use Rattle.iceoryx2_event_builder.specs.declared.event.demand.EventDemand.{EventDemand}
-use Rattle.std.proofs.Common.{refl}
+use Rattle.std.proofs.Common.{◌≡◌, false, refl}
 use Rattle.iceoryx2_attributes.specs.Requirements.{Requirements}
+use Rattle.iceoryx2_values.specs.Description.{Description}
+use Rattle.iceoryx2_values.specs.declared.description.MessagingPattern.{MessagingPattern}
+use Rattle.iceoryx2_values.specs.declared.description.MessagingPattern.TheVariants as existing
+use Rattle.iceoryx2_errors.specs.declared.error.events.EventOpenError.{EventOpenError}
+use Rattle.iceoryx2_errors.specs.declared.error.events.EventOpenError.TheVariants as opening
+use Rattle.iceoryx2_pattern.specs.OwnAttributes.{attribute_clauses}
+use Rattle.iceoryx2_pattern.specs.Verdict.{at_least, number_is, span_is}
 use Rattle.iceoryx2_open_or_create.specs.EndsAtOnce.{EndsAtOnce}
-use Rattle.iceoryx2_event_builder.specs.Event.{event_creating, event_opening, event_retried}
+use Rattle.iceoryx2_open_or_create.proofs.Ends.{Errs, attributes_err, both_err, rows_err, unmet_ends}
+use Rattle.iceoryx2_event_builder.specs.declared.event.demand.EventDemand.{EventDemand}
+use Rattle.iceoryx2_event_builder.specs.Event.{event_creating, event_opening, event_retried, setting_clauses, setting_rows}
 use Rattle.iceoryx2_event_builder.proofs.Regular.{creating_is_regular, opening_is_regular, event_takes_nodes}
 use Rattle.iceoryx2_event_builder.proofs.OwnSettings.{own_settings}
 use Rattle.iceoryx2_builder_base.specs.Builders.{IsBuilder}
@@ -16,10 +24,26 @@ event_builder demand = record {
   accepts_own = own_settings demand;
 }
 
--- no refusal of its open is tried again, and of its create none that a quiet table gives
+-- ---- what a quiet table refuses is not tried again
+
+abbrev Ends : EventOpenError → Type 0
+Ends error = event_retried.of_open error ≡ false
+
+settings_end : (demand : EventDemand) (pattern : MessagingPattern) → Errs Ends (setting_clauses demand pattern)
+unfolding at_least number_is span_is
+settings_end demand (existing.Event s) =
+    rows_err Ends (setting_rows demand.settings demand.marks s) (refl, (refl, (refl, (refl, (refl, (refl, (refl, (refl, tt))))))))
+settings_end demand (existing.PublishSubscribe s) = tt
+settings_end demand (existing.RequestResponse s) = tt
+
+requirement_ends : (demand : EventDemand) (required : Requirements) (d : Description) → Errs Ends ((event_opening demand required).requirement d)
+requirement_ends demand required d =
+    both_err Ends (attribute_clauses opening.IncompatibleAttributes required d.attributes) (setting_clauses demand d.pattern)
+    (attributes_err Ends opening.IncompatibleAttributes required d.attributes refl) (settings_end demand d.pattern)
+
 pub event_ends_at_once : (demand : EventDemand) (required : Requirements) → EndsAtOnce event_retried (event_creating demand required.pairs) (event_opening demand required)
 event_ends_at_once demand required = record {
-  not_accepted = λ d error e. refl;
+  not_accepted = λ d error e. unmet_ends Ends ((event_opening demand required).requirement d) error (requirement_ends demand required d) e;
   no_place = refl;
   not_opened = refl;
   opened_without_memory = refl;

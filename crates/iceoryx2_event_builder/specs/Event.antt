@@ -1,5 +1,5 @@
 -- What a builder of events asks, and its errors.
-use Rattle.std.specs.Prelude.{Bool, true, false, List, [], ◌∷◌, Option, Some, None, is_some}
+use Rattle.std.specs.Prelude.{List, [], ◌∷◌, Option, Some, None, is_some}
 use Rattle.std.specs.Option.{option_map}
 use Rattle.iceoryx2_attributes.specs.Attributes.{Pair}
 use Rattle.iceoryx2_attributes.specs.Requirements.{Requirements}
@@ -18,13 +18,15 @@ use Rattle.iceoryx2_errors.specs.declared.error.events.EventOpenError.{EventOpen
 use Rattle.iceoryx2_errors.specs.declared.error.events.EventOpenError.TheVariants as opening
 use Rattle.iceoryx2_errors.specs.declared.error.events.EventCreateError.{EventCreateError}
 use Rattle.iceoryx2_errors.specs.declared.error.events.EventCreateError.TheVariants as creating
+use Rattle.iceoryx2_errors.specs.contracts.error.events.EventOpenErrorPartialEq.TheImpl as same_opening
+use Rattle.iceoryx2_errors.specs.contracts.error.events.EventCreateErrorPartialEq.TheImpl as same_creating
 use Rattle.iceoryx2_errors.specs.declared.error.events.EventOpenOrCreateError.{EventOpenOrCreateError}
 use Rattle.iceoryx2_errors.specs.declared.error.events.EventOpenOrCreateError.TheVariants as either
 use Rattle.iceoryx2_pattern.specs.declared.pattern.OpenRefusal.{OpenRefusal}
 use Rattle.iceoryx2_pattern.specs.declared.pattern.OpenRefusal.TheVariants as open_refusal
 use Rattle.iceoryx2_pattern.specs.declared.pattern.CreateRefusal.{CreateRefusal}
 use Rattle.iceoryx2_pattern.specs.declared.pattern.CreateRefusal.TheVariants as create_refusal
-use Rattle.iceoryx2_open_or_create.specs.Retried.{Retried}
+use Rattle.iceoryx2_open_or_create.specs.Retried.{Retried, retried_by}
 use Rattle.iceoryx2_open_or_create.specs.declared.open_or_create.OpenOrCreateRefusal.{OpenOrCreateRefusal}
 use Rattle.iceoryx2_open_or_create.specs.declared.open_or_create.OpenOrCreateRefusal.TheVariants as refusal
 use Rattle.iceoryx2_builder_base.specs.Zeros.{at_least_one}
@@ -122,14 +124,9 @@ event_creating demand given = defining given (event_meaning (event_adjusted dema
 abbrev pub event_opening : EventDemand → Requirements → Meaning ServiceState EventOpenError EventCreateError
 event_opening demand required = requiring required (event_meaning demand)
 
--- An open or create goes on after a create that somebody else was faster than, and after no open.
-abbrev pub is_create_retried : EventCreateError → Bool
-is_create_retried creating.AlreadyExists = true
-is_create_retried creating.IsBeingCreatedByAnotherInstance = true
-is_create_retried _ = false
-
+-- after which errors an open or create goes on
 abbrev pub event_retried : Retried EventOpenError EventCreateError
-event_retried = record { of_open = λ error. false; of_create = is_create_retried }
+event_retried = retried_by same_opening.ghosts.eq same_creating.ghosts.eq open_error_of_refusal create_error_of_refusal
 
 -- what the rounds of an open or create call its error
 abbrev pub event_refusal : EventOpenOrCreateError → OpenOrCreateRefusal EventOpenError EventCreateError

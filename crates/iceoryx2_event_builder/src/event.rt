@@ -1,8 +1,6 @@
 //! The builder of services of events.
 
-ghost use Rattle.std.specs.Prelude.{◌≡◌, ℕ, List, [], Result, Some, None};
-ghost use Rattle.iceoryx2_access.specs.Factory.{Factory};
-ghost use Rattle.iceoryx2_access.specs.Letter.{Letter};
+ghost use Rattle.std.specs.Prelude.{◌≡◌, [], Some, None};
 ghost use Rattle.iceoryx2_access.specs.Run.{Joins};
 ghost use Rattle.iceoryx2_open_or_create.specs.EndsAtOnce.{EndsAtOnce};
 ghost use Rattle.iceoryx2_open_or_create.specs.OpenOrCreates.{IsOpenOrCreateWord};
@@ -10,13 +8,6 @@ ghost use Rattle.iceoryx2_rounds.specs.Answers.{map_err};
 ghost use Rattle.iceoryx2_rounds.specs.Creates.{IsCreateWord};
 ghost use Rattle.iceoryx2_rounds.specs.Opens.{IsOpenWord};
 ghost use Rattle.iceoryx2_attributes.specs.Requirements.{Requirements, no_requirements};
-ghost use Rattle.iceoryx2_errors.specs.declared.error.events.EventOpenError.{EventOpenError};
-ghost use Rattle.iceoryx2_errors.specs.declared.error.events.EventCreateError.{EventCreateError};
-ghost use Rattle.iceoryx2_values.specs.Span.{Span};
-ghost use Rattle.iceoryx2_values.specs.declared.description.ServiceHash.{ServiceHash};
-ghost use Rattle.iceoryx2_values.specs.declared.time.ClockFault.{ClockFault};
-ghost use Rattle.iceoryx2_words.specs.Counts.{IsWithin};
-ghost use Rattle.iceoryx2_open_or_create.specs.declared.open_or_create.OpenOrCreateRefusal.{OpenOrCreateRefusal};
 ghost use Rattle.iceoryx2_event_builder.specs.Event.{event_adjusted, event_creating, event_meaning, event_opening};
 ghost use Rattle.iceoryx2_event_builder.specs.Event.{event_refusal, event_retried};
 ghost use Rattle.iceoryx2_builder_base.specs.Builders.{IsBuilder};
@@ -64,16 +55,6 @@ pub fn laws()
 pub fn ends_at_once()
     ensures { (demand : EventDemand) (required : Requirements) → EndsAtOnce event_retried
         (event_creating demand required.pairs) (event_opening demand required) }
-{}
-
-/// An open or create of events looks at most 23 times and opens at most six times, since it goes on
-/// after no open.
-pub fn open_or_create_is_short()
-    ensures { (required : Requirements) (node : ℕ) (hash : ServiceHash) (name : List ℕ)
-        (now : Result Span ClockFault) (demand : EventDemand) (word : List Letter)
-        (answer : Result Factory (OpenOrCreateRefusal EventOpenError EventCreateError))
-        → IsOpenOrCreateWord event_meaning event_adjusted event_retried required node hash name now demand word answer
-        → IsWithin word 23 6 36 36 }
 {}
 
 /// A builder of a service of events.
@@ -318,11 +299,12 @@ impl<S: Service> Builder<S> {
     /// Opens the service as `open_with_attributes` does, or, where there is none, creates it as
     /// `create_with_attributes` does, with the required pairs. Required keys are not created.
     ///
-    /// Where a create is refused with `AlreadyExists` or `IsBeingCreatedByAnotherInstance`, there is
-    /// another round, in which zeros that the create raised stay raised; after six such rounds it is
-    /// refused with `SystemInFlux`. Else it is refused with an `EventOpenError` where a look finds
-    /// something wrong or the service isn't opened, and with an `EventCreateError` where it isn't
-    /// created. Each round gives back what it made.
+    /// Where a create is refused with `AlreadyExists`, `IsBeingCreatedByAnotherInstance` or
+    /// `ServiceInCorruptedState`, or an open with `DoesNotExist`, `ServiceInCorruptedState` or
+    /// `IsMarkedForDestruction`, there is another round, in which zeros that a create raised stay
+    /// raised; after six such rounds it is refused with `SystemInFlux`. Else it is refused with an
+    /// `EventOpenError` where a look finds something wrong or the service isn't opened, and with an
+    /// `EventCreateError` where it isn't created. Each round gives back what it made.
     pub fn open_or_create_with_attributes(
         self,
         verifier: &AttributeVerifier,

@@ -4,7 +4,7 @@ ghost use Rattle.std.specs.Prelude.{◌≡◌};
 ghost use Rattle.iceoryx2_access.specs.Run.{Joins};
 ghost use Rattle.iceoryx2_open_or_create.specs.OpenOrCreates.{IsOpenOrCreateWord, IsTurn};
 
-use crate::retries::Retries;
+use crate::retries::{Retries, retries_create, retries_open};
 use iceoryx2_access::storage::Storage;
 use iceoryx2_attributes::attribute::AttributeVerifier;
 use iceoryx2_port_factory::port_factory::Registration;
@@ -64,7 +64,7 @@ fn take_turn<P: Retries, S: Storage>(
         Sight::Present => match open(pattern, node, hash, verifier, storage) {
             Ok(registration) => return Some(Ok(registration)),
             Err(error) => {
-                if P::retries_open(error) {
+                if retries_open(pattern, error) {
                     return None;
                 }
                 return Some(Err(OpenOrCreateRefusal::Open(error)));
@@ -76,7 +76,7 @@ fn take_turn<P: Retries, S: Storage>(
     match create(pattern, node, hash, name, attributes, now, storage) {
         Ok(registration) => return Some(Ok(registration)),
         Err(error) => {
-            if P::retries_create(error) {
+            if retries_create(pattern, error) {
                 return None;
             }
             return Some(Err(OpenOrCreateRefusal::Create(error)));

@@ -1,20 +1,36 @@
 //! After which refusals an open or create goes on.
 
 ghost use Rattle.std.specs.Prelude.{◌≡◌};
-ghost use Rattle.iceoryx2_open_or_create.specs.Retried.{Retried};
+ghost use Rattle.iceoryx2_open_or_create.specs.Retried.{Retried, retried_by};
 
-use iceoryx2_pattern::pattern::Pattern;
+use iceoryx2_pattern::pattern::{CreateRefusal, OpenRefusal, Pattern};
 
-/// A pattern that knows after which refusals of its open and its create there is another round.
-pub trait Retries: Pattern {
-    /// These refusals.
+/// A pattern whose errors can be compared, so that an open or create knows after which there is another round.
+pub trait Retries: Pattern<OpenError: PartialEq, CreateError: PartialEq> {
+    /// The errors after which there is one.
     ghost retried: { Retried Self.OpenError Self.CreateError };
 
-    /// Whether there is another round after an open that is refused so.
-    fn retries_open(error: Self::OpenError) -> bool
-        ensures { result ≡ retried.of_open error };
+    /// They are those of the refusals that are retried with every pattern, whatever a builder asks.
+    ghost told: { (asked : Self) → retried ≡ retried_by Self.OpenError.eq Self.CreateError.eq
+        (Self.meaning asked).open_refusal (Self.meaning asked).create_refusal };
+}
 
-    /// Whether there is another round after a create that is refused so.
-    fn retries_create(error: Self::CreateError) -> bool
-        ensures { result ≡ retried.of_create error };
+/// Whether there is another round after an open that is refused so.
+pub fn retries_open<P: Retries>(pattern: &P, error: P::OpenError) -> bool
+    ensures { result ≡ P.retried.of_open error }
+{
+    let is_gone = error == pattern.open_refusal(OpenRefusal::DoesNotExist);
+    let is_corrupted = error == pattern.open_refusal(OpenRefusal::ServiceInCorruptedState);
+    let is_marked = error == pattern.open_refusal(OpenRefusal::IsMarkedForDestruction);
+    is_gone | is_corrupted | is_marked
+}
+
+/// Whether there is another round after a create that is refused so.
+pub fn retries_create<P: Retries>(pattern: &P, error: P::CreateError) -> bool
+    ensures { result ≡ P.retried.of_create error }
+{
+    let is_there = error == pattern.create_refusal(CreateRefusal::AlreadyExists);
+    let is_locked = error == pattern.create_refusal(CreateRefusal::IsBeingCreatedByAnotherInstance);
+    let is_corrupted = error == pattern.create_refusal(CreateRefusal::ServiceInCorruptedState);
+    is_there | is_locked | is_corrupted
 }

@@ -27,7 +27,7 @@ use Rattle.iceoryx2_errors.specs.declared.error.publish_subscribe.PublishSubscri
 use Rattle.iceoryx2_errors.specs.declared.error.publish_subscribe.PublishSubscribeCreateError.{PublishSubscribeCreateError}
 use Rattle.iceoryx2_builder_base.specs.Builders.{IsBuilder}
 use Rattle.iceoryx2_publish_subscribe_builder.specs.declared.publish_subscribe.demand.PreparedDemand.{PreparedDemand}
-use Rattle.iceoryx2_publish_subscribe_builder.specs.PublishSubscribe.{is_create_retried, is_open_retried, prepared_adjusted, prepared_meaning, publish_subscribe_retried, setting_clauses, setting_rows}
+use Rattle.iceoryx2_publish_subscribe_builder.specs.PublishSubscribe.{prepared_adjusted, prepared_meaning, publish_subscribe_retried, setting_clauses, setting_rows}
 use Rattle.iceoryx2_builder_base.proofs.Misfits.{fits_itself, is_told, is_tested}
 use Rattle.iceoryx2_builder_base.proofs.Raised.{not_below, raised_above}
 use Rattle.iceoryx2_publish_subscribe_builder.specs.declared.publish_subscribe.demand.PublishSubscribeDemand.{PublishSubscribeDemand}
@@ -84,7 +84,7 @@ publish_subscribe_builder demand message = record {
 -- ---- what a quiet table refuses is not tried again
 
 abbrev Ends : PublishSubscribeOpenError → Type 0
-Ends error = is_open_retried error ≡ false
+Ends error = publish_subscribe_retried.of_open error ≡ false
 
 settings_end : (demand : PublishSubscribeDemand) (pattern : MessagingPattern) → Errs Ends (setting_clauses demand pattern)
 unfolding at_least flag_is
@@ -98,8 +98,8 @@ requirement_ends asked required d =
     both_err Ends (attribute_clauses opening.IncompatibleAttributes required d.attributes) (setting_clauses asked.demand d.pattern)
     (attributes_err Ends opening.IncompatibleAttributes required d.attributes refl) (settings_end asked.demand d.pattern)
 
-history_ends : (error : PublishSubscribeCreateError) (lacks : Bool) → cond lacks (Some creating.SubscriberBufferMustBeLargerThanHistorySize) None ≡ Some error → is_create_retried error ≡ false
-history_ends error true e = let is : creating.SubscriberBufferMustBeLargerThanHistorySize ≡ error = cc in ap is_create_retried (sym is)
+history_ends : (error : PublishSubscribeCreateError) (lacks : Bool) → cond lacks (Some creating.SubscriberBufferMustBeLargerThanHistorySize) None ≡ Some error → publish_subscribe_retried.of_create error ≡ false
+history_ends error true e = let is : creating.SubscriberBufferMustBeLargerThanHistorySize ≡ error = cc in ap publish_subscribe_retried.of_create (sym is)
 history_ends error false e = absurd (cc)
 
 pub publish_subscribe_ends_at_once : (asked : PreparedDemand) (required : Requirements)

@@ -1,5 +1,5 @@
 -- What a builder of publish-subscribe asks, and its errors.
-use Rattle.std.specs.Prelude.{Bool, true, false, List, [], ◌∷◌, ◌&&◌, not, nat_lt, Option, Some, None, if◌then◌else◌}
+use Rattle.std.specs.Prelude.{Bool, false, List, [], ◌∷◌, ◌&&◌, not, nat_lt, Option, Some, None, if◌then◌else◌}
 use Rattle.iceoryx2_attributes.specs.Attributes.{Pair}
 use Rattle.iceoryx2_attributes.specs.Requirements.{Requirements}
 use Rattle.iceoryx2_types.specs.Types.{Message, compatible}
@@ -22,9 +22,11 @@ use Rattle.iceoryx2_errors.specs.declared.error.publish_subscribe.PublishSubscri
 use Rattle.iceoryx2_errors.specs.declared.error.publish_subscribe.PublishSubscribeOpenError.TheVariants as opening
 use Rattle.iceoryx2_errors.specs.declared.error.publish_subscribe.PublishSubscribeCreateError.{PublishSubscribeCreateError}
 use Rattle.iceoryx2_errors.specs.declared.error.publish_subscribe.PublishSubscribeCreateError.TheVariants as creating
+use Rattle.iceoryx2_errors.specs.contracts.error.publish_subscribe.PublishSubscribeOpenErrorPartialEq.TheImpl as same_opening
+use Rattle.iceoryx2_errors.specs.contracts.error.publish_subscribe.PublishSubscribeCreateErrorPartialEq.TheImpl as same_creating
 use Rattle.iceoryx2_errors.specs.declared.error.publish_subscribe.PublishSubscribeOpenOrCreateError.{PublishSubscribeOpenOrCreateError}
 use Rattle.iceoryx2_errors.specs.declared.error.publish_subscribe.PublishSubscribeOpenOrCreateError.TheVariants as either
-use Rattle.iceoryx2_open_or_create.specs.Retried.{Retried}
+use Rattle.iceoryx2_open_or_create.specs.Retried.{Retried, retried_by}
 use Rattle.iceoryx2_open_or_create.specs.declared.open_or_create.OpenOrCreateRefusal.{OpenOrCreateRefusal}
 use Rattle.iceoryx2_open_or_create.specs.declared.open_or_create.OpenOrCreateRefusal.TheVariants as refusal
 use Rattle.iceoryx2_builder_base.specs.Zeros.{at_least_one}
@@ -150,22 +152,10 @@ prepared_meaning asked = publish_subscribe_meaning asked.demand asked.message
 abbrev pub prepared_adjusted : PreparedDemand → PreparedDemand
 prepared_adjusted asked = record asked { demand = publish_subscribe_adjusted asked.demand }
 
--- An open or create goes on after an open of a service that is gone or going, or whose state may pass,
-abbrev pub is_open_retried : PublishSubscribeOpenError → Bool
-is_open_retried opening.DoesNotExist = true
-is_open_retried opening.ServiceInCorruptedState = true
-is_open_retried opening.IsMarkedForDestruction = true
-is_open_retried _ = false
-
--- and after a create that somebody else was faster than, or that met such a state.
-abbrev pub is_create_retried : PublishSubscribeCreateError → Bool
-is_create_retried creating.AlreadyExists = true
-is_create_retried creating.IsBeingCreatedByAnotherInstance = true
-is_create_retried creating.ServiceInCorruptedState = true
-is_create_retried _ = false
-
+-- after which errors an open or create goes on
 abbrev pub publish_subscribe_retried : Retried PublishSubscribeOpenError PublishSubscribeCreateError
-publish_subscribe_retried = record { of_open = is_open_retried; of_create = is_create_retried }
+publish_subscribe_retried =
+    retried_by same_opening.ghosts.eq same_creating.ghosts.eq open_error_of_refusal create_error_of_refusal
 
 -- what the rounds of an open or create call its error
 abbrev pub publish_subscribe_refusal : PublishSubscribeOpenOrCreateError

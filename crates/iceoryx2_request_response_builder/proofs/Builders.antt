@@ -26,7 +26,7 @@ use Rattle.iceoryx2_errors.specs.declared.error.request_response.RequestResponse
 use Rattle.iceoryx2_errors.specs.declared.error.request_response.RequestResponseOpenError.TheVariants as opening
 use Rattle.iceoryx2_builder_base.specs.Builders.{IsBuilder}
 use Rattle.iceoryx2_request_response_builder.specs.declared.request_response.demand.PreparedDemand.{PreparedDemand}
-use Rattle.iceoryx2_request_response_builder.specs.RequestResponse.{is_open_retried, prepared_adjusted, prepared_meaning, request_response_retried, setting_clauses, setting_rows}
+use Rattle.iceoryx2_request_response_builder.specs.RequestResponse.{prepared_adjusted, prepared_meaning, request_response_retried, setting_clauses, setting_rows}
 use Rattle.iceoryx2_builder_base.proofs.Misfits.{fits_itself, is_told, is_tested}
 use Rattle.iceoryx2_builder_base.proofs.Raised.{not_below, raised_above}
 use Rattle.iceoryx2_request_response_builder.specs.declared.request_response.demand.RequestResponseDemand.{RequestResponseDemand}
@@ -92,7 +92,7 @@ request_response_builder demand request response = record {
 -- ---- what a quiet table refuses is not tried again
 
 abbrev Ends : RequestResponseOpenError → Type 0
-Ends error = is_open_retried error ≡ false
+Ends error = request_response_retried.of_open error ≡ false
 
 settings_end : (demand : RequestResponseDemand) (pattern : MessagingPattern) → Errs Ends (setting_clauses demand pattern)
 unfolding at_least flag_is

@@ -1,5 +1,5 @@
 -- What a builder of request-response asks, and its errors.
-use Rattle.std.specs.Prelude.{Bool, true, false, List, [], ◌∷◌, Option, Some, None, if◌then◌else◌}
+use Rattle.std.specs.Prelude.{false, List, [], ◌∷◌, Option, Some, None, if◌then◌else◌}
 use Rattle.iceoryx2_attributes.specs.Attributes.{Pair}
 use Rattle.iceoryx2_attributes.specs.Requirements.{Requirements}
 use Rattle.iceoryx2_types.specs.Types.{Message, compatible}
@@ -22,9 +22,11 @@ use Rattle.iceoryx2_errors.specs.declared.error.request_response.RequestResponse
 use Rattle.iceoryx2_errors.specs.declared.error.request_response.RequestResponseOpenError.TheVariants as opening
 use Rattle.iceoryx2_errors.specs.declared.error.request_response.RequestResponseCreateError.{RequestResponseCreateError}
 use Rattle.iceoryx2_errors.specs.declared.error.request_response.RequestResponseCreateError.TheVariants as creating
+use Rattle.iceoryx2_errors.specs.contracts.error.request_response.RequestResponseOpenErrorPartialEq.TheImpl as same_opening
+use Rattle.iceoryx2_errors.specs.contracts.error.request_response.RequestResponseCreateErrorPartialEq.TheImpl as same_creating
 use Rattle.iceoryx2_errors.specs.declared.error.request_response.RequestResponseOpenOrCreateError.{RequestResponseOpenOrCreateError}
 use Rattle.iceoryx2_errors.specs.declared.error.request_response.RequestResponseOpenOrCreateError.TheVariants as either
-use Rattle.iceoryx2_open_or_create.specs.Retried.{Retried}
+use Rattle.iceoryx2_open_or_create.specs.Retried.{Retried, retried_by}
 use Rattle.iceoryx2_open_or_create.specs.declared.open_or_create.OpenOrCreateRefusal.{OpenOrCreateRefusal}
 use Rattle.iceoryx2_open_or_create.specs.declared.open_or_create.OpenOrCreateRefusal.TheVariants as refusal
 use Rattle.iceoryx2_builder_base.specs.Zeros.{at_least_one}
@@ -160,22 +162,10 @@ prepared_meaning asked = request_response_meaning asked.demand asked.request ask
 abbrev pub prepared_adjusted : PreparedDemand → PreparedDemand
 prepared_adjusted asked = record asked { demand = request_response_adjusted asked.demand }
 
--- An open or create goes on after an open of a service that is gone or going, or whose state may pass,
-abbrev pub is_open_retried : RequestResponseOpenError → Bool
-is_open_retried opening.DoesNotExist = true
-is_open_retried opening.ServiceInCorruptedState = true
-is_open_retried opening.IsMarkedForDestruction = true
-is_open_retried _ = false
-
--- and after a create that somebody else was faster than, or that met such a state.
-abbrev pub is_create_retried : RequestResponseCreateError → Bool
-is_create_retried creating.AlreadyExists = true
-is_create_retried creating.IsBeingCreatedByAnotherInstance = true
-is_create_retried creating.ServiceInCorruptedState = true
-is_create_retried _ = false
-
+-- after which errors an open or create goes on
 abbrev pub request_response_retried : Retried RequestResponseOpenError RequestResponseCreateError
-request_response_retried = record { of_open = is_open_retried; of_create = is_create_retried }
+request_response_retried =
+    retried_by same_opening.ghosts.eq same_creating.ghosts.eq open_error_of_refusal create_error_of_refusal
 
 -- what the rounds of an open or create call its error
 abbrev pub request_response_refusal : RequestResponseOpenOrCreateError

@@ -309,27 +309,12 @@ impl Pattern for EventDemand {
 }
 
 impl Retries for EventDemand {
+    ghost use Rattle.std.specs.Prelude.{refl};
     ghost use Rattle.iceoryx2_event_builder.specs.Event.{event_retried};
 
     ghost retried = { event_retried };
 
-    fn retries_open(error: EventOpenError) -> bool {
-        let _ = error;
-        false
-    }
-
-    fn retries_create(error: EventCreateError) -> bool {
-        match error {
-            EventCreateError::AlreadyExists | EventCreateError::IsBeingCreatedByAnotherInstance => {
-                true
-            }
-            EventCreateError::ServiceInCorruptedState
-            | EventCreateError::InternalFailure
-            | EventCreateError::HangsInCreation
-            | EventCreateError::InsufficientPermissions
-            | EventCreateError::OutOfMemory => false,
-        }
-    }
+    ghost told = { λ asked. refl };
 }
 
 /// The error of an open or create that the rounds refuse so.

@@ -270,27 +270,12 @@ impl Pattern for PreparedDemand {
 }
 
 impl Retries for PreparedDemand {
+    ghost use Rattle.std.specs.Prelude.{refl};
     ghost use Rattle.iceoryx2_publish_subscribe_builder.specs.PublishSubscribe.{publish_subscribe_retried};
 
     ghost retried = { publish_subscribe_retried };
 
-    fn retries_open(error: PublishSubscribeOpenError) -> bool {
-        match error {
-            PublishSubscribeOpenError::DoesNotExist
-            | PublishSubscribeOpenError::ServiceInCorruptedState
-            | PublishSubscribeOpenError::IsMarkedForDestruction => true,
-            _ => false,
-        }
-    }
-
-    fn retries_create(error: PublishSubscribeCreateError) -> bool {
-        match error {
-            PublishSubscribeCreateError::AlreadyExists
-            | PublishSubscribeCreateError::IsBeingCreatedByAnotherInstance
-            | PublishSubscribeCreateError::ServiceInCorruptedState => true,
-            _ => false,
-        }
-    }
+    ghost told = { λ asked. refl };
 }
 
 /// The error of an open or create that the rounds refuse so.

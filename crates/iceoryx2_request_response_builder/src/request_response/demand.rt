@@ -308,27 +308,12 @@ impl Pattern for PreparedDemand {
 }
 
 impl Retries for PreparedDemand {
+    ghost use Rattle.std.specs.Prelude.{refl};
     ghost use Rattle.iceoryx2_request_response_builder.specs.RequestResponse.{request_response_retried};
 
     ghost retried = { request_response_retried };
 
-    fn retries_open(error: RequestResponseOpenError) -> bool {
-        match error {
-            RequestResponseOpenError::DoesNotExist
-            | RequestResponseOpenError::ServiceInCorruptedState
-            | RequestResponseOpenError::IsMarkedForDestruction => true,
-            _ => false,
-        }
-    }
-
-    fn retries_create(error: RequestResponseCreateError) -> bool {
-        match error {
-            RequestResponseCreateError::AlreadyExists
-            | RequestResponseCreateError::IsBeingCreatedByAnotherInstance
-            | RequestResponseCreateError::ServiceInCorruptedState => true,
-            _ => false,
-        }
-    }
+    ghost told = { λ asked. refl };
 }
 
 /// The error of an open or create that the rounds refuse so.

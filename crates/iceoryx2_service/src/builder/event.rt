@@ -2,7 +2,6 @@
 
 pub use iceoryx2_errors::error::{EventCreateError, EventOpenError, EventOpenOrCreateError};
 pub use iceoryx2_event_builder::event::{
-    Builder, EventSetting, LETTER, demand, ends_at_once, laws, letter_is_e,
-    open_or_create_is_short, setting,
+    Builder, EventSetting, LETTER, demand, ends_at_once, laws, letter_is_e, setting,
 };
 pub use iceoryx2_values::event::EventId;
