@@ -1,5 +1,5 @@
 -- What every call comes to, over a storage with a world inside.
-use Rattle.std.specs.Prelude.{◌≡◌, ◌≢◌, ◌≤◌, ℕ, false, List, Result, Ok, IfOk}
+use Rattle.std.specs.Prelude.{◌≡◌, ◌≢◌, ◌≤◌, ℕ, List, Result, Ok, IfOk}
 use Rattle.iceoryx2_access.specs.Factory.{Factory}
 use Rattle.iceoryx2_access.specs.Letter.{Letter}
 use Rattle.iceoryx2_access.specs.Run.{Each, Run}
@@ -7,7 +7,6 @@ use Rattle.iceoryx2_world.specs.World.{World, phase_of}
 use Rattle.iceoryx2_world.specs.Agreement.{IsSegmentOf}
 use Rattle.iceoryx2_world.specs.Across.{Agrees}
 use Rattle.iceoryx2_world.specs.Standing.{Spares, Stands}
-use Rattle.iceoryx2_words.specs.Counts.{IsWithin}
 use Rattle.iceoryx2_calls.specs.Calls.{Throughout}
 use Rattle.iceoryx2_calls.specs.AnyCalls.{AnyCall, ErrorBy, IsShortBy, IsWordOf, MayCarryBy}
 
@@ -40,9 +39,8 @@ module _ {S : Type 0} (step : S → Letter → S → Type 0) (world : S → Worl
   -- A call from s to t along this word, with this answer.
   pub record IsAsPromised (s : S) (word : List Letter) (answer : Result Factory (ErrorBy E C c.way)) (t : S)
       : Type 0 where
-    -- within fixed counts, which are smaller where no refusal of an open is tried again
+    -- within fixed counts
     pub counts : IsShortBy c.way word
-    pub fewer : ((error : E) → c.asks.retried.of_open error ≡ false) → IsWithin word 23 6 36 36
     -- after every access each factory that was open is open
     pub stay_open : (f : Factory) → Stands (world s) f → Throughout step (λ u. IsOpen (world u) f) s word
     -- and so is the one that it gave

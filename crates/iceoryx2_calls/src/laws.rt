@@ -1,6 +1,6 @@
 //! What is true of whole calls over a table, whatever the pattern and whatever steps peers take.
 
-ghost use Rattle.std.specs.Prelude.{◌≡◌, ◌≢◌, List, Result, Ok, Err, None, false};
+ghost use Rattle.std.specs.Prelude.{◌≡◌, ◌≢◌, List, Result, Ok, Err, None};
 ghost use Rattle.iceoryx2_world.specs.World.{World, phase_of, ticket_of};
 ghost use Rattle.iceoryx2_access.specs.Letter.{Letter};
 ghost use Rattle.iceoryx2_access.specs.Run.{Run, Each};
@@ -74,13 +74,9 @@ pub fn agreement<D, F: Copy, E: Copy, C: Copy>()
     ensures open_until_released { (c : AnyCall D F E C) (f : Factory) (s : TableState)
         → IsOpenSince IsTableAccess (λ u. u.world) c f s → IsOpenAsAsked c s.world f }
 
-    // Every call is short over every storage: its word alone tells so. Where no refusal of an open is tried
-    // again, as with events, it looks at most 23 times and opens at most six times.
+    // Every call is short over every storage: its word alone tells so.
     ensures is_short { (c : AnyCall D F E C) (word : List Letter) (answer : Result Factory (ErrorBy E C c.way))
         → IsWordOf c word answer → IsShortBy c.way word }
-    ensures is_shorter { (c : AnyCall D F E C) (word : List Letter) (answer : Result Factory (ErrorBy E C c.way))
-        → ((error : E) → c.asks.retried.of_open error ≡ false)
-        → IsWordOf c word answer → IsWithin word 23 6 36 36 }
 
     // Two standing factories of one service carry the same description and number.
     ensures one_description { (w : World) (f g : Factory)

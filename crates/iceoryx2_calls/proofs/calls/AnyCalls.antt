@@ -1,5 +1,5 @@
 -- What is so of each of a builder's three calls is so of any.
-use Rattle.std.proofs.Common.{◌≡◌, ◌≢◌, ℕ, ◌≤◌, Bool, true, false, List, Result, Ok, Err, inl, inr, refl, sym, ap, subst, ◌∙◌, arith}
+use Rattle.std.proofs.Common.{◌≡◌, ◌≢◌, ◌⊎◌, ℕ, ◌≤◌, Bool, true, false, List, Result, Ok, Err, inl, inr, refl, sym, ap, subst, ◌∙◌}
 use Rattle.std.specs.Prelude.{IfOk}
 use Rattle.iceoryx2_values.specs.Description.{Description}
 use Rattle.iceoryx2_access.specs.Factory.{Factory}
@@ -13,13 +13,12 @@ use Rattle.iceoryx2_pattern.specs.declared.pattern.OpenRefusal.TheVariants as op
 use Rattle.iceoryx2_pattern.specs.declared.pattern.CreateRefusal.TheVariants as create_refusal
 use Rattle.iceoryx2_rounds.specs.Prepared.{IsPrepared, prepared, IsCreateCall, IsOpenCall}
 use Rattle.iceoryx2_rounds.proofs.Prepared.{granted_call}
-use Rattle.iceoryx2_words.specs.Counts.{IsWithin}
-use Rattle.iceoryx2_words.proofs.Counts.{create_call_within, open_call_within, within_more}
+use Rattle.iceoryx2_words.proofs.Counts.{create_call_within, open_call_within}
 use Rattle.iceoryx2_open_or_create.specs.Adjusting.{MeetsOrHolds, meets, holds}
 use Rattle.iceoryx2_open_or_create.specs.Grants.{Carries, accepted, published}
 use Rattle.iceoryx2_open_or_create.specs.declared.open_or_create.OpenOrCreateRefusal.{OpenOrCreateRefusal}
 use Rattle.iceoryx2_open_or_create.proofs.Adjusting.{carries_once}
-use Rattle.iceoryx2_open_or_create.proofs.Counts.{open_or_create_call_within, open_or_create_call_within_fewer}
+use Rattle.iceoryx2_open_or_create.proofs.Counts.{open_or_create_call_within}
 use Rattle.iceoryx2_open_or_create.proofs.Granted.{granted_carries}
 use Rattle.iceoryx2_calls.specs.Attempts.{Attempt, IsAttempted}
 use Rattle.iceoryx2_calls.specs.AnyCalls.{AnyCall, ErrorBy, Way, ToCreate, ToOpen, ToOpenOrCreate, PreparedIf, creating, opening, IsWordBy, IsWordOf, Meets, Holds, MayCarryBy, IsShortBy}
@@ -52,12 +51,6 @@ module _ {D F E C : Type 0} (c : AnyCall D F E C) where
   -- each is short
   pub any_short : (word : List Letter) (answer : Result Factory (ErrorBy E C c.way)) → IsWordOf c word answer → IsShortBy c.way word
   any_short word answer is = each_word (λ way word answer. IsShortBy way word) (λ word answer is. create_call_within (creating c) c.asks.node c.asks.hash is) (λ word answer is. open_call_within (opening c) c.asks.node c.asks.hash is) (λ word answer is. open_or_create_call_within c.asks.meaning c.asks.adjusted c.asks.retried c.asks.required c.asks.node c.asks.hash c.asks.name c.asks.now is) c.way word answer is
-
-  pub any_shorter : ((error : E) → c.asks.retried.of_open error ≡ false) → (word : List Letter) (answer : Result Factory (ErrorBy E C c.way)) → IsWordOf c word answer → IsWithin word 23 6 36 36
-  any_shorter never word answer is = each_word (λ way word answer. IsWithin word 23 6 36 36)
-      (λ word answer is. within_more _ _ _ _ (omega arith) (omega arith) (omega arith) (omega arith) (create_call_within (creating c) c.asks.node c.asks.hash is))
-      (λ word answer is. within_more _ _ _ _ (omega arith) (omega arith) (omega arith) (omega arith) (open_call_within (opening c) c.asks.node c.asks.hash is))
-      (λ word answer is. open_or_create_call_within_fewer c.asks.meaning c.asks.adjusted c.asks.retried c.asks.required c.asks.node c.asks.hash c.asks.name c.asks.now never is) c.way word answer is
 
   -- what a granted one has given
   pub record Given (way : Way) (w v : World) (r : Factory) : Type 0 where

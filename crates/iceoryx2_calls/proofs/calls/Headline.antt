@@ -22,7 +22,7 @@ use Rattle.iceoryx2_calls.specs.AnyCalls.{AnyCall, ErrorBy, IsWordOf, MayCarryBy
 use Rattle.iceoryx2_calls.specs.Headline.{IsOpen, IsOpenAsAsked, IsOpenSince, IsGiven, IsAsPromised, answered, spared}
 use Rattle.iceoryx2_calls.proofs.calls.Words.{throughout, throughout_map, all_spared}
 use Rattle.iceoryx2_calls.proofs.calls.Standing.{stands_among, one_service}
-use Rattle.iceoryx2_calls.proofs.calls.AnyCalls.{Given, any_letters, any_short, any_shorter, any_given}
+use Rattle.iceoryx2_calls.proofs.calls.AnyCalls.{Given, any_letters, any_short, any_given}
 
 is_open : (w : World) (f : Factory) → Agrees w → Stands w f → IsOpen w f
 is_open w f old s = record { stands = s; one_description = λ g t same. (one_service w g f t s same).1; among = stands_among w f old s }
@@ -57,7 +57,6 @@ module _ {S : Type 0} (step : S → Letter → S → Type 0) (world : S → Worl
         let new = (run_keeps worlds old).0 in
         record {
           counts = any_short c word answer is;
-          fewer = λ never. any_shorter c never word answer is;
           stay_open = λ f stood. along (λ u. IsOpen u f) s word (open_throughout (world s) word f (all_spared f word (any_letters c word answer is)) old stood);
           given = gives s t answer old new (any_given c (world s) (world t) word answer is worlds old);
           agrees = new;

@@ -8,7 +8,7 @@ use Rattle.iceoryx2_batches.proofs.Waiting.{table_run}
 use Rattle.iceoryx2_calls.proofs.calls.Headline.{open_as_asked, as_promised, of_table}
 use Rattle.iceoryx2_batches.specs.Tables.{IsTableAccess}
 use Rattle.iceoryx2_world.specs.Faulty.{IsFaulty}
-use Rattle.iceoryx2_calls.proofs.calls.AnyCalls.{any_short, any_shorter}
+use Rattle.iceoryx2_calls.proofs.calls.AnyCalls.{any_short}
 use Rattle.iceoryx2_calls.proofs.calls.AnyLeft.{any_tickets, any_refused, any_granted, any_leaves, any_gives_back}
 use Rattle.std.specs.Prelude.{Ok, Err}
 use Rattle.iceoryx2_calls.proofs.laws.agreement.Goals as goal
@@ -69,6 +69,3 @@ returns-clause-open_until_released g c = λ call f s is. open_as_asked IsTableAc
 
 pub returns-clause-is_short : goal.returns-clause-is_short
 returns-clause-is_short g c = λ call word answer is. any_short call word answer is
-
-pub returns-clause-is_shorter : goal.returns-clause-is_shorter
-returns-clause-is_shorter g c = λ call word answer never is. any_shorter call never word answer is
