@@ -1,5 +1,5 @@
 -- How often an open or create looks and opens.
-use Rattle.std.proofs.Common.{◌≡◌, ◌*◌, ℕ, false, List, Result, arith}
+use Rattle.std.proofs.Common.{◌*◌, ℕ, List, Result, arith}
 use Rattle.iceoryx2_attributes.specs.Requirements.{Requirements}
 use Rattle.iceoryx2_values.specs.declared.description.ServiceHash.{ServiceHash}
 use Rattle.iceoryx2_values.specs.declared.time.ClockFault.{ClockFault}
@@ -38,20 +38,3 @@ module _ {D F E C : Type 0} (meaning : D → Meaning F E C) (adjusted : D → D)
 
   pub open_or_create_call_within : {first : D} {w : List Letter} {r : Result Factory (OpenOrCreateRefusal E C)} → IsOpenOrCreateCall meaning adjusted retried required node hash name now first w r → IsWithin w 78 36 36 36
   open_or_create_call_within = each_call (λ w r. IsWithin w 78 36 36 36) (within_more _ _ _ _ (omega arith) (omega arith) (omega arith) (omega arith) none_within) (λ w r is. open_or_create_within is)
-
-  module _ (never : (error : E) → retried.of_open error ≡ false) where
-    -- a round that is retried is a create's
-    created_within : {asked next : D} {w : List Letter} → IsRetriedTurn meaning adjusted retried required node hash name now asked w next → IsWithin w 2 0 6 6
-    created_within (open_retried {error} l o again) = let isnt = never error in absurd (cc)
-    created_within (create_retried l c _) = within_append (look_within _ node hash l) (create_within _ node hash c)
-
-    creates_within : {first asked : D} {k : ℕ} {w : List Letter} → AreRetriedTurns meaning adjusted retried required node hash name now first k w asked → IsWithin w (2 * k) 0 (6 * k) (6 * k)
-    creates_within no_turn = none_within
-    creates_within (one_more before t) = within_more _ _ _ _ (omega arith) (omega arith) (omega arith) (omega arith) (within_append (creates_within before) (created_within t))
-
-    pub open_or_create_within_fewer : {first : D} {w : List Letter} {r : Result Factory (OpenOrCreateRefusal E C)} → IsOpenOrCreateWord meaning adjusted retried required node hash name now first w r → IsWithin w 23 6 36 36
-    open_or_create_within_fewer (ended small before t) = within_more _ _ _ _ (omega arith) (omega arith) (omega arith) (omega arith) (within_append (creates_within before) (last_within t))
-    open_or_create_within_fewer (in_flux before) = within_more _ _ _ _ (omega arith) (omega arith) (omega arith) (omega arith) (creates_within before)
-
-    pub open_or_create_call_within_fewer : {first : D} {w : List Letter} {r : Result Factory (OpenOrCreateRefusal E C)} → IsOpenOrCreateCall meaning adjusted retried required node hash name now first w r → IsWithin w 23 6 36 36
-    open_or_create_call_within_fewer = each_call (λ w r. IsWithin w 23 6 36 36) (within_more _ _ _ _ (omega arith) (omega arith) (omega arith) (omega arith) none_within) (λ w r is. open_or_create_within_fewer is)

@@ -3,7 +3,7 @@
 //! It may prepare the types of its messages first. One that doesn't goes along a word of its grammar, which is a word of
 //! such a call too.
 
-ghost use Rattle.std.specs.Prelude.{◌≡◌, ℕ, Bool, false, List, ◌++◌, Result, Ok, Err};
+ghost use Rattle.std.specs.Prelude.{◌≡◌, ℕ, List, Result, Ok, Err};
 ghost use Rattle.iceoryx2_attributes.specs.Requirements.{Requirements};
 ghost use Rattle.iceoryx2_values.specs.Span.{Span};
 ghost use Rattle.iceoryx2_values.specs.declared.description.ServiceHash.{ServiceHash};
@@ -27,16 +27,6 @@ pub fn open_or_create_is_short<P: Retries>()
         (answer : Result Factory (OpenOrCreateRefusal P.OpenError P.CreateError))
         → IsOpenOrCreateCall P.meaning P.adjusted P.retried required node hash name now asked word answer
         → IsWithin word 78 36 36 36 }
-{}
-
-/// Where no refusal of an open is retried, it looks at most 23 times and opens at most six times.
-pub fn open_or_create_is_shorter<P: Retries>()
-    ensures { ((error : P.OpenError) → P.retried.of_open error ≡ false)
-        → (required : Requirements) (node : ℕ) (hash : ServiceHash) (name : List ℕ)
-        (now : Result Span ClockFault) (asked : P) (word : List Letter)
-        (answer : Result Factory (OpenOrCreateRefusal P.OpenError P.CreateError))
-        → IsOpenOrCreateCall P.meaning P.adjusted P.retried required node hash name now asked word answer
-        → IsWithin word 23 6 36 36 }
 {}
 
 /// A refused open or create has given back what it made, round by round. Each round leaves only that
