@@ -104,7 +104,7 @@ fn replaced(rt: &impl Abort, alloc: Global, description: &'static str) -> Script
     Script::new(answers)
 }
 
-/// Five rounds in which somebody else is faster, and one that finds the service of events so.
+/// Five rounds in which somebody else is faster, and one that finds the service of events replaced.
 fn late_and_replaced(rt: &impl Abort, alloc: Global) -> Script {
     let mut answers = Vec::new(alloc);
     for _round in 0..5 {
@@ -135,29 +135,50 @@ fn six_rounds_end_in_flux(rt: HostRuntime) {
     let found = event::<Scripted>(&rt, rt.alloc(), &mut late, (1, None), (&[], &[]));
     let wanted = Err(EventOpenOrCreateError::SystemInFlux);
     assert_same(&rt, (found, counters(&late)), (wanted, ((12, 0, 0), 0)));
+}
+
+// Each of six rounds looks once, and then twice for each of six openings that fail: 78 looks and 36 openings.
+#[test]
+fn openings_that_fail_in_six_rounds_end_in_flux(rt: HostRuntime) {
     let mut gone = replaced(&rt, rt.alloc(), PUBLISH_SUBSCRIBE.form);
     let found = publish_subscribe::<Scripted>(&rt, rt.alloc(), &mut gone, &[]);
     let wanted = Err(PublishSubscribeOpenOrCreateError::SystemInFlux);
     assert_same(&rt, (found, counters(&gone)), (wanted, ((78, 36, 0), 0)));
-}
-
-#[test]
-fn events_open_once(rt: HostRuntime) {
     let mut gone = replaced(&rt, rt.alloc(), COMPATIBLE);
     let found = event::<Scripted>(&rt, rt.alloc(), &mut gone, (1, None), (&[], &[]));
-    let why = EventOpenError::ServiceInCorruptedState;
-    let wanted = Err(EventOpenOrCreateError::EventOpenError(why));
-    // the answers to five rounds are left
-    assert_same(&rt, (found, counters(&gone)), (wanted, ((13, 6, 0), 220)));
+    let wanted = Err(EventOpenOrCreateError::SystemInFlux);
+    assert_same(&rt, (found, counters(&gone)), (wanted, ((78, 36, 0), 0)));
 }
 
+// Five rounds look twice each, and the sixth 13 times; it opens six times.
 #[test]
-fn events_are_looked_for_23_times_and_opened_6_times_at_most(rt: HostRuntime) {
+fn creates_too_late_and_openings_that_fail_end_in_flux_together(rt: HostRuntime) {
     let mut last = late_and_replaced(&rt, rt.alloc());
     let found = event::<Scripted>(&rt, rt.alloc(), &mut last, (1, None), (&[], &[]));
-    let why = EventOpenError::ServiceInCorruptedState;
-    let wanted = Err(EventOpenOrCreateError::EventOpenError(why));
+    let wanted = Err(EventOpenOrCreateError::SystemInFlux);
     assert_same(&rt, (found, counters(&last)), (wanted, ((23, 6, 0), 0)));
+}
+
+/// A service that a round's look finds, and its open doesn't; and then a create that succeeds.
+const GONE_AND_CREATED: &[AccessAnswer] = &[
+    Exists(Existence::Yes),
+    Fetch(Ok((0, COMPATIBLE))),
+    Exists(Existence::No),
+    Exists(Existence::No),
+    Exists(Existence::No),
+    Counts(false),
+    MakeTag(Tag::Made),
+    Lock(3),
+    MakeSegment(Ok(())),
+    Publish(Ok(3)),
+];
+
+// The look of the first round and that of its open, and the look of the second round and that of its create.
+#[test]
+fn what_is_gone_when_it_is_opened_is_created_in_the_next_round(rt: HostRuntime) {
+    let mut gone = script(&rt, rt.alloc(), &[GONE_AND_CREATED]);
+    let found = event::<Scripted>(&rt, rt.alloc(), &mut gone, (1, None), (&[], &[]));
+    assert_same(&rt, (found, counters(&gone)), (Ok(3), ((4, 0, 1), 0)));
 }
 
 #[test]

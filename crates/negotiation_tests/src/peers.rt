@@ -16,6 +16,16 @@ pub struct Subject {
     pub form: &'static str,
 }
 
+/// One of events, with the name `xample`.
+pub const EVENTS: Subject = Subject {
+    hash: ServiceHash([
+        0xc3, 0x49, 0x9c, 0x27, 0x29, 0x73, 0x0a, 0x7f, 0x80, 0x7e, 0xfb, 0x86, 0x76, 0xa9, 0x2d,
+        0xcb, 0x6f, 0x8a, 0x3f, 0x8f,
+    ]),
+    form: "494f583201c3499c2729730a7f807efb8676a92dcb6f8a3f8f000678616d706c65000001\
+           0000000000000010000000000000001000000000000000ff000000000000001400000000",
+};
+
 /// One of publish-subscribe, with the name `xample`.
 pub const PUBLISH_SUBSCRIBE: Subject = Subject {
     hash: ServiceHash([

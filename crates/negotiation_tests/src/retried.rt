@@ -1,14 +1,16 @@
-//! Opens or creates of the patterns whose rounds also follow a create that finds a contradiction and an
-//! open of what is gone, corrupted or marked.
+//! Opens or creates whose rounds follow a create that finds a contradiction, and an open of what is gone,
+//! corrupted or marked: the same of each pattern.
 
 use crate::peers::Deed::*;
 use crate::peers::*;
 use crate::publish_subscribe::support as subscribe;
+use crate::storages::support::events;
 use crate::support::{Row, Segment, assert_same, drop_table, held, name, row_and_segment};
 use iceoryx2_builder::builder::Node;
 use iceoryx2_errors::error::{
-    PublishSubscribeCreateError, PublishSubscribeOpenError, PublishSubscribeOpenOrCreateError,
-    RequestResponseCreateError, RequestResponseOpenError, RequestResponseOpenOrCreateError,
+    EventCreateError, EventOpenError, EventOpenOrCreateError, PublishSubscribeCreateError,
+    PublishSubscribeOpenError, PublishSubscribeOpenOrCreateError, RequestResponseCreateError,
+    RequestResponseOpenError, RequestResponseOpenOrCreateError,
 };
 use iceoryx2_script::script::{Faulty, FaultyService};
 use iceoryx2_storage::local::Local;
@@ -16,12 +18,14 @@ use iceoryx2_storage::table::Table;
 use iceoryx2_types::types::{CustomHeaderMarker, CustomPayloadMarker, Slice};
 use iceoryx2_values::config::Config;
 use iceoryx2_values::description::ServiceHash;
+use iceoryx2_values::time::Time;
 use std::alloc::Global;
 use std::process::Abort;
 
-/// A pattern with such rounds.
+/// The pattern of a service.
 #[derive(Clone, Copy, Debug, PartialEq, Eq)]
 enum Pattern {
+    Events,
     PublishSubscribe,
     RequestResponse,
 }
@@ -59,6 +63,7 @@ type Rounds = ((&'static [u64], Plan, usize), Answer, Counts, Left);
 /// The service of these tests that is of this pattern.
 fn subject(pattern: Pattern) -> Subject {
     match pattern {
+        Pattern::Events => EVENTS,
         Pattern::PublishSubscribe => PUBLISH_SUBSCRIBE,
         Pattern::RequestResponse => REQUEST_RESPONSE,
     }
@@ -74,6 +79,22 @@ fn faulty(
     match refused.to_vec(alloc) {
         Ok(refused) => Faulty::new(planned(rt, alloc, subject, plan, accesses), refused),
         Err(_) => panic!(rt; "no memory"),
+    }
+}
+
+/// What a refusal of events is.
+fn event_refusal(error: EventOpenOrCreateError) -> Answer {
+    match error {
+        EventOpenOrCreateError::EventOpenError(why) => match why {
+            EventOpenError::HangsInCreation => Answer::HangsInCreation,
+            EventOpenError::ServiceInCorruptedState => Answer::Corrupted,
+            _ => Answer::Other,
+        },
+        EventOpenOrCreateError::EventCreateError(why) => match why {
+            EventCreateError::InternalFailure => Answer::CreateFails,
+            _ => Answer::Other,
+        },
+        EventOpenOrCreateError::SystemInFlux => Answer::SystemInFlux,
     }
 }
 
@@ -106,6 +127,19 @@ fn request_refusal(error: RequestResponseOpenOrCreateError) -> Answer {
             _ => Answer::Other,
         },
         RequestResponseOpenOrCreateError::SystemInFlux => Answer::SystemInFlux,
+    }
+}
+
+/// What an open or create of events by node 1 answers, for as many nodes as the others.
+fn of_events(rt: &impl Abort, alloc: Global, storage: &mut Faulty<Table>) -> Answer {
+    let builder = events::<Counted>(rt, alloc, 1).max_nodes(20);
+    match builder.open_or_create(storage, Ok(Time::default())) {
+        Ok(factory) => {
+            let number = factory.number();
+            factory.abandon();
+            Answer::Granted(number)
+        }
+        Err(error) => event_refusal(error),
     }
 }
 
@@ -146,6 +180,7 @@ fn open_or_create(
     storage: &mut Faulty<Table>,
 ) -> Answer {
     match pattern {
+        Pattern::Events => of_events(rt, alloc, storage),
         Pattern::PublishSubscribe => of_publish_subscribe(rt, alloc, storage),
         Pattern::RequestResponse => of_request_response(rt, alloc, storage),
     }
@@ -188,8 +223,9 @@ fn assert_rows_of(rt: &impl Abort, alloc: Global, pattern: Pattern, rows: &[Roun
     }
 }
 
-/// Finds it for either pattern.
+/// Finds it for each pattern.
 fn assert_rows(rt: &impl Abort, alloc: Global, rows: &[Rounds]) {
+    assert_rows_of(rt, alloc, Pattern::Events, rows);
     assert_rows_of(rt, alloc, Pattern::PublishSubscribe, rows);
     assert_rows_of(rt, alloc, Pattern::RequestResponse, rows);
 }

@@ -6,13 +6,7 @@ use crate::storages::support::Call::*;
 use crate::storages::support::*;
 use iceoryx2_errors::error::{EventCreateError, EventOpenError};
 
-/// An open or create of node 1 whose create is refused with a state that contradicts itself.
-const CORRUPTED_STATE: (Call, Answer) = (
-    OpenOrCreate(1),
-    CreateRefused(EventCreateError::ServiceInCorruptedState),
-);
-
-/// One at whose create the storage fails.
+/// An open or create of node 1 at whose create the storage fails.
 const INTERNAL_FAILURE: (Call, Answer) = (
     OpenOrCreate(1),
     CreateRefused(EventCreateError::InternalFailure),
@@ -37,7 +31,13 @@ const CREATES: &[Run] = &[
         (1, 1, 0, 0),
         NEW,
     ),
-    (&[2], &[CORRUPTED_STATE], (2, 2, 0, 0), NEW),
+    // a second round, with a look and the six accesses of its create
+    (
+        &[2],
+        &[(OpenOrCreate(1), Granted(0))],
+        (9, 4, 0, 1),
+        SERVICE_OF_1,
+    ),
     // a refused count tells of no registration
     (
         &[3],
@@ -48,25 +48,34 @@ const CREATES: &[Run] = &[
     (&[4], &[INTERNAL_FAILURE], (4, 2, 0, 0), NEW),
     (&[5], &[INTERNAL_FAILURE], (6, 2, 0, 0), NEW),
     (&[6], &[INTERNAL_FAILURE], (8, 2, 0, 1), EMPTY),
-    (&[7], &[CORRUPTED_STATE], (10, 2, 0, 1), EMPTY),
-    // the segment isn't removed, and a later call clears it away
+    // the same after three removals, with the next number
+    (
+        &[7],
+        &[(OpenOrCreate(1), Granted(1))],
+        (17, 4, 0, 2),
+        LATER_SERVICE,
+    ),
+    // the segment isn't removed, and the second round clears it away by a removal, and makes it twice
     (
         &[7, 8],
-        &[CORRUPTED_STATE, (OpenOrCreate(1), Granted(1))],
+        &[(OpenOrCreate(1), Granted(1))],
         (19, 4, 0, 3),
         LATER_SERVICE,
     ),
-    // the lock isn't removed, and nobody gets past it
+    // the lock isn't removed, and neither the second round's look nor anybody else gets past it
     (
         &[7, 9],
         &[
-            CORRUPTED_STATE,
+            (
+                OpenOrCreate(1),
+                OpenRefused(EventOpenError::HangsInCreation),
+            ),
             (
                 OpenOrCreate(2),
                 OpenRefused(EventOpenError::HangsInCreation),
             ),
         ],
-        (12, 3, 0, 1),
+        (14, 4, 0, 1),
         (Row::Locked(0), None, (NOTHING, NOTHING), 1),
     ),
 ];
@@ -85,6 +94,7 @@ const OPENS: &[Run] = &[
         (12, 3, 1, 1),
         SERVICE_OF_BOTH,
     ),
+    // the look of a round is not tried again
     (
         &[7],
         &[
@@ -109,17 +119,12 @@ const OPENS: &[Run] = &[
         (8, 2, 0, 1),
         SERVICE_OF_1,
     ),
+    // the look of the open is, by a second round of six accesses
     (
         &[9],
-        &[
-            FIRST_CREATE,
-            (
-                OpenOrCreate(2),
-                OpenRefused(EventOpenError::ServiceInCorruptedState),
-            ),
-        ],
-        (9, 3, 0, 1),
-        SERVICE_OF_1,
+        &[FIRST_CREATE, (OpenOrCreate(2), Granted(0))],
+        (15, 5, 1, 1),
+        SERVICE_OF_BOTH,
     ),
     (
         &[10],
@@ -158,18 +163,12 @@ const OPENS: &[Run] = &[
         (19, 5, 2, 1),
         SERVICE_OF_BOTH,
     ),
-    // but not where the second look fails
+    // and where the second look fails, by a second round, once the tag is given back
     (
         &[12, 13],
-        &[
-            FIRST_CREATE,
-            (
-                OpenOrCreate(2),
-                OpenRefused(EventOpenError::ServiceInCorruptedState),
-            ),
-        ],
-        (14, 4, 1, 1),
-        SERVICE_OF_1,
+        &[FIRST_CREATE, (OpenOrCreate(2), Granted(0))],
+        (20, 6, 2, 1),
+        SERVICE_OF_BOTH,
     ),
 ];
 

@@ -322,8 +322,11 @@ const NOTHING_THERE: &[AccessAnswer] = &[Exists(Existence::No)];
 
 const SERVICE_THERE: &[AccessAnswer] = &[Exists(Existence::Yes), Fetch(Ok((3, COMPATIBLE)))];
 
+/// A round's look that finds a service of another pattern, by which the call ends.
+const ANOTHER_THERE: &[AccessAnswer] = &[Exists(Existence::Yes), Fetch(Ok((3, OTHER_PATTERN)))];
+
 /// Scripts, why an open or create is refused over them, their counters, and the answers that are
-/// left in them.
+/// left in them. A round that is retried is followed by one that finds a service of another pattern.
 const ROUNDS: &[(Parts, Answer, Counters, Left)] = &[
     // the look of a round is not tried again
     (
@@ -350,16 +353,17 @@ const ROUNDS: &[(Parts, Answer, Counters, Left)] = &[
         (1, 0, 0),
         &[],
     ),
-    // a create in a round gives back what it made
+    // a create in a round gives back what it made, before the next round
     (
         &[
             NOTHING_THERE,
             NO_SERVICE,
             &[MakeTag(Tag::Made), Lock(5)],
             FAILED_PUBLISHING,
+            ANOTHER_THERE,
         ],
-        Answer::CreateRefused(EventCreateError::ServiceInCorruptedState),
-        (2, 0, 1),
+        Answer::OpenRefused(EventOpenError::IncompatibleMessagingPattern),
+        (3, 0, 1),
         &[],
     ),
     (
@@ -373,37 +377,113 @@ const ROUNDS: &[(Parts, Answer, Counters, Left)] = &[
             CLEARING,
             CLEARING,
             IN_THE_WAY,
+            ANOTHER_THERE,
         ],
-        Answer::CreateRefused(EventCreateError::ServiceInCorruptedState),
-        (2, 0, 6),
+        Answer::OpenRefused(EventOpenError::IncompatibleMessagingPattern),
+        (3, 0, 6),
         &[],
     ),
+    // one finds what the round's look didn't
+    (
+        &[NOTHING_THERE, SERVICE_THERE, ANOTHER_THERE],
+        Answer::OpenRefused(EventOpenError::IncompatibleMessagingPattern),
+        (3, 0, 0),
+        &[],
+    ),
+    // or a node that is registered though there is no service
+    (
+        &[
+            NOTHING_THERE,
+            &[Exists(Existence::No), Counts(true)],
+            ANOTHER_THERE,
+        ],
+        Answer::OpenRefused(EventOpenError::IncompatibleMessagingPattern),
+        (3, 0, 0),
+        &[],
+    ),
+    // but what the storage fails at ends the call
     (
         &[NOTHING_THERE, &[Exists(Existence::No), Lock(1)]],
         Answer::CreateRefused(EventCreateError::InternalFailure),
         (2, 0, 0),
         &[Lock(1)],
     ),
-    // and so does an open
+    // an open does not find the service any more, at its first look or behind an opening
     (
-        &[
-            SERVICE_THERE,
-            FAILED_OPENING,
-            &[Exists(Existence::No), RemoveTag],
-        ],
-        Answer::OpenRefused(EventOpenError::DoesNotExist),
-        (3, 1, 0),
+        &[SERVICE_THERE, NOTHING_THERE, ANOTHER_THERE],
+        Answer::OpenRefused(EventOpenError::IncompatibleMessagingPattern),
+        (3, 0, 0),
         &[],
     ),
     (
         &[
             SERVICE_THERE,
             FAILED_OPENING,
-            &[Exists(Existence::Yes), Fetch(Ok((3, DAMAGED))), RemoveTag],
+            &[Exists(Existence::No), RemoveTag],
+            ANOTHER_THERE,
         ],
-        Answer::OpenRefused(EventOpenError::ServiceInCorruptedState),
+        Answer::OpenRefused(EventOpenError::IncompatibleMessagingPattern),
+        (4, 1, 0),
+        &[],
+    ),
+    // or finds it damaged
+    (
+        &[
+            SERVICE_THERE,
+            FAILED_OPENING,
+            &[Exists(Existence::Yes), Fetch(Ok((3, DAMAGED))), RemoveTag],
+            ANOTHER_THERE,
+        ],
+        Answer::OpenRefused(EventOpenError::IncompatibleMessagingPattern),
+        (4, 1, 0),
+        &[],
+    ),
+    // or without a segment, or marked
+    (
+        &[
+            SERVICE_THERE,
+            SERVICE_THERE,
+            &[
+                MakeTag(Tag::Made),
+                OpenSegment(Err(OpenSegmentError::DoesNotExist)),
+                RemoveTag,
+            ],
+            ANOTHER_THERE,
+        ],
+        Answer::OpenRefused(EventOpenError::IncompatibleMessagingPattern),
         (3, 1, 0),
         &[],
+    ),
+    (
+        &[
+            SERVICE_THERE,
+            SERVICE_THERE,
+            &[
+                MakeTag(Tag::Made),
+                OpenSegment(Err(OpenSegmentError::Marked)),
+                RemoveTag,
+            ],
+            ANOTHER_THERE,
+        ],
+        Answer::OpenRefused(EventOpenError::IncompatibleMessagingPattern),
+        (3, 1, 0),
+        &[],
+    ),
+    // but not full: that ends the call, and the next answers are left
+    (
+        &[
+            SERVICE_THERE,
+            SERVICE_THERE,
+            &[
+                MakeTag(Tag::Made),
+                OpenSegment(Err(OpenSegmentError::Full)),
+                RemoveTag,
+            ],
+            ANOTHER_THERE,
+        ],
+        Answer::OpenRefused(EventOpenError::ExceedsMaxNumberOfNodes),
+        (2, 1, 0),
+        ANOTHER_THERE,
     ),
 ];
 
