@@ -8,8 +8,6 @@ mod ample_memory;
 #[cfg(test)]
 mod attributes;
 #[cfg(test)]
-mod batches;
-#[cfg(test)]
 mod clones;
 #[cfg(test)]
 mod deadlines;
@@ -24,21 +22,19 @@ mod out_of_memory;
 #[cfg(test)]
 mod paths;
 #[cfg(test)]
-mod peers;
-#[cfg(test)]
 mod publish_subscribe;
 #[cfg(test)]
 mod readme;
 #[cfg(test)]
 mod request_response;
 #[cfg(test)]
-mod retried;
-#[cfg(test)]
 mod runs;
 #[cfg(test)]
 mod sessions;
 #[cfg(test)]
 mod storages;
+#[cfg(test)]
+mod subjects;
 #[cfg(test)]
 mod support;
 #[cfg(test)]

@@ -1,11 +1,11 @@
 //! Open or create: over storages that answer from a list, and over a table.
 
-use crate::peers::PUBLISH_SUBSCRIBE;
 use crate::publish_subscribe::support::Ask::{Buffer, History, Nodes, Overflow};
 use crate::publish_subscribe::support::{self as subscribe, Ask, Given, asking, given};
 use crate::storages::scripts::AccessAnswer::*;
 use crate::storages::scripts::{AccessAnswer, COMPATIBLE, Counters, push_all};
 use crate::storages::support::events;
+use crate::subjects::PUBLISH_SUBSCRIBE;
 use crate::support::{Pairs, assert_same, drop_table, hash_of_events, held, table_from, verifier};
 use iceoryx2_access::storage::{Existence, OpenSegmentError, Service, Tag};
 use iceoryx2_errors::error::{

@@ -3,9 +3,9 @@
 
 use self::Letter::*;
 use self::Says::*;
-use crate::peers::{PUBLISH_SUBSCRIBE, REQUEST_RESPONSE};
 use crate::storages::scripts::{COMPATIBLE, Counters};
 use crate::storages::support::bytes_of;
+use crate::subjects::{PUBLISH_SUBSCRIBE, REQUEST_RESPONSE};
 use crate::support::{assert_same, name, push};
 use iceoryx2_access::storage::{
     Existence, FetchError, LockError, MakeSegmentError, OpenSegmentError, PublishError, Tag,

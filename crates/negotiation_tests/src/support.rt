@@ -289,22 +289,12 @@ fn segment_of(entry: &Entry) -> Segment {
 }
 
 /// The row and the segment of the only service that is listed, or of none.
-pub fn only_one(rt: &impl Abort, entries: &[Entry]) -> (Row, Segment) {
+fn only_one(rt: &impl Abort, entries: &[Entry]) -> (Row, Segment) {
     match entries {
         [] => (Row::Absent, None),
         [entry] => (row_of(entry), segment_of(entry)),
         _ => panic!(rt; "more than one service"),
     }
-}
-
-/// The row and the segment that are listed under a hash.
-pub fn row_and_segment_of(rt: &impl Abort, table: &Table, hash: &ServiceHash) -> (Row, Segment) {
-    for entry in &entries(rt, table) {
-        if entry.hash == *hash {
-            return (row_of(entry), segment_of(entry));
-        }
-    }
-    (Row::Absent, None)
 }
 
 /// The row and the segment of a table's only service, or of none.

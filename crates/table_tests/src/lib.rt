@@ -2,9 +2,19 @@
 #![tactic(auto)]
 
 #[cfg(test)]
-mod peers;
+mod batches;
+#[cfg(test)]
+mod body;
+#[cfg(test)]
+mod calls;
+#[cfg(test)]
+mod patterns;
 #[cfg(test)]
 mod plain;
+#[cfg(test)]
+mod plain_session;
+#[cfg(test)]
+mod refusals;
 #[cfg(test)]
 mod sessions;
 #[cfg(test)]

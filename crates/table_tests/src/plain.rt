@@ -23,6 +23,7 @@ pub struct PlainTable {
     counter: u64,
     // the batches, the next one first
     waiting: Vec<Vec<Step>>,
+    skipped: u64,
 }
 
 impl PlainTable {
@@ -33,6 +34,7 @@ impl PlainTable {
             services: BTreeMap::new(alloc),
             counter: 0,
             waiting: Vec::new(alloc),
+            skipped: 0,
         }
     }
 
@@ -46,9 +48,30 @@ impl PlainTable {
         self.waiting.len()
     }
 
+    /// How many steps of batches were allowed and found no memory. It stops at `u64::MAX`.
+    pub fn skipped(&self) -> u64 {
+        self.skipped
+    }
+
     /// The next number or ticket.
     pub fn counter(&self) -> u64 {
         self.counter
+    }
+
+    /// Whether the node has a tag for the service.
+    pub fn has_tag(&self, node: u64, hash: &ServiceHash) -> bool {
+        match self.services.get(hash) {
+            Some(standing) => standing.has_tag(node),
+            None => false,
+        }
+    }
+
+    /// How many tickets the node has for the service.
+    pub fn tickets(&self, node: u64, hash: &ServiceHash) -> u64 {
+        match self.services.get(hash) {
+            Some(standing) => standing.tickets(node),
+            None => 0,
+        }
     }
 
     /// Each service with a row or a segment, in the map's order.
@@ -78,7 +101,8 @@ impl PlainTable {
         }
     }
 
-    /// Takes a step of a participant, and tells whether it was allowed.
+    /// Takes a step of a participant, and tells whether it was allowed. At a service of which nothing is
+    /// kept only a lock is.
     fn take(
         &mut self,
         participant: Participant,
@@ -86,8 +110,14 @@ impl PlainTable {
         act: &Act,
     ) -> Result<bool, AllocError> {
         let alloc = self.alloc;
-        let standing = self.services.entry(*hash)?.or_insert(Standing::new(alloc));
-        standing.take(alloc, participant, hash, act, &mut self.counter)
+        if let Act::Lock = act {
+            let standing = self.services.entry(*hash)?.or_insert(Standing::new(alloc));
+            return standing.take(alloc, participant, hash, act, &mut self.counter);
+        }
+        match self.services.get_mut(hash) {
+            Some(standing) => standing.take(alloc, participant, hash, act, &mut self.counter),
+            None => Ok(false),
+        }
     }
 
     /// Takes a step of a node.
@@ -103,6 +133,14 @@ impl PlainTable {
         }
     }
 
+    /// Takes a step of a peer, or counts it where it finds no memory.
+    fn peer_takes(&mut self, step: &Step) {
+        match self.take(Participant::Peer(step.peer), &step.hash, &step.act) {
+            Ok(_) => {}
+            Err(_) => self.skipped = self.skipped.saturating_add(1),
+        }
+    }
+
     /// Runs the next batch, if one waits.
     fn run_batch(&mut self) {
         if self.waiting.is_empty() {
@@ -110,7 +148,7 @@ impl PlainTable {
         }
         let batch = self.waiting.remove(0);
         for step in &batch {
-            let _ = self.take(Participant::Peer(step.peer), &step.hash, &step.act);
+            self.peer_takes(step);
         }
     }
 

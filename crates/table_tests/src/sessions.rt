@@ -1,15 +1,14 @@
 //! A session that takes all slots, and the same commands at the plain table.
 
+use crate::body::Body;
+use crate::patterns::Pattern;
 use crate::plain::{Plain, PlainTable};
-use crate::support::{assert_same, close, drop_table, entries, name, new_table, push};
-use iceoryx2_attributes::attribute::AttributeVerifier;
-use iceoryx2_builder::builder::Node;
-use iceoryx2_commands::command::{Call, Command, How, Refusal, Reply, Settings};
-use iceoryx2_port_factory::port_factory::event::PortFactory;
+use crate::plain_session::Commanded;
+use crate::support::{assert_same, command, push};
+use iceoryx2_commands::command::{Command, How, Reply};
 use iceoryx2_session::session::Session;
+use iceoryx2_storage::local::Local;
 use iceoryx2_values::config::Config;
-use iceoryx2_values::description::ServiceName;
-use iceoryx2_values::time::Time;
 use iceoryx2_world::listing::Entry;
 use std::alloc::{AllocError, Global};
 use std::process::Abort;
@@ -17,25 +16,18 @@ use std::process::Abort;
 /// How many services are created.
 const SERVICES: usize = 64;
 
-/// The name of the service at this place: `s` and its number.
-fn name_at(rt: &impl Abort, alloc: Global, place: usize) -> ServiceName {
+/// Node 1 creates the service at this place, whose name is `s` and its number, in the slot of that number.
+fn create(rt: &impl Abort, alloc: Global, place: usize) -> Command {
     match format!(in alloc; "s{place}") {
-        Ok(text) => name(rt, alloc, text.as_str()),
+        Ok(text) => command(
+            rt,
+            alloc,
+            Pattern::Event,
+            (How::Create, 1, place),
+            text.as_str(),
+        ),
         Err(_) => panic!(rt; "no memory"),
     }
-}
-
-/// Node 1 creates the service at this place, in the slot of its number.
-fn create(rt: &impl Abort, alloc: Global, place: usize) -> Command {
-    Command::Call(Call {
-        how: How::Create,
-        node: 1,
-        slot: place,
-        name: name_at(rt, alloc, place),
-        settings: Settings::Event(Vec::new(alloc)),
-        attributes: AttributeVerifier::new(alloc),
-        now: Ok(Time::default()),
-    })
 }
 
 /// Creates of all services.
@@ -69,10 +61,10 @@ type Seen = (Vec<Reply>, u64);
 
 /// What the session answers to all commands in one go, and the counter of its table afterwards.
 fn run(alloc: Global, commands: Vec<Command>) -> (Result<Vec<Reply>, AllocError>, u64) {
-    let mut session = Session::new(Config::default(), new_table(alloc));
+    let mut session = Session::new(Config::default(), Local::new(alloc));
     let replies = session.run(commands);
     let counter = session.table().counter();
-    drop_table(session.finish());
+    Local::let_go(session.finish());
     (replies, counter)
 }
 
@@ -85,136 +77,15 @@ fn seen_of_session(rt: &impl Abort, alloc: Global) -> Seen {
     }
 }
 
-/// A factory of a list. Where it is let go, its ticket stays.
-struct Kept {
-    factory: PortFactory<Plain>,
-}
-
-impl Drop for Kept {
-    fn drop(self) {
-        let Kept { factory } = self;
-        factory.abandon();
-    }
-}
-
-impl Kept {
-    /// Closes it.
-    fn close(self, rt: &impl Abort, table: &mut PlainTable) {
-        let Kept { factory } = self;
-        close::<Plain>(rt, factory, table);
-    }
-}
-
-/// What stands in each slot.
-type Slots = Vec<Option<Kept>>;
-
-/// As many slots as there are services, in which nothing stands.
-fn empty_slots(rt: &impl Abort, alloc: Global) -> Slots {
-    let mut slots = Vec::new(alloc);
-    for _ in 0..SERVICES {
-        push(rt, &mut slots, None);
-    }
-    slots
-}
-
-/// Why nothing may be put into a slot.
-fn refusal_of(slots: &Slots, slot: usize) -> Option<Reply> {
-    match slots.get(slot) {
-        Some(None) => None,
-        Some(Some(_)) => Some(Reply::SlotInUse),
-        None => Some(Reply::NoSuchSlot),
-    }
-}
-
-/// Puts a factory into a slot.
-fn put(slots: &mut Slots, slot: usize, factory: PortFactory<Plain>) {
-    let kept = Some(Kept { factory });
-    if let Some(place) = slots.get_mut(slot) {
-        *place = kept;
-    }
-}
-
-/// What the plain table answers to a create of events with the default settings, which is put into a slot.
-fn create_at_plain(
-    table: &mut PlainTable,
-    slots: &mut Slots,
-    (node, slot): (u64, usize),
-    name: ServiceName,
-    now: Time,
-) -> Reply {
-    let node = Node::<Plain>::new(node, Config::default());
-    match node.service_builder(name).event().create(table, Ok(now)) {
-        Ok(factory) => {
-            let number = factory.number();
-            put(slots, slot, factory);
-            Reply::Opened { slot, number }
-        }
-        Err(error) => Reply::Refused(Refusal::EventCreate(error)),
-    }
-}
-
-/// What the plain table answers to a call.
-fn call_at_plain(rt: &impl Abort, table: &mut PlainTable, slots: &mut Slots, call: Call) -> Reply {
-    let Call {
-        how,
-        node,
-        slot,
-        name,
-        now,
-        ..
-    } = call;
-    if let Some(refusal) = refusal_of(slots, slot) {
-        return refusal;
-    }
-    match (how, now) {
-        (How::Create, Ok(now)) => create_at_plain(table, slots, (node, slot), name, now),
-        _ => panic!(rt; "no create, or no time"),
-    }
-}
-
-/// What the plain table answers to a close.
-fn close_at_plain(
-    rt: &impl Abort,
-    table: &mut PlainTable,
-    slots: &mut Slots,
-    slot: usize,
-) -> Reply {
-    let Some(place) = slots.get_mut(slot) else {
-        return Reply::NoSuchSlot;
-    };
-    match place.take() {
-        Some(kept) => {
-            kept.close(rt, table);
-            Reply::Closed { slot }
-        }
-        None => Reply::SlotEmpty,
-    }
-}
-
-/// What the plain table answers to a command.
-fn answer_of_plain(
-    rt: &impl Abort,
-    table: &mut PlainTable,
-    slots: &mut Slots,
-    command: Command,
-) -> Reply {
-    match command {
-        Command::Call(call) => call_at_plain(rt, table, slots, call),
-        Command::Close { slot } => close_at_plain(rt, table, slots, slot),
-        Command::List => Reply::Listing(entries(rt, table.list())),
-    }
-}
-
 /// What is seen of the same commands at the plain table.
 fn seen_of_plain(rt: &impl Abort, alloc: Global) -> Seen {
-    let mut table = PlainTable::new(alloc);
-    let mut slots = empty_slots(rt, alloc);
+    let mut session = Plain::over(rt, alloc, PlainTable::new(alloc));
     let mut replies = Vec::new(alloc);
     for command in commands(rt, alloc) {
-        let reply = answer_of_plain(rt, &mut table, &mut slots, command);
+        let reply = Plain::apply(rt, &mut session, command);
         push(rt, &mut replies, reply);
     }
-    (replies, table.counter())
+    (replies, Plain::table(&session).counter())
 }
 
 /// The replies before the listing: each service has the number of its place, and the one that is created

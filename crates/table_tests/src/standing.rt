@@ -309,6 +309,22 @@ impl Standing {
         let _ = self.tags.remove(&node);
     }
 
+    /// Whether a node has a tag.
+    pub fn has_tag(&self, node: u64) -> bool {
+        self.tags.contains(&node)
+    }
+
+    /// How many tickets a node has.
+    pub fn tickets(&self, node: u64) -> u64 {
+        let mut tickets = 0u64;
+        for (_, (owner, _)) in self.tickets.iter() {
+            if *owner == node {
+                tickets = tickets.saturating_add(1);
+            }
+        }
+        tickets
+    }
+
     /// Why a node doesn't open the segment of this number.
     pub fn refusal(&self, node: u64, number: u64, counter: u64) -> Option<OpenSegmentError> {
         let Some(segment) = &self.segment else {

@@ -1,6 +1,5 @@
-//! Calls over storages that answer from a list, and over a table at which a peer's steps wait.
+//! Calls over storages that answer from a list.
 
-use crate::peers::{LEFT, PUBLISH_SUBSCRIBE, PUBLISHED, Plan, planned};
 use crate::publish_subscribe::support::Ask::*;
 use crate::publish_subscribe::support::*;
 use crate::storages::scripts::AccessAnswer::*;
@@ -8,7 +7,6 @@ use crate::storages::scripts::{Counters, Parts, script};
 use iceoryx2_access::storage::{Existence, Tag};
 use iceoryx2_errors::error::{PublishSubscribeCreateError, PublishSubscribeOpenError};
 use iceoryx2_script::script::{Script, Scripted};
-use iceoryx2_storage::local::Local;
 use std::alloc::Global;
 use std::process::Abort;
 
@@ -130,28 +128,4 @@ fn a_create_finds_what_is_there(rt: HostRuntime) {
         let wanted = Err(PublishSubscribeCreateError::AlreadyExists);
         assert_same(&rt, (row, found), (row, (wanted, ((1, 0, 0), 0))));
     }
-}
-
-/// What an open answers beside a peer, and how many steps found no memory.
-fn opened_beside(
-    rt: &impl Abort,
-    alloc: Global,
-    plan: Plan,
-) -> (Result<Given, PublishSubscribeOpenError>, u64) {
-    let mut table = planned(rt, alloc, &PUBLISH_SUBSCRIBE, plan, 1);
-    let answer = open::<Local>(rt, alloc, &mut table, 1, &[]);
-    let skipped = table.skipped();
-    drop_table(table);
-    (answer, skipped)
-}
-
-#[test]
-fn what_a_peer_has_left_is_not_opened(rt: HostRuntime) {
-    let found = [
-        opened_beside(&rt, rt.alloc(), &[(1, PUBLISHED)]),
-        opened_beside(&rt, rt.alloc(), &[(1, LEFT)]),
-    ];
-    let marked = Err(PublishSubscribeOpenError::IsMarkedForDestruction);
-    let wanted = [(Ok((0, DEFAULTS, true, 1)), 0), (marked, 0)];
-    assert_same(&rt, found, wanted);
 }

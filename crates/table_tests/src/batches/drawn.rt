@@ -1,8 +1,13 @@
-//! Batches that are drawn by chance, at a table and at a model of it in a few lines.
+//! Batches that are drawn by chance, at either table and at a model of it in a few lines.
 
 use crate::batches::support::*;
+use crate::body::Body;
+use crate::patterns::{ALL, Offer, Pattern, service};
+use crate::plain::Plain;
+use crate::support::draw;
 use iceoryx2_access::storage::{Existence, Storage};
-use iceoryx2_storage::table::{Step, Table};
+use iceoryx2_storage::local::Local;
+use iceoryx2_storage::table::Step;
 use std::alloc::Global;
 use std::process::Abort;
 
@@ -90,14 +95,21 @@ fn locker(service: Service, number: u64, deed: Deed) -> (Service, Phase) {
     }
 }
 
+/// For how many nodes an offer is.
+fn nodes_of(offer: Offer) -> u64 {
+    match offer {
+        Offer::DefaultsFor(nodes) => nodes,
+        Offer::Others => 2,
+    }
+}
+
 /// What one makes of it that has made its segment.
 fn maker(service: Service, number: u64, deed: Deed) -> (Service, Phase) {
     match (deed, service.segment) {
         (Deed::RemoveSegment, _) => (with_segment(service, None), Phase::Locked(number)),
         (Deed::RemoveDescription, _) => (with_row(service, Row::Absent), Phase::Idle),
-        (Deed::Publish(settings), Some((_, room, _, _))) => {
-            let [_, _, _, max_nodes] = settings;
-            if max_nodes != room {
+        (Deed::Publish(offer), Some((_, room, _, _))) => {
+            if nodes_of(offer) != room {
                 return (service, Phase::Made(number));
             }
             let row = Row::Published(number);
@@ -179,15 +191,6 @@ fn take(world: &mut World, peer: u64, deed: Deed) {
     }
 }
 
-/// Draws a number.
-fn draw(seed: &mut u64) -> u64 {
-    let next = seed
-        .wrapping_mul(6364136223846793005)
-        .wrapping_add(1442695040888963407);
-    *seed = next;
-    next >> 33
-}
-
 /// Draws a deed. Segments are for two, or for none.
 fn deed(seed: &mut u64) -> Deed {
     match draw(seed) % 10 {
@@ -204,25 +207,37 @@ fn deed(seed: &mut u64) -> Deed {
     }
 }
 
-/// Draws a batch, whose steps the model takes.
-fn drawn(rt: &impl Abort, alloc: Global, world: &mut World, seed: &mut u64) -> Vec<Step> {
+/// Draws a batch of steps at a pattern's service, which the model takes.
+fn drawn(
+    rt: &impl Abort,
+    alloc: Global,
+    pattern: Pattern,
+    world: &mut World,
+    seed: &mut u64,
+) -> Vec<Step> {
     let mut steps = Vec::new(alloc);
     for _ in 0..8 {
         let peer = draw(seed) % 3;
         let deed = deed(seed);
         take(world, peer, deed);
-        push_steps(rt, alloc, &mut steps, peer, &[deed]);
+        push_steps(rt, alloc, subject(pattern), &mut steps, (peer, &[deed]));
     }
     steps
 }
 
 /// Runs a batch at a table. Whether the service is there then, and what is left.
-fn ran(rt: &impl Abort, alloc: Global, table: &mut Table, batch: Vec<Step>) -> (Existence, Left) {
+fn ran<B: Body>(
+    rt: &impl Abort,
+    alloc: Global,
+    pattern: Pattern,
+    table: &mut B::Storage,
+    batch: Vec<Step>,
+) -> (Existence, Left) {
     let mut batches = Vec::new(alloc);
     push(rt, &mut batches, batch);
-    table.schedule(batches);
-    let existence = table.exists(&SERVICE);
-    (existence, left(rt, table))
+    B::schedule(table, batches);
+    let existence = table.exists(&service(pattern));
+    (existence, left::<B>(rt, pattern, table))
 }
 
 /// The same at the model.
@@ -263,21 +278,27 @@ fn seen_also(seen: Seen, service: Service) -> Seen {
 }
 
 /// Compares a table with the model after each of many batches. What was seen.
-fn compared(rt: &impl Abort, alloc: Global) -> Seen {
-    let (mut table, mut world) = (planned(rt, alloc, &[]), empty());
+fn compared<B: Body>(rt: &impl Abort, alloc: Global, pattern: Pattern) -> Seen {
+    let (mut table, mut world) = (B::new(alloc), empty());
     let mut seed = 7;
     let mut seen = (false, false);
     for row in 0..500u64 {
-        let batch = drawn(rt, alloc, &mut world, &mut seed);
-        let found = ran(rt, alloc, &mut table, batch);
+        let batch = drawn(rt, alloc, pattern, &mut world, &mut seed);
+        let found = ran::<B>(rt, alloc, pattern, &mut table, batch);
         assert_same(rt, (row, found), (row, wanted(world.service)));
         seen = seen_also(seen, world.service);
     }
-    drop_table(table);
+    B::let_go(table);
     seen
 }
 
 #[test]
 fn drawn_batches_do_what_the_model_does(rt: HostRuntime) {
-    assert_same(&rt, compared(&rt, rt.alloc()), (true, true));
+    for &pattern in ALL {
+        let seen = [
+            compared::<Local>(&rt, rt.alloc(), pattern),
+            compared::<Plain>(&rt, rt.alloc(), pattern),
+        ];
+        assert_same(&rt, seen, [(true, true); 2]);
+    }
 }

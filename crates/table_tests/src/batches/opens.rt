@@ -1,51 +1,42 @@
-//! Opens of a service while peers create it, leave it and replace it by another of the same name.
+//! Opens of a service while peers create it, leave it and replace it by another of the same name. An open
+//! goes alike in each pattern.
 
 use self::Deed::*;
+use crate::batches::rows::{Answer, Beside, assert_rows};
 use crate::batches::support::*;
+use crate::patterns::Offer;
+use iceoryx2_commands::command::{How, Refusal};
 use iceoryx2_errors::error::EventOpenError;
-use std::alloc::Global;
-use std::process::Abort;
 
-/// What is planned, what an open of node 1 answers, the counts, and what is left.
-type Opening = (Plan, Result<Given, EventOpenError>, Counts, Left);
+/// That open, by nodes that would create the service for 36 nodes.
+const OPEN: (How, u64) = (How::Open, 36);
 
-/// What an open of node 1 answers, the counts, and what is left.
-fn opened(
-    rt: &impl Abort,
-    alloc: Global,
-    plan: Plan,
-) -> (Result<Given, EventOpenError>, (Counts, Left)) {
-    let mut table = counted(rt, alloc, plan);
-    let answer = open(rt, alloc, &mut table, 1);
-    (answer, counts_and_left(rt, table))
-}
+/// How an open is refused.
+const HANGS: Answer = Err(Refusal::EventOpen(EventOpenError::HangsInCreation));
 
-/// Opens as it is planned in each row, and finds what is wanted there.
-fn assert_rows(rt: &impl Abort, alloc: Global, rows: &[Opening]) {
-    for (row, &(plan, answer, counts, left)) in rows.iter().enumerate() {
-        let found = opened(rt, alloc, plan);
-        assert_same(rt, (row, found), (row, (answer, (counts, left))));
-    }
-}
+const MARKED: Answer = Err(Refusal::EventOpen(EventOpenError::IsMarkedForDestruction));
+
+const FULL: Answer = Err(Refusal::EventOpen(EventOpenError::ExceedsMaxNumberOfNodes));
+
+const CORRUPTED: Answer = Err(Refusal::EventOpen(EventOpenError::ServiceInCorruptedState));
 
 /// Opens of what a peer has begun to create, has left, and has filled.
-const REFUSED: &[Opening] = &[
-    (
-        &[(1, 7, &[Lock])],
-        Err(EventOpenError::HangsInCreation),
-        (1, 0, 0, 2),
-        LOCKED,
-    ),
+const REFUSED: &[Beside] = &[
+    (&[(1, 7, &[Lock])], HANGS, (1, 0, 0, 2), LOCKED),
     // only the lock is allowed
     (
         &[(1, 7, &[Join, Make(3), Publish(DEFAULTS), Lock, Make(0)])],
-        Err(EventOpenError::HangsInCreation),
+        HANGS,
         (1, 0, 0, 2),
         LOCKED,
     ),
     (
-        &[(1, 7, &[Lock, Make(20), Publish([16, 16, 255, 20]), Leave])],
-        Err(EventOpenError::IsMarkedForDestruction),
+        &[(
+            1,
+            7,
+            &[Lock, Make(20), Publish(Offer::DefaultsFor(20)), Leave],
+        )],
+        MARKED,
         (1, 1, 0, 5),
         (Row::Published(0), Some((0, 20, 0, true)), (false, 0), 1, 0),
     ),
@@ -54,7 +45,7 @@ const REFUSED: &[Opening] = &[
             (1, 7, &[Lock, Make(2), Publish(FOR_TWO)]),
             (1, 8, &[Read, Join]),
         ],
-        Err(EventOpenError::ExceedsMaxNumberOfNodes),
+        FULL,
         (1, 1, 0, 5),
         (Row::Published(0), Some((0, 2, 2, false)), (false, 0), 1, 0),
     ),
@@ -62,14 +53,14 @@ const REFUSED: &[Opening] = &[
 
 #[test]
 fn what_peers_hold_is_not_opened(rt: HostRuntime) {
-    assert_rows(&rt, rt.alloc(), REFUSED);
+    assert_rows(&rt, rt.alloc(), OPEN, REFUSED);
 }
 
 /// What is left where the other service is open, beside the peer.
 pub const OTHER: Left = (Row::Published(1), Some((1, 2, 2, false)), (true, 1), 3, 0);
 
 /// Replacements before one access of an open.
-const REPLACEMENTS: &[Opening] = &[
+const REPLACEMENTS: &[Beside] = &[
     (
         &[(1, 7, PUBLISHED), (1, 7, REPLACED)],
         Ok((1, FOR_TWO)),
@@ -98,11 +89,11 @@ const REPLACEMENTS: &[Opening] = &[
 
 #[test]
 fn a_replaced_service_is_opened_as_it_is_then(rt: HostRuntime) {
-    assert_rows(&rt, rt.alloc(), REPLACEMENTS);
+    assert_rows(&rt, rt.alloc(), OPEN, REPLACEMENTS);
 }
 
 /// The first steps of a replacement before the segment is opened, one more in each row.
-const FIRST_STEPS: &[Opening] = &[
+const FIRST_STEPS: &[Beside] = &[
     (
         &[(1, 7, PUBLISHED)],
         Ok((0, DEFAULTS)),
@@ -111,13 +102,13 @@ const FIRST_STEPS: &[Opening] = &[
     ),
     (
         &[(1, 7, PUBLISHED), (4, 7, &[Leave])],
-        Err(EventOpenError::IsMarkedForDestruction),
+        MARKED,
         (1, 1, 0, 5),
         (Row::Published(0), Some((0, 36, 0, true)), (false, 0), 1, 0),
     ),
     (
         &[(1, 7, PUBLISHED), (4, 7, &[Leave, RemoveSegment])],
-        Err(EventOpenError::ServiceInCorruptedState),
+        CORRUPTED,
         (1, 1, 0, 5),
         (Row::Published(0), None, (false, 0), 1, 0),
     ),
@@ -126,7 +117,7 @@ const FIRST_STEPS: &[Opening] = &[
             (1, 7, PUBLISHED),
             (4, 7, &[Leave, RemoveSegment, RemoveDescription]),
         ],
-        Err(EventOpenError::ServiceInCorruptedState),
+        CORRUPTED,
         (1, 1, 0, 5),
         (Row::Absent, None, (false, 0), 1, 0),
     ),
@@ -135,7 +126,7 @@ const FIRST_STEPS: &[Opening] = &[
             (1, 7, PUBLISHED),
             (4, 7, &[Leave, RemoveSegment, RemoveDescription, Lock]),
         ],
-        Err(EventOpenError::ServiceInCorruptedState),
+        CORRUPTED,
         (1, 1, 0, 5),
         (Row::Locked(1), None, (false, 0), 2, 0),
     ),
@@ -148,7 +139,7 @@ const FIRST_STEPS: &[Opening] = &[
                 &[Leave, RemoveSegment, RemoveDescription, Lock, Make(2)],
             ),
         ],
-        Err(EventOpenError::HangsInCreation),
+        HANGS,
         (2, 1, 0, 7),
         (Row::Locked(1), Some((1, 2, 1, false)), (false, 0), 2, 0),
     ),
@@ -162,28 +153,29 @@ const FIRST_STEPS: &[Opening] = &[
 
 #[test]
 fn each_step_of_a_replacement_has_its_answer(rt: HostRuntime) {
-    assert_rows(&rt, rt.alloc(), FIRST_STEPS);
+    assert_rows(&rt, rt.alloc(), OPEN, FIRST_STEPS);
 }
 
-/// A replacement in each of the six rounds.
-const SIX: Plan = &[
-    (1, 7, PUBLISHED),
-    (4, 7, REPLACED),
-    (11, 7, REPLACED),
-    (18, 7, REPLACED),
-    (25, 7, REPLACED),
-    (32, 7, REPLACED),
-    (39, 7, REPLACED),
-];
-
-/// What is left after them.
-const AFTER_SIX: Left = (Row::Published(6), Some((6, 2, 1, false)), (false, 0), 7, 0);
+/// A replacement before each of six openings. A round of an open is seven accesses where its segment isn't
+/// the one that was read: a look of two, a tag, an opening, a second look of two, and the tag's removal. So
+/// the openings are accesses 4, 11 and so on, and the sixth round ends with access 42, after 12 looks and 6
+/// openings. Each replacement spends one number after the first.
+const SIX: &[Beside] = &[(
+    &[
+        (1, 7, PUBLISHED),
+        (4, 7, REPLACED),
+        (11, 7, REPLACED),
+        (18, 7, REPLACED),
+        (25, 7, REPLACED),
+        (32, 7, REPLACED),
+        (39, 7, REPLACED),
+    ],
+    CORRUPTED,
+    (12, 6, 0, 42),
+    (Row::Published(6), Some((6, 2, 1, false)), (false, 0), 7, 0),
+)];
 
 #[test]
 fn six_replacements_end_an_open(rt: HostRuntime) {
-    let wanted = (
-        Err(EventOpenError::ServiceInCorruptedState),
-        ((12, 6, 0, 42), AFTER_SIX),
-    );
-    assert_same(&rt, opened(&rt, rt.alloc(), SIX), wanted);
+    assert_rows(&rt, rt.alloc(), OPEN, SIX);
 }

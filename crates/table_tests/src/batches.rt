@@ -5,5 +5,7 @@ mod creates;
 mod drawn;
 mod opens;
 mod opens_or_creates;
+mod retried;
+mod rows;
 mod sessions;
-mod support;
+pub mod support;

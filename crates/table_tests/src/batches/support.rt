@@ -1,0 +1,218 @@
+//! A table at which batches of peers' steps wait, and what is left in it once a call is over.
+
+use crate::body::Body;
+use crate::patterns::{NAME, Offer, Pattern, described, service, settings_of};
+pub use crate::support::{assert_same, entries, name, push};
+use iceoryx2_script::script::Faulty;
+use iceoryx2_storage::table::{Act, Step};
+use iceoryx2_values::description::ServiceHash;
+use iceoryx2_world::listing::{Entry, ListedRow, ListedSegment};
+use std::alloc::Global;
+use std::process::Abort;
+
+/// The default settings, for 36 nodes.
+pub const DEFAULTS: Offer = Offer::DefaultsFor(36);
+
+/// Other settings, for two nodes.
+pub const FOR_TWO: Offer = Offer::Others;
+
+/// What a peer does, with what it offers in place of a description.
+#[derive(Clone, Copy)]
+pub enum Deed {
+    Read,
+    Lock,
+    RemoveSegment,
+    RemoveDescription,
+    Make(u64),
+    Publish(Offer),
+    Join,
+    Leave,
+}
+
+/// Before which access of the table which peer does what. The last row is for the last access.
+pub type Plan = &'static [(usize, u64, &'static [Deed])];
+
+/// A service that a peer's step is for: its pattern, its hash and its name.
+pub type Subject<'a> = (Pattern, ServiceHash, &'a str);
+
+/// The service of this pattern that is called for.
+pub fn subject(pattern: Pattern) -> Subject<'static> {
+    (pattern, service(pattern), NAME)
+}
+
+/// That deed as an act.
+fn act(rt: &impl Abort, alloc: Global, (pattern, hash, text): Subject, deed: Deed) -> Act {
+    match deed {
+        Deed::Read => Act::Read,
+        Deed::Lock => Act::Lock,
+        Deed::RemoveSegment => Act::RemoveSegment,
+        Deed::RemoveDescription => Act::RemoveDescription,
+        Deed::Make(max_nodes) => Act::Make { max_nodes },
+        Deed::Publish(offer) => {
+            let settings = settings_of(pattern, offer);
+            Act::Publish(described(rt, alloc, (hash, text), settings))
+        }
+        Deed::Join => Act::Join,
+        Deed::Leave => Act::Leave,
+    }
+}
+
+/// Puts the steps of a peer behind others.
+pub fn push_steps(
+    rt: &impl Abort,
+    alloc: Global,
+    subject: Subject,
+    steps: &mut Vec<Step>,
+    (peer, deeds): (u64, &[Deed]),
+) {
+    for &deed in deeds {
+        let step = Step {
+            peer,
+            hash: subject.1,
+            act: act(rt, alloc, subject, deed),
+        };
+        push(rt, steps, step);
+    }
+}
+
+/// The steps that are planned before this access.
+fn batch(rt: &impl Abort, alloc: Global, pattern: Pattern, plan: Plan, access: usize) -> Vec<Step> {
+    let mut steps = Vec::new(alloc);
+    for &(before, peer, deeds) in plan {
+        if before == access {
+            push_steps(rt, alloc, subject(pattern), &mut steps, (peer, deeds));
+        }
+    }
+    steps
+}
+
+/// How many batches are planned: as many as there are accesses up to the last one that the plan names.
+pub fn planned_batches(plan: Plan) -> usize {
+    match plan.last() {
+        Some(&(last, _, _)) => last,
+        None => 0,
+    }
+}
+
+/// Plans this of a pattern's service at a table, in the place of what waits.
+pub fn schedule<B: Body>(
+    rt: &impl Abort,
+    alloc: Global,
+    pattern: Pattern,
+    table: &mut B::Storage,
+    plan: Plan,
+) {
+    let mut batches = Vec::new(alloc);
+    for earlier in 0..planned_batches(plan) {
+        let batch = batch(rt, alloc, pattern, plan, earlier.saturating_add(1));
+        push(rt, &mut batches, batch);
+    }
+    B::schedule(table, batches);
+}
+
+/// A new table for which this is planned.
+pub fn planned<B: Body>(
+    rt: &impl Abort,
+    alloc: Global,
+    pattern: Pattern,
+    plan: Plan,
+) -> B::Storage {
+    let mut table = B::new(alloc);
+    schedule::<B>(rt, alloc, pattern, &mut table, plan);
+    table
+}
+
+/// A peer publishes the service with the default settings.
+pub const PUBLISHED: &[Deed] = &[Deed::Lock, Deed::Make(36), Deed::Publish(DEFAULTS)];
+
+/// It takes it away, and publishes another.
+pub const REPLACED: &[Deed] = &[
+    Deed::Leave,
+    Deed::RemoveSegment,
+    Deed::RemoveDescription,
+    Deed::Lock,
+    Deed::Make(2),
+    Deed::Publish(FOR_TWO),
+];
+
+/// What is written under a service's hash, without the bytes.
+#[derive(Clone, Copy, Debug, PartialEq, Eq)]
+pub enum Row {
+    Absent,
+    Locked(u64),
+    Published(u64),
+}
+
+/// A segment's number, for how many nodes it is, how many are in it, and whether it is marked.
+pub type Segment = Option<(u64, u64, u64, bool)>;
+
+/// What is listed of a row, without the bytes.
+fn row_of(entry: &Entry) -> Row {
+    match entry.row {
+        ListedRow::Absent => Row::Absent,
+        ListedRow::Locked(number) => Row::Locked(number),
+        ListedRow::Published(number, _) => Row::Published(number),
+    }
+}
+
+/// What is listed of a segment.
+fn segment_of(entry: &Entry) -> Segment {
+    let ListedSegment {
+        number,
+        max_nodes,
+        participants,
+        marked,
+    } = entry.segment?;
+    Some((number, max_nodes, participants, marked))
+}
+
+/// The row and the segment of the only service that is listed, or of none.
+pub fn only_one(rt: &impl Abort, entries: &[Entry]) -> (Row, Segment) {
+    match entries {
+        [] => (Row::Absent, None),
+        [entry] => (row_of(entry), segment_of(entry)),
+        _ => panic!(rt; "more than one service"),
+    }
+}
+
+/// The row and the segment that are listed under a hash.
+pub fn row_and_segment_of(entries: &[Entry], hash: &ServiceHash) -> (Row, Segment) {
+    for entry in entries {
+        if entry.hash == *hash {
+            return (row_of(entry), segment_of(entry));
+        }
+    }
+    (Row::Absent, None)
+}
+
+/// Whether a node has a tag for a service, and how many tickets.
+pub fn held<B: Body>(table: &B::Storage, node: u64, hash: &ServiceHash) -> (bool, u64) {
+    (B::has_tag(table, node, hash), B::tickets(table, node, hash))
+}
+
+/// The row and the segment of the service, whether node 1 has its tag and how many tickets, the table's
+/// counter, and how many steps found no memory.
+pub type Left = (Row, Segment, (bool, u64), u64, u64);
+
+/// What is left where a peer holds the lock.
+pub const LOCKED: Left = (Row::Locked(0), None, (false, 0), 1, 0);
+
+/// What is left of a pattern's service in a table with no other.
+pub fn left<B: Body>(rt: &impl Abort, pattern: Pattern, table: &B::Storage) -> Left {
+    let (row, segment) = only_one(rt, entries(rt, B::list(table)).as_slice());
+    let held = held::<B>(table, 1, &service(pattern));
+    (row, segment, held, B::counter(table), B::skipped(table))
+}
+
+/// How many looks, openings, makings and accesses a table was asked for.
+pub type Counts = (u64, u64, u64, u64);
+
+/// The counts of a table.
+pub fn counts<T>(table: &Faulty<T>) -> Counts {
+    (
+        table.looks(),
+        table.openings(),
+        table.makings(),
+        table.accesses(),
+    )
+}

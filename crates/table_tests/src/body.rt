@@ -1,0 +1,116 @@
+//! The two bodies of a table, side by side: the one in sorted vectors, and the plain one.
+
+use crate::plain::{Plain, PlainTable};
+use iceoryx2_access::storage::Service;
+use iceoryx2_storage::local::Local;
+use iceoryx2_storage::table::{Step, Table};
+use iceoryx2_values::description::ServiceHash;
+use iceoryx2_world::listing::Entry;
+use std::alloc::{AllocError, Global};
+
+/// Services that stand in a table of one of the two bodies. A test is written once, over any of them. What
+/// a reader tells runs no batch.
+pub trait Body: Service {
+    /// An empty table whose first number is 0, at which nothing waits.
+    fn new(alloc: Global) -> Self::Storage;
+
+    /// Puts these batches in the place of those that wait.
+    fn schedule(table: &mut Self::Storage, batches: Vec<Vec<Step>>);
+
+    /// How many batches wait.
+    fn pending(table: &Self::Storage) -> usize;
+
+    /// The next number or ticket.
+    fn counter(table: &Self::Storage) -> u64;
+
+    /// How many steps of batches found no memory.
+    fn skipped(table: &Self::Storage) -> u64;
+
+    /// Each service with a row or a segment, in the order of the hashes' bytes.
+    fn list(table: &Self::Storage) -> Result<Vec<Entry>, AllocError>;
+
+    /// Whether the node has a tag for the service.
+    fn has_tag(table: &Self::Storage, node: u64, hash: &ServiceHash) -> bool;
+
+    /// How many tickets the node has for the service.
+    fn tickets(table: &Self::Storage, node: u64, hash: &ServiceHash) -> u64;
+
+    /// Lets a table go. A table is dropped here alone, since each function that drops one takes long to prove.
+    fn let_go(table: Self::Storage);
+}
+
+impl Body for Local {
+    fn new(alloc: Global) -> Table {
+        Table::new(alloc)
+    }
+
+    fn schedule(table: &mut Table, batches: Vec<Vec<Step>>) {
+        table.schedule(batches);
+    }
+
+    fn pending(table: &Table) -> usize {
+        table.pending()
+    }
+
+    fn counter(table: &Table) -> u64 {
+        table.counter()
+    }
+
+    fn skipped(table: &Table) -> u64 {
+        table.skipped()
+    }
+
+    fn list(table: &Table) -> Result<Vec<Entry>, AllocError> {
+        table.list()
+    }
+
+    fn has_tag(table: &Table, node: u64, hash: &ServiceHash) -> bool {
+        table.has_tag(node, hash)
+    }
+
+    fn tickets(table: &Table, node: u64, hash: &ServiceHash) -> u64 {
+        table.tickets(node, hash)
+    }
+
+    fn let_go(table: Table) {
+        let _table = table;
+    }
+}
+
+impl Body for Plain {
+    fn new(alloc: Global) -> PlainTable {
+        PlainTable::new(alloc)
+    }
+
+    fn schedule(table: &mut PlainTable, batches: Vec<Vec<Step>>) {
+        table.schedule(batches);
+    }
+
+    fn pending(table: &PlainTable) -> usize {
+        table.pending()
+    }
+
+    fn counter(table: &PlainTable) -> u64 {
+        table.counter()
+    }
+
+    fn skipped(table: &PlainTable) -> u64 {
+        table.skipped()
+    }
+
+    fn list(table: &PlainTable) -> Result<Vec<Entry>, AllocError> {
+        table.list()
+    }
+
+    fn has_tag(table: &PlainTable, node: u64, hash: &ServiceHash) -> bool {
+        table.has_tag(node, hash)
+    }
+
+    fn tickets(table: &PlainTable, node: u64, hash: &ServiceHash) -> u64 {
+        table.tickets(node, hash)
+    }
+
+    fn let_go(table: PlainTable) {
+        let _table = table;
+    }
+}
