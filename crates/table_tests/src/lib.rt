@@ -16,6 +16,8 @@ mod plain_session;
 #[cfg(test)]
 mod refusals;
 #[cfg(test)]
+mod schedules;
+#[cfg(test)]
 mod sessions;
 #[cfg(test)]
 mod standing;

@@ -6,7 +6,9 @@ use iceoryx2_access::storage::Service;
 use iceoryx2_attributes::attribute::AttributeVerifier;
 use iceoryx2_builder::builder::Node;
 use iceoryx2_builder::builder::event::Builder;
-use iceoryx2_commands::command::{Call, Command, How, Settings};
+use iceoryx2_commands::command::{
+    Call, Command, EventSetting, How, PublishSubscribeSetting, RequestResponseSetting, Settings,
+};
 use iceoryx2_values::config::Config;
 use iceoryx2_values::description::ServiceName;
 use iceoryx2_values::time::Time;
@@ -52,7 +54,7 @@ pub fn events<S: Service>(rt: &impl Abort, alloc: Global) -> Builder<S> {
 }
 
 /// The setters of none of a pattern's settings.
-fn no_settings(alloc: Global, pattern: Pattern) -> Settings {
+pub fn no_settings(alloc: Global, pattern: Pattern) -> Settings {
     match pattern {
         Pattern::Event => Settings::Event(Vec::new(alloc)),
         Pattern::PublishSubscribe => Settings::PublishSubscribe(Vec::new(alloc)),
@@ -60,24 +62,59 @@ fn no_settings(alloc: Global, pattern: Pattern) -> Settings {
     }
 }
 
-/// Calls by a node and into a slot for a pattern's service of this name, with the default settings, no
-/// attributes and at time zero.
-pub fn command(
+/// One setter.
+fn only<T: Drop>(rt: &impl Abort, alloc: Global, setter: T) -> Vec<T> {
+    let mut all = Vec::new(alloc);
+    push(rt, &mut all, setter);
+    all
+}
+
+/// The setter of a pattern for so many nodes.
+pub fn for_nodes(rt: &impl Abort, alloc: Global, pattern: Pattern, nodes: u64) -> Settings {
+    match pattern {
+        Pattern::Event => Settings::Event(only(rt, alloc, EventSetting::MaxNodes(nodes))),
+        Pattern::PublishSubscribe => {
+            let setter = PublishSubscribeSetting::MaxNodes(nodes);
+            Settings::PublishSubscribe(only(rt, alloc, setter))
+        }
+        Pattern::RequestResponse => {
+            let setter = RequestResponseSetting::MaxNodes(nodes);
+            Settings::RequestResponse(only(rt, alloc, setter))
+        }
+    }
+}
+
+/// Calls by a node and into a slot for a service of this name, with these settings and attributes and at
+/// time zero.
+pub fn command_with(
     rt: &impl Abort,
     alloc: Global,
-    pattern: Pattern,
     (how, node, slot): (How, u64, usize),
     text: &str,
+    (settings, attributes): (Settings, AttributeVerifier),
 ) -> Command {
     Command::Call(Call {
         how,
         node,
         slot,
         name: name(rt, alloc, text),
-        settings: no_settings(alloc, pattern),
-        attributes: AttributeVerifier::new(alloc),
+        settings,
+        attributes,
         now: Ok(Time::default()),
     })
+}
+
+/// Calls so for a pattern's service, with the default settings and no attributes.
+pub fn command(
+    rt: &impl Abort,
+    alloc: Global,
+    pattern: Pattern,
+    called: (How, u64, usize),
+    text: &str,
+) -> Command {
+    let settings = no_settings(alloc, pattern);
+    let attributes = AttributeVerifier::new(alloc);
+    command_with(rt, alloc, called, text, (settings, attributes))
 }
 
 /// Draws a number by chance: the next of those that follow a seed.
