@@ -1,5 +1,5 @@
 -- A byte form is a list of bytes.
-use Rattle.std.proofs.Common.{ℕ, ◌<◌, List, [], ◌∷◌, Option, sym, subst, arith}
+use Rattle.std.proofs.Common.{ℕ, ◌<◌, List, [], ◌∷◌, Option, Some, None, sym, subst, arith}
 use Rattle.std.specs.Prelude.{All}
 use Rattle.std.specs.List.{flat_map}
 use Rattle.std.proofs.lemmas.List.Concat.{flat_map-cons}
@@ -13,7 +13,7 @@ use Rattle.iceoryx2_attributes.specs.Attributes.{Pair, IsPair, AreAttributes}
 use Rattle.iceoryx2_values.specs.Description.{Description, IsPublishSubscribe, IsRequestResponse, IsPattern}
 use Rattle.iceoryx2_parts.specs.Form.{number, option, deadline}
 use Rattle.iceoryx2_parts.proofs.EachByte.{AreBytes, none, more, both, number_bytes, text_bytes, truth_bytes, option_bytes, deadline_bytes, message_bytes}
-use Rattle.iceoryx2_data.specs.Form.{event, publish_subscribe, request_response, pattern, pair, attributes, magic, version, description, IsForm}
+use Rattle.iceoryx2_data.specs.Form.{event, publish_subscribe, request_response, pattern, pair, attributes, magic, versioned, description, IsForm}
 
 event_bytes : (s : EventConfig) → AreBytes (event s)
 event_bytes s =
@@ -40,8 +40,9 @@ pattern_bytes (RequestResponse s) fits = more (omega arith) (request_response_by
 magic_bytes : AreBytes magic
 magic_bytes = more (omega arith) (more (omega arith) (more (omega arith) (more (omega arith) none)))
 
-version_bytes : AreBytes version
-version_bytes = more (omega arith) none
+versioned_bytes : (creator : Option ℕ) → AreBytes (versioned creator)
+versioned_bytes None = more (omega arith) none
+versioned_bytes (Some id) = more (omega arith) (number_bytes id)
 
 pair_bytes : (p : Pair) → IsPair p → AreBytes (pair p)
 pair_bytes p fits = both (text_bytes p.key fits.key.utf8) (text_bytes p.value fits.value.utf8)
@@ -56,6 +57,6 @@ attributes_bytes ps fits = more (omega arith) (more (omega arith) (pairs_bytes p
 pub form_bytes : (d : Description) (bytes : List ℕ) → IsForm d bytes → All (λ b. b < 256) bytes
 form_bytes d bytes form =
     let hash : AreBytes d.hash.0 = record { each = recursion_from_All (λ b. b < 256) d.hash.0 form.0.hash.bytes } in
-    let whole : AreBytes (description d) = both (both (both (both (both magic_bytes version_bytes) hash) (text_bytes d.name form.0.name.utf8)) (attributes_bytes d.attributes form.0.attributes)) (pattern_bytes d.pattern form.0.pattern) in
+    let whole : AreBytes (description d) = both (both (both (both (both magic_bytes (versioned_bytes d.creator)) hash) (text_bytes d.name form.0.name.utf8)) (attributes_bytes d.attributes form.0.attributes)) (pattern_bytes d.pattern form.0.pattern) in
     let all : All (λ b. b < 256) (description d) = All-from_recursion (λ b. b < 256) (description d) whole.each in
     subst (λ (bs : List ℕ). All (λ b. b < 256) bs) (sym form.1) all

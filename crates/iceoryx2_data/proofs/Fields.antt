@@ -21,7 +21,8 @@ use Rattle.iceoryx2_parts.proofs.Grouped.{regrouped}
 use Rattle.iceoryx2_parts.proofs.Times.{Reads-deadline, Reads-id}
 use Rattle.iceoryx2_parts.proofs.Messages.{Reads-message}
 use Rattle.iceoryx2_data.specs.declared.bytes.TheConstants.{EVENT_BYTE, PUBLISH_SUBSCRIBE_BYTE, REQUEST_RESPONSE_BYTE}
-use Rattle.iceoryx2_data.specs.Form.{event, publish_subscribe, request_response, pattern, pair, attributes, magic, version, description, IsForm}
+use Rattle.iceoryx2_data.proofs.Versions.{Reads-versioned}
+use Rattle.iceoryx2_data.specs.Form.{event, publish_subscribe, request_response, pattern, pair, attributes, magic, versioned, description, IsForm}
 use Rattle.iceoryx2_data.specs.Reading.{pair_from, pair_at, attributes_at, event_from, event_at, publish_subscribe_from, publish_subscribe_at, Counts, request_response_from, messages_at, request_response_at, pattern_at, description_from, description_at, all_of}
 
 -- ---- attributes
@@ -145,11 +146,11 @@ Reads-pattern = record { takes = pattern_takes; again = pattern_again }
 
 pub Reads-description : Reads description_at description IsDescription
 unfolding description_at
-Reads-description = Reads-form _ _ description IsDescription (Reads-as description_from (λ d. (tt, (tt, (d.hash.0, (d.name, (d.attributes, d.pattern)))))) _ _ _ IsDescription (λ b. refl) (λ a. refl)
-    (λ a h. record { hash = record { length = h.1.1.0.0; bytes = h.1.1.0.1 }; name = h.1.1.1.0; attributes = h.1.1.1.1.0; pattern = h.1.1.1.1.1 })
-    (λ d h. (tt, (tt, ((h.hash.length, h.hash.bytes), (h.name, (h.attributes, h.pattern))))))
-    (Reads-then _ _ _ _ _ _ (Reads-literal magic) (Reads-then _ _ _ _ _ _ (Reads-literal version) (Reads-then _ _ _ _ _ _ (Reads-each_byte HASH_LENGTH) (Reads-then _ _ _ _ _ _ (Reads-text MIN_NAME_LENGTH MAX_NAME_LENGTH (omega arith)) (Reads-then _ _ _ _ _ _ Reads-attributes Reads-pattern))))))
-    (λ d. regrouped magic (version ∷ d.hash.0 ∷ text d.name ∷ attributes d.attributes ∷ pattern d.pattern ∷ []))
+Reads-description = Reads-form _ _ description IsDescription (Reads-as description_from (λ d. (tt, (d.creator, (d.hash.0, (d.name, (d.attributes, d.pattern)))))) _ _ _ IsDescription (λ b. refl) (λ a. refl)
+    (λ a h. record { hash = record { length = h.1.1.0.0; bytes = h.1.1.0.1 }; name = h.1.1.1.0; attributes = h.1.1.1.1.0; pattern = h.1.1.1.1.1; creator = h.1.0 })
+    (λ d h. (tt, (h.creator, ((h.hash.length, h.hash.bytes), (h.name, (h.attributes, h.pattern))))))
+    (Reads-then _ _ _ _ _ _ (Reads-literal magic) (Reads-then _ _ _ _ _ _ Reads-versioned (Reads-then _ _ _ _ _ _ (Reads-each_byte HASH_LENGTH) (Reads-then _ _ _ _ _ _ (Reads-text MIN_NAME_LENGTH MAX_NAME_LENGTH (omega arith)) (Reads-then _ _ _ _ _ _ Reads-attributes Reads-pattern))))))
+    (λ d. regrouped magic (versioned d.creator ∷ d.hash.0 ∷ text d.name ∷ attributes d.attributes ∷ pattern d.pattern ∷ []))
 
 pub all_takes : (bytes : List ℕ) (d : Description) → IsBytes bytes → all_of bytes ≡ Some d → IsForm d bytes
 unfolding all_of

@@ -1,3 +1,4 @@
 pub mod Fields
 pub mod Pairs
 pub mod EachByte
+pub mod Versions

@@ -1,5 +1,5 @@
 -- The byte form of a description, part by part.
-use Rattle.std.specs.Prelude.{ℕ, ◌≡◌, List, [], ◌∷◌, ◌++◌, length, codes}
+use Rattle.std.specs.Prelude.{ℕ, ◌≡◌, List, [], ◌∷◌, ◌++◌, length, codes, Option, Some, None}
 use Rattle.std.specs.Int.{w16, to_be_bytes}
 use Rattle.std.specs.List.{flat_map}
 use Rattle.iceoryx2_attributes.specs.Attributes.{Pair}
@@ -51,12 +51,14 @@ pattern (RequestResponse s) = REQUEST_RESPONSE_BYTE ∷ request_response s
 abbrev pub magic : List ℕ
 magic = codes "IOX2"
 
--- the version of the form, so far the only one
-abbrev pub version : List ℕ
-version = 1 ∷ []
+-- The version of the form, by what is told of the creator: the first tells none, and the second its id.
+abbrev pub versioned : Option ℕ → List ℕ
+versioned None = 1 ∷ []
+versioned (Some creator) = 2 ∷ number creator
 
 abbrev pub description : Description → List ℕ
-description d = magic ++ version ++ d.hash.0 ++ text d.name ++ attributes d.attributes ++ pattern d.pattern
+description d = magic ++ versioned d.creator ++ d.hash.0 ++ text d.name ++ attributes d.attributes
+    ++ pattern d.pattern
 
 -- The bytes are the byte form of the description, nothing before them or behind.
 abbrev pub IsForm : Description → List ℕ → Type 0

@@ -1,5 +1,5 @@
 -- Reading the byte form from left to right, part by part.
-use Rattle.std.specs.Prelude.{ℕ, Bool, List, [], ◌∷◌, ◌++◌, length}
+use Rattle.std.specs.Prelude.{ℕ, zero, suc, Bool, List, [], ◌∷◌, ◌++◌, length}
 use Rattle.std.specs.Prelude.{Option, Some, None, ◌==◌, if◌then◌else◌}
 use Rattle.std.specs.Int.{w64}
 use Rattle.iceoryx2_data.specs.declared.bytes.TheConstants.{EVENT_BYTE, PUBLISH_SUBSCRIBE_BYTE, REQUEST_RESPONSE_BYTE}
@@ -19,7 +19,7 @@ use Rattle.iceoryx2_values.specs.Description.{Description}
 use Rattle.iceoryx2_parts.specs.Reading.{◌>>=◌, Part, then_at, as_at, where_at}
 use Rattle.iceoryx2_parts.specs.Reading.{number_at, bytes_at, literal_at, text_at, truth_at, option_at}
 use Rattle.iceoryx2_parts.specs.Reading.{list_at, counted_at, deadline_at, message_at}
-use Rattle.iceoryx2_data.specs.Form.{magic, version}
+use Rattle.iceoryx2_data.specs.Form.{magic}
 
 -- ---- attributes
 
@@ -122,8 +122,16 @@ pattern_at (b ∷ rest) = if b == EVENT_BYTE then as_at Event event_at rest
     else if b == PUBLISH_SUBSCRIBE_BYTE then as_at PublishSubscribe publish_subscribe_at rest
     else if b == REQUEST_RESPONSE_BYTE then as_at RequestResponse request_response_at rest else None
 
+-- the version, and the creator's id behind the second one
+unfoldable pub versioned_at : Part (Option ℕ)
+versioned_at [] = None
+versioned_at (zero ∷ rest) = None
+versioned_at (suc zero ∷ rest) = Some (None, rest)
+versioned_at (suc (suc zero) ∷ rest) = number_at w64 rest >>= λ x. Some (Some x.0, x.1)
+versioned_at (suc (suc (suc b)) ∷ rest) = None
+
 abbrev pub DescriptionParts : Type 0
-DescriptionParts = Unit {0} × (Unit {0} × (List ℕ × (List ℕ × (List Pair × MessagingPattern))))
+DescriptionParts = Unit {0} × (Option ℕ × (List ℕ × (List ℕ × (List Pair × MessagingPattern))))
 
 abbrev pub description_from : DescriptionParts → Description
 description_from p = record {
@@ -131,10 +139,11 @@ description_from p = record {
   name = p.1.1.1.0;
   attributes = p.1.1.1.1.0;
   pattern = p.1.1.1.1.1;
+  creator = p.1.0;
 }
 
 unfoldable pub description_at : Part Description
-description_at = as_at description_from (then_at (literal_at magic) (then_at (literal_at version)
+description_at = as_at description_from (then_at (literal_at magic) (then_at versioned_at
     (then_at (bytes_at HASH_LENGTH) (then_at (text_at MIN_NAME_LENGTH MAX_NAME_LENGTH)
     (then_at attributes_at pattern_at)))))
 

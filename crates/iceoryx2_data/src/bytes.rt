@@ -15,8 +15,11 @@ use std::alloc::{AllocError, Global};
 /// The four letters with which each form begins.
 pub const MAGIC: [u8; 4] = *b"IOX2";
 
-/// The version of the form, the byte behind the magic.
-pub const VERSION: u8 = 1;
+/// The version of the form of a description that tells no creator, the byte behind the magic.
+pub const VERSION_WITHOUT_CREATOR: u8 = 1;
+
+/// The version of the form of a description that tells its creator. The creator's id stands behind it.
+pub const VERSION_WITH_CREATOR: u8 = 2;
 
 /// The byte that says that a service is one of events.
 pub const EVENT_BYTE: u8 = 1;
@@ -28,7 +31,7 @@ pub const PUBLISH_SUBSCRIBE_BYTE: u8 = 2;
 pub const REQUEST_RESPONSE_BYTE: u8 = 3;
 
 /// The bytes of the patterns as numbers, since a wrong constant would go with the form that cites it.
-/// The form spells the magic and the version itself.
+/// The form spells the magic and the versions itself.
 pub fn pattern_bytes()
     ensures events { EVENT_BYTE ≡ 1 }
     ensures publish_subscribe { PUBLISH_SUBSCRIBE_BYTE ≡ 2 }

@@ -39,6 +39,7 @@ description_of m hash name now = record {
   name = name;
   attributes = m.attributes;
   pattern = m.published (time_of now);
+  creator = None;
 }
 
 -- what the node holds that created a service of this description

@@ -1,5 +1,5 @@
 -- What a description is.
-use Rattle.std.specs.Prelude.{ℕ, ◌≡◌, ◌<◌, ◌^◌, List, length, All, IfSome}
+use Rattle.std.specs.Prelude.{ℕ, ◌≡◌, ◌<◌, ◌^◌, List, length, All, Option, IfSome}
 use Rattle.iceoryx2_values.specs.declared.description.TheConstants.{HASH_LENGTH}
 use Rattle.iceoryx2_values.specs.declared.description.ServiceHash.{ServiceHash}
 use Rattle.iceoryx2_values.specs.declared.description.MessagingPattern.{MessagingPattern}
@@ -21,6 +21,8 @@ pub record Description : Type 0 where
   -- strictly ascending
   pub attributes : List Pair
   pub pattern : MessagingPattern
+  -- the id of the node that created the service, where it is told
+  pub creator : Option ℕ
 
 abbrev pub max_nodes_of : MessagingPattern → ℕ
 max_nodes_of (Event s) = s.max_nodes
@@ -88,3 +90,4 @@ pub record IsDescription (d : Description) : Type 0 where
   pub name : IsName d.name
   pub attributes : AreAttributes d.attributes
   pub pattern : IsPattern d.pattern
+  pub creator : IfSome d.creator (λ id. id < 2 ^ 64)

@@ -1,6 +1,7 @@
 //! What nodes that share a service agree on.
 
 ghost use Rattle.std.specs.Prelude.{◌≡◌, ◌<◌, ◌≤◌, ◌↔◌, ◌⊎◌, Err, IfOk, OnOk, IsTrue, All, length, string_bytes};
+ghost use Rattle.std.specs.Prelude.{Some, None};
 ghost use Rattle.hex.specs.Hex.{encode_lower};
 ghost use Rattle.iceoryx2_values.specs.Names.{IsName};
 ghost use Rattle.iceoryx2_values.specs.Description.{IsHash, IsPattern};
@@ -244,13 +245,14 @@ fn pattern_fits(pattern: &MessagingPattern)
 }
 
 /// What nodes that share a service agree on: its hash, its name, its attributes, and its pattern
-/// with the settings.
+/// with the settings. It may also tell which node created the service.
 #[derive(Debug, PartialEq, Eq)]
 pub struct StaticConfig {
     hash: ServiceHash,
     name: ServiceName,
     attributes: AttributeSet,
     pattern: MessagingPattern,
+    creator: Option<u64>,
 }
 
 // Written out, so that a proof of what lets one go doesn't take its fields apart.
@@ -261,6 +263,7 @@ impl Drop for StaticConfig {
             name: _,
             attributes: _,
             pattern: _,
+            creator: _,
         } = self;
     }
 }
@@ -275,6 +278,7 @@ impl Model for StaticConfig {
       name = d.name;
       attributes = d.attributes;
       pattern = d.pattern;
+      creator = d.creator;
     } };
 
     ghost use Rattle.iceoryx2_values.specs.Description.{IsDescription};
@@ -284,6 +288,7 @@ impl Model for StaticConfig {
       name = d.name;
       attributes = d.attributes;
       pattern = d.pattern;
+      creator = d.creator;
     }) };
 
     ghost inverse = { λ d. record {
@@ -291,21 +296,27 @@ impl Model for StaticConfig {
       name = d.name;
       attributes = d.attributes;
       pattern = d.pattern;
+      creator = d.creator;
     } };
 }
 
 impl StaticConfig {
     ghost use Rattle.iceoryx2_values.specs.Description.{IsDescription, max_nodes_of};
 
-    /// The description of these parts.
+    /// The description of these parts, which tells no creator.
     pub fn new(
         hash: ServiceHash,
         name: ServiceName,
         attributes: AttributeSet,
         pattern: MessagingPattern,
     ) -> StaticConfig
-        ensures value { result
-            ≡ (record { hash = hash; name = name; attributes = attributes; pattern = pattern }) }
+        ensures value { result ≡ (record {
+          hash = hash;
+          name = name;
+          attributes = attributes;
+          pattern = pattern;
+          creator = None;
+        }) }
         ensures limits { IsDescription result }
     {
         let _bytes = hash.as_bytes();
@@ -317,6 +328,29 @@ impl StaticConfig {
             name,
             attributes,
             pattern,
+            creator: None,
+        }
+    }
+
+    /// The same description with this node as its creator, in place of any that it told before.
+    pub fn with_creator(self, creator: u64) -> StaticConfig
+        ensures value { result ≡ record self { creator = Some creator } }
+        ensures limits { IsDescription result }
+    {
+        let StaticConfig {
+            hash,
+            name,
+            attributes,
+            pattern,
+            creator: _,
+        } = self;
+        let creator = Some(creator);
+        StaticConfig {
+            hash,
+            name,
+            attributes,
+            pattern,
+            creator,
         }
     }
 
@@ -350,6 +384,14 @@ impl StaticConfig {
         ensures limits { IsDescription self.now }
     {
         &self.pattern
+    }
+
+    /// The id of the node that created the service, where the description tells it.
+    pub fn creator(&self) -> Option<u64>
+        ensures value { result ≡ self.now.creator }
+        ensures limits { IsDescription self.now }
+    {
+        self.creator
     }
 
     /// For how many nodes the service is.

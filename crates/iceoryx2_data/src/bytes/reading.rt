@@ -1,14 +1,15 @@
 //! Reading the byte form from left to right: each part gives its value and the bytes after it.
 
-ghost use Rattle.std.specs.Prelude.{◌≡◌, ◌<◌, ◌≤◌, length, OnOk};
+ghost use Rattle.std.specs.Prelude.{◌≡◌, ◌<◌, ◌≤◌, None, length, OnOk};
 ghost use Rattle.iceoryx2_attributes.specs.Attributes.{AreAttributes};
 ghost use Rattle.iceoryx2_parts.specs.Reading.{IsReadBy, bytes_at, text_at};
 ghost use Rattle.iceoryx2_data.specs.Reading.{pairs_at, more_at, attributes_at};
 ghost use Rattle.iceoryx2_data.specs.Reading.{event_at, publish_subscribe_at, messages_at, request_response_at, pattern_at};
-ghost use Rattle.iceoryx2_data.specs.Reading.{description_at, all_of};
+ghost use Rattle.iceoryx2_data.specs.Reading.{versioned_at, description_at, all_of};
 
 use super::{
-    DecodeError, EVENT_BYTE, MAGIC, PUBLISH_SUBSCRIBE_BYTE, REQUEST_RESPONSE_BYTE, VERSION,
+    DecodeError, EVENT_BYTE, MAGIC, PUBLISH_SUBSCRIBE_BYTE, REQUEST_RESPONSE_BYTE,
+    VERSION_WITH_CREATOR, VERSION_WITHOUT_CREATOR,
 };
 use iceoryx2_attributes::attribute::{
     AttributeSet, MAX_ATTRIBUTES, MAX_KEY_LENGTH, MAX_VALUE_LENGTH, MIN_KEY_LENGTH, PushError,
@@ -234,12 +235,42 @@ fn attributes_of(alloc: Global, bytes: &[u8]) -> Result<(AttributeSet, &[u8]), D
     pairs_of(alloc, count, rest)
 }
 
+/// The version, and the creator's id where it is the one with a creator.
+#[tactic(auto, unfolding(crate::specs::Reading::versioned_at))]
+fn versioned_of(bytes: &[u8]) -> Result<(Option<u64>, &[u8]), DecodeError>
+    ensures { IsReadBy (λ x. (x.0, x.1.now)) result (versioned_at bytes.now) }
+{
+    match bytes {
+        [] => Err(DecodeError::Malformed),
+        [VERSION_WITHOUT_CREATOR, rest @ ..] => Ok((None, rest)),
+        [VERSION_WITH_CREATOR, rest @ ..] => {
+            let (creator, rest) = u64_at(rest)?;
+            Ok((Some(creator), rest))
+        }
+        [_, ..] => Err(DecodeError::Malformed),
+    }
+}
+
+/// A description that tells no creator yet, with the one that was read.
+fn created_by(description: StaticConfig, creator: Option<u64>) -> StaticConfig
+    requires { description.creator ≡ None }
+    ensures { result ≡ record description { creator = creator } }
+{
+    match creator {
+        None => description,
+        Some(creator) => description.with_creator(creator),
+    }
+}
+
 #[tactic(auto, unfolding(crate::specs::Reading::description_at))]
 fn description_of(alloc: Global, bytes: &[u8]) -> Result<(StaticConfig, &[u8]), DecodeError>
     ensures { IsReadBy (λ x. (x.0, x.1.now)) result (description_at bytes.now) }
 {
     let rest = literal_of(&MAGIC, bytes)?;
-    let rest = literal_of(&[VERSION], rest)?;
+    let (creator, rest) = match versioned_of(rest) {
+        Err(error) => return Err(error),
+        Ok(found) => found,
+    };
     let (hash, rest) = hash_of(rest)?;
     let (name, rest) = match name_of(alloc, rest) {
         Err(error) => return Err(error),
@@ -253,7 +284,8 @@ fn description_of(alloc: Global, bytes: &[u8]) -> Result<(StaticConfig, &[u8]), 
         Err(error) => return Err(error),
         Ok(found) => found,
     };
-    Ok((StaticConfig::new(hash, name, attributes, pattern), rest))
+    let description = StaticConfig::new(hash, name, attributes, pattern);
+    Ok((created_by(description, creator), rest))
 }
 
 /// The description that all of the bytes are.

@@ -5,7 +5,10 @@ ghost use Rattle.std.specs.List.{flat_map};
 ghost use Rattle.iceoryx2_values.specs.Description.{IsDescription};
 ghost use Rattle.iceoryx2_data.specs.Form as form;
 
-use super::{EVENT_BYTE, MAGIC, PUBLISH_SUBSCRIBE_BYTE, REQUEST_RESPONSE_BYTE, VERSION};
+use super::{
+    EVENT_BYTE, MAGIC, PUBLISH_SUBSCRIBE_BYTE, REQUEST_RESPONSE_BYTE, VERSION_WITH_CREATOR,
+    VERSION_WITHOUT_CREATOR,
+};
 use iceoryx2_attributes::attribute::{Attribute, AttributeSet};
 use iceoryx2_parts::writing::{
     put_id, put_message, put_number, put_optional_deadline, put_text, put_truth,
@@ -112,13 +115,27 @@ fn put_pattern(out: &mut Vec<u8>, pattern: &MessagingPattern) -> Result<(), Allo
     }
 }
 
+/// The version, and behind it the creator's id where there is one.
+fn put_versioned(out: &mut Vec<u8>, creator: Option<u64>) -> Result<(), AllocError>
+    ensures { OnOk result (out.new.items ≡ out.old.items ++ form.versioned creator) }
+{
+    match creator {
+        None => out.push(VERSION_WITHOUT_CREATOR)?,
+        Some(creator) => {
+            out.push(VERSION_WITH_CREATOR)?;
+            put_number(out, creator)?;
+        }
+    }
+    Ok(())
+}
+
 /// The whole byte form, behind what was written.
 pub fn put_description(out: &mut Vec<u8>, description: &StaticConfig) -> Result<(), AllocError>
     ensures form { OnOk result (out.new.items ≡ out.old.items ++ form.description description.now) }
     ensures limits { OnOk result (IsDescription description.now) }
 {
     out.extend_from_slice(&MAGIC)?;
-    out.push(VERSION)?;
+    put_versioned(out, description.creator())?;
     out.extend_from_slice(description.service_hash().as_bytes())?;
     put_text(out, description.name().as_str())?;
     put_attributes(out, description.attributes())?;

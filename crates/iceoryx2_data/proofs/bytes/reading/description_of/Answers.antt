@@ -6,9 +6,9 @@ pub returns : goal.returns
 unfolding description_at
 returns c = search rules
 
-pub returns-in_err-rest-2 : goal.returns-in_err-rest-2
+pub returns-in-Err-name_of : goal.returns-in-Err-name_of
 unfolding description_at
-returns-in_err-rest-2 c = search rules
+returns-in-Err-name_of c = search rules
 
 pub returns-in_err-hash : goal.returns-in_err-hash
 unfolding description_at
