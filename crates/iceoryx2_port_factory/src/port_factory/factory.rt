@@ -80,6 +80,13 @@ impl<S: Service, K: Kind> PortFactory<S, K> {
         self.registration.description().attributes()
     }
 
+    /// The id of the node that created the service, where its description tells it.
+    pub fn creator(&self) -> Option<u64>
+        ensures { result ≡ self.now.description.creator }
+    {
+        self.registration.description().creator()
+    }
+
     /// The service's settings.
     pub fn static_config(&self) -> &K::StaticConfig
         ensures { K.of_settings result.now ≡ self.now.description.pattern }
