@@ -21,7 +21,7 @@ second (a, b) = b
 module _ {F E C : Type 0} {m : Meaning F E C} {node : ℕ} {hash : ServiceHash} {S : Type 0} {step : S → Letter → S → Type 0} {old new : S} {r : Factory} where
   -- a create carries what it published
   pub created_is : (name : List ℕ) (now : Result Span ClockFault) → Joins step old (λ word. IsCreateWord m node hash name now word (Ok r)) new
-      → r.description ≡ description_of m hash name now
+      → r.description ≡ description_of m node hash name now
   created_is name now joined = second (created_carries joined.is_word)
 
   -- an open carries what fits
@@ -32,7 +32,7 @@ module _ {F E C : Type 0} {m : Meaning F E C} {node : ℕ} {hash : ServiceHash} 
   -- what a create registers is of a pattern that what it published is of
   pub created_of : (is_of : MessagingPattern → Bool) (name : List ℕ) (now : Result Span ClockFault) (answer : Result Factory C)
       → Joins step old (λ word. IsCreateWord m node hash name now word answer) new
-      → is_of (description_of m hash name now).pattern ≡ true → IfOk answer (λ r. is_of r.description.pattern ≡ true)
+      → is_of (description_of m node hash name now).pattern ≡ true → IfOk answer (λ r. is_of r.description.pattern ≡ true)
   created_of is_of name now (Ok r) joined published = ap (λ d. is_of d.pattern) (created_is name now joined) ∙ published
   created_of is_of name now (Err e) joined published = tt
 

@@ -68,9 +68,9 @@ module _ {D F E C : Type 0} (c : AnyCall D F E C) where
     pub hash : d.hash ≡ c.asks.hash
     pub accepted : Accepts opening d
 
-  -- or the one that it published, with its adjusted settings and its attributes.
+  -- or the one that it published, with its adjusted settings and its attributes, and its node as the creator.
   abbrev pub Holds : Description → Type 0
-  Holds d = d ≡ description_of creating c.asks.hash c.asks.name c.asks.now
+  Holds d = d ≡ description_of creating c.asks.node c.asks.hash c.asks.name c.asks.now
 
   -- Of an open or create it is one of both if its create only raises minima, as each builder's does.
   abbrev pub MayCarryBy : Way → Description → Type 0

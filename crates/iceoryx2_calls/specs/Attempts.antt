@@ -37,4 +37,4 @@ module _ {D F E C : Type 0} (a : Attempt D F E C) where
 
   -- A description that a round of it accepted, or that a round of it published.
   abbrev pub MayCarry : Description → Type 0
-  MayCarry = Carries a.meaning a.adjusted a.required a.hash a.name a.now a.asked
+  MayCarry = Carries a.meaning a.adjusted a.required a.node a.hash a.name a.now a.asked

@@ -21,7 +21,7 @@ module _ {F E C : Type 0} (m : Meaning F E C) (node : ℕ) (hash : ServiceHash) 
           node = node;
           number = counter;
           ticket = counter;
-          description = description_of m hash name now;
+          description = description_of m node hash name now;
         }))
     -- the history rule
     forbidden : {error : C} → m.history_refusal ≡ Some error → AnswersOverNoRow (Err error)

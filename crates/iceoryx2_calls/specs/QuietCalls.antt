@@ -90,8 +90,8 @@ module _ {F E C : Type 0} (m : Meaning F E C) (q : Quiet) (node : ℕ) (hash : S
         → Creates name now (Err (m.create_refusal create_refusal.InternalFailure)) q
     created : m.history_refusal ≡ None → service_at q hash ≡ None → clock_stops m.needs_clock now ≡ false
         → HasNumber q
-        → Creates name now (Ok (factory_created (description_of m hash name now)))
-        (with_created (description_of m hash name now))
+        → Creates name now (Ok (factory_created (description_of m node hash name now)))
+        (with_created (description_of m node hash name now))
     -- memory may be wanted in place of each answer from the look on; after the lock its number is spent
     no_memory : m.history_refusal ≡ None → Creates name now (Err (m.create_refusal create_refusal.OutOfMemory)) q
     no_memory_locked : m.history_refusal ≡ None → service_at q hash ≡ None

@@ -17,6 +17,6 @@ what_fits (existing.Event s) e = refl
 what_fits (existing.PublishSubscribe s) e = absurd (cc)
 what_fits (existing.RequestResponse s) e = absurd (cc)
 
-pub what_is_carried : {required : Requirements} {hash : ServiceHash} {name : List ℕ} {now : Result Span ClockFault} {first : EventDemand} {d : Description} → Carries event_meaning event_adjusted required hash name now first d → is_events d.pattern ≡ true
+pub what_is_carried : {required : Requirements} {node : ℕ} {hash : ServiceHash} {name : List ℕ} {now : Result Span ClockFault} {first : EventDemand} {d : Description} → Carries event_meaning event_adjusted required node hash name now first d → is_events d.pattern ≡ true
 what_is_carried (accepted {d = d} _ _ fits _) = what_fits d.pattern fits
 what_is_carried (published _) = refl

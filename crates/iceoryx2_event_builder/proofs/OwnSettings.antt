@@ -23,9 +23,9 @@ same_deadline : (now : Span) (deadline : Option Deadline)
 same_deadline now None = refl
 same_deadline now (Some d) = rw (same_number d.value.seconds) (same_number d.value.nanoseconds)
 
-meets : (demand : EventDemand) (hash : ServiceHash) (name : List ℕ) (now : Result Span ClockFault)
-    → verdict ((event_meaning demand).requirement (description_of (event_meaning (event_adjusted demand)) hash name now)) ≡ Ok tt
-meets demand hash name now =
+meets : (demand : EventDemand) (node : ℕ) (hash : ServiceHash) (name : List ℕ) (now : Result Span ClockFault)
+    → verdict ((event_meaning demand).requirement (description_of (event_meaning (event_adjusted demand)) node hash name now)) ≡ Ok tt
+meets demand node hash name now =
     then_more _ _ (offers _ _ _ _ (not_below demand.settings.max_notifiers))
     (then_more _ _ (offers _ _ _ _ (not_below demand.settings.max_listeners))
     (then_more _ _ (offers _ _ _ _ (not_less demand.settings.event_id_max_value))
@@ -37,4 +37,4 @@ meets demand hash name now =
 
 pub own_settings : (demand : EventDemand) (given : List Pair) (hash : ServiceHash) (name : List ℕ) (now : Result Span ClockFault)
     → AcceptsOwn (event_creating demand given) (event_opening demand no_requirements) hash name now
-own_settings demand given hash name now = record { fits = refl; accepted = meets demand hash name now }
+own_settings demand given hash name now = record { fits = λ node. refl; accepted = λ node. meets demand node hash name now }

@@ -23,10 +23,10 @@ module _ {D F E C : Type 0} {meaning : D → Meaning F E C} {adjusted : D → D}
   adjusted_once raises at_first = refl
   adjusted_once raises (after_create {asked = asked} is) = raises.once asked ∙ adjusted_once raises is
 
-  module _ {required : Requirements} {hash : ServiceHash} {name : List ℕ} {now : Result Span ClockFault} where
-    pub carries_once : {first : D} {d : Description} → OnlyRaises meaning adjusted → Carries meaning adjusted required hash name now first d
-        → MeetsOrHolds meaning adjusted required hash name now first d
+  module _ {required : Requirements} {node : ℕ} {hash : ServiceHash} {name : List ℕ} {now : Result Span ClockFault} where
+    pub carries_once : {first : D} {d : Description} → OnlyRaises meaning adjusted → Carries meaning adjusted required node hash name now first d
+        → MeetsOrHolds meaning adjusted required node hash name now first d
     carries_once {d = d} raises (accepted is same fits met) = meets same (first_accepts required d raises is (record { fits = fits; meets = met }))
     carries_once {first} raises (published {asked = asked} is) =
-        let P : D → Type 0 = λ x. MeetsOrHolds meaning adjusted required hash name now first (description_of (defining required.pairs (meaning x)) hash name now) in
+        let P : D → Type 0 = λ x. MeetsOrHolds meaning adjusted required node hash name now first (description_of (defining required.pairs (meaning x)) node hash name now) in
         subst P (sym (adjusted_once raises is)) holds

@@ -23,10 +23,10 @@ pub record OnlyRaises {D F E C : Type 0} (meaning : D → Meaning F E C) (adjust
       → Accepts (requiring required (meaning (adjusted asked))) d → Accepts (requiring required (meaning asked)) d
   pub once : (asked : D) → adjusted (adjusted asked) ≡ adjusted asked
 
--- A description that what was asked first accepts, or that a create published that adjusted that once.
+-- A description that what was asked first accepts, or that a create of this node published that adjusted that once.
 module _ {D F E C : Type 0} (meaning : D → Meaning F E C) (adjusted : D → D)
-    (required : Requirements) (hash : ServiceHash) (name : List ℕ) (now : Result Span ClockFault) where
+    (required : Requirements) (node : ℕ) (hash : ServiceHash) (name : List ℕ) (now : Result Span ClockFault) where
   pub data MeetsOrHolds (first : D) : Description → Type 0 where
     meets : {d : Description} → d.hash ≡ hash → Accepts (requiring required (meaning first)) d
         → MeetsOrHolds first d
-    holds : MeetsOrHolds first (description_of (defining required.pairs (meaning (adjusted first))) hash name now)
+    holds : MeetsOrHolds first (description_of (defining required.pairs (meaning (adjusted first))) node hash name now)

@@ -15,12 +15,12 @@ pub data IsAsked {D : Type 0} (adjusted : D → D) (first : D) : D → Type 0 wh
   at_first : IsAsked adjusted first first
   after_create : {asked : D} → IsAsked adjusted first asked → IsAsked adjusted first (adjusted asked)
 
--- A description that the open of a round accepted, or that the create of a round published.
+-- A description that the open of a round accepted, or that the create of a round of this node published.
 module _ {D F E C : Type 0} (meaning : D → Meaning F E C) (adjusted : D → D)
-    (required : Requirements) (hash : ServiceHash) (name : List ℕ) (now : Result Span ClockFault) where
+    (required : Requirements) (node : ℕ) (hash : ServiceHash) (name : List ℕ) (now : Result Span ClockFault) where
   pub data Carries (first : D) : Description → Type 0 where
     accepted : {asked : D} {d : Description} → IsAsked adjusted first asked → d.hash ≡ hash
         → (meaning asked).misfit d ≡ None → verdict ((requiring required (meaning asked)).requirement d) ≡ Ok tt
         → Carries first d
     published : {asked : D} → IsAsked adjusted first asked
-        → Carries first (description_of (defining required.pairs (meaning (adjusted asked))) hash name now)
+        → Carries first (description_of (defining required.pairs (meaning (adjusted asked))) node hash name now)

@@ -55,7 +55,7 @@ pub fn granted_open_or_create_carries<P: Retries>()
     ensures { (required : Requirements) (node : ℕ) (hash : ServiceHash) (name : List ℕ)
         (now : Result Span ClockFault) (asked : P) (word : List Letter) (r : Factory)
         → IsOpenOrCreateCall P.meaning P.adjusted P.retried required node hash name now asked word (Ok r)
-        → (r.node ≡ node) × Carries P.meaning P.adjusted required hash name now asked r.description }
+        → (r.node ≡ node) × Carries P.meaning P.adjusted required node hash name now asked r.description }
 {}
 
 /// Where a create only raises minima, what an open or create carries that succeeds meets what was
@@ -65,5 +65,5 @@ pub fn granted_open_or_create_meets_or_holds<P: Retries>()
         → (required : Requirements) (node : ℕ) (hash : ServiceHash) (name : List ℕ)
         (now : Result Span ClockFault) (asked : P) (word : List Letter) (r : Factory)
         → IsOpenOrCreateCall P.meaning P.adjusted P.retried required node hash name now asked word (Ok r)
-        → MeetsOrHolds P.meaning P.adjusted required hash name now asked r.description }
+        → MeetsOrHolds P.meaning P.adjusted required node hash name now asked r.description }
 {}

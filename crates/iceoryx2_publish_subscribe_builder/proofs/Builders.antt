@@ -54,9 +54,9 @@ opening_is_regular demand message required =
 
 -- ---- it takes what it created
 
-meets : (demand : PublishSubscribeDemand) (message : Message) (hash : ServiceHash) (name : List ℕ) (now : Result Span ClockFault)
-    → verdict ((publish_subscribe_meaning demand message).requirement (description_of (publish_subscribe_meaning (publish_subscribe_adjusted demand) message) hash name now)) ≡ Ok tt
-meets demand message hash name now =
+meets : (demand : PublishSubscribeDemand) (message : Message) (node : ℕ) (hash : ServiceHash) (name : List ℕ) (now : Result Span ClockFault)
+    → verdict ((publish_subscribe_meaning demand message).requirement (description_of (publish_subscribe_meaning (publish_subscribe_adjusted demand) message) node hash name now)) ≡ Ok tt
+meets demand message node hash name now =
     then_more _ _ (offers _ _ _ _ (not_below demand.settings.max_publishers))
     (then_more _ _ (offers _ _ _ _ (not_below demand.settings.max_subscribers))
     (then_more _ _ (offers _ _ _ _ (not_below demand.settings.subscriber_max_buffer_size))
@@ -68,8 +68,8 @@ meets demand message hash name now =
 own_settings : (demand : PublishSubscribeDemand) (message : Message) (given : List Pair) (hash : ServiceHash) (name : List ℕ) (now : Result Span ClockFault)
     → AcceptsOwn (publish_subscribe_creating demand message given) (publish_subscribe_opening demand message no_requirements) hash name now
 own_settings demand message given hash name now = record {
-  fits = ap (λ b. cond b None (Some look.IncompatibleTypes)) (fits_itself message);
-  accepted = meets demand message hash name now;
+  fits = λ node. ap (λ b. cond b None (Some look.IncompatibleTypes)) (fits_itself message);
+  accepted = λ node. meets demand message node hash name now;
 }
 
 pub publish_subscribe_builder : (demand : PublishSubscribeDemand) (message : Message)

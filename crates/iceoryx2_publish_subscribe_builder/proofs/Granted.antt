@@ -18,6 +18,6 @@ what_fits message (existing.Event s) e = absurd (cc)
 what_fits message (existing.PublishSubscribe s) e = refl
 what_fits message (existing.RequestResponse s) e = absurd (cc)
 
-pub what_is_carried : {required : Requirements} {hash : ServiceHash} {name : List ℕ} {now : Result Span ClockFault} {first : PreparedDemand} {d : Description} → Carries prepared_meaning prepared_adjusted required hash name now first d → is_publish_subscribe d.pattern ≡ true
+pub what_is_carried : {required : Requirements} {node : ℕ} {hash : ServiceHash} {name : List ℕ} {now : Result Span ClockFault} {first : PreparedDemand} {d : Description} → Carries prepared_meaning prepared_adjusted required node hash name now first d → is_publish_subscribe d.pattern ≡ true
 what_is_carried (accepted {asked = asked} {d = d} _ _ fits _) = what_fits asked.message d.pattern fits
 what_is_carried (published _) = refl

@@ -58,10 +58,10 @@ opening_is_regular demand request response required =
 
 -- ---- it takes what it created
 
-meets : (demand : RequestResponseDemand) (request response : Message) (hash : ServiceHash) (name : List ℕ) (now : Result Span ClockFault)
+meets : (demand : RequestResponseDemand) (request response : Message) (node : ℕ) (hash : ServiceHash) (name : List ℕ) (now : Result Span ClockFault)
     → verdict ((request_response_meaning demand request response).requirement
-    (description_of (request_response_meaning (request_response_adjusted demand) request response) hash name now)) ≡ Ok tt
-meets demand request response hash name now =
+    (description_of (request_response_meaning (request_response_adjusted demand) request response) node hash name now)) ≡ Ok tt
+meets demand request response node hash name now =
     then_more _ _ (keeps _ _ _ _ (same_flag demand.settings.enable_safe_overflow_for_requests))
     (then_more _ _ (keeps _ _ _ _ (same_flag demand.settings.enable_safe_overflow_for_responses))
     (then_more _ _ (keeps _ _ _ _ (same_flag demand.settings.enable_fire_and_forget_requests))
@@ -76,8 +76,8 @@ meets demand request response hash name now =
 own_settings : (demand : RequestResponseDemand) (request response : Message) (given : List Pair) (hash : ServiceHash) (name : List ℕ) (now : Result Span ClockFault)
     → AcceptsOwn (request_response_creating demand request response given) (request_response_opening demand request response no_requirements) hash name now
 own_settings demand request response given hash name now = record {
-  fits = rw (fits_itself request, fits_itself response) refl;
-  accepted = meets demand request response hash name now;
+  fits = λ node. rw (fits_itself request, fits_itself response) refl;
+  accepted = λ node. meets demand request response node hash name now;
 }
 
 pub request_response_builder : (demand : RequestResponseDemand) (request response : Message)

@@ -18,6 +18,6 @@ what_fits request response (existing.Event s) e = absurd (cc)
 what_fits request response (existing.PublishSubscribe s) e = absurd (cc)
 what_fits request response (existing.RequestResponse s) e = refl
 
-pub what_is_carried : {required : Requirements} {hash : ServiceHash} {name : List ℕ} {now : Result Span ClockFault} {first : PreparedDemand} {d : Description} → Carries prepared_meaning prepared_adjusted required hash name now first d → is_request_response d.pattern ≡ true
+pub what_is_carried : {required : Requirements} {node : ℕ} {hash : ServiceHash} {name : List ℕ} {now : Result Span ClockFault} {first : PreparedDemand} {d : Description} → Carries prepared_meaning prepared_adjusted required node hash name now first d → is_request_response d.pattern ≡ true
 what_is_carried (accepted {asked = asked} {d = d} _ _ fits _) = what_fits asked.request asked.response d.pattern fits
 what_is_carried (published _) = refl

@@ -31,15 +31,15 @@ abbrev pub time_of : Result Span ClockFault → Span
 time_of (Ok time) = time
 time_of (Err fault) = zero_span
 
--- what a create publishes, and carries
-abbrev pub description_of : {F E C : Type 0} → Meaning F E C → ServiceHash → List ℕ → Result Span ClockFault
-    → Description
-description_of m hash name now = record {
+-- what a create of this node publishes, and carries
+abbrev pub description_of : {F E C : Type 0} → Meaning F E C → ℕ → ServiceHash → List ℕ
+    → Result Span ClockFault → Description
+description_of m node hash name now = record {
   hash = hash;
   name = name;
   attributes = m.attributes;
   pattern = m.published (time_of now);
-  creator = None;
+  creator = Some node;
 }
 
 -- what the node holds that created a service of this description
@@ -96,7 +96,7 @@ module _ {F E C : Type 0} (m : Meaning F E C) (node : ℕ) (hash : ServiceHash) 
   -- The words of create, for a name and the clock's answer.
   abbrev pub IsCreateWord : List ℕ → Result Span ClockFault → List Letter → Result Factory C → Type 0
   IsCreateWord name now word answer =
-      IsCreating (clock_stops m.needs_clock now) (description_of m hash name now) word answer
+      IsCreating (clock_stops m.needs_clock now) (description_of m node hash name now) word answer
 
   -- What the code's parts are said by: a look that finds nothing, and a count that doesn't know the node,
   pub data IsFree : List Letter → Type 0 where

@@ -7,8 +7,8 @@ use Rattle.iceoryx2_pattern.specs.Meaning.{Meaning}
 use Rattle.iceoryx2_pattern.specs.Verdict.{verdict}
 use Rattle.iceoryx2_rounds.specs.Creates.{description_of}
 
--- What a create of the one meaning publishes fits the other one, and its requirement is met.
+-- What a create of the one meaning publishes fits the other one, and its requirement is met, whichever node creates.
 pub record AcceptsOwn {F E C : Type 0} (creating opening : Meaning F E C) (hash : ServiceHash) (name : List ℕ)
     (now : Result Span ClockFault) : Type 0 where
-  pub fits : opening.misfit (description_of creating hash name now) ≡ None
-  pub accepted : verdict (opening.requirement (description_of creating hash name now)) ≡ Ok tt
+  pub fits : (node : ℕ) → opening.misfit (description_of creating node hash name now) ≡ None
+  pub accepted : (node : ℕ) → verdict (opening.requirement (description_of creating node hash name now)) ≡ Ok tt

@@ -90,16 +90,17 @@ fn clock_stops(needs_clock: bool, now: &Result<Time, ClockFault>) -> bool
     }
 }
 
-/// The call's own copy of what it publishes.
+/// The call's own copy of what it publishes, with the caller as its creator.
 fn describe<P: Pattern>(
     pattern: &P,
+    node: u64,
     hash: &ServiceHash,
     name: &ServiceName,
     attributes: &AttributeSet,
     now: Result<Time, ClockFault>,
 ) -> Result<StaticConfig, AllocError>
     ensures { let meaning = defining attributes.now (P.meaning pattern.now) in
-        IfOk result (λ copy. copy ≡ description_of meaning hash.now name.now now) }
+        IfOk result (λ copy. copy ≡ description_of meaning node hash.now name.now now) }
 {
     let time = match now {
         Ok(time) => time,
@@ -108,7 +109,8 @@ fn describe<P: Pattern>(
     let name = name.clone()?;
     let attributes = attributes.clone()?;
     let published = pattern.published(time)?;
-    Ok(StaticConfig::new(*hash, name, attributes, published))
+    let description = StaticConfig::new(*hash, name, attributes, published);
+    Ok(description.with_creator(node))
 }
 
 /// Makes the segment, and before each further attempt removes what was left of another.
@@ -209,7 +211,7 @@ fn create_adjusted<P: Pattern, S: Storage>(
         None => {}
     }
     let stops = clock_stops(pattern.needs_clock(), &now);
-    match describe(pattern, hash, name, attributes, now) {
+    match describe(pattern, node, hash, name, attributes, now) {
         Ok(description) => {
             let created = make_tagged(pattern, node, hash, stops, &description, storage);
             registration_of(node, created, description)

@@ -85,7 +85,7 @@ pub fn granted_create_carries<F: Copy, E: Copy, C: Copy>()
     ensures { (m : Meaning F E C) (node : ℕ) (hash : ServiceHash) (name : List ℕ) (now : Result Span ClockFault)
         (word : List Letter) (r : Factory)
         → IsCreateCall m node hash name now word (Ok r)
-        → (r.node ≡ node) × (r.description ≡ description_of m hash name now) }
+        → (r.node ≡ node) × (r.description ≡ description_of m node hash name now) }
 {}
 
 /// An open that succeeds carries its node and a description of the builder's hash that is of the

@@ -80,11 +80,11 @@ module _ {D F E C : Type 0} (c : AnyCall D F E C) where
     ticket = o.new_ticket;
   }
 
-  carries_hash : {d : Description} → Carries c.asks.meaning c.asks.adjusted c.asks.required c.asks.hash c.asks.name c.asks.now c.asks.asked d → d.hash ≡ c.asks.hash
+  carries_hash : {d : Description} → Carries c.asks.meaning c.asks.adjusted c.asks.required c.asks.node c.asks.hash c.asks.name c.asks.now c.asks.asked d → d.hash ≡ c.asks.hash
   carries_hash (accepted is same fits met) = same
   carries_hash (published is) = refl
 
-  carried : {d : Description} → MeetsOrHolds c.asks.meaning c.asks.adjusted c.asks.required c.asks.hash c.asks.name c.asks.now c.asks.asked d → Meets c d ⊎ Holds c d
+  carried : {d : Description} → MeetsOrHolds c.asks.meaning c.asks.adjusted c.asks.required c.asks.node c.asks.hash c.asks.name c.asks.now c.asks.asked d → Meets c d ⊎ Holds c d
   carried (meets same accepts) = inl (record { hash = same; accepted = accepts })
   carried holds = inr refl
 

@@ -96,7 +96,7 @@ module _ (i : ℕ) (h : ServiceHash) where
 
 module _ {F E C : Type 0} (m : Meaning F E C) (i : ℕ) (h : ServiceHash) (name : List ℕ) (now : Result Span ClockFault) (x : Phase) (s : Option Segment) (c : ℕ) (k : Tickets) (b : begins x ≡ true) where
   abbrev d : Description
-  d = description_of m h name now
+  d = description_of m i h name now
 
   abbrev stops : Bool
   stops = clock_stops m.needs_clock now

@@ -77,7 +77,7 @@ with_service_has q h x = map.get-insert hash_total q.services h x h ∙ ap (λ b
 
 module _ {F E C : Type 0} (m : Meaning F E C) (q : Quiet) (i : ℕ) (h : ServiceHash) (w : World) (s : Shows w q) where
   create_gives : (name : List ℕ) (now : Result Span ClockFault) (r : Result Factory C) (p : Quiet) → Creates m q i h name now r p → IfOk r (λ x. GivesIn w p x)
-  create_gives name now r p (call.created fits gone runs room) = record { service = created_by i (description_of m h name now) q.counter; there = with_service_has q h (created_by i (description_of m h name now) q.counter); number = refl; description = refl; ticket = sym s.counter }
+  create_gives name now r p (call.created fits gone runs room) = record { service = created_by i (description_of m i h name now) q.counter; there = with_service_has q h (created_by i (description_of m i h name now) q.counter); number = refl; description = refl; ticket = sym s.counter }
   create_gives name now r p (call.forbidden bad) = tt
   create_gives name now r p (call.exists x fits there) = tt
   create_gives name now r p (call.no_time fits gone stops) = tt

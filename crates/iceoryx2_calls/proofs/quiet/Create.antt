@@ -90,7 +90,7 @@ module _ (i : ℕ) (h : ServiceHash) (w v : World) (q : Quiet) (a : Apart i h w 
 
 module _ {F E C : Type 0} (m : Meaning F E C) (i : ℕ) (h : ServiceHash) (name : List ℕ) (now : Result Span ClockFault) (w v : World) (q : Quiet) (a : Apart i h w v) (s : Shows w q) (gone : service_at q h ≡ None) where
   abbrev d : Description
-  d = description_of m h name now
+  d = description_of m i h name now
 
   abbrev MadeHere : Result Factory C → Type 0
   MadeHere r = Made (Creates m q i h name now r) (tickets_after w.tickets r) v

@@ -19,8 +19,8 @@ module _ {D F E C : Type 0} (c : AnyCall D F E C) (own : AcceptsOwn (creating c)
   -- what it publishes it accepts
   holds_accepted : (d : Description) → Holds c d → Accepts (opening c) d
   holds_accepted d is = record {
-    fits = ap (λ d. (opening c).misfit d) is ∙ own.fits;
-    meets = ap (λ d. verdict ((opening c).requirement d)) is ∙ own.accepted;
+    fits = ap (λ d. (opening c).misfit d) is ∙ own.fits c.asks.node;
+    meets = ap (λ d. verdict ((opening c).requirement d)) is ∙ own.accepted c.asks.node;
   }
 
   either_accepted : (d : Description) → Meets c d ⊎ Holds c d → Accepts (opening c) d
