@@ -3,7 +3,7 @@
 use self::Reading::{Form, Malformed};
 use crate::support::*;
 use iceoryx2_attributes::attribute::AttributeSet;
-use iceoryx2_data::bytes::{DecodeError, laws};
+use iceoryx2_data::bytes::{DecodeError, decode, laws};
 use iceoryx2_values::config::Config;
 use iceoryx2_values::description::{MessagingPattern, ServiceHash, StaticConfig};
 use iceoryx2_values::event;
@@ -13,6 +13,7 @@ use std::alloc::Global;
 use std::process::Abort;
 
 mod attributes;
+mod creators;
 mod publish_subscribe;
 mod request_response;
 
@@ -51,6 +52,19 @@ const USER_HEADER: &str = "000002282900000000000000000000000000000001";
 /// The service `a` of events with the default settings, and these digits as its deadline.
 fn form(rt: &impl Abort, alloc: Global, last: &str) -> Vec<u8> {
     bytes_of(rt, alloc, &[HASHED, SETTINGS, last])
+}
+
+/// The form of the same description with the node of these digits as its creator: the second version, the
+/// creator, and all that stands behind the version of the form without one.
+fn created(rt: &impl Abort, alloc: Global, bytes: &[u8], creator: &str) -> Vec<u8> {
+    let mut form = bytes_of(rt, alloc, &["494f583202", creator]);
+    if bytes.len() < 5 {
+        panic!(rt; "a form has more than a version")
+    }
+    if form.extend_from_slice(&bytes[5..]).is_err() {
+        panic!(rt; "no memory")
+    }
+    form
 }
 
 /// A description of events with this name and these settings.

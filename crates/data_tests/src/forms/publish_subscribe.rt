@@ -108,6 +108,29 @@ fn fronts_and_longer_lists_of_publish_subscribe_are_malformed(rt: HostRuntime) {
     assert_same(&rt, found, (Form, 167, 256));
 }
 
+/// The form of the same description, created by the node 7.
+fn form_by_seven(rt: &impl Abort, alloc: Global) -> Vec<u8> {
+    let bytes = form_of(rt, alloc, "01", PAYLOAD);
+    created(rt, alloc, &bytes, "0000000000000007")
+}
+
+#[test]
+fn publish_subscribe_is_read_and_written_with_its_creator(rt: HostRuntime) {
+    let bytes = form_by_seven(&rt, rt.alloc());
+    let made = described(&rt, rt.alloc()).with_creator(7);
+    assert_same(
+        &rt,
+        compared(&rt, rt.alloc(), bytes, made),
+        (175, true, true, 20),
+    );
+}
+
+#[test]
+fn fronts_and_longer_lists_with_a_creator_are_malformed(rt: HostRuntime) {
+    let found = bounds(&rt, rt.alloc(), form_by_seven(&rt, rt.alloc()));
+    assert_same(&rt, found, (Form, 175, 256));
+}
+
 /// What a reader makes of such a safe overflow and payload.
 fn reading_of(rt: &impl Abort, alloc: Global, overflow: &str, payload: &str) -> Reading {
     read(rt, alloc, form_of(rt, alloc, overflow, payload).as_slice())
