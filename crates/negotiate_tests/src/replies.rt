@@ -122,6 +122,34 @@ fn damaged_bytes_are_no_service_of_a_listing_and_not_out_of_memory(rt: HostRunti
     assert_line(&rt, rt.alloc(), reply, "0 services\n");
 }
 
+/// The fronts of a form without a creator, and of one by the node 7.
+const FRONTS: [&[u8]; 2] = [b"IOX2\x01", b"IOX2\x02\0\0\0\0\0\0\0\x07"];
+
+/// What stands behind them: a hash of twenty bytes, the name `a`, and events with the default settings.
+const BEHIND: &[u8] =
+    b"\x11\x11\x11\x11\x11\x11\x11\x11\x11\x11\x11\x11\x11\x11\x11\x11\x11\x11\x11\x11\0\x01a\0\0\x01\
+        \0\0\0\0\0\0\0\x10\0\0\0\0\0\0\0\x10\0\0\0\0\0\0\0\xff\0\0\0\0\0\0\0\x24\0\0\0\0";
+
+/// A form of these parts.
+fn form(rt: &impl Abort, alloc: Global, front: &[u8]) -> Bytes {
+    let mut bytes = Vec::new(alloc);
+    if bytes.extend_from_slice(front).is_err() || bytes.extend_from_slice(BEHIND).is_err() {
+        panic!(rt; "no memory")
+    }
+    Bytes::from_vec(bytes)
+}
+
+#[test]
+fn a_service_is_listed_in_the_same_way_with_a_creator_and_without(rt: HostRuntime) {
+    let wanted =
+        "event a 1111111111111111111111111111111111111111 number=0 nodes=1/36\n1 services\n";
+    for front in FRONTS {
+        let row = ListedRow::Published(0, form(&rt, rt.alloc(), front));
+        let reply = listing(&rt, rt.alloc(), row);
+        assert_line(&rt, rt.alloc(), reply, wanted);
+    }
+}
+
 #[test]
 fn a_segment_without_a_description_is_no_service_of_a_listing(rt: HostRuntime) {
     let absent = listing(&rt, rt.alloc(), ListedRow::Absent);

@@ -10,6 +10,8 @@ mod attributes;
 #[cfg(test)]
 mod clones;
 #[cfg(test)]
+mod creators;
+#[cfg(test)]
 mod deadlines;
 #[cfg(test)]
 mod events;

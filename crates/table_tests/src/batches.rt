@@ -2,6 +2,7 @@
 
 mod accesses;
 mod creates;
+mod creators;
 mod drawn;
 mod opens;
 mod opens_or_creates;
