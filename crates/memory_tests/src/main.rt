@@ -191,7 +191,7 @@ fn of_peers(alloc: Global) -> [(&'static str, Outcome); 3] {
 }
 
 /// What asks for no memory, with every request refused.
-fn of_unneeded(alloc: Global) -> [(&'static str, Outcome); 10] {
+fn of_unneeded(alloc: Global) -> [(&'static str, Outcome); 11] {
     [
         ("new tables and a session", sessions::begin(alloc)),
         ("close of a session", sessions::close(alloc)),
@@ -202,6 +202,7 @@ fn of_unneeded(alloc: Global) -> [(&'static str, Outcome); 10] {
         ("open of a service that isn't there", unneeded::open(alloc)),
         ("setters and header changes", unneeded::set(alloc)),
         ("verdicts", unneeded::judge(alloc)),
+        ("creators", unneeded::tell_creator(alloc)),
         ("Display", unneeded::display(alloc)),
     ]
 }

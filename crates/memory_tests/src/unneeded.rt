@@ -126,6 +126,14 @@ pub fn judge(alloc: Global) -> Result<Tally, Wrong> {
     without_memory(alloc, is_met && is_unmet && is_compatible)
 }
 
+/// Tells a creator in a description.
+pub fn tell_creator(alloc: Global) -> Result<Tally, Wrong> {
+    let description = samples::description(alloc, Pattern::Event)?;
+    refuse_all(alloc);
+    let told = description.with_creator(7);
+    without_memory(alloc, told.creator() == Some(7))
+}
+
 /// Writes an error into a text that has room for it.
 pub fn display(alloc: Global) -> Result<Tally, Wrong> {
     let error = EventOpenOrCreateError::EventOpenError(EventOpenError::OutOfMemory);
@@ -195,7 +203,8 @@ fn read_factory(
         && factory.attributes().is_empty()
         && factory.static_config().max_nodes == 36
         && factory.number() == 0
-        && factory.node() == 1;
+        && factory.node() == 1
+        && factory.creator() == Some(1);
     factory.abandon();
     let is_held = table.has_tag(1, &hash) && table.tickets(1, &hash) == 1;
     let is_counted = table.counter() == 1 && table.pending() == 0 && table.skipped() == 0;
