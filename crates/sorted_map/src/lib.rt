@@ -54,7 +54,14 @@ fn insert_reserved<T: Drop>(items: &mut Vec<T>, at: usize, item: T)
     ensures items { items.new.items ≡ list_insert items.old.items at item }
     ensures capacity { vec_capacity items.new ≡ vec_capacity items.old }
 {
-    let _ = items.insert(at, item);
+    let capacity = items.capacity();
+    // The first comparison always holds. It tells the compiler that the place behind this one does not wrap
+    // around, and then the entries behind it move at once.
+    if at < usize::MAX {
+        let _ = items.insert(at, item);
+    } else if capacity > at {
+        items.push_reserved(item);
+    }
 }
 
 impl<K: Ord + Copy, V> SortedVec<K, V> {
