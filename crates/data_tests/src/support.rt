@@ -12,7 +12,7 @@ use std::fmt::{Debug, Display};
 use std::process::Abort;
 
 /// Ends a test that finds another value than it wants. Only here is a value compared and printed, since
-/// each function that does so is dear to prove.
+/// a function that does so takes long to prove.
 pub fn assert_same<T: Debug + PartialEq + Drop>(rt: &impl Abort, found: T, wanted: T) {
     assert_eq!(rt; found, wanted);
 }
@@ -92,7 +92,8 @@ pub fn written(rt: &impl Abort, alloc: Global, made: &StaticConfig) -> Vec<u8> {
 
 /// Whether the bytes are what is written for the description.
 pub fn are_written(rt: &impl Abort, alloc: Global, bytes: &[u8], made: &StaticConfig) -> bool {
-    written(rt, alloc, made).as_slice() == bytes
+    let form = written(rt, alloc, made);
+    form.capacity() == bytes.len() && form.as_slice() == bytes
 }
 
 /// What a reader makes of bytes.

@@ -6,6 +6,7 @@ ghost use Rattle.iceoryx2_data.specs.Form.{IsForm};
 ghost use Rattle.iceoryx2_parts.specs.declared.reading.DecodeError.TheVariants.{OutOfMemory};
 
 mod reading;
+mod room;
 mod writing;
 
 pub use iceoryx2_parts::reading::DecodeError;
@@ -38,11 +39,11 @@ pub fn pattern_bytes()
     ensures request_response { REQUEST_RESPONSE_BYTE ≡ 3 }
 {}
 
-/// The byte form of the description.
+/// The byte form of the description. Its memory is asked for once.
 pub fn encode(alloc: Global, description: &StaticConfig) -> Result<Vec<u8>, AllocError>
     ensures { IfOk result (λ bytes. IsForm description.now bytes.items) }
 {
-    let mut out = Vec::new(alloc);
+    let mut out = Vec::with_capacity(alloc, room::length_of(description))?;
     writing::put_description(&mut out, description)?;
     Ok(out)
 }
