@@ -2,7 +2,6 @@
 use Rattle.std.proofs.Common.{◌≡◌, ℕ, zero, suc, ◌^◌, ◌<◌, List, [], ◌∷◌, ◌++◌, Option, Some, None, refl, ap, subst}
 use Rattle.std.specs.Prelude.{IfSome}
 use Rattle.std.specs.Int.{w64}
-use Rattle.iceoryx2_parts.specs.Form.{number}
 use Rattle.iceoryx2_parts.specs.Reading.{number_at}
 use Rattle.iceoryx2_parts.proofs.Parts.{IsBytes, IsBytes-rest, bind_some, some_is, Takes, Reads, Reads-number64}
 use Rattle.iceoryx2_data.specs.Form.{versioned}

@@ -23,8 +23,8 @@ retried_of_create =
     create_refusal.ServiceInCorruptedState ∷ []
 
 -- A pattern tells its errors apart, and has one for each refusal: it goes on after those of these refusals.
-abbrev pub retried_by : {E C : Type 0} → (E → E → Bool) → (C → C → Bool) → (OpenRefusal → E) → (CreateRefusal → C)
-    → Retried E C
+abbrev pub retried_by : {E C : Type 0} → (E → E → Bool) → (C → C → Bool)
+    → (OpenRefusal → E) → (CreateRefusal → C) → Retried E C
 retried_by same_open same_create open_error create_error = record {
   of_open = λ error. list_any (λ refusal. same_open error (open_error refusal)) retried_of_open;
   of_create = λ error. list_any (λ refusal. same_create error (create_error refusal)) retried_of_create;

@@ -1,5 +1,5 @@
 -- A builder of publish-subscribe is a builder like each other one.
-use Rattle.std.proofs.Common.{◌≡◌, Bool, false, true, cond, ℕ, List, [], Result, Option, Some, None, Ok, refl, sym, ap}
+use Rattle.std.proofs.Common.{◌≡◌, Bool, false, true, cond, ℕ, List, [], Result, Some, None, Ok, refl, sym, ap}
 use Rattle.iceoryx2_types.specs.Types.{Message, compatible}
 use Rattle.iceoryx2_attributes.specs.Attributes.{Pair}
 use Rattle.iceoryx2_attributes.specs.Requirements.{Requirements, no_requirements}

@@ -1,4 +1,3 @@
-use Rattle.std.proofs.Common.{◌≡◌}
 use Rattle.iceoryx2_builder_base.proofs.Granted.{with_types, without_types}
 use Rattle.iceoryx2_open_or_create.proofs.Granted.{joined_carries}
 use Rattle.iceoryx2_publish_subscribe_builder.proofs.Granted.{what_is_carried}
