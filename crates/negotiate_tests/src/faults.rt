@@ -1,4 +1,4 @@
-//! Readers and writers that fail, and want of memory.
+//! Readers and writers that fail, and memory that runs out.
 
 use crate::support::{Page, Pieces, assert_same, text_of};
 use negotiate_replies::serve::{end_by_fault, serve};

@@ -35,7 +35,7 @@ pub const DEFAULTS: StaticConfig = StaticConfig {
 };
 
 /// Ends a test that finds another value than it wants. Only here is a value compared and printed, since
-/// each function that does so is dear to prove.
+/// a function that does so takes long to prove.
 pub fn assert_same<T: Debug + PartialEq + Drop>(rt: &impl Abort, found: T, wanted: T) {
     assert_eq!(rt; found, wanted);
 }
@@ -98,7 +98,7 @@ pub fn table_from(alloc: Global, counter: u64) -> Table {
     Table::starting_at(alloc, counter)
 }
 
-/// Lets a table go. It is dropped here alone, since each function that drops one is dear to prove.
+/// Lets a table go. It is dropped here alone, since a function that drops one takes long to prove.
 pub fn drop_table(table: Table) {
     let _table = table;
 }
