@@ -6,7 +6,7 @@ top=$(cd "$(dirname "$0")/.." && pwd)
 scratch=${BENCHMARK_FOLDER:-/tmp/negotiation-benchmark}
 kit=$(dirname "$(rt doc)")
 sources=/usr/share/cargo/registry
-libraries="iceoryx2_session iceoryx2_commands iceoryx2_builder iceoryx2_storage iceoryx2_values iceoryx2_attributes"
+libraries="iceoryx2_session iceoryx2_commands iceoryx2_builder iceoryx2_table iceoryx2_description iceoryx2_attribute"
 
 # The plain program's SHA-1 is Debian's package of the crate sha1.
 if ! compgen -G "$sources/sha1-0.10.*" >/dev/null; then
@@ -34,7 +34,7 @@ for file in "$top"/benchmarks/measured/*.rattle; do
     cp "$file" "$scratch/crates/measured/src/$(basename "$file" .rattle).rt"
 done
 cp "$top/crates.txt" "$scratch/crates.txt"
-echo "measured staticlib: negotiate_replies $libraries libc" >>"$scratch/crates.txt"
+echo "measured staticlib: negotiate_serve $libraries libc" >>"$scratch/crates.txt"
 (cd "$scratch/crates/measured" && rt lib) >"$scratch/proof.log" 2>&1 || {
     tail -n 40 "$scratch/proof.log" >&2
     exit 1

@@ -1,7 +1,7 @@
 //! Attributes: which are defined and required, and what of them is lacking.
 
 use crate::support::*;
-use iceoryx2_attributes::attribute::{
+use iceoryx2_attribute::attribute::{
     AttributeError, AttributeSet, AttributeSpecifier, AttributeVerifier,
 };
 use std::alloc::Global;

@@ -1,11 +1,11 @@
 //! Names, hashes, times and settings.
 
 use crate::support::*;
-use iceoryx2_values::config::{Config, Event, PublishSubscribe, RequestResponse};
-use iceoryx2_values::description::{MessagingPattern, ServiceHash, ServiceName, ServiceNameError};
-use iceoryx2_values::event;
-use iceoryx2_values::event::EventId;
-use iceoryx2_values::time::{Duration, Time};
+use iceoryx2_description::config::{Config, Event, PublishSubscribe, RequestResponse};
+use iceoryx2_description::description::{MessagingPattern, ServiceHash, ServiceName, ServiceNameError};
+use iceoryx2_description::event;
+use iceoryx2_description::event::EventId;
+use iceoryx2_description::time::{Duration, Time};
 use std::alloc::Global;
 use std::process::Abort;
 

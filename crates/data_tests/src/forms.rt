@@ -2,13 +2,13 @@
 
 use self::Reading::{Form, Malformed};
 use crate::support::*;
-use iceoryx2_attributes::attribute::AttributeSet;
-use iceoryx2_data::bytes::{DecodeError, decode, laws};
-use iceoryx2_values::config::Config;
-use iceoryx2_values::description::{MessagingPattern, ServiceHash, StaticConfig};
-use iceoryx2_values::event;
-use iceoryx2_values::event::{Deadline, EventId};
-use iceoryx2_values::time::{Duration, Time};
+use iceoryx2_attribute::attribute::AttributeSet;
+use iceoryx2_byte_form::bytes::{DecodeError, decode, laws};
+use iceoryx2_description::config::Config;
+use iceoryx2_description::description::{MessagingPattern, ServiceHash, StaticConfig};
+use iceoryx2_description::event;
+use iceoryx2_description::event::{Deadline, EventId};
+use iceoryx2_description::time::{Duration, Time};
 use std::alloc::Global;
 use std::process::Abort;
 

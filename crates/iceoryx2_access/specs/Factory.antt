@@ -1,6 +1,6 @@
 -- What a factory holds of its service.
 use Rattle.std.specs.Prelude.{ℕ}
-use Rattle.iceoryx2_values.specs.Description.{Description}
+use Rattle.iceoryx2_description.specs.Description.{Description}
 
 pub record Factory : Type 0 where
   pub node : ℕ

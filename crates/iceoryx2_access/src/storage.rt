@@ -5,7 +5,7 @@ ghost use Rattle.iceoryx2_access.specs.Letter.{Letter, fetch_answer};
 ghost use Rattle.iceoryx2_access.specs.Letter as letter;
 ghost use Rattle.sha1.specs.Sha1.{sha1};
 
-use iceoryx2_values::description::{ServiceHash, ServiceName, StaticConfig};
+use iceoryx2_description::description::{ServiceHash, ServiceName, StaticConfig};
 use sha1::Sha1;
 
 /// Whether there is a service.
@@ -203,7 +203,7 @@ pub trait Storage {
 
 /// What makes a service's hash of its pattern's letter and its name.
 pub trait ServiceNameHasher {
-    ghost use Rattle.iceoryx2_values.specs.declared.description.ServiceHash.{ServiceHash};
+    ghost use Rattle.iceoryx2_description.specs.declared.description.ServiceHash.{ServiceHash};
 
     /// The hash of a letter and a name's bytes.
     ghost hash_of: { ℕ → List ℕ → ServiceHash };
@@ -219,7 +219,7 @@ pub trait ServiceNameHasher {
 pub struct Sha1Hasher;
 
 impl ServiceNameHasher for Sha1Hasher {
-    ghost use Rattle.iceoryx2_values.specs.declared.description.ServiceHash.{ServiceHash};
+    ghost use Rattle.iceoryx2_description.specs.declared.description.ServiceHash.{ServiceHash};
 
     ghost hash_of = { λ letter name. record { 0 = sha1 (letter ∷ name) } };
 

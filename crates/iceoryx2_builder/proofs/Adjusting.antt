@@ -2,12 +2,12 @@
 use Rattle.std.proofs.Common.{◌≡◌, ◌≤◌, ℕ, zero, suc, All, List, [], ◌∷◌, refl, arith}
 use Rattle.std.proofs.lemmas.Bool.Decides.{nat_tests}
 use Rattle.std.proofs.lemmas.List.Elements.{All-contains_itself}
-use Rattle.iceoryx2_attributes.specs.Requirements.{Requirements}
-use Rattle.iceoryx2_values.specs.Description.{Description}
+use Rattle.iceoryx2_attribute.specs.Requirements.{Requirements}
+use Rattle.iceoryx2_description.specs.Description.{Description}
 use Rattle.iceoryx2_types.specs.Types.{Message, IsCompatible}
 use Rattle.iceoryx2_types.proofs.Compatible.{reflexive}
 use Rattle.iceoryx2_open_or_create.specs.Adjusting.{Accepts, OnlyRaises}
-use Rattle.iceoryx2_builder_base.specs.Zeros.{at_least_one}
+use Rattle.iceoryx2_builder_common.specs.Zeros.{at_least_one}
 use Rattle.iceoryx2_event_builder.specs.Event.{event_meaning, event_adjusted, event_opening}
 use Rattle.iceoryx2_event_builder.specs.declared.event.demand.EventDemand.{EventDemand}
 use Rattle.iceoryx2_publish_subscribe_builder.specs.PublishSubscribe as publish_subscribe

@@ -3,10 +3,10 @@ use Rattle.std.proofs.Common.{◌≡◌, ◌≤◌, ℕ, Bool, true, false, cond
 use Rattle.std.specs.Prelude.{nat_le, Contains, IsTrue}
 use Rattle.std.proofs.lemmas.Bool.Decides.{nat_tests}
 use Rattle.std.proofs.lemmas.List.Elements.{All-weaker, All-contains}
-use Rattle.iceoryx2_attributes.specs.Attributes.{Pair, has_pair, has_key}
-use Rattle.iceoryx2_attributes.specs.Requirements.{Requirements, AreMetBy, first_lacking}
-use Rattle.iceoryx2_attributes.proofs.Requirements.{is_met, none_lacking}
-use Rattle.iceoryx2_values.specs.Span.{Span}
+use Rattle.iceoryx2_attribute.specs.Attributes.{Pair, has_pair, has_key}
+use Rattle.iceoryx2_attribute.specs.Requirements.{Requirements, AreMetBy, first_lacking}
+use Rattle.iceoryx2_attribute.proofs.Requirements.{is_met, none_lacking}
+use Rattle.iceoryx2_description.specs.Span.{Span}
 use Rattle.iceoryx2_pattern.specs.Verdict.{Clause, SettingRow, verdict, marked_clauses, and_then}
 use Rattle.iceoryx2_pattern.specs.Verdict.{at_least, flag_is, number_is, span_is}
 use Rattle.iceoryx2_pattern.specs.OwnAttributes.{attribute_clauses}

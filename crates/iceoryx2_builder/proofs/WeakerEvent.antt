@@ -1,10 +1,10 @@
 -- What a stronger open of events takes, a weaker one takes too.
 use Rattle.std.proofs.Common.{◌≡◌, List, Ok, None, refl}
-use Rattle.iceoryx2_attributes.specs.Requirements.{Requirements}
-use Rattle.iceoryx2_values.specs.Description.{Description}
-use Rattle.iceoryx2_values.specs.declared.description.MessagingPattern.{MessagingPattern}
-use Rattle.iceoryx2_values.specs.declared.description.MessagingPattern.TheVariants as existing
-use Rattle.iceoryx2_values.specs.declared.event.StaticConfig.{StaticConfig as Existing}
+use Rattle.iceoryx2_attribute.specs.Requirements.{Requirements}
+use Rattle.iceoryx2_description.specs.Description.{Description}
+use Rattle.iceoryx2_description.specs.declared.description.MessagingPattern.{MessagingPattern}
+use Rattle.iceoryx2_description.specs.declared.description.MessagingPattern.TheVariants as existing
+use Rattle.iceoryx2_description.specs.declared.event.StaticConfig.{StaticConfig as Existing}
 use Rattle.iceoryx2_pattern.specs.Verdict.{verdict, marked_clauses}
 use Rattle.iceoryx2_event_builder.specs.Event.{setting_rows, setting_clauses, event_opening}
 use Rattle.iceoryx2_event_builder.specs.declared.event.demand.EventDemand.{EventDemand}

@@ -1,10 +1,10 @@
 -- What a stronger open of publish-subscribe takes, a weaker one takes too.
 use Rattle.std.proofs.Common.{◌≡◌, List, Ok, None, refl}
-use Rattle.iceoryx2_attributes.specs.Requirements.{Requirements}
-use Rattle.iceoryx2_values.specs.Description.{Description}
-use Rattle.iceoryx2_values.specs.declared.description.MessagingPattern.{MessagingPattern}
-use Rattle.iceoryx2_values.specs.declared.description.MessagingPattern.TheVariants as existing
-use Rattle.iceoryx2_values.specs.declared.publish_subscribe.StaticConfig.{StaticConfig as Existing}
+use Rattle.iceoryx2_attribute.specs.Requirements.{Requirements}
+use Rattle.iceoryx2_description.specs.Description.{Description}
+use Rattle.iceoryx2_description.specs.declared.description.MessagingPattern.{MessagingPattern}
+use Rattle.iceoryx2_description.specs.declared.description.MessagingPattern.TheVariants as existing
+use Rattle.iceoryx2_description.specs.declared.publish_subscribe.StaticConfig.{StaticConfig as Existing}
 use Rattle.iceoryx2_pattern.specs.Verdict.{verdict, marked_clauses}
 use Rattle.iceoryx2_publish_subscribe_builder.specs.PublishSubscribe.{setting_rows, setting_clauses, publish_subscribe_opening, misfit_of}
 use Rattle.iceoryx2_publish_subscribe_builder.specs.declared.publish_subscribe.demand.PublishSubscribeDemand.{PublishSubscribeDemand}

@@ -1,10 +1,10 @@
 -- What a stronger open of request-response takes, a weaker one takes too.
 use Rattle.std.proofs.Common.{◌≡◌, List, Ok, None, refl}
-use Rattle.iceoryx2_attributes.specs.Requirements.{Requirements}
-use Rattle.iceoryx2_values.specs.Description.{Description}
-use Rattle.iceoryx2_values.specs.declared.description.MessagingPattern.{MessagingPattern}
-use Rattle.iceoryx2_values.specs.declared.description.MessagingPattern.TheVariants as existing
-use Rattle.iceoryx2_values.specs.declared.request_response.StaticConfig.{StaticConfig as Existing}
+use Rattle.iceoryx2_attribute.specs.Requirements.{Requirements}
+use Rattle.iceoryx2_description.specs.Description.{Description}
+use Rattle.iceoryx2_description.specs.declared.description.MessagingPattern.{MessagingPattern}
+use Rattle.iceoryx2_description.specs.declared.description.MessagingPattern.TheVariants as existing
+use Rattle.iceoryx2_description.specs.declared.request_response.StaticConfig.{StaticConfig as Existing}
 use Rattle.iceoryx2_pattern.specs.Verdict.{verdict, marked_clauses}
 use Rattle.iceoryx2_request_response_builder.specs.RequestResponse.{setting_rows, setting_clauses, request_response_opening, misfit_of}
 use Rattle.iceoryx2_request_response_builder.specs.declared.request_response.demand.RequestResponseDemand.{RequestResponseDemand}

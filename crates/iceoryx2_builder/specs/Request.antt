@@ -1,6 +1,6 @@
 -- What a node and its builders hold.
 use Rattle.std.specs.Prelude.{ℕ, List}
-use Rattle.iceoryx2_values.specs.declared.config.Config.{Config}
+use Rattle.iceoryx2_description.specs.declared.config.Config.{Config}
 
 pub record NodeFacts : Type 0 where
   pub id : ℕ

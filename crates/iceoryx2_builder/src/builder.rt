@@ -1,15 +1,15 @@
 //! Nodes, and where their builders begin.
 
 ghost use Rattle.std.specs.Prelude.{◌≡◌};
-ghost use Rattle.iceoryx2_attributes.specs.Requirements.{Requirements};
+ghost use Rattle.iceoryx2_attribute.specs.Requirements.{Requirements};
 ghost use Rattle.iceoryx2_builder.specs.Setters.{AreSetters, event_place, publish_subscribe_place, request_response_place};
 ghost use Rattle.iceoryx2_builder.specs.Weaker.{AreSomeOf};
 ghost use Rattle.iceoryx2_builder.specs.Weaker.{IsWeakerEvent, IsWeakerPublishSubscribe, IsWeakerRequestResponse};
-ghost use Rattle.iceoryx2_builder_base.specs.Builders.{IsBuilder};
+ghost use Rattle.iceoryx2_builder_common.specs.Builders.{IsBuilder};
 ghost use Rattle.iceoryx2_open_or_create.specs.Adjusting.{Accepts, OnlyRaises};
 ghost use Rattle.iceoryx2_open_or_create.specs.EndsAtOnce.{EndsAtOnce};
 ghost use Rattle.iceoryx2_pattern.specs.OwnAttributes.{defining, requiring};
-ghost use Rattle.iceoryx2_values.specs.Description.{Description};
+ghost use Rattle.iceoryx2_description.specs.Description.{Description};
 ghost use Rattle.iceoryx2_event_builder.specs.Event.{event_adjusted, event_creating, event_meaning, event_opening, event_retried};
 ghost use Rattle.iceoryx2_event_builder.specs.Request.{fresh_request, with_setting as with_event_setting};
 ghost use Rattle.iceoryx2_event_builder.specs.declared.event.demand.EventDemand.{EventDemand};
@@ -36,13 +36,13 @@ ghost use Rattle.iceoryx2_request_response_builder.specs.declared.request_respon
 ghost use Rattle.iceoryx2_request_response_builder.specs.declared.request_response.demand.PreparedDemand.{PreparedDemand as PreparedRequestResponse};
 
 use iceoryx2_access::storage::Service;
-use iceoryx2_builder_base::base::BuilderWithServiceType;
+use iceoryx2_builder_common::base::BuilderWithServiceType;
 pub use iceoryx2_event_builder::event;
 pub use iceoryx2_publish_subscribe_builder::publish_subscribe;
 pub use iceoryx2_request_response_builder::request_response;
 use iceoryx2_types::types::{self, ZeroCopySend};
-use iceoryx2_values::config::Config;
-use iceoryx2_values::description::ServiceName;
+use iceoryx2_description::config::Config;
+use iceoryx2_description::description::ServiceName;
 use std::alloc::AllocError;
 use std::marker::{Model, PhantomData};
 

@@ -2,7 +2,7 @@
 
 ghost use Rattle.std.specs.Prelude.{◌≡◌};
 
-use iceoryx2_attributes::attribute::AttributeVerifier;
+use iceoryx2_attribute::attribute::AttributeVerifier;
 use iceoryx2_errors::error::{
     EventCreateError, EventOpenError, EventOpenOrCreateError, PublishSubscribeCreateError,
     PublishSubscribeOpenError, PublishSubscribeOpenOrCreateError, RequestResponseCreateError,
@@ -11,8 +11,8 @@ use iceoryx2_errors::error::{
 pub use iceoryx2_event_builder::event::EventSetting;
 pub use iceoryx2_publish_subscribe_builder::publish_subscribe::PublishSubscribeSetting;
 pub use iceoryx2_request_response_builder::request_response::RequestResponseSetting;
-use iceoryx2_values::description::ServiceName;
-use iceoryx2_values::time::{ClockFault, Time};
+use iceoryx2_description::description::ServiceName;
+use iceoryx2_description::time::{ClockFault, Time};
 use iceoryx2_world::listing::Entry;
 
 /// How many slots a session has.

@@ -1,4 +1,7 @@
-//! The bytes that nodes share, and the values that they tell of under one name.
+//! The values that nodes agree on, under one name: attributes, descriptions, and their byte form.
 #![tactic(auto)]
 
-pub mod bytes;
+pub mod description;
+
+pub use iceoryx2_attribute::attribute;
+pub use iceoryx2_byte_form::bytes;

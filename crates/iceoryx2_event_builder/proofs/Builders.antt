@@ -1,9 +1,9 @@
 -- A builder of events is a builder like each other one.
 use Rattle.std.proofs.Common.{◌≡◌, false, refl}
-use Rattle.iceoryx2_attributes.specs.Requirements.{Requirements}
-use Rattle.iceoryx2_values.specs.Description.{Description}
-use Rattle.iceoryx2_values.specs.declared.description.MessagingPattern.{MessagingPattern}
-use Rattle.iceoryx2_values.specs.declared.description.MessagingPattern.TheVariants as existing
+use Rattle.iceoryx2_attribute.specs.Requirements.{Requirements}
+use Rattle.iceoryx2_description.specs.Description.{Description}
+use Rattle.iceoryx2_description.specs.declared.description.MessagingPattern.{MessagingPattern}
+use Rattle.iceoryx2_description.specs.declared.description.MessagingPattern.TheVariants as existing
 use Rattle.iceoryx2_errors.specs.declared.error.events.EventOpenError.{EventOpenError}
 use Rattle.iceoryx2_errors.specs.declared.error.events.EventOpenError.TheVariants as opening
 use Rattle.iceoryx2_pattern.specs.OwnAttributes.{attribute_clauses}
@@ -14,7 +14,7 @@ use Rattle.iceoryx2_event_builder.specs.declared.event.demand.EventDemand.{Event
 use Rattle.iceoryx2_event_builder.specs.Event.{event_creating, event_opening, event_retried, setting_clauses, setting_rows}
 use Rattle.iceoryx2_event_builder.proofs.Regular.{creating_is_regular, opening_is_regular, event_takes_nodes}
 use Rattle.iceoryx2_event_builder.proofs.OwnSettings.{own_settings}
-use Rattle.iceoryx2_builder_base.specs.Builders.{IsBuilder}
+use Rattle.iceoryx2_builder_common.specs.Builders.{IsBuilder}
 
 pub event_builder : (demand : EventDemand) → IsBuilder (event_creating demand) (event_opening demand)
 event_builder demand = record {

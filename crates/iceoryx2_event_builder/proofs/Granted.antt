@@ -1,12 +1,12 @@
 -- What is granted is of events.
 use Rattle.std.proofs.Common.{◌≡◌, ℕ, true, List, Result, None, refl}
-use Rattle.iceoryx2_attributes.specs.Requirements.{Requirements}
-use Rattle.iceoryx2_values.specs.declared.description.ServiceHash.{ServiceHash}
-use Rattle.iceoryx2_values.specs.declared.time.ClockFault.{ClockFault}
-use Rattle.iceoryx2_values.specs.Description.{Description}
-use Rattle.iceoryx2_values.specs.Span.{Span}
-use Rattle.iceoryx2_values.specs.declared.description.MessagingPattern.{MessagingPattern}
-use Rattle.iceoryx2_values.specs.declared.description.MessagingPattern.TheVariants as existing
+use Rattle.iceoryx2_attribute.specs.Requirements.{Requirements}
+use Rattle.iceoryx2_description.specs.declared.description.ServiceHash.{ServiceHash}
+use Rattle.iceoryx2_description.specs.declared.time.ClockFault.{ClockFault}
+use Rattle.iceoryx2_description.specs.Description.{Description}
+use Rattle.iceoryx2_description.specs.Span.{Span}
+use Rattle.iceoryx2_description.specs.declared.description.MessagingPattern.{MessagingPattern}
+use Rattle.iceoryx2_description.specs.declared.description.MessagingPattern.TheVariants as existing
 use Rattle.iceoryx2_port_factory.specs.Patterns.{is_events}
 use Rattle.iceoryx2_open_or_create.specs.Grants.{Carries, accepted, published}
 use Rattle.iceoryx2_event_builder.specs.declared.event.demand.EventDemand.{EventDemand}

@@ -2,20 +2,20 @@
 use Rattle.std.proofs.Common.{◌≡◌, ℕ, true, List, [], Option, Some, None, Ok, refl}
 use Rattle.std.specs.Prelude.{Result}
 use Rattle.std.specs.Option.{option_map}
-use Rattle.iceoryx2_values.specs.declared.description.ServiceHash.{ServiceHash}
-use Rattle.iceoryx2_values.specs.declared.time.ClockFault.{ClockFault}
-use Rattle.iceoryx2_values.specs.Span.{Span}
-use Rattle.iceoryx2_values.specs.declared.event.Deadline.{Deadline}
+use Rattle.iceoryx2_description.specs.declared.description.ServiceHash.{ServiceHash}
+use Rattle.iceoryx2_description.specs.declared.time.ClockFault.{ClockFault}
+use Rattle.iceoryx2_description.specs.Span.{Span}
+use Rattle.iceoryx2_description.specs.declared.event.Deadline.{Deadline}
 use Rattle.iceoryx2_pattern.specs.Verdict.{verdict, is_same_span}
-use Rattle.iceoryx2_rounds.specs.Creates.{description_of, time_of}
+use Rattle.iceoryx2_create_and_open.specs.Creates.{description_of, time_of}
 use Rattle.iceoryx2_pattern.proofs.Verdicts.{no_row}
 use Rattle.iceoryx2_pattern.proofs.MetRows.{offers, sends, lasts, then_more, not_less, same_number, same_choice}
-use Rattle.iceoryx2_builder_base.proofs.Raised.{not_below}
+use Rattle.iceoryx2_builder_common.proofs.Raised.{not_below}
 use Rattle.iceoryx2_event_builder.specs.declared.event.demand.EventDemand.{EventDemand}
-use Rattle.iceoryx2_attributes.specs.Attributes.{Pair}
-use Rattle.iceoryx2_attributes.specs.Requirements.{no_requirements}
+use Rattle.iceoryx2_attribute.specs.Attributes.{Pair}
+use Rattle.iceoryx2_attribute.specs.Requirements.{no_requirements}
 use Rattle.iceoryx2_event_builder.specs.Event.{event_meaning, event_adjusted, event_creating, event_opening, created_deadline, deadline_value}
-use Rattle.iceoryx2_rounds.specs.OwnSettings.{AcceptsOwn}
+use Rattle.iceoryx2_create_and_open.specs.OwnSettings.{AcceptsOwn}
 
 -- a create sets the time of a deadline, and not its length
 same_deadline : (now : Span) (deadline : Option Deadline)

@@ -1,17 +1,17 @@
 -- The meanings of a builder of events are regular, and what it publishes is for one node or more.
 use Rattle.std.proofs.Common.{◌≡◌, List, Some, refl, ap}
-use Rattle.iceoryx2_values.specs.declared.description.MessagingPattern.{MessagingPattern}
-use Rattle.iceoryx2_values.specs.declared.description.MessagingPattern.TheVariants as existing
+use Rattle.iceoryx2_description.specs.declared.description.MessagingPattern.{MessagingPattern}
+use Rattle.iceoryx2_description.specs.declared.description.MessagingPattern.TheVariants as existing
 use Rattle.iceoryx2_errors.specs.declared.error.ServiceState.{ServiceState}
 use Rattle.iceoryx2_errors.specs.declared.error.ServiceState.TheVariants as state
 use Rattle.iceoryx2_errors.specs.States.{create_error_of_state}
 use Rattle.iceoryx2_errors.specs.declared.error.events.EventCreateError.TheVariants as creating
 use Rattle.iceoryx2_event_builder.specs.declared.event.demand.EventDemand.{EventDemand}
-use Rattle.iceoryx2_attributes.specs.Attributes.{Pair}
-use Rattle.iceoryx2_attributes.specs.Requirements.{Requirements}
+use Rattle.iceoryx2_attribute.specs.Attributes.{Pair}
+use Rattle.iceoryx2_attribute.specs.Requirements.{Requirements}
 use Rattle.iceoryx2_event_builder.specs.Event.{event_creating, event_opening, misfit_of}
 use Rattle.iceoryx2_pattern.specs.Regular.{IsRegular, TakesNodes}
-use Rattle.iceoryx2_builder_base.proofs.Raised.{raised_above}
+use Rattle.iceoryx2_builder_common.proofs.Raised.{raised_above}
 
 misfit_exists : (pattern : MessagingPattern) (fault : ServiceState) → misfit_of pattern ≡ Some fault → create_error_of_state fault ≡ creating.AlreadyExists
 misfit_exists (existing.Event s) fault e = absurd (cc)

@@ -1,13 +1,13 @@
 -- What a builder of events asks, and its errors.
 use Rattle.std.specs.Prelude.{List, [], ◌∷◌, Option, Some, None, is_some}
 use Rattle.std.specs.Option.{option_map}
-use Rattle.iceoryx2_attributes.specs.Attributes.{Pair}
-use Rattle.iceoryx2_attributes.specs.Requirements.{Requirements}
-use Rattle.iceoryx2_values.specs.Span.{Span}
-use Rattle.iceoryx2_values.specs.declared.description.MessagingPattern.{MessagingPattern}
-use Rattle.iceoryx2_values.specs.declared.description.MessagingPattern.TheVariants as existing
-use Rattle.iceoryx2_values.specs.declared.event.StaticConfig.{StaticConfig as Settings}
-use Rattle.iceoryx2_values.specs.declared.event.Deadline.{Deadline}
+use Rattle.iceoryx2_attribute.specs.Attributes.{Pair}
+use Rattle.iceoryx2_attribute.specs.Requirements.{Requirements}
+use Rattle.iceoryx2_description.specs.Span.{Span}
+use Rattle.iceoryx2_description.specs.declared.description.MessagingPattern.{MessagingPattern}
+use Rattle.iceoryx2_description.specs.declared.description.MessagingPattern.TheVariants as existing
+use Rattle.iceoryx2_description.specs.declared.event.StaticConfig.{StaticConfig as Settings}
+use Rattle.iceoryx2_description.specs.declared.event.Deadline.{Deadline}
 use Rattle.iceoryx2_pattern.specs.Verdict.{Clause, SettingRow, at_least, number_is, span_is, marked_clauses}
 use Rattle.iceoryx2_pattern.specs.Meaning.{Meaning}
 use Rattle.iceoryx2_pattern.specs.OwnAttributes.{defining, requiring}
@@ -29,7 +29,7 @@ use Rattle.iceoryx2_pattern.specs.declared.pattern.CreateRefusal.TheVariants as 
 use Rattle.iceoryx2_open_or_create.specs.Retried.{Retried, retried_by}
 use Rattle.iceoryx2_open_or_create.specs.declared.open_or_create.OpenOrCreateRefusal.{OpenOrCreateRefusal}
 use Rattle.iceoryx2_open_or_create.specs.declared.open_or_create.OpenOrCreateRefusal.TheVariants as refusal
-use Rattle.iceoryx2_builder_base.specs.Zeros.{at_least_one}
+use Rattle.iceoryx2_builder_common.specs.Zeros.{at_least_one}
 use Rattle.iceoryx2_event_builder.specs.declared.event.demand.EventDemand.{EventDemand}
 use Rattle.iceoryx2_event_builder.specs.declared.event.demand.Marks.{Marks}
 

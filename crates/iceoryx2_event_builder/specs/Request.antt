@@ -1,9 +1,9 @@
 -- What a builder of events holds.
 use Rattle.std.specs.Prelude.{ℕ, List, false, true}
 use Rattle.std.specs.Option.{option_map}
-use Rattle.iceoryx2_values.specs.declared.config.Event.{Event as EventDefaults}
-use Rattle.iceoryx2_values.specs.declared.event.Deadline.{Deadline}
-use Rattle.iceoryx2_values.specs.Span.{Span, zero_span}
+use Rattle.iceoryx2_description.specs.declared.config.Event.{Event as EventDefaults}
+use Rattle.iceoryx2_description.specs.declared.event.Deadline.{Deadline}
+use Rattle.iceoryx2_description.specs.Span.{Span, zero_span}
 use Rattle.iceoryx2_event_builder.specs.declared.event.TheConstants.{LETTER}
 use Rattle.iceoryx2_event_builder.specs.declared.event.demand.EventDemand.{EventDemand}
 use Rattle.iceoryx2_event_builder.specs.declared.event.setting.EventSetting.{EventSetting}

@@ -1,13 +1,13 @@
 -- Where a create only raises minima, a granted open or create carries what was asked first.
 use Rattle.std.proofs.Common.{◌≡◌, ℕ, List, Result, refl, sym, ◌∙◌, subst}
-use Rattle.iceoryx2_attributes.specs.Requirements.{Requirements}
-use Rattle.iceoryx2_values.specs.declared.description.ServiceHash.{ServiceHash}
-use Rattle.iceoryx2_values.specs.declared.time.ClockFault.{ClockFault}
-use Rattle.iceoryx2_values.specs.Description.{Description}
-use Rattle.iceoryx2_values.specs.Span.{Span}
+use Rattle.iceoryx2_attribute.specs.Requirements.{Requirements}
+use Rattle.iceoryx2_description.specs.declared.description.ServiceHash.{ServiceHash}
+use Rattle.iceoryx2_description.specs.declared.time.ClockFault.{ClockFault}
+use Rattle.iceoryx2_description.specs.Description.{Description}
+use Rattle.iceoryx2_description.specs.Span.{Span}
 use Rattle.iceoryx2_pattern.specs.Meaning.{Meaning}
 use Rattle.iceoryx2_pattern.specs.OwnAttributes.{defining, requiring}
-use Rattle.iceoryx2_rounds.specs.Creates.{description_of}
+use Rattle.iceoryx2_create_and_open.specs.Creates.{description_of}
 use Rattle.iceoryx2_open_or_create.specs.Grants.{IsAsked, at_first, after_create, Carries, accepted, published}
 use Rattle.iceoryx2_open_or_create.specs.Adjusting.{Accepts, OnlyRaises, MeetsOrHolds, meets, holds}
 

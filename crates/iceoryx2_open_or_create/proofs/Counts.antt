@@ -1,15 +1,15 @@
 -- How often an open or create looks and opens.
 use Rattle.std.proofs.Common.{◌*◌, ℕ, List, Result, arith}
-use Rattle.iceoryx2_attributes.specs.Requirements.{Requirements}
-use Rattle.iceoryx2_values.specs.declared.description.ServiceHash.{ServiceHash}
-use Rattle.iceoryx2_values.specs.declared.time.ClockFault.{ClockFault}
-use Rattle.iceoryx2_values.specs.Span.{Span}
+use Rattle.iceoryx2_attribute.specs.Requirements.{Requirements}
+use Rattle.iceoryx2_description.specs.declared.description.ServiceHash.{ServiceHash}
+use Rattle.iceoryx2_description.specs.declared.time.ClockFault.{ClockFault}
+use Rattle.iceoryx2_description.specs.Span.{Span}
 use Rattle.iceoryx2_access.specs.Factory.{Factory}
 use Rattle.iceoryx2_access.specs.Letter.{Letter}
 use Rattle.iceoryx2_pattern.specs.Meaning.{Meaning}
-use Rattle.iceoryx2_rounds.proofs.Prepared.{each_call}
-use Rattle.iceoryx2_words.specs.Counts.{IsWithin}
-use Rattle.iceoryx2_words.proofs.Counts.{within_append, within_more, none_within, look_within, create_within, open_within}
+use Rattle.iceoryx2_create_and_open.proofs.Prepared.{each_call}
+use Rattle.iceoryx2_create_and_open.specs.Counts.{IsWithin}
+use Rattle.iceoryx2_create_and_open.proofs.Counts.{within_append, within_more, none_within, look_within, create_within, open_within}
 use Rattle.iceoryx2_open_or_create.specs.Retried.{Retried}
 use Rattle.iceoryx2_open_or_create.specs.declared.open_or_create.OpenOrCreateRefusal.{OpenOrCreateRefusal}
 use Rattle.iceoryx2_open_or_create.specs.OpenOrCreates.{IsRetriedTurn, open_retried, create_retried, IsLastTurn, look_faulty, not_opened, opened, not_created, created, AreRetriedTurns, no_turn, one_more, IsOpenOrCreateWord, ended, in_flux}

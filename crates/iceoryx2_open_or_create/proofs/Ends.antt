@@ -1,8 +1,8 @@
 -- With which error a verdict refuses: with that of a clause.
 use Rattle.std.proofs.Common.{◌≡◌, Bool, true, false, List, [], ◌∷◌, ◌++◌, Err, refl, subst}
 use Rattle.std.specs.Prelude.{ℕ, map}
-use Rattle.iceoryx2_attributes.specs.Attributes.{Pair}
-use Rattle.iceoryx2_attributes.specs.Requirements.{Requirements}
+use Rattle.iceoryx2_attribute.specs.Attributes.{Pair}
+use Rattle.iceoryx2_attribute.specs.Requirements.{Requirements}
 use Rattle.iceoryx2_pattern.specs.OwnAttributes.{attribute_clauses, pair_clause, key_clause}
 use Rattle.iceoryx2_pattern.specs.Verdict.{Clause, SettingRow, marked_clauses, verdict}
 

@@ -1,17 +1,17 @@
 -- What a granted open or create carries.
 use Rattle.std.proofs.Common.{◌≡◌, ℕ, List, Result, Ok, sym, subst}
-use Rattle.iceoryx2_attributes.specs.Requirements.{Requirements}
-use Rattle.iceoryx2_values.specs.declared.description.ServiceHash.{ServiceHash}
-use Rattle.iceoryx2_values.specs.declared.time.ClockFault.{ClockFault}
-use Rattle.iceoryx2_values.specs.Description.{Description}
-use Rattle.iceoryx2_values.specs.Span.{Span}
+use Rattle.iceoryx2_attribute.specs.Requirements.{Requirements}
+use Rattle.iceoryx2_description.specs.declared.description.ServiceHash.{ServiceHash}
+use Rattle.iceoryx2_description.specs.declared.time.ClockFault.{ClockFault}
+use Rattle.iceoryx2_description.specs.Description.{Description}
+use Rattle.iceoryx2_description.specs.Span.{Span}
 use Rattle.iceoryx2_access.specs.Factory.{Factory}
 use Rattle.iceoryx2_access.specs.Letter.{Letter}
 use Rattle.iceoryx2_access.specs.Run.{Joins}
 use Rattle.iceoryx2_pattern.specs.Meaning.{Meaning}
 use Rattle.iceoryx2_pattern.specs.OwnAttributes.{defining}
-use Rattle.iceoryx2_rounds.specs.Creates.{description_of}
-use Rattle.iceoryx2_words.proofs.Carried.{created_carries, opened_carries}
+use Rattle.iceoryx2_create_and_open.specs.Creates.{description_of}
+use Rattle.iceoryx2_create_and_open.proofs.Carried.{created_carries, opened_carries}
 use Rattle.iceoryx2_open_or_create.specs.Retried.{Retried}
 use Rattle.iceoryx2_open_or_create.specs.OpenOrCreates.{IsRetriedTurn, open_retried, create_retried, IsLastTurn, opened, created, AreRetriedTurns, no_turn, one_more, IsOpenOrCreateWord, ended}
 use Rattle.iceoryx2_open_or_create.specs.Grants.{IsAsked, at_first, after_create, Carries, accepted, published}

@@ -1,18 +1,18 @@
 -- What the rounds of an open or create leave.
 use Rattle.std.proofs.Common.{ℕ, List, ◌++◌, Result, Ok, Err, refl}
-use Rattle.iceoryx2_attributes.specs.Requirements.{Requirements}
-use Rattle.iceoryx2_values.specs.declared.description.ServiceHash.{ServiceHash}
-use Rattle.iceoryx2_values.specs.declared.time.ClockFault.{ClockFault}
-use Rattle.iceoryx2_values.specs.Span.{Span}
+use Rattle.iceoryx2_attribute.specs.Requirements.{Requirements}
+use Rattle.iceoryx2_description.specs.declared.description.ServiceHash.{ServiceHash}
+use Rattle.iceoryx2_description.specs.declared.time.ClockFault.{ClockFault}
+use Rattle.iceoryx2_description.specs.Span.{Span}
 use Rattle.iceoryx2_access.specs.Factory.{Factory}
 use Rattle.iceoryx2_access.specs.Letter.{Letter}
 use Rattle.iceoryx2_pattern.specs.Meaning.{Meaning}
-use Rattle.iceoryx2_rounds.specs.declared.look.Outcome.{Outcome}
-use Rattle.iceoryx2_rounds.specs.Looks.{IsLookWord}
-use Rattle.iceoryx2_rounds.specs.Opens.{IsOpenWord}
-use Rattle.iceoryx2_rounds.proofs.Prepared.{refused_call}
-use Rattle.iceoryx2_words.specs.Keeps.{GivesAllBack, NoLock}
-use Rattle.iceoryx2_words.proofs.Kept.{then_keeps, look_keeps, refused_create_keeps, refused_open_keeps, created_keeps, opened_keeps}
+use Rattle.iceoryx2_create_and_open.specs.declared.look.Outcome.{Outcome}
+use Rattle.iceoryx2_create_and_open.specs.Looks.{IsLookWord}
+use Rattle.iceoryx2_create_and_open.specs.Opens.{IsOpenWord}
+use Rattle.iceoryx2_create_and_open.proofs.Prepared.{refused_call}
+use Rattle.iceoryx2_create_and_open.specs.Keeps.{GivesAllBack, NoLock}
+use Rattle.iceoryx2_create_and_open.proofs.Kept.{then_keeps, look_keeps, refused_create_keeps, refused_open_keeps, created_keeps, opened_keeps}
 use Rattle.iceoryx2_open_or_create.specs.Retried.{Retried}
 use Rattle.iceoryx2_open_or_create.specs.declared.open_or_create.OpenOrCreateRefusal.{OpenOrCreateRefusal}
 use Rattle.iceoryx2_open_or_create.specs.OpenOrCreates as words

@@ -1,15 +1,15 @@
 -- Builders whose create only raises minima: what it makes of what was asked asks for no less, and nothing is adjusted
 -- twice.
 use Rattle.std.specs.Prelude.{◌≡◌, ℕ, List, Result, Ok, None}
-use Rattle.iceoryx2_attributes.specs.Requirements.{Requirements}
-use Rattle.iceoryx2_values.specs.declared.description.ServiceHash.{ServiceHash}
-use Rattle.iceoryx2_values.specs.declared.time.ClockFault.{ClockFault}
-use Rattle.iceoryx2_values.specs.Description.{Description}
-use Rattle.iceoryx2_values.specs.Span.{Span}
+use Rattle.iceoryx2_attribute.specs.Requirements.{Requirements}
+use Rattle.iceoryx2_description.specs.declared.description.ServiceHash.{ServiceHash}
+use Rattle.iceoryx2_description.specs.declared.time.ClockFault.{ClockFault}
+use Rattle.iceoryx2_description.specs.Description.{Description}
+use Rattle.iceoryx2_description.specs.Span.{Span}
 use Rattle.iceoryx2_pattern.specs.Meaning.{Meaning}
 use Rattle.iceoryx2_pattern.specs.OwnAttributes.{defining, requiring}
 use Rattle.iceoryx2_pattern.specs.Verdict.{verdict}
-use Rattle.iceoryx2_rounds.specs.Creates.{description_of}
+use Rattle.iceoryx2_create_and_open.specs.Creates.{description_of}
 
 -- what an open takes: the service fits, and meets each of its requirements
 pub record Accepts {F E C : Type 0} (opening : Meaning F E C) (d : Description) : Type 0 where

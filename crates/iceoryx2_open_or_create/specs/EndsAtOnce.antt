@@ -1,6 +1,6 @@
 -- Refusals that come in the same way in each round, and so end an open or create.
 use Rattle.std.specs.Prelude.{◌≡◌, false, Some, Err}
-use Rattle.iceoryx2_values.specs.Description.{Description}
+use Rattle.iceoryx2_description.specs.Description.{Description}
 use Rattle.iceoryx2_pattern.specs.declared.pattern.OpenRefusal.TheVariants as open_refusal
 use Rattle.iceoryx2_pattern.specs.declared.pattern.CreateRefusal.TheVariants as create_refusal
 use Rattle.iceoryx2_pattern.specs.Meaning.{Meaning}

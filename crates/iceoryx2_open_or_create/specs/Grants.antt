@@ -1,14 +1,14 @@
 -- What a granted open or create carries.
 use Rattle.std.specs.Prelude.{◌≡◌, ℕ, List, Result, Ok, None}
-use Rattle.iceoryx2_attributes.specs.Requirements.{Requirements}
-use Rattle.iceoryx2_values.specs.declared.description.ServiceHash.{ServiceHash}
-use Rattle.iceoryx2_values.specs.declared.time.ClockFault.{ClockFault}
-use Rattle.iceoryx2_values.specs.Description.{Description}
-use Rattle.iceoryx2_values.specs.Span.{Span}
+use Rattle.iceoryx2_attribute.specs.Requirements.{Requirements}
+use Rattle.iceoryx2_description.specs.declared.description.ServiceHash.{ServiceHash}
+use Rattle.iceoryx2_description.specs.declared.time.ClockFault.{ClockFault}
+use Rattle.iceoryx2_description.specs.Description.{Description}
+use Rattle.iceoryx2_description.specs.Span.{Span}
 use Rattle.iceoryx2_pattern.specs.Meaning.{Meaning}
 use Rattle.iceoryx2_pattern.specs.OwnAttributes.{defining, requiring}
 use Rattle.iceoryx2_pattern.specs.Verdict.{verdict}
-use Rattle.iceoryx2_rounds.specs.Creates.{description_of}
+use Rattle.iceoryx2_create_and_open.specs.Creates.{description_of}
 
 -- What may be asked in a round: what was asked first, adjusted by each create before.
 pub data IsAsked {D : Type 0} (adjusted : D → D) (first : D) : D → Type 0 where

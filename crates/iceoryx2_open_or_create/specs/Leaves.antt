@@ -1,9 +1,9 @@
 -- What the rounds of an open or create make and give back.
 use Rattle.std.specs.Prelude.{◌≡◌, ℕ, Bool, List, [], ◌++◌}
-use Rattle.iceoryx2_values.specs.declared.description.ServiceHash.{ServiceHash}
+use Rattle.iceoryx2_description.specs.declared.description.ServiceHash.{ServiceHash}
 use Rattle.iceoryx2_access.specs.declared.storage.Tag.{Tag}
 use Rattle.iceoryx2_access.specs.Letter.{Letter}
-use Rattle.iceoryx2_words.specs.Keeps.{GivesAllBack, Keeps, NoTag, NoLock, HasService, no_own_tag, with_tag}
+use Rattle.iceoryx2_create_and_open.specs.Keeps.{GivesAllBack, Keeps, NoTag, NoLock, HasService, no_own_tag, with_tag}
 
 module _ (node : ℕ) (hash : ServiceHash) where
   -- Words one after the other, each of which gives back what it makes.

@@ -1,18 +1,18 @@
 -- The words of open or create, with their answers.
 use Rattle.std.specs.Prelude.{◌≡◌, ◌≤◌, ◌+◌, ℕ, suc, true, false, List, [], ◌++◌, Result, Ok, Err, Option, Some, None}
-use Rattle.iceoryx2_attributes.specs.Requirements.{Requirements}
-use Rattle.iceoryx2_values.specs.declared.description.ServiceHash.{ServiceHash}
-use Rattle.iceoryx2_values.specs.declared.time.ClockFault.{ClockFault}
-use Rattle.iceoryx2_values.specs.Description.{Description}
-use Rattle.iceoryx2_values.specs.Span.{Span}
+use Rattle.iceoryx2_attribute.specs.Requirements.{Requirements}
+use Rattle.iceoryx2_description.specs.declared.description.ServiceHash.{ServiceHash}
+use Rattle.iceoryx2_description.specs.declared.time.ClockFault.{ClockFault}
+use Rattle.iceoryx2_description.specs.Description.{Description}
+use Rattle.iceoryx2_description.specs.Span.{Span}
 use Rattle.iceoryx2_access.specs.Factory.{Factory}
 use Rattle.iceoryx2_access.specs.Letter.{Letter}
 use Rattle.iceoryx2_pattern.specs.Meaning.{Meaning}
 use Rattle.iceoryx2_pattern.specs.OwnAttributes.{defining, requiring}
-use Rattle.iceoryx2_rounds.specs.declared.look.Outcome.TheVariants.{Nothing, Found, Faulty}
-use Rattle.iceoryx2_rounds.specs.Looks.{IsLookWord}
-use Rattle.iceoryx2_rounds.specs.Creates.{IsCreateWord}
-use Rattle.iceoryx2_rounds.specs.Opens.{IsOpenWord}
+use Rattle.iceoryx2_create_and_open.specs.declared.look.Outcome.TheVariants.{Nothing, Found, Faulty}
+use Rattle.iceoryx2_create_and_open.specs.Looks.{IsLookWord}
+use Rattle.iceoryx2_create_and_open.specs.Creates.{IsCreateWord}
+use Rattle.iceoryx2_create_and_open.specs.Opens.{IsOpenWord}
 use Rattle.iceoryx2_open_or_create.specs.Retried.{Retried}
 use Rattle.iceoryx2_open_or_create.specs.declared.open_or_create.TheConstants.{RETRY_LIMIT}
 use Rattle.iceoryx2_open_or_create.specs.declared.open_or_create.OpenOrCreateRefusal.{OpenOrCreateRefusal}

@@ -4,13 +4,13 @@
 //! such a call too.
 
 ghost use Rattle.std.specs.Prelude.{◌≡◌, ℕ, List, Result, Ok, Err};
-ghost use Rattle.iceoryx2_attributes.specs.Requirements.{Requirements};
-ghost use Rattle.iceoryx2_values.specs.Span.{Span};
-ghost use Rattle.iceoryx2_values.specs.declared.description.ServiceHash.{ServiceHash};
-ghost use Rattle.iceoryx2_values.specs.declared.time.ClockFault.{ClockFault};
+ghost use Rattle.iceoryx2_attribute.specs.Requirements.{Requirements};
+ghost use Rattle.iceoryx2_description.specs.Span.{Span};
+ghost use Rattle.iceoryx2_description.specs.declared.description.ServiceHash.{ServiceHash};
+ghost use Rattle.iceoryx2_description.specs.declared.time.ClockFault.{ClockFault};
 ghost use Rattle.iceoryx2_access.specs.Factory.{Factory};
 ghost use Rattle.iceoryx2_access.specs.Letter.{Letter};
-ghost use Rattle.iceoryx2_words.specs.Counts.{IsWithin};
+ghost use Rattle.iceoryx2_create_and_open.specs.Counts.{IsWithin};
 ghost use Rattle.iceoryx2_open_or_create.specs.Adjusting.{MeetsOrHolds, OnlyRaises};
 ghost use Rattle.iceoryx2_open_or_create.specs.Grants.{Carries};
 ghost use Rattle.iceoryx2_open_or_create.specs.Leaves.{GivesBackByRounds, KeepsInTheEnd};

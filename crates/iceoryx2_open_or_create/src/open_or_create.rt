@@ -6,13 +6,13 @@ ghost use Rattle.iceoryx2_open_or_create.specs.OpenOrCreates.{IsOpenOrCreateWord
 
 use crate::retries::{Retries, retries_create, retries_open};
 use iceoryx2_access::storage::Storage;
-use iceoryx2_attributes::attribute::AttributeVerifier;
+use iceoryx2_attribute::attribute::AttributeVerifier;
 use iceoryx2_port_factory::port_factory::Registration;
-use iceoryx2_rounds::create::create;
-use iceoryx2_rounds::look::{Sight, look};
-use iceoryx2_rounds::open::open;
-use iceoryx2_values::description::{ServiceHash, ServiceName};
-use iceoryx2_values::time::{ClockFault, Time};
+use iceoryx2_create_and_open::create::create;
+use iceoryx2_create_and_open::look::{Sight, look};
+use iceoryx2_create_and_open::open::open;
+use iceoryx2_description::description::{ServiceHash, ServiceName};
+use iceoryx2_description::time::{ClockFault, Time};
 
 /// How often an open or create goes on after a round that is retried.
 pub const RETRY_LIMIT: u64 = 5;

@@ -2,7 +2,7 @@
 use Rattle.std.proofs.Common.{◌≡◌, ℕ, Bool, true, false, List, [], ◌∷◌, Option, Some, None, Ok, refl, ap, ◌∙◌, arith}
 use Rattle.std.specs.Prelude.{nat_eq, nat_le}
 use Rattle.std.proofs.lemmas.Bool.Decides.{nat_tests}
-use Rattle.iceoryx2_values.specs.Span.{Span}
+use Rattle.iceoryx2_description.specs.Span.{Span}
 use Rattle.iceoryx2_pattern.specs.Verdict.{SettingRow, verdict, marked_clauses, at_least, flag_is, number_is, span_is, and_then}
 use Rattle.iceoryx2_pattern.specs.Verdict.{is_same_flag, is_same_number, is_same_span}
 use Rattle.iceoryx2_pattern.proofs.Verdicts.{row_decides}

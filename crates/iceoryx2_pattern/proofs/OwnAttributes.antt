@@ -2,8 +2,8 @@
 use Rattle.std.proofs.Common.{◌≡◌, Bool, true, false, not, ℕ, List, [], ◌∷◌, Option, Some, None, Result, Ok, Err, refl, sym, ap, ◌∙◌}
 use Rattle.std.specs.Prelude.{map}
 use Rattle.std.specs.List.{find}
-use Rattle.iceoryx2_attributes.specs.Attributes.{Pair, has_pair, has_key}
-use Rattle.iceoryx2_attributes.specs.Requirements.{Requirements, pair_or_key, lacking_pair, lacking_key, first_lacking}
+use Rattle.iceoryx2_attribute.specs.Attributes.{Pair, has_pair, has_key}
+use Rattle.iceoryx2_attribute.specs.Requirements.{Requirements, pair_or_key, lacking_pair, lacking_key, first_lacking}
 use Rattle.iceoryx2_pattern.specs.Verdict.{Clause, verdict, and_then}
 use Rattle.iceoryx2_pattern.specs.OwnAttributes.{pair_clause, key_clause, attribute_clauses}
 use Rattle.iceoryx2_pattern.proofs.Verdicts.{verdict_append}

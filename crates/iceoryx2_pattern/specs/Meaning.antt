@@ -1,9 +1,9 @@
 -- What a pattern's builder asks, and how its calls name what goes wrong.
 use Rattle.std.specs.Prelude.{Bool, List, Option}
-use Rattle.iceoryx2_attributes.specs.Attributes.{Pair}
-use Rattle.iceoryx2_values.specs.Description.{Description}
-use Rattle.iceoryx2_values.specs.Span.{Span}
-use Rattle.iceoryx2_values.specs.declared.description.MessagingPattern.{MessagingPattern}
+use Rattle.iceoryx2_attribute.specs.Attributes.{Pair}
+use Rattle.iceoryx2_description.specs.Description.{Description}
+use Rattle.iceoryx2_description.specs.Span.{Span}
+use Rattle.iceoryx2_description.specs.declared.description.MessagingPattern.{MessagingPattern}
 use Rattle.iceoryx2_pattern.specs.Verdict.{Clause}
 use Rattle.iceoryx2_errors.specs.declared.error.ServiceState.{ServiceState}
 use Rattle.iceoryx2_pattern.specs.declared.pattern.OpenRefusal.{OpenRefusal}

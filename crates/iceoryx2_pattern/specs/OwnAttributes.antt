@@ -1,7 +1,7 @@
 -- The attributes that a call defines or requires, beside what its pattern asks.
 use Rattle.std.specs.Prelude.{ℕ, List, ◌++◌, map}
-use Rattle.iceoryx2_attributes.specs.Attributes.{Pair, has_pair, has_key}
-use Rattle.iceoryx2_attributes.specs.Requirements.{Requirements}
+use Rattle.iceoryx2_attribute.specs.Attributes.{Pair, has_pair, has_key}
+use Rattle.iceoryx2_attribute.specs.Requirements.{Requirements}
 use Rattle.iceoryx2_pattern.specs.Meaning.{Meaning}
 use Rattle.iceoryx2_pattern.specs.Verdict.{Clause}
 use Rattle.iceoryx2_pattern.specs.declared.pattern.OpenRefusal.TheVariants.{IncompatibleAttributes}

@@ -1,7 +1,7 @@
 -- What the meanings of all patterns have in common.
 use Rattle.std.specs.Prelude.{◌≡◌, ◌<◌, Some}
-use Rattle.iceoryx2_values.specs.Description.{Description, max_nodes_of}
-use Rattle.iceoryx2_values.specs.Span.{Span}
+use Rattle.iceoryx2_description.specs.Description.{Description, max_nodes_of}
+use Rattle.iceoryx2_description.specs.Span.{Span}
 use Rattle.iceoryx2_errors.specs.declared.error.ServiceState.TheVariants as state
 use Rattle.iceoryx2_pattern.specs.declared.pattern.CreateRefusal.TheVariants as create_refusal
 use Rattle.iceoryx2_pattern.specs.declared.pattern.OpenRefusal.TheVariants as open_refusal

@@ -1,7 +1,7 @@
 -- A requirement is an ordered list of clauses, and its verdict.
 use Rattle.std.specs.Prelude.{ℕ, Bool, true, false, List, [], ◌∷◌, ◌++◌, ◌≡◌, ◌&&◌, All, Result, Ok, Err}
 use Rattle.std.specs.Prelude.{Option, Some, None, nat_le, nat_eq, if◌then◌else◌}
-use Rattle.iceoryx2_values.specs.Span.{Span}
+use Rattle.iceoryx2_description.specs.Span.{Span}
 
 -- One condition on what exists, with the error of a call for which it isn't met.
 pub record Clause (E : Type 0) : Type 0 where

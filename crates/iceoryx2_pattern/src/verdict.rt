@@ -5,9 +5,9 @@ ghost use Rattle.iceoryx2_pattern.specs.Verdict.{Clause, IsVerdict, at_least, fl
 ghost use Rattle.iceoryx2_pattern.specs.Verdict.{number_is, span_is, verdict};
 ghost use Rattle.iceoryx2_pattern.specs.OwnAttributes.{attribute_clauses};
 
-use iceoryx2_attributes::attribute::{AttributeSet, AttributeVerifier};
-use iceoryx2_values::event::EventId;
-use iceoryx2_values::time::Duration;
+use iceoryx2_attribute::attribute::{AttributeSet, AttributeVerifier};
+use iceoryx2_description::event::EventId;
+use iceoryx2_description::time::Duration;
 
 /// Refuses a number that is less than the required one, where that is asked for.
 #[tactic(auto, unfolding(crate::specs::Verdict::verdict, crate::specs::Verdict::marked_clauses, crate::specs::Verdict::at_least))]

@@ -1,8 +1,8 @@
 -- Which pattern a description is of.
 use Rattle.std.specs.Prelude.{Bool, true, false}
-use Rattle.iceoryx2_values.specs.declared.description.MessagingPattern.{MessagingPattern}
-use Rattle.iceoryx2_values.specs.declared.description.MessagingPattern.TheVariants.{Event, PublishSubscribe}
-use Rattle.iceoryx2_values.specs.declared.description.MessagingPattern.TheVariants.{RequestResponse}
+use Rattle.iceoryx2_description.specs.declared.description.MessagingPattern.{MessagingPattern}
+use Rattle.iceoryx2_description.specs.declared.description.MessagingPattern.TheVariants.{Event, PublishSubscribe}
+use Rattle.iceoryx2_description.specs.declared.description.MessagingPattern.TheVariants.{RequestResponse}
 
 -- one row a pattern
 

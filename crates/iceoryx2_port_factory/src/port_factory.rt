@@ -11,7 +11,7 @@ pub mod request_response;
 
 use iceoryx2_access::storage::{Release, ReleaseError, RemoveError, Storage};
 pub use iceoryx2_errors::error::CloseError;
-use iceoryx2_values::description::StaticConfig;
+use iceoryx2_description::description::StaticConfig;
 use std::marker::Model;
 
 /// A node's registration at a service. It has to be spent, by `close` or `abandon`.

@@ -1,12 +1,12 @@
 -- What a builder of publish-subscribe asks, and its errors.
 use Rattle.std.specs.Prelude.{Bool, false, List, [], ◌∷◌, ◌&&◌, not, nat_lt, Option, Some, None, if◌then◌else◌}
-use Rattle.iceoryx2_attributes.specs.Attributes.{Pair}
-use Rattle.iceoryx2_attributes.specs.Requirements.{Requirements}
+use Rattle.iceoryx2_attribute.specs.Attributes.{Pair}
+use Rattle.iceoryx2_attribute.specs.Requirements.{Requirements}
 use Rattle.iceoryx2_types.specs.Types.{Message, compatible}
-use Rattle.iceoryx2_values.specs.declared.config.PublishSubscribe.{PublishSubscribe as Settings}
-use Rattle.iceoryx2_values.specs.declared.publish_subscribe.StaticConfig.{StaticConfig as Existing}
-use Rattle.iceoryx2_values.specs.declared.description.MessagingPattern.{MessagingPattern}
-use Rattle.iceoryx2_values.specs.declared.description.MessagingPattern.TheVariants as existing
+use Rattle.iceoryx2_description.specs.declared.config.PublishSubscribe.{PublishSubscribe as Settings}
+use Rattle.iceoryx2_description.specs.declared.publish_subscribe.StaticConfig.{StaticConfig as Existing}
+use Rattle.iceoryx2_description.specs.declared.description.MessagingPattern.{MessagingPattern}
+use Rattle.iceoryx2_description.specs.declared.description.MessagingPattern.TheVariants as existing
 use Rattle.iceoryx2_pattern.specs.Verdict.{Clause, SettingRow, at_least, flag_is, marked_clauses}
 use Rattle.iceoryx2_pattern.specs.Meaning.{Meaning}
 use Rattle.iceoryx2_pattern.specs.OwnAttributes.{defining, requiring}
@@ -29,7 +29,7 @@ use Rattle.iceoryx2_errors.specs.declared.error.publish_subscribe.PublishSubscri
 use Rattle.iceoryx2_open_or_create.specs.Retried.{Retried, retried_by}
 use Rattle.iceoryx2_open_or_create.specs.declared.open_or_create.OpenOrCreateRefusal.{OpenOrCreateRefusal}
 use Rattle.iceoryx2_open_or_create.specs.declared.open_or_create.OpenOrCreateRefusal.TheVariants as refusal
-use Rattle.iceoryx2_builder_base.specs.Zeros.{at_least_one}
+use Rattle.iceoryx2_builder_common.specs.Zeros.{at_least_one}
 use Rattle.iceoryx2_publish_subscribe_builder.specs.declared.publish_subscribe.demand.Marks.{Marks}
 use Rattle.iceoryx2_publish_subscribe_builder.specs.declared.publish_subscribe.demand.PublishSubscribeDemand.{PublishSubscribeDemand}
 use Rattle.iceoryx2_publish_subscribe_builder.specs.declared.publish_subscribe.demand.PreparedDemand.{PreparedDemand}

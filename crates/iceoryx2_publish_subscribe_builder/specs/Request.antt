@@ -1,9 +1,9 @@
 -- What a builder of publish-subscribe holds.
 use Rattle.std.specs.Prelude.{ℕ, List, Some, false, true, codes}
 use Rattle.iceoryx2_types.specs.Types.{Detail, Message, fixed_size}
-use Rattle.iceoryx2_values.specs.declared.config.PublishSubscribe.{PublishSubscribe as Settings}
-use Rattle.iceoryx2_builder_base.specs.Requested.{no_types, requested_message}
-use Rattle.iceoryx2_builder_base.specs.declared.requested.RequestedTypes.{RequestedTypes}
+use Rattle.iceoryx2_description.specs.declared.config.PublishSubscribe.{PublishSubscribe as Settings}
+use Rattle.iceoryx2_builder_common.specs.Requested.{no_types, requested_message}
+use Rattle.iceoryx2_builder_common.specs.declared.requested.RequestedTypes.{RequestedTypes}
 use Rattle.iceoryx2_publish_subscribe_builder.specs.declared.publish_subscribe.TheConstants.{LETTER}
 use Rattle.iceoryx2_publish_subscribe_builder.specs.declared.publish_subscribe.demand.Marks.{Marks}
 use Rattle.iceoryx2_publish_subscribe_builder.specs.declared.publish_subscribe.demand.PublishSubscribeDemand.{PublishSubscribeDemand}

@@ -1,13 +1,13 @@
 -- A builder of request-response is a builder like each other one.
 use Rattle.std.proofs.Common.{◌≡◌, Bool, false, cond, ℕ, List, [], Result, Some, None, Ok, refl}
 use Rattle.iceoryx2_types.specs.Types.{Message, compatible}
-use Rattle.iceoryx2_attributes.specs.Attributes.{Pair}
-use Rattle.iceoryx2_attributes.specs.Requirements.{Requirements, no_requirements}
-use Rattle.iceoryx2_values.specs.declared.description.ServiceHash.{ServiceHash}
-use Rattle.iceoryx2_values.specs.declared.description.MessagingPattern.{MessagingPattern}
-use Rattle.iceoryx2_values.specs.declared.description.MessagingPattern.TheVariants as existing
-use Rattle.iceoryx2_values.specs.declared.time.ClockFault.{ClockFault}
-use Rattle.iceoryx2_values.specs.Span.{Span}
+use Rattle.iceoryx2_attribute.specs.Attributes.{Pair}
+use Rattle.iceoryx2_attribute.specs.Requirements.{Requirements, no_requirements}
+use Rattle.iceoryx2_description.specs.declared.description.ServiceHash.{ServiceHash}
+use Rattle.iceoryx2_description.specs.declared.description.MessagingPattern.{MessagingPattern}
+use Rattle.iceoryx2_description.specs.declared.description.MessagingPattern.TheVariants as existing
+use Rattle.iceoryx2_description.specs.declared.time.ClockFault.{ClockFault}
+use Rattle.iceoryx2_description.specs.Span.{Span}
 use Rattle.iceoryx2_errors.specs.States.{request_response_create_error_of_state}
 use Rattle.iceoryx2_errors.specs.declared.error.request_response.ServiceAvailabilityState.{ServiceAvailabilityState}
 use Rattle.iceoryx2_errors.specs.declared.error.request_response.ServiceAvailabilityState.TheVariants as look
@@ -16,19 +16,19 @@ use Rattle.iceoryx2_pattern.specs.Regular.{IsRegular}
 use Rattle.iceoryx2_pattern.specs.Verdict.{at_least, flag_is, verdict}
 use Rattle.iceoryx2_pattern.proofs.Verdicts.{no_row}
 use Rattle.iceoryx2_pattern.proofs.MetRows.{offers, keeps, then_more, same_flag}
-use Rattle.iceoryx2_rounds.specs.Creates.{description_of}
-use Rattle.iceoryx2_rounds.specs.OwnSettings.{AcceptsOwn}
-use Rattle.iceoryx2_values.specs.Description.{Description}
+use Rattle.iceoryx2_create_and_open.specs.Creates.{description_of}
+use Rattle.iceoryx2_create_and_open.specs.OwnSettings.{AcceptsOwn}
+use Rattle.iceoryx2_description.specs.Description.{Description}
 use Rattle.iceoryx2_pattern.specs.OwnAttributes.{attribute_clauses, defining, requiring}
 use Rattle.iceoryx2_open_or_create.specs.EndsAtOnce.{EndsAtOnce}
 use Rattle.iceoryx2_open_or_create.proofs.Ends.{Errs, attributes_err, both_err, rows_err, unmet_ends}
 use Rattle.iceoryx2_errors.specs.declared.error.request_response.RequestResponseOpenError.{RequestResponseOpenError}
 use Rattle.iceoryx2_errors.specs.declared.error.request_response.RequestResponseOpenError.TheVariants as opening
-use Rattle.iceoryx2_builder_base.specs.Builders.{IsBuilder}
+use Rattle.iceoryx2_builder_common.specs.Builders.{IsBuilder}
 use Rattle.iceoryx2_request_response_builder.specs.declared.request_response.demand.PreparedDemand.{PreparedDemand}
 use Rattle.iceoryx2_request_response_builder.specs.RequestResponse.{prepared_adjusted, prepared_meaning, request_response_retried, setting_clauses, setting_rows}
-use Rattle.iceoryx2_builder_base.proofs.Misfits.{fits_itself, is_told, is_tested}
-use Rattle.iceoryx2_builder_base.proofs.Raised.{not_below, raised_above}
+use Rattle.iceoryx2_builder_common.proofs.Misfits.{fits_itself, is_told, is_tested}
+use Rattle.iceoryx2_builder_common.proofs.Raised.{not_below, raised_above}
 use Rattle.iceoryx2_request_response_builder.specs.declared.request_response.demand.RequestResponseDemand.{RequestResponseDemand}
 use Rattle.iceoryx2_request_response_builder.specs.RequestResponse.{request_response_meaning, request_response_adjusted, request_response_creating, request_response_opening, misfit_of}
 

@@ -2,15 +2,15 @@
 
 ghost use Rattle.std.specs.Prelude.{◌≡◌, [], Ok, IfOk};
 ghost use Rattle.iceoryx2_access.specs.Run.{Joins};
-ghost use Rattle.iceoryx2_attributes.specs.Requirements.{Requirements, no_requirements};
-ghost use Rattle.iceoryx2_builder_base.specs.Builders.{IsBuilder};
+ghost use Rattle.iceoryx2_attribute.specs.Requirements.{Requirements, no_requirements};
+ghost use Rattle.iceoryx2_builder_common.specs.Builders.{IsBuilder};
 ghost use Rattle.iceoryx2_open_or_create.specs.EndsAtOnce.{EndsAtOnce};
 ghost use Rattle.iceoryx2_open_or_create.specs.Prepared.{IsOpenOrCreateCall};
 ghost use Rattle.iceoryx2_pattern.specs.OwnAttributes.{defining, requiring};
-ghost use Rattle.iceoryx2_rounds.specs.Answers.{map_err};
-ghost use Rattle.iceoryx2_rounds.specs.Prepared.{IsCreateCall, IsOpenCall};
+ghost use Rattle.iceoryx2_create_and_open.specs.Answers.{map_err};
+ghost use Rattle.iceoryx2_create_and_open.specs.Prepared.{IsCreateCall, IsOpenCall};
 ghost use Rattle.iceoryx2_types.specs.Types.{Message};
-ghost use Rattle.iceoryx2_values.specs.Span.{zero_span};
+ghost use Rattle.iceoryx2_description.specs.Span.{zero_span};
 ghost use Rattle.iceoryx2_request_response_builder.specs.Request.{fresh_request, letter_of_request_response};
 ghost use Rattle.iceoryx2_request_response_builder.specs.Request.{asked_with, messages_for, with_setting};
 ghost use Rattle.iceoryx2_request_response_builder.specs.RequestResponse.{prepared_adjusted, prepared_meaning};
@@ -30,21 +30,21 @@ use crate::request_response::requested::RequestedMessages;
 pub use crate::request_response::setting::RequestResponseSetting;
 use crate::request_response::setting::RequestResponseSetting as Set;
 use iceoryx2_access::storage::Service;
-use iceoryx2_attributes::attribute::{AttributeSpecifier, AttributeVerifier};
-use iceoryx2_builder_base::answer::hand_out;
-use iceoryx2_builder_base::base::BuilderWithServiceType;
+use iceoryx2_attribute::attribute::{AttributeSpecifier, AttributeVerifier};
+use iceoryx2_builder_common::answer::hand_out;
+use iceoryx2_builder_common::base::BuilderWithServiceType;
 pub use iceoryx2_errors::error::{
     RequestResponseCreateError, RequestResponseOpenError, RequestResponseOpenOrCreateError,
 };
 use iceoryx2_open_or_create::open_or_create::open_or_create;
 use iceoryx2_port_factory::port_factory::request_response::{PortFactory, RequestResponse};
-use iceoryx2_rounds::create::create;
-use iceoryx2_rounds::open::open;
+use iceoryx2_create_and_open::create::create;
+use iceoryx2_create_and_open::open::open;
 use iceoryx2_types::types::{
     Alignment, CustomHeaderMarker, CustomPayloadMarker, Slice, TypeDetail, ZeroCopySend,
 };
-use iceoryx2_values::config;
-use iceoryx2_values::time::Time;
+use iceoryx2_description::config;
+use iceoryx2_description::time::Time;
 use std::alloc::AllocError;
 use std::marker::{Model, PhantomData};
 

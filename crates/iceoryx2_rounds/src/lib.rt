@@ -1,7 +1,6 @@
-//! How a service is created and opened: once, for any pattern and over any storage.
+//! The rounds of a call, why calls are refused, and what an open service is held by, under one name.
 #![tactic(auto)]
 
-pub mod create;
-mod give_back;
-pub mod look;
-pub mod open;
+pub mod builder;
+
+pub use iceoryx2_port_factory::port_factory;

@@ -13,7 +13,7 @@ use iceoryx2_access::storage::{
     Existence, FetchError, LockError, MakeSegmentError, OpenSegmentError, PublishError, Release,
     ReleaseError, RemoveError, Service, Sha1Hasher, Storage, Tag, TagError,
 };
-use iceoryx2_values::description::{ServiceHash, StaticConfig};
+use iceoryx2_description::description::{ServiceHash, StaticConfig};
 use std::marker::Model;
 
 /// What one access answers.

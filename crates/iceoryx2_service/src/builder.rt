@@ -5,6 +5,6 @@ pub mod publish_subscribe;
 pub mod request_response;
 
 pub use iceoryx2_builder::builder::{Builder, Node, laws, laws_of_adjusting, laws_of_calls};
-pub use iceoryx2_builder_base::base::BuilderWithServiceType;
+pub use iceoryx2_builder_common::base::BuilderWithServiceType;
 pub use iceoryx2_errors::error::{ServiceState, equality_of_errors};
 pub use iceoryx2_types::types::{CustomHeaderMarker, CustomKeyMarker, CustomPayloadMarker};

@@ -1,8 +1,7 @@
 //! The laws of calls over a table, and of the worlds, batches, scripts and faults below them.
 
-pub use iceoryx2_batches::laws::batches;
-pub use iceoryx2_calls::fault_laws::agreement_under_faults;
-pub use iceoryx2_calls::laws::agreement;
-pub use iceoryx2_calls::quiet_laws::{quiet_calls, quiet_laws};
+pub use iceoryx2_call_laws::fault_laws::agreement_under_faults;
+pub use iceoryx2_call_laws::laws::agreement;
+pub use iceoryx2_call_laws::quiet_laws::{quiet_calls, quiet_laws};
 pub use iceoryx2_script::laws::{faults, scripts};
-pub use iceoryx2_world::laws::{accesses, agreement_of_worlds};
+pub use iceoryx2_world::laws::{accesses, agreement_of_worlds, batches};

@@ -2,8 +2,8 @@
 use Rattle.std.proofs.Common.{List, [], ◌∷◌, ◌++◌, refl, ◌∙◌}
 use Rattle.iceoryx2_access.specs.Run.{Each}
 use Rattle.iceoryx2_world.specs.Across.{Agrees}
-use Rattle.iceoryx2_calls.specs.Quiet.{Quiet}
-use Rattle.iceoryx2_calls.proofs.quiet.Same.{tags_counted}
+use Rattle.iceoryx2_call_laws.specs.Quiet.{Quiet}
+use Rattle.iceoryx2_call_laws.proofs.quiet.Same.{tags_counted}
 use Rattle.iceoryx2_commands.specs.declared.command.Command.{Command}
 use Rattle.iceoryx2_commands.specs.declared.command.Reply.{Reply}
 use Rattle.iceoryx2_session.specs.Sessions.{SessionState, Goes}

@@ -1,7 +1,7 @@
 -- What the code of a session does to its state, exit by exit.
 use Rattle.std.proofs.Common.{◌≡◌, ℕ, List, Option, Some, None, Ok, sym, subst, ◌∙◌}
 use Rattle.std.specs.Prelude.{slice_set}
-use Rattle.iceoryx2_batches.specs.Tables.{TableState}
+use Rattle.iceoryx2_world.specs.Tables.{TableState}
 use Rattle.iceoryx2_access.specs.Factory.{Factory}
 use Rattle.iceoryx2_commands.specs.declared.command.Call.{Call}
 use Rattle.iceoryx2_commands.specs.declared.command.Command.TheVariants as command

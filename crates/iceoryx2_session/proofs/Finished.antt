@@ -3,10 +3,10 @@ use Rattle.std.proofs.Common.{◌≡◌, ℕ, zero, suc, List, [], ◌∷◌, Op
 use Rattle.std.specs.FinMap as map
 use Rattle.std.proofs.lemmas.Cmp.{nat_cmp_total}
 use Rattle.std.proofs.lemmas.Map.Lookups.{exact_unsigned}
-use Rattle.iceoryx2_values.specs.declared.config.Config.{Config}
-use Rattle.iceoryx2_values.specs.declared.description.ServiceHash.{ServiceHash}
-use Rattle.iceoryx2_batches.specs.Tables.{TableState, IsTableAccess}
-use Rattle.iceoryx2_batches.proofs.Waiting.{idle_run}
+use Rattle.iceoryx2_description.specs.declared.config.Config.{Config}
+use Rattle.iceoryx2_description.specs.declared.description.ServiceHash.{ServiceHash}
+use Rattle.iceoryx2_world.specs.Tables.{TableState, IsTableAccess}
+use Rattle.iceoryx2_world.proofs.Waiting.{idle_run}
 use Rattle.iceoryx2_world.specs.Across.{Agrees}
 use Rattle.iceoryx2_world.specs.World.{ticket_of}
 use Rattle.iceoryx2_access.specs.Run.{Joins, done, next}
@@ -14,11 +14,11 @@ use Rattle.iceoryx2_access.specs.Factory.{Factory}
 use Rattle.iceoryx2_world.specs.Standing.{Stands}
 use Rattle.iceoryx2_world.proofs.agreement.Maps.{set_cases}
 use Rattle.iceoryx2_port_factory.specs.Closes.{IsCloseWord}
-use Rattle.iceoryx2_calls.specs.Quiet.{Quiet, Shows}
-use Rattle.iceoryx2_calls.specs.QuietLaws.{HasNothingAt}
-use Rattle.iceoryx2_calls.proofs.calls.Closed.{close_ok}
-use Rattle.iceoryx2_calls.proofs.quiet.Calls.{close_follows}
-use Rattle.iceoryx2_calls.proofs.quiet.Same.{all_gone}
+use Rattle.iceoryx2_call_laws.specs.Quiet.{Quiet, Shows}
+use Rattle.iceoryx2_call_laws.specs.QuietLaws.{HasNothingAt}
+use Rattle.iceoryx2_call_laws.proofs.calls.Closed.{close_ok}
+use Rattle.iceoryx2_call_laws.proofs.quiet.Calls.{close_follows}
+use Rattle.iceoryx2_call_laws.proofs.quiet.Same.{all_gone}
 use Rattle.iceoryx2_session.specs.Slots.{HoldsAt}
 use Rattle.iceoryx2_session.specs.Sessions.{SessionState, ClosesFactory, ClosesSlots, AreClosed}
 use Rattle.iceoryx2_session.specs.StandingSlots.{SlotsStand, HasTicket, OwnsTickets}

@@ -1,7 +1,7 @@
 -- Slot after slot is closed, over any table.
 use Rattle.std.proofs.Common.{◌≡◌, ℕ, zero, suc, ◌+◌, ◌<◌, ◌≤◌, List, [], ◌∷◌, ◌++◌, Option, Some, None, length, take, refl, sym, ap, subst, ◌∙◌, arith}
 use Rattle.std.specs.Prelude.{slice_get, slice_set}
-use Rattle.iceoryx2_batches.specs.Tables.{TableState}
+use Rattle.iceoryx2_world.specs.Tables.{TableState}
 use Rattle.iceoryx2_access.specs.Run.{done}
 use Rattle.iceoryx2_access.proofs.Run.{one, both}
 use Rattle.iceoryx2_access.specs.Factory.{Factory}

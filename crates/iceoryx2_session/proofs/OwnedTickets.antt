@@ -4,12 +4,12 @@ use Rattle.std.specs.FinMap as map
 use Rattle.std.proofs.lemmas.Cmp.{nat_cmp_total}
 use Rattle.std.proofs.lemmas.Map.Lookups.{exact_unsigned}
 use Rattle.iceoryx2_world.specs.Across.{Agrees}
-use Rattle.iceoryx2_batches.specs.Tables.{TableState}
+use Rattle.iceoryx2_world.specs.Tables.{TableState}
 use Rattle.iceoryx2_world.specs.Standing.{Stands, ticket_for}
 use Rattle.iceoryx2_world.proofs.agreement.Maps.{set_cases}
 use Rattle.iceoryx2_access.specs.Factory.{Factory}
-use Rattle.iceoryx2_calls.proofs.calls.Closed.{close_ok}
-use Rattle.iceoryx2_calls.proofs.calls.Tickets.{closed_tickets}
+use Rattle.iceoryx2_call_laws.proofs.calls.Closed.{close_ok}
+use Rattle.iceoryx2_call_laws.proofs.calls.Tickets.{closed_tickets}
 use Rattle.iceoryx2_commands.specs.declared.command.Command.{Command}
 use Rattle.iceoryx2_commands.specs.declared.command.Reply.{Reply}
 use Rattle.iceoryx2_session.specs.Patterns.{builder_call}

@@ -1,17 +1,17 @@
 -- What the builder calls of all patterns have in common.
 use Rattle.std.proofs.Common.{ℕ, List, Result}
-use Rattle.iceoryx2_values.specs.declared.config.Config.{Config}
+use Rattle.iceoryx2_description.specs.declared.config.Config.{Config}
 use Rattle.iceoryx2_event_builder.specs.Request.{EventRequest}
 use Rattle.iceoryx2_event_builder.specs.Request as event
 use Rattle.iceoryx2_publish_subscribe_builder.specs.Request.{PublishSubscribeRequest}
 use Rattle.iceoryx2_publish_subscribe_builder.specs.Request as publish_subscribe
 use Rattle.iceoryx2_request_response_builder.specs.Request.{RequestResponseRequest}
 use Rattle.iceoryx2_request_response_builder.specs.Request as request_response
-use Rattle.iceoryx2_attributes.specs.Requirements.{Requirements}
-use Rattle.iceoryx2_values.specs.declared.time.ClockFault.{ClockFault}
-use Rattle.iceoryx2_values.specs.Span.{Span}
+use Rattle.iceoryx2_attribute.specs.Requirements.{Requirements}
+use Rattle.iceoryx2_description.specs.declared.time.ClockFault.{ClockFault}
+use Rattle.iceoryx2_description.specs.Span.{Span}
 use Rattle.iceoryx2_pattern.specs.Regular.{IsRegular, TakesNodes}
-use Rattle.iceoryx2_calls.specs.QuietAttempts.{IsSteady}
+use Rattle.iceoryx2_call_laws.specs.QuietAttempts.{IsSteady}
 use Rattle.iceoryx2_event_builder.proofs.Builders.{event_builder, event_ends_at_once}
 use Rattle.iceoryx2_publish_subscribe_builder.proofs.Builders.{publish_subscribe_builder, publish_subscribe_ends_at_once}
 use Rattle.iceoryx2_request_response_builder.proofs.Builders.{request_response_builder, request_response_ends_at_once}

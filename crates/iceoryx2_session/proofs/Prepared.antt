@@ -6,13 +6,13 @@ use Rattle.iceoryx2_access.specs.Factory.{Factory}
 use Rattle.iceoryx2_world.specs.World.{World}
 use Rattle.iceoryx2_world.specs.Access.{IsOwnPart}
 use Rattle.iceoryx2_world.specs.Across.{Agrees}
-use Rattle.iceoryx2_rounds.specs.Prepared.{IsPrepared}
-use Rattle.iceoryx2_rounds.specs.Prepared as word
-use Rattle.iceoryx2_calls.specs.Quiet.{Quiet, Shows}
-use Rattle.iceoryx2_calls.specs.QuietLaws.{IsCall}
-use Rattle.iceoryx2_calls.specs.QuietPrepared.{PreparesFirst}
-use Rattle.iceoryx2_calls.specs.QuietPrepared as call
-use Rattle.iceoryx2_calls.proofs.quiet.Prepared.{prepared_follows}
+use Rattle.iceoryx2_create_and_open.specs.Prepared.{IsPrepared}
+use Rattle.iceoryx2_create_and_open.specs.Prepared as word
+use Rattle.iceoryx2_call_laws.specs.Quiet.{Quiet, Shows}
+use Rattle.iceoryx2_call_laws.specs.QuietLaws.{IsCall}
+use Rattle.iceoryx2_call_laws.specs.QuietPrepared.{PreparesFirst}
+use Rattle.iceoryx2_call_laws.specs.QuietPrepared as call
+use Rattle.iceoryx2_call_laws.proofs.quiet.Prepared.{prepared_follows}
 use Rattle.iceoryx2_session.specs.BuilderCalls.{IfPrepares}
 
 -- each is a call that may prepare its types first

@@ -5,15 +5,15 @@ use Rattle.iceoryx2_access.specs.Factory.{Factory}
 use Rattle.iceoryx2_access.specs.Letter.{Letter}
 use Rattle.iceoryx2_access.specs.Run.{Run, Joins}
 use Rattle.iceoryx2_world.specs.Across.{Agrees}
-use Rattle.iceoryx2_attributes.specs.Requirements.{Requirements}
-use Rattle.iceoryx2_values.specs.declared.config.Config.{Config}
-use Rattle.iceoryx2_values.specs.declared.time.ClockFault.{ClockFault}
-use Rattle.iceoryx2_values.specs.Span.{Span}
-use Rattle.iceoryx2_batches.specs.Tables.{TableState, IsTableAccess}
-use Rattle.iceoryx2_rounds.specs.Answers.{map_err}
+use Rattle.iceoryx2_attribute.specs.Requirements.{Requirements}
+use Rattle.iceoryx2_description.specs.declared.config.Config.{Config}
+use Rattle.iceoryx2_description.specs.declared.time.ClockFault.{ClockFault}
+use Rattle.iceoryx2_description.specs.Span.{Span}
+use Rattle.iceoryx2_world.specs.Tables.{TableState, IsTableAccess}
+use Rattle.iceoryx2_create_and_open.specs.Answers.{map_err}
 use Rattle.iceoryx2_open_or_create.specs.Adjusting.{OnlyRaises}
-use Rattle.iceoryx2_calls.specs.AnyCalls.{AnyCall, ErrorBy, IsWordOf}
-use Rattle.iceoryx2_calls.proofs.calls.Headline.{as_promised, of_table}
+use Rattle.iceoryx2_call_laws.specs.AnyCalls.{AnyCall, ErrorBy, IsWordOf}
+use Rattle.iceoryx2_call_laws.proofs.calls.Headline.{as_promised, of_table}
 use Rattle.iceoryx2_builder.proofs.Adjusting.{events_only_raise, publish_subscribe_only_raises, request_response_only_raises}
 use Rattle.iceoryx2_event_builder.specs.Request.{EventRequest}
 use Rattle.iceoryx2_event_builder.specs.Request as event

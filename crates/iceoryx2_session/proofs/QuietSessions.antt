@@ -5,19 +5,19 @@ use Rattle.std.specs.Ordering.{nat_cmp}
 use Rattle.iceoryx2_world.specs.declared.world.Ticket.{Ticket}
 use Rattle.iceoryx2_world.specs.World.{World, ticket_of, empty_world}
 use Rattle.iceoryx2_world.specs.Across.{Agrees}
-use Rattle.iceoryx2_batches.specs.Tables.{TableState}
-use Rattle.iceoryx2_batches.proofs.Waiting.{idle_run}
+use Rattle.iceoryx2_world.specs.Tables.{TableState}
+use Rattle.iceoryx2_world.proofs.Waiting.{idle_run}
 use Rattle.iceoryx2_world.proofs.agreement.Empty.{empty_agrees}
 use Rattle.iceoryx2_pattern.specs.declared.pattern.CreateRefusal.TheVariants as create_refusal
 use Rattle.iceoryx2_pattern.specs.declared.pattern.OpenRefusal.TheVariants as open_refusal
-use Rattle.iceoryx2_rounds.specs.Creates.{time_of}
+use Rattle.iceoryx2_create_and_open.specs.Creates.{time_of}
 use Rattle.iceoryx2_access.specs.Factory.{Factory}
-use Rattle.iceoryx2_calls.specs.Quiet.{Quiet, Shows, no_service}
-use Rattle.iceoryx2_calls.specs.QuietPrepared.{CreatesPrepared, OpensPrepared}
-use Rattle.iceoryx2_calls.specs.QuietLaws.{HoldsTheSame}
-use Rattle.iceoryx2_calls.proofs.quiet.After.{refused_create, refused_open}
-use Rattle.iceoryx2_calls.proofs.quiet.Listing.{lists_the_machine}
-use Rattle.iceoryx2_calls.proofs.quiet.Calls.{create_follows, open_follows, close_follows, empty_shows}
+use Rattle.iceoryx2_call_laws.specs.Quiet.{Quiet, Shows, no_service}
+use Rattle.iceoryx2_call_laws.specs.QuietPrepared.{CreatesPrepared, OpensPrepared}
+use Rattle.iceoryx2_call_laws.specs.QuietLaws.{HoldsTheSame}
+use Rattle.iceoryx2_call_laws.proofs.quiet.After.{refused_create, refused_open}
+use Rattle.iceoryx2_call_laws.proofs.quiet.Listing.{lists_the_machine}
+use Rattle.iceoryx2_call_laws.proofs.quiet.Calls.{create_follows, open_follows, close_follows, empty_shows}
 use Rattle.iceoryx2_commands.specs.declared.command.How.{How}
 use Rattle.iceoryx2_commands.specs.declared.command.How.TheVariants as how
 use Rattle.iceoryx2_commands.specs.declared.command.Command.{Command}
@@ -31,10 +31,10 @@ use Rattle.iceoryx2_session.specs.StandingSlots.{SlotsStand, OwnsTickets}
 use Rattle.iceoryx2_session.specs.QuietSessions.{IsQuiet, Answers, Moves, IsMoved, TellsNoChange, IsUnchanged}
 use Rattle.iceoryx2_session.specs.QuietSessions as moves
 use Rattle.iceoryx2_session.proofs.Prepared.{as_prepared, call_follows}
-use Rattle.iceoryx2_calls.specs.QuietAttempts.{AttemptsPrepared, opening}
-use Rattle.iceoryx2_calls.proofs.quiet.Attempts.{attempt_follows, refused_attempt}
+use Rattle.iceoryx2_call_laws.specs.QuietAttempts.{AttemptsPrepared, opening}
+use Rattle.iceoryx2_call_laws.proofs.quiet.Attempts.{attempt_follows, refused_attempt}
 use Rattle.iceoryx2_open_or_create.specs.declared.open_or_create.OpenOrCreateRefusal.TheVariants as either
-use Rattle.iceoryx2_rounds.specs.Answers.{map_err}
+use Rattle.iceoryx2_create_and_open.specs.Answers.{map_err}
 use Rattle.iceoryx2_session.proofs.Patterns.{IsRegularCall, call_is_regular}
 
 -- what a builder call makes of the machine

@@ -1,9 +1,9 @@
 -- The factories of a session's slots stand, over any table whose world agrees.
 use Rattle.std.proofs.Common.{◌≡◌, ◌≢◌, ℕ, ◌<◌, ◌≤◌, List, Option, Some, None, Result, Ok, Err, inl, inr, replicate, refl, sym, ap, subst, ◌∙◌, arith}
 use Rattle.std.specs.Prelude.{slice_set, IfOk}
-use Rattle.iceoryx2_values.specs.declared.description.ServiceHash.{ServiceHash}
-use Rattle.iceoryx2_values.specs.declared.time.ClockFault.{ClockFault}
-use Rattle.iceoryx2_values.specs.Span.{Span}
+use Rattle.iceoryx2_description.specs.declared.description.ServiceHash.{ServiceHash}
+use Rattle.iceoryx2_description.specs.declared.time.ClockFault.{ClockFault}
+use Rattle.iceoryx2_description.specs.Span.{Span}
 use Rattle.iceoryx2_world.specs.World.{World}
 use Rattle.iceoryx2_world.specs.Across.{Agrees}
 use Rattle.iceoryx2_world.specs.Faulty.{IsFaulty}
@@ -11,31 +11,31 @@ use Rattle.iceoryx2_access.specs.Letter.{Letter}
 use Rattle.iceoryx2_world.specs.Peers.{IsAccess}
 use Rattle.iceoryx2_access.specs.Run.{Run, done, next}
 use Rattle.iceoryx2_access.specs.Factory.{Factory}
-use Rattle.iceoryx2_batches.specs.Tables.{TableState, IsTableAccess}
-use Rattle.iceoryx2_batches.proofs.Waiting.{table_run}
+use Rattle.iceoryx2_world.specs.Tables.{TableState, IsTableAccess}
+use Rattle.iceoryx2_world.proofs.Waiting.{table_run}
 use Rattle.iceoryx2_world.specs.Standing.{Stands, ticket_for}
 use Rattle.iceoryx2_world.proofs.agreement.Accesses.{with_refusals}
 use Rattle.iceoryx2_pattern.specs.Meaning.{Meaning}
-use Rattle.iceoryx2_rounds.specs.Prepared.{IsCreateCall, IsOpenCall}
-use Rattle.iceoryx2_rounds.proofs.Prepared.{granted_call}
-use Rattle.iceoryx2_calls.specs.Calls.{Throughout}
-use Rattle.iceoryx2_calls.specs.Tickets.{tickets_after}
-use Rattle.iceoryx2_calls.proofs.calls.Prepared.{create_call_letters, open_call_letters, create_call_tickets, open_call_tickets}
-use Rattle.iceoryx2_calls.proofs.calls.Words.{agrees_throughout, stands_throughout, all_spared, close_spares}
-use Rattle.iceoryx2_calls.proofs.calls.Closed.{close_ok}
+use Rattle.iceoryx2_create_and_open.specs.Prepared.{IsCreateCall, IsOpenCall}
+use Rattle.iceoryx2_create_and_open.proofs.Prepared.{granted_call}
+use Rattle.iceoryx2_call_laws.specs.Calls.{Throughout}
+use Rattle.iceoryx2_call_laws.specs.Tickets.{tickets_after}
+use Rattle.iceoryx2_call_laws.proofs.calls.Prepared.{create_call_letters, open_call_letters, create_call_tickets, open_call_tickets}
+use Rattle.iceoryx2_call_laws.proofs.calls.Words.{agrees_throughout, stands_throughout, all_spared, close_spares}
+use Rattle.iceoryx2_call_laws.proofs.calls.Closed.{close_ok}
 use Rattle.iceoryx2_port_factory.specs.Closes.{IsCloseWord}
-use Rattle.iceoryx2_calls.proofs.calls.Created.{create_stands}
-use Rattle.iceoryx2_calls.proofs.calls.Opened.{open_stands}
+use Rattle.iceoryx2_call_laws.proofs.calls.Created.{create_stands}
+use Rattle.iceoryx2_call_laws.proofs.calls.Opened.{open_stands}
 use Rattle.iceoryx2_commands.specs.declared.command.How.{How}
 use Rattle.iceoryx2_commands.specs.declared.command.How.TheVariants as how
 use Rattle.iceoryx2_commands.specs.declared.command.Command.{Command}
 use Rattle.iceoryx2_commands.specs.declared.command.Refusal.{Refusal}
 use Rattle.iceoryx2_commands.specs.declared.command.Reply.{Reply}
-use Rattle.iceoryx2_rounds.specs.Answers.{map_err}
+use Rattle.iceoryx2_create_and_open.specs.Answers.{map_err}
 use Rattle.iceoryx2_open_or_create.specs.declared.open_or_create.OpenOrCreateRefusal.{OpenOrCreateRefusal}
-use Rattle.iceoryx2_calls.specs.Attempts.{Attempt, IsAttempted}
-use Rattle.iceoryx2_calls.proofs.calls.Turns.{open_or_create_stands}
-use Rattle.iceoryx2_calls.proofs.calls.Attempts.{attempt_letters, attempt_tickets}
+use Rattle.iceoryx2_call_laws.specs.Attempts.{Attempt, IsAttempted}
+use Rattle.iceoryx2_call_laws.proofs.calls.Turns.{open_or_create_stands}
+use Rattle.iceoryx2_call_laws.proofs.calls.Attempts.{attempt_letters, attempt_tickets}
 use Rattle.iceoryx2_session.specs.BuilderCalls.{BuilderCall, with_refusal}
 use Rattle.iceoryx2_session.specs.Patterns.{builder_call}
 use Rattle.iceoryx2_commands.specs.Commands.{slot_count}

@@ -1,13 +1,13 @@
 -- What a builder call asks, whatever its pattern.
 use Rattle.std.specs.Prelude.{ℕ, Bool, true, false, List, ◌∷◌, Result, Ok, Err}
 use Rattle.sha1.specs.Sha1.{sha1}
-use Rattle.iceoryx2_values.specs.declared.description.ServiceHash.{ServiceHash}
-use Rattle.iceoryx2_values.specs.declared.time.ClockFault.{ClockFault}
-use Rattle.iceoryx2_values.specs.Span.{Span}
+use Rattle.iceoryx2_description.specs.declared.description.ServiceHash.{ServiceHash}
+use Rattle.iceoryx2_description.specs.declared.time.ClockFault.{ClockFault}
+use Rattle.iceoryx2_description.specs.Span.{Span}
 use Rattle.iceoryx2_pattern.specs.Meaning.{Meaning}
 use Rattle.iceoryx2_access.specs.Factory.{Factory}
 use Rattle.iceoryx2_open_or_create.specs.declared.open_or_create.OpenOrCreateRefusal.{OpenOrCreateRefusal}
-use Rattle.iceoryx2_calls.specs.Attempts.{Attempt}
+use Rattle.iceoryx2_call_laws.specs.Attempts.{Attempt}
 use Rattle.iceoryx2_commands.specs.declared.command.Refusal.{Refusal}
 
 -- A node's call of some pattern's builder: what its create, its open and its open or create mean, and how a refusal

@@ -5,9 +5,9 @@ use Rattle.iceoryx2_errors.specs.declared.error.events.EventOpenError.{EventOpen
 use Rattle.iceoryx2_errors.specs.declared.error.events.EventCreateError.{EventCreateError}
 use Rattle.iceoryx2_errors.specs.declared.error.events.EventOpenOrCreateError.{EventOpenOrCreateError}
 use Rattle.iceoryx2_event_builder.specs.Request.{EventRequest, letter_of_events}
-use Rattle.iceoryx2_attributes.specs.Requirements.{Requirements}
-use Rattle.iceoryx2_values.specs.declared.time.ClockFault.{ClockFault}
-use Rattle.iceoryx2_values.specs.Span.{Span}
+use Rattle.iceoryx2_attribute.specs.Requirements.{Requirements}
+use Rattle.iceoryx2_description.specs.declared.time.ClockFault.{ClockFault}
+use Rattle.iceoryx2_description.specs.Span.{Span}
 use Rattle.iceoryx2_event_builder.specs.declared.event.demand.EventDemand.{EventDemand}
 use Rattle.iceoryx2_event_builder.specs.Event.{event_adjusted, event_creating, event_meaning, event_opening}
 use Rattle.iceoryx2_event_builder.specs.Event.{event_refusal, event_retried}

@@ -1,9 +1,9 @@
 -- Which builder a command calls: the one place where the settings choose the pattern.
 use Rattle.std.specs.Prelude.{ℕ, List, Result}
-use Rattle.iceoryx2_attributes.specs.Requirements.{Requirements}
-use Rattle.iceoryx2_values.specs.declared.config.Config.{Config}
-use Rattle.iceoryx2_values.specs.declared.time.ClockFault.{ClockFault}
-use Rattle.iceoryx2_values.specs.Span.{Span}
+use Rattle.iceoryx2_attribute.specs.Requirements.{Requirements}
+use Rattle.iceoryx2_description.specs.declared.config.Config.{Config}
+use Rattle.iceoryx2_description.specs.declared.time.ClockFault.{ClockFault}
+use Rattle.iceoryx2_description.specs.Span.{Span}
 use Rattle.iceoryx2_event_builder.specs.Request as event
 use Rattle.iceoryx2_publish_subscribe_builder.specs.Request as publish_subscribe
 use Rattle.iceoryx2_request_response_builder.specs.Request as request_response

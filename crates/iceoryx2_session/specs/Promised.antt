@@ -4,10 +4,10 @@ use Rattle.iceoryx2_access.specs.Factory.{Factory}
 use Rattle.iceoryx2_access.specs.Letter.{Letter}
 use Rattle.iceoryx2_access.specs.Run.{Run}
 use Rattle.iceoryx2_world.specs.Across.{Agrees}
-use Rattle.iceoryx2_batches.specs.Tables.{TableState, IsTableAccess}
+use Rattle.iceoryx2_world.specs.Tables.{TableState, IsTableAccess}
 use Rattle.iceoryx2_open_or_create.specs.Adjusting.{OnlyRaises}
-use Rattle.iceoryx2_calls.specs.AnyCalls.{AnyCall, ErrorBy, Way, ToCreate, ToOpen, ToOpenOrCreate, IsWordOf}
-use Rattle.iceoryx2_calls.specs.Headline.{IsAsPromised}
+use Rattle.iceoryx2_call_laws.specs.AnyCalls.{AnyCall, ErrorBy, Way, ToCreate, ToOpen, ToOpenOrCreate, IsWordOf}
+use Rattle.iceoryx2_call_laws.specs.Headline.{IsAsPromised}
 use Rattle.iceoryx2_commands.specs.declared.command.How.{How}
 use Rattle.iceoryx2_commands.specs.declared.command.How.TheVariants as how
 use Rattle.iceoryx2_commands.specs.declared.command.Command.{Command}

@@ -5,8 +5,8 @@ use Rattle.iceoryx2_errors.specs.declared.error.publish_subscribe.ServiceAvailab
 use Rattle.iceoryx2_errors.specs.declared.error.publish_subscribe.PublishSubscribeOpenError.{PublishSubscribeOpenError}
 use Rattle.iceoryx2_errors.specs.declared.error.publish_subscribe.PublishSubscribeCreateError.{PublishSubscribeCreateError}
 use Rattle.iceoryx2_errors.specs.declared.error.publish_subscribe.PublishSubscribeOpenOrCreateError.{PublishSubscribeOpenOrCreateError}
-use Rattle.iceoryx2_attributes.specs.Requirements.{Requirements}
-use Rattle.iceoryx2_values.specs.Span.{zero_span}
+use Rattle.iceoryx2_attribute.specs.Requirements.{Requirements}
+use Rattle.iceoryx2_description.specs.Span.{zero_span}
 use Rattle.iceoryx2_publish_subscribe_builder.specs.Request.{PublishSubscribeRequest}
 use Rattle.iceoryx2_publish_subscribe_builder.specs.Request.{letter_of_publish_subscribe, message_for}
 use Rattle.iceoryx2_publish_subscribe_builder.specs.PublishSubscribe.{publish_subscribe_creating}

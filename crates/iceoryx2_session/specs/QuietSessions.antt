@@ -2,11 +2,11 @@
 use Rattle.std.specs.Prelude.{◌≡◌, ◌≤◌, ◌↔◌, ℕ, List, [], Vec, Option, Some, None, Result, Ok, Err}
 use Rattle.std.specs.Prelude.{IsTrue, slice_set}
 use Rattle.std.specs.declared.alloc.Global.{Global}
-use Rattle.iceoryx2_values.specs.declared.description.ServiceHash.{ServiceHash}
-use Rattle.iceoryx2_values.specs.declared.config.Config.{Config}
+use Rattle.iceoryx2_description.specs.declared.description.ServiceHash.{ServiceHash}
+use Rattle.iceoryx2_description.specs.declared.config.Config.{Config}
 use Rattle.iceoryx2_world.specs.declared.listing.Entry.{Entry}
 use Rattle.iceoryx2_world.specs.World.{tag_of}
-use Rattle.iceoryx2_batches.specs.Tables.{TableState}
+use Rattle.iceoryx2_world.specs.Tables.{TableState}
 use Rattle.iceoryx2_world.specs.Across.{Agrees}
 use Rattle.iceoryx2_access.specs.Run.{Run}
 use Rattle.iceoryx2_access.specs.Factory.{Factory}
@@ -24,13 +24,13 @@ use Rattle.iceoryx2_session.specs.Slots.{FreeAt, HoldsAt, TakenAt}
 use Rattle.iceoryx2_session.specs.Patterns.{builder_call}
 use Rattle.iceoryx2_session.specs.Sessions.{SessionState, Goes}
 use Rattle.iceoryx2_session.specs.CommandLists.{CarriesOut}
-use Rattle.iceoryx2_calls.specs.Quiet.{Quiet, Shows}
-use Rattle.iceoryx2_calls.specs.QuietCalls.{Creates, Opens, Closes}
-use Rattle.iceoryx2_calls.specs.QuietPrepared.{CreatesPrepared, OpensPrepared}
-use Rattle.iceoryx2_calls.specs.QuietAttempts.{Attempts, AttemptsPrepared}
-use Rattle.iceoryx2_rounds.specs.Answers.{map_err}
-use Rattle.iceoryx2_calls.specs.QuietLaws.{HoldsTheSame, times_opened}
-use Rattle.iceoryx2_calls.specs.QuietLists.{listing}
+use Rattle.iceoryx2_call_laws.specs.Quiet.{Quiet, Shows}
+use Rattle.iceoryx2_call_laws.specs.QuietCalls.{Creates, Opens, Closes}
+use Rattle.iceoryx2_call_laws.specs.QuietPrepared.{CreatesPrepared, OpensPrepared}
+use Rattle.iceoryx2_call_laws.specs.QuietAttempts.{Attempts, AttemptsPrepared}
+use Rattle.iceoryx2_create_and_open.specs.Answers.{map_err}
+use Rattle.iceoryx2_call_laws.specs.QuietLaws.{HoldsTheSame, times_opened}
+use Rattle.iceoryx2_call_laws.specs.QuietLists.{listing}
 
 -- The session's table shows the machine's state, its world agrees, and no steps of peers wait at it.
 pub record IsQuiet (s : SessionState) (q : Quiet) : Type 0 where

@@ -4,8 +4,8 @@ use Rattle.iceoryx2_errors.specs.declared.error.request_response.ServiceAvailabi
 use Rattle.iceoryx2_errors.specs.declared.error.request_response.RequestResponseOpenError.{RequestResponseOpenError}
 use Rattle.iceoryx2_errors.specs.declared.error.request_response.RequestResponseCreateError.{RequestResponseCreateError}
 use Rattle.iceoryx2_errors.specs.declared.error.request_response.RequestResponseOpenOrCreateError.{RequestResponseOpenOrCreateError}
-use Rattle.iceoryx2_attributes.specs.Requirements.{Requirements}
-use Rattle.iceoryx2_values.specs.Span.{zero_span}
+use Rattle.iceoryx2_attribute.specs.Requirements.{Requirements}
+use Rattle.iceoryx2_description.specs.Span.{zero_span}
 use Rattle.iceoryx2_request_response_builder.specs.Request.{RequestResponseRequest, Messages}
 use Rattle.iceoryx2_request_response_builder.specs.Request.{letter_of_request_response, messages_for}
 use Rattle.iceoryx2_request_response_builder.specs.RequestResponse.{request_response_creating, request_response_opening}

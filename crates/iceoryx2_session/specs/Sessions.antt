@@ -2,18 +2,18 @@
 use Rattle.std.specs.Prelude.{◌≡◌, ◌≤◌, ℕ, List, Vec, Option, Some, None, Result, Ok, Err}
 use Rattle.std.specs.Prelude.{slice_get, slice_set}
 use Rattle.std.specs.declared.alloc.Global.{Global}
-use Rattle.iceoryx2_values.specs.declared.config.Config.{Config}
+use Rattle.iceoryx2_description.specs.declared.config.Config.{Config}
 use Rattle.iceoryx2_world.specs.declared.listing.Entry.{Entry}
 use Rattle.iceoryx2_world.specs.Listing.{Lists}
-use Rattle.iceoryx2_batches.specs.Tables.{TableState, IsTableAccess}
+use Rattle.iceoryx2_world.specs.Tables.{TableState, IsTableAccess}
 use Rattle.iceoryx2_access.specs.Run.{Run, Joins}
 use Rattle.iceoryx2_errors.specs.declared.error.CloseError.{CloseError}
 use Rattle.iceoryx2_access.specs.Factory.{Factory}
-use Rattle.iceoryx2_rounds.specs.Creates.{IsCreateWord}
-use Rattle.iceoryx2_rounds.specs.Opens.{IsOpenWord}
-use Rattle.iceoryx2_rounds.specs.Prepared.{IsCreateCall, IsOpenCall}
-use Rattle.iceoryx2_rounds.specs.Answers.{map_err}
-use Rattle.iceoryx2_calls.specs.Attempts.{IsAttempted, IsAttemptWord}
+use Rattle.iceoryx2_create_and_open.specs.Creates.{IsCreateWord}
+use Rattle.iceoryx2_create_and_open.specs.Opens.{IsOpenWord}
+use Rattle.iceoryx2_create_and_open.specs.Prepared.{IsCreateCall, IsOpenCall}
+use Rattle.iceoryx2_create_and_open.specs.Answers.{map_err}
+use Rattle.iceoryx2_call_laws.specs.Attempts.{IsAttempted, IsAttemptWord}
 use Rattle.iceoryx2_port_factory.specs.Closes.{IsCloseWord}
 use Rattle.iceoryx2_commands.specs.declared.command.Call.{Call}
 use Rattle.iceoryx2_commands.specs.declared.command.How.{How}

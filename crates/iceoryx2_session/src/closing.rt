@@ -3,7 +3,7 @@
 ghost use Rattle.iceoryx2_session.specs.Sessions.{ClosesFactory};
 
 use iceoryx2_port_factory::port_factory::{CloseError, Registration};
-use iceoryx2_storage::table::Table;
+use iceoryx2_table::table::Table;
 
 /// Closes it. What isn't at this table is let go.
 pub fn close(registration: Registration, table: &mut Table)

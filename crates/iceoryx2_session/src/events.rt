@@ -7,13 +7,13 @@ ghost use Rattle.iceoryx2_session.specs.Sessions.{Builds};
 ghost use Rattle.iceoryx2_session.specs.Setters.{with_settings as set_all};
 
 use crate::setters::{HasSetters, with_settings};
-use iceoryx2_attributes::attribute::{AttributeSpecifier, AttributeVerifier};
+use iceoryx2_attribute::attribute::{AttributeSpecifier, AttributeVerifier};
 use iceoryx2_builder::builder::event::Builder;
 use iceoryx2_commands::command::{EventSetting, How, Refusal};
 use iceoryx2_port_factory::port_factory::Registration;
-use iceoryx2_storage::local::Local;
-use iceoryx2_storage::table::Table;
-use iceoryx2_values::time::{ClockFault, Time};
+use iceoryx2_table::local::Local;
+use iceoryx2_table::table::Table;
+use iceoryx2_description::time::{ClockFault, Time};
 
 impl HasSetters for Builder<Local> {
     type Setting = EventSetting;

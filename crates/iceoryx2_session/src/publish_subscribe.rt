@@ -7,12 +7,12 @@ ghost use Rattle.iceoryx2_session.specs.Sessions.{Builds};
 ghost use Rattle.iceoryx2_session.specs.Setters.{with_settings as set_all};
 
 use crate::setters::{HasSetters, with_settings};
-use iceoryx2_attributes::attribute::{AttributeSpecifier, AttributeVerifier};
+use iceoryx2_attribute::attribute::{AttributeSpecifier, AttributeVerifier};
 use iceoryx2_builder::builder::publish_subscribe;
 use iceoryx2_commands::command::{How, PublishSubscribeSetting, Refusal};
 use iceoryx2_port_factory::port_factory::Registration;
-use iceoryx2_storage::local::Local;
-use iceoryx2_storage::table::Table;
+use iceoryx2_table::local::Local;
+use iceoryx2_table::table::Table;
 use iceoryx2_types::types::{CustomHeaderMarker, CustomPayloadMarker, Slice};
 
 /// A builder whose types are named by setters.

@@ -10,10 +10,10 @@ use crate::{closing, events, publish_subscribe, request_response};
 use iceoryx2_builder::builder::Node;
 use iceoryx2_commands::command::{Call, Command, Refusal, Reply, SLOTS, Settings};
 use iceoryx2_port_factory::port_factory::Registration;
-use iceoryx2_storage::local::Local;
-use iceoryx2_storage::table::Table;
+use iceoryx2_table::local::Local;
+use iceoryx2_table::table::Table;
 use iceoryx2_types::types::{CustomHeaderMarker, CustomPayloadMarker, Slice};
-use iceoryx2_values::config::Config;
+use iceoryx2_description::config::Config;
 use std::alloc::AllocError;
 
 /// A table, and 64 slots for the factories that commands open over it. It has to be spent by
@@ -71,15 +71,15 @@ fn close_slot(slots: &mut Slots, slot: usize, table: &mut Table)
 }
 
 impl Session {
-    ghost use Rattle.iceoryx2_values.specs.declared.description.ServiceHash.{ServiceHash};
+    ghost use Rattle.iceoryx2_description.specs.declared.description.ServiceHash.{ServiceHash};
     ghost use Rattle.iceoryx2_world.specs.Across.{Agrees};
     ghost use Rattle.iceoryx2_world.specs.World.{empty_world, ticket_of};
     ghost use Rattle.iceoryx2_session.specs.SessionStates.{state_of};
     ghost use Rattle.iceoryx2_session.specs.Sessions.{AreClosed, ClosesSlots, Goes};
     ghost use Rattle.iceoryx2_session.specs.CommandLists.{CarriesOut};
     ghost use Rattle.iceoryx2_session.specs.StandingSlots.{ClosesTaken, GoesStanding, OwnsTickets, SlotsStand};
-    ghost use Rattle.iceoryx2_calls.specs.Quiet.{Quiet, no_service};
-    ghost use Rattle.iceoryx2_calls.specs.QuietLaws.{HasNothingAt};
+    ghost use Rattle.iceoryx2_call_laws.specs.Quiet.{Quiet, no_service};
+    ghost use Rattle.iceoryx2_call_laws.specs.QuietLaws.{HasNothingAt};
     ghost use Rattle.iceoryx2_session.specs.Promised.{CallsAsPromised};
     ghost use Rattle.iceoryx2_session.specs.QuietSessions.{AreMoved, IsFinished, IsMoved, IsQuiet};
     ghost use Rattle.iceoryx2_session.specs.QuietSessions.{IsUnchanged, TellsNoChange};

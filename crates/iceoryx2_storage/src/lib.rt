@@ -1,5 +1,7 @@
-//! A table in which nodes leave what they agreed on, and what it stands on.
+//! The storages that a builder works over, under one name: the trait, the table, and scripts.
 #![tactic(auto)]
 
-pub mod local;
 pub mod table;
+
+pub use iceoryx2_access::storage;
+pub use iceoryx2_script::script;

@@ -1,6 +1,6 @@
 -- What is always true of all services together: of the numbers of locks, and of the tickets.
 use Rattle.std.specs.Prelude.{◌≡◌, ℕ, ◌<◌, Some, None}
-use Rattle.iceoryx2_values.specs.declared.description.ServiceHash.{ServiceHash}
+use Rattle.iceoryx2_description.specs.declared.description.ServiceHash.{ServiceHash}
 use Rattle.iceoryx2_world.specs.declared.world.Participant.TheVariants.{Node}
 use Rattle.iceoryx2_world.specs.declared.world.Ticket.{Ticket}
 use Rattle.iceoryx2_world.specs.declared.world.Row.TheVariants as row

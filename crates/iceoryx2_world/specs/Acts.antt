@@ -1,6 +1,6 @@
 -- What a participant may do at a service.
 use Rattle.std.specs.Prelude.{ℕ}
-use Rattle.iceoryx2_values.specs.Description.{Description, IsDescription}
+use Rattle.iceoryx2_description.specs.Description.{Description, IsDescription}
 
 pub data Act : Type 0 where
   Read : Act

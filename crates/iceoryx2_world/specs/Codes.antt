@@ -5,7 +5,7 @@ use Rattle.iceoryx2_world.specs.Sets as set
 use Rattle.std.specs.Coded.{Coded, code_by, coded×, coded_ℕ, coded_bool, coded_list}
 use Rattle.iceoryx2_world.specs.declared.world.Participant.{Participant}
 use Rattle.iceoryx2_world.specs.declared.world.Participant.TheVariants as who
-use Rattle.iceoryx2_values.specs.declared.description.ServiceHash.{ServiceHash}
+use Rattle.iceoryx2_description.specs.declared.description.ServiceHash.{ServiceHash}
 use Rattle.iceoryx2_world.specs.declared.world.Ticket.{Ticket}
 use Rattle.iceoryx2_world.specs.declared.world.Phase.{Phase}
 use Rattle.iceoryx2_world.specs.declared.world.Phase.TheVariants as at

@@ -14,3 +14,5 @@ pub mod Faulty
 pub mod Standing
 pub mod Listing
 pub mod Calm
+pub mod Batches
+pub mod Tables

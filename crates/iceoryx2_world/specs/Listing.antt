@@ -3,7 +3,7 @@ use Rattle.std.specs.Prelude.{◌≡◌, List, Option, Some, None, T, map}
 use Rattle.std.specs.Option.{option_map}
 use Rattle.std.specs.FinMap as finite
 use Rattle.std.specs.FinMap.Entries.{find, is_sorted}
-use Rattle.iceoryx2_values.specs.declared.description.ServiceHash.{ServiceHash}
+use Rattle.iceoryx2_description.specs.declared.description.ServiceHash.{ServiceHash}
 use Rattle.iceoryx2_world.specs.declared.world.Row.{Row}
 use Rattle.iceoryx2_world.specs.declared.world.Row.TheVariants as row
 use Rattle.iceoryx2_world.specs.declared.listing.ListedRow.{ListedRow}

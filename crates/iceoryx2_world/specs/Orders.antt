@@ -11,7 +11,7 @@ use Rattle.iceoryx2_world.specs.contracts.world.ParticipantOrd.TheImpl as derive
 use Rattle.iceoryx2_world.specs.contracts.world.ParticipantOrd.TheImpl.Laws as derived_laws
 use Rattle.iceoryx2_world.specs.declared.world.Participant.{Participant}
 use Rattle.iceoryx2_world.specs.declared.world.Participant.TheVariants.{Node, Peer}
-use Rattle.iceoryx2_values.specs.declared.description.ServiceHash.{ServiceHash}
+use Rattle.iceoryx2_description.specs.declared.description.ServiceHash.{ServiceHash}
 
 abbrev pub hash_cmp : ServiceHash → ServiceHash → Ordering
 hash_cmp a b = slice_cmp nat_cmp a.0 b.0

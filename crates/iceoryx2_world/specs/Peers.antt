@@ -1,6 +1,6 @@
 -- An access of a world that peers share: steps of theirs, and then the node's own part.
 use Rattle.std.specs.Prelude.{◌≡◌, ℕ, Some}
-use Rattle.iceoryx2_values.specs.declared.description.ServiceHash.{ServiceHash}
+use Rattle.iceoryx2_description.specs.declared.description.ServiceHash.{ServiceHash}
 use Rattle.iceoryx2_world.specs.declared.world.Participant.TheVariants.{Peer}
 use Rattle.iceoryx2_world.specs.World.{World}
 use Rattle.iceoryx2_world.specs.Acts.{Act, IsAct}

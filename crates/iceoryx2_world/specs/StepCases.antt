@@ -1,7 +1,7 @@
 -- The fourteen steps once more, as a relation: what the function of Steps allows, and nothing else.
 use Rattle.std.specs.Prelude.{◌≡◌, ℕ, ◌+◌, ◌-◌, ◌<◌, ◌≤◌, true, false, List, Option, Some, None}
-use Rattle.iceoryx2_values.specs.declared.description.ServiceHash.{ServiceHash}
-use Rattle.iceoryx2_values.specs.Description.{Description, max_nodes_of}
+use Rattle.iceoryx2_description.specs.declared.description.ServiceHash.{ServiceHash}
+use Rattle.iceoryx2_description.specs.Description.{Description, max_nodes_of}
 use Rattle.iceoryx2_world.specs.Sets as set
 use Rattle.iceoryx2_world.specs.declared.world.Participant.{Participant}
 use Rattle.iceoryx2_world.specs.declared.world.Phase.{Phase}

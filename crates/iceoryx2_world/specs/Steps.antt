@@ -5,15 +5,15 @@ use Rattle.std.specs.Option.{option_map}
 use Rattle.iceoryx2_world.specs.Sets as set
 use Rattle.std.specs.Ordering.{eq_by_cmp}
 use Rattle.iceoryx2_world.specs.declared.world.Participant.{Participant}
-use Rattle.iceoryx2_values.specs.declared.description.ServiceHash.{ServiceHash}
+use Rattle.iceoryx2_description.specs.declared.description.ServiceHash.{ServiceHash}
 use Rattle.iceoryx2_world.specs.declared.world.Phase.{Phase}
 use Rattle.iceoryx2_world.specs.declared.world.Phase.TheVariants as at
 use Rattle.iceoryx2_world.specs.Orders.{hash_cmp, participant_cmp}
 use Rattle.iceoryx2_world.specs.declared.world.Row.{Row}
 use Rattle.iceoryx2_world.specs.declared.world.Row.TheVariants as row
 use Rattle.iceoryx2_world.specs.World.{World, Segment, row_of, segment_of, phase_of, set_to, unless_idle}
-use Rattle.iceoryx2_values.specs.Description.{Description, max_nodes_of}
-use Rattle.iceoryx2_data.specs.Form as form
+use Rattle.iceoryx2_description.specs.Description.{Description, max_nodes_of}
+use Rattle.iceoryx2_byte_form.specs.Form as form
 use Rattle.iceoryx2_world.specs.Acts.{Act, Read, Lock, RemoveSegment, RemoveDescription, Make, Publish, Join, Leave}
 
 -- what a step of one participant at one hash reads and changes

@@ -1,16 +1,18 @@
-//! What is true of every world of a table, whatever its nodes do and whatever steps peers take.
+//! What is true of every world of a table, whatever its nodes do and whatever steps peers take, and of a
+//! table at which batches of these steps wait.
 
-ghost use Rattle.std.specs.Prelude.{◌≡◌, ◌≢◌, ℕ, ◌+◌, ◌≤◌, List, [], ◌∷◌, ◌++◌, Option, Some, None, Result, Ok, Err};
-ghost use Rattle.iceoryx2_values.specs.declared.description.ServiceHash.{ServiceHash};
-ghost use Rattle.iceoryx2_values.specs.Description.{Description};
-ghost use Rattle.iceoryx2_data.specs.Form.{IsForm};
+ghost use Rattle.std.specs.Prelude.{◌≡◌, ◌≢◌, ℕ, ◌+◌, ◌≤◌, List, [], ◌∷◌, ◌++◌};
+ghost use Rattle.std.specs.Prelude.{Option, Some, None, Result, Ok, Err, ◌⊎◌, length, drop, unwrap_or};
+ghost use Rattle.iceoryx2_description.specs.declared.description.ServiceHash.{ServiceHash};
+ghost use Rattle.iceoryx2_description.specs.Description.{Description};
+ghost use Rattle.iceoryx2_byte_form.specs.Form.{IsForm};
 ghost use Rattle.iceoryx2_world.specs.declared.world.Participant.{Participant};
 ghost use Rattle.iceoryx2_world.specs.declared.world.Participant.TheVariants.{Node, Peer};
 ghost use Rattle.iceoryx2_world.specs.declared.world.Ticket.{Ticket};
-ghost use Rattle.iceoryx2_world.specs.World.{World, Segment, phase_of, locked_number, empty_world};
-ghost use Rattle.iceoryx2_world.specs.World.{ticket_of, ticket_count, count_of};
+ghost use Rattle.iceoryx2_world.specs.World.{World, Segment, phase_of, locked_number, empty_world, ticket_of};
+ghost use Rattle.iceoryx2_world.specs.World.{ticket_count, count_of};
 ghost use Rattle.iceoryx2_world.specs.Acts.{Act, IsAct};
-ghost use Rattle.iceoryx2_world.specs.Steps.{Spot, spot_after, world_after};
+ghost use Rattle.iceoryx2_world.specs.Steps.{Spot, spot_after, world_after, last_number};
 ghost use Rattle.iceoryx2_world.specs.StepCases.{IsStep};
 ghost use Rattle.iceoryx2_world.specs.declared.world.Phase.{Phase};
 ghost use Rattle.iceoryx2_world.specs.declared.world.Row.{Row};
@@ -19,15 +21,22 @@ ghost use Rattle.iceoryx2_access.specs.declared.storage.Release.{Release as Rele
 ghost use Rattle.iceoryx2_access.specs.declared.storage.ReleaseError.{ReleaseError};
 ghost use Rattle.iceoryx2_world.specs.Access.{IsOwnPart};
 ghost use Rattle.iceoryx2_world.specs.AccessCases.{IsOwnCase};
-ghost use Rattle.iceoryx2_access.specs.Letter.{Letter, Lock, Publish, Fetch, OpenSegment, RemoveDescription, Release};
+ghost use Rattle.iceoryx2_access.specs.Letter.{Letter, Lock, Publish, Fetch, OpenSegment, RemoveDescription};
+ghost use Rattle.iceoryx2_access.specs.Letter.{Release};
 ghost use Rattle.iceoryx2_access.specs.Run.{Run, Each};
 ghost use Rattle.iceoryx2_world.specs.Agreement.{AgreesEverywhere, Later, IsSpent};
 ghost use Rattle.iceoryx2_world.specs.Across.{AgreesOnNumbers, Agrees};
-ghost use Rattle.iceoryx2_world.specs.Peers.{IsAccess};
+ghost use Rattle.iceoryx2_world.specs.Peers.{IsAccess, Peers};
 ghost use Rattle.iceoryx2_world.specs.Faulty.{IsFaulty};
 ghost use Rattle.iceoryx2_world.specs.Calm.{SameServices, IsCalmLetter};
 ghost use Rattle.iceoryx2_access.specs.Factory.{Factory};
 ghost use Rattle.iceoryx2_world.specs.Standing.{ticket_for, Stands, Spares};
+ghost use Rattle.iceoryx2_access.specs.MayRefuse.{MayRefuse};
+ghost use Rattle.iceoryx2_world.specs.declared.batches.Step.{Step};
+ghost use Rattle.iceoryx2_world.specs.Batches.{effect, IsPeerStep, IsBatch};
+ghost use Rattle.iceoryx2_world.specs.Tables.{TableState, IsTableAccess};
+ghost use Rattle.iceoryx2_world.specs.declared.world.Phase.TheVariants as at;
+ghost use Rattle.iceoryx2_world.specs.declared.batches.Act.TheVariants as act;
 
 /// A world agrees: at each service its row, its segment and the phases fit one another, and each
 /// node has as many tickets as its phases count. Whatever accesses and steps of peers make of such
@@ -148,4 +157,69 @@ pub fn accesses()
 
     // And the tests come to each line of it.
     ensures each_listed { (w v : World) (l : Letter) → IsOwnCase w l v → IsOwnPart w l v }
+{}
+
+/// What waits at a table is steps of peers and nothing else: its accesses are accesses of its
+/// world, and nodes' own parts alone where nothing waits. So what is true of runs of these is true
+/// of runs of a table with batches.
+pub fn batches()
+    // A batch is steps of peers.
+    ensures batch { (s t : World × ℕ) (batch : List Step) → IsBatch s batch t → Peers s.0 t.0 }
+
+    // An access with its batch is one of the world, after any steps of peers.
+    ensures access { (s t : TableState) (l : Letter) → IsTableAccess s l t → IsAccess s.world l t.world }
+
+    // So is each of a run.
+    ensures run { (s t : TableState) (word : List Letter)
+        → Run IsTableAccess s word t → Run IsAccess s.world word t.world }
+
+    // A run of which any access may be refused is such a run of the world.
+    ensures refusable { (s t : TableState) (word : List Letter)
+        → Run (MayRefuse IsTableAccess) s word t → Run IsFaulty s.world word t.world }
+
+    // Where nothing waits there are the nodes' own parts alone, nothing waits afterwards, and
+    // nothing was skipped.
+    ensures quiet { (s t : TableState) (word : List Letter)
+        → s.waiting ≡ [] → Run IsTableAccess s word t
+        → Run IsOwnPart s.world word t.world × (t.waiting ≡ []) × (t.skipped ≡ s.skipped) }
+
+    // And each own part is an access there.
+    ensures own { (s : TableState) (l : Letter) (w : World)
+        → s.waiting ≡ [] → IsOwnPart s.world l w → IsTableAccess s l (record s { world = w }) }
+
+    // Each access takes one batch off, in order.
+    ensures taken { (s t : TableState) (word : List Letter)
+        → Run IsTableAccess s word t → t.waiting ≡ drop (length word) s.waiting }
+
+    // A batch keeps the agreement and gives a later world.
+    ensures batch_keeps { (s t : World × ℕ) (batch : List Step)
+        → IsBatch s batch t → Agrees s.0 → Agrees t.0 × Later s.0 t.0 }
+
+    // So does an access with its batch.
+    ensures access_keeps { (s t : TableState) (l : Letter)
+        → IsTableAccess s l t → Agrees s.world → Agrees t.world × Later s.world t.world }
+
+    // So does any run of these, also where any access may be refused.
+    ensures run_keeps { (s t : TableState) (word : List Letter)
+        → Run IsTableAccess s word t → Agrees s.world → Agrees t.world × Later s.world t.world }
+    ensures refusable_keeps { (s t : TableState) (word : List Letter)
+        → Run (MayRefuse IsTableAccess) s word t → Agrees s.world → Agrees t.world × Later s.world t.world }
+
+    // The count of skipped steps never falls, and stops at the last number.
+    ensures counts { (s t : TableState) (word : List Letter)
+        → Run (MayRefuse IsTableAccess) s word t → s.skipped ≤ last_number
+        → (s.skipped ≤ t.skipped) × (t.skipped ≤ last_number) }
+
+    // These are never skipped: where they are allowed they have their effect. What takes something away,
+    ensures removing { (s t : World × ℕ) (x : Step)
+        → (x.act ≡ act.RemoveSegment) ⊎ (x.act ≡ act.RemoveDescription) ⊎ (x.act ≡ act.Leave)
+        → IsPeerStep s x t → t ≡ (unwrap_or (effect s.0 x) s.0, s.1) }
+    // what reads once more,
+    ensures reading { (s t : World × ℕ) (x : Step) (n : ℕ)
+        → x.act ≡ act.Read → phase_of s.0 (Peer x.peer) x.hash ≡ at.Read n
+        → IsPeerStep s x t → t ≡ (unwrap_or (effect s.0 x) s.0, s.1) }
+    // and what joins once more.
+    ensures joining { (s t : World × ℕ) (x : Step) (n k : ℕ)
+        → x.act ≡ act.Join → phase_of s.0 (Peer x.peer) x.hash ≡ at.Joined n k
+        → IsPeerStep s x t → t ≡ (unwrap_or (effect s.0 x) s.0, s.1) }
 {}

@@ -1,6 +1,8 @@
-//! The worlds of a table: what stands in them, what a step makes of them, and what is always true.
+//! The worlds of a table: what stands in them, what a step makes of them, batches of peers' steps that wait there,
+//! and what is always true.
 #![tactic(auto)]
 
+pub mod batches;
 pub mod laws;
 pub mod listing;
 pub mod world;

@@ -1,7 +1,7 @@
 //! What a table lists.
 
 use crate::world::Bytes;
-use iceoryx2_values::description::ServiceHash;
+use iceoryx2_description::description::ServiceHash;
 
 /// What is written under a hash, as it is listed.
 #[derive(Debug, Drop, PartialEq, Eq)]

@@ -2,7 +2,7 @@
 
 ghost use Rattle.std.specs.Prelude.{◌≡◌, ℕ, List, IfOk};
 
-use iceoryx2_values::description::ServiceHash;
+use iceoryx2_description::description::ServiceHash;
 use std::alloc::AllocError;
 use std::marker::Model;
 

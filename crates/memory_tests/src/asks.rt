@@ -2,7 +2,7 @@
 
 use crate::samples;
 use crate::trial::Wrong;
-use iceoryx2_attributes::attribute::{AttributeSpecifier, AttributeVerifier};
+use iceoryx2_attribute::attribute::{AttributeSpecifier, AttributeVerifier};
 use iceoryx2_builder::builder::{self, Node, event, publish_subscribe, request_response};
 use iceoryx2_errors::error::{
     EventCreateError, EventOpenError, EventOpenOrCreateError, PublishSubscribeCreateError,
@@ -10,11 +10,11 @@ use iceoryx2_errors::error::{
     RequestResponseOpenError, RequestResponseOpenOrCreateError,
 };
 use iceoryx2_script::script::{Faulty, FaultyService};
-use iceoryx2_storage::local::Local;
-use iceoryx2_storage::table::Table;
+use iceoryx2_table::local::Local;
+use iceoryx2_table::table::Table;
 use iceoryx2_types::types::ZeroCopySend;
-use iceoryx2_values::config::Config;
-use iceoryx2_values::time::Time;
+use iceoryx2_description::config::Config;
+use iceoryx2_description::time::Time;
 use std::alloc::Global;
 
 /// A table whose accesses are counted, of which chosen ones are refused.

@@ -9,9 +9,9 @@ use iceoryx2_commands::command::{
     Call, Command, How, PublishSubscribeSetting, Refusal, Reply, RequestResponseSetting, Settings,
 };
 use iceoryx2_session::session::Session;
-use iceoryx2_storage::table::Table;
-use iceoryx2_values::config::Config;
-use iceoryx2_values::time::Time;
+use iceoryx2_table::table::Table;
+use iceoryx2_description::config::Config;
+use iceoryx2_description::time::Time;
 use std::alloc::Global;
 
 /// A vector of one thing.

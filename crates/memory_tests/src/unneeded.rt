@@ -9,14 +9,14 @@ use iceoryx2_commands::command::{EventSetting, RequestResponseSetting};
 use iceoryx2_errors::error::{CloseError, EventOpenError, EventOpenOrCreateError};
 use iceoryx2_port_factory::port_factory::event::PortFactory;
 use iceoryx2_script::script::Faulty;
-use iceoryx2_storage::local::Local;
-use iceoryx2_storage::table::Table;
+use iceoryx2_table::local::Local;
+use iceoryx2_table::table::Table;
 use iceoryx2_types::types::publish_subscribe::Header;
 use iceoryx2_types::types::{Alignment, CustomHeaderMarker, CustomPayloadMarker, Slice};
-use iceoryx2_values::config::Config;
-use iceoryx2_values::description::ServiceHash;
-use iceoryx2_values::event::EventId;
-use iceoryx2_values::time::{Duration, Time};
+use iceoryx2_description::config::Config;
+use iceoryx2_description::description::ServiceHash;
+use iceoryx2_description::event::EventId;
+use iceoryx2_description::time::{Duration, Time};
 use std::alloc::Global;
 
 /// Lets a builder go.

@@ -2,17 +2,17 @@
 
 use crate::samples::{self, Pattern, prepared};
 use crate::trial::{Came, Making, Mode, Tally, Wrong, each_request_of};
-use iceoryx2_attributes::attribute::{AttributeError, AttributeSpecifier, AttributeVerifier};
+use iceoryx2_attribute::attribute::{AttributeError, AttributeSpecifier, AttributeVerifier};
 use iceoryx2_builder::builder::{self, Node};
-use iceoryx2_data::bytes::{self, DecodeError};
-use iceoryx2_storage::local::Local;
+use iceoryx2_byte_form::bytes::{self, DecodeError};
+use iceoryx2_table::local::Local;
 use iceoryx2_types::types::publish_subscribe::Header;
 use iceoryx2_types::types::{
     CustomHeaderMarker, CustomPayloadMarker, MessageTypeDetails, Slice, TypeDetail,
     TypeDetailError, TypeVariant,
 };
-use iceoryx2_values::config::Config;
-use iceoryx2_values::description::{ServiceHash, ServiceName, ServiceNameError, StaticConfig};
+use iceoryx2_description::config::Config;
+use iceoryx2_description::description::{ServiceHash, ServiceName, ServiceNameError, StaticConfig};
 use std::alloc::{AllocError, Global};
 
 /// What an addition came to.

@@ -1,7 +1,7 @@
 //! The program `negotiate`: commands by line, over a table of its own.
 #![tactic(auto)]
 
-use negotiate_replies::serve;
+use negotiate_serve::serve;
 use std::process::ExitCode;
 use std::{env, io};
 

@@ -1,1 +1,9 @@
+pub mod Around
+pub mod CallSteps
+pub mod Names
+pub mod Numbers
+pub mod OneInstruction
+pub mod OneType
+pub mod OneValue
+pub mod WordsOf
 pub mod Saying

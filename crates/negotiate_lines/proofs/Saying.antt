@@ -4,7 +4,7 @@ use Rattle.std.specs.Prelude.{Result, Ok, Err, IfOk}
 use Rattle.std.specs.Str.{IsUtf8}
 use Rattle.negotiate_lines.specs.declared.line.Line.{Line}
 use Rattle.negotiate_lines.specs.declared.line.Line.TheVariants as line
-use Rattle.negotiate_words.specs.Words.{words_of}
+use Rattle.negotiate_lines.specs.Words.{words_of}
 use Rattle.negotiate_lines.specs.Lines.{AreLine, IsLine}
 
 is_line : (bytes : List ℕ) (told : Line) → IsUtf8 bytes → AreLine (words_of bytes) told → IsLine bytes told

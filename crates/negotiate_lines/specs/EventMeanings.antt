@@ -1,12 +1,12 @@
 -- Each word of events has one meaning.
 use Rattle.std.specs.Prelude.{◌≡◌, ℕ, List, Option, Some, None, if◌then◌else◌, bytes_eq, codes, refl}
-use Rattle.iceoryx2_values.specs.Span.{Span}
+use Rattle.iceoryx2_description.specs.Span.{Span}
 use Rattle.iceoryx2_event_builder.specs.declared.event.setting.EventSetting.{EventSetting}
 use Rattle.iceoryx2_event_builder.specs.declared.event.setting.EventSetting.TheVariants as set
-use Rattle.negotiate_words.specs.Values.{IsNatural, IsNoneOr, IsSpanWord}
-use Rattle.negotiate_words.specs.Vocabulary.{IsUnambiguous}
-use Rattle.negotiate_words.proofs.Names.{unambiguous}
-use Rattle.negotiate_words.proofs.OneValue.{one_natural, one_span, one_or_none, one_set, no_span_none, no_natural_none}
+use Rattle.negotiate_lines.specs.Values.{IsNatural, IsNoneOr, IsSpanWord}
+use Rattle.negotiate_lines.specs.Vocabulary.{IsUnambiguous}
+use Rattle.negotiate_lines.proofs.Names.{unambiguous}
+use Rattle.negotiate_lines.proofs.OneValue.{one_natural, one_span, one_or_none, one_set, no_span_none, no_natural_none}
 use Rattle.negotiate_lines.specs.declared.event_words.EventSettingName.{EventSettingName}
 use Rattle.negotiate_lines.specs.declared.event_words.EventSettingName.TheVariants as name
 use Rattle.negotiate_lines.specs.EventWords.{event_setting_word, SaysEventSetting, event_vocabulary}

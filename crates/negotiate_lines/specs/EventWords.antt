@@ -2,8 +2,8 @@
 use Rattle.std.specs.Prelude.{ℕ, true, List, codes}
 use Rattle.iceoryx2_event_builder.specs.declared.event.setting.EventSetting.{EventSetting}
 use Rattle.iceoryx2_event_builder.specs.declared.event.setting.EventSetting.TheVariants as set
-use Rattle.negotiate_words.specs.Values.{IsNatural, IsNoneOr, IsSpanWord}
-use Rattle.negotiate_words.specs.Vocabulary.{Vocabulary, Sets}
+use Rattle.negotiate_lines.specs.Values.{IsNatural, IsNoneOr, IsSpanWord}
+use Rattle.negotiate_lines.specs.Vocabulary.{Vocabulary, Sets}
 use Rattle.negotiate_lines.specs.declared.event_words.EventSettingName.{EventSettingName}
 use Rattle.negotiate_lines.specs.declared.event_words.EventSettingName.TheVariants as name
 

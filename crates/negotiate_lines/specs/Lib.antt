@@ -1,3 +1,7 @@
+pub mod Words
+pub mod Values
+pub mod Vocabulary
+pub mod CallWords
 pub mod EventWords
 pub mod EventMeanings
 pub mod PublishSubscribeWords

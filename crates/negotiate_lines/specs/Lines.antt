@@ -2,7 +2,7 @@
 use Rattle.std.specs.Prelude.{ℕ, ◌≡◌, ◌≢◌, ◌^◌, ◌-◌, ◌==◌, Bool, true, false, List, [], ◌∷◌, codes}
 use Rattle.std.specs.Prelude.{length, take, slice_index, if◌then◌else◌}
 use Rattle.std.specs.Str.{IsUtf8}
-use Rattle.iceoryx2_values.specs.Names.{IsName}
+use Rattle.iceoryx2_description.specs.Names.{IsName}
 use Rattle.iceoryx2_commands.specs.declared.command.Command.{Command}
 use Rattle.iceoryx2_commands.specs.declared.command.Command.TheVariants as command
 use Rattle.iceoryx2_commands.specs.declared.command.Call.{Call}
@@ -11,10 +11,10 @@ use Rattle.iceoryx2_commands.specs.declared.command.How.TheVariants as how
 use Rattle.iceoryx2_commands.specs.declared.command.Settings.{Settings}
 use Rattle.iceoryx2_commands.specs.declared.command.Settings.TheVariants as settings
 use Rattle.iceoryx2_commands.specs.Commands.{slot_count}
-use Rattle.negotiate_words.specs.declared.call_word.Admitted.{Admitted}
-use Rattle.negotiate_words.specs.Words.{words_of, IsNumber}
-use Rattle.negotiate_words.specs.Vocabulary.{Vocabulary}
-use Rattle.negotiate_words.specs.CallWords.{no_particulars, TakesWords}
+use Rattle.negotiate_lines.specs.declared.call_word.Admitted.{Admitted}
+use Rattle.negotiate_lines.specs.Words.{words_of, IsNumber}
+use Rattle.negotiate_lines.specs.Vocabulary.{Vocabulary}
+use Rattle.negotiate_lines.specs.CallWords.{no_particulars, TakesWords}
 use Rattle.negotiate_lines.specs.declared.line.Line.{Line}
 use Rattle.negotiate_lines.specs.declared.line.Line.TheVariants as line
 use Rattle.negotiate_lines.specs.declared.line.NamedCall.{NamedCall}

@@ -2,11 +2,11 @@
 use Rattle.std.specs.Prelude.{◌≡◌, ℕ, List, Option, Some, None, if◌then◌else◌, bytes_eq, codes, refl}
 use Rattle.iceoryx2_publish_subscribe_builder.specs.declared.publish_subscribe.setting.PublishSubscribeSetting.{PublishSubscribeSetting}
 use Rattle.iceoryx2_publish_subscribe_builder.specs.declared.publish_subscribe.setting.PublishSubscribeSetting.TheVariants as set
-use Rattle.negotiate_words.specs.Values.{IsNatural, IsTruthWord, IsAlignmentWord, IsDetailWord}
-use Rattle.negotiate_words.specs.Vocabulary.{IsUnambiguous}
-use Rattle.negotiate_words.proofs.Names.{unambiguous}
-use Rattle.negotiate_words.proofs.OneValue.{one_natural, one_truth, one_set}
-use Rattle.negotiate_words.proofs.OneType.{one_alignment, one_detail}
+use Rattle.negotiate_lines.specs.Values.{IsNatural, IsTruthWord, IsAlignmentWord, IsDetailWord}
+use Rattle.negotiate_lines.specs.Vocabulary.{IsUnambiguous}
+use Rattle.negotiate_lines.proofs.Names.{unambiguous}
+use Rattle.negotiate_lines.proofs.OneValue.{one_natural, one_truth, one_set}
+use Rattle.negotiate_lines.proofs.OneType.{one_alignment, one_detail}
 use Rattle.negotiate_lines.specs.declared.publish_subscribe_words.PlainSettingName.{PlainSettingName}
 use Rattle.negotiate_lines.specs.declared.publish_subscribe_words.PlainSettingName.TheVariants as plain
 use Rattle.negotiate_lines.specs.declared.publish_subscribe_words.PublishSubscribeSettingName.{PublishSubscribeSettingName}

@@ -2,8 +2,8 @@
 use Rattle.std.specs.Prelude.{ℕ, false, List, codes}
 use Rattle.iceoryx2_publish_subscribe_builder.specs.declared.publish_subscribe.setting.PublishSubscribeSetting.{PublishSubscribeSetting}
 use Rattle.iceoryx2_publish_subscribe_builder.specs.declared.publish_subscribe.setting.PublishSubscribeSetting.TheVariants as set
-use Rattle.negotiate_words.specs.Values.{IsNatural, IsTruthWord, IsAlignmentWord, IsDetailWord}
-use Rattle.negotiate_words.specs.Vocabulary.{Vocabulary, Sets}
+use Rattle.negotiate_lines.specs.Values.{IsNatural, IsTruthWord, IsAlignmentWord, IsDetailWord}
+use Rattle.negotiate_lines.specs.Vocabulary.{Vocabulary, Sets}
 use Rattle.negotiate_lines.specs.declared.publish_subscribe_words.PlainSettingName.{PlainSettingName}
 use Rattle.negotiate_lines.specs.declared.publish_subscribe_words.PlainSettingName.TheVariants as plain
 use Rattle.negotiate_lines.specs.declared.publish_subscribe_words.PublishSubscribeSettingName.{PublishSubscribeSettingName}

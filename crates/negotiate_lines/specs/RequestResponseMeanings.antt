@@ -1,11 +1,11 @@
 -- Each word of request-response has one meaning.
 use Rattle.std.specs.Prelude.{◌≡◌, ℕ, List, Option, Some, None, if◌then◌else◌, bytes_eq, codes, refl}
 use Rattle.iceoryx2_request_response_builder.specs.declared.request_response.setting.RequestResponseSetting.{RequestResponseSetting}
-use Rattle.negotiate_words.specs.Values.{IsNatural, IsTruthWord, IsAlignmentWord, IsDetailWord}
-use Rattle.negotiate_words.specs.Vocabulary.{IsUnambiguous}
-use Rattle.negotiate_words.proofs.Names.{unambiguous}
-use Rattle.negotiate_words.proofs.OneValue.{one_natural, one_truth, one_set}
-use Rattle.negotiate_words.proofs.OneType.{one_alignment, one_detail}
+use Rattle.negotiate_lines.specs.Values.{IsNatural, IsTruthWord, IsAlignmentWord, IsDetailWord}
+use Rattle.negotiate_lines.specs.Vocabulary.{IsUnambiguous}
+use Rattle.negotiate_lines.proofs.Names.{unambiguous}
+use Rattle.negotiate_lines.proofs.OneValue.{one_natural, one_truth, one_set}
+use Rattle.negotiate_lines.proofs.OneType.{one_alignment, one_detail}
 use Rattle.negotiate_lines.specs.declared.request_response_words.FlagName.TheVariants as flag
 use Rattle.negotiate_lines.specs.declared.request_response_words.NumberName.TheVariants as number
 use Rattle.negotiate_lines.specs.declared.request_response_words.AlignmentName.TheVariants as alignment

@@ -3,8 +3,8 @@ use Rattle.std.specs.Prelude.{ℕ, Bool, false, List, codes}
 use Rattle.iceoryx2_types.specs.Types.{Detail}
 use Rattle.iceoryx2_request_response_builder.specs.declared.request_response.setting.RequestResponseSetting.{RequestResponseSetting}
 use Rattle.iceoryx2_request_response_builder.specs.declared.request_response.setting.RequestResponseSetting.TheVariants as set
-use Rattle.negotiate_words.specs.Values.{IsNatural, IsTruthWord, IsAlignmentWord, IsDetailWord}
-use Rattle.negotiate_words.specs.Vocabulary.{Vocabulary, Sets}
+use Rattle.negotiate_lines.specs.Values.{IsNatural, IsTruthWord, IsAlignmentWord, IsDetailWord}
+use Rattle.negotiate_lines.specs.Vocabulary.{Vocabulary, Sets}
 use Rattle.negotiate_lines.specs.declared.request_response_words.FlagName.{FlagName}
 use Rattle.negotiate_lines.specs.declared.request_response_words.FlagName.TheVariants as flag
 use Rattle.negotiate_lines.specs.declared.request_response_words.NumberName.{NumberName}

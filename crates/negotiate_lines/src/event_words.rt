@@ -1,14 +1,14 @@
 //! What the settings of a service of events are called.
 
 ghost use Rattle.std.specs.Prelude.{◌≡◌};
-ghost use Rattle.negotiate_words.specs.Words.{Finds};
+ghost use Rattle.negotiate_lines.specs.Words.{Finds};
 ghost use Rattle.negotiate_lines.specs.EventWords.{SaysEventSetting, event_setting_word, event_vocabulary};
 ghost use Rattle.negotiate_lines.specs.EventMeanings.{event_words_are_unambiguous};
 
 use iceoryx2_event_builder::event::EventSetting;
-use negotiate_words::value::{duration_or_none, event_or_none};
-use negotiate_words::vocabulary::HasVocabulary;
-use negotiate_words::word::number;
+use crate::value::{duration_or_none, event_or_none};
+use crate::vocabulary::HasVocabulary;
+use crate::word::number;
 use std::alloc::{AllocError, Global};
 
 /// The name of a setting.

@@ -2,7 +2,7 @@
 
 ghost use Rattle.std.specs.Prelude.{◌≡◌, ◌≢◌, [], ◌∷◌, IfOk, codes};
 ghost use Rattle.iceoryx2_commands.specs.Commands.{slot_count};
-ghost use Rattle.negotiate_words.specs.Words.{Finds, IsNumberOf, words_of};
+ghost use Rattle.negotiate_lines.specs.Words.{Finds, IsNumberOf, words_of};
 ghost use Rattle.negotiate_lines.specs.Lines.{AreLine, IsLine, SaysNamedCall};
 ghost use Rattle.negotiate_lines.specs.Lines.{admitted_of, how_word, without_end_of};
 
@@ -10,11 +10,11 @@ use crate::event_words::EventWords;
 use crate::publish_subscribe_words::PublishSubscribeWords;
 use crate::request_response_words::RequestResponseWords;
 use iceoryx2_commands::command::{Call, Command, How, SLOTS, Settings};
-use iceoryx2_values::description::{ServiceName, ServiceNameError};
-use negotiate_words::call_word::Admitted;
-use negotiate_words::particulars::{CallParts, call_parts};
-use negotiate_words::vocabulary::HasVocabulary;
-use negotiate_words::word::{next_word, number, number_below};
+use iceoryx2_description::description::{ServiceName, ServiceNameError};
+use crate::call_word::Admitted;
+use crate::particulars::{CallParts, call_parts};
+use crate::vocabulary::HasVocabulary;
+use crate::word::{next_word, number, number_below};
 use std::alloc::{AllocError, Global};
 
 /// What a line says.
@@ -113,7 +113,7 @@ fn close_of(slot: &str) -> Line
 }
 
 /// The number of a slot.
-#[tactic(auto, using(negotiate_words::proofs::Numbers::numbers))]
+#[tactic(auto, using(crate::proofs::Numbers::numbers))]
 fn slot_number(word: &str) -> Option<usize>
     ensures { IsNumberOf slot_count word.now result }
 {

@@ -1,15 +1,15 @@
 //! What the settings of a service of publish-subscribe are called.
 
 ghost use Rattle.std.specs.Prelude.{◌≡◌};
-ghost use Rattle.negotiate_words.specs.Words.{Finds};
+ghost use Rattle.negotiate_lines.specs.Words.{Finds};
 ghost use Rattle.negotiate_lines.specs.PublishSubscribeWords.{SaysPlainSetting, publish_subscribe_vocabulary};
 ghost use Rattle.negotiate_lines.specs.PublishSubscribeMeanings.{publish_subscribe_words_are_unambiguous};
 
 use iceoryx2_publish_subscribe_builder::publish_subscribe::PublishSubscribeSetting;
-use negotiate_words::type_word::{alignment, type_detail};
-use negotiate_words::value::truth_value;
-use negotiate_words::vocabulary::HasVocabulary;
-use negotiate_words::word::number;
+use crate::type_word::{alignment, type_detail};
+use crate::value::truth_value;
+use crate::vocabulary::HasVocabulary;
+use crate::word::number;
 use std::alloc::{AllocError, Global};
 
 /// The name of a setting whose value takes no memory.

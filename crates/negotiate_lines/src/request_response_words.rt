@@ -1,19 +1,19 @@
 //! What the settings of a service of request-response are called.
 
 ghost use Rattle.std.specs.Prelude.{◌≡◌, IfOk};
-ghost use Rattle.negotiate_words.specs.Words.{Finds};
-ghost use Rattle.negotiate_words.specs.Values.{IsAlignmentWord, IsDetailWord, IsNatural, IsTruthWord};
-ghost use Rattle.negotiate_words.specs.Vocabulary.{Sets};
+ghost use Rattle.negotiate_lines.specs.Words.{Finds};
+ghost use Rattle.negotiate_lines.specs.Values.{IsAlignmentWord, IsDetailWord, IsNatural, IsTruthWord};
+ghost use Rattle.negotiate_lines.specs.Vocabulary.{Sets};
 ghost use Rattle.negotiate_lines.specs.RequestResponseWords.{alignment_setter, flag_setter, number_setter};
 ghost use Rattle.negotiate_lines.specs.RequestResponseWords.{request_response_vocabulary, type_setter};
 ghost use Rattle.negotiate_lines.specs.RequestResponseMeanings.{request_response_words_are_unambiguous};
 
 use self::RequestResponseSettingName::{Alignment, Flag, Number, Type};
 use iceoryx2_request_response_builder::request_response::RequestResponseSetting;
-use negotiate_words::type_word::{alignment, type_detail};
-use negotiate_words::value::truth_value;
-use negotiate_words::vocabulary::HasVocabulary;
-use negotiate_words::word::number;
+use crate::type_word::{alignment, type_detail};
+use crate::value::truth_value;
+use crate::vocabulary::HasVocabulary;
+use crate::word::number;
 use std::alloc::{AllocError, Global};
 
 /// The name of a setting that is a truth value.

@@ -8,7 +8,7 @@ use iceoryx2_builder::builder::{Builder, Node, event, publish_subscribe, request
 use iceoryx2_commands::command::{How, Refusal};
 use iceoryx2_port_factory::port_factory::Registration;
 use iceoryx2_types::types::{CustomHeaderMarker, CustomPayloadMarker, Slice};
-use iceoryx2_values::time::Time;
+use iceoryx2_description::time::Time;
 use std::alloc::Global;
 use std::process::Abort;
 

@@ -1,15 +1,15 @@
 //! The three patterns, with the services that the tests call for and what is published of them.
 
 use crate::support::name;
-use iceoryx2_attributes::attribute::AttributeSet;
+use iceoryx2_attribute::attribute::AttributeSet;
 use iceoryx2_types::types::publish_subscribe::Header;
 use iceoryx2_types::types::request_response::{RequestHeader, ResponseHeader};
 use iceoryx2_types::types::{
     CustomHeaderMarker, CustomPayloadMarker, MessageTypeDetails, TypeVariant, ZeroCopySend,
 };
-use iceoryx2_values::config::Config;
-use iceoryx2_values::description::{MessagingPattern, ServiceHash, StaticConfig};
-use iceoryx2_values::{event, publish_subscribe, request_response};
+use iceoryx2_description::config::Config;
+use iceoryx2_description::description::{MessagingPattern, ServiceHash, StaticConfig};
+use iceoryx2_description::{event, publish_subscribe, request_response};
 use std::alloc::Global;
 use std::process::Abort;
 

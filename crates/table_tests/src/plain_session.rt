@@ -5,7 +5,7 @@ use crate::body::Body;
 use crate::calls::{Called, MessageBuilder, RequestBuilder, close, messages, requests};
 use crate::plain::{Plain, PlainTable};
 use crate::support::push;
-use iceoryx2_attributes::attribute::{AttributeSpecifier, AttributeVerifier};
+use iceoryx2_attribute::attribute::{AttributeSpecifier, AttributeVerifier};
 use iceoryx2_builder::builder::{Node, event};
 use iceoryx2_commands::command::{
     Call, Command, EventSetting, How, PublishSubscribeSetting, Refusal, Reply,
@@ -13,10 +13,10 @@ use iceoryx2_commands::command::{
 };
 use iceoryx2_port_factory::port_factory::Registration;
 use iceoryx2_session::session::Session;
-use iceoryx2_storage::local::Local;
-use iceoryx2_storage::table::Table;
-use iceoryx2_values::config::Config;
-use iceoryx2_values::time::{ClockFault, Time};
+use iceoryx2_table::local::Local;
+use iceoryx2_table::table::Table;
+use iceoryx2_description::config::Config;
+use iceoryx2_description::time::{ClockFault, Time};
 use std::alloc::Global;
 use std::process::Abort;
 

@@ -3,15 +3,15 @@
 
 use crate::patterns::{NAME, Pattern};
 use iceoryx2_access::storage::Service;
-use iceoryx2_attributes::attribute::AttributeVerifier;
+use iceoryx2_attribute::attribute::AttributeVerifier;
 use iceoryx2_builder::builder::Node;
 use iceoryx2_builder::builder::event::Builder;
 use iceoryx2_commands::command::{
     Call, Command, EventSetting, How, PublishSubscribeSetting, RequestResponseSetting, Settings,
 };
-use iceoryx2_values::config::Config;
-use iceoryx2_values::description::ServiceName;
-use iceoryx2_values::time::Time;
+use iceoryx2_description::config::Config;
+use iceoryx2_description::description::ServiceName;
+use iceoryx2_description::time::Time;
 use iceoryx2_world::listing::Entry;
 use std::alloc::{AllocError, Global};
 use std::fmt::Debug;

@@ -1,7 +1,7 @@
 //! The byte form of descriptions with attributes.
 
 use super::*;
-use iceoryx2_attributes::attribute::AttributeSpecifier;
+use iceoryx2_attribute::attribute::AttributeSpecifier;
 
 /// A form up to its attributes: the hash, and the name `a`.
 const NAMED: &str = "494f5832011111111111111111111111111111111111111111000161";

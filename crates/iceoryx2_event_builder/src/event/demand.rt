@@ -8,7 +8,7 @@ ghost use Rattle.iceoryx2_event_builder.specs.Event.{deadline_value as value_of}
 ghost use Rattle.iceoryx2_event_builder.specs.Request.{fresh_demand, demand_with, demanded_deadline};
 
 use crate::event::setting::EventSetting;
-use iceoryx2_builder_base::zeros::raise_zero;
+use iceoryx2_builder_common::zeros::raise_zero;
 use iceoryx2_errors::error::{
     EventCreateError, EventOpenError, EventOpenOrCreateError, ServiceState,
 };
@@ -16,10 +16,10 @@ use iceoryx2_open_or_create::open_or_create::OpenOrCreateRefusal;
 use iceoryx2_open_or_create::retries::Retries;
 use iceoryx2_pattern::pattern::{CreateRefusal, OpenRefusal, Pattern};
 use iceoryx2_pattern::verdict::{need_at_least, need_duration, need_event};
-use iceoryx2_values::config;
-use iceoryx2_values::description::{MessagingPattern, StaticConfig};
-use iceoryx2_values::event::{self, Deadline};
-use iceoryx2_values::time::{Duration, Time};
+use iceoryx2_description::config;
+use iceoryx2_description::description::{MessagingPattern, StaticConfig};
+use iceoryx2_description::event::{self, Deadline};
+use iceoryx2_description::time::{Duration, Time};
 use std::alloc::AllocError;
 
 /// Which settings a builder of events requires.

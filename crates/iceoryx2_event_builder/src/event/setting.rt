@@ -1,7 +1,7 @@
 //! The setters of the builder of events, by name.
 
-use iceoryx2_values::event::EventId;
-use iceoryx2_values::time::Duration;
+use iceoryx2_description::event::EventId;
+use iceoryx2_description::time::Duration;
 
 /// One setter of the builder of events, with its value.
 #[derive(Clone, Copy, Debug, PartialEq, Eq)]

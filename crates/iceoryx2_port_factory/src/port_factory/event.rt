@@ -3,14 +3,14 @@
 ghost use Rattle.std.specs.Prelude.{◌≡◌, true};
 
 use crate::port_factory::factory::{self, Kind};
-use iceoryx2_values::description::MessagingPattern;
-use iceoryx2_values::event::StaticConfig;
+use iceoryx2_description::description::MessagingPattern;
+use iceoryx2_description::event::StaticConfig;
 
 /// Services of events.
 pub struct Events;
 
 impl Kind for Events {
-    ghost use Rattle.iceoryx2_values.specs.declared.description.MessagingPattern.TheVariants as pattern;
+    ghost use Rattle.iceoryx2_description.specs.declared.description.MessagingPattern.TheVariants as pattern;
     ghost use Rattle.iceoryx2_port_factory.specs.Patterns.{is_events};
 
     type StaticConfig = StaticConfig;

@@ -1,14 +1,14 @@
 //! The factory of a service, whatever its pattern.
 
 ghost use Rattle.std.specs.Prelude.{◌≡◌, Bool, true};
-ghost use Rattle.iceoryx2_values.specs.declared.description.MessagingPattern.{MessagingPattern};
+ghost use Rattle.iceoryx2_description.specs.declared.description.MessagingPattern.{MessagingPattern};
 ghost use Rattle.iceoryx2_access.specs.Run.{Joins};
 ghost use Rattle.iceoryx2_port_factory.specs.Closes.{IsCloseWord};
 
 use crate::port_factory::{CloseError, Registration};
 use iceoryx2_access::storage::Service;
-use iceoryx2_attributes::attribute::AttributeSet;
-use iceoryx2_values::description::{MessagingPattern, ServiceHash, ServiceName};
+use iceoryx2_attribute::attribute::AttributeSet;
+use iceoryx2_description::description::{MessagingPattern, ServiceHash, ServiceName};
 use std::marker::{Model, PhantomData};
 
 /// What tells the services of one pattern from those of others.

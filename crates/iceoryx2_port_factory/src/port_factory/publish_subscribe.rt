@@ -3,8 +3,8 @@
 ghost use Rattle.std.specs.Prelude.{◌≡◌, true};
 
 use crate::port_factory::factory::{self, Kind};
-use iceoryx2_values::description::MessagingPattern;
-use iceoryx2_values::publish_subscribe::StaticConfig;
+use iceoryx2_description::description::MessagingPattern;
+use iceoryx2_description::publish_subscribe::StaticConfig;
 use std::marker::PhantomData;
 
 /// Services of publish-subscribe with this payload and this user header.
@@ -14,7 +14,7 @@ pub struct PublishSubscribe<P, U> {
 }
 
 impl<P, U> Kind for PublishSubscribe<P, U> {
-    ghost use Rattle.iceoryx2_values.specs.declared.description.MessagingPattern.TheVariants as pattern;
+    ghost use Rattle.iceoryx2_description.specs.declared.description.MessagingPattern.TheVariants as pattern;
     ghost use Rattle.iceoryx2_port_factory.specs.Patterns.{is_publish_subscribe};
 
     type StaticConfig = StaticConfig;

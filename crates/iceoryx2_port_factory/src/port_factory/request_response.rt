@@ -3,8 +3,8 @@
 ghost use Rattle.std.specs.Prelude.{◌≡◌, true};
 
 use crate::port_factory::factory::{self, Kind};
-use iceoryx2_values::description::MessagingPattern;
-use iceoryx2_values::request_response::StaticConfig;
+use iceoryx2_description::description::MessagingPattern;
+use iceoryx2_description::request_response::StaticConfig;
 use std::marker::PhantomData;
 
 /// Services of request-response with these payloads and user headers of requests and of responses.
@@ -16,7 +16,7 @@ pub struct RequestResponse<Q, QU, R, RU> {
 }
 
 impl<Q, QU, R, RU> Kind for RequestResponse<Q, QU, R, RU> {
-    ghost use Rattle.iceoryx2_values.specs.declared.description.MessagingPattern.TheVariants as pattern;
+    ghost use Rattle.iceoryx2_description.specs.declared.description.MessagingPattern.TheVariants as pattern;
     ghost use Rattle.iceoryx2_port_factory.specs.Patterns.{is_request_response};
 
     type StaticConfig = StaticConfig;

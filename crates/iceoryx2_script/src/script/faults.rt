@@ -9,7 +9,7 @@ use iceoryx2_access::storage::{
     Existence, FetchError, LockError, MakeSegmentError, OpenSegmentError, PublishError, Release,
     ReleaseError, RemoveError, Service, Storage, Tag, TagError,
 };
-use iceoryx2_values::description::{ServiceHash, StaticConfig};
+use iceoryx2_description::description::{ServiceHash, StaticConfig};
 use std::marker::{Model, PhantomData};
 
 /// A storage that refuses chosen accesses of another. Accesses are counted from 1, refused ones too; one

@@ -4,4 +4,4 @@ pub use iceoryx2_errors::error::{EventCreateError, EventOpenError, EventOpenOrCr
 pub use iceoryx2_event_builder::event::{
     Builder, EventSetting, LETTER, demand, ends_at_once, laws, letter_is_e, setting,
 };
-pub use iceoryx2_values::event::EventId;
+pub use iceoryx2_description::event::EventId;

@@ -2,7 +2,7 @@
 use Rattle.std.proofs.Common.{◌≡◌, ℕ, ◌≤◌, Bool, true, false, cond, Option, Some, None, Err, refl, sym, ap, subst, ◌∙◌, arith}
 use Rattle.std.specs.Prelude.{nat_lt, ◌==◌}
 use Rattle.std.proofs.lemmas.Bool.Decides.{nat_tests}
-use Rattle.iceoryx2_values.specs.declared.description.ServiceHash.{ServiceHash}
+use Rattle.iceoryx2_description.specs.declared.description.ServiceHash.{ServiceHash}
 use Rattle.iceoryx2_world.specs.declared.world.Participant.{Participant}
 use Rattle.iceoryx2_world.specs.declared.world.Participant.TheVariants.{Node, Peer}
 use Rattle.iceoryx2_world.specs.declared.world.Phase.{Phase}

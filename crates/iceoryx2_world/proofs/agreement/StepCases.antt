@@ -7,14 +7,14 @@ use Rattle.std.specs.Cmp.{Equal-is, tied_itself}
 use Rattle.std.proofs.lemmas.Bool.Decides.{nat_tests}
 use Rattle.iceoryx2_world.specs.Sets as set
 use Rattle.iceoryx2_world.specs.declared.world.Participant.{Participant}
-use Rattle.iceoryx2_values.specs.declared.description.ServiceHash.{ServiceHash}
+use Rattle.iceoryx2_description.specs.declared.description.ServiceHash.{ServiceHash}
 use Rattle.iceoryx2_world.specs.declared.world.Phase.{Phase}
 use Rattle.iceoryx2_world.specs.declared.world.Phase.TheVariants as at
 use Rattle.iceoryx2_world.specs.declared.world.Row.{Row}
 use Rattle.iceoryx2_world.specs.declared.world.Row.TheVariants as row
 use Rattle.iceoryx2_world.specs.Orders.{hash_cmp, hash_exact, hash_total}
 use Rattle.iceoryx2_world.specs.World.{Segment, begins, locked_number, is_last}
-use Rattle.iceoryx2_values.specs.Description.{Description, max_nodes_of}
+use Rattle.iceoryx2_description.specs.Description.{Description, max_nodes_of}
 use Rattle.iceoryx2_world.specs.Acts.{Act, Read, Lock, RemoveSegment, RemoveDescription, Make, Publish, Join, Leave}
 use Rattle.iceoryx2_world.specs.StepCases.{IsStep, reads, locks, clears, makes, unmakes, unlocks, publishes, joins, joins_again, leaves_once, leaves, leaves_last, clears_last, ends}
 use Rattle.iceoryx2_world.specs.Steps.{Spot, spot_after, to_spot, new_segment, with_one, without_one, without_any, row_for, leave_of, has_room, has_others, fits, last_number}

@@ -11,7 +11,7 @@ use iceoryx2_access::storage::{Existence, Storage};
 use iceoryx2_commands::command::{How, Refusal};
 use iceoryx2_errors::error::EventCreateError;
 use iceoryx2_port_factory::port_factory::Registration;
-use iceoryx2_storage::local::Local;
+use iceoryx2_table::local::Local;
 use std::alloc::Global;
 use std::process::Abort;
 

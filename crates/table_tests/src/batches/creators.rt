@@ -5,8 +5,8 @@ use crate::body::Body;
 use crate::patterns::{Pattern, described, settings_of};
 use crate::plain::Plain;
 use crate::support::events;
-use iceoryx2_storage::local::Local;
-use iceoryx2_storage::table::{Act, Step};
+use iceoryx2_table::local::Local;
+use iceoryx2_table::table::{Act, Step};
 use std::alloc::Global;
 use std::process::Abort;
 

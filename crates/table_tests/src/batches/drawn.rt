@@ -6,8 +6,8 @@ use crate::patterns::{ALL, Offer, Pattern, service};
 use crate::plain::Plain;
 use crate::support::draw;
 use iceoryx2_access::storage::{Existence, Storage};
-use iceoryx2_storage::local::Local;
-use iceoryx2_storage::table::Step;
+use iceoryx2_table::local::Local;
+use iceoryx2_table::table::Step;
 use std::alloc::Global;
 use std::process::Abort;
 

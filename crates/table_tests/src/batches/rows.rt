@@ -8,7 +8,7 @@ use crate::plain::Plain;
 use crate::refusals::of_pattern;
 use iceoryx2_commands::command::{How, Refusal};
 use iceoryx2_script::script::{Faulty, FaultyService};
-use iceoryx2_storage::local::Local;
+use iceoryx2_table::local::Local;
 use iceoryx2_world::listing::Entry;
 use std::alloc::Global;
 use std::process::Abort;

@@ -1,4 +1,4 @@
-use Rattle.iceoryx2_rounds.proofs.Prepared.{granted_call}
+use Rattle.iceoryx2_create_and_open.proofs.Prepared.{granted_call}
 use Rattle.iceoryx2_open_or_create.proofs.Adjusting.{carries_once}
 use Rattle.iceoryx2_open_or_create.proofs.Granted.{granted_carries}
 use Rattle.iceoryx2_open_or_create.proofs.laws.granted_open_or_create_meets_or_holds.Goals as goal

@@ -1,4 +1,4 @@
-use Rattle.iceoryx2_rounds.proofs.Prepared.{granted_call}
+use Rattle.iceoryx2_create_and_open.proofs.Prepared.{granted_call}
 use Rattle.iceoryx2_open_or_create.proofs.Left.{granted_keeps}
 use Rattle.iceoryx2_open_or_create.proofs.laws.open_or_create_keeps_what_it_made.Goals as goal
 

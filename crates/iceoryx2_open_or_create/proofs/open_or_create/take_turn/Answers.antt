@@ -1,7 +1,7 @@
 use Rattle.std.proofs.Common.{sym, ◌∙◌}
 use Rattle.iceoryx2_access.proofs.Run.{joins, both}
 use Rattle.iceoryx2_open_or_create.specs.OpenOrCreates.{look_faulty, not_opened, opened, open_retried, not_created, created, create_retried}
-use Rattle.iceoryx2_rounds.proofs.LookSteps.{sees_fault, sees_none, sees_service}
+use Rattle.iceoryx2_create_and_open.proofs.LookSteps.{sees_fault, sees_none, sees_service}
 use Rattle.iceoryx2_open_or_create.proofs.open_or_create.take_turn.Goals as goal
 
 pub returns-in-Unclear : goal.returns-in-Unclear

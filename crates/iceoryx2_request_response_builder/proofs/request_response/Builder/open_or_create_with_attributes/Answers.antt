@@ -1,4 +1,4 @@
-use Rattle.iceoryx2_builder_base.proofs.Granted.{with_types, without_types}
+use Rattle.iceoryx2_builder_common.proofs.Granted.{with_types, without_types}
 use Rattle.iceoryx2_open_or_create.proofs.Granted.{joined_carries}
 use Rattle.iceoryx2_request_response_builder.proofs.Granted.{what_is_carried}
 use Rattle.iceoryx2_request_response_builder.proofs.request_response.Builder.open_or_create_with_attributes.Goals as goal

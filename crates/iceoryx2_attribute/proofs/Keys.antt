@@ -1,0 +1,84 @@
+-- Required keys in their order.
+use Rattle.std.proofs.Common.{◌≡◌, ℕ, ◌<◌, ◌≤◌, Bool, true, false, List, [], length, Result, Ok, Err, IfOk, IfErr, if◌then◌else◌, refl, sym, subst, ◌∙◌, arith}
+use Rattle.std.specs.Prelude.{bytes_eq}
+use Rattle.std.specs.List.{insert, list_any}
+use Rattle.std.specs.List.Sorted.{IsSearchInRange, IsBinarySearchResult}
+use Rattle.std.specs.Ordering.{is_eq}
+use Rattle.std.specs.Cmp.Lexicographic.{texts_ties, bytes_decides}
+use Rattle.std.proofs.lemmas.Cmp.{nat_list_cmp_total}
+use Rattle.std.proofs.lemmas.List.Edits.{length-insert}
+use Rattle.std.proofs.lemmas.List.Elements.{All-nil}
+use Rattle.std.proofs.lemmas.List.Folds.{Any-from_list_any}
+use Rattle.std.proofs.lemmas.Str.{is_utf8-from_IsUtf8}
+use Rattle.std.specs.Str.{IsUtf8}
+use Rattle.iceoryx2_attribute.specs.Additions.{HasKeyLength}
+use Rattle.std.proofs.lemmas.Map.Lookups.{exact_bytes}
+use Rattle.iceoryx2_attribute.specs.Ascending.{ascends_by}
+use Rattle.iceoryx2_attribute.specs.Attributes.{text_cmp, IsKey}
+use Rattle.iceoryx2_attribute.specs.Requirements.{AreKeys, key_before, lists_key, with_key}
+use Rattle.iceoryx2_attribute.specs.declared.attribute.TheConstants.{MAX_REQUIRED_KEYS}
+use Rattle.iceoryx2_attribute.proofs.Ascending as ascending
+
+lists_is : (keys : List (List ℕ)) (key : List ℕ) → lists_key keys key ≡ list_any (λ k. is_eq (text_cmp k key)) keys
+unfolding lists_key
+lists_is keys key = λ i. list_any (λ k. texts_ties k key i) keys
+
+-- ---- what a search finds
+
+if_found : (keys : List (List ℕ)) (key : List ℕ) → ascends_by key_before keys ≡ true → (r : Result ℕ ℕ) → IfOk r (λ _. list_any (λ k. is_eq (text_cmp k key)) keys ≡ true) → IfOk r (λ _. keys ≡ with_key keys key)
+unfolding key_before
+if_found keys key h (Ok i) found = ascending.same_with text_cmp nat_list_cmp_total exact_bytes keys key h found
+if_found keys key h (Err i) found = tt
+
+module _ (keys : List (List ℕ)) (key : List ℕ) (h : ascends_by key_before keys ≡ true) (r : Result ℕ ℕ) (within : IsSearchInRange r (length keys)) (is : IsBinarySearchResult (λ k. text_cmp k key) keys r) where
+  parts : IfOk r (λ _. list_any (λ k. is_eq (text_cmp k key)) keys ≡ true) × IfErr r (λ _. list_any (λ k. is_eq (text_cmp k key)) keys ≡ false)
+  unfolding key_before
+  parts = ascending.searched text_cmp nat_list_cmp_total (λ k. text_cmp k key) (ascending.indices_rise text_cmp nat_list_cmp_total key) keys h r within is
+
+  pub found : IfOk r (λ _. lists_key keys key ≡ true)
+  found = subst (λ b. IfOk r (λ _. b ≡ true)) (sym (lists_is keys key)) parts.0
+
+  pub absent : IfErr r (λ _. lists_key keys key ≡ false)
+  absent = subst (λ b. IfErr r (λ _. b ≡ false)) (sym (lists_is keys key)) parts.1
+
+  pub there : IfOk r (λ _. keys ≡ with_key keys key)
+  there = if_found keys key h r parts.0
+
+  pub place : IfErr r (λ at. insert keys at key ≡ with_key keys key)
+  unfolding key_before
+  place = ascending.gap text_cmp nat_list_cmp_total keys key h r within is
+
+-- ---- limits
+
+pub none_fit : AreKeys []
+unfolding ascends_by
+none_fit = record { few = omega arith; each = All-nil IsKey; ascending = refl }
+
+pub more_fit : (keys : List (List ℕ)) (at : ℕ) (key : List ℕ) → AreKeys keys → IsKey key → length keys < MAX_REQUIRED_KEYS → at ≤ length keys → insert keys at key ≡ with_key keys key → AreKeys (with_key keys key)
+unfolding key_before
+more_fit keys at key fits one few within is =
+    let size = length-insert keys at key within in
+    record {
+      few = rw (← is) (omega (arith, size));
+      each = ascending.all_with text_cmp nat_list_cmp_total IsKey keys key fits.each one;
+      ascending = ascending.ascends_with text_cmp nat_list_cmp_total keys key fits.ascending;
+    }
+
+-- what an insert of the key leaves
+pub after_insert : (ok : Bool) (keys new : List (List ℕ)) (at : ℕ) (key given : List ℕ) → AreKeys keys → IsKey key → length keys < MAX_REQUIRED_KEYS → at ≤ length keys → insert keys at key ≡ with_key keys key → given ≡ key → new ≡ (if ok then insert keys at given else keys) → AreKeys new
+after_insert true keys new at key given fits one few within is same e = rw (e, same, is) (more_fit keys at key fits one few within is)
+after_insert false keys new at key given fits one few within is same e = rw e fits
+
+-- ---- a key that is there
+
+pub there_is_key : (keys : List (List ℕ)) (key : List ℕ) → AreKeys keys → lists_key keys key ≡ true → IsKey key
+unfolding lists_key
+there_is_key keys key fits h =
+    let found = Any-from_list_any (λ k. bytes_eq k key) keys h in
+    let same = (bytes_decides found.1 key).0 found.4 in
+    subst IsKey (found.3 ∙ same) (fits.each found.0 found.1 found.2)
+
+-- ---- texts
+
+pub is_key : (key : List ℕ) → HasKeyLength key → IsUtf8 key → IsKey key
+is_key key fits text = record { long = fits.0; short = fits.1; utf8 = is_utf8-from_IsUtf8 key text }

@@ -1,0 +1,97 @@
+//! Pairs of a key and a value that a service has, and what a node requires of them.
+
+ghost use Rattle.std.specs.Prelude.{◌≡◌, ◌↔◌, IsTrue};
+ghost use Rattle.iceoryx2_attribute.specs.Additions.{HasKeyLength, HasValueLength};
+
+use std::error::Error;
+use std::fmt;
+
+mod keys;
+mod set;
+mod specifier;
+mod verifier;
+
+pub use keys::Key;
+pub use set::{Attribute, AttributeSet};
+pub use specifier::AttributeSpecifier;
+pub use verifier::AttributeVerifier;
+
+/// The length of the shortest key, in bytes.
+pub const MIN_KEY_LENGTH: usize = 1;
+
+/// The length of the longest key, in bytes.
+pub const MAX_KEY_LENGTH: usize = 64;
+
+/// The length of the longest value, in bytes. The shortest has none.
+pub const MAX_VALUE_LENGTH: usize = 256;
+
+/// How many pairs a set has at most.
+pub const MAX_ATTRIBUTES: usize = 64;
+
+/// How many keys may be required.
+pub const MAX_REQUIRED_KEYS: usize = 64;
+
+/// The limits as numbers, since a wrong constant would go with the definitions that cite it.
+pub fn limits()
+    ensures min_key { MIN_KEY_LENGTH ≡ 1 }
+    ensures max_key { MAX_KEY_LENGTH ≡ 64 }
+    ensures max_value { MAX_VALUE_LENGTH ≡ 256 }
+    ensures attributes { MAX_ATTRIBUTES ≡ 64 }
+    ensures required_keys { MAX_REQUIRED_KEYS ≡ 64 }
+{}
+
+/// Why a pair or a key isn't added. They are tested in this order.
+#[derive(Clone, Copy, Debug, PartialEq, Eq, Hash)]
+pub enum AttributeError {
+    /// The key has no byte, or more than 64.
+    KeyLength,
+    /// The value has more than 256 bytes.
+    ValueLength,
+    /// It isn't there yet, and 64 are.
+    TooMany,
+    /// There was no memory for it.
+    OutOfMemory,
+}
+
+impl fmt::Display for AttributeError {
+    ghost use Rattle.std.specs.Prelude.{Some};
+    ghost use Rattle.iceoryx2_attribute.specs.Errors.{attribute_error_text};
+
+    ghost output = { λ error. Some (attribute_error_text error) };
+
+    fn fmt<W: fmt::Write>(&self, f: &mut fmt::Formatter<W>) -> fmt::Result {
+        match self {
+            AttributeError::KeyLength => write!(f, "an attribute's key has 1 to 64 bytes"),
+            AttributeError::ValueLength => {
+                write!(f, "an attribute's value has at most 256 bytes")
+            }
+            AttributeError::TooMany => write!(f, "there are as many already as there may be"),
+            AttributeError::OutOfMemory => write!(f, "out of memory"),
+        }
+    }
+}
+
+impl Error for AttributeError {}
+
+/// Why a pair isn't put behind the others.
+#[derive(Clone, Copy, Debug, PartialEq, Eq)]
+pub enum PushError {
+    /// With it the pairs would not ascend, or it or their number would be past its limit.
+    Refused,
+    /// There was no memory for it.
+    OutOfMemory,
+}
+
+/// Whether a text has as many bytes as a key may have.
+fn has_key_length(key: &str) -> bool
+    ensures { IsTrue result ↔ HasKeyLength key.now }
+{
+    MIN_KEY_LENGTH <= key.len() && key.len() <= MAX_KEY_LENGTH
+}
+
+/// Whether a text has as many bytes as a value may have.
+fn has_value_length(value: &str) -> bool
+    ensures { IsTrue result ↔ HasValueLength value.now }
+{
+    value.len() <= MAX_VALUE_LENGTH
+}

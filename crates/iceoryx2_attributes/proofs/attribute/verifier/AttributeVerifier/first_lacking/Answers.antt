@@ -1,7 +1,0 @@
-use Rattle.std.proofs.Common.{rules}
-use Rattle.iceoryx2_attributes.specs.Requirements.{first_lacking}
-use Rattle.iceoryx2_attributes.proofs.attribute.verifier.AttributeVerifier.first_lacking.Goals as goal
-
-pub returns-in-Some : goal.returns-in-Some
-unfolding first_lacking
-returns-in-Some c = search rules

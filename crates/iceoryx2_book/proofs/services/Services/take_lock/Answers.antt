@@ -1,5 +1,0 @@
-use Rattle.std.proofs.Common.{rules}
-use Rattle.iceoryx2_book.proofs.services.Services.take_lock.Goals as goal
-
-pub lock-requires-clause-absent : goal.lock-requires-clause-absent
-lock-requires-clause-absent c = search rules

@@ -1,0 +1,9 @@
+pub mod Parts
+pub mod Grouped
+pub mod Times
+pub mod Messages
+pub mod PartBytes
+pub mod Fields
+pub mod Pairs
+pub mod EachByte
+pub mod Versions

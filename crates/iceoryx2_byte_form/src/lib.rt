@@ -1,0 +1,5 @@
+//! The byte form of a description, read and written.
+#![tactic(auto)]
+
+pub mod bytes;
+mod parts;

@@ -1,0 +1,122 @@
+-- What is so of the rounds of an open or create, and of a whole one.
+use Rattle.std.proofs.Common.{◌≡◌, ℕ, ◌≤◌, false, List, ◌++◌, Result, Ok, Err, refl, ap, ◌∙◌, arith}
+use Rattle.std.specs.FinMap as map
+use Rattle.iceoryx2_attribute.specs.Requirements.{Requirements}
+use Rattle.iceoryx2_description.specs.declared.description.ServiceHash.{ServiceHash}
+use Rattle.iceoryx2_description.specs.declared.time.ClockFault.{ClockFault}
+use Rattle.iceoryx2_description.specs.Span.{Span}
+use Rattle.iceoryx2_access.specs.Factory.{Factory}
+use Rattle.iceoryx2_access.specs.Letter.{Letter}
+use Rattle.iceoryx2_access.specs.Run.{Run, Each}
+use Rattle.iceoryx2_access.proofs.Run.{split}
+use Rattle.iceoryx2_world.specs.World.{World}
+use Rattle.iceoryx2_world.specs.Across.{Agrees}
+use Rattle.iceoryx2_world.specs.Faulty.{IsFaulty}
+use Rattle.iceoryx2_world.specs.Standing.{Stands, ticket_for}
+use Rattle.iceoryx2_world.proofs.agreement.Accesses.{run_keeps}
+use Rattle.iceoryx2_world.proofs.agreement.Calm.{Tame, ends, tame_both}
+use Rattle.iceoryx2_world.proofs.agreement.Stands.{each_append}
+use Rattle.iceoryx2_pattern.specs.Meaning.{Meaning}
+use Rattle.iceoryx2_open_or_create.specs.Retried.{Retried}
+use Rattle.iceoryx2_open_or_create.specs.declared.open_or_create.OpenOrCreateRefusal.{OpenOrCreateRefusal}
+use Rattle.iceoryx2_open_or_create.specs.OpenOrCreates.{IsRetriedTurn, open_retried, create_retried, IsLastTurn, look_faulty, not_opened, opened, not_created, created, AreRetriedTurns, no_turn, one_more, IsOpenOrCreateWord, ended, in_flux}
+use Rattle.iceoryx2_call_laws.specs.Calls.{AtEach, ActsCalmly, ChangesLast}
+use Rattle.iceoryx2_call_laws.specs.Tickets.{tickets_after}
+use Rattle.iceoryx2_call_laws.proofs.calls.Words.{IsNoRelease, look_letters, create_letters, open_letters}
+use Rattle.iceoryx2_call_laws.proofs.calls.Calm.{calm_at_each, look_tame, create_tame, open_tame, creates_after, opens_after}
+use Rattle.iceoryx2_call_laws.proofs.calls.Created.{create_stands}
+use Rattle.iceoryx2_call_laws.proofs.calls.Opened.{open_stands}
+use Rattle.iceoryx2_call_laws.proofs.calls.Tickets.{tame_tickets, create_tickets, open_tickets}
+
+module _ {D F E C : Type 0} {meaning : D → Meaning F E C} {adjusted : D → D} {retried : Retried E C} {required : Requirements} {node : ℕ} {hash : ServiceHash} {name : List ℕ} {now : Result Span ClockFault} where
+  -- ---- none releases a ticket
+
+  retried_letters : {asked next : D} {w : List Letter} → IsRetriedTurn meaning adjusted retried required node hash name now asked w next → Each IsNoRelease w
+  retried_letters (open_retried {u} l o _) = each_append IsNoRelease u _ (look_letters l) (open_letters o)
+  retried_letters (create_retried {u} l c _) = each_append IsNoRelease u _ (look_letters l) (create_letters c)
+
+  turns_letters : {first asked : D} {k : ℕ} {w : List Letter} → AreRetriedTurns meaning adjusted retried required node hash name now first k w asked → Each IsNoRelease w
+  turns_letters no_turn = tt
+  turns_letters (one_more {u} before t) = each_append IsNoRelease u _ (turns_letters before) (retried_letters t)
+
+  last_letters : {asked : D} {w : List Letter} {r : Result Factory (OpenOrCreateRefusal E C)} → IsLastTurn meaning adjusted retried required node hash name now asked w r → Each IsNoRelease w
+  last_letters (look_faulty l) = look_letters l
+  last_letters (not_opened {u} l o _) = each_append IsNoRelease u _ (look_letters l) (open_letters o)
+  last_letters (opened {u} l o) = each_append IsNoRelease u _ (look_letters l) (open_letters o)
+  last_letters (not_created {u} l c _) = each_append IsNoRelease u _ (look_letters l) (create_letters c)
+  last_letters (created {u} l c) = each_append IsNoRelease u _ (look_letters l) (create_letters c)
+
+  pub open_or_create_letters : {first : D} {w : List Letter} {r : Result Factory (OpenOrCreateRefusal E C)} → IsOpenOrCreateWord meaning adjusted retried required node hash name now first w r → Each IsNoRelease w
+  open_or_create_letters (ended {u} small before t) = each_append IsNoRelease u _ (turns_letters before) (last_letters t)
+  open_or_create_letters (in_flux before) = turns_letters before
+
+  -- ---- a refused one changes nothing
+
+  retried_tame : {asked next : D} {w : List Letter} → IsRetriedTurn meaning adjusted retried required node hash name now asked w next → Tame node hash false w false
+  retried_tame (open_retried l o _) = tame_both (look_tame l) (open_tame o)
+  retried_tame (create_retried l c _) = tame_both (look_tame l) (create_tame c)
+
+  turns_tame : {first asked : D} {k : ℕ} {w : List Letter} → AreRetriedTurns meaning adjusted retried required node hash name now first k w asked → Tame node hash false w false
+  turns_tame no_turn = ends
+  turns_tame (one_more before t) = tame_both (turns_tame before) (retried_tame t)
+
+  last_tame : {asked : D} {w : List Letter} {refusal : OpenOrCreateRefusal E C} → IsLastTurn meaning adjusted retried required node hash name now asked w (Err refusal) → Tame node hash false w false
+  last_tame (look_faulty l) = look_tame l
+  last_tame (not_opened l o _) = tame_both (look_tame l) (open_tame o)
+  last_tame (not_created l c _) = tame_both (look_tame l) (create_tame c)
+
+  open_or_create_tame : {first : D} {w : List Letter} {refusal : OpenOrCreateRefusal E C} → IsOpenOrCreateWord meaning adjusted retried required node hash name now first w (Err refusal) → Tame node hash false w false
+  open_or_create_tame (ended small before t) = tame_both (turns_tame before) (last_tame t)
+  open_or_create_tame (in_flux before) = turns_tame before
+
+  pub refused_open_or_create_calm : {first : D} {word : List Letter} {refusal : OpenOrCreateRefusal E C} (w : World) → IsOpenOrCreateWord meaning adjusted retried required node hash name now first word (Err refusal) → Agrees w → AtEach IsFaulty ActsCalmly w word
+  refused_open_or_create_calm w is old = calm_at_each w (open_or_create_tame is) tt old
+
+  -- ---- a granted one changes something in its last access
+
+  turn_changes : {asked : D} {x y : List Letter} {r : Factory} (w : World) → Tame node hash false x false → IsLastTurn meaning adjusted retried required node hash name now asked y (Ok r) → Agrees w → ChangesLast node hash w (x ++ y)
+  turn_changes {x} w before (opened {u} {v} l o) old = opens_after x u v w (tame_both before (look_tame l)) o old
+  turn_changes {x} w before (created {u} {v} l c) old = creates_after x u v w (tame_both before (look_tame l)) c old
+
+  pub granted_open_or_create_changes : {first : D} {word : List Letter} {r : Factory} (w : World) → IsOpenOrCreateWord meaning adjusted retried required node hash name now first word (Ok r) → Agrees w → ChangesLast node hash w word
+  granted_open_or_create_changes w (ended small before t) old = turn_changes w (turns_tame before) t old
+
+  -- ---- its factory stands
+
+  turn_stands : {asked : D} {word : List Letter} {r : Factory} {w v : World} → IsLastTurn meaning adjusted retried required node hash name now asked word (Ok r) → Run IsFaulty w word v → Agrees w → Stands v r × (w.counter ≤ r.ticket)
+  turn_stands (opened {u = x} {v = y} l o) run old =
+      let parts = split x y run in
+      let looked = run_keeps parts.first old in
+      let new = open_stands o parts.second looked.0 in
+      (new.stands, grind (arith, looked.1.counter, new.new_ticket))
+  turn_stands (created {u = x} {v = y} l c) run old =
+      let parts = split x y run in
+      let looked = run_keeps parts.first old in
+      let new = create_stands c parts.second looked.0 in
+      (new.0, grind (arith, looked.1.counter, new.3))
+
+  pub open_or_create_stands : {first : D} {word : List Letter} {r : Factory} {w v : World} → IsOpenOrCreateWord meaning adjusted retried required node hash name now first word (Ok r) → Run IsFaulty w word v → Agrees w → Stands v r × (w.counter ≤ r.ticket)
+  open_or_create_stands (ended {u = x} {v = y} small before t) run old =
+      let parts = split x y run in
+      let turns = run_keeps parts.first old in
+      let new = turn_stands t parts.second turns.0 in
+      (new.0, grind (arith, turns.1.counter, new.1))
+
+  -- ---- the tickets after it
+
+  turn_tickets : {asked : D} {word : List Letter} {r : Factory} {w v : World} → IsLastTurn meaning adjusted retried required node hash name now asked word (Ok r) → Run IsFaulty w word v → v.tickets ≡ map.insert w.tickets r.ticket (ticket_for r)
+  turn_tickets {r} (opened {u = x} {v = y} l o) run =
+      let parts = split x y run in
+      open_tickets (Ok r) o parts.second ∙ ap (λ k. map.insert k r.ticket (ticket_for r)) (tame_tickets {b = false} (look_tame l) parts.first)
+  turn_tickets {r} (created {u = x} {v = y} l c) run =
+      let parts = split x y run in
+      create_tickets (Ok r) refl c parts.second ∙ ap (λ k. map.insert k r.ticket (ticket_for r)) (tame_tickets {b = false} (look_tame l) parts.first)
+
+  granted_tickets : {first : D} {word : List Letter} {r : Factory} {w v : World} → IsOpenOrCreateWord meaning adjusted retried required node hash name now first word (Ok r) → Run IsFaulty w word v → v.tickets ≡ map.insert w.tickets r.ticket (ticket_for r)
+  granted_tickets {r} (ended {u = x} {v = y} small before t) run =
+      let parts = split x y run in
+      turn_tickets t parts.second ∙ ap (λ k. map.insert k r.ticket (ticket_for r)) (tame_tickets (turns_tame before) parts.first)
+
+  pub open_or_create_tickets : {first : D} {word : List Letter} (answer : Result Factory (OpenOrCreateRefusal E C)) {w v : World} → IsOpenOrCreateWord meaning adjusted retried required node hash name now first word answer → Run IsFaulty w word v → v.tickets ≡ tickets_after w.tickets answer
+  open_or_create_tickets (Ok r) is run = granted_tickets is run
+  open_or_create_tickets (Err e) is run = tame_tickets (open_or_create_tame is) run

@@ -1,0 +1,120 @@
+-- What follows of calls: refused ones, a create and its close, a node's second factory, an open that is accepted.
+use Rattle.std.proofs.Common.{◌≡◌, ℕ, ◌+◌, inl, inr, true, false, cond, List, Some, None, Result, Ok, Err, refl, sym, ap, subst, ◌∙◌, arith}
+use Rattle.std.specs.Prelude.{nat_lt, is_some, unwrap_or, IfErr}
+use Rattle.std.specs.FinMap as map
+use Rattle.std.specs.FinMap.{same_map, get-insert, get-remove}
+use Rattle.std.specs.Ordering.{is_eq}
+use Rattle.std.proofs.lemmas.Bool.Decides.{nat_tests}
+use Rattle.iceoryx2_description.specs.declared.description.ServiceHash.{ServiceHash}
+use Rattle.iceoryx2_description.specs.declared.time.ClockFault.{ClockFault}
+use Rattle.iceoryx2_description.specs.Description.{Description}
+use Rattle.iceoryx2_description.specs.Span.{Span}
+use Rattle.iceoryx2_world.specs.declared.world.Participant.{Participant}
+use Rattle.iceoryx2_world.specs.declared.world.Participant.TheVariants.{Node, Peer}
+use Rattle.iceoryx2_world.specs.Orders.{hash_cmp, hash_total, hash_exact}
+use Rattle.iceoryx2_world.specs.World.{World, segment_of, phase_of, join_count}
+use Rattle.iceoryx2_world.proofs.agreement.Whole.{same_hash}
+use Rattle.iceoryx2_pattern.specs.declared.pattern.OpenRefusal.TheVariants as refusal
+use Rattle.iceoryx2_pattern.specs.Meaning.{Meaning}
+use Rattle.iceoryx2_pattern.specs.Verdict.{verdict}
+use Rattle.iceoryx2_access.specs.Factory.{Factory}
+use Rattle.iceoryx2_call_laws.specs.Quiet.{QuietService, Quiet, ShowsService, Shows, service_at, times_counted, is_counted}
+use Rattle.iceoryx2_call_laws.specs.QuietCalls.{Creates, Opens, Closes, closed, HasPlace, HasNumber, first_counts, created_by, opened_by, closed_by, more_counts, fewer_counts, with_service, spend}
+use Rattle.iceoryx2_call_laws.specs.QuietCalls as call
+use Rattle.iceoryx2_call_laws.specs.QuietPrepared.{CreatesPrepared, OpensPrepared}
+use Rattle.iceoryx2_call_laws.specs.QuietLaws.{HoldsTheSame, HasNothingAt}
+use Rattle.iceoryx2_call_laws.proofs.quiet.Lift.{equal_or_not}
+use Rattle.iceoryx2_call_laws.proofs.quiet.Counts.{get_first_own, len_first, len_fewer_less, get_more_own, get_more_other}
+use Rattle.iceoryx2_call_laws.proofs.quiet.Same.{same_segment, joined_times, holds_the_same, nothing_at}
+use Rattle.iceoryx2_call_laws.proofs.quiet.Calls.{with_service_has}
+use Rattle.iceoryx2_call_laws.proofs.quiet.Prepared.{refused_prepared}
+
+module _ {F E C : Type 0} (m : Meaning F E C) (i : ℕ) (h : ServiceHash) where
+  -- a refused call keeps the services
+  pub create_refused : (name : List ℕ) (now : Result Span ClockFault) (q p : Quiet) (e : C) → Creates m q i h name now (Err e) p → p.services ≡ q.services
+  create_refused name now q p e (call.forbidden bad) = refl
+  create_refused name now q p e (call.exists x fits there) = refl
+  create_refused name now q p e (call.no_time fits gone stops) = refl
+  create_refused name now q p e (call.no_number fits gone runs end) = refl
+  create_refused name now q p e (call.no_memory fits) = refl
+  create_refused name now q p e (call.no_memory_locked fits gone runs room) = refl
+
+  pub open_refused : (q p : Quiet) (e : E) → Opens m q i h (Err e) p → p.services ≡ q.services
+  open_refused q p e (call.absent gone) = refl
+  open_refused q p e (call.misfit x there bad) = refl
+  open_refused q p e (call.not_accepted x there good unfit) = refl
+  open_refused q p e (call.no_place x there good fits none) = refl
+  open_refused q p e (call.no_number x there good fits place end) = refl
+  open_refused q p e (call.no_memory x there) = refl
+
+  pub refused_create : (name : List ℕ) (now : Result Span ClockFault) (w v : World) (q p : Quiet) (e : C) → Shows w q → Shows v p → CreatesPrepared m q i h name now (Err e) p → HoldsTheSame w v
+  refused_create name now w v q p e s t c = holds_the_same w v q p s t (refused_prepared (λ p. p.services ≡ q.services) refl (λ e p is. create_refused name now q p e is) c)
+
+  pub refused_open : (w v : World) (q p : Quiet) (e : E) → Shows w q → Shows v p → OpensPrepared m q i h (Err e) p → HoldsTheSame w v
+  refused_open w v q p e s t c = holds_the_same w v q p s t (refused_prepared (λ p. p.services ≡ q.services) refl (λ e p is. open_refused q p e is) c)
+
+-- the one node of a new service has closed it
+closed_again : (i : ℕ) (d : Description) (n : ℕ) → closed_by i 1 (created_by i d n) ≡ None
+closed_again i d n =
+    let len = len_fewer_less (first_counts i) i 1 refl (get_first_own i) in
+    let none : map.len (fewer_counts (first_counts i) i 1) ≡ 0 = omega (arith, len, len_first i) in
+    let gone : nat_lt 0 (map.len (fewer_counts (first_counts i) i 1)) ≡ false = grind (arith, nat_tests, none) in
+    ap (λ b. cond b (Some (record { description = d; number = n; counts = fewer_counts (first_counts i) i 1 })) None) gone
+
+-- a service that came has gone
+put_and_taken : (q : Quiet) (h : ServiceHash) (x : QuietService) → service_at q h ≡ None → map.remove (map.insert q.services h x) h ≡ q.services
+put_and_taken q h x gone = same_map hash_total hash_exact _ _ (λ g. get-remove hash_total (map.insert q.services h x) h g ∙ elim (is_eq (hash_cmp g h)) as (λ b. is_eq (hash_cmp g h) ≡ b → cond b None (map.get (map.insert q.services h x) g) ≡ map.get q.services g) [
+  | true ↦ λ e. sym (ap (map.get q.services) (same_hash g h e) ∙ gone)
+  | false ↦ λ e. get-insert hash_total q.services h x g ∙ ap (λ b. cond b (Some x) (map.get q.services g)) e
+] refl)
+
+close_of_new : (q : Quiet) (i : ℕ) (h : ServiceHash) (d : Description) (z : Quiet) → service_at q h ≡ None → Closes (spend (with_service q h (Some (created_by i d q.counter)))) i h z → (z.counter ≡ q.counter + 1) × (z.services ≡ q.services)
+close_of_new q i h d z gone (closed x k there counted) =
+    let y = created_by i d q.counter in
+    let same : x ≡ y = let is = sym there ∙ with_service_has q h y in cc in
+    let one : k ≡ 1 = let is = sym counted ∙ ap (λ z. times_counted z i) same ∙ get_first_own i in cc in
+    let none : closed_by i k x ≡ None = (λ j. closed_by i (one j) (same j)) ∙ closed_again i d q.counter in
+    (refl, ap (λ o. (with_service (spend (with_service q h (Some y))) h o).services) none ∙ put_and_taken q h y gone)
+
+module _ {F E C : Type 0} (m : Meaning F E C) (i : ℕ) (h : ServiceHash) where
+  -- A create and then the close of its factory leave nothing of the service, and one number is spent.
+  pub create_and_close : (name : List ℕ) (now : Result Span ClockFault) (w v : World) (q p z : Quiet) (r : Factory) → Shows w q → Shows v z → Creates m q i h name now (Ok r) p → Closes p r.node r.description.hash z → HasNothingAt v h × HoldsTheSame w v × (v.counter ≡ w.counter + 1)
+  create_and_close name now w v q p z r s t (call.created fits gone runs room) c =
+      let back = close_of_new q i h r.description z gone c in
+      (nothing_at v z h t (ap (λ k. map.get k h) back.1 ∙ gone), holds_the_same w v q z s t back.1, t.counter ∙ back.0 ∙ ap (λ n. n + 1) (sym s.counter))
+
+  still_counted : (x : QuietService) (k : ℕ) → times_counted x i ≡ Some k → (p : Participant) → is_counted (opened_by i x) p ≡ is_counted x p
+  still_counted x k e (Node j) = elim (equal_or_not j i) [
+    | inl is ↦ ap is_some (ap (times_counted (opened_by i x)) is ∙ get_more_own x.counts i) ∙ sym (ap is_some (ap (times_counted x) is ∙ e))
+    | inr other ↦ ap is_some (get_more_other x.counts i j other)
+  ]
+  still_counted x k e (Peer j) = refl
+
+  -- A further factory of a node takes no further place: the segment stays as it is, and the node's count rises by one.
+  pub opened_again : (w v : World) (q p : Quiet) (r : Factory) (x : QuietService) (k : ℕ) → Shows w q → Shows v p → service_at q h ≡ Some x → times_counted x i ≡ Some k → Opens m q i h (Ok r) p
+      → (segment_of v h ≡ segment_of w h) × (join_count (phase_of w (Node i) h) ≡ k) × (join_count (phase_of v (Node i) h) ≡ k + 1)
+  opened_again w v q p r x k s t there counted (call.opened y is_y good fits place room) =
+      let same : y ≡ x = let is = sym is_y ∙ there in cc in
+      let now : service_at p h ≡ Some (opened_by i x) = with_service_has q h (opened_by i y) ∙ ap (λ z. Some (opened_by i z)) same in
+      let before = subst (λ o. ShowsService w h o) there (s.services h) in
+      let after = subst (λ o. ShowsService v h o) now (t.services h) in
+      let times = ap (λ o. unwrap_or o 0) (get_more_own x.counts i) ∙ ap (λ o. unwrap_or o 0 + 1) counted in (
+        same_segment w v h x (more_counts x.counts i) before after (still_counted x k counted),
+        joined_times x.number _ (times_counted x i) (before.phases i) ∙ ap (λ o. unwrap_or o 0) counted,
+        joined_times x.number _ (times_counted (opened_by i x) i) (after.phases i) ∙ times,
+      )
+
+  -- An open that the requirement accepts, with a place and a number left, is Ok or wants memory.
+  pub accepted : (q p : Quiet) (x : QuietService) (r : Result Factory E) → service_at q h ≡ Some x → m.misfit x.description ≡ None → verdict (m.requirement x.description) ≡ Ok tt → HasPlace x i → HasNumber q → Opens m q i h r p → IfErr r (λ e. e ≡ m.open_refusal refusal.OutOfMemory)
+  accepted q p x r there good fits place room (call.absent gone) = let is = sym gone ∙ there in absurd (cc)
+  accepted q p x r there good fits place room (call.misfit y is_y bad) = let same : y ≡ x = let is = sym is_y ∙ there in cc in let is = sym good ∙ ap (λ z. m.misfit z.description) (sym same) ∙ bad in absurd (cc)
+  accepted q p x r there good fits place room (call.not_accepted y is_y _ unfit) = let same : y ≡ x = let is = sym is_y ∙ there in cc in let is = sym fits ∙ ap (λ z. verdict (m.requirement z.description)) (sym same) ∙ unfit in absurd (cc)
+  accepted q p x r there good fits place room (call.no_place y is_y _ _ none) =
+      let same : x ≡ y = let is = sym there ∙ is_y in cc in
+      elim (subst (λ z. HasPlace z i) same place) [
+        | inl e ↦ let is = sym e ∙ ap is_some none.0 in absurd (cc)
+        | inr e ↦ absurd (omega (arith, e, none.1))
+      ]
+  accepted q p x r there good fits place room (call.no_number y is_y _ _ _ end) = absurd (omega (arith, end, room))
+  accepted q p x r there good fits place room (call.opened y is_y _ _ _ _) = tt
+  accepted q p x r there good fits place room (call.no_memory y is_y) = refl

@@ -1,0 +1,136 @@
+//! What is true of whole calls over a table, whatever the pattern and whatever steps peers take.
+
+ghost use Rattle.std.specs.Prelude.{◌≡◌, ◌≢◌, List, Result, Ok, Err, None};
+ghost use Rattle.iceoryx2_world.specs.World.{World, phase_of, ticket_of};
+ghost use Rattle.iceoryx2_access.specs.Letter.{Letter};
+ghost use Rattle.iceoryx2_access.specs.Run.{Run, Each};
+ghost use Rattle.iceoryx2_world.specs.Agreement.{Later, IsSegmentOf};
+ghost use Rattle.iceoryx2_world.specs.Across.{Agrees};
+ghost use Rattle.iceoryx2_world.specs.Peers.{IsAccess};
+ghost use Rattle.iceoryx2_world.specs.Faulty.{IsFaulty};
+ghost use Rattle.iceoryx2_world.specs.Tables.{TableState, IsTableAccess};
+ghost use Rattle.iceoryx2_access.specs.Factory.{Factory};
+ghost use Rattle.iceoryx2_world.specs.Standing.{Spares, Stands};
+ghost use Rattle.iceoryx2_errors.specs.declared.error.CloseError.{CloseError};
+ghost use Rattle.iceoryx2_errors.specs.declared.error.CloseError.TheVariants.{NotHere};
+ghost use Rattle.iceoryx2_port_factory.specs.Closes.{IsCloseWord};
+ghost use Rattle.iceoryx2_create_and_open.specs.Counts.{IsWithin};
+ghost use Rattle.iceoryx2_call_laws.specs.CallLeaves.{LeavesBy};
+ghost use Rattle.iceoryx2_call_laws.specs.AnyCalls.{AnyCall, ErrorBy, IsShortBy, IsWordOf};
+ghost use Rattle.iceoryx2_call_laws.specs.Headline.{IsAsPromised, IsOpenAsAsked, IsOpenSince};
+ghost use Rattle.iceoryx2_call_laws.specs.Calls.{Throughout, AtEach, ActsCalmly, ChangesLast};
+ghost use Rattle.iceoryx2_call_laws.specs.Leaves.{IsGranted, LeavesNothing};
+ghost use Rattle.iceoryx2_call_laws.specs.Tickets.{tickets_after, tickets_after_close};
+
+/// Whatever a call does and whatever steps peers take within it, the world agrees after each
+/// access, and each open factory carries the one description of its service and stands there with
+/// its node, until its ticket is released.
+///
+/// A call is a word of its accesses. A create, an open and an open or create may prepare the types of
+/// their messages first; one that doesn't goes along a word of its grammar, which is a word of such a
+/// call too.
+/// Where nothing else is said, any access may be refused by a fault.
+pub fn agreement<D, F: Copy, E: Copy, C: Copy>()
+    // A table's own accesses, whatever batches wait before them, are accesses of its world after any
+    // steps of peers, and so accesses of which any may be refused. So what is said of runs over worlds is
+    // true of each run over a table.
+    ensures of_tables { (s t : TableState) (word : List Letter)
+        → Run IsTableAccess s word t → Run IsAccess s.world word t.world × Run IsFaulty s.world word t.world }
+
+    // Before, between and after the accesses of any word, so within each call and from call to
+    // call, the world agrees and is later than the first one.
+    ensures agrees { (word : List Letter) (w : World)
+        → Agrees w → Throughout IsFaulty (λ v. Agrees v × Later w v) w word }
+
+    // A factory that stands goes on standing whatever accesses follow, anybody's, refused ones and those of
+    // peers among them, as long as none of them is a granted release of its own ticket.
+    ensures stands { (word : List Letter) (w : World) (f : Factory)
+        → Each (Spares f) word → Agrees w → Stands w f → Throughout IsFaulty (λ v. Stands v f) w word }
+
+    // A standing factory's segment has as many places as its description has nodes, and in it are
+    // at most so many participants, each of them registered under the factory's number.
+    ensures among { (w : World) (f : Factory)
+        → Agrees w → (s : Stands w f)
+        → IsSegmentOf f.description f.number (λ p. phase_of w p f.description.hash) s.segment.segment }
+
+    // Every open factory stands. Of every call, whichever it is and whatever it answers: it is within fixed
+    // counts; after each of its accesses, whatever steps peers take, each factory that was open is open; and the
+    // factory with which it answered Ok has a new ticket, is of its caller and its service, meets what was
+    // asked or holds what was published, and is open until its own ticket is released: it carries the one
+    // published description of its hash, its segment is there, and its node is among at most `max_nodes`.
+    ensures every_open_factory_stands { (c : AnyCall D F E C) (word : List Letter)
+        (answer : Result Factory (ErrorBy E C c.way)) (s t : TableState)
+        → IsWordOf c word answer → Run IsTableAccess s word t → Agrees s.world
+        → IsAsPromised IsTableAccess (λ u. u.world) c s word answer t }
+
+    // So it is over any world that agrees, and whichever accesses are refused by a fault.
+    ensures in_any_world { (c : AnyCall D F E C) (word : List Letter)
+        (answer : Result Factory (ErrorBy E C c.way)) (w v : World)
+        → IsWordOf c word answer → Run IsFaulty w word v → Agrees w
+        → IsAsPromised IsFaulty (λ u. u) c w word answer v }
+
+    // The same by history: at any state that a table comes to after some call answered Ok with a factory, and before
+    // the release of its ticket, this factory is open, with what that call asked.
+    ensures open_until_released { (c : AnyCall D F E C) (f : Factory) (s : TableState)
+        → IsOpenSince IsTableAccess (λ u. u.world) c f s → IsOpenAsAsked c s.world f }
+
+    // Every call is short over every storage: its word alone tells so.
+    ensures is_short { (c : AnyCall D F E C) (word : List Letter) (answer : Result Factory (ErrorBy E C c.way))
+        → IsWordOf c word answer → IsShortBy c.way word }
+
+    // Two standing factories of one service carry the same description and number.
+    ensures one_description { (w : World) (f g : Factory)
+        → Stands w f → Stands w g → f.description.hash ≡ g.description.hash
+        → (f.number ≡ g.number) × (f.description ≡ g.description) }
+
+    // A call that answers Ok adds exactly its factory's ticket, and one that is refused changes no ticket.
+    ensures tickets { (c : AnyCall D F E C) (word : List Letter)
+        (answer : Result Factory (ErrorBy E C c.way)) (w v : World)
+        → IsWordOf c word answer → Run IsFaulty w word v → v.tickets ≡ tickets_after w.tickets answer }
+
+    // Without the steps of peers, a refused call changes no published description and no count in any access,
+    ensures refused { (c : AnyCall D F E C) (word : List Letter) (refusal : ErrorBy E C c.way) (w : World)
+        → IsWordOf c word (Err refusal) → Agrees w → AtEach IsFaulty ActsCalmly w word }
+
+    // and a granted one does so in exactly one, its last.
+    ensures granted { (c : AnyCall D F E C) (word : List Letter) (r : Factory) (w : World)
+        → IsWordOf c word (Ok r) → Agrees w → ChangesLast c.asks.node c.asks.hash w word }
+
+    // A refused call leaves nothing of its own but that for which a removal was refused.
+    ensures leaves { (c : AnyCall D F E C) (word : List Letter) (refusal : ErrorBy E C c.way) (w v : World)
+        → IsWordOf c word (Err refusal) → Run IsFaulty w word v → Agrees w → LeavesBy c c.way w word v }
+
+    // Where nothing is refused by a fault, each of its removals answers Ok, and nothing of its own stays but
+    // the phase Read and spent numbers.
+    ensures gives_back { (c : AnyCall D F E C) (word : List Letter) (refusal : ErrorBy E C c.way) (w v : World)
+        → IsWordOf c word (Err refusal) → Run IsAccess w word v → Agrees w
+        → Each IsGranted word × LeavesNothing c.asks.node c.asks.hash word w v }
+
+    // Each factory with another ticket that stands before a close stands throughout it.
+    ensures close_spares { (r : Factory) (word : List Letter) (answer : Result (Unit {0}) (CloseError Factory))
+        (w : World) (f : Factory)
+        → IsCloseWord r word answer → Agrees w → f.ticket ≢ r.ticket
+        → Stands w f → Throughout IsFaulty (λ v. Stands v f) w word }
+
+    // What a close hands back is the factory that it was given. It stands on, if it stood.
+    ensures not_here { (r s : Factory) (word : List Letter) (w : World)
+        → IsCloseWord r word (Err (NotHere s)) → Agrees w
+        → (s ≡ r) × (Stands w r → Throughout IsFaulty (λ v. Stands v r) w word) }
+
+    // A close that hands its factory back changes no ticket, and any other takes exactly its own out.
+    ensures close_tickets { (r : Factory) (word : List Letter) (answer : Result (Unit {0}) (CloseError Factory))
+        (w v : World)
+        → IsCloseWord r word answer → Run IsFaulty w word v
+        → v.tickets ≡ tickets_after_close w.tickets r answer }
+
+    // Where nothing is refused by a fault, the close of a standing factory answers Ok, and its
+    // ticket is gone.
+    ensures closed { (r : Factory) (word : List Letter) (answer : Result (Unit {0}) (CloseError Factory))
+        (w v : World)
+        → IsCloseWord r word answer → Run IsAccess w word v → Agrees w → Stands w r
+        → (answer ≡ Ok tt) × (ticket_of v r.ticket ≡ None) }
+
+    // A close looks nowhere and opens nothing. It removes at most one segment.
+    ensures close_is_short { (r : Factory) (word : List Letter) (answer : Result (Unit {0}) (CloseError Factory))
+        → IsCloseWord r word answer → IsWithin word 0 0 0 1 }
+{}

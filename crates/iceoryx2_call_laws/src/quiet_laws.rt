@@ -1,0 +1,183 @@
+//! What the calls make of a table that nobody else uses.
+
+ghost use Rattle.std.specs.Prelude.{◌≡◌, ◌↔◌, ℕ, ◌+◌, ◌<◌, ◌≤◌, List, Result, Ok, Err, Option, Some, None};
+ghost use Rattle.std.specs.Prelude.{IsTrue, IfErr};
+ghost use Rattle.std.specs.FinMap as map;
+ghost use Rattle.iceoryx2_description.specs.declared.description.ServiceHash.{ServiceHash};
+ghost use Rattle.iceoryx2_description.specs.declared.time.ClockFault.{ClockFault};
+ghost use Rattle.iceoryx2_description.specs.Description.{max_nodes_of};
+ghost use Rattle.iceoryx2_description.specs.Span.{Span};
+ghost use Rattle.iceoryx2_world.specs.declared.listing.Entry.{Entry};
+ghost use Rattle.iceoryx2_world.specs.declared.world.Participant.TheVariants.{Node};
+ghost use Rattle.iceoryx2_world.specs.declared.world.Ticket.{Ticket};
+ghost use Rattle.iceoryx2_world.specs.World.{World, segment_of, phase_of, tag_of, empty_world};
+ghost use Rattle.iceoryx2_world.specs.World.{ticket_of, ticket_count, join_count};
+ghost use Rattle.iceoryx2_access.specs.Letter.{Letter};
+ghost use Rattle.iceoryx2_access.specs.Run.{Run};
+ghost use Rattle.iceoryx2_world.specs.Access.{IsOwnPart};
+ghost use Rattle.iceoryx2_world.specs.Across.{Agrees};
+ghost use Rattle.iceoryx2_world.specs.Standing.{Stands, ticket_for};
+ghost use Rattle.iceoryx2_world.specs.Listing.{Lists};
+ghost use Rattle.iceoryx2_pattern.specs.declared.pattern.OpenRefusal.TheVariants.{OutOfMemory};
+ghost use Rattle.iceoryx2_errors.specs.declared.error.CloseError.{CloseError};
+ghost use Rattle.iceoryx2_pattern.specs.Meaning.{Meaning};
+ghost use Rattle.iceoryx2_pattern.specs.Regular.{IsRegular};
+ghost use Rattle.iceoryx2_pattern.specs.Verdict.{verdict};
+ghost use Rattle.iceoryx2_access.specs.Factory.{Factory};
+ghost use Rattle.iceoryx2_create_and_open.specs.Creates.{IsCreateWord, time_of};
+ghost use Rattle.iceoryx2_create_and_open.specs.Opens.{IsOpenWord};
+ghost use Rattle.iceoryx2_create_and_open.specs.OwnSettings.{AcceptsOwn};
+ghost use Rattle.iceoryx2_create_and_open.specs.Prepared.{IsCreateCall, IsOpenCall};
+ghost use Rattle.iceoryx2_port_factory.specs.Closes.{IsCloseWord};
+ghost use Rattle.iceoryx2_open_or_create.specs.Adjusting.{OnlyRaises};
+ghost use Rattle.iceoryx2_call_laws.specs.AnyCalls.{AnyCall, creating, opening};
+ghost use Rattle.iceoryx2_call_laws.specs.Headline.{IsOpenAsAsked};
+ghost use Rattle.iceoryx2_call_laws.specs.Quiet.{Quiet, QuietService, Shows, no_service, service_at, times_counted};
+ghost use Rattle.iceoryx2_call_laws.specs.QuietCalls.{Creates, Opens, Closes, HasPlace, HasNumber};
+ghost use Rattle.iceoryx2_call_laws.specs.QuietPrepared.{CreatesPrepared, OpensPrepared};
+ghost use Rattle.iceoryx2_call_laws.specs.Attempts.{Attempt, IsAttempted, IsAttemptWord};
+ghost use Rattle.iceoryx2_call_laws.specs.QuietAttempts.{Attempts, AttemptsPrepared, IsSteady};
+ghost use Rattle.iceoryx2_open_or_create.specs.declared.open_or_create.OpenOrCreateRefusal.{OpenOrCreateRefusal};
+ghost use Rattle.iceoryx2_call_laws.specs.QuietLists.{listing};
+ghost use Rattle.iceoryx2_call_laws.specs.QuietLaws.{IsCall, IsClose, HasOpened, HasServiceOf};
+ghost use Rattle.iceoryx2_call_laws.specs.QuietLaws.{HoldsTheSame, HasNothingAt, times_opened};
+
+/// What holds of a table that nobody else uses, whatever the patterns of its services.
+pub fn quiet_laws()
+    // A world in which nothing is there shows the machine without a service.
+    ensures empty { (c : ℕ) → Shows (empty_world c) (no_service c) }
+
+    // To close a factory whose ticket is there is Ok, and it is the machine's close.
+    ensures close { (r : Factory) (w v : World) (q : Quiet)
+        (word : List Letter) (answer : Result (Unit {0}) (CloseError Factory))
+        → Shows w q → Agrees w → ticket_of w r.ticket ≡ Some (ticket_for r)
+        → IsCloseWord r word answer → Run IsOwnPart w word v
+        → (answer ≡ Ok tt) × IsClose w q r v }
+
+    // Who has a ticket has opened its service.
+    ensures ticket { (w : World) (q : Quiet) (t : ℕ) (x : Ticket)
+        → Shows w q → Agrees w → ticket_of w t ≡ Some x → HasOpened q x.node x.hash x.number }
+
+    // What a standing factory carries is the machine's description of its service,
+    ensures standing { (w : World) (q : Quiet) (f : Factory) → Shows w q → Stands w f → HasServiceOf q f }
+
+    // and a node has as many tickets for a service as the machine counts.
+    ensures tickets { (w : World) (q : Quiet) (node : ℕ) (hash : ServiceHash)
+        → Shows w q → Agrees w → ticket_count w.tickets node hash ≡ times_opened q node hash }
+
+    // The tags are those of the nodes that the machine counts.
+    ensures tags { (w : World) (q : Quiet) (node : ℕ) (hash : ServiceHash)
+        → Shows w q → IsTrue (tag_of w node hash) ↔ (1 ≤ times_opened q node hash) }
+
+    // What stands at each service is told by the machine's services.
+    ensures same { (w v : World) (q p : Quiet)
+        → Shows w q → Shows v p → p.services ≡ q.services → HoldsTheSame w v }
+
+    // Of a service that the machine doesn't have nothing is there.
+    ensures absent { (w : World) (q : Quiet) (hash : ServiceHash)
+        → Shows w q → service_at q hash ≡ None → HasNothingAt w hash }
+
+    // Where no ticket is left, no service is, and nothing of any.
+    ensures unused { (w : World) (q : Quiet)
+        → Shows w q → Agrees w → ((t : ℕ) → ticket_of w t ≡ None)
+        → (q.services ≡ map.empty) × ((hash : ServiceHash) → HasNothingAt w hash) }
+
+    // What is listed are the machine's services.
+    ensures list { (w : World) (q : Quiet) (entries : List Entry)
+        → Shows w q → Lists w entries → entries ≡ listing q }
+{}
+
+/// What holds of the calls of each pattern over such a table.
+pub fn quiet_calls<D, F: Copy, E: Copy, C: Copy>()
+    // A create over a world that shows the machine is the machine's create.
+    ensures create { (m : Meaning F E C) (node : ℕ) (hash : ServiceHash) (name : List ℕ)
+        (now : Result Span ClockFault) (w v : World) (q : Quiet) (word : List Letter) (answer : Result Factory C)
+        → IsRegular m → 0 < max_nodes_of (m.published (time_of now)) → Shows w q → Agrees w
+        → IsCreateWord m node hash name now word answer → Run IsOwnPart w word v
+        → IsCall w (Creates m q node hash name now answer) answer v }
+
+    // And so is an open, whatever its rounds.
+    ensures open { (m : Meaning F E C) (node : ℕ) (hash : ServiceHash)
+        (w v : World) (q : Quiet) (word : List Letter) (answer : Result Factory E)
+        → IsRegular m → Shows w q → Agrees w
+        → IsOpenWord m node hash word answer → Run IsOwnPart w word v
+        → IsCall w (Opens m q node hash answer) answer v }
+
+    // An open or create is the machine's create where there is no service, and else its open: its first
+    // round is its last, where the refusals of that machine are not tried again.
+    ensures open_or_create { (a : Attempt D F E C) (w v : World) (q : Quiet) (word : List Letter)
+        (answer : Result Factory (OpenOrCreateRefusal E C))
+        → IsSteady a → Shows w q → Agrees w
+        → IsAttemptWord a word answer → Run IsOwnPart w word v
+        → IsCall w (Attempts a q answer) answer v }
+
+    // Where they may prepare their types first, they are the machine's, or want memory and change nothing.
+    ensures prepared_create { (m : Meaning F E C) (node : ℕ) (hash : ServiceHash) (name : List ℕ)
+        (now : Result Span ClockFault) (w v : World) (q : Quiet) (word : List Letter) (answer : Result Factory C)
+        → IsRegular m → 0 < max_nodes_of (m.published (time_of now)) → Shows w q → Agrees w
+        → IsCreateCall m node hash name now word answer → Run IsOwnPart w word v
+        → IsCall w (CreatesPrepared m q node hash name now answer) answer v }
+    ensures prepared_open { (m : Meaning F E C) (node : ℕ) (hash : ServiceHash)
+        (w v : World) (q : Quiet) (word : List Letter) (answer : Result Factory E)
+        → IsRegular m → Shows w q → Agrees w
+        → IsOpenCall m node hash word answer → Run IsOwnPart w word v
+        → IsCall w (OpensPrepared m q node hash answer) answer v }
+
+    ensures prepared_open_or_create { (a : Attempt D F E C) (w v : World) (q : Quiet) (word : List Letter)
+        (answer : Result Factory (OpenOrCreateRefusal E C))
+        → IsSteady a → Shows w q → Agrees w
+        → IsAttempted a word answer → Run IsOwnPart w word v
+        → IsCall w (AttemptsPrepared a q answer) answer v }
+
+    // A refused call changes no description, segment, tag or count. This and what follows is said of calls that
+    // may prepare their types first; each call of the machine is one of these too.
+    ensures refused_create { (m : Meaning F E C) (node : ℕ) (hash : ServiceHash) (name : List ℕ)
+        (now : Result Span ClockFault) (w v : World) (q p : Quiet) (error : C)
+        → Shows w q → Shows v p → CreatesPrepared m q node hash name now (Err error) p → HoldsTheSame w v }
+    ensures refused_open { (m : Meaning F E C) (node : ℕ) (hash : ServiceHash)
+        (w v : World) (q p : Quiet) (error : E)
+        → Shows w q → Shows v p → OpensPrepared m q node hash (Err error) p → HoldsTheSame w v }
+
+    ensures refused_open_or_create { (a : Attempt D F E C) (w v : World) (q p : Quiet)
+        (refusal : OpenOrCreateRefusal E C)
+        → Shows w q → Shows v p → AttemptsPrepared a q (Err refusal) p → HoldsTheSame w v }
+
+    // A create and then the close of its factory leave nothing of that service and the rest as it
+    // was, and one number is spent.
+    ensures create_and_close { (m : Meaning F E C) (node : ℕ) (hash : ServiceHash) (name : List ℕ)
+        (now : Result Span ClockFault) (w v : World) (q p z : Quiet) (r : Factory)
+        → Shows w q → Shows v z
+        → CreatesPrepared m q node hash name now (Ok r) p → Closes p r.node r.description.hash z
+        → HasNothingAt v hash × HoldsTheSame w v × (v.counter ≡ w.counter + 1) }
+
+    // A further factory of a node takes no further place: the segment stays as it is, and the
+    // node's count rises by one.
+    ensures again { (m : Meaning F E C) (node : ℕ) (hash : ServiceHash)
+        (w v : World) (q p : Quiet) (r : Factory) (x : QuietService) (k : ℕ)
+        → Shows w q → Shows v p → service_at q hash ≡ Some x → times_counted x node ≡ Some k
+        → OpensPrepared m q node hash (Ok r) p
+        → (segment_of v hash ≡ segment_of w hash)
+        × (join_count (phase_of w (Node node) hash) ≡ k)
+        × (join_count (phase_of v (Node node) hash) ≡ k + 1) }
+
+    // While a service stands that fits and that the requirement accepts, and a place and a number
+    // are left, an open is Ok or wants memory.
+    ensures accepted { (m : Meaning F E C) (node : ℕ) (hash : ServiceHash)
+        (q p : Quiet) (x : QuietService) (answer : Result Factory E)
+        → service_at q hash ≡ Some x → m.misfit x.description ≡ None
+        → verdict (m.requirement x.description) ≡ Ok tt → HasPlace x node → HasNumber q
+        → OpensPrepared m q node hash answer p
+        → IfErr answer (λ e. e ≡ m.open_refusal OutOfMemory) }
+
+    // What a call of a builder has given the same builder opens, whichever node calls, if it accepts what it
+    // creates and its create only raises minima: while the factory is open, whatever came between, with a place
+    // and a number left, the open is Ok or out of memory.
+    ensures own_settings { (c : AnyCall D F E C) (node : ℕ) (q p : Quiet) (f : Factory) (w : World)
+        (answer : Result Factory E)
+        → AcceptsOwn (creating c) (opening c) c.asks.hash c.asks.name c.asks.now
+        → OnlyRaises c.asks.meaning c.asks.adjusted
+        → IsOpenAsAsked c w f → Shows w q
+        → ((x : QuietService) → service_at q c.asks.hash ≡ Some x → HasPlace x node) → HasNumber q
+        → OpensPrepared (opening c) q node c.asks.hash answer p
+        → IfErr answer (λ e. e ≡ (opening c).open_refusal OutOfMemory) }
+{}

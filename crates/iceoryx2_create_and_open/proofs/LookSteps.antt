@@ -1,0 +1,61 @@
+use Rattle.std.proofs.Common.{◌≡◌, ◌⊎◌, ◌≢◌, ◌∙◌, ℕ, List, Option, Ok, Some, None, Bool, true, false, not, nat_eq, inl, inr, refl, ap, subst, sym}
+use Rattle.std.specs.Cmp.Lexicographic.{pointwise, same_text, other_text}
+use Rattle.iceoryx2_description.specs.declared.description.ServiceHash.{ServiceHash}
+use Rattle.iceoryx2_access.specs.declared.storage.Existence.{Existence}
+use Rattle.iceoryx2_access.specs.declared.storage.Existence.TheVariants as existence
+use Rattle.iceoryx2_description.specs.Description.{Description}
+use Rattle.iceoryx2_access.specs.Letter.{Letter}
+use Rattle.iceoryx2_byte_form.specs.Form.{IsForm}
+use Rattle.iceoryx2_pattern.specs.Meaning.{Meaning}
+use Rattle.iceoryx2_create_and_open.specs.declared.look.Outcome.{Outcome}
+use Rattle.iceoryx2_create_and_open.specs.declared.look.Outcome.TheVariants.{Nothing, Found, Faulty}
+use Rattle.iceoryx2_create_and_open.specs.declared.look.Sight.TheVariants as sight
+use Rattle.iceoryx2_create_and_open.specs.Looks.{MayBeThere, yes, being_set_up, LeadsTo, misfit, fits, IsLookWord, found_unless, sight_of}
+
+pub may_be_there : (there : Existence) → (there ≡ existence.Yes) ⊎ (there ≡ existence.BeingSetUp) → MayBeThere there
+may_be_there there (inl e) = subst MayBeThere (sym e) yes
+may_be_there there (inr e) = subst MayBeThere (sym e) being_set_up
+
+is_false : (b : Bool) → not b ≡ true → false ≡ b
+is_false true h = h
+is_false false h = refl
+
+is_true : (b : Bool) → not b ≡ false → true ≡ b
+is_true true h = refl
+is_true false h = h
+
+-- what the comparison of two hashes tells
+pub other_hashes : (a b : ServiceHash) (r : Bool) → r ≡ not (pointwise nat_eq a.0 b.0) → r ≡ true → a ≢ b
+other_hashes a b r e h s = other_text a.0 b.0 (is_false (pointwise nat_eq a.0 b.0) (sym e ∙ h)) (ap (λ (x : ServiceHash). x.0) s)
+
+pub same_hashes : (a b : ServiceHash) (r : Bool) → r ≡ not (pointwise nat_eq a.0 b.0) → r ≡ false → a ≡ b
+same_hashes a b r e h = let same = same_text a.0 b.0 (is_true (pointwise nat_eq a.0 b.0) (sym e ∙ h)) in λ i. record { 0 = same i }
+
+-- a description that is read, whatever is seen in it
+pub read_unless : {F E C : Type 0} {m : Meaning F E C} {hash : ServiceHash} {number : ℕ} {bytes : List ℕ} {d : Description}
+    → IsForm d bytes → d.hash ≡ hash → (fault : Option F) → m.misfit d ≡ fault → LeadsTo m hash (Ok (number, bytes)) (found_unless fault number d)
+read_unless form same (Some fault) is = misfit form same is
+read_unless form same None is = fits form same is
+
+-- some service is found by this word
+pub record Finds {F E C : Type 0} (m : Meaning F E C) (node : ℕ) (hash : ServiceHash) (word : List Letter) : Type 0 where
+  pub number : ℕ
+  pub description : Description
+  pub look : IsLookWord m node hash word (Found number description)
+
+-- what was seen of an outcome
+module _ {F E C : Type 0} {m : Meaning F E C} {node : ℕ} {hash : ServiceHash} {word : List Letter} where
+  pub sees_none : (outcome : Outcome F) → sight.Absent ≡ sight_of outcome → IsLookWord m node hash word outcome → IsLookWord m node hash word Nothing
+  sees_none Nothing e look = look
+  sees_none (Found n d) e look = cc
+  sees_none (Faulty fault) e look = cc
+
+  pub sees_fault : {fault : F} (outcome : Outcome F) → sight.Unclear fault ≡ sight_of outcome → IsLookWord m node hash word outcome → IsLookWord m node hash word (Faulty fault)
+  sees_fault Nothing e look = cc
+  sees_fault (Found n d) e look = cc
+  sees_fault {fault} (Faulty other) e look = let same : fault ≡ other = cc in rw same look
+
+  pub sees_service : (outcome : Outcome F) → sight.Present ≡ sight_of outcome → IsLookWord m node hash word outcome → Finds m node hash word
+  sees_service Nothing e look = cc
+  sees_service (Found n d) e look = record { number = n; description = d; look = look }
+  sees_service (Faulty fault) e look = cc

@@ -1,0 +1,59 @@
+-- The words of a look, with what it finds: one row a line, the first that fits.
+use Rattle.std.specs.Prelude.{◌≡◌, ◌≢◌, ℕ, List, [], ◌∷◌, Result, Ok, Err, Option, Some, None}
+use Rattle.iceoryx2_description.specs.declared.description.ServiceHash.{ServiceHash}
+use Rattle.iceoryx2_description.specs.Description.{Description}
+use Rattle.iceoryx2_byte_form.specs.Form.{IsForm}
+use Rattle.iceoryx2_access.specs.declared.storage.Existence.{Existence}
+use Rattle.iceoryx2_access.specs.declared.storage.Existence.TheVariants as existence
+use Rattle.iceoryx2_access.specs.declared.storage.FetchError.{FetchError}
+use Rattle.iceoryx2_access.specs.declared.storage.FetchError.TheVariants as fetch
+use Rattle.iceoryx2_access.specs.Letter.{Letter, Exists, Fetch}
+use Rattle.iceoryx2_pattern.specs.Meaning.{Meaning}
+use Rattle.iceoryx2_errors.specs.declared.error.ServiceState.TheVariants as state
+use Rattle.iceoryx2_create_and_open.specs.declared.look.Outcome.{Outcome}
+use Rattle.iceoryx2_create_and_open.specs.declared.look.Outcome.TheVariants.{Nothing, Found, Faulty}
+use Rattle.iceoryx2_create_and_open.specs.declared.look.Sight.{Sight}
+use Rattle.iceoryx2_create_and_open.specs.declared.look.Sight.TheVariants as sight
+
+-- Something may be there to be fetched.
+pub data MayBeThere : Existence → Type 0 where
+  yes : MayBeThere existence.Yes
+  being_set_up : MayBeThere existence.BeingSetUp
+
+-- What a fetch leads to. Reading the bytes may want memory.
+module _ {F E C : Type 0} (m : Meaning F E C) (hash : ServiceHash) where
+  pub data LeadsTo : Result (ℕ × List ℕ) FetchError → Outcome F → Type 0 where
+    gone : LeadsTo (Err fetch.DoesNotExist) Nothing
+    not_finalized : LeadsTo (Err fetch.NotFinalized) (Faulty (m.fault state.HangsInCreation))
+    not_opened : LeadsTo (Err fetch.OpenFault) (Faulty (m.fault state.InsufficientPermissions))
+    not_read : LeadsTo (Err fetch.ReadFault) (Faulty (m.fault state.InsufficientPermissions))
+    not_fetched : LeadsTo (Err fetch.OutOfMemory) (Faulty (m.fault state.OutOfMemory))
+    not_decoded : {n : ℕ} {bytes : List ℕ} → LeadsTo (Ok (n, bytes)) (Faulty (m.fault state.OutOfMemory))
+    malformed : {n : ℕ} {bytes : List ℕ} → ((d : Description) → IsForm d bytes → ⊥)
+        → LeadsTo (Ok (n, bytes)) (Faulty (m.fault state.Corrupted))
+    other_hash : {n : ℕ} {bytes : List ℕ} {d : Description} → IsForm d bytes → d.hash ≢ hash
+        → LeadsTo (Ok (n, bytes)) (Faulty (m.fault state.Corrupted))
+    misfit : {n : ℕ} {bytes : List ℕ} {d : Description} {fault : F} → IsForm d bytes → d.hash ≡ hash
+        → m.misfit d ≡ Some fault → LeadsTo (Ok (n, bytes)) (Faulty fault)
+    fits : {n : ℕ} {bytes : List ℕ} {d : Description} → IsForm d bytes → d.hash ≡ hash
+        → m.misfit d ≡ None → LeadsTo (Ok (n, bytes)) (Found n d)
+
+-- One `exists`, and a `fetch` where something may be there.
+module _ {F E C : Type 0} (m : Meaning F E C) (node : ℕ) (hash : ServiceHash) where
+  pub data IsLookWord : List Letter → Outcome F → Type 0 where
+    absent : IsLookWord (Exists hash existence.No ∷ []) Nothing
+    broken : IsLookWord (Exists hash existence.Fault ∷ []) (Faulty (m.fault state.Corrupted))
+    fetched : {there : Existence} {answer : Result (ℕ × List ℕ) FetchError} {outcome : Outcome F}
+        → MayBeThere there → LeadsTo m hash answer outcome
+        → IsLookWord (Exists hash there ∷ Fetch node hash answer ∷ []) outcome
+
+-- A service that was read, unless a fault was seen in it.
+abbrev pub found_unless : {F : Type 0} → Option F → ℕ → Description → Outcome F
+found_unless (Some fault) number d = Faulty fault
+found_unless None number d = Found number d
+
+-- What a look finds, without the number and the description.
+abbrev pub sight_of : {F : Type 0} → Outcome F → Sight F
+sight_of Nothing = sight.Absent
+sight_of (Found number d) = sight.Present
+sight_of (Faulty fault) = sight.Unclear fault

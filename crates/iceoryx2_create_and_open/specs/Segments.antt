@@ -1,0 +1,30 @@
+-- The words of a create's segment part, with what comes of it.
+use Rattle.std.specs.Prelude.{◌≢◌, ◌<◌, ◌≤◌, ℕ, zero, suc, List, [], ◌∷◌, ◌++◌, Result, Ok, Err}
+use Rattle.iceoryx2_description.specs.declared.description.ServiceHash.{ServiceHash}
+use Rattle.iceoryx2_access.specs.declared.storage.MakeSegmentError.{MakeSegmentError}
+use Rattle.iceoryx2_access.specs.declared.storage.MakeSegmentError.TheVariants as make
+use Rattle.iceoryx2_access.specs.declared.storage.RemoveError.{RemoveError}
+use Rattle.iceoryx2_access.specs.Letter.{Letter, MakeSegment, RemoveSegment}
+use Rattle.iceoryx2_create_and_open.specs.declared.create.TheConstants.{CLEARING_LIMIT}
+use Rattle.iceoryx2_pattern.specs.declared.pattern.CreateRefusal.{CreateRefusal}
+use Rattle.iceoryx2_pattern.specs.declared.pattern.CreateRefusal.TheVariants as create_refusal
+use Rattle.iceoryx2_create_and_open.specs.Refusals.{of_make, of_remove}
+
+module _ (node : ℕ) (hash : ServiceHash) (number max_nodes : ℕ) where
+  -- a segment that was left is found
+  abbrev pub finds : Letter
+  finds = MakeSegment node hash number max_nodes (Err make.AlreadyExists)
+
+  -- so many times a segment that was left is found and removed
+  abbrev pub clearings : ℕ → List Letter
+  clearings zero = []
+  clearings (suc k) = clearings k ++ finds ∷ RemoveSegment node hash (Ok tt) ∷ []
+
+  pub data IsSegmentWord : List Letter → Result (Unit {0}) CreateRefusal → Type 0 where
+    made : (k : ℕ) → k ≤ CLEARING_LIMIT
+        → IsSegmentWord (clearings k ++ MakeSegment node hash number max_nodes (Ok tt) ∷ []) (Ok tt)
+    not_made : (k : ℕ) (e : MakeSegmentError) → k ≤ CLEARING_LIMIT → e ≢ make.AlreadyExists
+        → IsSegmentWord (clearings k ++ MakeSegment node hash number max_nodes (Err e) ∷ []) (Err (of_make e))
+    not_removed : (k : ℕ) (e : RemoveError) → k < CLEARING_LIMIT
+        → IsSegmentWord (clearings k ++ finds ∷ RemoveSegment node hash (Err e) ∷ []) (Err (of_remove e))
+    still_there : IsSegmentWord (clearings CLEARING_LIMIT ++ finds ∷ []) (Err create_refusal.ServiceInCorruptedState)

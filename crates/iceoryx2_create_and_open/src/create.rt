@@ -1,0 +1,305 @@
+//! How a service is created.
+
+ghost use Rattle.std.specs.Prelude.{◌≡◌, IfOk};
+ghost use Rattle.iceoryx2_access.specs.Run.{Joins};
+ghost use Rattle.iceoryx2_pattern.specs.OwnAttributes.{defining};
+ghost use Rattle.iceoryx2_create_and_open.specs.Answers.{map_ok};
+ghost use Rattle.iceoryx2_create_and_open.specs.Creates as creates;
+ghost use Rattle.iceoryx2_create_and_open.specs.Creates.{IsCreateWord, IsRestOfCreate, IsObstacle, IsServiceWord};
+ghost use Rattle.iceoryx2_create_and_open.specs.Creates.{description_of, factory_of};
+ghost use Rattle.iceoryx2_create_and_open.specs.Refusals.{of_lock, of_make, of_publish, of_remove, of_tag};
+ghost use Rattle.iceoryx2_create_and_open.specs.Segments.{IsSegmentWord};
+
+use crate::give_back::{give_back_lock, give_back_segment, give_back_tag};
+use crate::look::{Sight, look};
+use iceoryx2_access::storage::{
+    LockError, MakeSegmentError, PublishError, RemoveError, Storage, Tag, TagError,
+};
+use iceoryx2_attribute::attribute::AttributeSet;
+use iceoryx2_pattern::pattern::{CreateRefusal, Pattern};
+use iceoryx2_port_factory::port_factory::Registration;
+use iceoryx2_description::description::{ServiceHash, ServiceName, StaticConfig};
+use iceoryx2_description::time::{ClockFault, Time};
+use std::alloc::AllocError;
+
+/// How many segments of others a create removes before it gives up on making its own.
+pub const CLEARING_LIMIT: u64 = 5;
+
+/// The limit is five.
+pub fn clearing_limit_is_five()
+    ensures { CLEARING_LIMIT ≡ 5 }
+{}
+
+fn tag_refusal(error: TagError) -> CreateRefusal
+    ensures { result ≡ of_tag error }
+{
+    match error {
+        TagError::Fault => CreateRefusal::InternalFailure,
+        TagError::OutOfMemory => CreateRefusal::OutOfMemory,
+    }
+}
+
+fn lock_refusal(error: LockError) -> CreateRefusal
+    ensures { result ≡ of_lock error }
+{
+    match error {
+        LockError::AlreadyExists => CreateRefusal::AlreadyExists,
+        LockError::Creation => CreateRefusal::IsBeingCreatedByAnotherInstance,
+        LockError::InsufficientPermissions => CreateRefusal::InsufficientPermissions,
+        LockError::Other => CreateRefusal::InternalFailure,
+        LockError::OutOfMemory => CreateRefusal::OutOfMemory,
+    }
+}
+
+fn make_refusal(error: MakeSegmentError) -> CreateRefusal
+    ensures { result ≡ of_make error }
+{
+    match error {
+        MakeSegmentError::AlreadyExists => CreateRefusal::ServiceInCorruptedState,
+        MakeSegmentError::InsufficientPermissions => CreateRefusal::InsufficientPermissions,
+        MakeSegmentError::Other => CreateRefusal::InternalFailure,
+        MakeSegmentError::OutOfMemory => CreateRefusal::OutOfMemory,
+    }
+}
+
+fn remove_refusal(error: RemoveError) -> CreateRefusal
+    ensures { result ≡ of_remove error }
+{
+    match error {
+        RemoveError::InsufficientPermissions => CreateRefusal::InsufficientPermissions,
+        RemoveError::Other => CreateRefusal::InternalFailure,
+    }
+}
+
+fn publish_refusal(error: PublishError) -> CreateRefusal
+    ensures { result ≡ of_publish error }
+{
+    match error {
+        PublishError::Other => CreateRefusal::ServiceInCorruptedState,
+        PublishError::OutOfMemory => CreateRefusal::OutOfMemory,
+    }
+}
+
+/// Whether the clock stops a create.
+fn clock_stops(needs_clock: bool, now: &Result<Time, ClockFault>) -> bool
+    ensures { result ≡ creates.clock_stops needs_clock now.now }
+{
+    match now {
+        Ok(_) => false,
+        Err(_) => needs_clock,
+    }
+}
+
+/// The call's own copy of what it publishes, with the caller as its creator.
+fn describe<P: Pattern>(
+    pattern: &P,
+    node: u64,
+    hash: &ServiceHash,
+    name: &ServiceName,
+    attributes: &AttributeSet,
+    now: Result<Time, ClockFault>,
+) -> Result<StaticConfig, AllocError>
+    ensures { let meaning = defining attributes.now (P.meaning pattern.now) in
+        IfOk result (λ copy. copy ≡ description_of meaning node hash.now name.now now) }
+{
+    let time = match now {
+        Ok(time) => time,
+        Err(_) => Time::default(),
+    };
+    let name = name.clone()?;
+    let attributes = attributes.clone()?;
+    let published = pattern.published(time)?;
+    let description = StaticConfig::new(*hash, name, attributes, published);
+    Ok(description.with_creator(node))
+}
+
+/// Makes the segment, and before each further attempt removes what was left of another.
+fn make_own_segment<S: Storage>(
+    node: u64,
+    hash: &ServiceHash,
+    number: u64,
+    max_nodes: u64,
+    storage: &mut S,
+) -> Result<(), CreateRefusal>
+    ensures { Joins S.step storage.old
+        (λ word. IsSegmentWord node hash.now number max_nodes word result) storage.new }
+{
+    for _removed in 0..CLEARING_LIMIT {
+        match storage.make_segment(node, hash, number, max_nodes) {
+            Ok(()) => return Ok(()),
+            Err(error) => match error {
+                MakeSegmentError::AlreadyExists => {}
+                _ => return Err(make_refusal(error)),
+            },
+        }
+        match storage.remove_segment(node, hash) {
+            Ok(()) => {}
+            Err(error) => return Err(remove_refusal(error)),
+        }
+    }
+    match storage.make_segment(node, hash, number, max_nodes) {
+        Ok(()) => Ok(()),
+        Err(error) => match error {
+            MakeSegmentError::AlreadyExists => Err(CreateRefusal::ServiceInCorruptedState),
+            _ => Err(make_refusal(error)),
+        },
+    }
+}
+
+/// Looks, and asks for the node: why the hash isn't free for it, if it isn't.
+fn obstacle<P: Pattern, S: Storage>(
+    pattern: &P,
+    node: u64,
+    hash: &ServiceHash,
+    storage: &mut S,
+) -> Option<P::CreateError>
+    ensures { Joins S.step storage.old
+        (λ word. IsObstacle (P.meaning pattern.now) node hash.now word result) storage.new }
+{
+    match look(pattern, node, hash, storage).sight() {
+        Sight::Unclear(fault) => return Some(pattern.create_error_of(fault)),
+        Sight::Present => return Some(pattern.create_refusal(CreateRefusal::AlreadyExists)),
+        Sight::Absent => {}
+    }
+    if storage.counts(node, hash) {
+        return Some(pattern.create_refusal(CreateRefusal::ServiceInCorruptedState));
+    }
+    None
+}
+
+/// Creates a service of this hash and name, with these attributes.
+///
+/// Zeros that a create raises become one first. `now` is the creation time of a pattern that has
+/// one. A refused create gives back, in this order, the segment, the lock and the tag that it
+/// made; it tries each, and a refused removal doesn't change its answer.
+pub fn create<P: Pattern, S: Storage>(
+    pattern: &mut P,
+    node: u64,
+    hash: &ServiceHash,
+    name: &ServiceName,
+    attributes: &AttributeSet,
+    now: Result<Time, ClockFault>,
+    storage: &mut S,
+) -> Result<Registration, P::CreateError>
+    ensures adjusted { pattern.new ≡ P.adjusted pattern.old }
+    ensures word { let meaning = defining attributes.now (P.meaning (P.adjusted pattern.old)) in
+        Joins S.step storage.old (λ word. IsCreateWord meaning node hash.now name.now now word result) storage.new }
+{
+    pattern.adjust();
+    create_adjusted(pattern, node, hash, name, attributes, now, storage)
+}
+
+/// Creates a service with settings as they are.
+fn create_adjusted<P: Pattern, S: Storage>(
+    pattern: &P,
+    node: u64,
+    hash: &ServiceHash,
+    name: &ServiceName,
+    attributes: &AttributeSet,
+    now: Result<Time, ClockFault>,
+    storage: &mut S,
+) -> Result<Registration, P::CreateError>
+    ensures { let meaning = defining attributes.now (P.meaning pattern.now) in
+        Joins S.step storage.old (λ word. IsCreateWord meaning node hash.now name.now now word result) storage.new }
+{
+    match pattern.history_refusal() {
+        Some(error) => return Err(error),
+        None => {}
+    }
+    match obstacle(pattern, node, hash, storage) {
+        Some(error) => return Err(error),
+        None => {}
+    }
+    let stops = clock_stops(pattern.needs_clock(), &now);
+    match describe(pattern, node, hash, name, attributes, now) {
+        Ok(description) => {
+            let created = make_tagged(pattern, node, hash, stops, &description, storage);
+            registration_of(node, created, description)
+        }
+        Err(_) => Err(pattern.create_refusal(CreateRefusal::OutOfMemory)),
+    }
+}
+
+/// Where a created service stands.
+struct Created {
+    number: u64,
+    /// Its creator's.
+    ticket: u64,
+}
+
+/// The registration of the node that created a service of this description.
+fn registration_of<E>(
+    node: u64,
+    created: Result<Created, E>,
+    description: StaticConfig,
+) -> Result<Registration, E>
+    ensures { result ≡ map_ok (factory_of node description) created }
+{
+    match created {
+        Ok(created) => {
+            let Created { number, ticket } = created;
+            Ok(Registration::new(node, number, ticket, description))
+        }
+        Err(error) => Err(error),
+    }
+}
+
+/// Makes the tag, and then the service, where the clock doesn't stop it.
+fn make_tagged<P: Pattern, S: Storage>(
+    pattern: &P,
+    node: u64,
+    hash: &ServiceHash,
+    clock_stops: bool,
+    description: &StaticConfig,
+    storage: &mut S,
+) -> Result<Created, P::CreateError>
+    ensures { let answer = map_ok (factory_of node description.now) result in
+        let meaning = P.meaning pattern.now in Joins S.step storage.old
+        (λ word. IsRestOfCreate meaning node hash.now clock_stops description.now word answer) storage.new }
+{
+    let tag = match storage.make_tag(node, hash) {
+        Ok(tag) => tag,
+        Err(error) => return Err(pattern.create_refusal(tag_refusal(error))),
+    };
+    if clock_stops {
+        give_back_tag(node, hash, tag, storage);
+        return Err(pattern.create_refusal(CreateRefusal::InternalFailure));
+    }
+    make_service(pattern, node, hash, tag, description, storage)
+}
+
+/// Locks the hash, makes the segment, and publishes the description.
+fn make_service<P: Pattern, S: Storage>(
+    pattern: &P,
+    node: u64,
+    hash: &ServiceHash,
+    tag: Tag,
+    description: &StaticConfig,
+    storage: &mut S,
+) -> Result<Created, P::CreateError>
+    ensures { let answer = map_ok (factory_of node description.now) result in Joins S.step storage.old
+        (λ word. IsServiceWord (P.meaning pattern.now) node hash.now description.now tag word answer) storage.new }
+{
+    let number = match storage.lock(node, hash) {
+        Ok(number) => number,
+        Err(error) => {
+            give_back_tag(node, hash, tag, storage);
+            return Err(pattern.create_refusal(lock_refusal(error)));
+        }
+    };
+    let max_nodes = description.max_nodes();
+    match make_own_segment(node, hash, number, max_nodes, storage) {
+        Ok(()) => {}
+        Err(refusal) => {
+            give_back_lock(node, hash, tag, storage);
+            return Err(pattern.create_refusal(refusal));
+        }
+    }
+    match storage.publish(node, hash, number, description) {
+        Ok(ticket) => Ok(Created { number, ticket }),
+        Err(error) => {
+            give_back_segment(node, hash, tag, storage);
+            Err(pattern.create_refusal(publish_refusal(error)))
+        }
+    }
+}

@@ -1,4 +1,0 @@
-pub mod Fields
-pub mod Pairs
-pub mod EachByte
-pub mod Versions

@@ -1,8 +1,0 @@
--- The texts of errors.
-use Rattle.std.specs.Prelude.{ℕ, List, codes}
-use Rattle.iceoryx2_parts.specs.declared.reading.DecodeError.{DecodeError}
-use Rattle.iceoryx2_parts.specs.declared.reading.DecodeError.TheVariants as decode
-
-abbrev pub decode_error_text : DecodeError → List ℕ
-decode_error_text decode.Malformed = codes "the bytes are no description"
-decode_error_text decode.OutOfMemory = codes "out of memory"

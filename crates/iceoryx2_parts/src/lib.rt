@@ -1,5 +1,0 @@
-//! Single parts of the byte form: numbers, texts, times and types, read and written.
-#![tactic(auto)]
-
-pub mod reading;
-pub mod writing;

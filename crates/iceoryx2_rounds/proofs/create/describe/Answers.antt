@@ -1,6 +1,0 @@
-use Rattle.std.proofs.Common.{rules}
-use Rattle.iceoryx2_rounds.proofs.create.describe.Goals.{in-Ok, in-Err}
-use Rattle.iceoryx2_rounds.proofs.create.describe.Goals as goal
-
-pub returns : goal.returns
-returns g c = elim c.match-now.branch [ in-Ok w ↦ search rules | in-Err w ↦ search rules ]

@@ -1,8 +1,0 @@
-use Rattle.iceoryx2_access.specs.Run.{Joins}
-use Rattle.iceoryx2_pattern.specs.OwnAttributes.{requiring}
-use Rattle.iceoryx2_rounds.specs.Opens.{AreFailedRounds}
-use Rattle.iceoryx2_rounds.proofs.open.open.Given as goal
-
-abbrev pub invariant-loop-round : goal.invariant-loop-round
-invariant-loop-round g l =
-    Joins g.S.Storage.step l.fn.storage (AreFailedRounds (requiring l.verifier (g.P.Pattern.meaning l.pattern)) l.node l.hash l._round) l.storage

@@ -1,5 +1,0 @@
-use Rattle.std.proofs.Common.{rules}
-use Rattle.iceoryx2_storage.proofs.table.stored.is_held.Goals as goal
-
-pub returns-then-is_eq : goal.returns-then-is_eq
-returns-then-is_eq c = search rules

@@ -1,0 +1,127 @@
+-- The own parts of accesses, from what was tested and done.
+use Rattle.std.proofs.Common.{◌≡◌, ℕ, ◌+◌, Bool, true, false, Option, Some, None, inl, inr, refl, sym, ap, subst, ◌∙◌}
+use Rattle.std.specs.Prelude.{Result, Ok, Err, nat_lt, ◌&&◌, ◌==◌, if◌then◌else◌}
+use Rattle.std.specs.FinMap as map
+use Rattle.iceoryx2_description.specs.declared.description.ServiceHash.{ServiceHash}
+use Rattle.iceoryx2_description.specs.Description.{Description}
+use Rattle.iceoryx2_world.specs.Sets as set
+use Rattle.iceoryx2_world.specs.declared.world.Row.{Row}
+use Rattle.iceoryx2_world.specs.declared.world.Participant.TheVariants.{Node}
+use Rattle.iceoryx2_world.specs.declared.world.Phase.{Phase}
+use Rattle.iceoryx2_world.specs.declared.world.Phase.TheVariants as at
+use Rattle.iceoryx2_access.specs.declared.storage.PublishError.{PublishError}
+use Rattle.iceoryx2_access.specs.declared.storage.PublishError.TheVariants as Publishing
+use Rattle.iceoryx2_access.specs.declared.storage.MakeSegmentError.TheVariants as Making
+use Rattle.iceoryx2_world.specs.Orders.{tag_cmp}
+use Rattle.iceoryx2_world.specs.World.{World, Segment, or_idle, Tickets}
+use Rattle.iceoryx2_world.specs.Acts as act
+use Rattle.iceoryx2_world.specs.Steps.{Spot, spot_after, to_spot, row_for}
+use Rattle.iceoryx2_access.specs.Letter.{Letter, caller_of, service_of}
+use Rattle.iceoryx2_access.specs.declared.storage.OpenSegmentError.{OpenSegmentError}
+use Rattle.iceoryx2_world.specs.Access.{Seat, Change, nothing, spot_becomes_with, with_ticket, opening_of, read_change, publishing_of, has_made, has_lock, make_of, spot_becomes, or_refused, IsSeatAnswer, IsOwnPart, IsAnswer, IsSureAnswer, seat, write}
+use Rattle.iceoryx2_table.proofs.Views.{both_true}
+use Rattle.iceoryx2_table.specs.Book.{Book, TakesStep, step_at, world_with, segment_fits}
+
+-- what was shown of the fields, of the value
+pub part : {a w v : World} (l : Letter) (c : Change) → a ≡ w → IsSeatAnswer (caller_of l) (service_of l) (seat a (caller_of l) (service_of l)) l c → v ≡ write a (caller_of l) (service_of l) c → IsOwnPart w l v
+part {a} {w} {v} l c e own is = subst (λ (x : World). IsOwnPart x l v) e (record { change = c; own = own; is = is })
+
+-- what a node sees of a service
+abbrev pub spot_at : Book → ℕ → ServiceHash → Spot
+spot_at b i h = record { phase = or_idle (map.get b.phases (Node i, h)); row = map.get b.rows h; segment = map.get b.segments h; counter = b.counter }
+
+module _ {A E : Type 0} where
+  pub gives_refusal : (m e : E) (x : Result (A × Change) E) → x ≡ Err e → IsAnswer m x (Err e) nothing
+  gives_refusal m e x q = subst (λ (y : Result (A × Change) E). IsAnswer m y (Err e) nothing) (sym q) (refl, refl)
+
+  pub gives_done : (m : E) (x : Result (A × Change) E) (a : A) (c : Change) → x ≡ Ok (a, c) → IsAnswer m x (Ok a) c
+  gives_done m x a c q = subst (λ (y : Result (A × Change) E). IsAnswer m y (Ok a) c) (sym q) (inl (refl, refl))
+
+  pub gives_starved : (m : E) (x : Result (A × Change) E) (y : A × Change) → x ≡ Ok y → IsAnswer m x (Err m) nothing
+  gives_starved m x y q = subst (λ (z : Result (A × Change) E). IsAnswer m z (Err m) nothing) (sym q) (inr (refl, refl))
+
+  pub simply_refusal : (e : E) (x : Result (A × Change) E) → x ≡ Err e → IsSureAnswer x (Err e) nothing
+  simply_refusal e x q = subst (λ (y : Result (A × Change) E). IsSureAnswer y (Err e) nothing) (sym q) (refl, refl)
+
+  pub simply_done : (x : Result (A × Change) E) (a : A) (c : Change) → x ≡ Ok (a, c) → IsSureAnswer x (Ok a) c
+  simply_done x a c q = subst (λ (y : Result (A × Change) E). IsSureAnswer y (Ok a) c) (sym q) (refl, refl)
+
+pub record There {A : Type 0} (o : Option A) : Type 0 where
+  pub it : A
+  pub is : o ≡ Some it
+
+-- who may not read what is published has read it before
+pub read_or_not : (i : ℕ) (h : ServiceHash) (b c : Book) (t : set.FinSet tag_cmp) (k : Tickets) (done : Bool) → TakesStep b (Node i) h act.Read done c → world_with c t k ≡ write (world_with b t k) i h (read_change (step_at b (Node i) h act.Read))
+read_or_not i h b c t k true s = ap (λ x. world_with x t k) s.2 ∙ ap (λ o. write (world_with b t k) i h (read_change o)) (sym s.1)
+read_or_not i h b c t k false s = ap (λ x. world_with x t k) s.1 ∙ ap (λ o. write (world_with b t k) i h (read_change o)) (sym s.0)
+
+module _ (i : ℕ) (h : ServiceHash) (n : ℕ) (d : Description) (k : Tickets) (r : Option Row) (c : ℕ) where
+  -- what a node publishes that made the segment, or why it doesn't
+  abbrev pub publishes : Phase → Option Segment → Result (ℕ × Change) PublishError
+  publishes x s = if has_made n x then publishing_of i h n k (spot_after (Node i) h (act.Publish d) x r s c) else Err Publishing.Other
+
+  unfit : (m : ℕ) (s : Option Segment) → segment_fits h s d ≡ false → spot_after (Node i) h (act.Publish d) (at.Made m) r s c ≡ None
+  unfit m None e = refl
+  unfit m (Some s) e = ap (λ (b : Bool). if b then to_spot (at.Joined m 1) (Some (row_for m d)) (Some s) c else None) e
+
+  fit : (m : ℕ) (s : Option Segment) → segment_fits h s d ≡ true → There (spot_after (Node i) h (act.Publish d) (at.Made m) r s c)
+  fit m None e = absurd (cc)
+  fit m (Some s) e = record { it = _; is = ap (λ (b : Bool). if b then to_spot (at.Joined m 1) (Some (row_for m d)) (Some s) c else None) e }
+
+  unmade : (b : Bool) (m : ℕ) (s : Option Segment) → (b && segment_fits h s d) ≡ false → (if b then publishing_of i h n k (spot_after (Node i) h (act.Publish d) (at.Made m) r s c) else Err Publishing.Other) ≡ Err Publishing.Other
+  unmade true m s e = ap (publishing_of i h n k) (unfit m s e)
+  unmade false m s e = refl
+
+  pub no_publish : (x : Phase) (s : Option Segment) → (has_made n x && segment_fits h s d) ≡ false → publishes x s ≡ Err Publishing.Other
+  no_publish at.Idle s e = refl
+  no_publish (at.Read m) s e = refl
+  no_publish (at.Locked m) s e = refl
+  no_publish (at.Made m) s e = unmade (m == n) m s e
+  no_publish (at.Joined m q) s e = refl
+  no_publish (at.Leaving m) s e = refl
+  no_publish (at.Cleared m) s e = refl
+
+  pub may_publish : (x : Phase) (s : Option Segment) → (has_made n x && segment_fits h s d) ≡ true → (has_made n x ≡ true) × There (spot_after (Node i) h (act.Publish d) x r s c)
+  may_publish at.Idle s e = absurd (cc)
+  may_publish (at.Read m) s e = absurd (cc)
+  may_publish (at.Locked m) s e = absurd (cc)
+  may_publish (at.Made m) s e = let p = both_true _ _ e in (p.0, fit m s p.1)
+  may_publish (at.Joined m q) s e = absurd (cc)
+  may_publish (at.Leaving m) s e = absurd (cc)
+  may_publish (at.Cleared m) s e = absurd (cc)
+
+  pub publishes_by : (x : Phase) (s : Option Segment) (o : Option Spot) → has_made n x ≡ true → spot_after (Node i) h (act.Publish d) x r s c ≡ o → publishes x s ≡ publishing_of i h n k o
+  publishes_by x s o made e = ap (λ (b : Bool). if b then publishing_of i h n k (spot_after (Node i) h (act.Publish d) x r s c) else Err Publishing.Other) made ∙ ap (publishing_of i h n k) e
+
+-- an opening that isn't refused
+pub opens_by : (i : ℕ) (h : ServiceHash) (n : ℕ) (s : Seat) (r : Option OpenSegmentError) (o : Option Spot) (x : Spot) → r ≡ None → o ≡ Some x
+    → opening_of i h n s r o ≡ Ok (s.spot.counter, spot_becomes_with (record x { counter = s.spot.counter + 1 }) (with_ticket i h s.tickets s.spot.counter n))
+opens_by i h n s r o x e f = ap (λ (q : Option OpenSegmentError). opening_of i h n s q o) e ∙ ap (opening_of i h n s None) f
+
+-- who holds the lock is refused a segment only because there is one
+pub make_refused : (i : ℕ) (h : ServiceHash) (n m : ℕ) (x : Phase) (r : Option Row) (s : Option Segment) (c : ℕ) → (has_lock n x && nat_lt 0 m) ≡ true → spot_after (Node i) h (act.Make m) x r s c ≡ None
+    → make_of i h m (record { phase = x; row = r; segment = s; counter = c }) s ≡ Err Making.AlreadyExists
+make_refused i h n m x r (Some s) c may e = refl
+make_refused i h n m (at.Locked k) r None c may e = absurd (allowed (nat_lt 0 m) _ (both_true _ _ may).1 e)
+  where
+    allowed : (b : Bool) (y : Spot) → b ≡ true → (if b then Some y else None) ≡ None → ⊥
+    allowed true y is e = cc
+    allowed false y is e = cc
+make_refused i h n m at.Idle r None c may e = absurd (cc)
+make_refused i h n m (at.Read k) r None c may e = absurd (cc)
+make_refused i h n m (at.Made k) r None c may e = absurd (cc)
+make_refused i h n m (at.Joined k q) r None c may e = absurd (cc)
+make_refused i h n m (at.Leaving k) r None c may e = absurd (cc)
+make_refused i h n m (at.Cleared k) r None c may e = absurd (cc)
+
+-- a segment is made only where there is none
+pub make_done : (i : ℕ) (h : ServiceHash) (m : ℕ) (x : Phase) (r : Option Row) (s : Option Segment) (c : ℕ) (y : Spot) → spot_after (Node i) h (act.Make m) x r s c ≡ Some y
+    → make_of i h m (record { phase = x; row = r; segment = s; counter = c }) s ≡ Ok (tt, spot_becomes y)
+make_done i h m x r None c y e = ap (or_refused Making.Other tt) e
+make_done i h m (at.Locked k) r (Some s) c y e = absurd (cc)
+make_done i h m at.Idle r (Some s) c y e = absurd (cc)
+make_done i h m (at.Read k) r (Some s) c y e = absurd (cc)
+make_done i h m (at.Made k) r (Some s) c y e = absurd (cc)
+make_done i h m (at.Joined k q) r (Some s) c y e = absurd (cc)
+make_done i h m (at.Leaving k) r (Some s) c y e = absurd (cc)
+make_done i h m (at.Cleared k) r (Some s) c y e = absurd (cc)

@@ -1,0 +1,9 @@
+//! A table in which nodes keep what they agreed on: rows, segments, phases and a counter.
+#![tactic(auto)]
+
+pub mod local;
+pub mod merge;
+pub mod segments;
+pub mod services;
+pub mod steps;
+pub mod table;

@@ -1,0 +1,156 @@
+//! A segment as a table keeps it.
+
+ghost use Rattle.std.specs.Prelude.{◌≡◌, IfOk};
+ghost use Rattle.iceoryx2_world.specs.Access.{segment_refusal};
+ghost use Rattle.iceoryx2_table.specs.Book.{Admits, Dismisses};
+ghost use Rattle.iceoryx2_world.specs.Listing.{listed_segment};
+ghost use Rattle.iceoryx2_world.specs.Steps.{new_segment, fits as fits_spec, has_room as has_room_spec};
+
+use iceoryx2_access::storage::OpenSegmentError;
+use iceoryx2_description::description::{ServiceHash, StaticConfig};
+use iceoryx2_world::listing::ListedSegment;
+use iceoryx2_world::world::{Participant, Phase};
+use sorted_map::SortedVec;
+use std::alloc::{AllocError, Global};
+use std::marker::Model;
+
+/// A segment as it is kept.
+#[derive(Drop)]
+pub struct StoredSegment {
+    number: u64,
+    capacity: u64,
+    participants: SortedVec<Participant, ()>,
+    marked: bool,
+}
+
+impl Model for StoredSegment {
+    ghost use Rattle.sorted_map.specs.Sorted.{map_of};
+    ghost use Rattle.iceoryx2_world.specs.Orders.{participant_cmp};
+    ghost use Rattle.iceoryx2_world.specs.World.{Segment};
+    ghost use Rattle.iceoryx2_world.specs.Codes.{coded_segment};
+
+    ghost Value = { Segment };
+
+    ghost coded = { coded_segment };
+
+    ghost view = { λ s. record {
+      number = s.number;
+      capacity = s.capacity;
+      participants = map_of participant_cmp s.participants;
+      marked = s.marked;
+    } };
+}
+
+impl StoredSegment {
+    /// A segment that one participant makes for itself.
+    pub fn new(
+        alloc: Global,
+        participant: Participant,
+        number: u64,
+        capacity: u64,
+    ) -> Result<StoredSegment, AllocError>
+        ensures { IfOk result (λ segment. segment ≡ new_segment participant number capacity) }
+    {
+        let Ok(participants) = SortedVec::with_entry(alloc, participant, ()) else {
+            return Err(AllocError);
+        };
+        Ok(StoredSegment {
+            number,
+            capacity,
+            participants,
+            marked: false,
+        })
+    }
+
+    fn has_room(&self, number: u64) -> bool
+        ensures { result ≡ has_room_spec number self.now }
+    {
+        self.number == number && !self.marked && (self.participants.len() as u64) < self.capacity
+    }
+
+    /// It is described so: for this service, and for as many nodes.
+    pub fn fits(&self, hash: &ServiceHash, description: &StaticConfig) -> bool
+        ensures { result ≡ fits_spec hash.now self.now description.now }
+    {
+        description.service_hash().cmp(hash).is_eq() && description.max_nodes() == self.capacity
+    }
+
+    /// Why it isn't opened.
+    pub fn refusal(&self, number: u64, counter: u64, phase: Phase) -> Option<OpenSegmentError>
+        ensures { result ≡ segment_refusal number self.now counter phase }
+    {
+        if self.number != number {
+            return Some(OpenSegmentError::Failed);
+        }
+        if self.marked {
+            return Some(OpenSegmentError::Marked);
+        }
+        match phase {
+            Phase::Read(read) => {
+                if read != number {
+                    return Some(OpenSegmentError::Failed);
+                }
+                if !self.has_room(number) {
+                    return Some(OpenSegmentError::Full);
+                }
+                if counter >= u64::MAX {
+                    return Some(OpenSegmentError::OutOfNumbers);
+                }
+                None
+            }
+            Phase::Joined(joined, count) => {
+                if joined != number {
+                    return Some(OpenSegmentError::Failed);
+                }
+                if counter >= u64::MAX {
+                    return Some(OpenSegmentError::OutOfNumbers);
+                }
+                if count >= u64::MAX {
+                    return Some(OpenSegmentError::Failed);
+                }
+                None
+            }
+            _ => Some(OpenSegmentError::Failed),
+        }
+    }
+
+    /// The segment as it is listed.
+    pub fn to_listed(&self) -> ListedSegment
+        ensures { result ≡ listed_segment self.now }
+    {
+        ListedSegment {
+            number: self.number,
+            max_nodes: self.capacity,
+            participants: self.participants.len() as u64,
+            marked: self.marked,
+        }
+    }
+
+    /// It takes one more with this number. True where it has.
+    pub fn admit(&mut self, number: u64, participant: Participant) -> Result<bool, AllocError>
+        ensures { Admits number participant self.old result self.new }
+    {
+        if !self.has_room(number) {
+            return Ok(false);
+        }
+        let place = self.participants.place_of(&participant);
+        if self.participants.reserve_at(&participant, place).is_err() {
+            return Err(AllocError);
+        }
+        self.participants.insert_at(participant, place, ());
+        Ok(true)
+    }
+
+    /// One goes; the last one marks the segment. True where others stay.
+    pub fn dismiss(&mut self, participant: Participant) -> bool
+        ensures { Dismisses participant self.old result self.new }
+    {
+        if self.participants.len() > 1 {
+            let _ = self.participants.remove(&participant);
+            return true;
+        }
+        self.participants.clear();
+        self.marked = true;
+        false
+    }
+}

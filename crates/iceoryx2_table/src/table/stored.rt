@@ -1,0 +1,374 @@
+//! What a table keeps, and the own part of each access of a node.
+
+ghost use Rattle.std.specs.Prelude.{◌≡◌, ◌&&◌, IfOk, nat_lt, filter, length};
+ghost use Rattle.iceoryx2_world.specs.World.{belongs, empty_world, ticket_count, tag_of};
+ghost use Rattle.iceoryx2_world.specs.Listing.{Lists};
+ghost use Rattle.std.specs.Option.{option_copied};
+ghost use Rattle.iceoryx2_world.specs.Batches.{IsBatch, IsPeerStep, skipped_after};
+ghost use Rattle.iceoryx2_access.specs.Letter as letter;
+ghost use Rattle.iceoryx2_access.specs.Letter.{fetch_answer};
+ghost use Rattle.iceoryx2_world.specs.Access.{IsOwnPart, has_lock, has_made as has_made_spec, is_ticket};
+
+use iceoryx2_access::storage::{
+    Existence, FetchError, LockError, MakeSegmentError, OpenSegmentError, PublishError, Release,
+    ReleaseError, RemoveError, Tag, TagError,
+};
+use iceoryx2_world::batches::Step;
+use crate::services::Services;
+use iceoryx2_description::description::{ServiceHash, StaticConfig};
+use iceoryx2_world::listing::Entry;
+use iceoryx2_world::world::{Participant, Phase, Row, Ticket};
+use sorted_map::SortedVec;
+use std::alloc::{AllocError, Global};
+use std::marker::Model;
+
+/// The services, the tags and the tickets.
+#[derive(Drop)]
+pub struct StoredWorld {
+    services: Services,
+    tags: SortedVec<(u64, ServiceHash), ()>,
+    tickets: SortedVec<u64, Ticket>,
+}
+
+impl Model for StoredWorld {
+    ghost use Rattle.std.specs.Ordering.{nat_cmp};
+    ghost use Rattle.sorted_map.specs.Sorted.{map_of};
+    ghost use Rattle.iceoryx2_world.specs.Orders.{tag_cmp};
+    ghost use Rattle.iceoryx2_world.specs.World.{World};
+    ghost use Rattle.iceoryx2_world.specs.Codes.{coded_world};
+    ghost use Rattle.iceoryx2_table.specs.Book.{world_with};
+
+    ghost Value = { World };
+
+    ghost coded = { coded_world };
+
+    ghost view = { λ t. world_with t.services (map_of tag_cmp t.tags) (map_of nat_cmp t.tickets) };
+}
+
+// How many of the tickets are this node's for this service.
+fn count_held(tickets: &[(u64, Ticket)], node: u64, hash: &ServiceHash) -> usize
+    ensures { result ≡ length (filter (belongs node hash.now) tickets.now) }
+{
+    tickets
+        .iter()
+        .filter(|entry| entry.1.node == node && entry.1.hash.cmp(hash).is_eq())
+        .count()
+}
+
+// It is this node's ticket for this service and number.
+fn is_held(held: Option<&Ticket>, node: u64, hash: &ServiceHash, number: u64) -> bool
+    ensures { result ≡ is_ticket node hash.now number (option_copied held.entry) }
+{
+    match held {
+        None => false,
+        Some(held) => held.node == node && held.hash.cmp(hash).is_eq() && held.number == number,
+    }
+}
+
+// It has made a segment under the lock of this number.
+fn has_made(phase: Phase, number: u64) -> bool
+    ensures { result ≡ has_made_spec number phase }
+{
+    match phase {
+        Phase::Made(made) => made == number,
+        _ => false,
+    }
+}
+
+// It holds the lock of this number, for at least one node.
+fn may_make(phase: Phase, number: u64, max_nodes: u64) -> bool
+    ensures { result ≡ (has_lock number phase && nat_lt 0 max_nodes) }
+{
+    match phase {
+        Phase::Locked(held) => held == number && max_nodes > 0,
+        _ => false,
+    }
+}
+
+// The count of skipped steps after one that answered this.
+fn count_after(taken: Result<bool, AllocError>, skipped: u64) -> u64
+    ensures { result ≡ skipped_after taken skipped }
+{
+    match taken {
+        Ok(_) => skipped,
+        Err(_) => skipped.saturating_add(1),
+    }
+}
+
+impl StoredWorld {
+    // Takes a step of a peer, and gives the count of skipped steps after it.
+    fn take(&mut self, step: &Step, skipped: u64) -> u64
+        ensures { IsPeerStep (self.old, skipped) step.now (self.new, result) }
+    {
+        let taken = self
+            .services
+            .take(Participant::Peer(step.peer), &step.hash, &step.act);
+        count_after(taken, skipped)
+    }
+
+    /// Takes a batch's steps in order, and gives the count of skipped steps after them.
+    pub fn take_all(&mut self, batch: &[Step], skipped: u64) -> u64
+        ensures { IsBatch (self.old, skipped) batch.now (self.new, result) }
+    {
+        let mut count = skipped;
+        for step in batch {
+            count = self.take(step, count);
+        }
+        count
+    }
+
+    pub fn starting_at(alloc: Global, counter: u64) -> StoredWorld
+        ensures { result ≡ empty_world counter }
+    {
+        StoredWorld {
+            services: Services::starting_at(alloc, counter),
+            tags: SortedVec::new(alloc),
+            tickets: SortedVec::new(alloc),
+        }
+    }
+
+    pub fn list(&self) -> Result<Vec<Entry>, AllocError>
+        ensures { IfOk result (λ entries. Lists self.now entries.items) }
+    {
+        self.services.list()
+    }
+
+    pub fn has_tag(&self, node: u64, hash: &ServiceHash) -> bool
+        ensures { result ≡ tag_of self.now node hash.now }
+    {
+        match self.tags.get(&(node, *hash)) {
+            Some(_) => true,
+            None => false,
+        }
+    }
+
+    pub fn tickets(&self, node: u64, hash: &ServiceHash) -> u64
+        ensures { result ≡ ticket_count self.now.tickets node hash.now }
+    {
+        count_held(self.tickets.entries(), node, hash) as u64
+    }
+
+    pub fn counter(&self) -> u64
+        ensures { result ≡ self.now.counter }
+    {
+        self.services.counter()
+    }
+
+    pub fn exists(&self, hash: &ServiceHash) -> Existence
+        ensures { IsOwnPart self.now (letter.Exists hash.now result) self.now }
+    {
+        match self.services.row(hash) {
+            None => Existence::No,
+            Some(Row::Locked(_)) => Existence::BeingSetUp,
+            Some(Row::Published(_, _)) => Existence::Yes,
+        }
+    }
+
+    pub fn fetch(&mut self, node: u64, hash: &ServiceHash) -> Result<(u64, Vec<u8>), FetchError>
+        ensures { IsOwnPart self.old (letter.Fetch node hash.now (fetch_answer result)) self.new }
+    {
+        let Some(row) = self.services.row(hash) else {
+            return Err(FetchError::DoesNotExist);
+        };
+        let Row::Published(number, bytes) = row else {
+            return Err(FetchError::NotFinalized);
+        };
+        let number = *number;
+        let Ok(copy) = bytes.copy() else {
+            return Err(FetchError::OutOfMemory);
+        };
+        let Ok(_) = self.services.read(Participant::Node(node), hash, number) else {
+            return Err(FetchError::OutOfMemory);
+        };
+        Ok((number, copy))
+    }
+
+    pub fn counts(&self, node: u64, hash: &ServiceHash) -> bool
+        ensures { IsOwnPart self.now (letter.Counts node hash.now result) self.now }
+    {
+        match self.services.position(Participant::Node(node), hash).phase {
+            Phase::Joined(_, _) => true,
+            _ => false,
+        }
+    }
+
+    pub fn make_tag(&mut self, node: u64, hash: &ServiceHash) -> Result<Tag, TagError>
+        ensures { IsOwnPart self.old (letter.MakeTag node hash.now result) self.new }
+    {
+        let key = (node, *hash);
+        let place = self.tags.place_of(&key);
+        if place.is_ok() {
+            return Ok(Tag::Found);
+        }
+        if self.tags.reserve().is_err() {
+            return Err(TagError::OutOfMemory);
+        }
+        self.tags.insert_at(key, place, ());
+        Ok(Tag::Made)
+    }
+
+    pub fn remove_tag(&mut self, node: u64, hash: &ServiceHash) -> Result<(), RemoveError>
+        ensures { IsOwnPart self.old (letter.RemoveTag node hash.now result) self.new }
+    {
+        let _ = self.tags.remove(&(node, *hash));
+        Ok(())
+    }
+
+    pub fn lock(&mut self, node: u64, hash: &ServiceHash) -> Result<u64, LockError>
+        ensures { IsOwnPart self.old (letter.Lock node hash.now result) self.new }
+    {
+        let row = self.services.row_place(hash);
+        match self.services.row_at(hash, row) {
+            Some(Row::Locked(_)) => return Err(LockError::Creation),
+            Some(Row::Published(_, _)) => return Err(LockError::AlreadyExists),
+            None => {}
+        }
+        let number = self.services.counter();
+        let Ok(locked) = self.services.lock(Participant::Node(node), hash, row) else {
+            return Err(LockError::OutOfMemory);
+        };
+        if !locked {
+            return Err(LockError::Other);
+        }
+        Ok(number)
+    }
+
+    pub fn make_segment(
+        &mut self,
+        node: u64,
+        hash: &ServiceHash,
+        number: u64,
+        max_nodes: u64,
+    ) -> Result<(), MakeSegmentError>
+        ensures { IsOwnPart self.old (letter.MakeSegment node hash.now number max_nodes result) self.new }
+    {
+        let participant = Participant::Node(node);
+        let position = self.services.position(participant, hash);
+        if !may_make(position.phase, number, max_nodes) {
+            return Err(MakeSegmentError::Other);
+        }
+        let Ok(made) = self.services.make(participant, hash, max_nodes, position) else {
+            return Err(MakeSegmentError::OutOfMemory);
+        };
+        if !made {
+            return Err(MakeSegmentError::AlreadyExists);
+        }
+        Ok(())
+    }
+
+    pub fn remove_segment(&mut self, node: u64, hash: &ServiceHash) -> Result<(), RemoveError>
+        ensures { IsOwnPart self.old (letter.RemoveSegment node hash.now result) self.new }
+    {
+        if self.services.remove_segment(Participant::Node(node), hash) {
+            return Ok(());
+        }
+        Err(RemoveError::Other)
+    }
+
+    pub fn remove_description(&mut self, node: u64, hash: &ServiceHash) -> Result<(), RemoveError>
+        ensures { IsOwnPart self.old (letter.RemoveDescription node hash.now result) self.new }
+    {
+        if self
+            .services
+            .remove_description(Participant::Node(node), hash)
+        {
+            return Ok(());
+        }
+        Err(RemoveError::Other)
+    }
+
+    pub fn publish(
+        &mut self,
+        node: u64,
+        hash: &ServiceHash,
+        number: u64,
+        description: &StaticConfig,
+    ) -> Result<u64, PublishError>
+        ensures { IsOwnPart self.old (letter.Publish node hash.now number description.now result) self.new }
+    {
+        let participant = Participant::Node(node);
+        let position = self.services.position(participant, hash);
+        if !has_made(position.phase, number) {
+            return Err(PublishError::Other);
+        }
+        if !self.services.has_segment_for(hash, description) {
+            return Err(PublishError::Other);
+        }
+        if self.tickets.reserve().is_err() {
+            return Err(PublishError::OutOfMemory);
+        }
+        let Ok(published) = self
+            .services
+            .publish(participant, hash, description, position)
+        else {
+            return Err(PublishError::OutOfMemory);
+        };
+        if !published {
+            return Err(PublishError::Other);
+        }
+        let ticket = number;
+        let held = Ticket {
+            node,
+            hash: *hash,
+            number,
+        };
+        self.tickets.insert(ticket, held);
+        Ok(ticket)
+    }
+
+    pub fn open_segment(
+        &mut self,
+        node: u64,
+        hash: &ServiceHash,
+        number: u64,
+    ) -> Result<u64, OpenSegmentError>
+        ensures { IsOwnPart self.old (letter.OpenSegment node hash.now number result) self.new }
+    {
+        let participant = Participant::Node(node);
+        let segment = self.services.segment_place(hash);
+        let position = self.services.position(participant, hash);
+        if let Some(refusal) = self
+            .services
+            .open_refusal(hash, segment, number, position.phase)
+        {
+            return Err(refusal);
+        }
+        if self.tickets.reserve().is_err() {
+            return Err(OpenSegmentError::OutOfMemory);
+        }
+        let Ok(joined) = self.services.join(participant, hash, position, segment) else {
+            return Err(OpenSegmentError::OutOfMemory);
+        };
+        if !joined {
+            return Err(OpenSegmentError::Failed);
+        }
+        let ticket = self.services.next_number();
+        let held = Ticket {
+            node,
+            hash: *hash,
+            number,
+        };
+        self.tickets.insert(ticket, held);
+        Ok(ticket)
+    }
+
+    pub fn release(
+        &mut self,
+        ticket: u64,
+        node: u64,
+        hash: &ServiceHash,
+        number: u64,
+    ) -> Result<Release, ReleaseError>
+        ensures { IsOwnPart self.old (letter.Release ticket node hash.now number result) self.new }
+    {
+        let place = self.tickets.place_of(&ticket);
+        if !is_held(self.tickets.get_at(&ticket, place), node, hash, number) {
+            return Err(ReleaseError::NoSuchTicket);
+        }
+        let Some(release) = self.services.leave(Participant::Node(node), hash) else {
+            return Err(ReleaseError::NoSuchTicket);
+        };
+        let _ = self.tickets.remove_at(&ticket, place);
+        Ok(release)
+    }
+}

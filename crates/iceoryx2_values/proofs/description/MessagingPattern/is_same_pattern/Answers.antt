@@ -1,5 +1,0 @@
-use Rattle.std.proofs.Common.{rules}
-use Rattle.iceoryx2_values.proofs.description.MessagingPattern.is_same_pattern.Goals as goal
-
-pub returns-in-Event-PublishSubscribe : goal.returns-in-Event-PublishSubscribe
-returns-in-Event-PublishSubscribe c = search rules

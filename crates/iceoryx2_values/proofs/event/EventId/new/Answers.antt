@@ -1,5 +1,0 @@
-use Rattle.std.proofs.Common.{refl}
-use Rattle.iceoryx2_values.proofs.event.EventId.new.Goals as goal
-
-pub returns : goal.returns
-returns c = refl

@@ -1,8 +1,0 @@
--- Names.
-use Rattle.std.specs.Prelude.{ℕ, List}
-use Rattle.iceoryx2_attributes.specs.Texts.{IsText}
-use Rattle.iceoryx2_values.specs.declared.description.TheConstants.{MIN_NAME_LENGTH, MAX_NAME_LENGTH}
-
--- a service's name
-abbrev pub IsName : List ℕ → Type 0
-IsName = IsText MIN_NAME_LENGTH MAX_NAME_LENGTH

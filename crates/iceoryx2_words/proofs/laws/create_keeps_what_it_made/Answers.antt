@@ -1,6 +1,0 @@
-use Rattle.iceoryx2_rounds.proofs.Prepared.{granted_call}
-use Rattle.iceoryx2_words.proofs.Kept.{created_keeps}
-use Rattle.iceoryx2_words.proofs.laws.create_keeps_what_it_made.Goals as goal
-
-pub returns : goal.returns
-returns g c = λ m node hash name now word r w. created_keeps (granted_call w)

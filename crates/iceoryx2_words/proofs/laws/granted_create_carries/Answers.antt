@@ -1,6 +1,0 @@
-use Rattle.iceoryx2_rounds.proofs.Prepared.{granted_call}
-use Rattle.iceoryx2_words.proofs.Carried.{created_carries}
-use Rattle.iceoryx2_words.proofs.laws.granted_create_carries.Goals as goal
-
-pub returns : goal.returns
-returns g c = λ m node hash name now word r w. created_carries (granted_call w)

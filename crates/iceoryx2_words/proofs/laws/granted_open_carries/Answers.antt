@@ -1,6 +1,0 @@
-use Rattle.iceoryx2_rounds.proofs.Prepared.{granted_call}
-use Rattle.iceoryx2_words.proofs.Carried.{opened_carries}
-use Rattle.iceoryx2_words.proofs.laws.granted_open_carries.Goals as goal
-
-pub returns : goal.returns
-returns g c = λ m node hash word r w. let o = opened_carries (granted_call w) in (o.node_is, o.hash_is, o.fits, o.accepted)

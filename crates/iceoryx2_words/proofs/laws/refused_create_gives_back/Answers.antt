@@ -1,5 +1,0 @@
-use Rattle.iceoryx2_words.proofs.Kept.{refused_create_call_keeps}
-use Rattle.iceoryx2_words.proofs.laws.refused_create_gives_back.Goals as goal
-
-pub returns : goal.returns
-returns g c = λ m node hash name now word error w. refused_create_call_keeps w

@@ -1,5 +1,0 @@
-use Rattle.iceoryx2_words.proofs.Counts.{segment_within}
-use Rattle.iceoryx2_words.proofs.laws.segment_part_is_short.Goals as goal
-
-pub returns : goal.returns
-returns c = λ node hash number max_nodes word answer w. segment_within node hash number max_nodes w

@@ -1,0 +1,98 @@
+-- What a table with waiting batches does, in its world.
+use Rattle.std.proofs.Common.{◌≡◌, ℕ, zero, suc, List, [], ◌∷◌, length, drop, refl, sym, ap, subst, ◌∙◌}
+use Rattle.iceoryx2_world.specs.World.{World}
+use Rattle.iceoryx2_world.specs.Access.{IsOwnPart}
+use Rattle.iceoryx2_world.specs.Agreement.{Later}
+use Rattle.iceoryx2_world.specs.Across.{Agrees}
+use Rattle.iceoryx2_world.specs.Peers.{Peers, none, peer, IsAccess}
+use Rattle.iceoryx2_world.specs.Faulty.{IsFaulty}
+use Rattle.iceoryx2_world.proofs.agreement.Accesses.{peers_keep, access_keeps, with_refusals}
+use Rattle.iceoryx2_world.proofs.agreement.Accesses as kept
+use Rattle.iceoryx2_access.specs.Letter.{Letter}
+use Rattle.iceoryx2_access.specs.MayRefuse.{MayRefuse}
+use Rattle.iceoryx2_access.specs.Run.{Run, done, next}
+use Rattle.iceoryx2_world.specs.declared.batches.Step.{Step}
+use Rattle.iceoryx2_world.specs.Batches.{act_of, IsPeerStep, forbidden, acts, starves, IsBatch}
+use Rattle.iceoryx2_world.specs.Tables.{TableState, next_batch, later_batches, IsBatchRun, IsTableAccess}
+use Rattle.iceoryx2_world.proofs.Runs.{run_map, run_map_where, refusable_map}
+
+step_peers : {s t : World × ℕ} {x : Step} {w : World} → IsPeerStep s x t → Peers t.0 w → Peers s.0 w
+step_peers {w = w} (forbidden e is) more = subst (λ p. Peers p w) (ap (λ p. p.0) is) more
+step_peers {x = x} (acts ok e same) more = peer x.peer x.hash (act_of x.act) ok e more
+step_peers {w = w} (starves v e wants is) more = subst (λ p. Peers p w) (ap (λ p. p.0) is) more
+
+pub batch_peers : {s t : World × ℕ} {batch : List Step} → IsBatch s batch t → Peers s.0 t.0
+batch_peers done = none
+batch_peers (next h more) = step_peers h (batch_peers more)
+
+pub table_access : (s t : TableState) (l : Letter) → IsTableAccess s l t → IsAccess s.world l t.world
+table_access s t l a = record { between = a.between; peers = batch_peers a.batch; own = a.own }
+
+pub table_run : {s t : TableState} {word : List Letter} → Run IsTableAccess s word t → Run IsAccess s.world word t.world
+table_run r = run_map (λ s. s.world) table_access r
+
+pub refusable_run : {s t : TableState} {word : List Letter} → Run (MayRefuse IsTableAccess) s word t → Run IsFaulty s.world word t.world
+refusable_run r = run_map (λ s. s.world) (refusable_map IsTableAccess IsAccess (λ s. s.world) table_access) r
+
+-- no step changes nothing
+no_steps : {s t : World × ℕ} → IsBatch s [] t → t ≡ s
+no_steps done = refl
+
+-- nothing waits, and so many were skipped
+abbrev pub IsIdle : ℕ → TableState → Type 0
+IsIdle k s = (s.waiting ≡ []) × (s.skipped ≡ k)
+
+idle_access : (k : ℕ) (s t : TableState) (l : Letter) → IsIdle k s → IsTableAccess s l t → IsOwnPart s.world l t.world × IsIdle k t
+idle_access k s t l idle a =
+    let same = no_steps (subst (λ b. IsBatch (s.world, s.skipped) (next_batch b) (a.between, t.skipped)) idle.0 a.batch) in
+    (subst (λ w. IsOwnPart w l t.world) (ap (λ p. p.0) same) a.own, (a.rest ∙ ap later_batches idle.0, ap (λ p. p.1) same ∙ idle.1))
+
+pub idle_run : {s t : TableState} {word : List Letter} → s.waiting ≡ [] → Run IsTableAccess s word t → Run IsOwnPart s.world word t.world × IsIdle s.skipped t
+idle_run {s = s} e r = run_map_where (λ s. s.world) (IsIdle s.skipped) (idle_access s.skipped) (e, refl) r
+
+-- where nothing waits the next batch changes nothing
+pub no_batch : (s t : TableState) → s.waiting ≡ [] → t ≡ s → IsBatchRun s t
+no_batch s t e same = subst (IsBatchRun s) (sym same) (record {
+  batch = subst (λ b. IsBatch (s.world, s.skipped) (next_batch b) (s.world, s.skipped)) (sym e) done;
+  rest = e ∙ ap later_batches (sym e);
+})
+
+-- the next batch, and then an own part
+pub access_after : (s u t : TableState) (l : Letter) → IsBatchRun s u → IsOwnPart u.world l t.world → t.waiting ≡ u.waiting → t.skipped ≡ u.skipped → IsTableAccess s l t
+access_after s u t l r own waiting skipped = record {
+  between = u.world;
+  batch = subst (λ k. IsBatch (s.world, s.skipped) (next_batch s.waiting) (u.world, k)) (sym skipped) r.batch;
+  rest = waiting ∙ r.rest;
+  own = own;
+}
+
+-- an own part alone is an access where nothing waits
+pub own_access : (s : TableState) (l : Letter) (w : World) → s.waiting ≡ [] → IsOwnPart s.world l w → IsTableAccess s l (record s { world = w })
+own_access s l w e own = record {
+  between = s.world;
+  batch = subst (λ b. IsBatch (s.world, s.skipped) (next_batch b) (s.world, s.skipped)) (sym e) done;
+  rest = e ∙ ap later_batches (sym e);
+  own = own;
+}
+
+drop_later : (n : ℕ) (b : List (List Step)) → drop n (later_batches b) ≡ drop (suc n) b
+drop_later zero [] = refl
+drop_later (suc n) [] = refl
+drop_later n (x ∷ more) = refl
+
+-- each access takes one batch off
+pub waiting_after : {s t : TableState} {word : List Letter} → Run IsTableAccess s word t → t.waiting ≡ drop (length word) s.waiting
+waiting_after done = refl
+waiting_after {s = s} (next {word = word} a rest) = waiting_after rest ∙ ap (drop (length word)) a.rest ∙ drop_later (length word) s.waiting
+
+pub batch_keeps : {s t : World × ℕ} {batch : List Step} → IsBatch s batch t → Agrees s.0 → Agrees t.0 × Later s.0 t.0
+batch_keeps r old = peers_keep (batch_peers r) old
+
+pub table_keeps : (s t : TableState) (l : Letter) → IsTableAccess s l t → Agrees s.world → Agrees t.world × Later s.world t.world
+table_keeps s t l a old = access_keeps s.world l t.world (table_access s t l a) old
+
+pub table_run_keeps : {s t : TableState} {word : List Letter} → Run IsTableAccess s word t → Agrees s.world → Agrees t.world × Later s.world t.world
+table_run_keeps r old = kept.run_keeps (with_refusals (table_run r)) old
+
+pub refusable_run_keeps : {s t : TableState} {word : List Letter} → Run (MayRefuse IsTableAccess) s word t → Agrees s.world → Agrees t.world × Later s.world t.world
+refusable_run_keeps r old = kept.run_keeps (refusable_run r) old

@@ -1,0 +1,48 @@
+use Rattle.iceoryx2_world.proofs.Waiting.{batch_peers, table_access, table_run, idle_run, own_access, waiting_after, refusable_run, batch_keeps, table_keeps, table_run_keeps, refusable_run_keeps}
+use Rattle.iceoryx2_world.proofs.Counting.{run_counts, removing_step, reading_step, joining_step}
+use Rattle.iceoryx2_world.proofs.laws.batches.Goals as goal
+
+pub returns-clause-batch : goal.returns-clause-batch
+returns-clause-batch g = λ s t batch r. batch_peers r
+
+pub returns-clause-access : goal.returns-clause-access
+returns-clause-access g = λ s t l a. table_access s t l a
+
+pub returns-clause-run : goal.returns-clause-run
+returns-clause-run g = λ s t word r. table_run r
+
+pub returns-clause-refusable : goal.returns-clause-refusable
+returns-clause-refusable g = λ s t word r. refusable_run r
+
+pub returns-clause-quiet : goal.returns-clause-quiet
+returns-clause-quiet g = λ s t word e r. let q = idle_run e r in (q.0, q.1.0, q.1.1)
+
+pub returns-clause-own : goal.returns-clause-own
+returns-clause-own g = λ s l w e own. own_access s l w e own
+
+pub returns-clause-taken : goal.returns-clause-taken
+returns-clause-taken g = λ s t word r. waiting_after r
+
+pub returns-clause-batch_keeps : goal.returns-clause-batch_keeps
+returns-clause-batch_keeps g = λ s t batch r old. batch_keeps r old
+
+pub returns-clause-access_keeps : goal.returns-clause-access_keeps
+returns-clause-access_keeps g = λ s t l a old. table_keeps s t l a old
+
+pub returns-clause-run_keeps : goal.returns-clause-run_keeps
+returns-clause-run_keeps g = λ s t word r old. table_run_keeps r old
+
+pub returns-clause-refusable_keeps : goal.returns-clause-refusable_keeps
+returns-clause-refusable_keeps g = λ s t word r old. refusable_run_keeps r old
+
+pub returns-clause-counts : goal.returns-clause-counts
+returns-clause-counts g = λ s t word r small. run_counts r small
+
+pub returns-clause-removing : goal.returns-clause-removing
+returns-clause-removing g = λ s t x is h. removing_step s t x is h
+
+pub returns-clause-reading : goal.returns-clause-reading
+returns-clause-reading g = λ s t x n is at h. reading_step s t x n is at h
+
+pub returns-clause-joining : goal.returns-clause-joining
+returns-clause-joining g = λ s t x n k is at h. joining_step s t x n k is at h

@@ -1,0 +1,98 @@
+-- What a reply says.
+use Rattle.std.specs.Prelude.{◌≡◌, ℕ, ◌+◌, List, [], ◌∷◌, ◌++◌, Bool, true, false, Some}
+use Rattle.std.specs.Prelude.{codes, decimal}
+use Rattle.hex.specs.Hex.{encode_lower}
+use Rattle.iceoryx2_description.specs.declared.description.MessagingPattern.{MessagingPattern}
+use Rattle.iceoryx2_description.specs.declared.description.MessagingPattern.TheVariants as pattern
+use Rattle.iceoryx2_description.specs.Description.{Description}
+use Rattle.iceoryx2_byte_form.specs.Form.{IsForm}
+use Rattle.iceoryx2_errors.specs.AnyError.{text_of}
+use Rattle.iceoryx2_errors.specs.AnyError as error
+use Rattle.iceoryx2_world.specs.declared.listing.Entry.{Entry}
+use Rattle.iceoryx2_world.specs.declared.listing.ListedRow.TheVariants as listed
+use Rattle.iceoryx2_world.specs.declared.listing.ListedSegment.{ListedSegment}
+use Rattle.iceoryx2_commands.specs.declared.command.Refusal.{Refusal}
+use Rattle.iceoryx2_commands.specs.declared.command.Refusal.TheVariants as refusal
+use Rattle.iceoryx2_commands.specs.declared.command.Reply.{Reply}
+use Rattle.iceoryx2_commands.specs.declared.command.Reply.TheVariants as reply
+
+-- an error's text
+abbrev pub refusal_text : Refusal → List ℕ
+refusal_text (refusal.EventOpen e) = text_of (error.EventOpen e)
+refusal_text (refusal.EventCreate e) = text_of (error.EventCreate e)
+refusal_text (refusal.EventOpenOrCreate e) = text_of (error.EventOpenOrCreate e)
+refusal_text (refusal.PublishSubscribeOpen e) = text_of (error.PublishSubscribeOpen e)
+refusal_text (refusal.PublishSubscribeCreate e) = text_of (error.PublishSubscribeCreate e)
+refusal_text (refusal.PublishSubscribeOpenOrCreate e) = text_of (error.PublishSubscribeOpenOrCreate e)
+refusal_text (refusal.RequestResponseOpen e) = text_of (error.RequestResponseOpen e)
+refusal_text (refusal.RequestResponseCreate e) = text_of (error.RequestResponseCreate e)
+refusal_text (refusal.RequestResponseOpenOrCreate e) = text_of (error.RequestResponseOpenOrCreate e)
+
+-- the word by which a pattern's command lines begin
+abbrev pub pattern_word : MessagingPattern → List ℕ
+pattern_word (pattern.Event s) = codes "event"
+pattern_word (pattern.PublishSubscribe s) = codes "pubsub"
+pattern_word (pattern.RequestResponse s) = codes "rr"
+
+-- The entry is a service: its description is published, and its segment stands beside it.
+pub record IsService (e : Entry) : Type 0 where
+  pub number : ℕ
+  pub bytes : List ℕ
+  pub description : Description
+  pub segment : ListedSegment
+  pub row : e.row ≡ listed.Published number bytes
+  pub form : IsForm description bytes
+  pub beside : e.segment ≡ Some segment
+
+-- a service by its pattern, its name and its hash
+abbrev pub who_it_is : List ℕ → Description → List ℕ
+who_it_is hash d = pattern_word d.pattern ++ (codes " " ++ (d.name ++ (codes " " ++ encode_lower hash)))
+
+-- its number, and how many nodes it has of how many
+abbrev pub how_many_it_has : ℕ → ListedSegment → List ℕ
+how_many_it_has number s =
+    codes " number=" ++ (decimal number ++ (codes " nodes=" ++ (decimal s.participants
+    ++ (codes "/" ++ (decimal s.max_nodes ++ codes "\n")))))
+
+-- its line
+abbrev pub service_line : (e : Entry) → IsService e → List ℕ
+service_line e s = who_it_is e.hash.0 s.description ++ how_many_it_has s.number s.segment
+
+-- The lines of the services among these entries, in their order, and how many they are. What is no service has none.
+pub data AreServiceLines : List Entry → ℕ → List ℕ → Type 0 where
+  none : AreServiceLines [] 0 []
+  service : {e : Entry} {entries : List Entry} {n : ℕ} {lines : List ℕ} (s : IsService e)
+      → AreServiceLines entries n lines → AreServiceLines (e ∷ entries) (n + 1) (service_line e s ++ lines)
+  other : {e : Entry} {entries : List Entry} {n : ℕ} {lines : List ℕ} → (IsService e → ⊥)
+      → AreServiceLines entries n lines → AreServiceLines (e ∷ entries) n lines
+
+-- A listing says its services line by line, and then how many they are.
+pub record ListsServices (entries : List Entry) (said : List ℕ) : Type 0 where
+  pub count : ℕ
+  pub lines : List ℕ
+  pub services : AreServiceLines entries count lines
+  pub are : said ≡ lines ++ decimal count ++ codes " services\n"
+
+-- What a reply to a command for this slot says. That there was no memory is said by no reply.
+abbrev pub Tells : ℕ → Reply → List ℕ → Type 0
+Tells slot (reply.Opened k n) said = said ≡ codes "ok " ++ decimal k ++ codes " number=" ++ decimal n ++ codes "\n"
+Tells slot (reply.Refused e) said = said ≡ refusal_text e ++ codes "\n"
+Tells slot (reply.Closed k) said = said ≡ codes "closed " ++ decimal k ++ codes "\n"
+Tells slot reply.SlotInUse said = said ≡ codes "slot " ++ decimal slot ++ codes " in use\n"
+Tells slot reply.SlotEmpty said = said ≡ codes "slot " ++ decimal slot ++ codes " empty\n"
+Tells slot reply.NoSuchSlot said = said ≡ codes "no slot " ++ decimal slot ++ codes "\n"
+Tells slot (reply.Listing entries) said = ListsServices entries.items said
+Tells slot reply.OutOfMemory said = ⊥
+
+-- The text has grown by what is told so.
+abbrev pub GrowsBy : (IsTold : List ℕ → Type 0) → (old new : List ℕ) → Type 0
+GrowsBy IsTold old new = (said : List ℕ) × IsTold said × (new ≡ old ++ said)
+
+-- The text has grown by a service's line, and it is told that this is a service.
+abbrev pub GrowsByService : Bool → (line : List ℕ) → (old new : List ℕ) → Type 0
+GrowsByService found line old new = (found ≡ true) × (new ≡ old ++ line)
+
+-- The text has grown by the entry's line where that is a service, and else it is as it was.
+abbrev pub GrowsByEntry : Bool → Entry → (old new : List ℕ) → Type 0
+GrowsByEntry true e old new = (s : IsService e) × (new ≡ old ++ service_line e s)
+GrowsByEntry false e old new = (IsService e → ⊥) × (new ≡ old)

@@ -1,0 +1,131 @@
+//! What a reply says.
+
+ghost use Rattle.std.specs.Prelude.{◌≡◌, ◌++◌, IfOk, OnOk, string_bytes};
+ghost use Rattle.negotiate_serve.specs.Replies.{GrowsBy, GrowsByEntry, GrowsByService, ListsServices, Tells};
+ghost use Rattle.negotiate_serve.specs.Replies.{how_many_it_has, pattern_word, who_it_is};
+
+use iceoryx2_commands::command::{Refusal, Reply};
+use iceoryx2_byte_form::bytes::{DecodeError, decode};
+use iceoryx2_description::description::{MessagingPattern, ServiceHash, StaticConfig};
+use iceoryx2_world::listing::{Entry, ListedRow, ListedSegment};
+use std::alloc::AllocError;
+
+/// Writes what a reply to a command for this slot says: a line, and for a listing a line for each
+/// service before it.
+///
+/// `AllocError` where the text finds no memory, and where the reply tells that there was none.
+pub fn describe(reply: &Reply, slot: usize, text: &mut String) -> Result<(), AllocError>
+    ensures { OnOk result (GrowsBy (Tells slot reply.now) (string_bytes text.old) (string_bytes text.new)) }
+{
+    match reply {
+        Reply::Opened { slot, number } => writeln!(text, "ok {slot} number={number}"),
+        Reply::Refused(Refusal::EventOpen(error)) => writeln!(text, "{error}"),
+        Reply::Refused(Refusal::EventCreate(error)) => writeln!(text, "{error}"),
+        Reply::Refused(Refusal::EventOpenOrCreate(error)) => writeln!(text, "{error}"),
+        Reply::Refused(Refusal::PublishSubscribeOpen(error)) => writeln!(text, "{error}"),
+        Reply::Refused(Refusal::PublishSubscribeCreate(error)) => writeln!(text, "{error}"),
+        Reply::Refused(Refusal::PublishSubscribeOpenOrCreate(error)) => writeln!(text, "{error}"),
+        Reply::Refused(Refusal::RequestResponseOpen(error)) => writeln!(text, "{error}"),
+        Reply::Refused(Refusal::RequestResponseCreate(error)) => writeln!(text, "{error}"),
+        Reply::Refused(Refusal::RequestResponseOpenOrCreate(error)) => writeln!(text, "{error}"),
+        Reply::Closed { slot } => writeln!(text, "closed {slot}"),
+        Reply::SlotInUse => writeln!(text, "slot {slot} in use"),
+        Reply::SlotEmpty => writeln!(text, "slot {slot} empty"),
+        Reply::NoSuchSlot => writeln!(text, "no slot {slot}"),
+        Reply::Listing(entries) => describe_services(entries, text),
+        Reply::OutOfMemory => Err(AllocError),
+    }
+}
+
+/// Writes a line for each service among the entries, in their order, and how many they are.
+fn describe_services(entries: &[Entry], text: &mut String) -> Result<(), AllocError>
+    ensures { OnOk result (GrowsBy (ListsServices entries.now) (string_bytes text.old) (string_bytes text.new)) }
+{
+    let mut count = 0usize;
+    for entry in entries {
+        if describe_entry(entry, text)? {
+            count += 1;
+        }
+    }
+    writeln!(text, "{count} services")
+}
+
+/// Writes the line of an entry that is a service, and tells whether it is one: its description is
+/// published, and its segment stands beside it.
+fn describe_entry(entry: &Entry, text: &mut String) -> Result<bool, AllocError>
+    ensures { IfOk result (λ found.
+        GrowsByEntry found entry.now (string_bytes text.old) (string_bytes text.new)) }
+{
+    let Some(segment) = entry.segment else {
+        return Ok(false);
+    };
+    let ListedRow::Published(number, bytes) = &entry.row else {
+        return Ok(false);
+    };
+    match decode(*text.allocator(), bytes.as_slice()) {
+        Ok(description) => describe_service(&entry.hash, &description, *number, segment, text),
+        Err(DecodeError::Malformed) => Ok(false),
+        Err(DecodeError::OutOfMemory) => Err(AllocError),
+    }
+}
+
+/// Writes the line of a service, and tells that it is one.
+fn describe_service(
+    hash: &ServiceHash,
+    description: &StaticConfig,
+    number: u64,
+    segment: ListedSegment,
+    text: &mut String,
+) -> Result<bool, AllocError>
+    ensures { IfOk result (λ found. GrowsByService found
+        (who_it_is hash.now.0 description.now ++ how_many_it_has number segment)
+        (string_bytes text.old) (string_bytes text.new)) }
+{
+    describe_identity(hash, description, text)?;
+    describe_segment(number, segment, text)?;
+    Ok(true)
+}
+
+/// The word by which a pattern's command lines begin.
+fn word_of(pattern: &MessagingPattern) -> &'static str
+    ensures { result.now ≡ pattern_word pattern.now }
+{
+    match pattern {
+        MessagingPattern::Event(_) => "event",
+        MessagingPattern::PublishSubscribe(_) => "pubsub",
+        MessagingPattern::RequestResponse(_) => "rr",
+    }
+}
+
+/// Writes the front of a service's line: its pattern, its name and its hash.
+fn describe_identity(
+    hash: &ServiceHash,
+    description: &StaticConfig,
+    text: &mut String,
+) -> Result<(), AllocError>
+    ensures { OnOk result (string_bytes text.new
+        ≡ string_bytes text.old ++ who_it_is hash.now.0 description.now) }
+{
+    let pattern = word_of(description.messaging_pattern());
+    let name = description.name();
+    let hash = hash.to_text(*text.allocator())?;
+    write!(text, "{pattern} {name} {hash}")
+}
+
+/// Writes the rest of it: its number, and how many nodes it has of how many.
+fn describe_segment(
+    number: u64,
+    segment: ListedSegment,
+    text: &mut String,
+) -> Result<(), AllocError>
+    ensures { OnOk result (string_bytes text.new
+        ≡ string_bytes text.old ++ how_many_it_has number segment) }
+{
+    let ListedSegment {
+        number: _,
+        max_nodes,
+        participants,
+        marked: _,
+    } = segment;
+    writeln!(text, " number={number} nodes={participants}/{max_nodes}")
+}

@@ -1,5 +1,0 @@
-use Rattle.std.proofs.Common.{rules}
-use Rattle.negotiate_words.proofs.value.time_or_fault.Goals as goal
-
-pub returns-in-fault : goal.returns-in-fault
-returns-in-fault c = search rules

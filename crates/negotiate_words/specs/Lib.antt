@@ -1,4 +1,0 @@
-pub mod Words
-pub mod Values
-pub mod Vocabulary
-pub mod CallWords

@@ -1,0 +1,189 @@
+//! Commands of a session.
+
+use crate::support::*;
+use iceoryx2_attribute::attribute::AttributeVerifier;
+use iceoryx2_commands::command::{Command, EventSetting, How, Refusal, Reply};
+use iceoryx2_errors::error::{EventCreateError, EventOpenError};
+use iceoryx2_session::session::Session;
+use iceoryx2_table::table::Table;
+use iceoryx2_description::config::Config;
+use iceoryx2_description::time::{ClockFault, Duration, Time};
+use std::alloc::Global;
+use std::process::Abort;
+
+/// A session over a new table.
+fn started(alloc: Global, config: Config) -> Session {
+    Session::new(config, table_from(alloc, 0))
+}
+
+/// The table of a session, which has no factory any more.
+fn finished(session: Session) -> Table {
+    session.finish()
+}
+
+/// Carries out one command. What its contract says of the table is not wanted here.
+fn apply(session: &mut Session, command: Command) -> Reply {
+    session.apply(command)
+}
+
+fn close(session: &mut Session, slot: usize) -> Reply {
+    apply(session, Command::Close { slot })
+}
+
+/// Calls with these settings at time zero.
+fn call(
+    rt: &impl Abort,
+    alloc: Global,
+    session: &mut Session,
+    called: Called,
+    settings: &[EventSetting],
+) -> Reply {
+    let attributes = AttributeVerifier::new(alloc);
+    let now = Ok(Time::default());
+    apply(
+        session,
+        command(rt, alloc, called, settings, attributes, now),
+    )
+}
+
+/// The counter of a table, and how many services it lists.
+fn left(rt: &impl Abort, table: Table) -> (u64, usize) {
+    let left = (table.counter(), listed(rt, &table));
+    drop_table(table);
+    left
+}
+
+/// What commands answer whose slot is past the last one, empty, free and taken, and the counter
+/// after them.
+fn answers_of_slots(rt: &impl Abort, alloc: Global) -> ([Reply; 5], u64, usize) {
+    let mut session = started(alloc, Config::default());
+    let past = close(&mut session, 64);
+    let empty = close(&mut session, 63);
+    let past_call = call(rt, alloc, &mut session, (How::Create, 1, 64, "a"), &[]);
+    let made = call(rt, alloc, &mut session, (How::Create, 1, 63, "a"), &[]);
+    let taken = call(rt, alloc, &mut session, (How::Create, 1, 63, "b"), &[]);
+    let (counter, listed) = left(rt, finished(session));
+    ([past, empty, past_call, made, taken], counter, listed)
+}
+
+#[test]
+fn slots_are_tested_before_anything_is_called(rt: HostRuntime) {
+    let wanted = [
+        Reply::NoSuchSlot,
+        Reply::SlotEmpty,
+        Reply::NoSuchSlot,
+        Reply::Opened {
+            slot: 63,
+            number: 0,
+        },
+        Reply::SlotInUse,
+    ];
+    assert_same(&rt, answers_of_slots(&rt, rt.alloc()), (wanted, 1, 0));
+}
+
+/// What a session answers that creates and opens a service and closes one slot twice, and the table
+/// behind it.
+fn answers_before_the_end(rt: &impl Abort, alloc: Global) -> ([Reply; 5], Table) {
+    let mut session = started(alloc, Config::default());
+    let first = call(rt, alloc, &mut session, (How::Create, 1, 0, "a"), &[]);
+    let second = call(rt, alloc, &mut session, (How::Open, 2, 1, "a"), &[]);
+    let third = call(rt, alloc, &mut session, (How::Open, 2, 2, "a"), &[]);
+    let closed = close(&mut session, 1);
+    let again = close(&mut session, 1);
+    ([first, second, third, closed, again], finished(session))
+}
+
+/// Those answers, how many services the table lists, what nodes 1 and 2 hold, and its counter.
+fn after_the_end(rt: &impl Abort, alloc: Global) -> ([Reply; 5], usize, [(bool, u64); 2], u64) {
+    let (answers, table) = answers_before_the_end(rt, alloc);
+    let hash = hash_of_events(rt, alloc, "a");
+    let holds = [held(&table, 1, &hash), held(&table, 2, &hash)];
+    let (counter, listed) = left(rt, table);
+    (answers, listed, holds, counter)
+}
+
+#[test]
+fn finishing_closes_every_slot(rt: HostRuntime) {
+    let wanted = [
+        Reply::Opened { slot: 0, number: 0 },
+        Reply::Opened { slot: 1, number: 0 },
+        Reply::Opened { slot: 2, number: 0 },
+        Reply::Closed { slot: 1 },
+        Reply::SlotEmpty,
+    ];
+    let nothing = (false, 0);
+    assert_same(
+        &rt,
+        after_the_end(&rt, rt.alloc()),
+        (wanted, 0, [nothing, nothing], 3),
+    );
+}
+
+/// Settings, the last of which counts.
+const SETTINGS: [EventSetting; 5] = [
+    EventSetting::MaxNodes(9),
+    EventSetting::MaxNotifiers(3),
+    EventSetting::MaxListeners(4),
+    EventSetting::EventIdMaxValue(5),
+    EventSetting::MaxNodes(2),
+];
+
+/// What a create with several settings answers, a second one, and an open of what is missing; and
+/// for how many nodes the service is.
+fn answers_of_settings(rt: &impl Abort, alloc: Global) -> ([Reply; 3], u64) {
+    let mut session = started(alloc, Config::default());
+    let made = call(rt, alloc, &mut session, (How::Create, 1, 0, "a"), &SETTINGS);
+    let (max_nodes, _) = seats(rt, session.table());
+    let refused = call(rt, alloc, &mut session, (How::Create, 1, 1, "a"), &[]);
+    let missing = call(rt, alloc, &mut session, (How::Open, 1, 1, "b"), &[]);
+    drop_table(finished(session));
+    ([made, refused, missing], max_nodes)
+}
+
+#[test]
+fn settings_are_set_in_order(rt: HostRuntime) {
+    let wanted = [
+        Reply::Opened { slot: 0, number: 0 },
+        Reply::Refused(Refusal::EventCreate(EventCreateError::AlreadyExists)),
+        Reply::Refused(Refusal::EventOpen(EventOpenError::DoesNotExist)),
+    ];
+    assert_same(&rt, answers_of_settings(&rt, rt.alloc()), (wanted, 2));
+}
+
+/// A configuration with a deadline of one second.
+fn with_deadline() -> Config {
+    let mut config = Config::default();
+    config.event.deadline = Duration::new(1, 0);
+    config
+}
+
+/// What creates and opens answer that are refused, each for its own reason.
+fn refusals(rt: &impl Abort, alloc: Global) -> [Reply; 6] {
+    let mut session = started(alloc, with_deadline());
+    let one = [EventSetting::MaxNodes(1)];
+    let two = [EventSetting::MaxNodes(2)];
+    let missing = call(rt, alloc, &mut session, (How::Open, 1, 0, "a"), &[]);
+    let attributes = AttributeVerifier::new(alloc);
+    let create = (How::Create, 1, 1, "a");
+    let create = command(rt, alloc, create, &[], attributes, Err(ClockFault));
+    let untimed = apply(&mut session, create);
+    let made = call(rt, alloc, &mut session, (How::Create, 2, 0, "a"), &one);
+    let there = call(rt, alloc, &mut session, (How::Create, 1, 1, "a"), &[]);
+    let small = call(rt, alloc, &mut session, (How::Open, 2, 1, "a"), &two);
+    let full = call(rt, alloc, &mut session, (How::Open, 1, 1, "a"), &[]);
+    drop_table(finished(session));
+    [missing, untimed, made, there, small, full]
+}
+
+#[test]
+fn each_refusal_has_its_own_name(rt: HostRuntime) {
+    let wanted = [
+        Reply::Refused(Refusal::EventOpen(EventOpenError::DoesNotExist)),
+        Reply::Refused(Refusal::EventCreate(EventCreateError::InternalFailure)),
+        Reply::Opened { slot: 0, number: 0 },
+        Reply::Refused(Refusal::EventCreate(EventCreateError::AlreadyExists)),
+        Reply::Refused(Refusal::EventOpen(EventOpenError::DoesNotSupportRequestedAmountOfNodes)),
+        Reply::Refused(Refusal::EventOpen(EventOpenError::ExceedsMaxNumberOfNodes)),
+    ];
+    assert_same(&rt, refusals(&rt, rt.alloc()), wanted);
+}
