@@ -2,7 +2,9 @@
 
 use crate::support::*;
 use iceoryx2_description::config::{Config, Event, PublishSubscribe, RequestResponse};
-use iceoryx2_description::description::{MessagingPattern, ServiceHash, ServiceName, ServiceNameError};
+use iceoryx2_description::description::{
+    MessagingPattern, ServiceHash, ServiceName, ServiceNameError,
+};
 use iceoryx2_description::event;
 use iceoryx2_description::event::EventId;
 use iceoryx2_description::time::{Duration, Time};

@@ -2,11 +2,13 @@
 //! that a test that makes several of them sees answers and no contracts.
 
 use iceoryx2_byte_form::bytes::{DecodeError, decode, encode};
+use iceoryx2_description::description::{
+    MessagingPattern, ServiceName, ServiceNameError, StaticConfig,
+};
+use iceoryx2_description::{config, publish_subscribe, request_response};
 use iceoryx2_types::types::publish_subscribe::Header;
 use iceoryx2_types::types::request_response::{RequestHeader, ResponseHeader};
 use iceoryx2_types::types::{MessageTypeDetails, Slice, ZeroCopySend};
-use iceoryx2_description::description::{MessagingPattern, ServiceName, ServiceNameError, StaticConfig};
-use iceoryx2_description::{config, publish_subscribe, request_response};
 use std::alloc::Global;
 use std::fmt::{Debug, Display};
 use std::process::Abort;

@@ -1,5 +1,5 @@
 pub mod Letter
 pub mod Run
-pub mod Factory
+pub mod Registered
 pub mod MayRefuse
 pub mod Counts

@@ -32,7 +32,7 @@ pub const MAX_ATTRIBUTES: usize = 64;
 pub const MAX_REQUIRED_KEYS: usize = 64;
 
 /// The limits as numbers, since a wrong constant would go with the definitions that cite it.
-pub fn limits()
+pub fn limits_of_attributes()
     ensures min_key { MIN_KEY_LENGTH ≡ 1 }
     ensures max_key { MAX_KEY_LENGTH ≡ 64 }
     ensures max_value { MAX_VALUE_LENGTH ≡ 256 }

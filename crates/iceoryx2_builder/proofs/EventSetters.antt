@@ -1,11 +1,11 @@
 -- Setters of events: each sets its own setting.
 use Rattle.std.proofs.Common.{◌≡◌, refl, arith}
 use Rattle.iceoryx2_builder.specs.Setters.{AreSetters, event_place}
-use Rattle.iceoryx2_event_builder.specs.Request.{EventRequest, with_setting}
-use Rattle.iceoryx2_event_builder.specs.declared.event.setting.EventSetting.{EventSetting}
-use Rattle.iceoryx2_event_builder.specs.declared.event.setting.EventSetting.TheVariants as set
+use Rattle.iceoryx2_event_builder.specs.Request.{EventBuilderState, with_setting}
+use Rattle.iceoryx2_event_builder.specs.declared.event.setting.EventSetter.{EventSetter}
+use Rattle.iceoryx2_event_builder.specs.declared.event.setting.EventSetter.TheVariants as set
 
-commute : (asked : EventRequest) (one other : EventSetting) → (event_place one ≡ event_place other → ⊥)
+commute : (asked : EventBuilderState) (one other : EventSetter) → (event_place one ≡ event_place other → ⊥)
     → with_setting (with_setting asked one) other ≡ with_setting (with_setting asked other) one
 commute asked (set.MaxNotifiers a) (set.MaxNotifiers b) apart = absurd (apart refl)
 commute asked (set.MaxNotifiers a) other apart = refl
@@ -24,7 +24,7 @@ commute asked (set.NotifierDeadEvent a) other apart = refl
 commute asked (set.Deadline a) (set.Deadline b) apart = absurd (apart refl)
 commute asked (set.Deadline a) other apart = refl
 
-last_stands : (asked : EventRequest) (one other : EventSetting) → event_place one ≡ event_place other
+last_stands : (asked : EventBuilderState) (one other : EventSetter) → event_place one ≡ event_place other
     → with_setting (with_setting asked one) other ≡ with_setting asked other
 last_stands asked (set.MaxNotifiers a) (set.MaxNotifiers b) same = refl
 last_stands asked (set.MaxNotifiers a) other same = absurd (omega arith)

@@ -1,11 +1,11 @@
 -- Setters of publish-subscribe: each sets its own setting.
 use Rattle.std.proofs.Common.{◌≡◌, refl, arith}
 use Rattle.iceoryx2_builder.specs.Setters.{AreSetters, publish_subscribe_place}
-use Rattle.iceoryx2_publish_subscribe_builder.specs.Request.{PublishSubscribeRequest, with_setting}
-use Rattle.iceoryx2_publish_subscribe_builder.specs.declared.publish_subscribe.setting.PublishSubscribeSetting.{PublishSubscribeSetting}
-use Rattle.iceoryx2_publish_subscribe_builder.specs.declared.publish_subscribe.setting.PublishSubscribeSetting.TheVariants as set
+use Rattle.iceoryx2_publish_subscribe_builder.specs.Request.{PublishSubscribeBuilderState, with_setting}
+use Rattle.iceoryx2_publish_subscribe_builder.specs.declared.publish_subscribe.setting.PublishSubscribeSetter.{PublishSubscribeSetter}
+use Rattle.iceoryx2_publish_subscribe_builder.specs.declared.publish_subscribe.setting.PublishSubscribeSetter.TheVariants as set
 
-commute : (asked : PublishSubscribeRequest) (one other : PublishSubscribeSetting) → (publish_subscribe_place one ≡ publish_subscribe_place other → ⊥)
+commute : (asked : PublishSubscribeBuilderState) (one other : PublishSubscribeSetter) → (publish_subscribe_place one ≡ publish_subscribe_place other → ⊥)
     → with_setting (with_setting asked one) other ≡ with_setting (with_setting asked other) one
 commute asked (set.MaxPublishers a) (set.MaxPublishers b) apart = absurd (apart refl)
 commute asked (set.MaxPublishers a) other apart = refl
@@ -28,7 +28,7 @@ commute asked (set.PayloadType a) other apart = refl
 commute asked (set.UserHeaderType a) (set.UserHeaderType b) apart = absurd (apart refl)
 commute asked (set.UserHeaderType a) other apart = refl
 
-last_stands : (asked : PublishSubscribeRequest) (one other : PublishSubscribeSetting) → publish_subscribe_place one ≡ publish_subscribe_place other
+last_stands : (asked : PublishSubscribeBuilderState) (one other : PublishSubscribeSetter) → publish_subscribe_place one ≡ publish_subscribe_place other
     → with_setting (with_setting asked one) other ≡ with_setting asked other
 last_stands asked (set.MaxPublishers a) (set.MaxPublishers b) same = refl
 last_stands asked (set.MaxPublishers a) other same = absurd (omega arith)

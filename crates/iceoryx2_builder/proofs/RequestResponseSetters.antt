@@ -1,11 +1,11 @@
 -- Setters of request-response: each sets its own setting.
 use Rattle.std.proofs.Common.{◌≡◌, refl, arith}
 use Rattle.iceoryx2_builder.specs.Setters.{AreSetters, request_response_place}
-use Rattle.iceoryx2_request_response_builder.specs.Request.{RequestResponseRequest, with_setting}
-use Rattle.iceoryx2_request_response_builder.specs.declared.request_response.setting.RequestResponseSetting.{RequestResponseSetting}
-use Rattle.iceoryx2_request_response_builder.specs.declared.request_response.setting.RequestResponseSetting.TheVariants as set
+use Rattle.iceoryx2_request_response_builder.specs.Request.{RequestResponseBuilderState, with_setting}
+use Rattle.iceoryx2_request_response_builder.specs.declared.request_response.setting.RequestResponseSetter.{RequestResponseSetter}
+use Rattle.iceoryx2_request_response_builder.specs.declared.request_response.setting.RequestResponseSetter.TheVariants as set
 
-commute : (asked : RequestResponseRequest) (one other : RequestResponseSetting) → (request_response_place one ≡ request_response_place other → ⊥)
+commute : (asked : RequestResponseBuilderState) (one other : RequestResponseSetter) → (request_response_place one ≡ request_response_place other → ⊥)
     → with_setting (with_setting asked one) other ≡ with_setting (with_setting asked other) one
 commute asked (set.EnableSafeOverflowForRequests a) (set.EnableSafeOverflowForRequests b) apart = absurd (apart refl)
 commute asked (set.EnableSafeOverflowForRequests a) other apart = refl
@@ -40,7 +40,7 @@ commute asked (set.ResponsePayloadType a) other apart = refl
 commute asked (set.ResponseHeaderType a) (set.ResponseHeaderType b) apart = absurd (apart refl)
 commute asked (set.ResponseHeaderType a) other apart = refl
 
-last_stands : (asked : RequestResponseRequest) (one other : RequestResponseSetting) → request_response_place one ≡ request_response_place other
+last_stands : (asked : RequestResponseBuilderState) (one other : RequestResponseSetter) → request_response_place one ≡ request_response_place other
     → with_setting (with_setting asked one) other ≡ with_setting asked other
 last_stands asked (set.EnableSafeOverflowForRequests a) (set.EnableSafeOverflowForRequests b) same = refl
 last_stands asked (set.EnableSafeOverflowForRequests a) other same = absurd (omega arith)

@@ -1,11 +1,11 @@
 -- Setters of a builder, each with the place of the setting that it sets among the builder's settings.
 use Rattle.std.specs.Prelude.{◌≡◌, ℕ}
-use Rattle.iceoryx2_event_builder.specs.declared.event.setting.EventSetting.{EventSetting}
-use Rattle.iceoryx2_event_builder.specs.declared.event.setting.EventSetting.TheVariants as event
-use Rattle.iceoryx2_publish_subscribe_builder.specs.declared.publish_subscribe.setting.PublishSubscribeSetting.{PublishSubscribeSetting}
-use Rattle.iceoryx2_publish_subscribe_builder.specs.declared.publish_subscribe.setting.PublishSubscribeSetting.TheVariants as publish_subscribe
-use Rattle.iceoryx2_request_response_builder.specs.declared.request_response.setting.RequestResponseSetting.{RequestResponseSetting}
-use Rattle.iceoryx2_request_response_builder.specs.declared.request_response.setting.RequestResponseSetting.TheVariants as request_response
+use Rattle.iceoryx2_event_builder.specs.declared.event.setting.EventSetter.{EventSetter}
+use Rattle.iceoryx2_event_builder.specs.declared.event.setting.EventSetter.TheVariants as event
+use Rattle.iceoryx2_publish_subscribe_builder.specs.declared.publish_subscribe.setting.PublishSubscribeSetter.{PublishSubscribeSetter}
+use Rattle.iceoryx2_publish_subscribe_builder.specs.declared.publish_subscribe.setting.PublishSubscribeSetter.TheVariants as publish_subscribe
+use Rattle.iceoryx2_request_response_builder.specs.declared.request_response.setting.RequestResponseSetter.{RequestResponseSetter}
+use Rattle.iceoryx2_request_response_builder.specs.declared.request_response.setting.RequestResponseSetter.TheVariants as request_response
 
 -- R is what a builder asks, and S are its setters.
 pub record AreSetters {R S : Type 0} (with_setting : R → S → R) (place : S → ℕ) : Type 0 where
@@ -16,7 +16,7 @@ pub record AreSetters {R S : Type 0} (with_setting : R → S → R) (place : S �
   pub last_stands : (asked : R) (one other : S) → place one ≡ place other
       → with_setting (with_setting asked one) other ≡ with_setting asked other
 
-abbrev pub event_place : EventSetting → ℕ
+abbrev pub event_place : EventSetter → ℕ
 event_place (event.MaxNotifiers value) = 0
 event_place (event.MaxListeners value) = 1
 event_place (event.EventIdMaxValue value) = 2
@@ -26,7 +26,7 @@ event_place (event.NotifierDroppedEvent value) = 5
 event_place (event.NotifierDeadEvent value) = 6
 event_place (event.Deadline value) = 7
 
-abbrev pub publish_subscribe_place : PublishSubscribeSetting → ℕ
+abbrev pub publish_subscribe_place : PublishSubscribeSetter → ℕ
 publish_subscribe_place (publish_subscribe.MaxPublishers value) = 0
 publish_subscribe_place (publish_subscribe.MaxSubscribers value) = 1
 publish_subscribe_place (publish_subscribe.SubscriberMaxBufferSize value) = 2
@@ -38,7 +38,7 @@ publish_subscribe_place (publish_subscribe.PayloadAlignment value) = 7
 publish_subscribe_place (publish_subscribe.PayloadType value) = 8
 publish_subscribe_place (publish_subscribe.UserHeaderType value) = 9
 
-abbrev pub request_response_place : RequestResponseSetting → ℕ
+abbrev pub request_response_place : RequestResponseSetter → ℕ
 request_response_place (request_response.EnableSafeOverflowForRequests value) = 0
 request_response_place (request_response.EnableSafeOverflowForResponses value) = 1
 request_response_place (request_response.EnableFireAndForgetRequests value) = 2

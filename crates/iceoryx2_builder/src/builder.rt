@@ -5,13 +5,13 @@ ghost use Rattle.iceoryx2_attribute.specs.Requirements.{Requirements};
 ghost use Rattle.iceoryx2_builder.specs.Setters.{AreSetters, event_place, publish_subscribe_place, request_response_place};
 ghost use Rattle.iceoryx2_builder.specs.Weaker.{AreSomeOf};
 ghost use Rattle.iceoryx2_builder.specs.Weaker.{IsWeakerEvent, IsWeakerPublishSubscribe, IsWeakerRequestResponse};
-ghost use Rattle.iceoryx2_builder_common.specs.Builders.{IsBuilder};
+ghost use Rattle.iceoryx2_builder_common.specs.Builders.{IsLawfulBuilder};
 ghost use Rattle.iceoryx2_open_or_create.specs.Adjusting.{Accepts, OnlyRaises};
 ghost use Rattle.iceoryx2_open_or_create.specs.EndsAtOnce.{EndsAtOnce};
 ghost use Rattle.iceoryx2_pattern.specs.OwnAttributes.{defining, requiring};
 ghost use Rattle.iceoryx2_description.specs.Description.{Description};
 ghost use Rattle.iceoryx2_event_builder.specs.Event.{event_adjusted, event_creating, event_meaning, event_opening, event_retried};
-ghost use Rattle.iceoryx2_event_builder.specs.Request.{fresh_request, with_setting as with_event_setting};
+ghost use Rattle.iceoryx2_event_builder.specs.Request.{fresh_builder, with_setting as with_event_setting};
 ghost use Rattle.iceoryx2_event_builder.specs.declared.event.demand.EventDemand.{EventDemand};
 ghost use Rattle.iceoryx2_types.specs.Types.{IsCompatible, Message};
 ghost use Rattle.iceoryx2_publish_subscribe_builder.specs.PublishSubscribe.{publish_subscribe_adjusted as raised_publish_subscribe};
@@ -20,11 +20,11 @@ ghost use Rattle.iceoryx2_publish_subscribe_builder.specs.PublishSubscribe.{publ
 ghost use Rattle.iceoryx2_publish_subscribe_builder.specs.PublishSubscribe.{publish_subscribe_retried};
 ghost use Rattle.iceoryx2_publish_subscribe_builder.specs.PublishSubscribe.{prepared_meaning as publish_subscribe_meaning};
 ghost use Rattle.iceoryx2_publish_subscribe_builder.specs.PublishSubscribe.{prepared_adjusted as publish_subscribe_adjusted};
-ghost use Rattle.iceoryx2_publish_subscribe_builder.specs.Request.{fresh_request as fresh_publish_subscribe};
+ghost use Rattle.iceoryx2_publish_subscribe_builder.specs.Request.{fresh_builder as fresh_publish_subscribe};
 ghost use Rattle.iceoryx2_publish_subscribe_builder.specs.Request.{with_setting as with_publish_subscribe_setting};
 ghost use Rattle.iceoryx2_publish_subscribe_builder.specs.declared.publish_subscribe.demand.PublishSubscribeDemand.{PublishSubscribeDemand};
 ghost use Rattle.iceoryx2_publish_subscribe_builder.specs.declared.publish_subscribe.demand.PreparedDemand.{PreparedDemand as PreparedPublishSubscribe};
-ghost use Rattle.iceoryx2_request_response_builder.specs.Request.{fresh_request as fresh_request_response};
+ghost use Rattle.iceoryx2_request_response_builder.specs.Request.{fresh_builder as fresh_request_response};
 ghost use Rattle.iceoryx2_request_response_builder.specs.Request.{with_setting as with_request_response_setting};
 ghost use Rattle.iceoryx2_request_response_builder.specs.RequestResponse.{request_response_adjusted as raised_request_response};
 ghost use Rattle.iceoryx2_request_response_builder.specs.RequestResponse.{request_response_creating};
@@ -37,12 +37,12 @@ ghost use Rattle.iceoryx2_request_response_builder.specs.declared.request_respon
 
 use iceoryx2_access::storage::Service;
 use iceoryx2_builder_common::base::BuilderWithServiceType;
+use iceoryx2_description::config::Config;
+use iceoryx2_description::description::ServiceName;
 pub use iceoryx2_event_builder::event;
 pub use iceoryx2_publish_subscribe_builder::publish_subscribe;
 pub use iceoryx2_request_response_builder::request_response;
 use iceoryx2_types::types::{self, ZeroCopySend};
-use iceoryx2_description::config::Config;
-use iceoryx2_description::description::ServiceName;
 use std::alloc::AllocError;
 use std::marker::{Model, PhantomData};
 
@@ -178,7 +178,7 @@ impl<S: Service> Builder<S> {
 
     /// A builder of a service of events, with the node's settings, of which none is required.
     pub fn event(self) -> event::Builder<S>
-        ensures { result ≡ fresh_request self.node self.name self.config.event }
+        ensures { result ≡ fresh_builder self.node self.name self.config.event }
     {
         let (base, config) = self.parts();
         event::Builder::new(base, config.event)
@@ -243,10 +243,10 @@ pub fn laws()
 /// what fits it and meets each setting that it requires, whatever attributes are defined. And what a
 /// table that nobody else uses refuses is not tried again by an open or create.
 pub fn laws_of_calls()
-    ensures events { (demand : EventDemand) → IsBuilder (event_creating demand) (event_opening demand) }
+    ensures events { (demand : EventDemand) → IsLawfulBuilder (event_creating demand) (event_opening demand) }
     ensures publish_subscribe { (demand : PublishSubscribeDemand) (message : Message)
-        → IsBuilder (publish_subscribe_creating demand message) (publish_subscribe_opening demand message) }
-    ensures request_response { (demand : RequestResponseDemand) (request response : Message) → IsBuilder
+        → IsLawfulBuilder (publish_subscribe_creating demand message) (publish_subscribe_opening demand message) }
+    ensures request_response { (demand : RequestResponseDemand) (request response : Message) → IsLawfulBuilder
         (request_response_creating demand request response) (request_response_opening demand request response) }
     ensures events_end_at_once { (demand : EventDemand) (required : Requirements)
         → EndsAtOnce event_retried (event_creating demand required.pairs) (event_opening demand required) }

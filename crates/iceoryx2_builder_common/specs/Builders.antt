@@ -12,7 +12,7 @@ use Rattle.iceoryx2_create_and_open.specs.OwnSettings.{AcceptsOwn}
 -- What a builder's create and open mean, with the attributes that they define and require: they name
 -- what every pattern has in the same way, a create publishes for one node or more, and the builder
 -- takes what it created, if it requires no attributes.
-pub record IsBuilder {F E C : Type 0}
+pub record IsLawfulBuilder {F E C : Type 0}
     (creating : List Pair → Meaning F E C) (opening : Requirements → Meaning F E C) : Type 0 where
   pub creating_is_regular : (given : List Pair) → IsRegular (creating given)
   pub opening_is_regular : (required : Requirements) → IsRegular (opening required)

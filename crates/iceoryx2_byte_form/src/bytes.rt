@@ -62,7 +62,7 @@ pub fn decode(alloc: Global, bytes: &[u8]) -> Result<StaticConfig, DecodeError>
 }
 
 /// The laws of the byte form.
-pub fn laws()
+pub fn laws_of_forms()
     // Each description has a byte form,
     ensures exists { (d : Description) → IsDescription d → (bytes : List ℕ) × IsForm d bytes }
 

@@ -1,4 +1,4 @@
-pub mod Seats
+pub mod NodeViews
 pub mod Here
 pub mod Absent
 pub mod Lift

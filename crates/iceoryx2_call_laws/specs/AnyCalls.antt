@@ -1,7 +1,7 @@
 -- One call of a builder, whatever its pattern and whichever of its three calls it is.
 use Rattle.std.specs.Prelude.{◌≡◌, ◌⊎◌, ℕ, Bool, true, false, List, Result}
 use Rattle.iceoryx2_description.specs.Description.{Description}
-use Rattle.iceoryx2_access.specs.Factory.{Factory}
+use Rattle.iceoryx2_access.specs.Registered.{Registered}
 use Rattle.iceoryx2_access.specs.Letter.{Letter}
 use Rattle.iceoryx2_pattern.specs.declared.pattern.OpenRefusal.TheVariants as open_refusal
 use Rattle.iceoryx2_pattern.specs.declared.pattern.CreateRefusal.TheVariants as create_refusal
@@ -36,8 +36,8 @@ pub record AnyCall (D F E C : Type 0) : Type 0 where
   pub prepares : Bool
 
 -- A word, of a call that prepares its types first where it does.
-abbrev pub PreparedIf : {E : Type 0} → Bool → E → (List Letter → Result Factory E → Type 0)
-    → List Letter → Result Factory E → Type 0
+abbrev pub PreparedIf : {E : Type 0} → Bool → E → (List Letter → Result Registered E → Type 0)
+    → List Letter → Result Registered E → Type 0
 PreparedIf true no_memory IsWord = IsPrepared no_memory IsWord
 PreparedIf false no_memory IsWord = IsWord
 
@@ -51,7 +51,7 @@ module _ {D F E C : Type 0} (c : AnyCall D F E C) where
   opening = requiring c.asks.required (c.asks.meaning c.asks.asked)
 
   -- The words of the call with their answers.
-  abbrev pub IsWordBy : (way : Way) → List Letter → Result Factory (ErrorBy E C way) → Type 0
+  abbrev pub IsWordBy : (way : Way) → List Letter → Result Registered (ErrorBy E C way) → Type 0
   IsWordBy ToCreate word answer = PreparedIf c.prepares (creating.create_refusal create_refusal.OutOfMemory)
       (IsCreateWord creating c.asks.node c.asks.hash c.asks.name c.asks.now) word answer
   IsWordBy ToOpen word answer = PreparedIf c.prepares (opening.open_refusal open_refusal.OutOfMemory)
@@ -60,7 +60,7 @@ module _ {D F E C : Type 0} (c : AnyCall D F E C) where
       PreparedIf c.prepares (refusal.Open ((c.asks.meaning c.asks.asked).open_refusal open_refusal.OutOfMemory))
       (IsAttemptWord c.asks) word answer
 
-  abbrev pub IsWordOf : List Letter → Result Factory (ErrorBy E C c.way) → Type 0
+  abbrev pub IsWordOf : List Letter → Result Registered (ErrorBy E C c.way) → Type 0
   IsWordOf word answer = IsWordBy c.way word answer
 
   -- The description of the call's hash that meets its requirement,

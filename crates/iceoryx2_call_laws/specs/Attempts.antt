@@ -5,7 +5,7 @@ use Rattle.iceoryx2_description.specs.declared.description.ServiceHash.{ServiceH
 use Rattle.iceoryx2_description.specs.declared.time.ClockFault.{ClockFault}
 use Rattle.iceoryx2_description.specs.Description.{Description}
 use Rattle.iceoryx2_description.specs.Span.{Span}
-use Rattle.iceoryx2_access.specs.Factory.{Factory}
+use Rattle.iceoryx2_access.specs.Registered.{Registered}
 use Rattle.iceoryx2_access.specs.Letter.{Letter}
 use Rattle.iceoryx2_pattern.specs.Meaning.{Meaning}
 use Rattle.iceoryx2_open_or_create.specs.Retried.{Retried}
@@ -28,11 +28,11 @@ pub record Attempt (D F E C : Type 0) : Type 0 where
 
 module _ {D F E C : Type 0} (a : Attempt D F E C) where
   -- A word of this open or create,
-  abbrev pub IsAttemptWord : List Letter → Result Factory (OpenOrCreateRefusal E C) → Type 0
+  abbrev pub IsAttemptWord : List Letter → Result Registered (OpenOrCreateRefusal E C) → Type 0
   IsAttemptWord = IsOpenOrCreateWord a.meaning a.adjusted a.retried a.required a.node a.hash a.name a.now a.asked
 
   -- which may prepare its types first.
-  abbrev pub IsAttempted : List Letter → Result Factory (OpenOrCreateRefusal E C) → Type 0
+  abbrev pub IsAttempted : List Letter → Result Registered (OpenOrCreateRefusal E C) → Type 0
   IsAttempted = IsOpenOrCreateCall a.meaning a.adjusted a.retried a.required a.node a.hash a.name a.now a.asked
 
   -- A description that a round of it accepted, or that a round of it published.

@@ -5,7 +5,7 @@ use Rattle.iceoryx2_world.specs.declared.world.Participant.TheVariants.{Node}
 use Rattle.iceoryx2_world.specs.World.{World, count_of}
 use Rattle.iceoryx2_access.specs.Letter.{Letter}
 use Rattle.iceoryx2_world.specs.Peers.{IsAccess}
-use Rattle.iceoryx2_world.specs.Faulty.{IsFaulty}
+use Rattle.iceoryx2_world.specs.Fallible.{IsFallibleAccess}
 use Rattle.iceoryx2_world.specs.Calm.{SameServices}
 
 -- Whatever states the accesses of this word lead through, it is true of each: before the first access, between
@@ -29,6 +29,6 @@ pub record ChangesLast (node : ℕ) (hash : ServiceHash) (w : World) (word : Lis
   pub front : List Letter
   pub final : Letter
   pub in_order : word ≡ front ++ final ∷ []
-  pub calm : AtEach IsFaulty ActsCalmly w front
+  pub calm : AtEach IsFallibleAccess ActsCalmly w front
   pub change : (u v : World) (a : IsAccess u final v)
       → count_of v (Node node) hash ≡ count_of a.between (Node node) hash + 1

@@ -5,7 +5,7 @@ use Rattle.iceoryx2_description.specs.declared.description.ServiceHash.{ServiceH
 use Rattle.iceoryx2_access.specs.declared.storage.RemoveError.{RemoveError}
 use Rattle.iceoryx2_access.specs.declared.storage.Release.TheVariants as leave
 use Rattle.iceoryx2_access.specs.Letter.{Letter, RemoveTag, RemoveSegment, RemoveDescription}
-use Rattle.iceoryx2_access.specs.Factory.{Factory}
+use Rattle.iceoryx2_access.specs.Registered.{Registered}
 use Rattle.iceoryx2_world.specs.Sets as set
 use Rattle.iceoryx2_world.specs.declared.world.Participant.TheVariants.{Node}
 use Rattle.iceoryx2_world.specs.declared.world.Phase.{Phase}
@@ -41,7 +41,7 @@ abbrev pub phase_after : (segment description : Result (Unit {0}) RemoveError) â
 phase_after segment (Ok a) n = at.Idle
 phase_after segment (Err e) n = last_phase segment n
 
-module _ (r : Factory) (w v : World) where
+module _ (r : Registered) (w v : World) where
   abbrev node : â„•
   node = r.node
 

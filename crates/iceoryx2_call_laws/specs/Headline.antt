@@ -1,6 +1,6 @@
 -- What every call comes to, over a storage with a world inside.
 use Rattle.std.specs.Prelude.{◌≡◌, ◌≢◌, ◌≤◌, ℕ, List, Result, Ok, IfOk}
-use Rattle.iceoryx2_access.specs.Factory.{Factory}
+use Rattle.iceoryx2_access.specs.Registered.{Registered}
 use Rattle.iceoryx2_access.specs.Letter.{Letter}
 use Rattle.iceoryx2_access.specs.Run.{Each, Run}
 use Rattle.iceoryx2_world.specs.World.{World, phase_of}
@@ -11,11 +11,11 @@ use Rattle.iceoryx2_call_laws.specs.Calls.{Throughout}
 use Rattle.iceoryx2_call_laws.specs.AnyCalls.{AnyCall, ErrorBy, IsShortBy, IsWordOf, MayCarryBy}
 
 -- An open factory, as the world shows it.
-pub record IsOpen (w : World) (f : Factory) : Type 0 where
+pub record IsOpen (w : World) (f : Registered) : Type 0 where
   -- it carries the description that is published for its service, and its segment is there with its node,
   pub stands : Stands w f
   -- the one that each open factory of this service carries,
-  pub one_description : (g : Factory) → Stands w g → g.description.hash ≡ f.description.hash
+  pub one_description : (g : Registered) → Stands w g → g.description.hash ≡ f.description.hash
       → g.description ≡ f.description
   -- and among at most `max_nodes` nodes
   pub among : IsSegmentOf f.description f.number (λ p. phase_of w p f.description.hash) stands.segment.segment
@@ -23,7 +23,7 @@ pub record IsOpen (w : World) (f : Factory) : Type 0 where
 module _ {S : Type 0} (step : S → Letter → S → Type 0) (world : S → World)
     {D F E C : Type 0} (c : AnyCall D F E C) where
   -- The factory with which a call from s to t answered Ok.
-  pub record IsGiven (s t : S) (r : Factory) : Type 0 where
+  pub record IsGiven (s t : S) (r : Registered) : Type 0 where
     -- of the caller and the service that it named
     pub node : r.node ≡ c.asks.node
     pub hash : r.description.hash ≡ c.asks.hash
@@ -31,25 +31,25 @@ module _ {S : Type 0} (step : S → Letter → S → Type 0) (world : S → Worl
     pub carries : MayCarryBy c c.way r.description
     -- its ticket is not below the counter that the call found, so no factory that was open has it
     pub ticket : (world s).counter ≤ r.ticket
-    pub new_ticket : (f : Factory) → Stands (world s) f → f.ticket ≢ r.ticket
+    pub new_ticket : (f : Registered) → Stands (world s) f → f.ticket ≢ r.ticket
     -- it is open, and stays so after every access of anybody, until its own ticket is released
     pub stays_open : (more : List Letter) → Each (Spares r) more
         → Throughout step (λ u. IsOpen (world u) r) t more
 
   -- A call from s to t along this word, with this answer.
-  pub record IsAsPromised (s : S) (word : List Letter) (answer : Result Factory (ErrorBy E C c.way)) (t : S)
+  pub record IsAsPromised (s : S) (word : List Letter) (answer : Result Registered (ErrorBy E C c.way)) (t : S)
       : Type 0 where
     -- within fixed counts
     pub counts : IsShortBy c.way word
     -- after every access each factory that was open is open
-    pub stay_open : (f : Factory) → Stands (world s) f → Throughout step (λ u. IsOpen (world u) f) s word
+    pub stay_open : (f : Registered) → Stands (world s) f → Throughout step (λ u. IsOpen (world u) f) s word
     -- and so is the one that it gave
     pub given : IfOk answer (IsGiven s t)
     -- and so on with the next call
     pub agrees : Agrees (world t)
 
 module _ {S : Type 0} (step : S → Letter → S → Type 0) (world : S → World)
-    {D F E C : Type 0} (c : AnyCall D F E C) (f : Factory) where
+    {D F E C : Type 0} (c : AnyCall D F E C) (f : Registered) where
   -- The call has answered Ok with this factory, over a world that agreed, and since then no release of its ticket was
   -- granted, whatever else reached the storage.
   pub data IsOpenSince : S → Type 0 where
@@ -58,7 +58,7 @@ module _ {S : Type 0} (step : S → Letter → S → Type 0) (world : S → Worl
     spared : {letter : Letter} {s t : S} → IsOpenSince s → Spares f letter → step s letter t → IsOpenSince t
 
 -- The factory is open, with what the call that gave it asked.
-pub record IsOpenAsAsked {D F E C : Type 0} (c : AnyCall D F E C) (w : World) (f : Factory) : Type 0 where
+pub record IsOpenAsAsked {D F E C : Type 0} (c : AnyCall D F E C) (w : World) (f : Registered) : Type 0 where
   pub is_open : IsOpen w f
   pub node : f.node ≡ c.asks.node
   pub hash : f.description.hash ≡ c.asks.hash

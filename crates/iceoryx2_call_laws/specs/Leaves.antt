@@ -11,8 +11,8 @@ use Rattle.iceoryx2_world.specs.Orders.{tag_cmp}
 use Rattle.iceoryx2_world.specs.World.{World, Segment, row_of, segment_of, phase_of, begins, locked_number, row_number}
 use Rattle.iceoryx2_world.specs.Agreement.{IsSpent}
 use Rattle.iceoryx2_access.specs.Run.{Each, Run}
-use Rattle.iceoryx2_world.specs.Faulty.{IsFaulty}
-use Rattle.iceoryx2_create_and_open.specs.Keeps.{KeptLock, NoLock, GivenBack, GivesAllBack}
+use Rattle.iceoryx2_world.specs.Fallible.{IsFallibleAccess}
+use Rattle.iceoryx2_create_and_open.specs.TracksOwned.{OwnedLock, NoLock, GivenBack, GivesAllBack}
 
 -- A removal is granted.
 abbrev pub IsGranted : Letter → Type 0
@@ -58,13 +58,13 @@ module _ (node : ℕ) (hash : ServiceHash) where
     pub segment : is_segment_left ≡ false → LacksSegment v hash n
 
   -- A call that locked nothing has read at most.
-  abbrev pub LeavesOfLock : KeptLock → (w v : World) → Type 0
+  abbrev pub LeavesOfLock : OwnedLock → (w v : World) → Type 0
   LeavesOfLock NoLock w v = NodeHasRead w v
   LeavesOfLock (GivenBack n is_lock_left is_segment_left) w v = LeavesGivenBack n is_lock_left is_segment_left w v
   LeavesOfLock _ w v = ⊥
 
   -- All that stays, where the call's removals left this of its tag and its lock.
-  pub record Leaves (is_tag_left : Bool) (lock : KeptLock) (w v : World) : Type 0 where
+  pub record Leaves (is_tag_left : Bool) (lock : OwnedLock) (w v : World) : Type 0 where
     pub tickets : v.tickets ≡ w.tickets
     pub tags : v.tags ≡ tags_after is_tag_left w.tags (node, hash)
     pub of_lock : LeavesOfLock lock w v
@@ -81,7 +81,7 @@ module _ (node : ℕ) (hash : ServiceHash) where
   IsGone n false v = IsSpent v hash n
   IsGone n true v = (n < v.counter) × LacksRow v hash n
 
-  abbrev pub StaysAway : KeptLock → World → Type 0
+  abbrev pub StaysAway : OwnedLock → World → Type 0
   StaysAway (GivenBack n false is_segment_left) v = IsGone n is_segment_left v
   StaysAway _ v = Unit {0}
 
@@ -90,6 +90,6 @@ module _ (node : ℕ) (hash : ServiceHash) where
   -- the end.
   pub data LeavesByRounds (w end : World) : List Letter → World → Type 0 where
     no_round : LeavesByRounds w end [] w
-    one_more : {u v : List Letter} {x y : World} → LeavesByRounds w end u x → Run IsFaulty x v y
+    one_more : {u v : List Letter} {x y : World} → LeavesByRounds w end u x → Run IsFallibleAccess x v y
         → (g : GivesAllBack node hash v) → Leaves g.is_tag_left g.lock x y → StaysAway g.lock end
         → LeavesByRounds w end (u ++ v) y

@@ -3,7 +3,7 @@ use Rattle.std.specs.Prelude.{◌≡◌, ◌<◌, ◌≤◌, ℕ, Bool, true, fa
 use Rattle.iceoryx2_description.specs.declared.description.ServiceHash.{ServiceHash}
 use Rattle.iceoryx2_description.specs.declared.time.ClockFault.{ClockFault}
 use Rattle.iceoryx2_description.specs.Span.{Span}
-use Rattle.iceoryx2_access.specs.Factory.{Factory}
+use Rattle.iceoryx2_access.specs.Registered.{Registered}
 use Rattle.iceoryx2_world.specs.Steps.{last_number}
 use Rattle.iceoryx2_pattern.specs.declared.pattern.CreateRefusal.TheVariants.{InternalFailure, OutOfMemory}
 use Rattle.iceoryx2_pattern.specs.Meaning.{Meaning}
@@ -15,7 +15,7 @@ module _ {F E C : Type 0} (m : Meaning F E C) (node : ℕ) (hash : ServiceHash) 
   stops = clock_stops m.needs_clock now
 
   -- Ok with the next number, or one of four things is in the way.
-  pub data AnswersOverNoRow : Result Factory C → Type 0 where
+  pub data AnswersOverNoRow : Result Registered C → Type 0 where
     made : m.history_refusal ≡ None → stops ≡ false → counter < last_number
         → AnswersOverNoRow (Ok (record {
           node = node;

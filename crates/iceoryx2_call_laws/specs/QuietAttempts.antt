@@ -1,6 +1,6 @@
 -- Open or create by the quiet machine.
 use Rattle.std.specs.Prelude.{◌≡◌, Some, None, Result}
-use Rattle.iceoryx2_access.specs.Factory.{Factory}
+use Rattle.iceoryx2_access.specs.Registered.{Registered}
 use Rattle.iceoryx2_pattern.specs.declared.pattern.OpenRefusal.TheVariants.{OutOfMemory}
 use Rattle.iceoryx2_pattern.specs.Meaning.{Meaning}
 use Rattle.iceoryx2_pattern.specs.OwnAttributes.{defining, requiring}
@@ -23,16 +23,16 @@ module _ {D F E C : Type 0} (a : Attempt D F E C) where
   opening = requiring a.required (a.meaning a.asked)
 
   -- Where the service isn't there it is a create, and else an open.
-  pub data Attempts (q : Quiet) : Result Factory (OpenOrCreateRefusal E C) → Quiet → Type 0 where
-    creates : {answer : Result Factory C} {p : Quiet} → service_at q a.hash ≡ None
+  pub data Attempts (q : Quiet) : Result Registered (OpenOrCreateRefusal E C) → Quiet → Type 0 where
+    creates : {answer : Result Registered C} {p : Quiet} → service_at q a.hash ≡ None
         → Creates making q a.node a.hash a.name a.now answer p
         → Attempts q (map_err refusal.Create answer) p
-    opens : {answer : Result Factory E} {p : Quiet} (x : QuietService) → service_at q a.hash ≡ Some x
+    opens : {answer : Result Registered E} {p : Quiet} (x : QuietService) → service_at q a.hash ≡ Some x
         → Opens opening q a.node a.hash answer p
         → Attempts q (map_err refusal.Open answer) p
 
   -- It may prepare the types of its messages first.
-  abbrev pub AttemptsPrepared : Quiet → Result Factory (OpenOrCreateRefusal E C) → Quiet → Type 0
+  abbrev pub AttemptsPrepared : Quiet → Result Registered (OpenOrCreateRefusal E C) → Quiet → Type 0
   AttemptsPrepared q = PreparesFirst (refusal.Open (opening.open_refusal OutOfMemory)) q (Attempts q)
 
   -- What has to hold of a builder for that.

@@ -12,7 +12,7 @@ use Rattle.iceoryx2_pattern.specs.declared.pattern.CreateRefusal.TheVariants as 
 use Rattle.iceoryx2_pattern.specs.declared.pattern.OpenRefusal.TheVariants as open_refusal
 use Rattle.iceoryx2_pattern.specs.Meaning.{Meaning}
 use Rattle.iceoryx2_pattern.specs.Verdict.{verdict}
-use Rattle.iceoryx2_access.specs.Factory.{Factory}
+use Rattle.iceoryx2_access.specs.Registered.{Registered}
 use Rattle.iceoryx2_create_and_open.specs.Creates.{clock_stops, description_of}
 use Rattle.iceoryx2_call_laws.specs.Quiet.{NodeCounts, QuietService, Quiet, service_at, times_counted}
 
@@ -65,21 +65,21 @@ HasNoPlace x i = (times_counted x i ≡ None) × (max_nodes_of x.description.pat
 
 module _ {F E C : Type 0} (m : Meaning F E C) (q : Quiet) (node : ℕ) (hash : ServiceHash) where
   -- this node creates a service of this hash: the factory, and the machine after it
-  abbrev pub factory_created : Description → Factory
+  abbrev pub factory_created : Description → Registered
   factory_created d = record { node = node; number = q.counter; ticket = q.counter; description = d }
 
   abbrev pub with_created : Description → Quiet
   with_created d = spend (with_service q hash (Some (created_by node d q.counter)))
 
   -- it opens one
-  abbrev pub factory_opened : QuietService → Factory
+  abbrev pub factory_opened : QuietService → Registered
   factory_opened x = record { node = node; number = x.number; ticket = q.counter; description = x.description }
 
   abbrev pub with_opened : QuietService → Quiet
   with_opened x = spend (with_service q hash (Some (opened_by node x)))
 
   -- Create, for a name and the clock's answer.
-  pub data Creates (name : List ℕ) (now : Result Span ClockFault) : Result Factory C → Quiet → Type 0 where
+  pub data Creates (name : List ℕ) (now : Result Span ClockFault) : Result Registered C → Quiet → Type 0 where
     forbidden : {error : C} → m.history_refusal ≡ Some error → Creates name now (Err error) q
     exists : (x : QuietService) → m.history_refusal ≡ None → service_at q hash ≡ Some x
         → Creates name now (Err (m.create_refusal create_refusal.AlreadyExists)) q
@@ -100,7 +100,7 @@ module _ {F E C : Type 0} (m : Meaning F E C) (q : Quiet) (node : ℕ) (hash : S
         → Creates name now (Err (m.create_refusal create_refusal.OutOfMemory)) (spend q)
 
   -- Open.
-  pub data Opens : Result Factory E → Quiet → Type 0 where
+  pub data Opens : Result Registered E → Quiet → Type 0 where
     absent : service_at q hash ≡ None → Opens (Err (m.open_refusal open_refusal.DoesNotExist)) q
     misfit : {fault : F} (x : QuietService) → service_at q hash ≡ Some x → m.misfit x.description ≡ Some fault
         → Opens (Err (m.open_error_of fault)) q

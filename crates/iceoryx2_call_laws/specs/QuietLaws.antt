@@ -5,14 +5,14 @@ use Rattle.iceoryx2_description.specs.declared.description.ServiceHash.{ServiceH
 use Rattle.iceoryx2_world.specs.declared.world.Participant.TheVariants.{Node}
 use Rattle.iceoryx2_world.specs.World.{World, row_of, segment_of, phase_of, tag_of, join_count}
 use Rattle.iceoryx2_world.specs.Across.{Agrees}
-use Rattle.iceoryx2_access.specs.Factory.{Factory}
+use Rattle.iceoryx2_access.specs.Registered.{Registered}
 use Rattle.iceoryx2_world.specs.Standing.{Stands}
 use Rattle.iceoryx2_call_laws.specs.Quiet.{Quiet, QuietService, Shows, service_at, times_counted}
 use Rattle.iceoryx2_call_laws.specs.QuietCalls.{Closes}
 use Rattle.iceoryx2_call_laws.specs.Tickets.{tickets_after}
 
 -- After a create or an open from w to v, which is one of these calls of the machine.
-pub record IsCall {E : Type 0} (w : World) (Calls : Quiet → Type 0) (answer : Result Factory E) (v : World)
+pub record IsCall {E : Type 0} (w : World) (Calls : Quiet → Type 0) (answer : Result Registered E) (v : World)
     : Type 0 where
   pub state : Quiet
   pub call : Calls state
@@ -22,17 +22,17 @@ pub record IsCall {E : Type 0} (w : World) (Calls : Quiet → Type 0) (answer : 
   -- the factory that it gave stands, and its ticket is a new one
   pub given : IfOk answer (λ r. Stands v r × (r.ticket ≡ w.counter))
   -- what stood before stands
-  pub kept : (f : Factory) → Stands w f → Stands v f
+  pub kept : (f : Registered) → Stands w f → Stands v f
 
 -- After the close of a factory from w to v, where w shows q.
-pub record IsClose (w : World) (q : Quiet) (r : Factory) (v : World) : Type 0 where
+pub record IsClose (w : World) (q : Quiet) (r : Registered) (v : World) : Type 0 where
   pub state : Quiet
   pub call : Closes q r.node r.description.hash state
   pub shows : Shows v state
   pub agrees : Agrees v
   pub tickets : v.tickets ≡ map.remove w.tickets r.ticket
   -- what stood before stands, but for this factory
-  pub kept : (f : Factory) → f.ticket ≢ r.ticket → Stands w f → Stands v f
+  pub kept : (f : Registered) → f.ticket ≢ r.ticket → Stands w f → Stands v f
 
 -- The node has opened the service of this hash and number.
 pub record HasOpened (q : Quiet) (i : ℕ) (h : ServiceHash) (n : ℕ) : Type 0 where
@@ -43,7 +43,7 @@ pub record HasOpened (q : Quiet) (i : ℕ) (h : ServiceHash) (n : ℕ) : Type 0 
   pub counted : times_counted service i ≡ Some count
 
 -- Under the factory's hash the machine has a service of the factory's description and number.
-pub record HasServiceOf (q : Quiet) (f : Factory) : Type 0 where
+pub record HasServiceOf (q : Quiet) (f : Registered) : Type 0 where
   pub service : QuietService
   pub there : service_at q f.description.hash ≡ Some service
   pub description : service.description ≡ f.description

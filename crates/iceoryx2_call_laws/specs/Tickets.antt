@@ -3,16 +3,16 @@ use Rattle.std.specs.Prelude.{Result, Ok, Err}
 use Rattle.std.specs.FinMap as map
 use Rattle.iceoryx2_world.specs.World.{Tickets}
 use Rattle.iceoryx2_world.specs.Standing.{ticket_for}
-use Rattle.iceoryx2_access.specs.Factory.{Factory}
+use Rattle.iceoryx2_access.specs.Registered.{Registered}
 use Rattle.iceoryx2_errors.specs.declared.error.CloseError.{CloseError}
 use Rattle.iceoryx2_errors.specs.declared.error.CloseError.TheVariants.{NotHere}
 
 -- the tickets after a create or an open: one more where it gave a factory
-abbrev pub tickets_after : {E : Type 0} → Tickets → Result Factory E → Tickets
+abbrev pub tickets_after : {E : Type 0} → Tickets → Result Registered E → Tickets
 tickets_after k (Ok r) = map.insert k r.ticket (ticket_for r)
 tickets_after k (Err e) = k
 
 -- the tickets after the close of a factory: without its own, unless that wasn't there
-abbrev pub tickets_after_close : Tickets → Factory → Result (Unit {0}) (CloseError Factory) → Tickets
+abbrev pub tickets_after_close : Tickets → Registered → Result (Unit {0}) (CloseError Registered) → Tickets
 tickets_after_close k r (Err (NotHere s)) = k
 tickets_after_close k r _ = map.remove k r.ticket

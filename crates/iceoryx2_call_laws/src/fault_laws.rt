@@ -11,10 +11,10 @@ ghost use Rattle.iceoryx2_access.specs.Run.{Each, Run};
 ghost use Rattle.iceoryx2_world.specs.Access.{IsOwnPart};
 ghost use Rattle.iceoryx2_world.specs.Agreement.{Later};
 ghost use Rattle.iceoryx2_world.specs.Across.{Agrees};
-ghost use Rattle.iceoryx2_world.specs.Faulty.{IsFaulty};
+ghost use Rattle.iceoryx2_world.specs.Fallible.{IsFallibleAccess};
 ghost use Rattle.iceoryx2_world.specs.Tables.{TableState, IsTableAccess};
-ghost use Rattle.iceoryx2_script.specs.Faults.{FaultyState, IsFaultyAccess};
-ghost use Rattle.iceoryx2_access.specs.Factory.{Factory};
+ghost use Rattle.iceoryx2_script.specs.Faults.{FaultyState, IsInjectedFault};
+ghost use Rattle.iceoryx2_access.specs.Registered.{Registered};
 ghost use Rattle.iceoryx2_world.specs.Standing.{Spares, Stands};
 ghost use Rattle.iceoryx2_errors.specs.declared.error.CloseError.{CloseError};
 ghost use Rattle.iceoryx2_errors.specs.declared.error.CloseError.TheVariants.{NotHere};
@@ -40,16 +40,16 @@ pub fn agreement_under_faults<D, F: Copy, E: Copy, C: Copy>()
     // wait, are accesses of the table's world of which any may be refused. So what is said of runs over
     // worlds is true of each run over such a storage.
     ensures of_tables { (s t : FaultyState TableState) (word : List Letter)
-        → Run (IsFaultyAccess IsTableAccess) s word t → Run IsFaulty s.inner.world word t.inner.world }
+        → Run (IsInjectedFault IsTableAccess) s word t → Run IsFallibleAccess s.inner.world word t.inner.world }
 
     // After each access the world agrees and is later than the first one.
     ensures agrees { (word : List Letter) (w : World)
-        → Agrees w → Throughout IsFaulty (λ v. Agrees v × Later w v) w word }
+        → Agrees w → Throughout IsFallibleAccess (λ v. Agrees v × Later w v) w word }
 
     // A factory that stands goes on standing whatever accesses follow, refused ones and those of peers among
     // them, as long as none of them is a granted release of its own ticket.
-    ensures stands { (word : List Letter) (w : World) (f : Factory)
-        → Each (Spares f) word → Agrees w → Stands w f → Throughout IsFaulty (λ v. Stands v f) w word }
+    ensures stands { (word : List Letter) (w : World) (f : Registered)
+        → Each (Spares f) word → Agrees w → Stands w f → Throughout IsFallibleAccess (λ v. Stands v f) w word }
 
     // Every open factory stands. Of every call, whichever it is, whichever accesses are refused and whatever it
     // answers: it is within fixed counts; after each of its accesses, whatever steps peers take, each factory that
@@ -58,41 +58,41 @@ pub fn agreement_under_faults<D, F: Copy, E: Copy, C: Copy>()
     // carries the one published description of its hash, its segment is there, and its node is among at most
     // `max_nodes`.
     ensures every_open_factory_stands { (c : AnyCall D F E C) (word : List Letter)
-        (answer : Result Factory (ErrorBy E C c.way)) (s t : FaultyState TableState)
-        → IsWordOf c word answer → Run (IsFaultyAccess IsTableAccess) s word t → Agrees s.inner.world
-        → IsAsPromised (IsFaultyAccess IsTableAccess) (λ u. u.inner.world) c s word answer t }
+        (answer : Result Registered (ErrorBy E C c.way)) (s t : FaultyState TableState)
+        → IsWordOf c word answer → Run (IsInjectedFault IsTableAccess) s word t → Agrees s.inner.world
+        → IsAsPromised (IsInjectedFault IsTableAccess) (λ u. u.inner.world) c s word answer t }
 
     // The same by history: at any state that such a table comes to after some call answered Ok with a factory, and
     // before the release of its ticket, this factory is open, with what that call asked.
-    ensures open_until_released { (c : AnyCall D F E C) (f : Factory) (s : FaultyState TableState)
-        → IsOpenSince (IsFaultyAccess IsTableAccess) (λ u. u.inner.world) c f s
+    ensures open_until_released { (c : AnyCall D F E C) (f : Registered) (s : FaultyState TableState)
+        → IsOpenSince (IsInjectedFault IsTableAccess) (λ u. u.inner.world) c f s
         → IsOpenAsAsked c s.inner.world f }
 
     // A refused call leaves nothing of its own but that for which a removal was refused.
     ensures leaves { (c : AnyCall D F E C) (word : List Letter) (refusal : ErrorBy E C c.way) (w v : World)
-        → IsWordOf c word (Err refusal) → Run IsFaulty w word v → Agrees w → LeavesBy c c.way w word v }
+        → IsWordOf c word (Err refusal) → Run IsFallibleAccess w word v → Agrees w → LeavesBy c c.way w word v }
 
     // Each factory with another ticket that stands before a close stands throughout it.
-    ensures close_spares { (r : Factory) (word : List Letter) (answer : Result (Unit {0}) (CloseError Factory))
-        (w : World) (f : Factory)
+    ensures close_spares { (r : Registered) (word : List Letter) (answer : Result (Unit {0}) (CloseError Registered))
+        (w : World) (f : Registered)
         → IsCloseWord r word answer → Agrees w → f.ticket ≢ r.ticket
-        → Stands w f → Throughout IsFaulty (λ v. Stands v f) w word }
+        → Stands w f → Throughout IsFallibleAccess (λ v. Stands v f) w word }
 
     // A factory that its close hands back stands on, if it stood.
-    ensures not_here { (r s : Factory) (word : List Letter) (w : World)
+    ensures not_here { (r s : Registered) (word : List Letter) (w : World)
         → IsCloseWord r word (Err (NotHere s)) → Agrees w
-        → (s ≡ r) × (Stands w r → Throughout IsFaulty (λ v. Stands v r) w word) }
+        → (s ≡ r) × (Stands w r → Throughout IsFallibleAccess (λ v. Stands v r) w word) }
 
     // A close that doesn't hand its factory back takes the ticket out,
-    ensures taken_out { (r : Factory) (word : List Letter) (answer : Result (Unit {0}) (CloseError Factory))
+    ensures taken_out { (r : Registered) (word : List Letter) (answer : Result (Unit {0}) (CloseError Registered))
         (w v : World)
-        → IsCloseWord r word answer → ((s : Factory) → answer ≢ Err (NotHere s)) → Run IsFaulty w word v
+        → IsCloseWord r word answer → ((s : Registered) → answer ≢ Err (NotHere s)) → Run IsFallibleAccess w word v
         → ticket_of v r.ticket ≡ None }
 
     // and of what it removes only that stays for which the removal was refused.
-    ensures close_leaves { (r : Factory) (word : List Letter) (answer : Result (Unit {0}) (CloseError Factory))
+    ensures close_leaves { (r : Registered) (word : List Letter) (answer : Result (Unit {0}) (CloseError Registered))
         (w v : World)
-        → IsCloseWord r word answer → ((s : Factory) → answer ≢ Err (NotHere s)) → Run IsFaulty w word v
+        → IsCloseWord r word answer → ((s : Registered) → answer ≢ Err (NotHere s)) → Run IsFallibleAccess w word v
         → Agrees w → CloseLeaves r w v word }
 
     // Where the service has no row, whatever segment was left there, a create without further refusals
@@ -100,7 +100,7 @@ pub fn agreement_under_faults<D, F: Copy, E: Copy, C: Copy>()
     // or more.
     ensures over_no_row { (m : Meaning F E C) (node : ℕ) (hash : ServiceHash)
         (name : List ℕ) (now : Result Span ClockFault)
-        (word : List Letter) (answer : Result Factory C) (w v : World)
+        (word : List Letter) (answer : Result Registered C) (w v : World)
         → 0 < max_nodes_of (m.published (time_of now)) → Agrees w → row_of w hash ≡ None
         → IsCreateCall m node hash name now word answer → Run IsOwnPart w word v
         → AnswersOverNoRow m node hash name now w.counter answer }

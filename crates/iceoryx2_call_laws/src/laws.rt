@@ -7,9 +7,9 @@ ghost use Rattle.iceoryx2_access.specs.Run.{Run, Each};
 ghost use Rattle.iceoryx2_world.specs.Agreement.{Later, IsSegmentOf};
 ghost use Rattle.iceoryx2_world.specs.Across.{Agrees};
 ghost use Rattle.iceoryx2_world.specs.Peers.{IsAccess};
-ghost use Rattle.iceoryx2_world.specs.Faulty.{IsFaulty};
+ghost use Rattle.iceoryx2_world.specs.Fallible.{IsFallibleAccess};
 ghost use Rattle.iceoryx2_world.specs.Tables.{TableState, IsTableAccess};
-ghost use Rattle.iceoryx2_access.specs.Factory.{Factory};
+ghost use Rattle.iceoryx2_access.specs.Registered.{Registered};
 ghost use Rattle.iceoryx2_world.specs.Standing.{Spares, Stands};
 ghost use Rattle.iceoryx2_errors.specs.declared.error.CloseError.{CloseError};
 ghost use Rattle.iceoryx2_errors.specs.declared.error.CloseError.TheVariants.{NotHere};
@@ -35,21 +35,21 @@ pub fn agreement<D, F: Copy, E: Copy, C: Copy>()
     // steps of peers, and so accesses of which any may be refused. So what is said of runs over worlds is
     // true of each run over a table.
     ensures of_tables { (s t : TableState) (word : List Letter)
-        → Run IsTableAccess s word t → Run IsAccess s.world word t.world × Run IsFaulty s.world word t.world }
+        → Run IsTableAccess s word t → Run IsAccess s.world word t.world × Run IsFallibleAccess s.world word t.world }
 
     // Before, between and after the accesses of any word, so within each call and from call to
     // call, the world agrees and is later than the first one.
     ensures agrees { (word : List Letter) (w : World)
-        → Agrees w → Throughout IsFaulty (λ v. Agrees v × Later w v) w word }
+        → Agrees w → Throughout IsFallibleAccess (λ v. Agrees v × Later w v) w word }
 
     // A factory that stands goes on standing whatever accesses follow, anybody's, refused ones and those of
     // peers among them, as long as none of them is a granted release of its own ticket.
-    ensures stands { (word : List Letter) (w : World) (f : Factory)
-        → Each (Spares f) word → Agrees w → Stands w f → Throughout IsFaulty (λ v. Stands v f) w word }
+    ensures stands { (word : List Letter) (w : World) (f : Registered)
+        → Each (Spares f) word → Agrees w → Stands w f → Throughout IsFallibleAccess (λ v. Stands v f) w word }
 
     // A standing factory's segment has as many places as its description has nodes, and in it are
     // at most so many participants, each of them registered under the factory's number.
-    ensures among { (w : World) (f : Factory)
+    ensures among { (w : World) (f : Registered)
         → Agrees w → (s : Stands w f)
         → IsSegmentOf f.description f.number (λ p. phase_of w p f.description.hash) s.segment.segment }
 
@@ -59,46 +59,46 @@ pub fn agreement<D, F: Copy, E: Copy, C: Copy>()
     // asked or holds what was published, and is open until its own ticket is released: it carries the one
     // published description of its hash, its segment is there, and its node is among at most `max_nodes`.
     ensures every_open_factory_stands { (c : AnyCall D F E C) (word : List Letter)
-        (answer : Result Factory (ErrorBy E C c.way)) (s t : TableState)
+        (answer : Result Registered (ErrorBy E C c.way)) (s t : TableState)
         → IsWordOf c word answer → Run IsTableAccess s word t → Agrees s.world
         → IsAsPromised IsTableAccess (λ u. u.world) c s word answer t }
 
     // So it is over any world that agrees, and whichever accesses are refused by a fault.
     ensures in_any_world { (c : AnyCall D F E C) (word : List Letter)
-        (answer : Result Factory (ErrorBy E C c.way)) (w v : World)
-        → IsWordOf c word answer → Run IsFaulty w word v → Agrees w
-        → IsAsPromised IsFaulty (λ u. u) c w word answer v }
+        (answer : Result Registered (ErrorBy E C c.way)) (w v : World)
+        → IsWordOf c word answer → Run IsFallibleAccess w word v → Agrees w
+        → IsAsPromised IsFallibleAccess (λ u. u) c w word answer v }
 
     // The same by history: at any state that a table comes to after some call answered Ok with a factory, and before
     // the release of its ticket, this factory is open, with what that call asked.
-    ensures open_until_released { (c : AnyCall D F E C) (f : Factory) (s : TableState)
+    ensures open_until_released { (c : AnyCall D F E C) (f : Registered) (s : TableState)
         → IsOpenSince IsTableAccess (λ u. u.world) c f s → IsOpenAsAsked c s.world f }
 
     // Every call is short over every storage: its word alone tells so.
-    ensures is_short { (c : AnyCall D F E C) (word : List Letter) (answer : Result Factory (ErrorBy E C c.way))
+    ensures is_short { (c : AnyCall D F E C) (word : List Letter) (answer : Result Registered (ErrorBy E C c.way))
         → IsWordOf c word answer → IsShortBy c.way word }
 
     // Two standing factories of one service carry the same description and number.
-    ensures one_description { (w : World) (f g : Factory)
+    ensures one_description { (w : World) (f g : Registered)
         → Stands w f → Stands w g → f.description.hash ≡ g.description.hash
         → (f.number ≡ g.number) × (f.description ≡ g.description) }
 
     // A call that answers Ok adds exactly its factory's ticket, and one that is refused changes no ticket.
     ensures tickets { (c : AnyCall D F E C) (word : List Letter)
-        (answer : Result Factory (ErrorBy E C c.way)) (w v : World)
-        → IsWordOf c word answer → Run IsFaulty w word v → v.tickets ≡ tickets_after w.tickets answer }
+        (answer : Result Registered (ErrorBy E C c.way)) (w v : World)
+        → IsWordOf c word answer → Run IsFallibleAccess w word v → v.tickets ≡ tickets_after w.tickets answer }
 
     // Without the steps of peers, a refused call changes no published description and no count in any access,
     ensures refused { (c : AnyCall D F E C) (word : List Letter) (refusal : ErrorBy E C c.way) (w : World)
-        → IsWordOf c word (Err refusal) → Agrees w → AtEach IsFaulty ActsCalmly w word }
+        → IsWordOf c word (Err refusal) → Agrees w → AtEach IsFallibleAccess ActsCalmly w word }
 
     // and a granted one does so in exactly one, its last.
-    ensures granted { (c : AnyCall D F E C) (word : List Letter) (r : Factory) (w : World)
+    ensures granted { (c : AnyCall D F E C) (word : List Letter) (r : Registered) (w : World)
         → IsWordOf c word (Ok r) → Agrees w → ChangesLast c.asks.node c.asks.hash w word }
 
     // A refused call leaves nothing of its own but that for which a removal was refused.
     ensures leaves { (c : AnyCall D F E C) (word : List Letter) (refusal : ErrorBy E C c.way) (w v : World)
-        → IsWordOf c word (Err refusal) → Run IsFaulty w word v → Agrees w → LeavesBy c c.way w word v }
+        → IsWordOf c word (Err refusal) → Run IsFallibleAccess w word v → Agrees w → LeavesBy c c.way w word v }
 
     // Where nothing is refused by a fault, each of its removals answers Ok, and nothing of its own stays but
     // the phase Read and spent numbers.
@@ -107,30 +107,30 @@ pub fn agreement<D, F: Copy, E: Copy, C: Copy>()
         → Each IsGranted word × LeavesNothing c.asks.node c.asks.hash word w v }
 
     // Each factory with another ticket that stands before a close stands throughout it.
-    ensures close_spares { (r : Factory) (word : List Letter) (answer : Result (Unit {0}) (CloseError Factory))
-        (w : World) (f : Factory)
+    ensures close_spares { (r : Registered) (word : List Letter) (answer : Result (Unit {0}) (CloseError Registered))
+        (w : World) (f : Registered)
         → IsCloseWord r word answer → Agrees w → f.ticket ≢ r.ticket
-        → Stands w f → Throughout IsFaulty (λ v. Stands v f) w word }
+        → Stands w f → Throughout IsFallibleAccess (λ v. Stands v f) w word }
 
     // What a close hands back is the factory that it was given. It stands on, if it stood.
-    ensures not_here { (r s : Factory) (word : List Letter) (w : World)
+    ensures not_here { (r s : Registered) (word : List Letter) (w : World)
         → IsCloseWord r word (Err (NotHere s)) → Agrees w
-        → (s ≡ r) × (Stands w r → Throughout IsFaulty (λ v. Stands v r) w word) }
+        → (s ≡ r) × (Stands w r → Throughout IsFallibleAccess (λ v. Stands v r) w word) }
 
     // A close that hands its factory back changes no ticket, and any other takes exactly its own out.
-    ensures close_tickets { (r : Factory) (word : List Letter) (answer : Result (Unit {0}) (CloseError Factory))
+    ensures close_tickets { (r : Registered) (word : List Letter) (answer : Result (Unit {0}) (CloseError Registered))
         (w v : World)
-        → IsCloseWord r word answer → Run IsFaulty w word v
+        → IsCloseWord r word answer → Run IsFallibleAccess w word v
         → v.tickets ≡ tickets_after_close w.tickets r answer }
 
     // Where nothing is refused by a fault, the close of a standing factory answers Ok, and its
     // ticket is gone.
-    ensures closed { (r : Factory) (word : List Letter) (answer : Result (Unit {0}) (CloseError Factory))
+    ensures closed { (r : Registered) (word : List Letter) (answer : Result (Unit {0}) (CloseError Registered))
         (w v : World)
         → IsCloseWord r word answer → Run IsAccess w word v → Agrees w → Stands w r
         → (answer ≡ Ok tt) × (ticket_of v r.ticket ≡ None) }
 
     // A close looks nowhere and opens nothing. It removes at most one segment.
-    ensures close_is_short { (r : Factory) (word : List Letter) (answer : Result (Unit {0}) (CloseError Factory))
+    ensures close_is_short { (r : Registered) (word : List Letter) (answer : Result (Unit {0}) (CloseError Registered))
         → IsCloseWord r word answer → IsWithin word 0 0 0 1 }
 {}

@@ -23,7 +23,7 @@ ghost use Rattle.iceoryx2_errors.specs.declared.error.CloseError.{CloseError};
 ghost use Rattle.iceoryx2_pattern.specs.Meaning.{Meaning};
 ghost use Rattle.iceoryx2_pattern.specs.Regular.{IsRegular};
 ghost use Rattle.iceoryx2_pattern.specs.Verdict.{verdict};
-ghost use Rattle.iceoryx2_access.specs.Factory.{Factory};
+ghost use Rattle.iceoryx2_access.specs.Registered.{Registered};
 ghost use Rattle.iceoryx2_create_and_open.specs.Creates.{IsCreateWord, time_of};
 ghost use Rattle.iceoryx2_create_and_open.specs.Opens.{IsOpenWord};
 ghost use Rattle.iceoryx2_create_and_open.specs.OwnSettings.{AcceptsOwn};
@@ -48,8 +48,8 @@ pub fn quiet_laws()
     ensures empty { (c : ℕ) → Shows (empty_world c) (no_service c) }
 
     // To close a factory whose ticket is there is Ok, and it is the machine's close.
-    ensures close { (r : Factory) (w v : World) (q : Quiet)
-        (word : List Letter) (answer : Result (Unit {0}) (CloseError Factory))
+    ensures close { (r : Registered) (w v : World) (q : Quiet)
+        (word : List Letter) (answer : Result (Unit {0}) (CloseError Registered))
         → Shows w q → Agrees w → ticket_of w r.ticket ≡ Some (ticket_for r)
         → IsCloseWord r word answer → Run IsOwnPart w word v
         → (answer ≡ Ok tt) × IsClose w q r v }
@@ -59,7 +59,7 @@ pub fn quiet_laws()
         → Shows w q → Agrees w → ticket_of w t ≡ Some x → HasOpened q x.node x.hash x.number }
 
     // What a standing factory carries is the machine's description of its service,
-    ensures standing { (w : World) (q : Quiet) (f : Factory) → Shows w q → Stands w f → HasServiceOf q f }
+    ensures standing { (w : World) (q : Quiet) (f : Registered) → Shows w q → Stands w f → HasServiceOf q f }
 
     // and a node has as many tickets for a service as the machine counts.
     ensures tickets { (w : World) (q : Quiet) (node : ℕ) (hash : ServiceHash)
@@ -91,14 +91,14 @@ pub fn quiet_laws()
 pub fn quiet_calls<D, F: Copy, E: Copy, C: Copy>()
     // A create over a world that shows the machine is the machine's create.
     ensures create { (m : Meaning F E C) (node : ℕ) (hash : ServiceHash) (name : List ℕ)
-        (now : Result Span ClockFault) (w v : World) (q : Quiet) (word : List Letter) (answer : Result Factory C)
+        (now : Result Span ClockFault) (w v : World) (q : Quiet) (word : List Letter) (answer : Result Registered C)
         → IsRegular m → 0 < max_nodes_of (m.published (time_of now)) → Shows w q → Agrees w
         → IsCreateWord m node hash name now word answer → Run IsOwnPart w word v
         → IsCall w (Creates m q node hash name now answer) answer v }
 
     // And so is an open, whatever its rounds.
     ensures open { (m : Meaning F E C) (node : ℕ) (hash : ServiceHash)
-        (w v : World) (q : Quiet) (word : List Letter) (answer : Result Factory E)
+        (w v : World) (q : Quiet) (word : List Letter) (answer : Result Registered E)
         → IsRegular m → Shows w q → Agrees w
         → IsOpenWord m node hash word answer → Run IsOwnPart w word v
         → IsCall w (Opens m q node hash answer) answer v }
@@ -106,25 +106,25 @@ pub fn quiet_calls<D, F: Copy, E: Copy, C: Copy>()
     // An open or create is the machine's create where there is no service, and else its open: its first
     // round is its last, where the refusals of that machine are not tried again.
     ensures open_or_create { (a : Attempt D F E C) (w v : World) (q : Quiet) (word : List Letter)
-        (answer : Result Factory (OpenOrCreateRefusal E C))
+        (answer : Result Registered (OpenOrCreateRefusal E C))
         → IsSteady a → Shows w q → Agrees w
         → IsAttemptWord a word answer → Run IsOwnPart w word v
         → IsCall w (Attempts a q answer) answer v }
 
     // Where they may prepare their types first, they are the machine's, or want memory and change nothing.
     ensures prepared_create { (m : Meaning F E C) (node : ℕ) (hash : ServiceHash) (name : List ℕ)
-        (now : Result Span ClockFault) (w v : World) (q : Quiet) (word : List Letter) (answer : Result Factory C)
+        (now : Result Span ClockFault) (w v : World) (q : Quiet) (word : List Letter) (answer : Result Registered C)
         → IsRegular m → 0 < max_nodes_of (m.published (time_of now)) → Shows w q → Agrees w
         → IsCreateCall m node hash name now word answer → Run IsOwnPart w word v
         → IsCall w (CreatesPrepared m q node hash name now answer) answer v }
     ensures prepared_open { (m : Meaning F E C) (node : ℕ) (hash : ServiceHash)
-        (w v : World) (q : Quiet) (word : List Letter) (answer : Result Factory E)
+        (w v : World) (q : Quiet) (word : List Letter) (answer : Result Registered E)
         → IsRegular m → Shows w q → Agrees w
         → IsOpenCall m node hash word answer → Run IsOwnPart w word v
         → IsCall w (OpensPrepared m q node hash answer) answer v }
 
     ensures prepared_open_or_create { (a : Attempt D F E C) (w v : World) (q : Quiet) (word : List Letter)
-        (answer : Result Factory (OpenOrCreateRefusal E C))
+        (answer : Result Registered (OpenOrCreateRefusal E C))
         → IsSteady a → Shows w q → Agrees w
         → IsAttempted a word answer → Run IsOwnPart w word v
         → IsCall w (AttemptsPrepared a q answer) answer v }
@@ -145,7 +145,7 @@ pub fn quiet_calls<D, F: Copy, E: Copy, C: Copy>()
     // A create and then the close of its factory leave nothing of that service and the rest as it
     // was, and one number is spent.
     ensures create_and_close { (m : Meaning F E C) (node : ℕ) (hash : ServiceHash) (name : List ℕ)
-        (now : Result Span ClockFault) (w v : World) (q p z : Quiet) (r : Factory)
+        (now : Result Span ClockFault) (w v : World) (q p z : Quiet) (r : Registered)
         → Shows w q → Shows v z
         → CreatesPrepared m q node hash name now (Ok r) p → Closes p r.node r.description.hash z
         → HasNothingAt v hash × HoldsTheSame w v × (v.counter ≡ w.counter + 1) }
@@ -153,7 +153,7 @@ pub fn quiet_calls<D, F: Copy, E: Copy, C: Copy>()
     // A further factory of a node takes no further place: the segment stays as it is, and the
     // node's count rises by one.
     ensures again { (m : Meaning F E C) (node : ℕ) (hash : ServiceHash)
-        (w v : World) (q p : Quiet) (r : Factory) (x : QuietService) (k : ℕ)
+        (w v : World) (q p : Quiet) (r : Registered) (x : QuietService) (k : ℕ)
         → Shows w q → Shows v p → service_at q hash ≡ Some x → times_counted x node ≡ Some k
         → OpensPrepared m q node hash (Ok r) p
         → (segment_of v hash ≡ segment_of w hash)
@@ -163,7 +163,7 @@ pub fn quiet_calls<D, F: Copy, E: Copy, C: Copy>()
     // While a service stands that fits and that the requirement accepts, and a place and a number
     // are left, an open is Ok or wants memory.
     ensures accepted { (m : Meaning F E C) (node : ℕ) (hash : ServiceHash)
-        (q p : Quiet) (x : QuietService) (answer : Result Factory E)
+        (q p : Quiet) (x : QuietService) (answer : Result Registered E)
         → service_at q hash ≡ Some x → m.misfit x.description ≡ None
         → verdict (m.requirement x.description) ≡ Ok tt → HasPlace x node → HasNumber q
         → OpensPrepared m q node hash answer p
@@ -172,8 +172,8 @@ pub fn quiet_calls<D, F: Copy, E: Copy, C: Copy>()
     // What a call of a builder has given the same builder opens, whichever node calls, if it accepts what it
     // creates and its create only raises minima: while the factory is open, whatever came between, with a place
     // and a number left, the open is Ok or out of memory.
-    ensures own_settings { (c : AnyCall D F E C) (node : ℕ) (q p : Quiet) (f : Factory) (w : World)
-        (answer : Result Factory E)
+    ensures own_settings { (c : AnyCall D F E C) (node : ℕ) (q p : Quiet) (f : Registered) (w : World)
+        (answer : Result Registered E)
         → AcceptsOwn (creating c) (opening c) c.asks.hash c.asks.name c.asks.now
         → OnlyRaises c.asks.meaning c.asks.adjusted
         → IsOpenAsAsked c w f → Shows w q

@@ -3,16 +3,16 @@
 ghost use Rattle.std.specs.Prelude.{◌≡◌};
 
 use iceoryx2_attribute::attribute::AttributeVerifier;
+use iceoryx2_description::description::ServiceName;
+use iceoryx2_description::time::{ClockFault, Time};
 use iceoryx2_errors::error::{
     EventCreateError, EventOpenError, EventOpenOrCreateError, PublishSubscribeCreateError,
     PublishSubscribeOpenError, PublishSubscribeOpenOrCreateError, RequestResponseCreateError,
     RequestResponseOpenError, RequestResponseOpenOrCreateError,
 };
-pub use iceoryx2_event_builder::event::EventSetting;
-pub use iceoryx2_publish_subscribe_builder::publish_subscribe::PublishSubscribeSetting;
-pub use iceoryx2_request_response_builder::request_response::RequestResponseSetting;
-use iceoryx2_description::description::ServiceName;
-use iceoryx2_description::time::{ClockFault, Time};
+pub use iceoryx2_event_builder::event::EventSetter;
+pub use iceoryx2_publish_subscribe_builder::publish_subscribe::PublishSubscribeSetter;
+pub use iceoryx2_request_response_builder::request_response::RequestResponseSetter;
 use iceoryx2_world::listing::Entry;
 
 /// How many slots a session has.
@@ -35,11 +35,11 @@ pub enum How {
 /// The setters of one pattern's builder, in the order in which they are called.
 #[derive(Debug, Drop)]
 pub enum Settings {
-    Event(Vec<EventSetting>),
+    Event(Vec<EventSetter>),
     /// A payload and a user header whose types aren't named stay markers.
-    PublishSubscribe(Vec<PublishSubscribeSetting>),
+    PublishSubscribe(Vec<PublishSubscribeSetter>),
     /// The same holds of a request and of a response.
-    RequestResponse(Vec<RequestResponseSetting>),
+    RequestResponse(Vec<RequestResponseSetter>),
 }
 
 /// A builder call of a node, whose factory goes into a slot.

@@ -10,9 +10,9 @@ use Rattle.iceoryx2_pattern.specs.declared.pattern.CreateRefusal.{CreateRefusal}
 use Rattle.iceoryx2_pattern.specs.declared.pattern.CreateRefusal.TheVariants.{OutOfMemory}
 use Rattle.iceoryx2_create_and_open.specs.Counts.{IsWithin}
 use Rattle.iceoryx2_pattern.specs.Meaning.{Meaning}
-use Rattle.iceoryx2_access.specs.Factory.{Factory}
+use Rattle.iceoryx2_access.specs.Registered.{Registered}
 use Rattle.iceoryx2_create_and_open.specs.Looks.{IsLookWord, absent, broken, fetched}
-use Rattle.iceoryx2_create_and_open.specs.GivesBack.{Thing, OwnTag, OwnLock, OwnSegment, own_tag, GivesBack, nothing_left, segment_back, lock_back, tag_back}
+use Rattle.iceoryx2_create_and_open.specs.GivesBack.{MadeByCall, OwnTag, OwnLock, OwnSegment, own_tag, GivesBack, nothing_left, segment_back, lock_back, tag_back}
 use Rattle.iceoryx2_create_and_open.specs.Segments.{clearings, IsSegmentWord, made, not_made, not_removed, still_there}
 use Rattle.iceoryx2_create_and_open.specs.declared.create.TheConstants.{CLEARING_LIMIT}
 use Rattle.iceoryx2_create_and_open.specs.Creates as creates
@@ -37,11 +37,11 @@ pub none_within : IsWithin [] 0 0 0 0
 none_within = record { few_looks = omega arith; few_openings = omega arith; few_makings = omega arith; few_removals = omega arith }
 
 -- how many of the things are segments
-abbrev segments_of : List Thing → ℕ
+abbrev segments_of : List MadeByCall → ℕ
 segments_of [] = 0
-segments_of (OwnSegment ∷ things) = 1 + segments_of things
-segments_of (OwnLock ∷ things) = 0 + segments_of things
-segments_of (OwnTag ∷ things) = 0 + segments_of things
+segments_of (OwnSegment ∷ owned) = 1 + segments_of owned
+segments_of (OwnLock ∷ owned) = 0 + segments_of owned
+segments_of (OwnTag ∷ owned) = 0 + segments_of owned
 
 -- one access
 module _ (node : ℕ) (hash : ServiceHash) where
@@ -72,7 +72,7 @@ module _ (node : ℕ) (hash : ServiceHash) where
   untags : (answer : _) → IsWithin (Letter.RemoveTag node hash answer ∷ []) 0 0 0 0
   untags answer = record { few_looks = omega arith; few_openings = omega arith; few_makings = omega arith; few_removals = omega arith }
 
-  back_within : {things : List Thing} {w : List Letter} → GivesBack node hash things w → IsWithin w 0 0 0 (segments_of things)
+  back_within : {owned : List MadeByCall} {w : List Letter} → GivesBack node hash owned w → IsWithin w 0 0 0 (segments_of owned)
   back_within nothing_left = none_within
   back_within (segment_back answer r) = within_append (removes_segment answer) (back_within r)
   back_within (lock_back answer r) = within_append (unlocks answer) (back_within r)
@@ -116,14 +116,14 @@ module _ {F E C : Type 0} (m : Meaning F E C) (node : ℕ) (hash : ServiceHash) 
   entry_within (creates.no_tag e l) = within_append (look_within l) (within_append (asks node hash _) (tags node hash _))
   entry_within (entered tag l) = within_append (look_within l) (within_append (asks node hash _) (tags node hash _))
 
-  service_within : {d : Description} {tag : Tag} {w : List Letter} {r : Result Factory C} → IsServiceWord m node hash d tag w r → IsWithin w 0 0 6 6
+  service_within : {d : Description} {tag : Tag} {w : List Letter} {r : Result Registered C} → IsServiceWord m node hash d tag w r → IsWithin w 0 0 6 6
   service_within {tag = tag} (not_locked x b) = within_more _ _ _ _ (omega arith) (omega arith) (omega arith) (omega arith) (within_append (locks node hash _) (tag_within node hash tag b))
   service_within {tag = tag} (no_segment s b) = within_more _ _ _ _ (omega arith) (omega arith) (omega arith) (omega arith) (within_append (locks node hash _) (within_append (segment_within node hash _ _ s) (lock_within node hash tag b)))
   service_within {tag = tag} (not_published x s b) = within_append (locks node hash _) (within_append (segment_within node hash _ _ s) (within_append (publishes node hash _ _ _) (all_within node hash tag b)))
   service_within (published n t s) = within_more _ _ _ _ (omega arith) (omega arith) (omega arith) (omega arith) (within_append (locks node hash _) (within_append (segment_within node hash _ _ s) (publishes node hash _ _ _)))
 
   -- a create looks once, opens nothing, and makes its segment in at most six attempts
-  pub create_within : {stops : Bool} {d : Description} {w : List Letter} {r : Result Factory C} → IsCreating m node hash stops d w r → IsWithin w 1 0 6 6
+  pub create_within : {stops : Bool} {d : Description} {w : List Letter} {r : Result Registered C} → IsCreating m node hash stops d w r → IsWithin w 1 0 6 6
   create_within (forbidden _) = within_more _ _ _ _ (omega arith) (omega arith) (omega arith) (omega arith) none_within
   create_within (not_entered _ e) = within_more _ _ _ _ (omega arith) (omega arith) (omega arith) (omega arith) (entry_within e)
   create_within (clock_fault {tag} _ _ e b) = within_more _ _ _ _ (omega arith) (omega arith) (omega arith) (omega arith) (within_append (entry_within e) (tag_within node hash tag b))
@@ -135,7 +135,7 @@ module _ {F E C : Type 0} (m : Meaning F E C) (node : ℕ) (hash : ServiceHash) 
   failed_within : {w : List Letter} → IsFailedRound m node hash w → IsWithin w 2 1 0 0
   failed_within (failed {tag} r l b) = within_append (ready_within r) (within_append (opens_segment node hash _ _) (within_append (look_within l) (tag_within node hash tag b)))
 
-  last_within : {w : List Letter} {r : Result Factory E} → IsLastRound m node hash w r → IsWithin w 2 1 0 0
+  last_within : {w : List Letter} {r : Result Registered E} → IsLastRound m node hash w r → IsWithin w 2 1 0 0
   last_within (opens.look_faulty l) = within_more _ _ _ _ (omega arith) (omega arith) (omega arith) (omega arith) (look_within l)
   last_within (opens.look_none l) = within_more _ _ _ _ (omega arith) (omega arith) (omega arith) (omega arith) (look_within l)
   last_within (opens.not_accepted l _) = within_more _ _ _ _ (omega arith) (omega arith) (omega arith) (omega arith) (look_within l)
@@ -150,13 +150,13 @@ module _ {F E C : Type 0} (m : Meaning F E C) (node : ℕ) (hash : ServiceHash) 
   rounds_within (one_more before r) = within_more _ _ _ _ (omega arith) (omega arith) (omega arith) (omega arith) (within_append (rounds_within before) (failed_within r))
 
   -- an open looks at most twice and opens at most once in each of its at most six rounds
-  pub open_within : {w : List Letter} {r : Result Factory E} → IsOpenWord m node hash w r → IsWithin w 12 6 0 0
+  pub open_within : {w : List Letter} {r : Result Registered E} → IsOpenWord m node hash w r → IsWithin w 12 6 0 0
   open_within (ended small before l) = within_more _ _ _ _ (omega arith) (omega arith) (omega arith) (omega arith) (within_append (rounds_within before) (last_within l))
   open_within (all_failed before) = rounds_within before
 
   -- and so it is where they may prepare their types first
-  pub create_call_within : {stops : Bool} {d : Description} {w : List Letter} {r : Result Factory C} → IsPrepared (m.create_refusal OutOfMemory) (IsCreating m node hash stops d) w r → IsWithin w 1 0 6 6
+  pub create_call_within : {stops : Bool} {d : Description} {w : List Letter} {r : Result Registered C} → IsPrepared (m.create_refusal OutOfMemory) (IsCreating m node hash stops d) w r → IsWithin w 1 0 6 6
   create_call_within = each_call (λ w r. IsWithin w 1 0 6 6) (within_more _ _ _ _ (omega arith) (omega arith) (omega arith) (omega arith) none_within) (λ w r is. create_within is)
 
-  pub open_call_within : {w : List Letter} {r : Result Factory E} → IsOpenCall m node hash w r → IsWithin w 12 6 0 0
+  pub open_call_within : {w : List Letter} {r : Result Registered E} → IsOpenCall m node hash w r → IsWithin w 12 6 0 0
   open_call_within = each_call (λ w r. IsWithin w 12 6 0 0) (within_more _ _ _ _ (omega arith) (omega arith) (omega arith) (omega arith) none_within) (λ w r is. open_within is)

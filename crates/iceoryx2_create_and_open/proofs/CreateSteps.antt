@@ -2,7 +2,7 @@
 use Rattle.std.proofs.Common.{◌≡◌, ◌∷◌, ◌++◌, [], ℕ, Bool, true, false, List, Result, Ok, Err, refl, append_assoc}
 use Rattle.iceoryx2_description.specs.declared.description.ServiceHash.{ServiceHash}
 use Rattle.iceoryx2_description.specs.Description.{Description}
-use Rattle.iceoryx2_access.specs.Factory.{Factory}
+use Rattle.iceoryx2_access.specs.Registered.{Registered}
 use Rattle.iceoryx2_access.specs.Letter.{Letter, Counts, MakeTag}
 use Rattle.iceoryx2_access.specs.declared.storage.Tag.{Tag}
 use Rattle.iceoryx2_access.specs.declared.storage.TagError.{TagError}
@@ -32,6 +32,6 @@ module _ {F E C : Type 0} {m : Meaning F E C} {node : ℕ} {hash : ServiceHash} 
         → IsRestOfCreate m node hash stops d (MakeTag node hash (Ok tag) ∷ v) (Err (m.create_refusal refusal.InternalFailure))
     stopped tag {v} stops back w (free {u} look) h = rw (tagged node hash u tag v) (clock_fault h stops (entered tag look) back)
 
-    pub served : (tag : Tag) {v : List Letter} {answer : Result Factory C} → stops ≡ false → IsServiceWord m node hash d tag v answer
+    pub served : (tag : Tag) {v : List Letter} {answer : Result Registered C} → stops ≡ false → IsServiceWord m node hash d tag v answer
         → IsRestOfCreate m node hash stops d (MakeTag node hash (Ok tag) ∷ v) answer
     served tag {v} goes_on service w (free {u} look) h = rw (tagged node hash u tag v) (made h goes_on (entered tag look) service)

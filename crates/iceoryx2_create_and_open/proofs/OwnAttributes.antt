@@ -5,7 +5,7 @@ use Rattle.iceoryx2_description.specs.declared.description.ServiceHash.{ServiceH
 use Rattle.iceoryx2_description.specs.Description.{Description}
 use Rattle.iceoryx2_access.specs.declared.storage.FetchError.{FetchError}
 use Rattle.iceoryx2_access.specs.declared.storage.Tag.{Tag}
-use Rattle.iceoryx2_access.specs.Factory.{Factory}
+use Rattle.iceoryx2_access.specs.Registered.{Registered}
 use Rattle.iceoryx2_access.specs.Letter.{Letter}
 use Rattle.iceoryx2_pattern.specs.Meaning.{Meaning}
 use Rattle.iceoryx2_pattern.specs.Verdict.{Clause}
@@ -59,13 +59,13 @@ module _ {F E C : Type 0} (m : Meaning F E C) (given : List Pair) (required : De
   enters (no_tag e look) = no_tag e (looks look)
   enters (entered tag look) = entered tag (looks look)
 
-  serves : {node : ℕ} {hash : ServiceHash} {d : Description} {tag : Tag} {word : List Letter} {answer : Result Factory C} → IsServiceWord m node hash d tag word answer → IsServiceWord other node hash d tag word answer
+  serves : {node : ℕ} {hash : ServiceHash} {d : Description} {tag : Tag} {word : List Letter} {answer : Result Registered C} → IsServiceWord m node hash d tag word answer → IsServiceWord other node hash d tag word answer
   serves (not_locked e back) = not_locked e back
   serves (no_segment segment back) = no_segment segment back
   serves (not_published e segment back) = not_published e segment back
   serves (published n t segment) = published n t segment
 
-  pub creates : {node : ℕ} {hash : ServiceHash} {stops : Bool} {d : Description} {word : List Letter} {answer : Result Factory C} → IsCreating m node hash stops d word answer → IsCreating other node hash stops d word answer
+  pub creates : {node : ℕ} {hash : ServiceHash} {stops : Bool} {d : Description} {word : List Letter} {answer : Result Registered C} → IsCreating m node hash stops d word answer → IsCreating other node hash stops d word answer
   creates (forbidden h) = forbidden h
   creates (not_entered h entry) = not_entered h (enters entry)
   creates (clock_fault h stops entry back) = clock_fault h stops (enters entry) back

@@ -14,7 +14,7 @@ use Rattle.iceoryx2_create_and_open.specs.declared.create.Created.{Created}
 use Rattle.iceoryx2_pattern.specs.declared.pattern.CreateRefusal.{CreateRefusal}
 use Rattle.iceoryx2_pattern.specs.declared.pattern.CreateRefusal.TheVariants as refusal
 use Rattle.iceoryx2_pattern.specs.Meaning.{Meaning}
-use Rattle.iceoryx2_access.specs.Factory.{Factory}
+use Rattle.iceoryx2_access.specs.Registered.{Registered}
 use Rattle.iceoryx2_create_and_open.specs.Looks.{IsLookWord}
 use Rattle.iceoryx2_create_and_open.specs.GivesBack.{GivesBack, OwnLock, OwnSegment, own_tag}
 use Rattle.iceoryx2_create_and_open.specs.Refusals.{of_tag, of_lock, of_publish}
@@ -43,7 +43,7 @@ description_of m node hash name now = record {
 }
 
 -- what the node holds that created a service of this description
-abbrev pub factory_of : ℕ → Description → Created → Factory
+abbrev pub factory_of : ℕ → Description → Created → Registered
 factory_of node d created = record { node = node; number = created.number; ticket = created.ticket; description = d }
 
 module _ {F E C : Type 0} (m : Meaning F E C) (node : ℕ) (hash : ServiceHash) where
@@ -65,7 +65,7 @@ module _ {F E C : Type 0} (m : Meaning F E C) (node : ℕ) (hash : ServiceHash) 
 
   -- The words from the lock on, of a create that has this tag: it publishes this description, or gives back what it
   -- made.
-  pub data IsServiceWord (d : Description) (tag : Tag) : List Letter → Result Factory C → Type 0 where
+  pub data IsServiceWord (d : Description) (tag : Tag) : List Letter → Result Registered C → Type 0 where
     not_locked : {v : List Letter} (e : LockError) → GivesBack node hash (own_tag tag) v
         → IsServiceWord d tag (Lock node hash (Err e) ∷ v) (Err (m.create_refusal (of_lock e)))
     no_segment : {v w : List Letter} {n : ℕ} {why : CreateRefusal}
@@ -82,19 +82,19 @@ module _ {F E C : Type 0} (m : Meaning F E C) (node : ℕ) (hash : ServiceHash) 
         (Ok (record { node = node; number = n; ticket = t; description = d }))
 
   -- The words of a create that publishes this description.
-  pub data IsCreating (clock_stops : Bool) (d : Description) : List Letter → Result Factory C → Type 0 where
+  pub data IsCreating (clock_stops : Bool) (d : Description) : List Letter → Result Registered C → Type 0 where
     forbidden : {error : C} → m.history_refusal ≡ Some error → IsCreating clock_stops d [] (Err error)
     not_entered : {u : List Letter} {error : C} → m.history_refusal ≡ None → IsEntryWord u (Err error)
         → IsCreating clock_stops d u (Err error)
     clock_fault : {tag : Tag} {u v : List Letter} → m.history_refusal ≡ None → clock_stops ≡ true
         → IsEntryWord u (Ok tag) → GivesBack node hash (own_tag tag) v
         → IsCreating clock_stops d (u ++ v) (Err (m.create_refusal refusal.InternalFailure))
-    made : {tag : Tag} {u v : List Letter} {answer : Result Factory C}
+    made : {tag : Tag} {u v : List Letter} {answer : Result Registered C}
         → m.history_refusal ≡ None → clock_stops ≡ false
         → IsEntryWord u (Ok tag) → IsServiceWord d tag v answer → IsCreating clock_stops d (u ++ v) answer
 
   -- The words of create, for a name and the clock's answer.
-  abbrev pub IsCreateWord : List ℕ → Result Span ClockFault → List Letter → Result Factory C → Type 0
+  abbrev pub IsCreateWord : List ℕ → Result Span ClockFault → List Letter → Result Registered C → Type 0
   IsCreateWord name now word answer =
       IsCreating (clock_stops m.needs_clock now) (description_of m node hash name now) word answer
 
@@ -108,6 +108,6 @@ module _ {F E C : Type 0} (m : Meaning F E C) (node : ℕ) (hash : ServiceHash) 
   IsObstacle word (Some error) = IsEntryWord word (Err error)
 
   -- and what makes a create behind them.
-  abbrev pub IsRestOfCreate : Bool → Description → List Letter → Result Factory C → Type 0
+  abbrev pub IsRestOfCreate : Bool → Description → List Letter → Result Registered C → Type 0
   IsRestOfCreate clock_stops d word answer =
       (u : List Letter) → IsFree u → m.history_refusal ≡ None → IsCreating clock_stops d (u ++ word) answer

@@ -7,23 +7,23 @@ use Rattle.iceoryx2_access.specs.declared.storage.Tag.TheVariants.{Made, Found}
 use Rattle.iceoryx2_access.specs.Letter.{Letter, RemoveTag, RemoveSegment, RemoveDescription}
 
 -- What a call makes on its way.
-pub data Thing : Type 0 where
-  OwnTag : Thing
-  OwnLock : Thing
-  OwnSegment : Thing
+pub data MadeByCall : Type 0 where
+  OwnTag : MadeByCall
+  OwnLock : MadeByCall
+  OwnSegment : MadeByCall
 
 -- A tag that was there isn't the call's own.
-abbrev pub own_tag : Tag → List Thing
+abbrev pub own_tag : Tag → List MadeByCall
 own_tag Made = OwnTag ∷ []
 own_tag Found = []
 
 -- One removal for each thing, in order, with any answers.
 module _ (node : ℕ) (hash : ServiceHash) where
-  pub data GivesBack : List Thing → List Letter → Type 0 where
+  pub data GivesBack : List MadeByCall → List Letter → Type 0 where
     nothing_left : GivesBack [] []
-    segment_back : {things : List Thing} {w : List Letter} (answer : Result (Unit {0}) RemoveError)
-        → GivesBack things w → GivesBack (OwnSegment ∷ things) (RemoveSegment node hash answer ∷ w)
-    lock_back : {things : List Thing} {w : List Letter} (answer : Result (Unit {0}) RemoveError)
-        → GivesBack things w → GivesBack (OwnLock ∷ things) (RemoveDescription node hash answer ∷ w)
-    tag_back : {things : List Thing} {w : List Letter} (answer : Result (Unit {0}) RemoveError)
-        → GivesBack things w → GivesBack (OwnTag ∷ things) (RemoveTag node hash answer ∷ w)
+    segment_back : {owned : List MadeByCall} {w : List Letter} (answer : Result (Unit {0}) RemoveError)
+        → GivesBack owned w → GivesBack (OwnSegment ∷ owned) (RemoveSegment node hash answer ∷ w)
+    lock_back : {owned : List MadeByCall} {w : List Letter} (answer : Result (Unit {0}) RemoveError)
+        → GivesBack owned w → GivesBack (OwnLock ∷ owned) (RemoveDescription node hash answer ∷ w)
+    tag_back : {owned : List MadeByCall} {w : List Letter} (answer : Result (Unit {0}) RemoveError)
+        → GivesBack owned w → GivesBack (OwnTag ∷ owned) (RemoveTag node hash answer ∷ w)

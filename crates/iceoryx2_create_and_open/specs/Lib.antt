@@ -8,4 +8,4 @@ pub mod Answers
 pub mod Prepared
 pub mod OwnSettings
 pub mod Counts
-pub mod Keeps
+pub mod TracksOwned

@@ -8,12 +8,12 @@ use Rattle.iceoryx2_access.specs.declared.storage.OpenSegmentError.{OpenSegmentE
 use Rattle.iceoryx2_access.specs.declared.storage.OpenSegmentError.TheVariants as segment
 use Rattle.iceoryx2_access.specs.Letter.{Letter, MakeTag, OpenSegment}
 use Rattle.iceoryx2_create_and_open.specs.declared.look.Outcome.TheVariants.{Nothing, Found, Faulty}
-use Rattle.iceoryx2_create_and_open.specs.declared.open.TheConstants.{RETRY_LIMIT}
+use Rattle.iceoryx2_create_and_open.specs.declared.open.TheConstants.{OPEN_RETRIES}
 use Rattle.iceoryx2_pattern.specs.declared.pattern.OpenRefusal.{OpenRefusal}
 use Rattle.iceoryx2_pattern.specs.declared.pattern.OpenRefusal.TheVariants as refusal
 use Rattle.iceoryx2_pattern.specs.Meaning.{Meaning}
 use Rattle.iceoryx2_pattern.specs.Verdict.{verdict}
-use Rattle.iceoryx2_access.specs.Factory.{Factory}
+use Rattle.iceoryx2_access.specs.Registered.{Registered}
 use Rattle.iceoryx2_create_and_open.specs.Looks.{IsLookWord}
 use Rattle.iceoryx2_create_and_open.specs.GivesBack.{GivesBack, own_tag}
 use Rattle.iceoryx2_create_and_open.specs.Refusals.{of_tag_opening, of_opening}
@@ -32,7 +32,7 @@ module _ {F E C : Type 0} (m : Meaning F E C) (node : ℕ) (hash : ServiceHash) 
         → IsFailedRound (u ++ OpenSegment node hash n (Err segment.Failed) ∷ (v ++ w))
 
   -- The round that gives the answer.
-  pub data IsLastRound : List Letter → Result Factory E → Type 0 where
+  pub data IsLastRound : List Letter → Result Registered E → Type 0 where
     look_faulty : {u : List Letter} {fault : F} → IsLookWord m node hash u (Faulty fault)
         → IsLastRound u (Err (m.open_error_of fault))
     look_none : {u : List Letter} → IsLookWord m node hash u Nothing
@@ -63,10 +63,10 @@ module _ {F E C : Type 0} (m : Meaning F E C) (node : ℕ) (hash : ServiceHash) 
         → AreFailedRounds (suc k) (u ++ v)
 
   -- At most as many failed rounds as are tried again and a last one, or one failed round more.
-  pub data IsOpenWord : List Letter → Result Factory E → Type 0 where
-    ended : {k : ℕ} {u v : List Letter} {answer : Result Factory E}
-        → k ≤ RETRY_LIMIT → AreFailedRounds k u → IsLastRound v answer → IsOpenWord (u ++ v) answer
-    all_failed : {u : List Letter} → AreFailedRounds (RETRY_LIMIT + 1) u
+  pub data IsOpenWord : List Letter → Result Registered E → Type 0 where
+    ended : {k : ℕ} {u v : List Letter} {answer : Result Registered E}
+        → k ≤ OPEN_RETRIES → AreFailedRounds k u → IsLastRound v answer → IsOpenWord (u ++ v) answer
+    all_failed : {u : List Letter} → AreFailedRounds (OPEN_RETRIES + 1) u
         → IsOpenWord u (Err (m.open_refusal refusal.ServiceInCorruptedState))
 
   -- What the code's parts are said by: a second look with the tag given back, which ends the call with an error or asks
@@ -99,18 +99,18 @@ module _ {F E C : Type 0} (m : Meaning F E C) (node : ℕ) (hash : ServiceHash) 
         → IsTaggedOpening n None (MakeTag node hash (Ok tag) ∷ OpenSegment node hash n (Err segment.Failed) ∷ v)
 
   -- one round, which may ask for another;
-  abbrev pub IsRound : List Letter → Option (Result Factory E) → Type 0
+  abbrev pub IsRound : List Letter → Option (Result Registered E) → Type 0
   IsRound word None = IsFailedRound word
   IsRound word (Some answer) = IsLastRound word answer
 
   -- and what makes a round behind a look that finds this service.
-  abbrev pub IsRestOfRound : ℕ → Description → List Letter → Option (Result Factory E) → Type 0
+  abbrev pub IsRestOfRound : ℕ → Description → List Letter → Option (Result Registered E) → Type 0
   IsRestOfRound n d word answer =
       (u : List Letter) → IsLookWord m node hash u (Found n d) → IsRound (u ++ word) answer
 
 -- The same answer with what the node holds in place of its ticket.
 abbrev pub round_registration : {E : Type 0} → ℕ → ℕ → Description → Option (Result ℕ E)
-    → Option (Result Factory E)
+    → Option (Result Registered E)
 round_registration node n d None = None
 round_registration node n d (Some (Err error)) = Some (Err error)
 round_registration node n d (Some (Ok t)) = Some (Ok (record { node = node; number = n; ticket = t; description = d }))

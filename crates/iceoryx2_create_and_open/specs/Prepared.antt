@@ -4,7 +4,7 @@ use Rattle.iceoryx2_description.specs.declared.description.ServiceHash.{ServiceH
 use Rattle.iceoryx2_description.specs.declared.time.ClockFault.{ClockFault}
 use Rattle.iceoryx2_description.specs.Span.{Span}
 use Rattle.iceoryx2_access.specs.Letter.{Letter}
-use Rattle.iceoryx2_access.specs.Factory.{Factory}
+use Rattle.iceoryx2_access.specs.Registered.{Registered}
 use Rattle.iceoryx2_pattern.specs.declared.pattern.OpenRefusal.TheVariants as open_refusal
 use Rattle.iceoryx2_pattern.specs.declared.pattern.CreateRefusal.TheVariants as create_refusal
 use Rattle.iceoryx2_pattern.specs.Meaning.{Meaning}
@@ -12,17 +12,17 @@ use Rattle.iceoryx2_create_and_open.specs.Creates.{IsCreateWord}
 use Rattle.iceoryx2_create_and_open.specs.Opens.{IsOpenWord}
 
 -- A call that prepares its types first goes along a word of it, or makes no access where the types found no memory.
-pub data IsPrepared {E : Type 0} (no_memory : E) (IsWord : List Letter → Result Factory E → Type 0)
-    : List Letter → Result Factory E → Type 0 where
+pub data IsPrepared {E : Type 0} (no_memory : E) (IsWord : List Letter → Result Registered E → Type 0)
+    : List Letter → Result Registered E → Type 0 where
   unprepared : IsPrepared no_memory IsWord [] (Err no_memory)
-  prepared : {word : List Letter} {answer : Result Factory E} → IsWord word answer
+  prepared : {word : List Letter} {answer : Result Registered E} → IsWord word answer
       → IsPrepared no_memory IsWord word answer
 
 module _ {F E C : Type 0} (m : Meaning F E C) (node : ℕ) (hash : ServiceHash) where
   -- The words of a create that may prepare its types first, for a name and the clock's answer;
-  abbrev pub IsCreateCall : List ℕ → Result Span ClockFault → List Letter → Result Factory C → Type 0
+  abbrev pub IsCreateCall : List ℕ → Result Span ClockFault → List Letter → Result Registered C → Type 0
   IsCreateCall name now = IsPrepared (m.create_refusal create_refusal.OutOfMemory) (IsCreateWord m node hash name now)
 
   -- and those of such an open.
-  abbrev pub IsOpenCall : List Letter → Result Factory E → Type 0
+  abbrev pub IsOpenCall : List Letter → Result Registered E → Type 0
   IsOpenCall = IsPrepared (m.open_refusal open_refusal.OutOfMemory) (IsOpenWord m node hash)

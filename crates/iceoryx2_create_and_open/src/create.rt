@@ -16,10 +16,10 @@ use iceoryx2_access::storage::{
     LockError, MakeSegmentError, PublishError, RemoveError, Storage, Tag, TagError,
 };
 use iceoryx2_attribute::attribute::AttributeSet;
-use iceoryx2_pattern::pattern::{CreateRefusal, Pattern};
-use iceoryx2_port_factory::port_factory::Registration;
 use iceoryx2_description::description::{ServiceHash, ServiceName, StaticConfig};
 use iceoryx2_description::time::{ClockFault, Time};
+use iceoryx2_pattern::pattern::{CreateRefusal, Pattern};
+use iceoryx2_port_factory::port_factory::Registration;
 use std::alloc::AllocError;
 
 /// How many segments of others a create removes before it gives up on making its own.

@@ -15,9 +15,9 @@ ghost use Rattle.iceoryx2_errors.specs.declared.error.CloseError.TheVariants.{No
 ghost use Rattle.iceoryx2_port_factory.specs.Closes.{IsCloseWord};
 ghost use Rattle.iceoryx2_create_and_open.specs.Counts.{IsWithin};
 ghost use Rattle.iceoryx2_create_and_open.specs.Creates.{description_of};
-ghost use Rattle.iceoryx2_create_and_open.specs.Keeps.{GivesAllBack, HasService, Keeps, NoLock, NoTag, no_own_tag, with_tag};
+ghost use Rattle.iceoryx2_create_and_open.specs.TracksOwned.{GivesAllBack, HasService, TracksOwned, NoLock, OwnsNoTag, no_own_tag, with_tag};
 ghost use Rattle.iceoryx2_create_and_open.specs.Prepared.{IsCreateCall, IsOpenCall};
-ghost use Rattle.iceoryx2_access.specs.Factory.{Factory};
+ghost use Rattle.iceoryx2_access.specs.Registered.{Registered};
 ghost use Rattle.iceoryx2_create_and_open.specs.Segments.{IsSegmentWord};
 ghost use Rattle.iceoryx2_pattern.specs.Meaning.{Meaning};
 ghost use Rattle.iceoryx2_pattern.specs.Verdict.{verdict};
@@ -26,7 +26,7 @@ ghost use Rattle.iceoryx2_pattern.specs.Verdict.{verdict};
 /// removes one at most six times, the last time to give its own back.
 pub fn create_is_short<F: Copy, E: Copy, C: Copy>()
     ensures { (m : Meaning F E C) (node : ℕ) (hash : ServiceHash) (name : List ℕ) (now : Result Span ClockFault)
-        (word : List Letter) (answer : Result Factory C)
+        (word : List Letter) (answer : Result Registered C)
         → IsCreateCall m node hash name now word answer → IsWithin word 1 0 6 6 }
 {}
 
@@ -41,7 +41,7 @@ pub fn segment_part_is_short()
 /// An open looks at most twelve times and opens at most six times. It makes and removes no segment.
 pub fn open_is_short<F: Copy, E: Copy, C: Copy>()
     ensures { (m : Meaning F E C) (node : ℕ) (hash : ServiceHash)
-        (word : List Letter) (answer : Result Factory E)
+        (word : List Letter) (answer : Result Registered E)
         → IsOpenCall m node hash word answer → IsWithin word 12 6 0 0 }
 {}
 
@@ -59,31 +59,31 @@ pub fn refused_create_gives_back<F: Copy, E: Copy, C: Copy>()
 pub fn refused_open_gives_back<F: Copy, E: Copy, C: Copy>()
     ensures { (m : Meaning F E C) (node : ℕ) (hash : ServiceHash) (word : List Letter) (error : E)
         → IsOpenCall m node hash word (Err error)
-        → (is_left : Bool) × Keeps node hash no_own_tag NoLock word (NoTag is_left) NoLock }
+        → (is_left : Bool) × TracksOwned node hash no_own_tag NoLock word (OwnsNoTag is_left) NoLock }
 {}
 
 /// A create that succeeds keeps its segment and its lock, under whose number the description now
 /// stands, and its tag, which may have been there. It has given back nothing of its own.
 pub fn create_keeps_what_it_made<F: Copy, E: Copy, C: Copy>()
     ensures { (m : Meaning F E C) (node : ℕ) (hash : ServiceHash) (name : List ℕ) (now : Result Span ClockFault)
-        (word : List Letter) (r : Factory)
+        (word : List Letter) (r : Registered)
         → IsCreateCall m node hash name now word (Ok r)
-        → (tag : Tag) × Keeps node hash no_own_tag NoLock word (with_tag no_own_tag tag) (HasService r.number) }
+        → (tag : Tag) × TracksOwned node hash no_own_tag NoLock word (with_tag no_own_tag tag) (HasService r.number) }
 {}
 
 /// An open that succeeds keeps the tag of its last round, which may have been there, and has given
 /// back the tags that it made in failed rounds.
 pub fn open_keeps_its_tag<F: Copy, E: Copy, C: Copy>()
-    ensures { (m : Meaning F E C) (node : ℕ) (hash : ServiceHash) (word : List Letter) (r : Factory)
+    ensures { (m : Meaning F E C) (node : ℕ) (hash : ServiceHash) (word : List Letter) (r : Registered)
         → IsOpenCall m node hash word (Ok r)
         → (is_left : Bool) × (tag : Tag)
-        × Keeps node hash no_own_tag NoLock word (with_tag (NoTag is_left) tag) (HasService r.number) }
+        × TracksOwned node hash no_own_tag NoLock word (with_tag (OwnsNoTag is_left) tag) (HasService r.number) }
 {}
 
 /// A create that succeeds carries its node and what it published.
 pub fn granted_create_carries<F: Copy, E: Copy, C: Copy>()
     ensures { (m : Meaning F E C) (node : ℕ) (hash : ServiceHash) (name : List ℕ) (now : Result Span ClockFault)
-        (word : List Letter) (r : Factory)
+        (word : List Letter) (r : Registered)
         → IsCreateCall m node hash name now word (Ok r)
         → (r.node ≡ node) × (r.description ≡ description_of m node hash name now) }
 {}
@@ -91,7 +91,7 @@ pub fn granted_create_carries<F: Copy, E: Copy, C: Copy>()
 /// An open that succeeds carries its node and a description of the builder's hash that is of the
 /// builder's pattern and message types, and on which the requirement was accepted.
 pub fn granted_open_carries<F: Copy, E: Copy, C: Copy>()
-    ensures { (m : Meaning F E C) (node : ℕ) (hash : ServiceHash) (word : List Letter) (r : Factory)
+    ensures { (m : Meaning F E C) (node : ℕ) (hash : ServiceHash) (word : List Letter) (r : Registered)
         → IsOpenCall m node hash word (Ok r)
         → (r.node ≡ node) × (r.description.hash ≡ hash)
         × (m.misfit r.description ≡ None)
@@ -100,5 +100,5 @@ pub fn granted_open_carries<F: Copy, E: Copy, C: Copy>()
 
 /// What a close hands back is what was to be closed.
 pub fn close_hands_back_its_own()
-    ensures { (r s : Factory) (word : List Letter) → IsCloseWord r word (Err (NotHere s)) → s ≡ r }
+    ensures { (r s : Registered) (word : List Letter) → IsCloseWord r word (Err (NotHere s)) → s ≡ r }
 {}

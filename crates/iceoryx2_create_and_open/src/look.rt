@@ -9,9 +9,9 @@ ghost use Rattle.iceoryx2_create_and_open.specs.Looks.{IsLookWord, LeadsTo, foun
 
 use iceoryx2_access::storage::{Existence, FetchError, Storage};
 use iceoryx2_byte_form::bytes::{DecodeError, decode};
+use iceoryx2_description::description::{ServiceHash, StaticConfig};
 use iceoryx2_errors::error::ServiceState;
 use iceoryx2_pattern::pattern::Pattern;
-use iceoryx2_description::description::{ServiceHash, StaticConfig};
 use std::alloc::Global;
 
 /// What a look finds.

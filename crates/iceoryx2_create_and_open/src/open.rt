@@ -12,17 +12,17 @@ use crate::give_back::give_back_tag;
 use crate::look::{Outcome, Sight, look};
 use iceoryx2_access::storage::{OpenSegmentError, Storage, Tag, TagError};
 use iceoryx2_attribute::attribute::AttributeVerifier;
+use iceoryx2_description::description::{ServiceHash, StaticConfig};
 use iceoryx2_pattern::pattern::{OpenRefusal, Pattern};
 use iceoryx2_pattern::verdict::need_attributes;
 use iceoryx2_port_factory::port_factory::Registration;
-use iceoryx2_description::description::{ServiceHash, StaticConfig};
 
 /// How often an open tries again after a round that failed.
-pub const RETRY_LIMIT: u64 = 5;
+pub const OPEN_RETRIES: u64 = 5;
 
 /// The limit is five.
-pub fn retry_limit_is_five()
-    ensures { RETRY_LIMIT ≡ 5 }
+pub fn open_retries_are_five()
+    ensures { OPEN_RETRIES ≡ 5 }
 {}
 
 fn tag_refusal(error: TagError) -> OpenRefusal
@@ -190,7 +190,7 @@ pub fn open<P: Pattern, S: Storage>(
     ensures { let meaning = requiring verifier.now (P.meaning pattern.now) in
         Joins S.step storage.old (λ word. IsOpenWord meaning node hash.now word result) storage.new }
 {
-    for _round in 0..RETRY_LIMIT + 1 {
+    for _round in 0..OPEN_RETRIES + 1 {
         match try_open(pattern, node, hash, verifier, storage) {
             Some(answer) => return answer,
             None => {}

@@ -23,7 +23,7 @@ pub const MIN_NAME_LENGTH: usize = 1;
 pub const MAX_NAME_LENGTH: usize = 255;
 
 /// The limits as numbers, since a wrong constant would go with the definitions that cite it.
-pub fn limits()
+pub fn limits_of_names()
     ensures hash { HASH_LENGTH ≡ 20 }
     ensures min_name { MIN_NAME_LENGTH ≡ 1 }
     ensures max_name { MAX_NAME_LENGTH ≡ 255 }

@@ -22,7 +22,7 @@ pub use request_response::{
 };
 
 /// An error is known by its text: of the 163 values of the nine enums, no two have the same one.
-pub fn laws()
+pub fn texts_of_errors_differ()
     ensures { (one other : AnyError) → text_of one ≡ text_of other → one ≡ other }
 {}
 

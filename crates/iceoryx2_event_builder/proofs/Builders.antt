@@ -14,9 +14,9 @@ use Rattle.iceoryx2_event_builder.specs.declared.event.demand.EventDemand.{Event
 use Rattle.iceoryx2_event_builder.specs.Event.{event_creating, event_opening, event_retried, setting_clauses, setting_rows}
 use Rattle.iceoryx2_event_builder.proofs.Regular.{creating_is_regular, opening_is_regular, event_takes_nodes}
 use Rattle.iceoryx2_event_builder.proofs.OwnSettings.{own_settings}
-use Rattle.iceoryx2_builder_common.specs.Builders.{IsBuilder}
+use Rattle.iceoryx2_builder_common.specs.Builders.{IsLawfulBuilder}
 
-pub event_builder : (demand : EventDemand) → IsBuilder (event_creating demand) (event_opening demand)
+pub event_builder : (demand : EventDemand) → IsLawfulBuilder (event_creating demand) (event_opening demand)
 event_builder demand = record {
   creating_is_regular = creating_is_regular demand;
   opening_is_regular = opening_is_regular demand;

@@ -4,19 +4,19 @@ use Rattle.std.specs.Option.{option_map}
 use Rattle.iceoryx2_description.specs.declared.config.Event.{Event as EventDefaults}
 use Rattle.iceoryx2_description.specs.declared.event.Deadline.{Deadline}
 use Rattle.iceoryx2_description.specs.Span.{Span, zero_span}
-use Rattle.iceoryx2_event_builder.specs.declared.event.TheConstants.{LETTER}
+use Rattle.iceoryx2_event_builder.specs.declared.event.TheConstants.{PREFIX}
 use Rattle.iceoryx2_event_builder.specs.declared.event.demand.EventDemand.{EventDemand}
-use Rattle.iceoryx2_event_builder.specs.declared.event.setting.EventSetting.{EventSetting}
-use Rattle.iceoryx2_event_builder.specs.declared.event.setting.EventSetting.TheVariants as set
+use Rattle.iceoryx2_event_builder.specs.declared.event.setting.EventSetter.{EventSetter}
+use Rattle.iceoryx2_event_builder.specs.declared.event.setting.EventSetter.TheVariants as set
 
-pub record EventRequest : Type 0 where
+pub record EventBuilderState : Type 0 where
   pub node : ℕ
   pub name : List ℕ
   pub demand : EventDemand
 
 -- the letter of services of events
 abbrev pub letter_of_events : ℕ
-letter_of_events = LETTER
+letter_of_events = PREFIX
 
 -- a deadline as a builder asks for it: when the service is created is still to come
 abbrev pub demanded_deadline : Span → Deadline
@@ -48,11 +48,11 @@ fresh_demand defaults = record {
 }
 
 -- what a builder asks that no setter has changed
-abbrev pub fresh_request : ℕ → List ℕ → EventDefaults → EventRequest
-fresh_request node name defaults = record { node = node; name = name; demand = fresh_demand defaults }
+abbrev pub fresh_builder : ℕ → List ℕ → EventDefaults → EventBuilderState
+fresh_builder node name defaults = record { node = node; name = name; demand = fresh_demand defaults }
 
 -- The settings after one setter: its value is set, and the setting is marked.
-abbrev pub demand_with : EventDemand → EventSetting → EventDemand
+abbrev pub demand_with : EventDemand → EventSetter → EventDemand
 demand_with demand (set.MaxNotifiers n) = record {
   settings = record demand.settings { max_notifiers = n };
   marks = record demand.marks { max_notifiers = true };
@@ -87,5 +87,5 @@ demand_with demand (set.Deadline value) = record {
 }
 
 -- a builder after one setter
-abbrev pub with_setting : EventRequest → EventSetting → EventRequest
+abbrev pub with_setting : EventBuilderState → EventSetter → EventBuilderState
 with_setting request setting = record request { demand = demand_with request.demand setting }

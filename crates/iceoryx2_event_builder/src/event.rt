@@ -10,36 +10,36 @@ ghost use Rattle.iceoryx2_create_and_open.specs.Opens.{IsOpenWord};
 ghost use Rattle.iceoryx2_attribute.specs.Requirements.{Requirements, no_requirements};
 ghost use Rattle.iceoryx2_event_builder.specs.Event.{event_adjusted, event_creating, event_meaning, event_opening};
 ghost use Rattle.iceoryx2_event_builder.specs.Event.{event_refusal, event_retried};
-ghost use Rattle.iceoryx2_builder_common.specs.Builders.{IsBuilder};
+ghost use Rattle.iceoryx2_builder_common.specs.Builders.{IsLawfulBuilder};
 ghost use Rattle.iceoryx2_event_builder.specs.declared.event.demand.EventDemand.{EventDemand};
-ghost use Rattle.iceoryx2_event_builder.specs.Request.{fresh_request, letter_of_events, with_setting};
+ghost use Rattle.iceoryx2_event_builder.specs.Request.{fresh_builder, letter_of_events, with_setting};
 
 pub mod demand;
 pub mod setting;
 
 use crate::event::demand::{EventDemand, open_or_create_error};
-pub use crate::event::setting::EventSetting;
+pub use crate::event::setting::EventSetter;
 use iceoryx2_access::storage::Service;
 use iceoryx2_attribute::attribute::{AttributeSpecifier, AttributeVerifier};
 use iceoryx2_builder_common::answer::hand_out;
 use iceoryx2_builder_common::base::BuilderWithServiceType;
-pub use iceoryx2_errors::error::{EventCreateError, EventOpenError, EventOpenOrCreateError};
-use iceoryx2_open_or_create::open_or_create::open_or_create;
-use iceoryx2_port_factory::port_factory::event::PortFactory;
 use iceoryx2_create_and_open::create::create;
 use iceoryx2_create_and_open::open::open;
 use iceoryx2_description::config;
 pub use iceoryx2_description::event::EventId;
 use iceoryx2_description::time::{ClockFault, Duration, Time};
+pub use iceoryx2_errors::error::{EventCreateError, EventOpenError, EventOpenOrCreateError};
+use iceoryx2_open_or_create::open_or_create::open_or_create;
+use iceoryx2_port_factory::port_factory::event::PortFactory;
 use std::alloc::AllocError;
 use std::marker::Model;
 
 /// The letter that stands before a name in the hash of a service of events.
-pub const LETTER: u8 = b'e';
+pub const PREFIX: u8 = b'e';
 
 /// The letter is `e`.
-pub fn letter_is_e()
-    ensures { LETTER ≡ 101 }
+pub fn prefix_is_e()
+    ensures { PREFIX ≡ 101 }
 {}
 
 /// What holds of each builder of events.
@@ -47,8 +47,8 @@ pub fn letter_is_e()
 /// Its meanings are regular, and with its adjusted settings a create publishes for one node or more,
 /// and what the same builder opens: it fits it and meets each setting that it requires, whatever
 /// attributes are defined and whatever the clock says.
-pub fn laws()
-    ensures { (demand : EventDemand) → IsBuilder (event_creating demand) (event_opening demand) }
+pub fn opens_what_it_creates()
+    ensures { (demand : EventDemand) → IsLawfulBuilder (event_creating demand) (event_opening demand) }
 {}
 
 /// What a table that nobody else uses refuses is not tried again by an open or create.
@@ -67,9 +67,9 @@ pub struct Builder<S: Service> {
 }
 
 impl<S: Service> Model for Builder<S> {
-    ghost use Rattle.iceoryx2_event_builder.specs.Request.{EventRequest};
+    ghost use Rattle.iceoryx2_event_builder.specs.Request.{EventBuilderState};
 
-    ghost Value = { EventRequest };
+    ghost Value = { EventBuilderState };
 
     ghost view = { λ builder. record { node = builder.base.node; name = builder.base.name; demand = builder.demand } };
 }
@@ -97,7 +97,7 @@ impl<S: Service> Clone for Builder<S> {
 impl<S: Service> Builder<S> {
     /// A builder with these settings, of which none is required.
     pub fn new(base: BuilderWithServiceType<S>, defaults: config::Event) -> Self
-        ensures { result ≡ fresh_request base.node base.name defaults }
+        ensures { result ≡ fresh_builder base.node base.name defaults }
     {
         Builder {
             base,
@@ -106,7 +106,7 @@ impl<S: Service> Builder<S> {
     }
 
     /// Carries out one setter, by its name.
-    pub fn with(mut self, setting: EventSetting) -> Self
+    pub fn with(mut self, setting: EventSetter) -> Self
         ensures { result ≡ with_setting self setting }
     {
         self.demand.set(setting);
@@ -115,87 +115,87 @@ impl<S: Service> Builder<S> {
 
     /// How many notifiers the service has room for. Zero is one in a create.
     pub fn max_notifiers(self, value: u64) -> Self
-        ensures { result ≡ with_setting self (EventSetting.MaxNotifiers value) }
+        ensures { result ≡ with_setting self (EventSetter.MaxNotifiers value) }
     {
-        self.with(EventSetting::MaxNotifiers(value))
+        self.with(EventSetter::MaxNotifiers(value))
     }
 
     /// How many listeners the service has room for. Zero is one in a create.
     pub fn max_listeners(self, value: u64) -> Self
-        ensures { result ≡ with_setting self (EventSetting.MaxListeners value) }
+        ensures { result ≡ with_setting self (EventSetter.MaxListeners value) }
     {
-        self.with(EventSetting::MaxListeners(value))
+        self.with(EventSetter::MaxListeners(value))
     }
 
     /// The greatest number that an event may have.
     pub fn event_id_max_value(self, value: u64) -> Self
-        ensures { result ≡ with_setting self (EventSetting.EventIdMaxValue value) }
+        ensures { result ≡ with_setting self (EventSetter.EventIdMaxValue value) }
     {
-        self.with(EventSetting::EventIdMaxValue(value))
+        self.with(EventSetter::EventIdMaxValue(value))
     }
 
     /// For how many nodes the service is. Zero is one in a create.
     pub fn max_nodes(self, value: u64) -> Self
-        ensures { result ≡ with_setting self (EventSetting.MaxNodes value) }
+        ensures { result ≡ with_setting self (EventSetter.MaxNodes value) }
     {
-        self.with(EventSetting::MaxNodes(value))
+        self.with(EventSetter::MaxNodes(value))
     }
 
     /// What is sent when a notifier is created. An existing service has to send the same.
     pub fn notifier_created_event(self, value: EventId) -> Self
-        ensures { result ≡ with_setting self (EventSetting.NotifierCreatedEvent (Some value)) }
+        ensures { result ≡ with_setting self (EventSetter.NotifierCreatedEvent (Some value)) }
     {
-        self.with(EventSetting::NotifierCreatedEvent(Some(value)))
+        self.with(EventSetter::NotifierCreatedEvent(Some(value)))
     }
 
     /// Nothing is sent when a notifier is created, and nothing by an existing service either.
     pub fn disable_notifier_created_event(self) -> Self
-        ensures { result ≡ with_setting self (EventSetting.NotifierCreatedEvent None) }
+        ensures { result ≡ with_setting self (EventSetter.NotifierCreatedEvent None) }
     {
-        self.with(EventSetting::NotifierCreatedEvent(None))
+        self.with(EventSetter::NotifierCreatedEvent(None))
     }
 
     /// What is sent when a notifier goes. An existing service has to send the same.
     pub fn notifier_dropped_event(self, value: EventId) -> Self
-        ensures { result ≡ with_setting self (EventSetting.NotifierDroppedEvent (Some value)) }
+        ensures { result ≡ with_setting self (EventSetter.NotifierDroppedEvent (Some value)) }
     {
-        self.with(EventSetting::NotifierDroppedEvent(Some(value)))
+        self.with(EventSetter::NotifierDroppedEvent(Some(value)))
     }
 
     /// Nothing is sent when a notifier goes, and nothing by an existing service either.
     pub fn disable_notifier_dropped_event(self) -> Self
-        ensures { result ≡ with_setting self (EventSetting.NotifierDroppedEvent None) }
+        ensures { result ≡ with_setting self (EventSetter.NotifierDroppedEvent None) }
     {
-        self.with(EventSetting::NotifierDroppedEvent(None))
+        self.with(EventSetter::NotifierDroppedEvent(None))
     }
 
     /// What is sent for a notifier whose process died. An existing service has to send the same.
     pub fn notifier_dead_event(self, value: EventId) -> Self
-        ensures { result ≡ with_setting self (EventSetting.NotifierDeadEvent (Some value)) }
+        ensures { result ≡ with_setting self (EventSetter.NotifierDeadEvent (Some value)) }
     {
-        self.with(EventSetting::NotifierDeadEvent(Some(value)))
+        self.with(EventSetter::NotifierDeadEvent(Some(value)))
     }
 
     /// Nothing is sent for a notifier whose process died, and nothing by an existing service either.
     pub fn disable_notifier_dead_event(self) -> Self
-        ensures { result ≡ with_setting self (EventSetting.NotifierDeadEvent None) }
+        ensures { result ≡ with_setting self (EventSetter.NotifierDeadEvent None) }
     {
-        self.with(EventSetting::NotifierDeadEvent(None))
+        self.with(EventSetter::NotifierDeadEvent(None))
     }
 
     /// Within what time a notifier has to notify again. An existing service has to have the same
     /// deadline, whenever it was created.
     pub fn deadline(self, value: Duration) -> Self
-        ensures { result ≡ with_setting self (EventSetting.Deadline (Some value)) }
+        ensures { result ≡ with_setting self (EventSetter.Deadline (Some value)) }
     {
-        self.with(EventSetting::Deadline(Some(value)))
+        self.with(EventSetter::Deadline(Some(value)))
     }
 
     /// A notifier need not notify again, and an existing service has no deadline either.
     pub fn disable_deadline(self) -> Self
-        ensures { result ≡ with_setting self (EventSetting.Deadline None) }
+        ensures { result ≡ with_setting self (EventSetter.Deadline None) }
     {
-        self.with(EventSetting::Deadline(None))
+        self.with(EventSetter::Deadline(None))
     }
 
     /// Creates the service without attributes: `create_with_attributes` of a specifier that
@@ -234,7 +234,7 @@ impl<S: Service> Builder<S> {
             storage.new }
     {
         let Builder { base, mut demand } = self;
-        let hash = base.hash(LETTER);
+        let hash = base.hash(PREFIX);
         let attributes = specifier.attributes();
         let node = base.node();
         let name = base.name();
@@ -275,7 +275,7 @@ impl<S: Service> Builder<S> {
             storage.new }
     {
         let Builder { base, demand } = self;
-        let hash = base.hash(LETTER);
+        let hash = base.hash(PREFIX);
         hand_out(open(&demand, base.node(), &hash, verifier, storage))
     }
 
@@ -318,7 +318,7 @@ impl<S: Service> Builder<S> {
             storage.new }
     {
         let Builder { base, mut demand } = self;
-        let hash = base.hash(LETTER);
+        let hash = base.hash(PREFIX);
         let node = base.node();
         let name = base.name();
         match open_or_create(&mut demand, node, &hash, name, verifier, now, storage) {

@@ -4,7 +4,7 @@ use Rattle.iceoryx2_attribute.specs.Requirements.{Requirements}
 use Rattle.iceoryx2_description.specs.declared.description.ServiceHash.{ServiceHash}
 use Rattle.iceoryx2_description.specs.declared.time.ClockFault.{ClockFault}
 use Rattle.iceoryx2_description.specs.Span.{Span}
-use Rattle.iceoryx2_access.specs.Factory.{Factory}
+use Rattle.iceoryx2_access.specs.Registered.{Registered}
 use Rattle.iceoryx2_access.specs.Letter.{Letter}
 use Rattle.iceoryx2_pattern.specs.Meaning.{Meaning}
 use Rattle.iceoryx2_create_and_open.proofs.Prepared.{each_call}
@@ -16,7 +16,7 @@ use Rattle.iceoryx2_open_or_create.specs.OpenOrCreates.{IsRetriedTurn, open_retr
 use Rattle.iceoryx2_open_or_create.specs.Prepared.{IsOpenOrCreateCall}
 
 module _ {D F E C : Type 0} (meaning : D → Meaning F E C) (adjusted : D → D) (retried : Retried E C) (required : Requirements) (node : ℕ) (hash : ServiceHash) (name : List ℕ) (now : Result Span ClockFault) where
-  last_within : {asked : D} {w : List Letter} {r : Result Factory (OpenOrCreateRefusal E C)} → IsLastTurn meaning adjusted retried required node hash name now asked w r → IsWithin w 13 6 6 6
+  last_within : {asked : D} {w : List Letter} {r : Result Registered (OpenOrCreateRefusal E C)} → IsLastTurn meaning adjusted retried required node hash name now asked w r → IsWithin w 13 6 6 6
   last_within (look_faulty l) = within_more _ _ _ _ (omega arith) (omega arith) (omega arith) (omega arith) (look_within _ node hash l)
   last_within (not_opened l o _) = within_more _ _ _ _ (omega arith) (omega arith) (omega arith) (omega arith) (within_append (look_within _ node hash l) (open_within _ node hash o))
   last_within (opened l o) = within_more _ _ _ _ (omega arith) (omega arith) (omega arith) (omega arith) (within_append (look_within _ node hash l) (open_within _ node hash o))
@@ -32,9 +32,9 @@ module _ {D F E C : Type 0} (meaning : D → Meaning F E C) (adjusted : D → D)
   turns_within (one_more before t) = within_more _ _ _ _ (omega arith) (omega arith) (omega arith) (omega arith) (within_append (turns_within before) (retried_within t))
 
   -- six rounds, of which each looks once more than its open or its create
-  pub open_or_create_within : {first : D} {w : List Letter} {r : Result Factory (OpenOrCreateRefusal E C)} → IsOpenOrCreateWord meaning adjusted retried required node hash name now first w r → IsWithin w 78 36 36 36
+  pub open_or_create_within : {first : D} {w : List Letter} {r : Result Registered (OpenOrCreateRefusal E C)} → IsOpenOrCreateWord meaning adjusted retried required node hash name now first w r → IsWithin w 78 36 36 36
   open_or_create_within (ended small before t) = within_more _ _ _ _ (omega arith) (omega arith) (omega arith) (omega arith) (within_append (turns_within before) (last_within t))
   open_or_create_within (in_flux before) = turns_within before
 
-  pub open_or_create_call_within : {first : D} {w : List Letter} {r : Result Factory (OpenOrCreateRefusal E C)} → IsOpenOrCreateCall meaning adjusted retried required node hash name now first w r → IsWithin w 78 36 36 36
+  pub open_or_create_call_within : {first : D} {w : List Letter} {r : Result Registered (OpenOrCreateRefusal E C)} → IsOpenOrCreateCall meaning adjusted retried required node hash name now first w r → IsWithin w 78 36 36 36
   open_or_create_call_within = each_call (λ w r. IsWithin w 78 36 36 36) (within_more _ _ _ _ (omega arith) (omega arith) (omega arith) (omega arith) none_within) (λ w r is. open_or_create_within is)

@@ -5,7 +5,7 @@ use Rattle.iceoryx2_description.specs.declared.description.ServiceHash.{ServiceH
 use Rattle.iceoryx2_description.specs.declared.time.ClockFault.{ClockFault}
 use Rattle.iceoryx2_description.specs.Description.{Description}
 use Rattle.iceoryx2_description.specs.Span.{Span}
-use Rattle.iceoryx2_access.specs.Factory.{Factory}
+use Rattle.iceoryx2_access.specs.Registered.{Registered}
 use Rattle.iceoryx2_access.specs.Letter.{Letter}
 use Rattle.iceoryx2_access.specs.Run.{Joins}
 use Rattle.iceoryx2_pattern.specs.Meaning.{Meaning}
@@ -29,13 +29,13 @@ module _ {D F E C : Type 0} {meaning : D → Meaning F E C} {adjusted : D → D}
   are_asked no_turn = at_first
   are_asked (one_more before t) = then_asked (are_asked before) t
 
-  turn_carries : {first asked : D} {w : List Letter} {r : Factory} → IsAsked adjusted first asked → IsLastTurn meaning adjusted retried required node hash name now asked w (Ok r) → (r.node ≡ node) × Carries meaning adjusted required node hash name now first r.description
+  turn_carries : {first asked : D} {w : List Letter} {r : Registered} → IsAsked adjusted first asked → IsLastTurn meaning adjusted retried required node hash name now asked w (Ok r) → (r.node ≡ node) × Carries meaning adjusted required node hash name now first r.description
   turn_carries is (opened l o) = let c = opened_carries o in (c.node_is, accepted is c.hash_is c.fits c.accepted)
   turn_carries is (created l m) = let c = created_carries m in (c.0, is_published is c.1)
 
-  pub granted_carries : {first : D} {w : List Letter} {r : Factory} → IsOpenOrCreateWord meaning adjusted retried required node hash name now first w (Ok r) → (r.node ≡ node) × Carries meaning adjusted required node hash name now first r.description
+  pub granted_carries : {first : D} {w : List Letter} {r : Registered} → IsOpenOrCreateWord meaning adjusted retried required node hash name now first w (Ok r) → (r.node ≡ node) × Carries meaning adjusted required node hash name now first r.description
   granted_carries (ended small before t) = turn_carries (are_asked before) t
 
   -- and so does one whose word joins two states of its storage
-  pub joined_carries : {S : Type 0} {step : S → Letter → S → Type 0} {old new : S} {first : D} {r : Factory} → Joins step old (λ word. IsOpenOrCreateWord meaning adjusted retried required node hash name now first word (Ok r)) new → Carries meaning adjusted required node hash name now first r.description
+  pub joined_carries : {S : Type 0} {step : S → Letter → S → Type 0} {old new : S} {first : D} {r : Registered} → Joins step old (λ word. IsOpenOrCreateWord meaning adjusted retried required node hash name now first word (Ok r)) new → Carries meaning adjusted required node hash name now first r.description
   joined_carries joined = (granted_carries joined.is_word).1

@@ -4,14 +4,14 @@ use Rattle.iceoryx2_attribute.specs.Requirements.{Requirements}
 use Rattle.iceoryx2_description.specs.declared.description.ServiceHash.{ServiceHash}
 use Rattle.iceoryx2_description.specs.declared.time.ClockFault.{ClockFault}
 use Rattle.iceoryx2_description.specs.Span.{Span}
-use Rattle.iceoryx2_access.specs.Factory.{Factory}
+use Rattle.iceoryx2_access.specs.Registered.{Registered}
 use Rattle.iceoryx2_access.specs.Letter.{Letter}
 use Rattle.iceoryx2_pattern.specs.Meaning.{Meaning}
 use Rattle.iceoryx2_create_and_open.specs.declared.look.Outcome.{Outcome}
 use Rattle.iceoryx2_create_and_open.specs.Looks.{IsLookWord}
 use Rattle.iceoryx2_create_and_open.specs.Opens.{IsOpenWord}
 use Rattle.iceoryx2_create_and_open.proofs.Prepared.{refused_call}
-use Rattle.iceoryx2_create_and_open.specs.Keeps.{GivesAllBack, NoLock}
+use Rattle.iceoryx2_create_and_open.specs.TracksOwned.{GivesAllBack, NoLock}
 use Rattle.iceoryx2_create_and_open.proofs.Kept.{then_keeps, look_keeps, refused_create_keeps, refused_open_keeps, created_keeps, opened_keeps}
 use Rattle.iceoryx2_open_or_create.specs.Retried.{Retried}
 use Rattle.iceoryx2_open_or_create.specs.declared.open_or_create.OpenOrCreateRefusal.{OpenOrCreateRefusal}
@@ -52,9 +52,9 @@ module _ {D F E C : Type 0} {meaning : D → Meaning F E C} {adjusted : D → D}
   pub refused_call_gives_back : {first : D} {w : List Letter} {refusal : OpenOrCreateRefusal E C} → IsOpenOrCreateCall meaning adjusted retried required node hash name now first w (Err refusal) → GivesBackByRounds node hash w
   refused_call_gives_back = refused_call (GivesBackByRounds node hash) no_round (λ w refusal is. refused_gives_back is)
 
-  then_ends : {u v : List Letter} {asked : D} {r : Factory} → GivesBackByRounds node hash u → IsLastTurn meaning adjusted retried required node hash name now asked v (Ok r) → KeepsInTheEnd node hash (u ++ v) r.number
+  then_ends : {u v : List Letter} {asked : D} {r : Registered} → GivesBackByRounds node hash u → IsLastTurn meaning adjusted retried required node hash name now asked v (Ok r) → KeepsInTheEnd node hash (u ++ v) r.number
   then_ends back (opened l o) = let kept = opened_keeps o in record { before = _; in_the_end = _; is_word = refl; gives_back = back; is_tag_left = kept.0; tag = kept.1; keeps = then_keeps (look_keeps l) kept.2 }
   then_ends back (created l c) = let kept = created_keeps c in record { before = _; in_the_end = _; is_word = refl; gives_back = back; is_tag_left = _; tag = kept.0; keeps = then_keeps (look_keeps l) kept.1 }
 
-  pub granted_keeps : {first : D} {w : List Letter} {r : Factory} → IsOpenOrCreateWord meaning adjusted retried required node hash name now first w (Ok r) → KeepsInTheEnd node hash w r.number
+  pub granted_keeps : {first : D} {w : List Letter} {r : Registered} → IsOpenOrCreateWord meaning adjusted retried required node hash name now first w (Ok r) → KeepsInTheEnd node hash w r.number
   granted_keeps (ended small before t) = then_ends (turns_give_back before) t

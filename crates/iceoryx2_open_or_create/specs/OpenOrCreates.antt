@@ -5,7 +5,7 @@ use Rattle.iceoryx2_description.specs.declared.description.ServiceHash.{ServiceH
 use Rattle.iceoryx2_description.specs.declared.time.ClockFault.{ClockFault}
 use Rattle.iceoryx2_description.specs.Description.{Description}
 use Rattle.iceoryx2_description.specs.Span.{Span}
-use Rattle.iceoryx2_access.specs.Factory.{Factory}
+use Rattle.iceoryx2_access.specs.Registered.{Registered}
 use Rattle.iceoryx2_access.specs.Letter.{Letter}
 use Rattle.iceoryx2_pattern.specs.Meaning.{Meaning}
 use Rattle.iceoryx2_pattern.specs.OwnAttributes.{defining, requiring}
@@ -14,7 +14,7 @@ use Rattle.iceoryx2_create_and_open.specs.Looks.{IsLookWord}
 use Rattle.iceoryx2_create_and_open.specs.Creates.{IsCreateWord}
 use Rattle.iceoryx2_create_and_open.specs.Opens.{IsOpenWord}
 use Rattle.iceoryx2_open_or_create.specs.Retried.{Retried}
-use Rattle.iceoryx2_open_or_create.specs.declared.open_or_create.TheConstants.{RETRY_LIMIT}
+use Rattle.iceoryx2_open_or_create.specs.declared.open_or_create.TheConstants.{OPEN_OR_CREATE_RETRIES}
 use Rattle.iceoryx2_open_or_create.specs.declared.open_or_create.OpenOrCreateRefusal.{OpenOrCreateRefusal}
 use Rattle.iceoryx2_open_or_create.specs.declared.open_or_create.OpenOrCreateRefusal.TheVariants as refusal
 
@@ -22,11 +22,11 @@ use Rattle.iceoryx2_open_or_create.specs.declared.open_or_create.OpenOrCreateRef
 module _ {D F E C : Type 0} (meaning : D → Meaning F E C) (adjusted : D → D) (retried : Retried E C)
     (required : Requirements) (node : ℕ) (hash : ServiceHash) (name : List ℕ) (now : Result Span ClockFault) where
   -- the open of a round, with the required attributes,
-  abbrev pub IsOpening : D → List Letter → Result Factory E → Type 0
+  abbrev pub IsOpening : D → List Letter → Result Registered E → Type 0
   IsOpening asked word answer = IsOpenWord (requiring required (meaning asked)) node hash word answer
 
   -- and its create, which defines the required pairs, and no keys
-  abbrev pub IsMaking : D → List Letter → Result Factory C → Type 0
+  abbrev pub IsMaking : D → List Letter → Result Registered C → Type 0
   IsMaking asked word answer =
       IsCreateWord (defining required.pairs (meaning (adjusted asked))) node hash name now word answer
 
@@ -40,19 +40,19 @@ module _ {D F E C : Type 0} (meaning : D → Meaning F E C) (adjusted : D → D)
         → retried.of_create error ≡ true → IsRetriedTurn asked (u ++ v) (adjusted asked)
 
   -- The round that gives the answer. What its own look finds wrong is never retried.
-  pub data IsLastTurn (asked : D) : List Letter → Result Factory (OpenOrCreateRefusal E C) → Type 0 where
+  pub data IsLastTurn (asked : D) : List Letter → Result Registered (OpenOrCreateRefusal E C) → Type 0 where
     look_faulty : {u : List Letter} {fault : F} → IsLookWord (meaning asked) node hash u (Faulty fault)
         → IsLastTurn asked u (Err (refusal.Open ((meaning asked).open_error_of fault)))
     not_opened : {u v : List Letter} {n : ℕ} {d : Description} {error : E}
         → IsLookWord (meaning asked) node hash u (Found n d) → IsOpening asked v (Err error)
         → retried.of_open error ≡ false → IsLastTurn asked (u ++ v) (Err (refusal.Open error))
-    opened : {u v : List Letter} {n : ℕ} {d : Description} {r : Factory}
+    opened : {u v : List Letter} {n : ℕ} {d : Description} {r : Registered}
         → IsLookWord (meaning asked) node hash u (Found n d) → IsOpening asked v (Ok r)
         → IsLastTurn asked (u ++ v) (Ok r)
     not_created : {u v : List Letter} {error : C}
         → IsLookWord (meaning asked) node hash u Nothing → IsMaking asked v (Err error)
         → retried.of_create error ≡ false → IsLastTurn asked (u ++ v) (Err (refusal.Create error))
-    created : {u v : List Letter} {r : Factory}
+    created : {u v : List Letter} {r : Registered}
         → IsLookWord (meaning asked) node hash u Nothing → IsMaking asked v (Ok r)
         → IsLastTurn asked (u ++ v) (Ok r)
 
@@ -63,14 +63,14 @@ module _ {D F E C : Type 0} (meaning : D → Meaning F E C) (adjusted : D → D)
         → IsRetriedTurn asked v next → AreRetriedTurns first (suc k) (u ++ v) next
 
   -- At most as many retried rounds as are gone on after and a last one, or one retried round more.
-  pub data IsOpenOrCreateWord (first : D) : List Letter → Result Factory (OpenOrCreateRefusal E C) → Type 0 where
-    ended : {k : ℕ} {u v : List Letter} {asked : D} {answer : Result Factory (OpenOrCreateRefusal E C)}
-        → k ≤ RETRY_LIMIT → AreRetriedTurns first k u asked → IsLastTurn asked v answer
+  pub data IsOpenOrCreateWord (first : D) : List Letter → Result Registered (OpenOrCreateRefusal E C) → Type 0 where
+    ended : {k : ℕ} {u v : List Letter} {asked : D} {answer : Result Registered (OpenOrCreateRefusal E C)}
+        → k ≤ OPEN_OR_CREATE_RETRIES → AreRetriedTurns first k u asked → IsLastTurn asked v answer
         → IsOpenOrCreateWord first (u ++ v) answer
-    in_flux : {u : List Letter} {asked : D} → AreRetriedTurns first (RETRY_LIMIT + 1) u asked
+    in_flux : {u : List Letter} {asked : D} → AreRetriedTurns first (OPEN_OR_CREATE_RETRIES + 1) u asked
         → IsOpenOrCreateWord first u (Err refusal.SystemInFlux)
 
   -- What one round of the code is said by: it may ask for another one.
-  abbrev pub IsTurn : D → List Letter → Option (Result Factory (OpenOrCreateRefusal E C)) → D → Type 0
+  abbrev pub IsTurn : D → List Letter → Option (Result Registered (OpenOrCreateRefusal E C)) → D → Type 0
   IsTurn asked word None next = IsRetriedTurn asked word next
   IsTurn asked word (Some answer) next = IsLastTurn asked word answer

@@ -8,7 +8,7 @@ ghost use Rattle.iceoryx2_attribute.specs.Requirements.{Requirements};
 ghost use Rattle.iceoryx2_description.specs.Span.{Span};
 ghost use Rattle.iceoryx2_description.specs.declared.description.ServiceHash.{ServiceHash};
 ghost use Rattle.iceoryx2_description.specs.declared.time.ClockFault.{ClockFault};
-ghost use Rattle.iceoryx2_access.specs.Factory.{Factory};
+ghost use Rattle.iceoryx2_access.specs.Registered.{Registered};
 ghost use Rattle.iceoryx2_access.specs.Letter.{Letter};
 ghost use Rattle.iceoryx2_create_and_open.specs.Counts.{IsWithin};
 ghost use Rattle.iceoryx2_open_or_create.specs.Adjusting.{MeetsOrHolds, OnlyRaises};
@@ -24,7 +24,7 @@ use crate::retries::Retries;
 pub fn open_or_create_is_short<P: Retries>()
     ensures { (required : Requirements) (node : ℕ) (hash : ServiceHash) (name : List ℕ)
         (now : Result Span ClockFault) (asked : P) (word : List Letter)
-        (answer : Result Factory (OpenOrCreateRefusal P.OpenError P.CreateError))
+        (answer : Result Registered (OpenOrCreateRefusal P.OpenError P.CreateError))
         → IsOpenOrCreateCall P.meaning P.adjusted P.retried required node hash name now asked word answer
         → IsWithin word 78 36 36 36 }
 {}
@@ -43,7 +43,7 @@ pub fn refused_open_or_create_gives_back<P: Retries>()
 /// back what it made.
 pub fn open_or_create_keeps_what_it_made<P: Retries>()
     ensures { (required : Requirements) (node : ℕ) (hash : ServiceHash) (name : List ℕ)
-        (now : Result Span ClockFault) (asked : P) (word : List Letter) (r : Factory)
+        (now : Result Span ClockFault) (asked : P) (word : List Letter) (r : Registered)
         → IsOpenOrCreateCall P.meaning P.adjusted P.retried required node hash name now asked word (Ok r)
         → KeepsInTheEnd node hash word r.number }
 {}
@@ -53,7 +53,7 @@ pub fn open_or_create_keeps_what_it_made<P: Retries>()
 /// create before.
 pub fn granted_open_or_create_carries<P: Retries>()
     ensures { (required : Requirements) (node : ℕ) (hash : ServiceHash) (name : List ℕ)
-        (now : Result Span ClockFault) (asked : P) (word : List Letter) (r : Factory)
+        (now : Result Span ClockFault) (asked : P) (word : List Letter) (r : Registered)
         → IsOpenOrCreateCall P.meaning P.adjusted P.retried required node hash name now asked word (Ok r)
         → (r.node ≡ node) × Carries P.meaning P.adjusted required node hash name now asked r.description }
 {}
@@ -63,7 +63,7 @@ pub fn granted_open_or_create_carries<P: Retries>()
 pub fn granted_open_or_create_meets_or_holds<P: Retries>()
     ensures { OnlyRaises P.meaning P.adjusted
         → (required : Requirements) (node : ℕ) (hash : ServiceHash) (name : List ℕ)
-        (now : Result Span ClockFault) (asked : P) (word : List Letter) (r : Factory)
+        (now : Result Span ClockFault) (asked : P) (word : List Letter) (r : Registered)
         → IsOpenOrCreateCall P.meaning P.adjusted P.retried required node hash name now asked word (Ok r)
         → MeetsOrHolds P.meaning P.adjusted required node hash name now asked r.description }
 {}

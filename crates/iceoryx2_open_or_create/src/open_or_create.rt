@@ -7,19 +7,19 @@ ghost use Rattle.iceoryx2_open_or_create.specs.OpenOrCreates.{IsOpenOrCreateWord
 use crate::retries::{Retries, retries_create, retries_open};
 use iceoryx2_access::storage::Storage;
 use iceoryx2_attribute::attribute::AttributeVerifier;
-use iceoryx2_port_factory::port_factory::Registration;
 use iceoryx2_create_and_open::create::create;
 use iceoryx2_create_and_open::look::{Sight, look};
 use iceoryx2_create_and_open::open::open;
 use iceoryx2_description::description::{ServiceHash, ServiceName};
 use iceoryx2_description::time::{ClockFault, Time};
+use iceoryx2_port_factory::port_factory::Registration;
 
 /// How often an open or create goes on after a round that is retried.
-pub const RETRY_LIMIT: u64 = 5;
+pub const OPEN_OR_CREATE_RETRIES: u64 = 5;
 
 /// The limit is five.
-pub fn retry_limit_is_five()
-    ensures { RETRY_LIMIT ≡ 5 }
+pub fn open_or_create_retries_are_five()
+    ensures { OPEN_OR_CREATE_RETRIES ≡ 5 }
 {}
 
 /// Why an open or create is refused.
@@ -104,7 +104,7 @@ pub fn open_or_create<P: Retries, S: Storage>(
     ensures { Joins S.step storage.old (λ word. IsOpenOrCreateWord P.meaning P.adjusted P.retried verifier.now node
         hash.now name.now now pattern.old word result) storage.new }
 {
-    for _round in 0..RETRY_LIMIT + 1 {
+    for _round in 0..OPEN_OR_CREATE_RETRIES + 1 {
         let again = same_time(&now);
         match take_turn(pattern, node, hash, name, verifier, again, storage) {
             Some(answer) => return answer,

@@ -4,9 +4,9 @@ ghost use Rattle.std.specs.Prelude.{◌≡◌, IfOk};
 ghost use Rattle.iceoryx2_pattern.specs.Meaning.{Meaning};
 ghost use Rattle.iceoryx2_pattern.specs.Verdict.{verdict};
 
-use iceoryx2_errors::error::ServiceState;
 use iceoryx2_description::description::{MessagingPattern, StaticConfig};
 use iceoryx2_description::time::Time;
+use iceoryx2_errors::error::ServiceState;
 use std::alloc::AllocError;
 
 /// The refusals of an open that every pattern has, beside the faults of a look and the

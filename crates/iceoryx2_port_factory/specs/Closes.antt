@@ -10,7 +10,7 @@ use Rattle.iceoryx2_errors.specs.declared.error.CloseError.{CloseError}
 use Rattle.iceoryx2_errors.specs.declared.error.CloseError.TheVariants.{NotHere}
 use Rattle.iceoryx2_errors.specs.declared.error.CloseError.TheVariants.{TagNotRemoved, SegmentNotRemoved}
 use Rattle.iceoryx2_errors.specs.declared.error.CloseError.TheVariants.{DescriptionNotRemoved}
-use Rattle.iceoryx2_access.specs.Factory.{Factory}
+use Rattle.iceoryx2_access.specs.Registered.{Registered}
 
 -- the first removal that is refused
 abbrev pub first_refused : {F : Type 0} → (tag segment description : Result (Unit {0}) RemoveError)
@@ -21,10 +21,10 @@ first_refused (Ok _) (Ok _) (Err e) = Err DescriptionNotRemoved
 first_refused (Ok _) (Ok _) (Ok _) = Ok tt
 
 -- the release of the factory's ticket, with this answer
-abbrev pub releases : Factory → Result Released ReleaseError → Letter
+abbrev pub releases : Registered → Result Released ReleaseError → Letter
 releases r answer = Release r.ticket r.node r.description.hash r.number answer
 
-pub data IsCloseWord (r : Factory) : List Letter → Result (Unit {0}) (CloseError Factory) → Type 0 where
+pub data IsCloseWord (r : Registered) : List Letter → Result (Unit {0}) (CloseError Registered) → Type 0 where
   not_here : IsCloseWord r (releases r (Err release.NoSuchTicket) ∷ []) (Err (NotHere r))
   still_counted : IsCloseWord r (releases r (Ok leave.StillCounted) ∷ []) (Ok tt)
   left : (tag : Result (Unit {0}) RemoveError)

@@ -10,8 +10,8 @@ pub mod publish_subscribe;
 pub mod request_response;
 
 use iceoryx2_access::storage::{Release, ReleaseError, RemoveError, Storage};
-pub use iceoryx2_errors::error::CloseError;
 use iceoryx2_description::description::StaticConfig;
+pub use iceoryx2_errors::error::CloseError;
 use std::marker::Model;
 
 /// A node's registration at a service. It has to be spent, by `close` or `abandon`.
@@ -23,9 +23,9 @@ pub struct Registration {
 }
 
 impl Model for Registration {
-    ghost use Rattle.iceoryx2_access.specs.Factory.{Factory};
+    ghost use Rattle.iceoryx2_access.specs.Registered.{Registered};
 
-    ghost Value = { Factory };
+    ghost Value = { Registered };
 
     ghost view = { λ r. record { node = r.node; number = r.number; ticket = r.ticket; description = r.description } };
 }

@@ -25,7 +25,7 @@ use Rattle.iceoryx2_open_or_create.proofs.Ends.{Errs, attributes_err, both_err, 
 use Rattle.iceoryx2_errors.specs.declared.error.publish_subscribe.PublishSubscribeOpenError.{PublishSubscribeOpenError}
 use Rattle.iceoryx2_errors.specs.declared.error.publish_subscribe.PublishSubscribeOpenError.TheVariants as opening
 use Rattle.iceoryx2_errors.specs.declared.error.publish_subscribe.PublishSubscribeCreateError.{PublishSubscribeCreateError}
-use Rattle.iceoryx2_builder_common.specs.Builders.{IsBuilder}
+use Rattle.iceoryx2_builder_common.specs.Builders.{IsLawfulBuilder}
 use Rattle.iceoryx2_publish_subscribe_builder.specs.declared.publish_subscribe.demand.PreparedDemand.{PreparedDemand}
 use Rattle.iceoryx2_publish_subscribe_builder.specs.PublishSubscribe.{prepared_adjusted, prepared_meaning, publish_subscribe_retried, setting_clauses, setting_rows}
 use Rattle.iceoryx2_builder_common.proofs.Misfits.{fits_itself, is_told, is_tested}
@@ -73,7 +73,7 @@ own_settings demand message given hash name now = record {
 }
 
 pub publish_subscribe_builder : (demand : PublishSubscribeDemand) (message : Message)
-    → IsBuilder (publish_subscribe_creating demand message) (publish_subscribe_opening demand message)
+    → IsLawfulBuilder (publish_subscribe_creating demand message) (publish_subscribe_opening demand message)
 publish_subscribe_builder demand message = record {
   creating_is_regular = creating_is_regular demand message;
   opening_is_regular = opening_is_regular demand message;

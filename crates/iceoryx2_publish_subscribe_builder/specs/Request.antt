@@ -4,14 +4,14 @@ use Rattle.iceoryx2_types.specs.Types.{Detail, Message, fixed_size}
 use Rattle.iceoryx2_description.specs.declared.config.PublishSubscribe.{PublishSubscribe as Settings}
 use Rattle.iceoryx2_builder_common.specs.Requested.{no_types, requested_message}
 use Rattle.iceoryx2_builder_common.specs.declared.requested.RequestedTypes.{RequestedTypes}
-use Rattle.iceoryx2_publish_subscribe_builder.specs.declared.publish_subscribe.TheConstants.{LETTER}
+use Rattle.iceoryx2_publish_subscribe_builder.specs.declared.publish_subscribe.TheConstants.{PREFIX}
 use Rattle.iceoryx2_publish_subscribe_builder.specs.declared.publish_subscribe.demand.Marks.{Marks}
 use Rattle.iceoryx2_publish_subscribe_builder.specs.declared.publish_subscribe.demand.PublishSubscribeDemand.{PublishSubscribeDemand}
-use Rattle.iceoryx2_publish_subscribe_builder.specs.declared.publish_subscribe.setting.PublishSubscribeSetting.{PublishSubscribeSetting}
-use Rattle.iceoryx2_publish_subscribe_builder.specs.declared.publish_subscribe.setting.PublishSubscribeSetting.TheVariants as set
+use Rattle.iceoryx2_publish_subscribe_builder.specs.declared.publish_subscribe.setting.PublishSubscribeSetter.{PublishSubscribeSetter}
+use Rattle.iceoryx2_publish_subscribe_builder.specs.declared.publish_subscribe.setting.PublishSubscribeSetter.TheVariants as set
 
 -- a builder of publish-subscribe, whatever its payload and its user header are
-pub record PublishSubscribeRequest : Type 0 where
+pub record PublishSubscribeBuilderState : Type 0 where
   pub node : ℕ
   pub name : List ℕ
   pub demand : PublishSubscribeDemand
@@ -19,7 +19,7 @@ pub record PublishSubscribeRequest : Type 0 where
 
 -- the letter of services of publish-subscribe
 abbrev pub letter_of_publish_subscribe : ℕ
-letter_of_publish_subscribe = LETTER
+letter_of_publish_subscribe = PREFIX
 
 -- the configured settings with nothing marked
 abbrev pub fresh_demand : Settings → PublishSubscribeDemand
@@ -37,17 +37,17 @@ fresh_demand defaults = record {
 }
 
 -- what a builder asks that no setter has changed
-abbrev pub fresh_request : ℕ → List ℕ → Settings → PublishSubscribeRequest
-fresh_request node name defaults =
+abbrev pub fresh_builder : ℕ → List ℕ → Settings → PublishSubscribeBuilderState
+fresh_builder node name defaults =
     record { node = node; name = name; demand = fresh_demand defaults; types = no_types }
 
 -- these settings, and these marks
-abbrev pub demanding : PublishSubscribeRequest → Settings → Marks → PublishSubscribeRequest
+abbrev pub demanding : PublishSubscribeBuilderState → Settings → Marks → PublishSubscribeBuilderState
 demanding request settings marks = record request { demand = record { settings = settings; marks = marks } }
 
 -- The builder after one setter: a setting's value is set, and the setting is marked. The last three are no settings of
 -- the service, and mark nothing.
-abbrev pub with_setting : PublishSubscribeRequest → PublishSubscribeSetting → PublishSubscribeRequest
+abbrev pub with_setting : PublishSubscribeBuilderState → PublishSubscribeSetter → PublishSubscribeBuilderState
 with_setting r (set.MaxPublishers n) = demanding r
     (record r.demand.settings { max_publishers = n })
     (record r.demand.marks { max_publishers = true })

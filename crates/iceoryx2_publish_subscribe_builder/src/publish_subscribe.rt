@@ -3,7 +3,7 @@
 ghost use Rattle.std.specs.Prelude.{◌≡◌, [], Ok, IfOk};
 ghost use Rattle.iceoryx2_access.specs.Run.{Joins};
 ghost use Rattle.iceoryx2_attribute.specs.Requirements.{Requirements, no_requirements};
-ghost use Rattle.iceoryx2_builder_common.specs.Builders.{IsBuilder};
+ghost use Rattle.iceoryx2_builder_common.specs.Builders.{IsLawfulBuilder};
 ghost use Rattle.iceoryx2_open_or_create.specs.EndsAtOnce.{EndsAtOnce};
 ghost use Rattle.iceoryx2_open_or_create.specs.Prepared.{IsOpenOrCreateCall};
 ghost use Rattle.iceoryx2_pattern.specs.OwnAttributes.{defining, requiring};
@@ -16,7 +16,7 @@ ghost use Rattle.iceoryx2_publish_subscribe_builder.specs.PublishSubscribe.{publ
 ghost use Rattle.iceoryx2_publish_subscribe_builder.specs.PublishSubscribe.{prepared_adjusted, prepared_meaning};
 ghost use Rattle.iceoryx2_publish_subscribe_builder.specs.PublishSubscribe.{publish_subscribe_refusal};
 ghost use Rattle.iceoryx2_publish_subscribe_builder.specs.PublishSubscribe.{publish_subscribe_retried};
-ghost use Rattle.iceoryx2_publish_subscribe_builder.specs.Request.{fresh_request, letter_of_publish_subscribe};
+ghost use Rattle.iceoryx2_publish_subscribe_builder.specs.Request.{fresh_builder, letter_of_publish_subscribe};
 ghost use Rattle.iceoryx2_publish_subscribe_builder.specs.Request.{message_for, with_setting};
 
 pub mod demand;
@@ -25,34 +25,34 @@ pub mod setting;
 use crate::publish_subscribe::demand::{
     PreparedDemand, PublishSubscribeDemand, open_or_create_error,
 };
-pub use crate::publish_subscribe::setting::PublishSubscribeSetting;
+pub use crate::publish_subscribe::setting::PublishSubscribeSetter;
 use iceoryx2_access::storage::Service;
 use iceoryx2_attribute::attribute::{AttributeSpecifier, AttributeVerifier};
 use iceoryx2_builder_common::answer::hand_out;
 use iceoryx2_builder_common::base::BuilderWithServiceType;
 use iceoryx2_builder_common::requested::RequestedTypes;
+use iceoryx2_create_and_open::create::create;
+use iceoryx2_create_and_open::open::open;
+use iceoryx2_description::config;
+use iceoryx2_description::time::Time;
 pub use iceoryx2_errors::error::{
     PublishSubscribeCreateError, PublishSubscribeOpenError, PublishSubscribeOpenOrCreateError,
 };
 use iceoryx2_open_or_create::open_or_create::open_or_create;
 use iceoryx2_port_factory::port_factory::publish_subscribe::PortFactory;
-use iceoryx2_create_and_open::create::create;
-use iceoryx2_create_and_open::open::open;
 use iceoryx2_types::types::publish_subscribe::Header;
 use iceoryx2_types::types::{
     Alignment, CustomHeaderMarker, CustomPayloadMarker, Slice, TypeDetail, ZeroCopySend,
 };
-use iceoryx2_description::config;
-use iceoryx2_description::time::Time;
 use std::alloc::AllocError;
 use std::marker::{Model, PhantomData};
 
 /// The letter that stands before a name in the hash of a service of publish-subscribe.
-pub const LETTER: u8 = b'p';
+pub const PREFIX: u8 = b'p';
 
 /// The letter is `p`.
-pub fn letter_is_p()
-    ensures { LETTER ≡ 112 }
+pub fn prefix_is_p()
+    ensures { PREFIX ≡ 112 }
 {}
 
 /// What holds of each builder of publish-subscribe, whatever the types of its messages.
@@ -60,9 +60,9 @@ pub fn letter_is_p()
 /// Its meanings are regular, and with its adjusted settings a create publishes for one node or more,
 /// and what the same builder opens: it fits it and meets each setting that it requires, whatever
 /// attributes are defined.
-pub fn laws()
+pub fn opens_what_it_creates()
     ensures { (demand : PublishSubscribeDemand) (message : Message)
-        → IsBuilder (publish_subscribe_creating demand message) (publish_subscribe_opening demand message) }
+        → IsLawfulBuilder (publish_subscribe_creating demand message) (publish_subscribe_opening demand message) }
 {}
 
 /// What a table that nobody else uses refuses is not tried again by an open or create.
@@ -87,9 +87,9 @@ pub struct Builder<P, U, S: Service> {
 }
 
 impl<P, U, S: Service> Model for Builder<P, U, S> {
-    ghost use Rattle.iceoryx2_publish_subscribe_builder.specs.Request.{PublishSubscribeRequest};
+    ghost use Rattle.iceoryx2_publish_subscribe_builder.specs.Request.{PublishSubscribeBuilderState};
 
-    ghost Value = { PublishSubscribeRequest };
+    ghost Value = { PublishSubscribeBuilderState };
 
     ghost view = { λ builder. record {
       node = builder.base.node;
@@ -132,7 +132,7 @@ impl<P: ZeroCopySend, S: Service> Builder<P, (), S> {
     /// A builder with these settings, of which none is required, and with messages without a user
     /// header.
     pub fn new(base: BuilderWithServiceType<S>, defaults: config::PublishSubscribe) -> Self
-        ensures { result ≡ fresh_request base.node base.name defaults }
+        ensures { result ≡ fresh_builder base.node base.name defaults }
     {
         Builder::from_parts(
             base,
@@ -144,7 +144,7 @@ impl<P: ZeroCopySend, S: Service> Builder<P, (), S> {
 
 impl<S: Service> Builder<Slice<CustomPayloadMarker>, CustomHeaderMarker, S> {
     /// Carries out one setter, by its name.
-    pub fn with(self, setting: PublishSubscribeSetting) -> Self
+    pub fn with(self, setting: PublishSubscribeSetter) -> Self
         ensures { result ≡ with_setting self setting }
     {
         self.set(setting)
@@ -154,18 +154,18 @@ impl<S: Service> Builder<Slice<CustomPayloadMarker>, CustomHeaderMarker, S> {
 impl<U: ZeroCopySend, S: Service> Builder<Slice<CustomPayloadMarker>, U, S> {
     /// The type that stands in place of the payload's marker.
     pub fn internal_set_payload_type_details(self, value: TypeDetail) -> Self
-        ensures { result ≡ with_setting self (PublishSubscribeSetting.PayloadType value) }
+        ensures { result ≡ with_setting self (PublishSubscribeSetter.PayloadType value) }
     {
-        self.set(PublishSubscribeSetting::PayloadType(value))
+        self.set(PublishSubscribeSetter::PayloadType(value))
     }
 }
 
 impl<P: ZeroCopySend, S: Service> Builder<P, CustomHeaderMarker, S> {
     /// The type that stands in place of the user header's marker.
     pub fn internal_set_user_header_type_details(self, value: TypeDetail) -> Self
-        ensures { result ≡ with_setting self (PublishSubscribeSetting.UserHeaderType value) }
+        ensures { result ≡ with_setting self (PublishSubscribeSetter.UserHeaderType value) }
     {
-        self.set(PublishSubscribeSetting::UserHeaderType(value))
+        self.set(PublishSubscribeSetter::UserHeaderType(value))
     }
 }
 
@@ -187,102 +187,102 @@ impl<P: ZeroCopySend, U: ZeroCopySend, S: Service> Builder<P, U, S> {
     }
 
     /// Carries out one setter, whatever the types are: sets the value, and marks a setting.
-    fn set(mut self, setting: PublishSubscribeSetting) -> Self
+    fn set(mut self, setting: PublishSubscribeSetter) -> Self
         ensures { result ≡ with_setting self setting }
     {
         match setting {
-            PublishSubscribeSetting::MaxPublishers(value) => {
+            PublishSubscribeSetter::MaxPublishers(value) => {
                 self.demand.settings.max_publishers = value;
                 self.demand.marks.max_publishers = true;
             }
-            PublishSubscribeSetting::MaxSubscribers(value) => {
+            PublishSubscribeSetter::MaxSubscribers(value) => {
                 self.demand.settings.max_subscribers = value;
                 self.demand.marks.max_subscribers = true;
             }
-            PublishSubscribeSetting::SubscriberMaxBufferSize(value) => {
+            PublishSubscribeSetter::SubscriberMaxBufferSize(value) => {
                 self.demand.settings.subscriber_max_buffer_size = value;
                 self.demand.marks.subscriber_max_buffer_size = true;
             }
-            PublishSubscribeSetting::HistorySize(value) => {
+            PublishSubscribeSetter::HistorySize(value) => {
                 self.demand.settings.history_size = value;
                 self.demand.marks.history_size = true;
             }
-            PublishSubscribeSetting::SubscriberMaxBorrowedSamples(value) => {
+            PublishSubscribeSetter::SubscriberMaxBorrowedSamples(value) => {
                 self.demand.settings.subscriber_max_borrowed_samples = value;
                 self.demand.marks.subscriber_max_borrowed_samples = true;
             }
-            PublishSubscribeSetting::EnableSafeOverflow(value) => {
+            PublishSubscribeSetter::EnableSafeOverflow(value) => {
                 self.demand.settings.enable_safe_overflow = value;
                 self.demand.marks.enable_safe_overflow = true;
             }
-            PublishSubscribeSetting::MaxNodes(value) => {
+            PublishSubscribeSetter::MaxNodes(value) => {
                 self.demand.settings.max_nodes = value;
                 self.demand.marks.max_nodes = true;
             }
-            PublishSubscribeSetting::PayloadAlignment(value) => self.types.alignment = Some(value),
-            PublishSubscribeSetting::PayloadType(value) => self.types.payload = Some(value),
-            PublishSubscribeSetting::UserHeaderType(value) => self.types.user_header = Some(value),
+            PublishSubscribeSetter::PayloadAlignment(value) => self.types.alignment = Some(value),
+            PublishSubscribeSetter::PayloadType(value) => self.types.payload = Some(value),
+            PublishSubscribeSetter::UserHeaderType(value) => self.types.user_header = Some(value),
         }
         self
     }
 
     /// For how many publishers the service is. Zero is one in a create.
     pub fn max_publishers(self, value: u64) -> Self
-        ensures { result ≡ with_setting self (PublishSubscribeSetting.MaxPublishers value) }
+        ensures { result ≡ with_setting self (PublishSubscribeSetter.MaxPublishers value) }
     {
-        self.set(PublishSubscribeSetting::MaxPublishers(value))
+        self.set(PublishSubscribeSetter::MaxPublishers(value))
     }
 
     /// For how many subscribers the service is. Zero is one in a create.
     pub fn max_subscribers(self, value: u64) -> Self
-        ensures { result ≡ with_setting self (PublishSubscribeSetting.MaxSubscribers value) }
+        ensures { result ≡ with_setting self (PublishSubscribeSetter.MaxSubscribers value) }
     {
-        self.set(PublishSubscribeSetting::MaxSubscribers(value))
+        self.set(PublishSubscribeSetter::MaxSubscribers(value))
     }
 
     /// How many samples a subscriber's buffer has room for. Zero is one in a create.
     pub fn subscriber_max_buffer_size(self, value: u64) -> Self
-        ensures { result ≡ with_setting self (PublishSubscribeSetting.SubscriberMaxBufferSize value) }
+        ensures { result ≡ with_setting self (PublishSubscribeSetter.SubscriberMaxBufferSize value) }
     {
-        self.set(PublishSubscribeSetting::SubscriberMaxBufferSize(value))
+        self.set(PublishSubscribeSetter::SubscriberMaxBufferSize(value))
     }
 
     /// How many of the last samples a subscriber gets that comes later. Without safe overflow its
     /// buffer has to have room for them.
     pub fn history_size(self, value: u64) -> Self
-        ensures { result ≡ with_setting self (PublishSubscribeSetting.HistorySize value) }
+        ensures { result ≡ with_setting self (PublishSubscribeSetter.HistorySize value) }
     {
-        self.set(PublishSubscribeSetting::HistorySize(value))
+        self.set(PublishSubscribeSetter::HistorySize(value))
     }
 
     /// How many samples a subscriber may borrow at one time. Zero is one in a create.
     pub fn subscriber_max_borrowed_samples(self, value: u64) -> Self
-        ensures { result ≡ with_setting self (PublishSubscribeSetting.SubscriberMaxBorrowedSamples value) }
+        ensures { result ≡ with_setting self (PublishSubscribeSetter.SubscriberMaxBorrowedSamples value) }
     {
-        self.set(PublishSubscribeSetting::SubscriberMaxBorrowedSamples(value))
+        self.set(PublishSubscribeSetter::SubscriberMaxBorrowedSamples(value))
     }
 
     /// Whether a full buffer's oldest sample gives way to a new one. An existing service has to do
     /// the same.
     pub fn enable_safe_overflow(self, value: bool) -> Self
-        ensures { result ≡ with_setting self (PublishSubscribeSetting.EnableSafeOverflow value) }
+        ensures { result ≡ with_setting self (PublishSubscribeSetter.EnableSafeOverflow value) }
     {
-        self.set(PublishSubscribeSetting::EnableSafeOverflow(value))
+        self.set(PublishSubscribeSetter::EnableSafeOverflow(value))
     }
 
     /// For how many nodes the service is. Zero is one in a create.
     pub fn max_nodes(self, value: u64) -> Self
-        ensures { result ≡ with_setting self (PublishSubscribeSetting.MaxNodes value) }
+        ensures { result ≡ with_setting self (PublishSubscribeSetter.MaxNodes value) }
     {
-        self.set(PublishSubscribeSetting::MaxNodes(value))
+        self.set(PublishSubscribeSetter::MaxNodes(value))
     }
 
     /// How far the payload is aligned at least, in bytes; it stays aligned as far as its type says.
     /// It marks no setting, and the last one that was asked stands.
     pub fn payload_alignment(self, value: Alignment) -> Self
-        ensures { result ≡ with_setting self (PublishSubscribeSetting.PayloadAlignment value) }
+        ensures { result ≡ with_setting self (PublishSubscribeSetter.PayloadAlignment value) }
     {
-        self.set(PublishSubscribeSetting::PayloadAlignment(value))
+        self.set(PublishSubscribeSetter::PayloadAlignment(value))
     }
 
     /// The same builder for messages with another user header.
@@ -357,7 +357,7 @@ impl<P: ZeroCopySend, U: ZeroCopySend, S: Service> Builder<P, U, S> {
         let Ok((base, mut asked)) = self.into_prepared() else {
             return Err(PublishSubscribeCreateError::OutOfMemory);
         };
-        let hash = base.hash(LETTER);
+        let hash = base.hash(PREFIX);
         let attributes = specifier.attributes();
         let node = base.node();
         let name = base.name();
@@ -408,7 +408,7 @@ impl<P: ZeroCopySend, U: ZeroCopySend, S: Service> Builder<P, U, S> {
         let Ok((base, asked)) = self.into_prepared() else {
             return Err(PublishSubscribeOpenError::OutOfMemory);
         };
-        let hash = base.hash(LETTER);
+        let hash = base.hash(PREFIX);
         hand_out(open(&asked, base.node(), &hash, verifier, storage))
     }
 
@@ -461,7 +461,7 @@ impl<P: ZeroCopySend, U: ZeroCopySend, S: Service> Builder<P, U, S> {
                 ),
             );
         };
-        let hash = base.hash(LETTER);
+        let hash = base.hash(PREFIX);
         let node = base.node();
         let name = base.name();
         let now = Ok(Time::default());

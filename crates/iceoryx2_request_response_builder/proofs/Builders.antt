@@ -24,7 +24,7 @@ use Rattle.iceoryx2_open_or_create.specs.EndsAtOnce.{EndsAtOnce}
 use Rattle.iceoryx2_open_or_create.proofs.Ends.{Errs, attributes_err, both_err, rows_err, unmet_ends}
 use Rattle.iceoryx2_errors.specs.declared.error.request_response.RequestResponseOpenError.{RequestResponseOpenError}
 use Rattle.iceoryx2_errors.specs.declared.error.request_response.RequestResponseOpenError.TheVariants as opening
-use Rattle.iceoryx2_builder_common.specs.Builders.{IsBuilder}
+use Rattle.iceoryx2_builder_common.specs.Builders.{IsLawfulBuilder}
 use Rattle.iceoryx2_request_response_builder.specs.declared.request_response.demand.PreparedDemand.{PreparedDemand}
 use Rattle.iceoryx2_request_response_builder.specs.RequestResponse.{prepared_adjusted, prepared_meaning, request_response_retried, setting_clauses, setting_rows}
 use Rattle.iceoryx2_builder_common.proofs.Misfits.{fits_itself, is_told, is_tested}
@@ -81,7 +81,7 @@ own_settings demand request response given hash name now = record {
 }
 
 pub request_response_builder : (demand : RequestResponseDemand) (request response : Message)
-    → IsBuilder (request_response_creating demand request response) (request_response_opening demand request response)
+    → IsLawfulBuilder (request_response_creating demand request response) (request_response_opening demand request response)
 request_response_builder demand request response = record {
   creating_is_regular = creating_is_regular demand request response;
   opening_is_regular = opening_is_regular demand request response;

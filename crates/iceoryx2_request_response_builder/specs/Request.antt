@@ -3,16 +3,16 @@ use Rattle.std.specs.Prelude.{ℕ, List, Some, false, true, codes}
 use Rattle.iceoryx2_types.specs.Types.{Detail, Message, fixed_size}
 use Rattle.iceoryx2_description.specs.declared.config.RequestResponse.{RequestResponse as Settings}
 use Rattle.iceoryx2_builder_common.specs.Requested.{no_types, requested_message}
-use Rattle.iceoryx2_request_response_builder.specs.declared.request_response.TheConstants.{LETTER}
+use Rattle.iceoryx2_request_response_builder.specs.declared.request_response.TheConstants.{PREFIX}
 use Rattle.iceoryx2_request_response_builder.specs.declared.request_response.demand.Marks.{Marks}
 use Rattle.iceoryx2_request_response_builder.specs.declared.request_response.demand.PreparedDemand.{PreparedDemand}
 use Rattle.iceoryx2_request_response_builder.specs.declared.request_response.demand.RequestResponseDemand.{RequestResponseDemand}
 use Rattle.iceoryx2_request_response_builder.specs.declared.request_response.requested.RequestedMessages.{RequestedMessages}
-use Rattle.iceoryx2_request_response_builder.specs.declared.request_response.setting.RequestResponseSetting.{RequestResponseSetting}
-use Rattle.iceoryx2_request_response_builder.specs.declared.request_response.setting.RequestResponseSetting.TheVariants as set
+use Rattle.iceoryx2_request_response_builder.specs.declared.request_response.setting.RequestResponseSetter.{RequestResponseSetter}
+use Rattle.iceoryx2_request_response_builder.specs.declared.request_response.setting.RequestResponseSetter.TheVariants as set
 
 -- a builder of request-response, whatever its payloads and its user headers are
-pub record RequestResponseRequest : Type 0 where
+pub record RequestResponseBuilderState : Type 0 where
   pub node : ℕ
   pub name : List ℕ
   pub demand : RequestResponseDemand
@@ -20,7 +20,7 @@ pub record RequestResponseRequest : Type 0 where
 
 -- the letter of services of request-response
 abbrev pub letter_of_request_response : ℕ
-letter_of_request_response = LETTER
+letter_of_request_response = PREFIX
 
 -- the configured settings with nothing marked
 abbrev pub fresh_demand : Settings → RequestResponseDemand
@@ -45,17 +45,17 @@ abbrev pub no_message_types : RequestedMessages
 no_message_types = record { request = no_types; response = no_types }
 
 -- what a builder asks that no setter has changed
-abbrev pub fresh_request : ℕ → List ℕ → Settings → RequestResponseRequest
-fresh_request node name defaults =
+abbrev pub fresh_builder : ℕ → List ℕ → Settings → RequestResponseBuilderState
+fresh_builder node name defaults =
     record { node = node; name = name; demand = fresh_demand defaults; types = no_message_types }
 
 -- these settings, and these marks
-abbrev pub demanding : RequestResponseRequest → Settings → Marks → RequestResponseRequest
+abbrev pub demanding : RequestResponseBuilderState → Settings → Marks → RequestResponseBuilderState
 demanding request settings marks = record request { demand = record { settings = settings; marks = marks } }
 
 -- The builder after one setter: a setting's value is set, and the setting is marked. The last six are no settings of
 -- the service, and mark nothing.
-abbrev pub with_setting : RequestResponseRequest → RequestResponseSetting → RequestResponseRequest
+abbrev pub with_setting : RequestResponseBuilderState → RequestResponseSetter → RequestResponseBuilderState
 with_setting r (set.EnableSafeOverflowForRequests b) = demanding r
     (record r.demand.settings { enable_safe_overflow_for_requests = b })
     (record r.demand.marks { enable_safe_overflow_for_requests = true })

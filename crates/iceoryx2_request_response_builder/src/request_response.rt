@@ -3,7 +3,7 @@
 ghost use Rattle.std.specs.Prelude.{◌≡◌, [], Ok, IfOk};
 ghost use Rattle.iceoryx2_access.specs.Run.{Joins};
 ghost use Rattle.iceoryx2_attribute.specs.Requirements.{Requirements, no_requirements};
-ghost use Rattle.iceoryx2_builder_common.specs.Builders.{IsBuilder};
+ghost use Rattle.iceoryx2_builder_common.specs.Builders.{IsLawfulBuilder};
 ghost use Rattle.iceoryx2_open_or_create.specs.EndsAtOnce.{EndsAtOnce};
 ghost use Rattle.iceoryx2_open_or_create.specs.Prepared.{IsOpenOrCreateCall};
 ghost use Rattle.iceoryx2_pattern.specs.OwnAttributes.{defining, requiring};
@@ -11,7 +11,7 @@ ghost use Rattle.iceoryx2_create_and_open.specs.Answers.{map_err};
 ghost use Rattle.iceoryx2_create_and_open.specs.Prepared.{IsCreateCall, IsOpenCall};
 ghost use Rattle.iceoryx2_types.specs.Types.{Message};
 ghost use Rattle.iceoryx2_description.specs.Span.{zero_span};
-ghost use Rattle.iceoryx2_request_response_builder.specs.Request.{fresh_request, letter_of_request_response};
+ghost use Rattle.iceoryx2_request_response_builder.specs.Request.{fresh_builder, letter_of_request_response};
 ghost use Rattle.iceoryx2_request_response_builder.specs.Request.{asked_with, messages_for, with_setting};
 ghost use Rattle.iceoryx2_request_response_builder.specs.RequestResponse.{prepared_adjusted, prepared_meaning};
 ghost use Rattle.iceoryx2_request_response_builder.specs.RequestResponse.{request_response_creating};
@@ -27,33 +27,33 @@ use crate::request_response::demand::{
     PreparedDemand, RequestResponseDemand, open_or_create_error,
 };
 use crate::request_response::requested::RequestedMessages;
-pub use crate::request_response::setting::RequestResponseSetting;
-use crate::request_response::setting::RequestResponseSetting as Set;
+pub use crate::request_response::setting::RequestResponseSetter;
+use crate::request_response::setting::RequestResponseSetter as Set;
 use iceoryx2_access::storage::Service;
 use iceoryx2_attribute::attribute::{AttributeSpecifier, AttributeVerifier};
 use iceoryx2_builder_common::answer::hand_out;
 use iceoryx2_builder_common::base::BuilderWithServiceType;
+use iceoryx2_create_and_open::create::create;
+use iceoryx2_create_and_open::open::open;
+use iceoryx2_description::config;
+use iceoryx2_description::time::Time;
 pub use iceoryx2_errors::error::{
     RequestResponseCreateError, RequestResponseOpenError, RequestResponseOpenOrCreateError,
 };
 use iceoryx2_open_or_create::open_or_create::open_or_create;
 use iceoryx2_port_factory::port_factory::request_response::{PortFactory, RequestResponse};
-use iceoryx2_create_and_open::create::create;
-use iceoryx2_create_and_open::open::open;
 use iceoryx2_types::types::{
     Alignment, CustomHeaderMarker, CustomPayloadMarker, Slice, TypeDetail, ZeroCopySend,
 };
-use iceoryx2_description::config;
-use iceoryx2_description::time::Time;
 use std::alloc::AllocError;
 use std::marker::{Model, PhantomData};
 
 /// The letter that stands before a name in the hash of a service of request-response.
-pub const LETTER: u8 = b'r';
+pub const PREFIX: u8 = b'r';
 
 /// The letter is `r`.
-pub fn letter_is_r()
-    ensures { LETTER ≡ 114 }
+pub fn prefix_is_r()
+    ensures { PREFIX ≡ 114 }
 {}
 
 /// What holds of each builder of request-response, whatever the types of its messages.
@@ -61,8 +61,8 @@ pub fn letter_is_r()
 /// Its meanings are regular, and with its adjusted settings a create publishes for one node or more,
 /// and what the same builder opens: it fits it and meets each setting that it requires, whatever
 /// attributes are defined.
-pub fn laws()
-    ensures { (demand : RequestResponseDemand) (request response : Message) → IsBuilder
+pub fn opens_what_it_creates()
+    ensures { (demand : RequestResponseDemand) (request response : Message) → IsLawfulBuilder
         (request_response_creating demand request response) (request_response_opening demand request response) }
 {}
 
@@ -88,9 +88,9 @@ pub struct Builder<Q, QU, R, RU, S: Service> {
 }
 
 impl<Q, QU, R, RU, S: Service> Model for Builder<Q, QU, R, RU, S> {
-    ghost use Rattle.iceoryx2_request_response_builder.specs.Request.{RequestResponseRequest};
+    ghost use Rattle.iceoryx2_request_response_builder.specs.Request.{RequestResponseBuilderState};
 
-    ghost Value = { RequestResponseRequest };
+    ghost Value = { RequestResponseBuilderState };
 
     ghost view = { λ builder. record {
       node = builder.base.node;
@@ -131,7 +131,7 @@ impl<Q: ZeroCopySend, R: ZeroCopySend, S: Service> Builder<Q, (), R, (), S> {
     /// A builder with these settings, of which none is required, and with messages without user
     /// headers.
     pub fn new(base: BuilderWithServiceType<S>, defaults: config::RequestResponse) -> Self
-        ensures { result ≡ fresh_request base.node base.name defaults }
+        ensures { result ≡ fresh_builder base.node base.name defaults }
     {
         Builder::from_parts(
             base,
@@ -149,7 +149,7 @@ impl<S: Service> Builder<
     S,
 > {
     /// Carries out one setter, by its name.
-    pub fn with(self, setting: RequestResponseSetting) -> Self
+    pub fn with(self, setting: RequestResponseSetter) -> Self
         ensures { result ≡ with_setting self setting }
     {
         match setting {
@@ -182,7 +182,7 @@ impl<S: Service> Builder<
 
     /// The type that stands in place of the marker of a request's payload.
     pub fn internal_set_request_payload_type_details(mut self, value: TypeDetail) -> Self
-        ensures { result ≡ with_setting self (RequestResponseSetting.RequestPayloadType value) }
+        ensures { result ≡ with_setting self (RequestResponseSetter.RequestPayloadType value) }
     {
         self.types.request.payload = Some(value);
         self
@@ -190,7 +190,7 @@ impl<S: Service> Builder<
 
     /// The type that stands in place of the marker of a request's user header.
     pub fn internal_set_request_header_type_details(mut self, value: TypeDetail) -> Self
-        ensures { result ≡ with_setting self (RequestResponseSetting.RequestHeaderType value) }
+        ensures { result ≡ with_setting self (RequestResponseSetter.RequestHeaderType value) }
     {
         self.types.request.user_header = Some(value);
         self
@@ -198,7 +198,7 @@ impl<S: Service> Builder<
 
     /// The type that stands in place of the marker of a response's payload.
     pub fn internal_set_response_payload_type_details(mut self, value: TypeDetail) -> Self
-        ensures { result ≡ with_setting self (RequestResponseSetting.ResponsePayloadType value) }
+        ensures { result ≡ with_setting self (RequestResponseSetter.ResponsePayloadType value) }
     {
         self.types.response.payload = Some(value);
         self
@@ -206,7 +206,7 @@ impl<S: Service> Builder<
 
     /// The type that stands in place of the marker of a response's user header.
     pub fn internal_set_response_header_type_details(mut self, value: TypeDetail) -> Self
-        ensures { result ≡ with_setting self (RequestResponseSetting.ResponseHeaderType value) }
+        ensures { result ≡ with_setting self (RequestResponseSetter.ResponseHeaderType value) }
     {
         self.types.response.user_header = Some(value);
         self
@@ -238,7 +238,7 @@ impl<Q: ZeroCopySend, QU: ZeroCopySend, R: ZeroCopySend, RU: ZeroCopySend, S: Se
     /// Whether a full buffer's oldest request gives way to a new one. An existing service has to do
     /// the same.
     pub fn enable_safe_overflow_for_requests(mut self, value: bool) -> Self
-        ensures { result ≡ with_setting self (RequestResponseSetting.EnableSafeOverflowForRequests value) }
+        ensures { result ≡ with_setting self (RequestResponseSetter.EnableSafeOverflowForRequests value) }
     {
         self.demand.settings.enable_safe_overflow_for_requests = value;
         self.demand.marks.enable_safe_overflow_for_requests = true;
@@ -248,7 +248,7 @@ impl<Q: ZeroCopySend, QU: ZeroCopySend, R: ZeroCopySend, RU: ZeroCopySend, S: Se
     /// Whether a full buffer's oldest response gives way to a new one. An existing service has to
     /// do the same.
     pub fn enable_safe_overflow_for_responses(mut self, value: bool) -> Self
-        ensures { result ≡ with_setting self (RequestResponseSetting.EnableSafeOverflowForResponses value) }
+        ensures { result ≡ with_setting self (RequestResponseSetter.EnableSafeOverflowForResponses value) }
     {
         self.demand.settings.enable_safe_overflow_for_responses = value;
         self.demand.marks.enable_safe_overflow_for_responses = true;
@@ -258,7 +258,7 @@ impl<Q: ZeroCopySend, QU: ZeroCopySend, R: ZeroCopySend, RU: ZeroCopySend, S: Se
     /// Whether a request may be sent whose responses nobody waits for. An existing service has to
     /// allow the same.
     pub fn enable_fire_and_forget_requests(mut self, value: bool) -> Self
-        ensures { result ≡ with_setting self (RequestResponseSetting.EnableFireAndForgetRequests value) }
+        ensures { result ≡ with_setting self (RequestResponseSetter.EnableFireAndForgetRequests value) }
     {
         self.demand.settings.enable_fire_and_forget_requests = value;
         self.demand.marks.enable_fire_and_forget_requests = true;
@@ -267,7 +267,7 @@ impl<Q: ZeroCopySend, QU: ZeroCopySend, R: ZeroCopySend, RU: ZeroCopySend, S: Se
 
     /// How many requests a client may have under way at one time. Zero is one in a create.
     pub fn max_active_requests_per_client(mut self, value: u64) -> Self
-        ensures { result ≡ with_setting self (RequestResponseSetting.MaxActiveRequestsPerClient value) }
+        ensures { result ≡ with_setting self (RequestResponseSetter.MaxActiveRequestsPerClient value) }
     {
         self.demand.settings.max_active_requests_per_client = value;
         self.demand.marks.max_active_requests_per_client = true;
@@ -276,7 +276,7 @@ impl<Q: ZeroCopySend, QU: ZeroCopySend, R: ZeroCopySend, RU: ZeroCopySend, S: Se
 
     /// How many requests a client may have on loan at one time. Zero is one in a create.
     pub fn max_loaned_requests(mut self, value: u64) -> Self
-        ensures { result ≡ with_setting self (RequestResponseSetting.MaxLoanedRequests value) }
+        ensures { result ≡ with_setting self (RequestResponseSetter.MaxLoanedRequests value) }
     {
         self.demand.settings.max_loaned_requests = value;
         self.demand.marks.max_loaned_requests = true;
@@ -286,7 +286,7 @@ impl<Q: ZeroCopySend, QU: ZeroCopySend, R: ZeroCopySend, RU: ZeroCopySend, S: Se
     /// How many responses may be borrowed at one time from one pending response. Zero is one in a
     /// create.
     pub fn max_borrowed_responses_per_pending_response(mut self, value: u64) -> Self
-        ensures { result ≡ with_setting self (RequestResponseSetting.MaxBorrowedResponsesPerPendingResponse value) }
+        ensures { result ≡ with_setting self (RequestResponseSetter.MaxBorrowedResponsesPerPendingResponse value) }
     {
         self.demand
             .settings
@@ -299,7 +299,7 @@ impl<Q: ZeroCopySend, QU: ZeroCopySend, R: ZeroCopySend, RU: ZeroCopySend, S: Se
 
     /// How many responses the buffer of one request has room for. Zero is one in a create.
     pub fn max_response_buffer_size(mut self, value: u64) -> Self
-        ensures { result ≡ with_setting self (RequestResponseSetting.MaxResponseBufferSize value) }
+        ensures { result ≡ with_setting self (RequestResponseSetter.MaxResponseBufferSize value) }
     {
         self.demand.settings.max_response_buffer_size = value;
         self.demand.marks.max_response_buffer_size = true;
@@ -308,7 +308,7 @@ impl<Q: ZeroCopySend, QU: ZeroCopySend, R: ZeroCopySend, RU: ZeroCopySend, S: Se
 
     /// For how many servers the service is. Zero is one in a create.
     pub fn max_servers(mut self, value: u64) -> Self
-        ensures { result ≡ with_setting self (RequestResponseSetting.MaxServers value) }
+        ensures { result ≡ with_setting self (RequestResponseSetter.MaxServers value) }
     {
         self.demand.settings.max_servers = value;
         self.demand.marks.max_servers = true;
@@ -317,7 +317,7 @@ impl<Q: ZeroCopySend, QU: ZeroCopySend, R: ZeroCopySend, RU: ZeroCopySend, S: Se
 
     /// For how many clients the service is. Zero is one in a create.
     pub fn max_clients(mut self, value: u64) -> Self
-        ensures { result ≡ with_setting self (RequestResponseSetting.MaxClients value) }
+        ensures { result ≡ with_setting self (RequestResponseSetter.MaxClients value) }
     {
         self.demand.settings.max_clients = value;
         self.demand.marks.max_clients = true;
@@ -326,7 +326,7 @@ impl<Q: ZeroCopySend, QU: ZeroCopySend, R: ZeroCopySend, RU: ZeroCopySend, S: Se
 
     /// For how many nodes the service is. Zero is one in a create.
     pub fn max_nodes(mut self, value: u64) -> Self
-        ensures { result ≡ with_setting self (RequestResponseSetting.MaxNodes value) }
+        ensures { result ≡ with_setting self (RequestResponseSetter.MaxNodes value) }
     {
         self.demand.settings.max_nodes = value;
         self.demand.marks.max_nodes = true;
@@ -336,7 +336,7 @@ impl<Q: ZeroCopySend, QU: ZeroCopySend, R: ZeroCopySend, RU: ZeroCopySend, S: Se
     /// How far a request's payload is aligned at least, in bytes; it stays aligned as far as its
     /// type says. It marks no setting, and the last one that was asked stands.
     pub fn request_payload_alignment(mut self, value: Alignment) -> Self
-        ensures { result ≡ with_setting self (RequestResponseSetting.RequestPayloadAlignment value) }
+        ensures { result ≡ with_setting self (RequestResponseSetter.RequestPayloadAlignment value) }
     {
         self.types.request.alignment = Some(value);
         self
@@ -344,7 +344,7 @@ impl<Q: ZeroCopySend, QU: ZeroCopySend, R: ZeroCopySend, RU: ZeroCopySend, S: Se
 
     /// How far a response's payload is aligned at least, in bytes, as for a request's.
     pub fn response_payload_alignment(mut self, value: Alignment) -> Self
-        ensures { result ≡ with_setting self (RequestResponseSetting.ResponsePayloadAlignment value) }
+        ensures { result ≡ with_setting self (RequestResponseSetter.ResponsePayloadAlignment value) }
     {
         self.types.response.alignment = Some(value);
         self
@@ -435,7 +435,7 @@ impl<Q: ZeroCopySend, QU: ZeroCopySend, R: ZeroCopySend, RU: ZeroCopySend, S: Se
         let Ok((base, mut asked)) = self.into_prepared() else {
             return Err(RequestResponseCreateError::OutOfMemory);
         };
-        let hash = base.hash(LETTER);
+        let hash = base.hash(PREFIX);
         let attributes = specifier.attributes();
         let node = base.node();
         let name = base.name();
@@ -489,7 +489,7 @@ impl<Q: ZeroCopySend, QU: ZeroCopySend, R: ZeroCopySend, RU: ZeroCopySend, S: Se
         let Ok((base, asked)) = self.into_prepared() else {
             return Err(RequestResponseOpenError::OutOfMemory);
         };
-        let hash = base.hash(LETTER);
+        let hash = base.hash(PREFIX);
         hand_out(open(&asked, base.node(), &hash, verifier, storage))
     }
 
@@ -538,7 +538,7 @@ impl<Q: ZeroCopySend, QU: ZeroCopySend, R: ZeroCopySend, RU: ZeroCopySend, S: Se
                 RequestResponseOpenError::OutOfMemory,
             ));
         };
-        let hash = base.hash(LETTER);
+        let hash = base.hash(PREFIX);
         let node = base.node();
         let name = base.name();
         let now = Ok(Time::default());

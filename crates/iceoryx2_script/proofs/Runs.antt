@@ -5,7 +5,7 @@ use Rattle.iceoryx2_access.specs.MayRefuse.{MayRefuse}
 use Rattle.iceoryx2_access.specs.Run.{Run, done, next}
 use Rattle.iceoryx2_script.specs.declared.script.Answer.{Answer}
 use Rattle.iceoryx2_script.specs.Counters.{counters_along}
-use Rattle.iceoryx2_script.specs.Faults.{FaultyState, IsFaultyAccess, Reaches, is_refused}
+use Rattle.iceoryx2_script.specs.Faults.{FaultyState, IsInjectedFault, Reaches, is_refused}
 use Rattle.iceoryx2_script.specs.Plays.{Lacks, Plays, PlaysFront, end, takes, fails}
 use Rattle.iceoryx2_script.specs.Script.{ScriptState, IsScriptAccess, Takes, MeetsFront, is_for}
 
@@ -62,25 +62,25 @@ stopped : (n : ℕ) → n ≤ 2 ^ 64 - 1 → n ≡ min (n + 0) (2 ^ 64 - 1)
 stopped n h = omega arith
 
 module _ {S : Type 0} {step : S → Letter → S → Type 0} where
-  pub refusable : {a b : FaultyState S} {word : List Letter} → Run (IsFaultyAccess step) a word b → Run (MayRefuse step) a.inner word b.inner
+  pub refusable : {a b : FaultyState S} {word : List Letter} → Run (IsInjectedFault step) a word b → Run (MayRefuse step) a.inner word b.inner
   refusable done = done
   refusable (next h run) = next (reached step _ h.inside) (refusable run)
 
-  pub same_list : {a b : FaultyState S} {word : List Letter} → Run (IsFaultyAccess step) a word b → b.refused ≡ a.refused
+  pub same_list : {a b : FaultyState S} {word : List Letter} → Run (IsInjectedFault step) a word b → b.refused ≡ a.refused
   same_list done = refl
   same_list (next h run) = same_list run ∙ h.refused
 
-  pub faultless : {a b : FaultyState S} {word : List Letter} → Run (IsFaultyAccess step) a word b → a.refused ≡ [] → Run step a.inner word b.inner
+  pub faultless : {a b : FaultyState S} {word : List Letter} → Run (IsInjectedFault step) a word b → a.refused ≡ [] → Run step a.inner word b.inner
   faultless done e = done
   faultless (next {old} {mid} {new} {letter} h run) e =
       next (subst (λ xs. Reaches (is_refused mid.accesses xs) step old.inner letter mid.inner) e h.inside)
       (faultless run (h.refused ∙ e))
 
-  pub fault_counters : {a b : FaultyState S} {word : List Letter} → Run (IsFaultyAccess step) a word b → b.counters ≡ counters_along word a.counters
+  pub fault_counters : {a b : FaultyState S} {word : List Letter} → Run (IsInjectedFault step) a word b → b.counters ≡ counters_along word a.counters
   fault_counters done = refl
   fault_counters (next {word} h run) = fault_counters run ∙ ap (counters_along word) h.counters
 
-  pub fault_accesses : {a b : FaultyState S} {word : List Letter} → Run (IsFaultyAccess step) a word b → a.accesses ≤ 2 ^ 64 - 1 → b.accesses ≡ min (a.accesses + length word) (2 ^ 64 - 1)
+  pub fault_accesses : {a b : FaultyState S} {word : List Letter} → Run (IsInjectedFault step) a word b → a.accesses ≤ 2 ^ 64 - 1 → b.accesses ≡ min (a.accesses + length word) (2 ^ 64 - 1)
   fault_accesses (done {s}) h = stopped s.accesses h
   fault_accesses (next {old} {word} h run) le =
       fault_accesses run (subst (λ n. n ≤ 2 ^ 64 - 1) (sym h.accesses) (stops old.accesses))

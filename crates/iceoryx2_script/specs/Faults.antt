@@ -23,7 +23,7 @@ abbrev pub Reaches : {S : Type 0} → Bool → (S → Letter → S → Type 0) �
 Reaches true step old l new = IsFault l × (new ≡ old)
 Reaches false step old l new = step old l new
 
-pub record IsFaultyAccess {S : Type 0} (step : S → Letter → S → Type 0) (old : FaultyState S) (l : Letter)
+pub record IsInjectedFault {S : Type 0} (step : S → Letter → S → Type 0) (old : FaultyState S) (l : Letter)
     (new : FaultyState S) : Type 0 where
   pub accesses : new.accesses ≡ one_more old.accesses
   pub inside : Reaches (is_refused new.accesses old.refused) step old.inner l new.inner

@@ -5,7 +5,7 @@ ghost use Rattle.iceoryx2_access.specs.Letter.{Letter};
 ghost use Rattle.iceoryx2_access.specs.MayRefuse.{MayRefuse};
 ghost use Rattle.iceoryx2_access.specs.Run.{Run};
 ghost use Rattle.iceoryx2_script.specs.Counters.{counters_along};
-ghost use Rattle.iceoryx2_script.specs.Faults.{FaultyState, IsFaultyAccess};
+ghost use Rattle.iceoryx2_script.specs.Faults.{FaultyState, IsInjectedFault};
 ghost use Rattle.iceoryx2_script.specs.Plays.{PlaysFront};
 ghost use Rattle.iceoryx2_script.specs.Script.{ScriptState, IsScriptAccess};
 
@@ -30,18 +30,18 @@ pub fn scripts()
 pub fn faults<S: Storage>()
     // It is a word of the storage inside of which any access may be refused.
     ensures refusable { (a b : FaultyState S) (word : List Letter)
-        → Run (IsFaultyAccess S.step) a word b → Run (MayRefuse S.step) a.inner word b.inner }
+        → Run (IsInjectedFault S.step) a word b → Run (MayRefuse S.step) a.inner word b.inner }
 
     // Where no access is to be refused it is a word of the storage inside.
     ensures faultless { (a b : FaultyState S) (word : List Letter)
-        → Run (IsFaultyAccess S.step) a word b → a.refused ≡ [] → Run S.step a.inner word b.inner }
+        → Run (IsInjectedFault S.step) a word b → a.refused ≡ [] → Run S.step a.inner word b.inner }
 
     // Each access counts, and the list stays.
     ensures accesses { (a b : FaultyState S) (word : List Letter)
-        → Run (IsFaultyAccess S.step) a word b → a.accesses ≤ 2 ^ 64 - 1
+        → Run (IsInjectedFault S.step) a word b → a.accesses ≤ 2 ^ 64 - 1
         → b.accesses ≡ min (a.accesses + length word) (2 ^ 64 - 1) }
     ensures counters { (a b : FaultyState S) (word : List Letter)
-        → Run (IsFaultyAccess S.step) a word b → b.counters ≡ counters_along word a.counters }
+        → Run (IsInjectedFault S.step) a word b → b.counters ≡ counters_along word a.counters }
     ensures refused { (a b : FaultyState S) (word : List Letter)
-        → Run (IsFaultyAccess S.step) a word b → b.refused ≡ a.refused }
+        → Run (IsInjectedFault S.step) a word b → b.refused ≡ a.refused }
 {}

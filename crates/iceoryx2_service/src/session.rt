@@ -3,7 +3,7 @@
 pub use iceoryx2_call_laws::fault_laws::agreement_under_faults;
 pub use iceoryx2_call_laws::laws::agreement;
 pub use iceoryx2_commands::command::{
-    Call, Command, EventSetting, How, PublishSubscribeSetting, Refusal, Reply,
-    RequestResponseSetting, SLOTS, Settings,
+    Call, Command, EventSetter, How, PublishSubscribeSetter, Refusal, Reply, RequestResponseSetter,
+    SLOTS, Settings,
 };
 pub use iceoryx2_session::session::Session;

@@ -2,7 +2,7 @@
 use Rattle.std.proofs.Common.{◌≡◌, ℕ, List, Option, Some, None, Ok, sym, subst, ◌∙◌}
 use Rattle.std.specs.Prelude.{slice_set}
 use Rattle.iceoryx2_world.specs.Tables.{TableState}
-use Rattle.iceoryx2_access.specs.Factory.{Factory}
+use Rattle.iceoryx2_access.specs.Registered.{Registered}
 use Rattle.iceoryx2_commands.specs.declared.command.Call.{Call}
 use Rattle.iceoryx2_commands.specs.declared.command.Command.TheVariants as command
 use Rattle.iceoryx2_commands.specs.declared.command.Reply.TheVariants as reply
@@ -12,17 +12,17 @@ use Rattle.iceoryx2_session.specs.Sessions.{SessionState, Builds, ClosesFactory,
 use Rattle.iceoryx2_session.specs.Sessions as goes
 use Rattle.iceoryx2_session.proofs.Places.{set_same}
 
-pub calling : (s : SessionState) (call : Call) (f : Factory) (n : ℕ) (w : TableState) (ys : List (Option Factory)) → FreeAt s.slots call.slot
+pub calling : (s : SessionState) (call : Call) (f : Registered) (n : ℕ) (w : TableState) (ys : List (Option Registered)) → FreeAt s.slots call.slot
     → Builds (builder_call s.config call) call.how s.table (Ok f) w → n ≡ f.number → ys ≡ slice_set s.slots call.slot (Some f)
     → Goes s (command.Call call) (reply.Opened call.slot n) (record s { table = w; slots = ys })
 calling s call f n w ys free is number slots =
-    subst (λ (l : List (Option Factory)). Goes s (command.Call call) (reply.Opened call.slot n) (record s { table = w; slots = l })) (sym slots)
+    subst (λ (l : List (Option Registered)). Goes s (command.Call call) (reply.Opened call.slot n) (record s { table = w; slots = l })) (sym slots)
     (subst (λ (m : ℕ). Goes s (command.Call call) (reply.Opened call.slot m) (record s { table = w; slots = slice_set s.slots call.slot (Some f) })) (sym number) (goes.called f free is))
 
-pub closing : (s : SessionState) (k : ℕ) (f : Factory) (w : TableState) (ys : List (Option Factory)) → HoldsAt s.slots k f
+pub closing : (s : SessionState) (k : ℕ) (f : Registered) (w : TableState) (ys : List (Option Registered)) → HoldsAt s.slots k f
     → ys ≡ slice_set s.slots k None → ClosesFactory s.table f w → Goes s (command.Close k) (reply.Closed k) (record s { table = w; slots = ys })
-closing s k f w ys at slots is = subst (λ (l : List (Option Factory)). Goes s (command.Close k) (reply.Closed k) (record s { table = w; slots = l })) (sym slots) (goes.closed f at is)
+closing s k f w ys at slots is = subst (λ (l : List (Option Registered)). Goes s (command.Close k) (reply.Closed k) (record s { table = w; slots = l })) (sym slots) (goes.closed f at is)
 
-pub nothing_to_close : (s : SessionState) (k : ℕ) (ys : List (Option Factory)) → FreeAt s.slots k → ys ≡ slice_set s.slots k None
+pub nothing_to_close : (s : SessionState) (k : ℕ) (ys : List (Option Registered)) → FreeAt s.slots k → ys ≡ slice_set s.slots k None
     → Goes s (command.Close k) reply.SlotEmpty (record s { slots = ys })
-nothing_to_close s k ys free slots = subst (λ (l : List (Option Factory)). Goes s (command.Close k) reply.SlotEmpty (record s { slots = l })) (sym (slots ∙ set_same s.slots k None free)) (goes.close_empty free)
+nothing_to_close s k ys free slots = subst (λ (l : List (Option Registered)). Goes s (command.Close k) reply.SlotEmpty (record s { slots = l })) (sym (slots ∙ set_same s.slots k None free)) (goes.close_empty free)

@@ -4,17 +4,17 @@ use Rattle.std.specs.Prelude.{slice_get, slice_set}
 use Rattle.iceoryx2_world.specs.Tables.{TableState}
 use Rattle.iceoryx2_access.specs.Run.{done}
 use Rattle.iceoryx2_access.proofs.Run.{one, both}
-use Rattle.iceoryx2_access.specs.Factory.{Factory}
+use Rattle.iceoryx2_access.specs.Registered.{Registered}
 use Rattle.iceoryx2_commands.specs.Commands.{slot_count}
 use Rattle.iceoryx2_session.specs.Sessions.{ClosesSlot, ClosesSlots}
 
 -- the first k slots are closed, the others are as they were
-pub record Finishing (from : TableState) (slots : List (Option Factory)) (k : ℕ) (w : TableState) (now : List (Option Factory)) : Type 0 where
+pub record Finishing (from : TableState) (slots : List (Option Registered)) (k : ℕ) (w : TableState) (now : List (Option Registered)) : Type 0 where
   pub so_far : ClosesSlots from (take k slots) w
   pub others : (j : ℕ) → k ≤ j → slice_get now j ≡ slice_get slots j
   pub long : length now ≡ length slots
 
-pub begins : (w : TableState) (slots : List (Option Factory)) → Finishing w slots 0 w slots
+pub begins : (w : TableState) (slots : List (Option Registered)) → Finishing w slots 0 w slots
 begins w slots = record { so_far = done; others = λ j h. refl; long = refl }
 
 take_next : {X : Type 0} (xs : List X) (k : ℕ) (x : X) → slice_get xs k ≡ Some x → take (suc k) xs ≡ take k xs ++ x ∷ []
@@ -40,17 +40,17 @@ take_all [] (suc n) e = refl
 take_all (y ∷ xs) zero e = absurd (omega (arith, e))
 take_all {X} (y ∷ xs) (suc n) e = ap (λ (l : List X). y ∷ l) (take_all xs n (omega (arith, e)))
 
-pub goes_on : (u v w : TableState) (slots now after : List (Option Factory)) (k : ℕ) → Finishing u slots k v now
+pub goes_on : (u v w : TableState) (slots now after : List (Option Registered)) (k : ℕ) → Finishing u slots k v now
     → ClosesSlot v now k w → after ≡ slice_set now k None → Finishing u slots (k + 1) w after
 goes_on u v w slots now after k f closed is =
     let here : slice_get slots k ≡ Some closed.0 = sym (f.others k (omega arith)) ∙ closed.1 in
     let n : k + 1 ≡ suc k = omega arith in
     record {
-      so_far = subst (λ m. ClosesSlots u (take m slots) w) (sym n) (subst (λ (l : List (Option Factory)). ClosesSlots u l w) (sym (take_next slots k closed.0 here)) (both f.so_far (one closed.2)));
-      others = λ j h. ap (λ (l : List (Option Factory)). slice_get l j) is ∙ elsewhere now k j None (omega (arith, h)) ∙ f.others j (omega (arith, h));
-      long = ap (λ (l : List (Option Factory)). length l) is ∙ length_set now k None ∙ f.long;
+      so_far = subst (λ m. ClosesSlots u (take m slots) w) (sym n) (subst (λ (l : List (Option Registered)). ClosesSlots u l w) (sym (take_next slots k closed.0 here)) (both f.so_far (one closed.2)));
+      others = λ j h. ap (λ (l : List (Option Registered)). slice_get l j) is ∙ elsewhere now k j None (omega (arith, h)) ∙ f.others j (omega (arith, h));
+      long = ap (λ (l : List (Option Registered)). length l) is ∙ length_set now k None ∙ f.long;
     }
 
-pub finished : (u w : TableState) (slots now : List (Option Factory)) (k : ℕ) → Finishing u slots k w now → k ≡ slot_count
+pub finished : (u w : TableState) (slots now : List (Option Registered)) (k : ℕ) → Finishing u slots k w now → k ≡ slot_count
     → length now ≡ slot_count → ClosesSlots u slots w
-finished u w slots now k f all long = subst (λ (l : List (Option Factory)). ClosesSlots u l w) (ap (λ m. take m slots) all ∙ take_all slots slot_count (sym f.long ∙ long)) f.so_far
+finished u w slots now k f all long = subst (λ (l : List (Option Registered)). ClosesSlots u l w) (ap (λ m. take m slots) all ∙ take_all slots slot_count (sym f.long ∙ long)) f.so_far

@@ -7,7 +7,7 @@ use Rattle.iceoryx2_world.specs.Across.{Agrees}
 use Rattle.iceoryx2_world.specs.Tables.{TableState}
 use Rattle.iceoryx2_world.specs.Standing.{Stands, ticket_for}
 use Rattle.iceoryx2_world.proofs.agreement.Maps.{set_cases}
-use Rattle.iceoryx2_access.specs.Factory.{Factory}
+use Rattle.iceoryx2_access.specs.Registered.{Registered}
 use Rattle.iceoryx2_call_laws.proofs.calls.Closed.{close_ok}
 use Rattle.iceoryx2_call_laws.proofs.calls.Tickets.{closed_tickets}
 use Rattle.iceoryx2_commands.specs.declared.command.Command.{Command}
@@ -20,7 +20,7 @@ use Rattle.iceoryx2_session.proofs.SlotLists.{set_here, set_there, not_free, sam
 use Rattle.iceoryx2_session.proofs.StandingSlots.{accesses, faulty, leaves}
 
 -- the close of a standing factory takes its ticket out
-pub taken_by_close : (u v : TableState) (f : Factory) → Agrees u.world → Stands u.world f → ClosesFactory u f v
+pub taken_by_close : (u v : TableState) (f : Registered) → Agrees u.world → Stands u.world f → ClosesFactory u f v
     → v.world.tickets ≡ map.remove u.world.tickets f.ticket
 taken_by_close u v f agrees stands is =
     closed_tickets (close_ok is.1.is_word (accesses is.1.run) agrees stands) is.1.is_word (faulty is.1.run)

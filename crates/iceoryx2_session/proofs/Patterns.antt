@@ -1,11 +1,11 @@
 -- What the builder calls of all patterns have in common.
 use Rattle.std.proofs.Common.{ℕ, List, Result}
 use Rattle.iceoryx2_description.specs.declared.config.Config.{Config}
-use Rattle.iceoryx2_event_builder.specs.Request.{EventRequest}
+use Rattle.iceoryx2_event_builder.specs.Request.{EventBuilderState}
 use Rattle.iceoryx2_event_builder.specs.Request as event
-use Rattle.iceoryx2_publish_subscribe_builder.specs.Request.{PublishSubscribeRequest}
+use Rattle.iceoryx2_publish_subscribe_builder.specs.Request.{PublishSubscribeBuilderState}
 use Rattle.iceoryx2_publish_subscribe_builder.specs.Request as publish_subscribe
-use Rattle.iceoryx2_request_response_builder.specs.Request.{RequestResponseRequest}
+use Rattle.iceoryx2_request_response_builder.specs.Request.{RequestResponseBuilderState}
 use Rattle.iceoryx2_request_response_builder.specs.Request as request_response
 use Rattle.iceoryx2_attribute.specs.Requirements.{Requirements}
 use Rattle.iceoryx2_description.specs.declared.time.ClockFault.{ClockFault}
@@ -32,7 +32,7 @@ pub record IsRegularCall (b : BuilderCall) : Type 0 where
   pub takes_nodes : TakesNodes b.creating
   pub steady : IsSteady b.attempt
 
-event_call_is_regular : (b : EventRequest) (attributes : Requirements) (now : Result Span ClockFault) → IsRegularCall (event_call b attributes now)
+event_call_is_regular : (b : EventBuilderState) (attributes : Requirements) (now : Result Span ClockFault) → IsRegularCall (event_call b attributes now)
 event_call_is_regular b attributes now = record {
   creating = (event_builder b.demand).creating_is_regular attributes.pairs;
   opening = (event_builder b.demand).opening_is_regular attributes;
@@ -45,7 +45,7 @@ event_call_is_regular b attributes now = record {
   };
 }
 
-publish_subscribe_call_is_regular : (b : PublishSubscribeRequest) (attributes : Requirements) → IsRegularCall (publish_subscribe_call b attributes)
+publish_subscribe_call_is_regular : (b : PublishSubscribeBuilderState) (attributes : Requirements) → IsRegularCall (publish_subscribe_call b attributes)
 publish_subscribe_call_is_regular b attributes = record {
   creating = (publish_subscribe_builder b.demand (named_message b)).creating_is_regular attributes.pairs;
   opening = (publish_subscribe_builder b.demand (named_message b)).opening_is_regular attributes;
@@ -58,7 +58,7 @@ publish_subscribe_call_is_regular b attributes = record {
   };
 }
 
-request_response_call_is_regular : (b : RequestResponseRequest) (attributes : Requirements) → IsRegularCall (request_response_call b attributes)
+request_response_call_is_regular : (b : RequestResponseBuilderState) (attributes : Requirements) → IsRegularCall (request_response_call b attributes)
 request_response_call_is_regular b attributes =
     let builder = request_response_builder b.demand (named_messages b).request (named_messages b).response in
     record {
@@ -76,11 +76,11 @@ request_response_call_is_regular b attributes =
 -- one row a pattern
 regular_by : (config : Config) (node : ℕ) (name : List ℕ) (attributes : Requirements) (now : Result Span ClockFault) (settings : Settings)
     → IsRegularCall (call_by config node name attributes now settings)
-regular_by config node name attributes now (settings.Event xs) = event_call_is_regular (with_settings event.with_setting (event.fresh_request node name config.event) xs.items) attributes now
+regular_by config node name attributes now (settings.Event xs) = event_call_is_regular (with_settings event.with_setting (event.fresh_builder node name config.event) xs.items) attributes now
 regular_by config node name attributes now (settings.PublishSubscribe xs) =
-    publish_subscribe_call_is_regular (with_settings publish_subscribe.with_setting (publish_subscribe.fresh_request node name config.publish_subscribe) xs.items) attributes
+    publish_subscribe_call_is_regular (with_settings publish_subscribe.with_setting (publish_subscribe.fresh_builder node name config.publish_subscribe) xs.items) attributes
 regular_by config node name attributes now (settings.RequestResponse xs) =
-    request_response_call_is_regular (with_settings request_response.with_setting (request_response.fresh_request node name config.request_response) xs.items) attributes
+    request_response_call_is_regular (with_settings request_response.with_setting (request_response.fresh_builder node name config.request_response) xs.items) attributes
 
 pub call_is_regular : (config : Config) (call : Call) → IsRegularCall (builder_call config call)
 call_is_regular config call = regular_by config call.node call.name call.attributes call.now call.settings

@@ -11,7 +11,7 @@ use Rattle.iceoryx2_world.proofs.agreement.Empty.{empty_agrees}
 use Rattle.iceoryx2_pattern.specs.declared.pattern.CreateRefusal.TheVariants as create_refusal
 use Rattle.iceoryx2_pattern.specs.declared.pattern.OpenRefusal.TheVariants as open_refusal
 use Rattle.iceoryx2_create_and_open.specs.Creates.{time_of}
-use Rattle.iceoryx2_access.specs.Factory.{Factory}
+use Rattle.iceoryx2_access.specs.Registered.{Registered}
 use Rattle.iceoryx2_call_laws.specs.Quiet.{Quiet, Shows, no_service}
 use Rattle.iceoryx2_call_laws.specs.QuietPrepared.{CreatesPrepared, OpensPrepared}
 use Rattle.iceoryx2_call_laws.specs.QuietLaws.{HoldsTheSame}
@@ -38,13 +38,13 @@ use Rattle.iceoryx2_create_and_open.specs.Answers.{map_err}
 use Rattle.iceoryx2_session.proofs.Patterns.{IsRegularCall, call_is_regular}
 
 -- what a builder call makes of the machine
-record IsBuilt (q : Quiet) (b : BuilderCall) (h : How) (w : World) (answer : Result Factory Refusal) (v : World) : Type 0 where
+record IsBuilt (q : Quiet) (b : BuilderCall) (h : How) (w : World) (answer : Result Registered Refusal) (v : World) : Type 0 where
   state : Quiet
   call : Answers q b h answer state
   shows : Shows v state
   agrees : Agrees v
 
-built : (h : How) (b : BuilderCall) (answer : Result Factory Refusal) (s t : TableState) (q : Quiet)
+built : (h : How) (b : BuilderCall) (answer : Result Registered Refusal) (s t : TableState) (q : Quiet)
     → IsRegularCall b → Shows s.world q → Agrees s.world → s.waiting ≡ [] → Builds b h s answer t → IsBuilt q b h s.world answer t.world
 built how.Create b answer s t q regular shows agrees waiting is =
     let c = call_follows b.prepares (b.creating.create_refusal create_refusal.OutOfMemory) s.world t.world shows agrees (λ word a is_word. create_follows b.creating b.node b.hash b.name b.now s.world t.world q word a regular.creating (regular.takes_nodes (time_of b.now)) shows agrees is_word) is.2.is_word (idle_run waiting is.2.run).0 in
@@ -74,7 +74,7 @@ built how.OpenOrCreate b answer s t q regular shows agrees waiting is =
 -- ---- commands
 
 -- nothing waits after a builder call, where nothing waited
-none_waits : (h : How) (b : BuilderCall) (answer : Result Factory Refusal) (s t : TableState)
+none_waits : (h : How) (b : BuilderCall) (answer : Result Registered Refusal) (s t : TableState)
     → s.waiting ≡ [] → Builds b h s answer t → t.waiting ≡ []
 none_waits how.Create b answer s t waiting is = (idle_run waiting is.2.run).1.0
 none_waits how.Open b answer s t waiting is = (idle_run waiting is.2.run).1.0
@@ -104,10 +104,10 @@ moved q old slots goes.not_listed = record { state = q; moves = moves.not_listed
 
 -- ---- a command that opens and closes nothing
 
-not_ok : (e : Refusal) (f : Factory) → let answer : Result Factory Refusal = Err e in answer ≡ Ok f → ⊥
+not_ok : (e : Refusal) (f : Registered) → let answer : Result Registered Refusal = Err e in answer ≡ Ok f → ⊥
 not_ok e f is = absurd cc
 
-refused_answer : {E : Type 0} (carry : E → Refusal) (e : Refusal) (a : Result Factory E) (P : Type 0) → Err e ≡ with_refusal carry a
+refused_answer : {E : Type 0} (carry : E → Refusal) (e : Refusal) (a : Result Registered E) (P : Type 0) → Err e ≡ with_refusal carry a
     → ((x : E) → a ≡ Err x → P) → P
 refused_answer carry e (Ok f) P is then = absurd (not_ok e f is)
 refused_answer carry e (Err x) P is then = then x refl
@@ -117,13 +117,13 @@ refusal_keeps : (h : How) (b : BuilderCall) (e : Refusal) (w v : World) (q p : Q
     → Shows w q → Shows v p → Answers q b h (Err e) p → HoldsTheSame w v
 refusal_keeps how.Create b e w v q p s t is =
     refused_answer b.refusal_of_create e is.0 (HoldsTheSame w v) is.1 (λ x same.
-    refused_create b.creating b.node b.hash b.name b.now w v q p x s t (subst (λ (a : Result Factory b.create_error). CreatesPrepared b.creating q b.node b.hash b.name b.now a p) same (as_prepared b.prepares is.2)))
+    refused_create b.creating b.node b.hash b.name b.now w v q p x s t (subst (λ (a : Result Registered b.create_error). CreatesPrepared b.creating q b.node b.hash b.name b.now a p) same (as_prepared b.prepares is.2)))
 refusal_keeps how.Open b e w v q p s t is =
     refused_answer b.refusal_of_open e is.0 (HoldsTheSame w v) is.1 (λ x same.
-    refused_open b.opening b.node b.hash w v q p x s t (subst (λ (a : Result Factory b.open_error). OpensPrepared b.opening q b.node b.hash a p) same (as_prepared b.prepares is.2)))
+    refused_open b.opening b.node b.hash w v q p x s t (subst (λ (a : Result Registered b.open_error). OpensPrepared b.opening q b.node b.hash a p) same (as_prepared b.prepares is.2)))
 refusal_keeps how.OpenOrCreate b e w v q p s t is =
     refused_answer b.refusal_of_open_or_create e is.0 (HoldsTheSame w v) is.1 (λ x same.
-    refused_attempt b.attempt (b.refusal_of_rounds x) s t (subst (λ (a : Result Factory b.open_or_create_error). AttemptsPrepared b.attempt q (map_err b.refusal_of_rounds a) p) same (as_prepared b.prepares is.2)))
+    refused_attempt b.attempt (b.refusal_of_rounds x) s t (subst (λ (a : Result Registered b.open_or_create_error). AttemptsPrepared b.attempt q (map_err b.refusal_of_rounds a) p) same (as_prepared b.prepares is.2)))
 
 pub itself : (s : SessionState) → IsUnchanged s s
 itself s = record { slots = refl; services = record { rows = λ h. refl; segments = λ h. refl; tags = λ i h. refl; counts = λ i h. refl } }

@@ -1,16 +1,16 @@
 -- Lists of slots, where one of them changes.
 use Rattle.std.proofs.Common.{◌≡◌, ◌≢◌, ℕ, zero, suc, List, [], ◌∷◌, Option, Some, None, replicate, ◌⊎◌, inl, inr, refl, ap, subst, arith}
 use Rattle.std.specs.Prelude.{slice_get, slice_set}
-use Rattle.iceoryx2_access.specs.Factory.{Factory}
+use Rattle.iceoryx2_access.specs.Registered.{Registered}
 use Rattle.iceoryx2_session.specs.Slots.{FreeAt, HoldsAt}
 
 is_value : {X : Type 0} (x y : X) (a b : Option X) → a ≡ Some x → b ≡ Some y → a ≡ b → x ≡ y
 is_value x y a b e f g = cc
 
-pub same_factory : (f g : Factory) → Some f ≡ Some g → f ≡ g
+pub same_factory : (f g : Registered) → Some f ≡ Some g → f ≡ g
 same_factory f g e = cc
 
-pub no_factory : (f : Factory) → let free : Option Factory = None in free ≡ Some f → ⊥
+pub no_factory : (f : Registered) → let free : Option Registered = None in free ≡ Some f → ⊥
 no_factory f e = absurd cc
 
 -- what a place holds after one was set
@@ -40,17 +40,17 @@ set_there (y ∷ xs) (suc i) zero v d = refl
 set_there (y ∷ xs) (suc i) (suc j) v d = set_there xs i j v (λ e. d (ap suc e))
 
 -- a slot that holds a factory isn't free
-pub not_free : (slots : List (Option Factory)) (k j : ℕ) (f : Factory) → FreeAt slots k → HoldsAt slots j f → j ≢ k
+pub not_free : (slots : List (Option Registered)) (k j : ℕ) (f : Registered) → FreeAt slots k → HoldsAt slots j f → j ≢ k
 not_free slots k j f free at e =
     no_factory f (is_value None (Some f) (slice_get slots k) (slice_get slots k) free (subst (λ i. HoldsAt slots i f) e at) refl)
 
 -- one slot holds one factory
-pub same_slot : (slots : List (Option Factory)) (j k : ℕ) (f g : Factory) → HoldsAt slots j f → HoldsAt slots k g → j ≡ k → f ≡ g
+pub same_slot : (slots : List (Option Registered)) (j k : ℕ) (f g : Registered) → HoldsAt slots j f → HoldsAt slots k g → j ≡ k → f ≡ g
 same_slot slots j k f g at_f at_g e =
     same_factory f g (is_value (Some f) (Some g) (slice_get slots j) (slice_get slots k) at_f at_g (ap (λ i. slice_get slots i) e))
 
 -- slots that are all free hold nothing
-pub none_held : (n k : ℕ) (f : Factory) → let free : List (Option Factory) = replicate n None in HoldsAt free k f → ⊥
+pub none_held : (n k : ℕ) (f : Registered) → let free : List (Option Registered) = replicate n None in HoldsAt free k f → ⊥
 none_held zero k f at = absurd cc
 none_held (suc n) zero f at = absurd cc
 none_held (suc n) (suc k) f at = none_held n k f at

@@ -6,11 +6,11 @@ use Rattle.iceoryx2_description.specs.declared.time.ClockFault.{ClockFault}
 use Rattle.iceoryx2_description.specs.Span.{Span}
 use Rattle.iceoryx2_world.specs.World.{World}
 use Rattle.iceoryx2_world.specs.Across.{Agrees}
-use Rattle.iceoryx2_world.specs.Faulty.{IsFaulty}
+use Rattle.iceoryx2_world.specs.Fallible.{IsFallibleAccess}
 use Rattle.iceoryx2_access.specs.Letter.{Letter}
 use Rattle.iceoryx2_world.specs.Peers.{IsAccess}
 use Rattle.iceoryx2_access.specs.Run.{Run, done, next}
-use Rattle.iceoryx2_access.specs.Factory.{Factory}
+use Rattle.iceoryx2_access.specs.Registered.{Registered}
 use Rattle.iceoryx2_world.specs.Tables.{TableState, IsTableAccess}
 use Rattle.iceoryx2_world.proofs.Waiting.{table_run}
 use Rattle.iceoryx2_world.specs.Standing.{Stands, ticket_for}
@@ -52,7 +52,7 @@ use Rattle.iceoryx2_session.proofs.SlotLists.{same_factory, same_slot, no_factor
 pub accesses : {s t : TableState} {word : List Letter} → Run IsTableAccess s word t → Run IsAccess s.world word t.world
 accesses run = table_run run
 
-pub faulty : {s t : TableState} {word : List Letter} → Run IsTableAccess s word t → Run IsFaulty s.world word t.world
+pub faulty : {s t : TableState} {word : List Letter} → Run IsTableAccess s word t → Run IsFallibleAccess s.world word t.world
 faulty run = with_refusals (accesses run)
 
 -- what is so throughout a word is so after it
@@ -68,49 +68,49 @@ agrees_after {s = s} word run old = (at_end _ (agrees_throughout s.world word ol
 
 -- what a builder call leaves: its factory stands, with a ticket that none had, what stood before does, and no other
 -- ticket comes or goes
-pub record Leaves (w : World) (answer : Result Factory Refusal) (v : World) : Type 0 where
+pub record Leaves (w : World) (answer : Result Registered Refusal) (v : World) : Type 0 where
   pub agrees : Agrees v
   pub given : IfOk answer (λ f. Stands v f × (w.counter ≤ f.ticket))
-  pub kept : (f : Factory) → Stands w f → Stands v f
+  pub kept : (f : Registered) → Stands w f → Stands v f
   pub tickets : v.tickets ≡ tickets_after w.tickets answer
 
 -- what is so of an Ok answer is so however its error is carried
-carried : {E : Type 0} (P : Factory → Type 0) (carry : E → Refusal) (a : Result Factory E) → IfOk a P → IfOk (with_refusal carry a) P
+carried : {E : Type 0} (P : Registered → Type 0) (carry : E → Refusal) (a : Result Registered E) → IfOk a P → IfOk (with_refusal carry a) P
 carried P carry (Ok f) so = so
 carried P carry (Err e) so = tt
 
 -- the tickets are the same however its error is carried
-carried_tickets : {E : Type 0} (w v : World) (carry : E → Refusal) (a : Result Factory E) → v.tickets ≡ tickets_after w.tickets a
+carried_tickets : {E : Type 0} (w v : World) (carry : E → Refusal) (a : Result Registered E) → v.tickets ≡ tickets_after w.tickets a
     → v.tickets ≡ tickets_after w.tickets (with_refusal carry a)
 carried_tickets w v carry (Ok f) e = e
 carried_tickets w v carry (Err x) e = e
 
 module _ {F E C : Type 0} (m : Meaning F E C) (node : ℕ) (hash : ServiceHash) where
-  created : (name : List ℕ) (now : Result Span ClockFault) {word : List Letter} (a : Result Factory C) {w v : World}
-      → IsCreateCall m node hash name now word a → Run IsFaulty w word v → Agrees w
+  created : (name : List ℕ) (now : Result Span ClockFault) {word : List Letter} (a : Result Registered C) {w v : World}
+      → IsCreateCall m node hash name now word a → Run IsFallibleAccess w word v → Agrees w
       → IfOk a (λ f. Stands v f × (w.counter ≤ f.ticket))
   created name now (Ok f) is run old = let o = create_stands (granted_call is) run old in (o.0, o.3)
   created name now (Err e) is run old = tt
 
-  opened : {word : List Letter} (a : Result Factory E) {w v : World}
-      → IsOpenCall m node hash word a → Run IsFaulty w word v → Agrees w
+  opened : {word : List Letter} (a : Result Registered E) {w v : World}
+      → IsOpenCall m node hash word a → Run IsFallibleAccess w word v → Agrees w
       → IfOk a (λ f. Stands v f × (w.counter ≤ f.ticket))
   opened (Ok f) is run old = let o = open_stands (granted_call is) run old in (o.stands, o.new_ticket)
   opened (Err e) is run old = tt
 
 -- nor what the rounds call it
-mapped_tickets : {E X : Type 0} (w v : World) (f : X → E) (a : Result Factory X) → v.tickets ≡ tickets_after w.tickets (map_err f a)
+mapped_tickets : {E X : Type 0} (w v : World) (f : X → E) (a : Result Registered X) → v.tickets ≡ tickets_after w.tickets (map_err f a)
     → v.tickets ≡ tickets_after w.tickets a
 mapped_tickets w v f (Ok r) e = e
 mapped_tickets w v f (Err x) e = e
 
-attempted : {D F E C X : Type 0} (a : Attempt D F E C) (f : X → OpenOrCreateRefusal E C) {word : List Letter} (answer : Result Factory X) {w v : World}
-    → IsAttempted a word (map_err f answer) → Run IsFaulty w word v → Agrees w
+attempted : {D F E C X : Type 0} (a : Attempt D F E C) (f : X → OpenOrCreateRefusal E C) {word : List Letter} (answer : Result Registered X) {w v : World}
+    → IsAttempted a word (map_err f answer) → Run IsFallibleAccess w word v → Agrees w
     → IfOk answer (λ r. Stands v r × (w.counter ≤ r.ticket))
 attempted a f (Ok r) is run old = open_or_create_stands (granted_call is) run old
 attempted a f (Err e) is run old = tt
 
-pub leaves : (h : How) (b : BuilderCall) (answer : Result Factory Refusal) (s t : TableState)
+pub leaves : (h : How) (b : BuilderCall) (answer : Result Registered Refusal) (s t : TableState)
     → Agrees s.world → Builds b h s answer t → Leaves s.world answer t.world
 leaves how.Create b answer s t old is =
     let run = faulty is.2.run in
@@ -141,8 +141,8 @@ leaves how.OpenOrCreate b answer s t old is =
     }
 
 -- a close leaves each other factory standing
-pub kept_by_close : (s t : TableState) (f : Factory) → Agrees s.world → ClosesFactory s f t
-    → (g : Factory) → g.ticket ≢ f.ticket → Stands s.world g → Stands t.world g
+pub kept_by_close : (s t : TableState) (f : Registered) → Agrees s.world → ClosesFactory s f t
+    → (g : Registered) → g.ticket ≢ f.ticket → Stands s.world g → Stands t.world g
 kept_by_close s t f old is g apart at =
     at_end _ (stands_throughout s.world is.1.word g (close_spares g apart is.1.is_word) old at) (faulty is.1.run)
 
@@ -150,19 +150,19 @@ kept_by_close s t f old is g apart at =
 
 pub none_stand : (s : SessionState) → s.slots ≡ replicate slot_count None → SlotsStand s
 none_stand s e = record {
-  stand = λ k f at. absurd (none_held slot_count k f (subst (λ (l : List (Option Factory)). HoldsAt l k f) e at));
-  apart = λ j k f g at_j at_k same. absurd (none_held slot_count j f (subst (λ (l : List (Option Factory)). HoldsAt l j f) e at_j));
+  stand = λ k f at. absurd (none_held slot_count k f (subst (λ (l : List (Option Registered)). HoldsAt l k f) e at));
+  apart = λ j k f g at_j at_k same. absurd (none_held slot_count j f (subst (λ (l : List (Option Registered)). HoldsAt l j f) e at_j));
 }
 
 -- a ticket that is there is older than the counter
-older : (w : World) (f : Factory) → Agrees w → Stands w f → f.ticket < w.counter
+older : (w : World) (f : Registered) → Agrees w → Stands w f → f.ticket < w.counter
 older w f a s = a.numbered.below f.ticket (ticket_for f) s.ticket
 
-put_stands : (s : SessionState) (t : TableState) (k : ℕ) (f : Factory) → Agrees s.table.world → SlotsStand s → Stands t.world f
-    → s.table.world.counter ≤ f.ticket → ((g : Factory) → Stands s.table.world g → Stands t.world g)
+put_stands : (s : SessionState) (t : TableState) (k : ℕ) (f : Registered) → Agrees s.table.world → SlotsStand s → Stands t.world f
+    → s.table.world.counter ≤ f.ticket → ((g : Registered) → Stands s.table.world g → Stands t.world g)
     → SlotsStand (record s { table = t; slots = slice_set s.slots k (Some f) })
 put_stands s t k f agrees old stands new kept =
-    let before : (j : ℕ) (g : Factory) → HoldsAt s.slots j g → g.ticket ≡ f.ticket → ⊥ =
+    let before : (j : ℕ) (g : Registered) → HoldsAt s.slots j g → g.ticket ≡ f.ticket → ⊥ =
     λ j g at same. absurd (omega (arith, older s.table.world g agrees (old.stand j g at), same, new)) in
     record {
       stand = λ j g at. elim (set_cases s.slots k j (Some f) (Some g) at) [
@@ -181,8 +181,8 @@ put_stands s t k f agrees old stands new kept =
       ];
     }
 
-take_stands : (s : SessionState) (t : TableState) (k : ℕ) (f : Factory) → SlotsStand s → HoldsAt s.slots k f
-    → ((g : Factory) → g.ticket ≢ f.ticket → Stands s.table.world g → Stands t.world g)
+take_stands : (s : SessionState) (t : TableState) (k : ℕ) (f : Registered) → SlotsStand s → HoldsAt s.slots k f
+    → ((g : Registered) → g.ticket ≢ f.ticket → Stands s.table.world g → Stands t.world g)
     → SlotsStand (record s { table = t; slots = slice_set s.slots k None })
 take_stands s t k f old taken kept =
     record {
@@ -219,7 +219,7 @@ stand_after (goes.listed lists) agrees old = (agrees, old)
 stand_after goes.not_listed agrees old = (agrees, old)
 
 -- a taken slot is closed with Ok
-close_is_ok : (s t : TableState) (f : Factory) → Agrees s.world → Stands s.world f → ClosesFactory s f t → IsClosedPlace s (Some f) t
+close_is_ok : (s t : TableState) (f : Registered) → Agrees s.world → Stands s.world f → ClosesFactory s f t → IsClosedPlace s (Some f) t
 close_is_ok s t f agrees stood is =
     let ok = close_ok is.1.is_word (accesses is.1.run) agrees stood in
     record { word = is.1.word; is_word = subst (λ a. IsCloseWord f is.1.word a) ok is.1.is_word; run = is.1.run }

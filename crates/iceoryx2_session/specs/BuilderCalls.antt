@@ -5,7 +5,7 @@ use Rattle.iceoryx2_description.specs.declared.description.ServiceHash.{ServiceH
 use Rattle.iceoryx2_description.specs.declared.time.ClockFault.{ClockFault}
 use Rattle.iceoryx2_description.specs.Span.{Span}
 use Rattle.iceoryx2_pattern.specs.Meaning.{Meaning}
-use Rattle.iceoryx2_access.specs.Factory.{Factory}
+use Rattle.iceoryx2_access.specs.Registered.{Registered}
 use Rattle.iceoryx2_open_or_create.specs.declared.open_or_create.OpenOrCreateRefusal.{OpenOrCreateRefusal}
 use Rattle.iceoryx2_call_laws.specs.Attempts.{Attempt}
 use Rattle.iceoryx2_commands.specs.declared.command.Refusal.{Refusal}
@@ -42,7 +42,7 @@ IfPrepares true of_prepared of_plain = of_prepared
 IfPrepares false of_prepared of_plain = of_plain
 
 -- an answer whose error is carried by a refusal
-abbrev pub with_refusal : {E : Type 0} → (E → Refusal) → Result Factory E → Result Factory Refusal
+abbrev pub with_refusal : {E : Type 0} → (E → Refusal) → Result Registered E → Result Registered Refusal
 with_refusal carry (Ok f) = Ok f
 with_refusal carry (Err e) = Err (carry e)
 

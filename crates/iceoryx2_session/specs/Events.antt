@@ -4,7 +4,7 @@ use Rattle.iceoryx2_errors.specs.declared.error.ServiceState.{ServiceState}
 use Rattle.iceoryx2_errors.specs.declared.error.events.EventOpenError.{EventOpenError}
 use Rattle.iceoryx2_errors.specs.declared.error.events.EventCreateError.{EventCreateError}
 use Rattle.iceoryx2_errors.specs.declared.error.events.EventOpenOrCreateError.{EventOpenOrCreateError}
-use Rattle.iceoryx2_event_builder.specs.Request.{EventRequest, letter_of_events}
+use Rattle.iceoryx2_event_builder.specs.Request.{EventBuilderState, letter_of_events}
 use Rattle.iceoryx2_attribute.specs.Requirements.{Requirements}
 use Rattle.iceoryx2_description.specs.declared.time.ClockFault.{ClockFault}
 use Rattle.iceoryx2_description.specs.Span.{Span}
@@ -15,7 +15,7 @@ use Rattle.iceoryx2_commands.specs.declared.command.Refusal.TheVariants as refus
 use Rattle.iceoryx2_session.specs.BuilderCalls.{BuilderCall, hash_for}
 
 -- what the calls of this builder ask: a create defines the pairs, and an open requires pairs and keys
-abbrev pub event_call : EventRequest → Requirements → Result Span ClockFault → BuilderCall
+abbrev pub event_call : EventBuilderState → Requirements → Result Span ClockFault → BuilderCall
 event_call b attributes now = record {
   fault = ServiceState;
   open_error = EventOpenError;

@@ -20,13 +20,13 @@ use Rattle.iceoryx2_session.specs.RequestResponse.{request_response_call}
 abbrev pub call_by
     : Config → ℕ → List ℕ → Requirements → Result Span ClockFault → Settings → BuilderCall
 call_by config node name attributes now (settings.Event xs) =
-    event_call (with_settings event.with_setting (event.fresh_request node name config.event) xs.items) attributes now
+    event_call (with_settings event.with_setting (event.fresh_builder node name config.event) xs.items) attributes now
 call_by config node name attributes now (settings.PublishSubscribe xs) =
     publish_subscribe_call (with_settings publish_subscribe.with_setting
-    (publish_subscribe.fresh_request node name config.publish_subscribe) xs.items) attributes
+    (publish_subscribe.fresh_builder node name config.publish_subscribe) xs.items) attributes
 call_by config node name attributes now (settings.RequestResponse xs) =
     request_response_call (with_settings request_response.with_setting
-    (request_response.fresh_request node name config.request_response) xs.items) attributes
+    (request_response.fresh_builder node name config.request_response) xs.items) attributes
 
 -- what a command's call asks
 abbrev pub builder_call : Config → Call → BuilderCall

@@ -1,6 +1,6 @@
 -- What a session's builder calls come to: each is one call, whichever of a builder's three it is.
 use Rattle.std.specs.Prelude.{◌≡◌, ◌<◌, List, Result, Ok, IfOk}
-use Rattle.iceoryx2_access.specs.Factory.{Factory}
+use Rattle.iceoryx2_access.specs.Registered.{Registered}
 use Rattle.iceoryx2_access.specs.Letter.{Letter}
 use Rattle.iceoryx2_access.specs.Run.{Run}
 use Rattle.iceoryx2_world.specs.Across.{Agrees}
@@ -29,9 +29,9 @@ any_call b h = record { way = way_of h; asks = b.attempt; prepares = b.prepares 
 
 -- A builder call over a table goes along a word of it, and is as every call is; its create only raises minima. Where
 -- it answers Ok it is with that factory.
-pub record IsPromised (b : BuilderCall) (h : How) (s : TableState) (answer : Result Factory Refusal) (t : TableState)
+pub record IsPromised (b : BuilderCall) (h : How) (s : TableState) (answer : Result Registered Refusal) (t : TableState)
     : Type 0 where
-  pub own : Result Factory (ErrorBy b.open_error b.create_error (way_of h))
+  pub own : Result Registered (ErrorBy b.open_error b.create_error (way_of h))
   pub granted : IfOk answer (λ f. own ≡ Ok f)
   pub word : List Letter
   pub is_word : IsWordOf (any_call b h) word own
@@ -42,7 +42,7 @@ pub record IsPromised (b : BuilderCall) (h : How) (s : TableState) (answer : Res
 -- So is the call of a free slot.
 abbrev pub CallsAsPromised : SessionState → Command → SessionState → Type 0
 CallsAsPromised old (command.Call call) new = call.slot < slot_count → FreeAt old.slots call.slot
-    → (answer : Result Factory Refusal)
+    → (answer : Result Registered Refusal)
     × IsPromised (builder_call old.config call) call.how old.table answer new.table
 CallsAsPromised old (command.Close slot) new = Unit {0}
 CallsAsPromised old command.List new = Unit {0}

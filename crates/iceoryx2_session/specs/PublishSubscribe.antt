@@ -7,7 +7,7 @@ use Rattle.iceoryx2_errors.specs.declared.error.publish_subscribe.PublishSubscri
 use Rattle.iceoryx2_errors.specs.declared.error.publish_subscribe.PublishSubscribeOpenOrCreateError.{PublishSubscribeOpenOrCreateError}
 use Rattle.iceoryx2_attribute.specs.Requirements.{Requirements}
 use Rattle.iceoryx2_description.specs.Span.{zero_span}
-use Rattle.iceoryx2_publish_subscribe_builder.specs.Request.{PublishSubscribeRequest}
+use Rattle.iceoryx2_publish_subscribe_builder.specs.Request.{PublishSubscribeBuilderState}
 use Rattle.iceoryx2_publish_subscribe_builder.specs.Request.{letter_of_publish_subscribe, message_for}
 use Rattle.iceoryx2_publish_subscribe_builder.specs.PublishSubscribe.{publish_subscribe_creating}
 use Rattle.iceoryx2_publish_subscribe_builder.specs.PublishSubscribe.{publish_subscribe_opening}
@@ -20,11 +20,11 @@ use Rattle.iceoryx2_session.specs.BuilderCalls.{BuilderCall, hash_for}
 use Rattle.iceoryx2_session.specs.Markers.{payload_marker, user_header_marker}
 
 -- the message of this builder, whose types are those that setters named
-abbrev pub named_message : PublishSubscribeRequest → Message
+abbrev pub named_message : PublishSubscribeBuilderState → Message
 named_message b = message_for payload_marker user_header_marker b.types
 
 -- what the calls of this builder ask: a create defines the pairs, and an open requires pairs and keys
-abbrev pub publish_subscribe_call : PublishSubscribeRequest → Requirements → BuilderCall
+abbrev pub publish_subscribe_call : PublishSubscribeBuilderState → Requirements → BuilderCall
 publish_subscribe_call b attributes = record {
   fault = ServiceAvailabilityState;
   open_error = PublishSubscribeOpenError;

@@ -9,7 +9,7 @@ use Rattle.iceoryx2_world.specs.World.{tag_of}
 use Rattle.iceoryx2_world.specs.Tables.{TableState}
 use Rattle.iceoryx2_world.specs.Across.{Agrees}
 use Rattle.iceoryx2_access.specs.Run.{Run}
-use Rattle.iceoryx2_access.specs.Factory.{Factory}
+use Rattle.iceoryx2_access.specs.Registered.{Registered}
 use Rattle.iceoryx2_commands.specs.declared.command.Call.{Call}
 use Rattle.iceoryx2_commands.specs.declared.command.How.{How}
 use Rattle.iceoryx2_commands.specs.declared.command.How.TheVariants as how
@@ -40,31 +40,31 @@ pub record IsQuiet (s : SessionState) (q : Quiet) : Type 0 where
 
 -- What the machine answers to a builder call, and its state after it. One that prepares its types first may also want
 -- memory, and change nothing.
-abbrev pub Answers : Quiet → BuilderCall → How → Result Factory Refusal → Quiet → Type 0
+abbrev pub Answers : Quiet → BuilderCall → How → Result Registered Refusal → Quiet → Type 0
 Answers q b how.Create answer p =
-    (a : Result Factory b.create_error) × (answer ≡ with_refusal b.refusal_of_create a)
+    (a : Result Registered b.create_error) × (answer ≡ with_refusal b.refusal_of_create a)
     × IfPrepares b.prepares
     (CreatesPrepared b.creating q b.node b.hash b.name b.now a p)
     (Creates b.creating q b.node b.hash b.name b.now a p)
 Answers q b how.Open answer p =
-    (a : Result Factory b.open_error) × (answer ≡ with_refusal b.refusal_of_open a)
+    (a : Result Registered b.open_error) × (answer ≡ with_refusal b.refusal_of_open a)
     × IfPrepares b.prepares
     (OpensPrepared b.opening q b.node b.hash a p)
     (Opens b.opening q b.node b.hash a p)
 Answers q b how.OpenOrCreate answer p =
-    (a : Result Factory b.open_or_create_error) × (answer ≡ with_refusal b.refusal_of_open_or_create a)
+    (a : Result Registered b.open_or_create_error) × (answer ≡ with_refusal b.refusal_of_open_or_create a)
     × IfPrepares b.prepares
     (AttemptsPrepared b.attempt q (map_err b.refusal_of_rounds a) p)
     (Attempts b.attempt q (map_err b.refusal_of_rounds a) p)
 
 -- A command with its reply moves the machine and the slots.
-pub data Moves (config : Config) (q : Quiet) (slots : List (Option Factory))
-    : Command → Reply → Quiet → List (Option Factory) → Type 0 where
+pub data Moves (config : Config) (q : Quiet) (slots : List (Option Registered))
+    : Command → Reply → Quiet → List (Option Registered) → Type 0 where
   call_past : {call : Call} → slot_count ≤ call.slot
       → Moves config q slots (command.Call call) reply.NoSuchSlot q slots
   call_taken : {call : Call} → TakenAt slots call.slot
       → Moves config q slots (command.Call call) reply.SlotInUse q slots
-  called : {call : Call} (f : Factory) {p : Quiet} → FreeAt slots call.slot
+  called : {call : Call} (f : Registered) {p : Quiet} → FreeAt slots call.slot
       → Answers q (builder_call config call) call.how (Ok f) p
       → Moves config q slots (command.Call call) (reply.Opened call.slot f.number) p
       (slice_set slots call.slot (Some f))
@@ -74,7 +74,7 @@ pub data Moves (config : Config) (q : Quiet) (slots : List (Option Factory))
   close_past : {slot : ℕ} → slot_count ≤ slot
       → Moves config q slots (command.Close slot) reply.NoSuchSlot q slots
   close_empty : {slot : ℕ} → FreeAt slots slot → Moves config q slots (command.Close slot) reply.SlotEmpty q slots
-  closed : {slot : ℕ} (f : Factory) {p : Quiet} → HoldsAt slots slot f → Closes q f.node f.description.hash p
+  closed : {slot : ℕ} (f : Registered) {p : Quiet} → HoldsAt slots slot f → Closes q f.node f.description.hash p
       → Moves config q slots (command.Close slot) (reply.Closed slot) p (slice_set slots slot None)
   listed : {entries : Vec Entry Global} → entries.items ≡ listing q
       → Moves config q slots command.List (reply.Listing entries) q slots
@@ -124,13 +124,13 @@ pub record AreMoved (old : SessionState) (q : Quiet) (commands : List Command) (
   pub configured : new.config ≡ old.config
 
 -- the machine's state after what a slot holds is closed, if it holds something
-abbrev pub LeavesPlace : Quiet → Option Factory → Quiet → Type 0
+abbrev pub LeavesPlace : Quiet → Option Registered → Quiet → Type 0
 LeavesPlace q None p = p ≡ q
 LeavesPlace q (Some f) p = Closes q f.node f.description.hash p
 
 -- A session's end: slot after slot its factories are closed, and the table shows what the machine
 -- has then.
-pub record IsFinished (q : Quiet) (slots : List (Option Factory)) (t : TableState) : Type 0 where
+pub record IsFinished (q : Quiet) (slots : List (Option Registered)) (t : TableState) : Type 0 where
   pub state : Quiet
   pub moves : Run LeavesPlace q slots state
   pub shows : Shows t.world state

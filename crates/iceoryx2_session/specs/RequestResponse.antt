@@ -6,7 +6,7 @@ use Rattle.iceoryx2_errors.specs.declared.error.request_response.RequestResponse
 use Rattle.iceoryx2_errors.specs.declared.error.request_response.RequestResponseOpenOrCreateError.{RequestResponseOpenOrCreateError}
 use Rattle.iceoryx2_attribute.specs.Requirements.{Requirements}
 use Rattle.iceoryx2_description.specs.Span.{zero_span}
-use Rattle.iceoryx2_request_response_builder.specs.Request.{RequestResponseRequest, Messages}
+use Rattle.iceoryx2_request_response_builder.specs.Request.{RequestResponseBuilderState, Messages}
 use Rattle.iceoryx2_request_response_builder.specs.Request.{letter_of_request_response, messages_for}
 use Rattle.iceoryx2_request_response_builder.specs.RequestResponse.{request_response_creating, request_response_opening}
 use Rattle.iceoryx2_request_response_builder.specs.RequestResponse.{prepared_adjusted, prepared_meaning}
@@ -17,11 +17,11 @@ use Rattle.iceoryx2_session.specs.BuilderCalls.{BuilderCall, hash_for}
 use Rattle.iceoryx2_session.specs.Markers.{payload_marker, user_header_marker}
 
 -- the request and the response of this builder, whose types are those that setters named
-abbrev pub named_messages : RequestResponseRequest → Messages
+abbrev pub named_messages : RequestResponseBuilderState → Messages
 named_messages b = messages_for payload_marker user_header_marker payload_marker user_header_marker b.types
 
 -- what the calls of this builder ask: a create defines the pairs, and an open requires pairs and keys
-abbrev pub request_response_call : RequestResponseRequest → Requirements → BuilderCall
+abbrev pub request_response_call : RequestResponseBuilderState → Requirements → BuilderCall
 request_response_call b attributes = record {
   fault = ServiceAvailabilityState;
   open_error = RequestResponseOpenError;

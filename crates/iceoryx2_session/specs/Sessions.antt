@@ -8,7 +8,7 @@ use Rattle.iceoryx2_world.specs.Listing.{Lists}
 use Rattle.iceoryx2_world.specs.Tables.{TableState, IsTableAccess}
 use Rattle.iceoryx2_access.specs.Run.{Run, Joins}
 use Rattle.iceoryx2_errors.specs.declared.error.CloseError.{CloseError}
-use Rattle.iceoryx2_access.specs.Factory.{Factory}
+use Rattle.iceoryx2_access.specs.Registered.{Registered}
 use Rattle.iceoryx2_create_and_open.specs.Creates.{IsCreateWord}
 use Rattle.iceoryx2_create_and_open.specs.Opens.{IsOpenWord}
 use Rattle.iceoryx2_create_and_open.specs.Prepared.{IsCreateCall, IsOpenCall}
@@ -32,52 +32,52 @@ use Rattle.iceoryx2_session.specs.Slots.{FreeAt, HoldsAt, TakenAt}
 pub record SessionState : Type 0 where
   pub config : Config
   pub table : TableState
-  pub slots : List (Option Factory)
+  pub slots : List (Option Registered)
 
 -- A builder call goes along a word of its grammar, with that answer. One that prepares its types first may also want
 -- memory without an access.
 abbrev pub Builds
-    : BuilderCall → How → TableState → Result Factory Refusal → TableState → Type 0
+    : BuilderCall → How → TableState → Result Registered Refusal → TableState → Type 0
 Builds b how.Create s answer t =
-    (a : Result Factory b.create_error) × (answer ≡ with_refusal b.refusal_of_create a)
+    (a : Result Registered b.create_error) × (answer ≡ with_refusal b.refusal_of_create a)
     × Joins IsTableAccess s (λ word. IfPrepares b.prepares
     (IsCreateCall b.creating b.node b.hash b.name b.now word a)
     (IsCreateWord b.creating b.node b.hash b.name b.now word a)) t
 Builds b how.Open s answer t =
-    (a : Result Factory b.open_error) × (answer ≡ with_refusal b.refusal_of_open a)
+    (a : Result Registered b.open_error) × (answer ≡ with_refusal b.refusal_of_open a)
     × Joins IsTableAccess s (λ word. IfPrepares b.prepares
     (IsOpenCall b.opening b.node b.hash word a)
     (IsOpenWord b.opening b.node b.hash word a)) t
 Builds b how.OpenOrCreate s answer t =
-    (a : Result Factory b.open_or_create_error) × (answer ≡ with_refusal b.refusal_of_open_or_create a)
+    (a : Result Registered b.open_or_create_error) × (answer ≡ with_refusal b.refusal_of_open_or_create a)
     × Joins IsTableAccess s (λ word. IfPrepares b.prepares
     (IsAttempted b.attempt word (map_err b.refusal_of_rounds a))
     (IsAttemptWord b.attempt word (map_err b.refusal_of_rounds a))) t
 
 -- A factory is closed along a word of close, whatever it answers.
-abbrev pub ClosesFactory : TableState → Factory → TableState → Type 0
+abbrev pub ClosesFactory : TableState → Registered → TableState → Type 0
 ClosesFactory s f t =
-    (answer : Result (Unit {0}) (CloseError Factory)) × Joins IsTableAccess s (λ word. IsCloseWord f word answer) t
+    (answer : Result (Unit {0}) (CloseError Registered)) × Joins IsTableAccess s (λ word. IsCloseWord f word answer) t
 
 -- what a slot holds is closed, if it holds something
-abbrev pub ClosesPlace : TableState → Option Factory → TableState → Type 0
+abbrev pub ClosesPlace : TableState → Option Registered → TableState → Type 0
 ClosesPlace s None t = t ≡ s
 ClosesPlace s (Some f) t = ClosesFactory s f t
 
-abbrev pub ClosesSlot : TableState → List (Option Factory) → ℕ → TableState → Type 0
-ClosesSlot s slots k t = (o : Option Factory) × (slice_get slots k ≡ Some o) × ClosesPlace s o t
+abbrev pub ClosesSlot : TableState → List (Option Registered) → ℕ → TableState → Type 0
+ClosesSlot s slots k t = (o : Option Registered) × (slice_get slots k ≡ Some o) × ClosesPlace s o t
 
 -- Slot after slot is closed, in ascending order.
-abbrev pub ClosesSlots : TableState → List (Option Factory) → TableState → Type 0
+abbrev pub ClosesSlots : TableState → List (Option Registered) → TableState → Type 0
 ClosesSlots s slots t = Run ClosesPlace s slots t
 
 -- what a slot holds is closed, and that is Ok
-abbrev pub IsClosedPlace : TableState → Option Factory → TableState → Type 0
+abbrev pub IsClosedPlace : TableState → Option Registered → TableState → Type 0
 IsClosedPlace s None t = t ≡ s
 IsClosedPlace s (Some f) t = Joins IsTableAccess s (λ word. IsCloseWord f word (Ok tt)) t
 
 -- Slot after slot is closed, in ascending order, and no factory comes back.
-abbrev pub AreClosed : TableState → List (Option Factory) → TableState → Type 0
+abbrev pub AreClosed : TableState → List (Option Registered) → TableState → Type 0
 AreClosed s slots t = Run IsClosedPlace s slots t
 
 -- A command leads from one state to another, with this reply. The slot is tested before any access,
@@ -85,7 +85,7 @@ AreClosed s slots t = Run IsClosedPlace s slots t
 pub data Goes (old : SessionState) : Command → Reply → SessionState → Type 0 where
   call_past : {call : Call} → slot_count ≤ call.slot → Goes old (command.Call call) reply.NoSuchSlot old
   call_taken : {call : Call} → TakenAt old.slots call.slot → Goes old (command.Call call) reply.SlotInUse old
-  called : {call : Call} (f : Factory) {t : TableState} → FreeAt old.slots call.slot
+  called : {call : Call} (f : Registered) {t : TableState} → FreeAt old.slots call.slot
       → Builds (builder_call old.config call) call.how old.table (Ok f) t
       → Goes old (command.Call call) (reply.Opened call.slot f.number)
       (record old { table = t; slots = slice_set old.slots call.slot (Some f) })
@@ -94,7 +94,7 @@ pub data Goes (old : SessionState) : Command → Reply → SessionState → Type
       → Goes old (command.Call call) (reply.Refused e) (record old { table = t })
   close_past : {slot : ℕ} → slot_count ≤ slot → Goes old (command.Close slot) reply.NoSuchSlot old
   close_empty : {slot : ℕ} → FreeAt old.slots slot → Goes old (command.Close slot) reply.SlotEmpty old
-  closed : {slot : ℕ} (f : Factory) {t : TableState} → HoldsAt old.slots slot f → ClosesFactory old.table f t
+  closed : {slot : ℕ} (f : Registered) {t : TableState} → HoldsAt old.slots slot f → ClosesFactory old.table f t
       → Goes old (command.Close slot) (reply.Closed slot)
       (record old { table = t; slots = slice_set old.slots slot None })
   listed : {entries : Vec Entry Global} → Lists old.table.world entries.items

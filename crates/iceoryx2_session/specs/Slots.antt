@@ -1,15 +1,15 @@
 -- What slots hold.
 use Rattle.std.specs.Prelude.{◌≡◌, ℕ, List, Option, Some, None, slice_get}
-use Rattle.iceoryx2_access.specs.Factory.{Factory}
+use Rattle.iceoryx2_access.specs.Registered.{Registered}
 
 -- the slot is there, and empty
-abbrev pub FreeAt : List (Option Factory) → ℕ → Type 0
+abbrev pub FreeAt : List (Option Registered) → ℕ → Type 0
 FreeAt slots k = slice_get slots k ≡ Some None
 
 -- the slot is there, and holds this factory
-abbrev pub HoldsAt : List (Option Factory) → ℕ → Factory → Type 0
+abbrev pub HoldsAt : List (Option Registered) → ℕ → Registered → Type 0
 HoldsAt slots k f = slice_get slots k ≡ Some (Some f)
 
 -- the slot is there, and holds a factory
-abbrev pub TakenAt : List (Option Factory) → ℕ → Type 0
-TakenAt slots k = (f : Factory) × HoldsAt slots k f
+abbrev pub TakenAt : List (Option Registered) → ℕ → Type 0
+TakenAt slots k = (f : Registered) × HoldsAt slots k f

@@ -9,18 +9,18 @@ ghost use Rattle.iceoryx2_session.specs.Setters.{with_settings as set_all};
 use crate::setters::{HasSetters, with_settings};
 use iceoryx2_attribute::attribute::{AttributeSpecifier, AttributeVerifier};
 use iceoryx2_builder::builder::event::Builder;
-use iceoryx2_commands::command::{EventSetting, How, Refusal};
+use iceoryx2_commands::command::{EventSetter, How, Refusal};
+use iceoryx2_description::time::{ClockFault, Time};
 use iceoryx2_port_factory::port_factory::Registration;
 use iceoryx2_table::local::Local;
 use iceoryx2_table::table::Table;
-use iceoryx2_description::time::{ClockFault, Time};
 
 impl HasSetters for Builder<Local> {
-    type Setting = EventSetting;
+    type Setting = EventSetter;
 
     ghost with_setting = { request.with_setting };
 
-    fn with_setting(self, setting: EventSetting) -> Builder<Local> {
+    fn with_setting(self, setting: EventSetter) -> Builder<Local> {
         self.with(setting)
     }
 }
@@ -28,7 +28,7 @@ impl HasSetters for Builder<Local> {
 /// The builder call, after each setter. A create defines the required pairs.
 pub fn call(
     builder: Builder<Local>,
-    settings: Vec<EventSetting>,
+    settings: Vec<EventSetter>,
     attributes: AttributeVerifier,
     how: How,
     now: Result<Time, ClockFault>,

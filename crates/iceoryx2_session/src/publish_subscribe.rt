@@ -9,7 +9,7 @@ ghost use Rattle.iceoryx2_session.specs.Setters.{with_settings as set_all};
 use crate::setters::{HasSetters, with_settings};
 use iceoryx2_attribute::attribute::{AttributeSpecifier, AttributeVerifier};
 use iceoryx2_builder::builder::publish_subscribe;
-use iceoryx2_commands::command::{How, PublishSubscribeSetting, Refusal};
+use iceoryx2_commands::command::{How, PublishSubscribeSetter, Refusal};
 use iceoryx2_port_factory::port_factory::Registration;
 use iceoryx2_table::local::Local;
 use iceoryx2_table::table::Table;
@@ -19,11 +19,11 @@ use iceoryx2_types::types::{CustomHeaderMarker, CustomPayloadMarker, Slice};
 type Builder = publish_subscribe::Builder<Slice<CustomPayloadMarker>, CustomHeaderMarker, Local>;
 
 impl HasSetters for Builder {
-    type Setting = PublishSubscribeSetting;
+    type Setting = PublishSubscribeSetter;
 
     ghost with_setting = { request.with_setting };
 
-    fn with_setting(self, setting: PublishSubscribeSetting) -> Builder {
+    fn with_setting(self, setting: PublishSubscribeSetter) -> Builder {
         self.with(setting)
     }
 }
@@ -32,7 +32,7 @@ impl HasSetters for Builder {
 /// goes as at the time zero.
 pub fn call(
     builder: Builder,
-    settings: Vec<PublishSubscribeSetting>,
+    settings: Vec<PublishSubscribeSetter>,
     attributes: AttributeVerifier,
     how: How,
     table: &mut Table,

@@ -9,7 +9,7 @@ ghost use Rattle.iceoryx2_session.specs.Setters.{with_settings as set_all};
 use crate::setters::{HasSetters, with_settings};
 use iceoryx2_attribute::attribute::{AttributeSpecifier, AttributeVerifier};
 use iceoryx2_builder::builder::request_response;
-use iceoryx2_commands::command::{How, Refusal, RequestResponseSetting};
+use iceoryx2_commands::command::{How, Refusal, RequestResponseSetter};
 use iceoryx2_port_factory::port_factory::Registration;
 use iceoryx2_table::local::Local;
 use iceoryx2_table::table::Table;
@@ -25,11 +25,11 @@ type Builder = request_response::Builder<
 >;
 
 impl HasSetters for Builder {
-    type Setting = RequestResponseSetting;
+    type Setting = RequestResponseSetter;
 
     ghost with_setting = { request.with_setting };
 
-    fn with_setting(self, setting: RequestResponseSetting) -> Builder {
+    fn with_setting(self, setting: RequestResponseSetter) -> Builder {
         self.with(setting)
     }
 }
@@ -38,7 +38,7 @@ impl HasSetters for Builder {
 /// goes as at the time zero.
 pub fn call(
     builder: Builder,
-    settings: Vec<RequestResponseSetting>,
+    settings: Vec<RequestResponseSetter>,
     attributes: AttributeVerifier,
     how: How,
     table: &mut Table,

@@ -9,11 +9,11 @@ use crate::slots::Slots;
 use crate::{closing, events, publish_subscribe, request_response};
 use iceoryx2_builder::builder::Node;
 use iceoryx2_commands::command::{Call, Command, Refusal, Reply, SLOTS, Settings};
+use iceoryx2_description::config::Config;
 use iceoryx2_port_factory::port_factory::Registration;
 use iceoryx2_table::local::Local;
 use iceoryx2_table::table::Table;
 use iceoryx2_types::types::{CustomHeaderMarker, CustomPayloadMarker, Slice};
-use iceoryx2_description::config::Config;
 use std::alloc::AllocError;
 
 /// A table, and 64 slots for the factories that commands open over it. It has to be spent by

@@ -13,10 +13,10 @@ pub struct Slots {
 
 impl Model for Slots {
     ghost use Rattle.std.specs.Prelude.{◌≡◌, List, length, Option};
-    ghost use Rattle.iceoryx2_access.specs.Factory.{Factory};
+    ghost use Rattle.iceoryx2_access.specs.Registered.{Registered};
     ghost use Rattle.iceoryx2_commands.specs.Commands.{slot_count};
 
-    ghost Value = { List (Option Factory) };
+    ghost Value = { List (Option Registered) };
 
     ghost view = { λ slots. slots.places };
 

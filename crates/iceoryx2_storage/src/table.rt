@@ -1,8 +1,8 @@
 //! A table within one process, its readers' answers, the steps of others that may wait at it, and services that
 //! stand in it.
 
-pub use iceoryx2_world::batches::{Act, Step};
 pub use iceoryx2_table::local::Local;
 pub use iceoryx2_table::table::Table;
+pub use iceoryx2_world::batches::{Act, Step};
 pub use iceoryx2_world::listing::{Entry, ListedRow, ListedSegment};
 pub use iceoryx2_world::world::Bytes;

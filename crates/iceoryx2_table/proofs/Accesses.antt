@@ -15,20 +15,20 @@ use Rattle.iceoryx2_access.specs.declared.storage.MakeSegmentError.TheVariants a
 use Rattle.iceoryx2_world.specs.Orders.{tag_cmp}
 use Rattle.iceoryx2_world.specs.World.{World, Segment, or_idle, Tickets}
 use Rattle.iceoryx2_world.specs.Acts as act
-use Rattle.iceoryx2_world.specs.Steps.{Spot, spot_after, to_spot, row_for}
+use Rattle.iceoryx2_world.specs.Steps.{ServiceView, view_after, to_view, row_for}
 use Rattle.iceoryx2_access.specs.Letter.{Letter, caller_of, service_of}
 use Rattle.iceoryx2_access.specs.declared.storage.OpenSegmentError.{OpenSegmentError}
-use Rattle.iceoryx2_world.specs.Access.{Seat, Change, nothing, spot_becomes_with, with_ticket, opening_of, read_change, publishing_of, has_made, has_lock, make_of, spot_becomes, or_refused, IsSeatAnswer, IsOwnPart, IsAnswer, IsSureAnswer, seat, write}
+use Rattle.iceoryx2_world.specs.Access.{NodeView, Change, nothing, view_becomes_with, with_ticket, opening_of, read_change, publishing_of, has_made, has_lock, make_of, view_becomes, or_refused, IsNodeAnswer, IsOwnPart, IsAnswer, IsSureAnswer, node_view, write}
 use Rattle.iceoryx2_table.proofs.Views.{both_true}
-use Rattle.iceoryx2_table.specs.Book.{Book, TakesStep, step_at, world_with, segment_fits}
+use Rattle.iceoryx2_table.specs.Book.{Book, StepsOrStays, step_at, world_with, segment_fits}
 
 -- what was shown of the fields, of the value
-pub part : {a w v : World} (l : Letter) (c : Change) → a ≡ w → IsSeatAnswer (caller_of l) (service_of l) (seat a (caller_of l) (service_of l)) l c → v ≡ write a (caller_of l) (service_of l) c → IsOwnPart w l v
+pub part : {a w v : World} (l : Letter) (c : Change) → a ≡ w → IsNodeAnswer (caller_of l) (service_of l) (node_view a (caller_of l) (service_of l)) l c → v ≡ write a (caller_of l) (service_of l) c → IsOwnPart w l v
 part {a} {w} {v} l c e own is = subst (λ (x : World). IsOwnPart x l v) e (record { change = c; own = own; is = is })
 
 -- what a node sees of a service
-abbrev pub spot_at : Book → ℕ → ServiceHash → Spot
-spot_at b i h = record { phase = or_idle (map.get b.phases (Node i, h)); row = map.get b.rows h; segment = map.get b.segments h; counter = b.counter }
+abbrev pub view_at : Book → ℕ → ServiceHash → ServiceView
+view_at b i h = record { phase = or_idle (map.get b.phases (Node i, h)); row = map.get b.rows h; segment = map.get b.segments h; counter = b.counter }
 
 module _ {A E : Type 0} where
   pub gives_refusal : (m e : E) (x : Result (A × Change) E) → x ≡ Err e → IsAnswer m x (Err e) nothing
@@ -51,24 +51,24 @@ pub record There {A : Type 0} (o : Option A) : Type 0 where
   pub is : o ≡ Some it
 
 -- who may not read what is published has read it before
-pub read_or_not : (i : ℕ) (h : ServiceHash) (b c : Book) (t : set.FinSet tag_cmp) (k : Tickets) (done : Bool) → TakesStep b (Node i) h act.Read done c → world_with c t k ≡ write (world_with b t k) i h (read_change (step_at b (Node i) h act.Read))
+pub read_or_not : (i : ℕ) (h : ServiceHash) (b c : Book) (t : set.FinSet tag_cmp) (k : Tickets) (done : Bool) → StepsOrStays b (Node i) h act.Read done c → world_with c t k ≡ write (world_with b t k) i h (read_change (step_at b (Node i) h act.Read))
 read_or_not i h b c t k true s = ap (λ x. world_with x t k) s.2 ∙ ap (λ o. write (world_with b t k) i h (read_change o)) (sym s.1)
 read_or_not i h b c t k false s = ap (λ x. world_with x t k) s.1 ∙ ap (λ o. write (world_with b t k) i h (read_change o)) (sym s.0)
 
 module _ (i : ℕ) (h : ServiceHash) (n : ℕ) (d : Description) (k : Tickets) (r : Option Row) (c : ℕ) where
   -- what a node publishes that made the segment, or why it doesn't
   abbrev pub publishes : Phase → Option Segment → Result (ℕ × Change) PublishError
-  publishes x s = if has_made n x then publishing_of i h n k (spot_after (Node i) h (act.Publish d) x r s c) else Err Publishing.Other
+  publishes x s = if has_made n x then publishing_of i h n k (view_after (Node i) h (act.Publish d) x r s c) else Err Publishing.Other
 
-  unfit : (m : ℕ) (s : Option Segment) → segment_fits h s d ≡ false → spot_after (Node i) h (act.Publish d) (at.Made m) r s c ≡ None
+  unfit : (m : ℕ) (s : Option Segment) → segment_fits h s d ≡ false → view_after (Node i) h (act.Publish d) (at.Made m) r s c ≡ None
   unfit m None e = refl
-  unfit m (Some s) e = ap (λ (b : Bool). if b then to_spot (at.Joined m 1) (Some (row_for m d)) (Some s) c else None) e
+  unfit m (Some s) e = ap (λ (b : Bool). if b then to_view (at.Joined m 1) (Some (row_for m d)) (Some s) c else None) e
 
-  fit : (m : ℕ) (s : Option Segment) → segment_fits h s d ≡ true → There (spot_after (Node i) h (act.Publish d) (at.Made m) r s c)
+  fit : (m : ℕ) (s : Option Segment) → segment_fits h s d ≡ true → There (view_after (Node i) h (act.Publish d) (at.Made m) r s c)
   fit m None e = absurd (cc)
-  fit m (Some s) e = record { it = _; is = ap (λ (b : Bool). if b then to_spot (at.Joined m 1) (Some (row_for m d)) (Some s) c else None) e }
+  fit m (Some s) e = record { it = _; is = ap (λ (b : Bool). if b then to_view (at.Joined m 1) (Some (row_for m d)) (Some s) c else None) e }
 
-  unmade : (b : Bool) (m : ℕ) (s : Option Segment) → (b && segment_fits h s d) ≡ false → (if b then publishing_of i h n k (spot_after (Node i) h (act.Publish d) (at.Made m) r s c) else Err Publishing.Other) ≡ Err Publishing.Other
+  unmade : (b : Bool) (m : ℕ) (s : Option Segment) → (b && segment_fits h s d) ≡ false → (if b then publishing_of i h n k (view_after (Node i) h (act.Publish d) (at.Made m) r s c) else Err Publishing.Other) ≡ Err Publishing.Other
   unmade true m s e = ap (publishing_of i h n k) (unfit m s e)
   unmade false m s e = refl
 
@@ -81,7 +81,7 @@ module _ (i : ℕ) (h : ServiceHash) (n : ℕ) (d : Description) (k : Tickets) (
   no_publish (at.Leaving m) s e = refl
   no_publish (at.Cleared m) s e = refl
 
-  pub may_publish : (x : Phase) (s : Option Segment) → (has_made n x && segment_fits h s d) ≡ true → (has_made n x ≡ true) × There (spot_after (Node i) h (act.Publish d) x r s c)
+  pub may_publish : (x : Phase) (s : Option Segment) → (has_made n x && segment_fits h s d) ≡ true → (has_made n x ≡ true) × There (view_after (Node i) h (act.Publish d) x r s c)
   may_publish at.Idle s e = absurd (cc)
   may_publish (at.Read m) s e = absurd (cc)
   may_publish (at.Locked m) s e = absurd (cc)
@@ -90,21 +90,21 @@ module _ (i : ℕ) (h : ServiceHash) (n : ℕ) (d : Description) (k : Tickets) (
   may_publish (at.Leaving m) s e = absurd (cc)
   may_publish (at.Cleared m) s e = absurd (cc)
 
-  pub publishes_by : (x : Phase) (s : Option Segment) (o : Option Spot) → has_made n x ≡ true → spot_after (Node i) h (act.Publish d) x r s c ≡ o → publishes x s ≡ publishing_of i h n k o
-  publishes_by x s o made e = ap (λ (b : Bool). if b then publishing_of i h n k (spot_after (Node i) h (act.Publish d) x r s c) else Err Publishing.Other) made ∙ ap (publishing_of i h n k) e
+  pub publishes_by : (x : Phase) (s : Option Segment) (o : Option ServiceView) → has_made n x ≡ true → view_after (Node i) h (act.Publish d) x r s c ≡ o → publishes x s ≡ publishing_of i h n k o
+  publishes_by x s o made e = ap (λ (b : Bool). if b then publishing_of i h n k (view_after (Node i) h (act.Publish d) x r s c) else Err Publishing.Other) made ∙ ap (publishing_of i h n k) e
 
 -- an opening that isn't refused
-pub opens_by : (i : ℕ) (h : ServiceHash) (n : ℕ) (s : Seat) (r : Option OpenSegmentError) (o : Option Spot) (x : Spot) → r ≡ None → o ≡ Some x
-    → opening_of i h n s r o ≡ Ok (s.spot.counter, spot_becomes_with (record x { counter = s.spot.counter + 1 }) (with_ticket i h s.tickets s.spot.counter n))
+pub opens_by : (i : ℕ) (h : ServiceHash) (n : ℕ) (s : NodeView) (r : Option OpenSegmentError) (o : Option ServiceView) (x : ServiceView) → r ≡ None → o ≡ Some x
+    → opening_of i h n s r o ≡ Ok (s.view.counter, view_becomes_with (record x { counter = s.view.counter + 1 }) (with_ticket i h s.tickets s.view.counter n))
 opens_by i h n s r o x e f = ap (λ (q : Option OpenSegmentError). opening_of i h n s q o) e ∙ ap (opening_of i h n s None) f
 
 -- who holds the lock is refused a segment only because there is one
-pub make_refused : (i : ℕ) (h : ServiceHash) (n m : ℕ) (x : Phase) (r : Option Row) (s : Option Segment) (c : ℕ) → (has_lock n x && nat_lt 0 m) ≡ true → spot_after (Node i) h (act.Make m) x r s c ≡ None
+pub make_refused : (i : ℕ) (h : ServiceHash) (n m : ℕ) (x : Phase) (r : Option Row) (s : Option Segment) (c : ℕ) → (has_lock n x && nat_lt 0 m) ≡ true → view_after (Node i) h (act.Make m) x r s c ≡ None
     → make_of i h m (record { phase = x; row = r; segment = s; counter = c }) s ≡ Err Making.AlreadyExists
 make_refused i h n m x r (Some s) c may e = refl
 make_refused i h n m (at.Locked k) r None c may e = absurd (allowed (nat_lt 0 m) _ (both_true _ _ may).1 e)
   where
-    allowed : (b : Bool) (y : Spot) → b ≡ true → (if b then Some y else None) ≡ None → ⊥
+    allowed : (b : Bool) (y : ServiceView) → b ≡ true → (if b then Some y else None) ≡ None → ⊥
     allowed true y is e = cc
     allowed false y is e = cc
 make_refused i h n m at.Idle r None c may e = absurd (cc)
@@ -115,8 +115,8 @@ make_refused i h n m (at.Leaving k) r None c may e = absurd (cc)
 make_refused i h n m (at.Cleared k) r None c may e = absurd (cc)
 
 -- a segment is made only where there is none
-pub make_done : (i : ℕ) (h : ServiceHash) (m : ℕ) (x : Phase) (r : Option Row) (s : Option Segment) (c : ℕ) (y : Spot) → spot_after (Node i) h (act.Make m) x r s c ≡ Some y
-    → make_of i h m (record { phase = x; row = r; segment = s; counter = c }) s ≡ Ok (tt, spot_becomes y)
+pub make_done : (i : ℕ) (h : ServiceHash) (m : ℕ) (x : Phase) (r : Option Row) (s : Option Segment) (c : ℕ) (y : ServiceView) → view_after (Node i) h (act.Make m) x r s c ≡ Some y
+    → make_of i h m (record { phase = x; row = r; segment = s; counter = c }) s ≡ Ok (tt, view_becomes y)
 make_done i h m x r None c y e = ap (or_refused Making.Other tt) e
 make_done i h m (at.Locked k) r (Some s) c y e = absurd (cc)
 make_done i h m at.Idle r (Some s) c y e = absurd (cc)

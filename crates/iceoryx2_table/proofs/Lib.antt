@@ -1,5 +1,5 @@
 pub mod Views
-pub mod Spots
+pub mod ServiceViews
 pub mod Merging
 pub mod Accesses
 pub mod PeerSteps

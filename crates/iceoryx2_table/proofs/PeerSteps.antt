@@ -11,10 +11,10 @@ use Rattle.iceoryx2_world.specs.Steps.{put}
 use Rattle.iceoryx2_world.specs.declared.batches.Step.{Step}
 use Rattle.iceoryx2_access.specs.Counts.{one_more}
 use Rattle.iceoryx2_world.specs.Batches.{act_of, IsPeerStep, forbidden, acts, starves, skipped_after}
-use Rattle.iceoryx2_table.specs.Book.{Book, TakesStep, MayTakeStep, world_with}
+use Rattle.iceoryx2_table.specs.Book.{Book, StepsOrStays, MayTakeStep, world_with}
 
 module _ (t : set.FinSet tag_cmp) (k : Tickets) (n : ℕ) (b c : Book) (x : Step) where
-  taken : (done : Bool) → (done ≡ true → IsAct (act_of x.act)) → TakesStep b (Peer x.peer) x.hash (act_of x.act) done c → IsPeerStep (world_with b t k, n) x (world_with c t k, n)
+  taken : (done : Bool) → (done ≡ true → IsAct (act_of x.act)) → StepsOrStays b (Peer x.peer) x.hash (act_of x.act) done c → IsPeerStep (world_with b t k, n) x (world_with c t k, n)
   taken true ok s = acts (ok refl) (ap (option_map (put (world_with b t k) (Peer x.peer) x.hash)) s.1 ∙ sym (ap (λ y. Some (world_with y t k)) s.2)) refl
   taken false ok s = forbidden (ap (option_map (put (world_with b t k) (Peer x.peer) x.hash)) s.0) (ap (λ y. (world_with y t k, n)) s.1)
 

@@ -19,7 +19,7 @@ use Rattle.iceoryx2_world.specs.Orders.{hash_cmp, place_cmp, tag_cmp}
 use Rattle.iceoryx2_world.specs.World.{World, Segment, set_to, or_idle, unless_idle, Tickets}
 use Rattle.iceoryx2_world.specs.Acts.{Act}
 use Rattle.iceoryx2_world.specs.Acts as act
-use Rattle.iceoryx2_world.specs.Steps.{Spot, spot_after, fits, has_room, has_others, with_one, without_one, without_any}
+use Rattle.iceoryx2_world.specs.Steps.{ServiceView, view_after, fits, has_room, has_others, with_one, without_one, without_any}
 use Rattle.iceoryx2_world.specs.Batches.{needs_room}
 use Rattle.iceoryx2_world.specs.Codes.{coded_hash, coded_row, coded_segment, coded_participant, coded_phase}
 use Rattle.iceoryx2_world.specs.Access.{release_answer}
@@ -55,12 +55,12 @@ published_number (Some (row.Published n b)) = Some n
 published_number _ = None
 
 -- what a step of p at h changes, where it is allowed
-abbrev pub step_at : Book → Participant → ServiceHash → Act → Option Spot
+abbrev pub step_at : Book → Participant → ServiceHash → Act → Option ServiceView
 step_at b p h a =
-    spot_after p h a (or_idle (map.get b.phases (p, h))) (map.get b.rows h) (map.get b.segments h) b.counter
+    view_after p h a (or_idle (map.get b.phases (p, h))) (map.get b.rows h) (map.get b.segments h) b.counter
 
-abbrev pub with_spot : Book → Participant → ServiceHash → Spot → Book
-with_spot b p h s = record {
+abbrev pub with_view : Book → Participant → ServiceHash → ServiceView → Book
+with_view b p h s = record {
   rows = set_to b.rows h s.row;
   segments = set_to b.segments h s.segment;
   phases = set_to b.phases (p, h) (unless_idle s.phase);
@@ -68,29 +68,29 @@ with_spot b p h s = record {
 }
 
 -- the step is allowed, and has its effect
-abbrev pub HasEffect : Book → Participant → ServiceHash → Act → Book → Type 0
-HasEffect b p h a c = (s : Spot) × (step_at b p h a ≡ Some s) × (c ≡ with_spot b p h s)
+abbrev pub StepsTo : Book → Participant → ServiceHash → Act → Book → Type 0
+StepsTo b p h a c = (s : ServiceView) × (step_at b p h a ≡ Some s) × (c ≡ with_view b p h s)
 
 -- a step without memory: it has its effect, or it is forbidden and nothing changes
-abbrev pub TakesStep : Book → Participant → ServiceHash → Act → Bool → Book → Type 0
-TakesStep b p h a true c = HasEffect b p h a c
-TakesStep b p h a false c = (step_at b p h a ≡ None) × (c ≡ b)
+abbrev pub StepsOrStays : Book → Participant → ServiceHash → Act → Bool → Book → Type 0
+StepsOrStays b p h a true c = StepsTo b p h a c
+StepsOrStays b p h a false c = (step_at b p h a ≡ None) × (c ≡ b)
 
 -- the step is allowed, and found no memory
 abbrev pub Starves : Book → Participant → ServiceHash → Act → Book → Type 0
 Starves b p h a c =
-    (s : Spot) × (step_at b p h a ≡ Some s)
+    (s : ServiceView) × (step_at b p h a ≡ Some s)
     × (needs_room a (or_idle (map.get b.phases (p, h))) ≡ true) × (c ≡ b)
 
 -- a step that can want memory
 abbrev pub MayTakeStep : Book → Participant → ServiceHash → Act → Result Bool AllocError → Book → Type 0
-MayTakeStep b p h a (Ok done) c = TakesStep b p h a done c
+MayTakeStep b p h a (Ok done) c = StepsOrStays b p h a done c
 MayTakeStep b p h a (Err e) c = Starves b p h a c
 
 -- a leave, with what it leaves
 abbrev pub TakesLeave : Book → Participant → ServiceHash → Option Released → Book → Type 0
 TakesLeave b p h (Some r) c =
-    (s : Spot) × (step_at b p h act.Leave ≡ Some s) × (r ≡ release_answer s.phase) × (c ≡ with_spot b p h s)
+    (s : ServiceView) × (step_at b p h act.Leave ≡ Some s) × (r ≡ release_answer s.phase) × (c ≡ with_view b p h s)
 TakesLeave b p h None c = (step_at b p h act.Leave ≡ None) × (c ≡ b)
 
 -- there is a segment that the description fits
@@ -113,18 +113,18 @@ Dismisses p s false t = (has_others s ≡ false) × (t ≡ without_any s)
 abbrev pub TakesSegment : Phase → Option Phase → Type 0
 TakesSegment x o =
     (p : Participant) (h : ServiceHash) (r : Option Row) (s : Option Segment) (c : ℕ)
-    → spot_after p h act.RemoveSegment x r s c
+    → view_after p h act.RemoveSegment x r s c
     ≡ option_map (λ y. record { phase = y; row = r; segment = None; counter = c }) o
 
 -- who takes the description away, where it may, holds nothing
 abbrev pub TakesDescription : Phase → Bool → Type 0
 TakesDescription x true =
     (p : Participant) (h : ServiceHash) (r : Option Row) (s : Option Segment) (c : ℕ)
-    → spot_after p h act.RemoveDescription x r s c
+    → view_after p h act.RemoveDescription x r s c
     ≡ Some (record { phase = at.Idle; row = None; segment = s; counter = c })
 TakesDescription x false =
     (p : Participant) (h : ServiceHash) (r : Option Row) (s : Option Segment) (c : ℕ)
-    → spot_after p h act.RemoveDescription x r s c ≡ None
+    → view_after p h act.RemoveDescription x r s c ≡ None
 
 -- the world_with of the services, the tags and the tickets
 abbrev pub world_with : Book → set.FinSet tag_cmp → Tickets → World

@@ -12,7 +12,7 @@ ghost use Rattle.iceoryx2_world.specs.Acts as act;
 ghost use Rattle.iceoryx2_world.specs.Steps.{last_number};
 ghost use Rattle.iceoryx2_world.specs.Access.{open_refusal};
 ghost use Rattle.iceoryx2_world.specs.Listing.{ListsAll};
-ghost use Rattle.iceoryx2_table.specs.Book.{TakesLeave, MayTakeStep, TakesDescription, TakesSegment, TakesStep};
+ghost use Rattle.iceoryx2_table.specs.Book.{TakesLeave, MayTakeStep, TakesDescription, TakesSegment, StepsOrStays};
 ghost use Rattle.iceoryx2_table.specs.Book.{position_in, published_number, segment_fits};
 
 use crate::merge::merge_entries;
@@ -293,7 +293,7 @@ impl Services {
 
     /// Takes the segment away. Takes no memory.
     pub fn remove_segment(&mut self, participant: Participant, hash: &ServiceHash) -> bool
-        ensures { TakesStep self.old participant hash.now act.RemoveSegment result self.new }
+        ensures { StepsOrStays self.old participant hash.now act.RemoveSegment result self.new }
     {
         let key = (participant, *hash);
         let position = position_of(&self.phases, &key);
@@ -307,7 +307,7 @@ impl Services {
 
     /// Takes the row away, whatever the segment. Takes no memory.
     pub fn remove_description(&mut self, participant: Participant, hash: &ServiceHash) -> bool
-        ensures { TakesStep self.old participant hash.now act.RemoveDescription result self.new }
+        ensures { StepsOrStays self.old participant hash.now act.RemoveDescription result self.new }
     {
         let key = (participant, *hash);
         let position = position_of(&self.phases, &key);

@@ -8,8 +8,8 @@ ghost use Rattle.iceoryx2_world.specs.Batches.{act_of};
 ghost use Rattle.iceoryx2_table.specs.Book.{MayTakeStep};
 
 use crate::services::Services;
-use iceoryx2_world::batches::Act;
 use iceoryx2_description::description::{ServiceHash, StaticConfig};
+use iceoryx2_world::batches::Act;
 use iceoryx2_world::world::{Participant, Row};
 use std::alloc::AllocError;
 

@@ -13,8 +13,8 @@ use iceoryx2_access::storage::{
     Existence, FetchError, LockError, MakeSegmentError, OpenSegmentError, PublishError, Release,
     ReleaseError, RemoveError, Storage, Tag, TagError,
 };
-pub use iceoryx2_world::batches::{Act, Step};
 use iceoryx2_description::description::{ServiceHash, StaticConfig};
+pub use iceoryx2_world::batches::{Act, Step};
 use iceoryx2_world::listing::Entry;
 use std::alloc::{AllocError, Global};
 use std::marker::Model;

@@ -31,7 +31,7 @@ pub const MIN_TYPE_NAME_LENGTH: usize = 1;
 pub const MAX_TYPE_NAME_LENGTH: usize = 256;
 
 /// The limits as numbers, since a wrong constant would go with the definitions that cite it.
-pub fn limits()
+pub fn limits_of_type_names()
     ensures min_name { MIN_TYPE_NAME_LENGTH ≡ 1 }
     ensures max_name { MAX_TYPE_NAME_LENGTH ≡ 256 }
 {}
@@ -77,7 +77,7 @@ impl Error for TypeDetailError {}
 /// compatible to that it is compatible to. The test for it decides it, and what is taken for an
 /// alignment is 2 to some power.
 #[tactic(auto, using(crate::proofs::Compatible::reflexive, crate::proofs::Compatible::transitive))]
-pub fn laws()
+pub fn laws_of_compatibility()
     ensures reflexive { (a : Message) → IsCompatible a a }
     ensures transitive { (a b c : Message) → IsCompatible a b → IsCompatible b c → IsCompatible a c }
     ensures decided { (a b : Message) → IsTrue (compatible a b) ↔ IsCompatible a b }

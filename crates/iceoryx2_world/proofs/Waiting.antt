@@ -5,7 +5,7 @@ use Rattle.iceoryx2_world.specs.Access.{IsOwnPart}
 use Rattle.iceoryx2_world.specs.Agreement.{Later}
 use Rattle.iceoryx2_world.specs.Across.{Agrees}
 use Rattle.iceoryx2_world.specs.Peers.{Peers, none, peer, IsAccess}
-use Rattle.iceoryx2_world.specs.Faulty.{IsFaulty}
+use Rattle.iceoryx2_world.specs.Fallible.{IsFallibleAccess}
 use Rattle.iceoryx2_world.proofs.agreement.Accesses.{peers_keep, access_keeps, with_refusals}
 use Rattle.iceoryx2_world.proofs.agreement.Accesses as kept
 use Rattle.iceoryx2_access.specs.Letter.{Letter}
@@ -31,7 +31,7 @@ table_access s t l a = record { between = a.between; peers = batch_peers a.batch
 pub table_run : {s t : TableState} {word : List Letter} → Run IsTableAccess s word t → Run IsAccess s.world word t.world
 table_run r = run_map (λ s. s.world) table_access r
 
-pub refusable_run : {s t : TableState} {word : List Letter} → Run (MayRefuse IsTableAccess) s word t → Run IsFaulty s.world word t.world
+pub refusable_run : {s t : TableState} {word : List Letter} → Run (MayRefuse IsTableAccess) s word t → Run IsFallibleAccess s.world word t.world
 refusable_run r = run_map (λ s. s.world) (refusable_map IsTableAccess IsAccess (λ s. s.world) table_access) r
 
 -- no step changes nothing

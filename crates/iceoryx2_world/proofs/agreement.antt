@@ -1,6 +1,6 @@
 pub mod Moved
 pub mod StepCases
-pub mod Keeps
+pub mod Preserved
 pub mod Step
 pub mod Whole
 pub mod Counts

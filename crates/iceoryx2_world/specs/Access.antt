@@ -17,7 +17,7 @@ use Rattle.iceoryx2_world.specs.Orders.{hash_cmp, tag_cmp}
 use Rattle.iceoryx2_world.specs.World.{World, Segment, Tickets, row_of, segment_of, phase_of, tag_of}
 use Rattle.iceoryx2_world.specs.Acts.{Act}
 use Rattle.iceoryx2_world.specs.Acts as act
-use Rattle.iceoryx2_world.specs.Steps.{Spot, spot_after, put, has_room, last_number}
+use Rattle.iceoryx2_world.specs.Steps.{ServiceView, view_after, put, has_room, last_number}
 use Rattle.iceoryx2_access.specs.declared.storage.Existence.{Existence}
 use Rattle.iceoryx2_access.specs.declared.storage.Existence.TheVariants.{No, Yes, BeingSetUp}
 use Rattle.iceoryx2_access.specs.declared.storage.FetchError.{FetchError}
@@ -44,27 +44,27 @@ use Rattle.iceoryx2_access.specs.Letter.{Letter, caller_of, service_of}
 use Rattle.iceoryx2_access.specs.Letter as letter
 
 -- What a node's access to a service reads.
-pub record Seat : Type 0 where
-  pub spot : Spot
+pub record NodeView : Type 0 where
+  pub view : ServiceView
   pub tag : Bool
   pub tickets : Tickets
 
 -- What it changes: what is none stays.
 pub record Change : Type 0 where
-  pub spot : Option Spot
+  pub view : Option ServiceView
   pub tag : Option Bool
   pub tickets : Option Tickets
 
-abbrev pub seat : World → ℕ → ServiceHash → Seat
-seat w i h = record {
-  spot = record { phase = phase_of w (Node i) h; row = row_of w h; segment = segment_of w h; counter = w.counter };
+abbrev pub node_view : World → ℕ → ServiceHash → NodeView
+node_view w i h = record {
+  view = record { phase = phase_of w (Node i) h; row = row_of w h; segment = segment_of w h; counter = w.counter };
   tag = tag_of w i h;
   tickets = w.tickets;
 }
 
-abbrev pub put_spot : World → ℕ → ServiceHash → Option Spot → World
-put_spot w i h None = w
-put_spot w i h (Some s) = put w (Node i) h s
+abbrev pub put_view : World → ℕ → ServiceHash → Option ServiceView → World
+put_view w i h None = w
+put_view w i h (Some s) = put w (Node i) h s
 
 abbrev pub set_tag : set.FinSet tag_cmp → ℕ × ServiceHash → Option Bool → set.FinSet tag_cmp
 set_tag t k None = t
@@ -73,30 +73,30 @@ set_tag t k (Some false) = set.remove t k
 
 -- the world with the change
 abbrev pub write : World → ℕ → ServiceHash → Change → World
-write w i h c = record (put_spot w i h c.spot) {
+write w i h c = record (put_view w i h c.view) {
   tags = set_tag w.tags (i, h) c.tag;
   tickets = unwrap_or c.tickets w.tickets;
 }
 
 -- the seat with the change
-abbrev pub seat_after : Seat → Change → Seat
-seat_after s c = record {
-  spot = unwrap_or c.spot s.spot;
+abbrev pub node_view_after : NodeView → Change → NodeView
+node_view_after s c = record {
+  view = unwrap_or c.view s.view;
   tag = unwrap_or c.tag s.tag;
   tickets = unwrap_or c.tickets s.tickets;
 }
 
 abbrev pub nothing : Change
-nothing = record { spot = None; tag = None; tickets = None }
+nothing = record { view = None; tag = None; tickets = None }
 
-abbrev pub spot_becomes : Spot → Change
-spot_becomes x = record { spot = Some x; tag = None; tickets = None }
+abbrev pub view_becomes : ServiceView → Change
+view_becomes x = record { view = Some x; tag = None; tickets = None }
 
 abbrev pub tag_becomes : Bool → Change
-tag_becomes b = record { spot = None; tag = Some b; tickets = None }
+tag_becomes b = record { view = None; tag = Some b; tickets = None }
 
-abbrev pub spot_becomes_with : Spot → Tickets → Change
-spot_becomes_with x k = record { spot = Some x; tag = None; tickets = Some k }
+abbrev pub view_becomes_with : ServiceView → Tickets → Change
+view_becomes_with x k = record { view = Some x; tag = None; tickets = Some k }
 
 -- An answer with its change, or want of memory in a success's place, which changes nothing.
 abbrev pub IsAnswer : {A E : Type 0} → E → Result (A × Change) E → Result A E → Change → Type 0
@@ -109,9 +109,9 @@ IsSureAnswer (Ok x) r c = (r ≡ Ok x.0) × (c ≡ x.1)
 IsSureAnswer (Err e) r c = (r ≡ Err e) × (c ≡ nothing)
 
 -- the step, or the refusal where it is forbidden
-abbrev pub or_refused : {A E : Type 0} → E → A → Option Spot → Result (A × Change) E
+abbrev pub or_refused : {A E : Type 0} → E → A → Option ServiceView → Result (A × Change) E
 or_refused e a None = Err e
-or_refused e a (Some x) = Ok (a, spot_becomes x)
+or_refused e a (Some x) = Ok (a, view_becomes x)
 
 abbrev pub existence : Option Row → Existence
 existence None = No
@@ -123,9 +123,9 @@ is_joined (at.Joined n k) = true
 is_joined _ = false
 
 -- who may not read what is published has read it before
-abbrev pub read_change : Option Spot → Change
+abbrev pub read_change : Option ServiceView → Change
 read_change None = nothing
-read_change (Some x) = spot_becomes x
+read_change (Some x) = view_becomes x
 
 abbrev pub has_lock : ℕ → Phase → Bool
 has_lock n (at.Locked m) = m == n
@@ -166,8 +166,8 @@ release_answer (at.Leaving n) = Leaving.Last
 release_answer _ = Leaving.Left
 
 module _ (i : ℕ) (h : ServiceHash) where
-  abbrev pub own_step : Act → Spot → Option Spot
-  own_step a x = spot_after (Node i) h a x.phase x.row x.segment x.counter
+  abbrev pub own_step : Act → ServiceView → Option ServiceView
+  own_step a x = view_after (Node i) h a x.phase x.row x.segment x.counter
 
   abbrev pub with_ticket : Tickets → ℕ → ℕ → Tickets
   with_ticket k t n = map.insert k t (record { node = i; hash = h; number = n })
@@ -177,7 +177,7 @@ module _ (i : ℕ) (h : ServiceHash) where
   is_ticket n None = false
   is_ticket n (Some t) = t.node == i && eq_by_cmp hash_cmp t.hash h && t.number == n
 
-  abbrev pub fetch_of : Spot → Option Row → Result ((ℕ × List ℕ) × Change) FetchError
+  abbrev pub fetch_of : ServiceView → Option Row → Result ((ℕ × List ℕ) × Change) FetchError
   fetch_of x None = Err Fetching.DoesNotExist
   fetch_of x (Some (row.Locked n)) = Err Fetching.NotFinalized
   fetch_of x (Some (row.Published n b)) = Ok ((n, b), read_change (own_step act.Read x))
@@ -187,72 +187,72 @@ module _ (i : ℕ) (h : ServiceHash) where
   MakesTag true r c = (r ≡ Ok Found) × (c ≡ nothing)
   MakesTag false r c = IsAnswer Tagging.OutOfMemory (Ok (Made, tag_becomes true)) r c
 
-  abbrev pub lock_of : Spot → Option Row → Result (ℕ × Change) LockError
+  abbrev pub lock_of : ServiceView → Option Row → Result (ℕ × Change) LockError
   lock_of x (Some (row.Locked n)) = Err Locking.Creation
   lock_of x (Some (row.Published n b)) = Err Locking.AlreadyExists
   lock_of x None = or_refused Locking.Other x.counter (own_step act.Lock x)
 
-  abbrev pub make_of : ℕ → Spot → Option Segment → Result (Unit {0} × Change) MakeSegmentError
+  abbrev pub make_of : ℕ → ServiceView → Option Segment → Result (Unit {0} × Change) MakeSegmentError
   make_of m x (Some s) = Err Making.AlreadyExists
   make_of m x None = or_refused Making.Other tt (own_step (act.Make m) x)
 
   -- the ticket is the number
-  abbrev pub publishing_of : ℕ → Tickets → Option Spot → Result (ℕ × Change) PublishError
+  abbrev pub publishing_of : ℕ → Tickets → Option ServiceView → Result (ℕ × Change) PublishError
   publishing_of n k None = Err Publishing.Other
-  publishing_of n k (Some x) = Ok (n, spot_becomes_with x (with_ticket k n n))
+  publishing_of n k (Some x) = Ok (n, view_becomes_with x (with_ticket k n n))
 
-  abbrev pub opening_of : ℕ → Seat → Option OpenSegmentError → Option Spot
+  abbrev pub opening_of : ℕ → NodeView → Option OpenSegmentError → Option ServiceView
       → Result (ℕ × Change) OpenSegmentError
   opening_of n s (Some e) x = Err e
   opening_of n s None None = Err Opening.Failed
   opening_of n s None (Some x) =
-      let ticket = s.spot.counter in
-      Ok (ticket, spot_becomes_with (record x { counter = ticket + 1 }) (with_ticket s.tickets ticket n))
+      let ticket = s.view.counter in
+      Ok (ticket, view_becomes_with (record x { counter = ticket + 1 }) (with_ticket s.tickets ticket n))
 
-  abbrev pub release_of : ℕ → Tickets → Option Spot → Result (Released × Change) ReleaseError
+  abbrev pub release_of : ℕ → Tickets → Option ServiceView → Result (Released × Change) ReleaseError
   release_of t k None = Err NoSuchTicket
-  release_of t k (Some x) = Ok (release_answer x.phase, spot_becomes_with x (map.remove k t))
+  release_of t k (Some x) = Ok (release_answer x.phase, view_becomes_with x (map.remove k t))
 
   -- what each access answers and changes: its own tests, and then the step
-  abbrev pub make_answer : Seat → ℕ → ℕ → Result (Unit {0} × Change) MakeSegmentError
+  abbrev pub make_answer : NodeView → ℕ → ℕ → Result (Unit {0} × Change) MakeSegmentError
   make_answer s n m =
-      if has_lock n s.spot.phase && nat_lt 0 m then make_of m s.spot s.spot.segment else Err Making.Other
+      if has_lock n s.view.phase && nat_lt 0 m then make_of m s.view s.view.segment else Err Making.Other
 
-  abbrev pub remove_answer : Seat → Act → Result (Unit {0} × Change) RemoveError
-  remove_answer s a = or_refused Removing.Other tt (own_step a s.spot)
+  abbrev pub remove_answer : NodeView → Act → Result (Unit {0} × Change) RemoveError
+  remove_answer s a = or_refused Removing.Other tt (own_step a s.view)
 
-  abbrev pub publish_answer : Seat → ℕ → Description → Result (ℕ × Change) PublishError
+  abbrev pub publish_answer : NodeView → ℕ → Description → Result (ℕ × Change) PublishError
   publish_answer s n d =
-      if has_made n s.spot.phase then publishing_of n s.tickets (own_step (act.Publish d) s.spot)
+      if has_made n s.view.phase then publishing_of n s.tickets (own_step (act.Publish d) s.view)
       else Err Publishing.Other
 
-  abbrev pub open_answer : Seat → ℕ → Result (ℕ × Change) OpenSegmentError
+  abbrev pub open_answer : NodeView → ℕ → Result (ℕ × Change) OpenSegmentError
   open_answer s n =
-      opening_of n s (open_refusal n s.spot.segment s.spot.counter s.spot.phase) (own_step act.Join s.spot)
+      opening_of n s (open_refusal n s.view.segment s.view.counter s.view.phase) (own_step act.Join s.view)
 
-  abbrev pub release_with : Seat → ℕ → ℕ → Result (Released × Change) ReleaseError
+  abbrev pub release_with : NodeView → ℕ → ℕ → Result (Released × Change) ReleaseError
   release_with s t n =
-      if is_ticket n (map.get s.tickets t) then release_of t s.tickets (own_step act.Leave s.spot)
+      if is_ticket n (map.get s.tickets t) then release_of t s.tickets (own_step act.Leave s.view)
       else Err NoSuchTicket
 
   -- The answer of a letter, and its change.
-  abbrev pub IsSeatAnswer : Seat → Letter → Change → Type 0
-  IsSeatAnswer s (letter.Exists g a) c = (a ≡ existence s.spot.row) × (c ≡ nothing)
-  IsSeatAnswer s (letter.Fetch j g a) c = IsAnswer Fetching.OutOfMemory (fetch_of s.spot s.spot.row) a c
-  IsSeatAnswer s (letter.Counts j g a) c = (a ≡ is_joined s.spot.phase) × (c ≡ nothing)
-  IsSeatAnswer s (letter.MakeTag j g a) c = MakesTag s.tag a c
-  IsSeatAnswer s (letter.RemoveTag j g a) c = (a ≡ Ok tt) × (c ≡ tag_becomes false)
-  IsSeatAnswer s (letter.Lock j g a) c = IsAnswer Locking.OutOfMemory (lock_of s.spot s.spot.row) a c
-  IsSeatAnswer s (letter.MakeSegment j g n m a) c = IsAnswer Making.OutOfMemory (make_answer s n m) a c
-  IsSeatAnswer s (letter.RemoveSegment j g a) c = IsSureAnswer (remove_answer s act.RemoveSegment) a c
-  IsSeatAnswer s (letter.RemoveDescription j g a) c = IsSureAnswer (remove_answer s act.RemoveDescription) a c
-  IsSeatAnswer s (letter.Publish j g n d a) c =
+  abbrev pub IsNodeAnswer : NodeView → Letter → Change → Type 0
+  IsNodeAnswer s (letter.Exists g a) c = (a ≡ existence s.view.row) × (c ≡ nothing)
+  IsNodeAnswer s (letter.Fetch j g a) c = IsAnswer Fetching.OutOfMemory (fetch_of s.view s.view.row) a c
+  IsNodeAnswer s (letter.Counts j g a) c = (a ≡ is_joined s.view.phase) × (c ≡ nothing)
+  IsNodeAnswer s (letter.MakeTag j g a) c = MakesTag s.tag a c
+  IsNodeAnswer s (letter.RemoveTag j g a) c = (a ≡ Ok tt) × (c ≡ tag_becomes false)
+  IsNodeAnswer s (letter.Lock j g a) c = IsAnswer Locking.OutOfMemory (lock_of s.view s.view.row) a c
+  IsNodeAnswer s (letter.MakeSegment j g n m a) c = IsAnswer Making.OutOfMemory (make_answer s n m) a c
+  IsNodeAnswer s (letter.RemoveSegment j g a) c = IsSureAnswer (remove_answer s act.RemoveSegment) a c
+  IsNodeAnswer s (letter.RemoveDescription j g a) c = IsSureAnswer (remove_answer s act.RemoveDescription) a c
+  IsNodeAnswer s (letter.Publish j g n d a) c =
       OnOk a (IsDescription d) × IsAnswer Publishing.OutOfMemory (publish_answer s n d) a c
-  IsSeatAnswer s (letter.OpenSegment j g n a) c = IsAnswer Opening.OutOfMemory (open_answer s n) a c
-  IsSeatAnswer s (letter.Release t j g n a) c = IsSureAnswer (release_with s t n) a c
+  IsNodeAnswer s (letter.OpenSegment j g n a) c = IsAnswer Opening.OutOfMemory (open_answer s n) a c
+  IsNodeAnswer s (letter.Release t j g n a) c = IsSureAnswer (release_with s t n) a c
 
 -- The node's own part of an access, in the world.
 pub record IsOwnPart (w : World) (l : Letter) (v : World) : Type 0 where
   pub change : Change
-  pub own : IsSeatAnswer (caller_of l) (service_of l) (seat w (caller_of l) (service_of l)) l change
+  pub own : IsNodeAnswer (caller_of l) (service_of l) (node_view w (caller_of l) (service_of l)) l change
   pub is : v ≡ write w (caller_of l) (service_of l) change

@@ -10,7 +10,7 @@ pub mod AccessCases
 pub mod Agreement
 pub mod Across
 pub mod Peers
-pub mod Faulty
+pub mod Fallible
 pub mod Standing
 pub mod Listing
 pub mod Calm

@@ -17,14 +17,14 @@ use Rattle.iceoryx2_byte_form.specs.Form as form
 use Rattle.iceoryx2_world.specs.Acts.{Act, Read, Lock, RemoveSegment, RemoveDescription, Make, Publish, Join, Leave}
 
 -- what a step of one participant at one hash reads and changes
-pub record Spot : Type 0 where
+pub record ServiceView : Type 0 where
   pub phase : Phase
   pub row : Option Row
   pub segment : Option Segment
   pub counter : ℕ
 
-abbrev pub to_spot : Phase → Option Row → Option Segment → ℕ → Option Spot
-to_spot x r s c = Some (record { phase = x; row = r; segment = s; counter = c })
+abbrev pub to_view : Phase → Option Row → Option Segment → ℕ → Option ServiceView
+to_view x r s c = Some (record { phase = x; row = r; segment = s; counter = c })
 
 abbrev pub alone : Participant → set.FinSet participant_cmp
 alone p = set.insert set.empty p
@@ -63,41 +63,41 @@ abbrev pub row_for : ℕ → Description → Row
 row_for n d = row.Published n (form.description d)
 
 -- who has joined once leaves: others stay in the segment, or it is marked
-abbrev pub leave_of : Participant → ℕ → Option Row → Option Segment → ℕ → Option Spot
+abbrev pub leave_of : Participant → ℕ → Option Row → Option Segment → ℕ → Option ServiceView
 leave_of p n r None c = None
 leave_of p n r (Some s) c =
-    if has_others s then to_spot at.Idle r (Some (without_one p s)) c
-    else to_spot (at.Leaving n) r (Some (without_any s)) c
+    if has_others s then to_view at.Idle r (Some (without_one p s)) c
+    else to_view (at.Leaving n) r (Some (without_any s)) c
 
 -- What a step of p at h changes, of its phase, the row, the segment and the counter there; none where it is forbidden.
-abbrev pub spot_after : Participant → ServiceHash → Act → Phase → Option Row → Option Segment → ℕ
-    → Option Spot
-spot_after p h Read at.Idle (Some (row.Published n b)) s c = to_spot (at.Read n) (Some (row.Published n b)) s c
-spot_after p h Read (at.Read m) (Some (row.Published n b)) s c = to_spot (at.Read n) (Some (row.Published n b)) s c
-spot_after p h Lock at.Idle None s c =
-    if nat_lt c last_number then to_spot (at.Locked c) (Some (row.Locked c)) s (c + 1) else None
-spot_after p h Lock (at.Read m) None s c =
-    if nat_lt c last_number then to_spot (at.Locked c) (Some (row.Locked c)) s (c + 1) else None
-spot_after p h RemoveSegment (at.Locked n) r s c = to_spot (at.Locked n) r None c
-spot_after p h (Make m) (at.Locked n) r None c =
-    if nat_lt 0 m then to_spot (at.Made n) r (Some (new_segment p n m)) c else None
-spot_after p h RemoveSegment (at.Made n) r s c = to_spot (at.Locked n) r None c
-spot_after p h RemoveDescription (at.Locked n) r s c = to_spot at.Idle None s c
-spot_after p h RemoveDescription (at.Made n) r s c = to_spot at.Idle None s c
-spot_after p h (Publish d) (at.Made n) r (Some s) c =
-    if fits h s d then to_spot (at.Joined n 1) (Some (row_for n d)) (Some s) c else None
-spot_after p h Join (at.Read n) r (Some s) c =
-    if has_room n s then to_spot (at.Joined n 1) r (Some (with_one p s)) c else None
-spot_after p h Join (at.Joined n k) r s c = if nat_lt k last_number then to_spot (at.Joined n (k + 1)) r s c else None
-spot_after p h Leave (at.Joined n k) r s c =
-    if nat_lt 1 k then to_spot (at.Joined n (k - 1)) r s c else if k == 1 then leave_of p n r s c else None
-spot_after p h RemoveSegment (at.Leaving n) r s c = to_spot (at.Cleared n) r None c
-spot_after p h RemoveDescription (at.Leaving n) r s c = to_spot at.Idle None s c
-spot_after p h RemoveDescription (at.Cleared n) r s c = to_spot at.Idle None s c
-spot_after p h _ _ _ _ _ = None
+abbrev pub view_after : Participant → ServiceHash → Act → Phase → Option Row → Option Segment → ℕ
+    → Option ServiceView
+view_after p h Read at.Idle (Some (row.Published n b)) s c = to_view (at.Read n) (Some (row.Published n b)) s c
+view_after p h Read (at.Read m) (Some (row.Published n b)) s c = to_view (at.Read n) (Some (row.Published n b)) s c
+view_after p h Lock at.Idle None s c =
+    if nat_lt c last_number then to_view (at.Locked c) (Some (row.Locked c)) s (c + 1) else None
+view_after p h Lock (at.Read m) None s c =
+    if nat_lt c last_number then to_view (at.Locked c) (Some (row.Locked c)) s (c + 1) else None
+view_after p h RemoveSegment (at.Locked n) r s c = to_view (at.Locked n) r None c
+view_after p h (Make m) (at.Locked n) r None c =
+    if nat_lt 0 m then to_view (at.Made n) r (Some (new_segment p n m)) c else None
+view_after p h RemoveSegment (at.Made n) r s c = to_view (at.Locked n) r None c
+view_after p h RemoveDescription (at.Locked n) r s c = to_view at.Idle None s c
+view_after p h RemoveDescription (at.Made n) r s c = to_view at.Idle None s c
+view_after p h (Publish d) (at.Made n) r (Some s) c =
+    if fits h s d then to_view (at.Joined n 1) (Some (row_for n d)) (Some s) c else None
+view_after p h Join (at.Read n) r (Some s) c =
+    if has_room n s then to_view (at.Joined n 1) r (Some (with_one p s)) c else None
+view_after p h Join (at.Joined n k) r s c = if nat_lt k last_number then to_view (at.Joined n (k + 1)) r s c else None
+view_after p h Leave (at.Joined n k) r s c =
+    if nat_lt 1 k then to_view (at.Joined n (k - 1)) r s c else if k == 1 then leave_of p n r s c else None
+view_after p h RemoveSegment (at.Leaving n) r s c = to_view (at.Cleared n) r None c
+view_after p h RemoveDescription (at.Leaving n) r s c = to_view at.Idle None s c
+view_after p h RemoveDescription (at.Cleared n) r s c = to_view at.Idle None s c
+view_after p h _ _ _ _ _ = None
 
 -- the world with this at the spot
-abbrev pub put : World → Participant → ServiceHash → Spot → World
+abbrev pub put : World → Participant → ServiceHash → ServiceView → World
 put w p h s = record w {
   rows = set_to w.rows h s.row;
   segments = set_to w.segments h s.segment;
@@ -108,4 +108,4 @@ put w p h s = record w {
 -- the world after a step; none where it is forbidden
 abbrev pub world_after : World → Participant → ServiceHash → Act → Option World
 world_after w p h act =
-    option_map (put w p h) (spot_after p h act (phase_of w p h) (row_of w h) (segment_of w h) w.counter)
+    option_map (put w p h) (view_after p h act (phase_of w p h) (row_of w h) (segment_of w h) w.counter)

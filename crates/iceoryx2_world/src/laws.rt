@@ -12,7 +12,7 @@ ghost use Rattle.iceoryx2_world.specs.declared.world.Ticket.{Ticket};
 ghost use Rattle.iceoryx2_world.specs.World.{World, Segment, phase_of, locked_number, empty_world, ticket_of};
 ghost use Rattle.iceoryx2_world.specs.World.{ticket_count, count_of};
 ghost use Rattle.iceoryx2_world.specs.Acts.{Act, IsAct};
-ghost use Rattle.iceoryx2_world.specs.Steps.{Spot, spot_after, world_after, last_number};
+ghost use Rattle.iceoryx2_world.specs.Steps.{ServiceView, view_after, world_after, last_number};
 ghost use Rattle.iceoryx2_world.specs.StepCases.{IsStep};
 ghost use Rattle.iceoryx2_world.specs.declared.world.Phase.{Phase};
 ghost use Rattle.iceoryx2_world.specs.declared.world.Row.{Row};
@@ -27,9 +27,9 @@ ghost use Rattle.iceoryx2_access.specs.Run.{Run, Each};
 ghost use Rattle.iceoryx2_world.specs.Agreement.{AgreesEverywhere, Later, IsSpent};
 ghost use Rattle.iceoryx2_world.specs.Across.{AgreesOnNumbers, Agrees};
 ghost use Rattle.iceoryx2_world.specs.Peers.{IsAccess, Peers};
-ghost use Rattle.iceoryx2_world.specs.Faulty.{IsFaulty};
+ghost use Rattle.iceoryx2_world.specs.Fallible.{IsFallibleAccess};
 ghost use Rattle.iceoryx2_world.specs.Calm.{SameServices, IsCalmLetter};
-ghost use Rattle.iceoryx2_access.specs.Factory.{Factory};
+ghost use Rattle.iceoryx2_access.specs.Registered.{Registered};
 ghost use Rattle.iceoryx2_world.specs.Standing.{ticket_for, Stands, Spares};
 ghost use Rattle.iceoryx2_access.specs.MayRefuse.{MayRefuse};
 ghost use Rattle.iceoryx2_world.specs.declared.batches.Step.{Step};
@@ -47,11 +47,11 @@ pub fn agreement_of_worlds()
 
     // A step is allowed, and comes to this, exactly where it is one of the fourteen.
     ensures allowed { (p : Participant) (h : ServiceHash) (act : Act)
-        (x : Phase) (r : Option Row) (s : Option Segment) (c : ℕ) (new : Spot)
-        → spot_after p h act x r s c ≡ Some new → IsStep p h act x r s c new }
+        (x : Phase) (r : Option Row) (s : Option Segment) (c : ℕ) (new : ServiceView)
+        → view_after p h act x r s c ≡ Some new → IsStep p h act x r s c new }
     ensures each_allowed { (p : Participant) (h : ServiceHash) (act : Act)
-        (x : Phase) (r : Option Row) (s : Option Segment) (c : ℕ) (new : Spot)
-        → IsStep p h act x r s c new → spot_after p h act x r s c ≡ Some new }
+        (x : Phase) (r : Option Row) (s : Option Segment) (c : ℕ) (new : ServiceView)
+        → IsStep p h act x r s c new → view_after p h act x r s c ≡ Some new }
 
     // A step of anyone keeps everything but the tickets of nodes, and gives a later world.
     ensures step { (w v : World) (p : Participant) (h : ServiceHash) (act : Act)
@@ -66,11 +66,11 @@ pub fn agreement_of_worlds()
     ensures access { (w v : World) (l : Letter) → IsAccess w l v → Agrees w → Agrees v × Later w v }
 
     // So does one that may be refused.
-    ensures refusable { (w v : World) (l : Letter) → IsFaulty w l v → Agrees w → Agrees v × Later w v }
+    ensures refusable { (w v : World) (l : Letter) → IsFallibleAccess w l v → Agrees w → Agrees v × Later w v }
 
     // And so does any run of these.
     ensures run { (w v : World) (word : List Letter)
-        → Run IsFaulty w word v → Agrees w → Agrees v × Later w v }
+        → Run IsFallibleAccess w word v → Agrees w → Agrees v × Later w v }
 
     // No node has more tickets for a service than the counter says.
     ensures few { (w : World) (i : ℕ) (h : ServiceHash) → Agrees w → ticket_count w.tickets i h ≤ w.counter }
@@ -80,39 +80,39 @@ pub fn agreement_of_worlds()
 
     // A number that is spent at a service never comes back there.
     ensures spent { (w v : World) (l : Letter) (h : ServiceHash) (n : ℕ)
-        → IsFaulty w l v → Agrees w → IsSpent w h n → IsSpent v h n }
+        → IsFallibleAccess w l v → Agrees w → IsSpent w h n → IsSpent v h n }
 
     // Each ticket is one of a factory that stands.
     ensures ticket { (w : World) (t : ℕ) (x : Ticket)
         → Agrees w → ticket_of w t ≡ Some x
-        → (f : Factory) × (f.ticket ≡ t) × (ticket_for f ≡ x) × Stands w f }
+        → (f : Registered) × (f.ticket ≡ t) × (ticket_for f ≡ x) × Stands w f }
 
     // A step of anyone but its node leaves a standing factory standing.
-    ensures other { (w v : World) (p : Participant) (h : ServiceHash) (act : Act) (f : Factory)
+    ensures other { (w v : World) (p : Participant) (h : ServiceHash) (act : Act) (f : Registered)
         → Node f.node ≢ p → IsAct act → world_after w p h act ≡ Some v
         → Agrees w → Stands w f → Stands v f }
 
     // So does every access of any node, but a release of its ticket that is granted.
-    ensures stands { (w v : World) (l : Letter) (f : Factory)
+    ensures stands { (w v : World) (l : Letter) (f : Registered)
         → IsAccess w l v → Spares f l → Agrees w → Stands w f → Stands v f }
 
     // The same along a run of accesses of which any may be refused.
-    ensures stands_along { (w v : World) (word : List Letter) (f : Factory)
-        → Run IsFaulty w word v → Each (Spares f) word → Agrees w → Stands w f → Stands v f }
+    ensures stands_along { (w v : World) (word : List Letter) (f : Registered)
+        → Run IsFallibleAccess w word v → Each (Spares f) word → Agrees w → Stands w f → Stands v f }
 
     // The table grants the release of a standing factory's ticket.
-    ensures released { (w v : World) (f : Factory) (e : ReleaseError)
+    ensures released { (w v : World) (f : Registered) (e : ReleaseError)
         → Agrees w → Stands w f
         → IsAccess w (Release f.ticket f.node f.description.hash f.number (Err e)) v → ⊥ }
 
     // A granted release takes the ticket out.
     ensures taken_out { (w v : World) (node number ticket : ℕ) (h : ServiceHash) (left : Released)
-        → IsFaulty w (Release ticket node h number (Ok left)) v → ticket_of v ticket ≡ None }
+        → IsFallibleAccess w (Release ticket node h number (Ok left)) v → ticket_of v ticket ≡ None }
 
     // Who locks a service and publishes a description under the lock's number has a factory that
     // stands with it. Its ticket is not below the counter at the beginning: no factory had it.
     ensures created { (w v : World) (node number ticket : ℕ) (h : ServiceHash) (d : Description) (word : List Letter)
-        → Run IsFaulty w (Lock node h (Ok number) ∷ (word ++ Publish node h number d (Ok ticket) ∷ [])) v
+        → Run IsFallibleAccess w (Lock node h (Ok number) ∷ (word ++ Publish node h number d (Ok ticket) ∷ [])) v
         → Agrees w
         → Stands v (record { node = node; number = number; ticket = ticket; description = d })
         × (d.hash ≡ h) × (w.counter ≤ ticket) }
@@ -121,7 +121,7 @@ pub fn agreement_of_worlds()
     // that very description, and a new ticket.
     ensures opened { (w v : World) (node number ticket : ℕ) (h : ServiceHash) (d : Description) (bytes : List ℕ)
         (word : List Letter)
-        → Run IsFaulty w
+        → Run IsFallibleAccess w
         (Fetch node h (Ok (number, bytes)) ∷ (word ++ OpenSegment node h number (Ok ticket) ∷ [])) v
         → IsForm d bytes → d.hash ≡ h → Agrees w
         → Stands v (record { node = node; number = number; ticket = ticket; description = d })
@@ -175,7 +175,7 @@ pub fn batches()
 
     // A run of which any access may be refused is such a run of the world.
     ensures refusable { (s t : TableState) (word : List Letter)
-        → Run (MayRefuse IsTableAccess) s word t → Run IsFaulty s.world word t.world }
+        → Run (MayRefuse IsTableAccess) s word t → Run IsFallibleAccess s.world word t.world }
 
     // Where nothing waits there are the nodes' own parts alone, nothing waits afterwards, and
     // nothing was skipped.

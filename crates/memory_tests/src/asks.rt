@@ -4,6 +4,8 @@ use crate::samples;
 use crate::trial::Wrong;
 use iceoryx2_attribute::attribute::{AttributeSpecifier, AttributeVerifier};
 use iceoryx2_builder::builder::{self, Node, event, publish_subscribe, request_response};
+use iceoryx2_description::config::Config;
+use iceoryx2_description::time::Time;
 use iceoryx2_errors::error::{
     EventCreateError, EventOpenError, EventOpenOrCreateError, PublishSubscribeCreateError,
     PublishSubscribeOpenError, PublishSubscribeOpenOrCreateError, RequestResponseCreateError,
@@ -13,8 +15,6 @@ use iceoryx2_script::script::{Faulty, FaultyService};
 use iceoryx2_table::local::Local;
 use iceoryx2_table::table::Table;
 use iceoryx2_types::types::ZeroCopySend;
-use iceoryx2_description::config::Config;
-use iceoryx2_description::time::Time;
 use std::alloc::Global;
 
 /// A table whose accesses are counted, of which chosen ones are refused.

@@ -9,12 +9,12 @@ use iceoryx2_access::storage::Storage;
 use iceoryx2_attribute::attribute::AttributeSet;
 use iceoryx2_builder::builder::event::Builder;
 use iceoryx2_commands::command::{How, Reply};
-use iceoryx2_script::script::Faulty;
-use iceoryx2_session::session::Session;
-use iceoryx2_table::table::{Act, Step, Table};
 use iceoryx2_description::config::Config;
 use iceoryx2_description::description::{MessagingPattern, ServiceHash, StaticConfig};
 use iceoryx2_description::event;
+use iceoryx2_script::script::Faulty;
+use iceoryx2_session::session::Session;
+use iceoryx2_table::table::{Act, Step, Table};
 use iceoryx2_world::listing::{Entry, ListedRow, ListedSegment};
 use std::alloc::Global;
 

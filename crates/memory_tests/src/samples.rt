@@ -3,11 +3,11 @@
 use crate::trial::Wrong;
 use iceoryx2_access::storage::{ServiceNameHasher, Sha1Hasher};
 use iceoryx2_attribute::attribute::{AttributeSet, AttributeSpecifier, AttributeVerifier};
+use iceoryx2_description::description::{MessagingPattern, ServiceHash, ServiceName, StaticConfig};
+use iceoryx2_description::{event, publish_subscribe, request_response};
 use iceoryx2_types::types::publish_subscribe::Header;
 use iceoryx2_types::types::request_response::{RequestHeader, ResponseHeader};
 use iceoryx2_types::types::{MessageTypeDetails, TypeDetail, TypeVariant, ZeroCopySend};
-use iceoryx2_description::description::{MessagingPattern, ServiceHash, ServiceName, StaticConfig};
-use iceoryx2_description::{event, publish_subscribe, request_response};
 use std::alloc::Global;
 
 /// The service that is called for.

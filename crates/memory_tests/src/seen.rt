@@ -2,8 +2,8 @@
 
 use crate::samples::{self, PATTERNS, prepared};
 use crate::trial::Wrong;
-use iceoryx2_table::table::Table;
 use iceoryx2_description::description::ServiceHash;
+use iceoryx2_table::table::Table;
 use iceoryx2_world::listing::Entry;
 use std::alloc::Global;
 

@@ -6,12 +6,12 @@ use crate::samples::{self, NAME, OTHERS, Pattern, prepared};
 use crate::seen::{Seen, drop_table, is_as_before, look};
 use crate::trial::{Mode, Tally, Trial, Wrong, each_request, refuse_all, without_memory};
 use iceoryx2_commands::command::{
-    Call, Command, How, PublishSubscribeSetting, Refusal, Reply, RequestResponseSetting, Settings,
+    Call, Command, How, PublishSubscribeSetter, Refusal, Reply, RequestResponseSetter, Settings,
 };
-use iceoryx2_session::session::Session;
-use iceoryx2_table::table::Table;
 use iceoryx2_description::config::Config;
 use iceoryx2_description::time::Time;
+use iceoryx2_session::session::Session;
+use iceoryx2_table::table::Table;
 use std::alloc::Global;
 
 /// A vector of one thing.
@@ -26,11 +26,11 @@ fn settings(alloc: Global, pattern: Pattern) -> Result<Settings, Wrong> {
     Ok(match pattern {
         Pattern::Event => Settings::Event(Vec::new(alloc)),
         Pattern::PublishSubscribe => {
-            let setting = PublishSubscribeSetting::PayloadType(samples::detail(alloc)?);
+            let setting = PublishSubscribeSetter::PayloadType(samples::detail(alloc)?);
             Settings::PublishSubscribe(only(alloc, setting)?)
         }
         Pattern::RequestResponse => {
-            let setting = RequestResponseSetting::ResponsePayloadType(samples::detail(alloc)?);
+            let setting = RequestResponseSetter::ResponsePayloadType(samples::detail(alloc)?);
             Settings::RequestResponse(only(alloc, setting)?)
         }
     })

@@ -5,7 +5,11 @@ use crate::samples::{self, NAME, Pattern, prepared};
 use crate::seen::drop_table;
 use crate::trial::{Tally, Wrong, refuse_all, without_memory};
 use iceoryx2_builder::builder::{Node, event};
-use iceoryx2_commands::command::{EventSetting, RequestResponseSetting};
+use iceoryx2_commands::command::{EventSetter, RequestResponseSetter};
+use iceoryx2_description::config::Config;
+use iceoryx2_description::description::ServiceHash;
+use iceoryx2_description::event::EventId;
+use iceoryx2_description::time::{Duration, Time};
 use iceoryx2_errors::error::{CloseError, EventOpenError, EventOpenOrCreateError};
 use iceoryx2_port_factory::port_factory::event::PortFactory;
 use iceoryx2_script::script::Faulty;
@@ -13,10 +17,6 @@ use iceoryx2_table::local::Local;
 use iceoryx2_table::table::Table;
 use iceoryx2_types::types::publish_subscribe::Header;
 use iceoryx2_types::types::{Alignment, CustomHeaderMarker, CustomPayloadMarker, Slice};
-use iceoryx2_description::config::Config;
-use iceoryx2_description::description::ServiceHash;
-use iceoryx2_description::event::EventId;
-use iceoryx2_description::time::{Duration, Time};
 use std::alloc::Global;
 
 /// Lets a builder go.
@@ -40,7 +40,7 @@ fn set_events(alloc: Global) -> Result<Tally, Wrong> {
         .disable_notifier_dropped_event()
         .notifier_dead_event(EventId::new(2))
         .disable_deadline()
-        .with(EventSetting::Deadline(Duration::new(1, 0)));
+        .with(EventSetter::Deadline(Duration::new(1, 0)));
     let came = without_memory(alloc, true);
     drop_builder(builder);
     came
@@ -98,7 +98,7 @@ fn set_requests(alloc: Global) -> Result<Tally, Wrong> {
         .request_user_header::<CustomHeaderMarker>()
         .response_user_header::<CustomHeaderMarker>()
         .internal_set_request_payload_type_details(payload)
-        .with(RequestResponseSetting::ResponseHeaderType(user_header));
+        .with(RequestResponseSetter::ResponseHeaderType(user_header));
     let came = without_memory(alloc, true);
     drop_builder(builder);
     came

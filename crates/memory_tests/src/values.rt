@@ -5,14 +5,14 @@ use crate::trial::{Came, Making, Mode, Tally, Wrong, each_request_of};
 use iceoryx2_attribute::attribute::{AttributeError, AttributeSpecifier, AttributeVerifier};
 use iceoryx2_builder::builder::{self, Node};
 use iceoryx2_byte_form::bytes::{self, DecodeError};
+use iceoryx2_description::config::Config;
+use iceoryx2_description::description::{ServiceHash, ServiceName, ServiceNameError, StaticConfig};
 use iceoryx2_table::local::Local;
 use iceoryx2_types::types::publish_subscribe::Header;
 use iceoryx2_types::types::{
     CustomHeaderMarker, CustomPayloadMarker, MessageTypeDetails, Slice, TypeDetail,
     TypeDetailError, TypeVariant,
 };
-use iceoryx2_description::config::Config;
-use iceoryx2_description::description::{ServiceHash, ServiceName, ServiceNameError, StaticConfig};
 use std::alloc::{AllocError, Global};
 
 /// What an addition came to.

@@ -1,8 +1,8 @@
--- What stands around the first such byte of a word.
+-- What stands around the first such byte of a term.
 use Rattle.std.proofs.Common.{◌≡◌, ◌≢◌, ℕ, ◌+◌, ◌<◌, List, [], ◌∷◌, ◌++◌, Option, Some, None, length, slice_index, refl, sym, ap, ◌∙◌, Bor, arith}
 use Rattle.std.specs.Prelude.{MatchOption}
 use Rattle.std.proofs.lemmas.Str.Pattern.{IsSplitOnceResult, split_parts, split_after}
-use Rattle.negotiate_lines.specs.Words.{AreAround}
+use Rattle.negotiate_lines.specs.Terms.{AreAround}
 
 pub found_around : (c : ℕ) (bs : List ℕ) (r : Option (Bor (List ℕ) × Bor (List ℕ))) → c < 128 → IsSplitOnceResult c bs r
     → MatchOption r ((front back : List ℕ) → AreAround c bs front back → ⊥) (λ parts. AreAround c bs parts.0.now parts.1.now)

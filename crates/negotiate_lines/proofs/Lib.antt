@@ -5,5 +5,5 @@ pub mod Numbers
 pub mod OneInstruction
 pub mod OneType
 pub mod OneValue
-pub mod WordsOf
+pub mod TermsOf
 pub mod Saying

@@ -1,11 +1,11 @@
--- The numbers that words write.
+-- The numbers that terms write.
 use Rattle.std.proofs.Common.{◌≡◌, ℕ, ◌<◌, ◌≤◌, ◌^◌, true, false, List, [], ◌∷◌, subst, arith}
 use Rattle.std.specs.Prelude.{Result, Ok, Err, slice_index, nat_eq}
 use Rattle.std.specs.Char.{digit_value}
 use Rattle.std.specs.Result.{result_ok}
 use Rattle.std.specs.Str.Parse.{ParsesUnsigned, without_leading_plus}
 use Rattle.std.proofs.lemmas.Bool.{eqb-true}
-use Rattle.negotiate_lines.specs.Words.{IsNumber, IsNumberOf}
+use Rattle.negotiate_lines.specs.Terms.{IsNumber, IsNumberOf}
 
 -- without a plus in front nothing is dropped
 no_plus : (bs : List ℕ) → nat_eq (slice_index bs 0) 43 ≡ false → without_leading_plus bs ≡ bs
@@ -29,11 +29,11 @@ plus_is_no_number [] n limit h is = absurd cc
 plus_is_no_number (b ∷ bs) n limit h is = plus_is_no_digit (subst (λ (c : ℕ). digit_value c < 10) (eqb-true _ _ h) is.numeral.1.0)
 
 -- a number below a lower limit
-pub smaller_number : (limit other : ℕ) (word : List ℕ) (n : ℕ) → IsNumber limit word n → n < other → IsNumber other word n
-smaller_number limit other word n is fits = record { numeral = is.numeral; value = is.value; fits = fits }
+pub smaller_number : (limit other : ℕ) (term : List ℕ) (n : ℕ) → IsNumber limit term n → n < other → IsNumber other term n
+smaller_number limit other term n is fits = record { numeral = is.numeral; value = is.value; fits = fits }
 
-pub too_great : (limit other : ℕ) (word : List ℕ) (n : ℕ) → IsNumber limit word n → other ≤ n → (m : ℕ) → IsNumber other word m → ⊥
-too_great limit other word n is past m small = absurd (omega (arith, is.value, small.value, small.fits))
+pub too_great : (limit other : ℕ) (term : List ℕ) (n : ℕ) → IsNumber limit term n → other ≤ n → (m : ℕ) → IsNumber other term m → ⊥
+too_great limit other term n is past m small = absurd (omega (arith, is.value, small.value, small.fits))
 
 pub ruleset numbers = (parsed_number, plus_is_no_number)
 

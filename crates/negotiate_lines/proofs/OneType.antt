@@ -3,18 +3,18 @@ use Rattle.std.proofs.Common.{◌≡◌, ℕ, List, bytes_eq, codes, refl, sym, 
 use Rattle.iceoryx2_types.specs.declared.types.TypeVariant.{TypeVariant}
 use Rattle.iceoryx2_types.specs.declared.types.TypeVariant.TheVariants.{FixedSize, Dynamic}
 use Rattle.iceoryx2_types.specs.Types.{Detail, HasNameLength, IsAlignment}
-use Rattle.negotiate_lines.specs.Words.{AreAround}
-use Rattle.negotiate_lines.specs.Values.{IsNatural, IsAlignmentWord, IsVariantWord, AreParts, IsDetailWord}
+use Rattle.negotiate_lines.specs.Terms.{AreAround}
+use Rattle.negotiate_lines.specs.Values.{IsNatural, IsAlignmentTerm, IsVariantTerm, AreParts, IsDetailTerm}
 use Rattle.negotiate_lines.proofs.Around.{one_cut}
 use Rattle.negotiate_lines.proofs.OneValue.{one_natural, false-true}
 
-pub one_alignment : (value : List ℕ) (n m : ℕ) → IsAlignmentWord value n → IsAlignmentWord value m → n ≡ m
+pub one_alignment : (value : List ℕ) (n m : ℕ) → IsAlignmentTerm value n → IsAlignmentTerm value m → n ≡ m
 one_alignment value n m left right = one_natural value n m left.0 right.0
 
 fixed_dynamic : codes "fixed" ≡ codes "dynamic" → ⊥
 fixed_dynamic e = false-true (ap (λ (w : List ℕ). bytes_eq w (codes "dynamic")) e)
 
-one_variant : (value : List ℕ) (a b : TypeVariant) → IsVariantWord value a → IsVariantWord value b → a ≡ b
+one_variant : (value : List ℕ) (a b : TypeVariant) → IsVariantTerm value a → IsVariantTerm value b → a ≡ b
 one_variant value FixedSize FixedSize left right = refl
 one_variant value FixedSize Dynamic left right = absurd (fixed_dynamic (sym left ∙ right))
 one_variant value Dynamic FixedSize left right = absurd (fixed_dynamic (sym right ∙ left))
@@ -34,39 +34,39 @@ one_parting value a b c d e f g h left right =
     let inner = one_cut 44 right.behind_second c g d h (subst (λ (t : List ℕ). AreAround 44 t c d) between.back left.around_third) right.around_third in
     record { first = outer.front; second = between.front; third = inner.front; fourth = inner.back }
 
-pub one_detail : (value : List ℕ) (a b : Detail) → IsDetailWord value a → IsDetailWord value b → a ≡ b
+pub one_detail : (value : List ℕ) (a b : Detail) → IsDetailTerm value a → IsDetailTerm value b → a ≡ b
 one_detail value a b left right =
     let same = one_parting value left.variant a.name left.size left.alignment right.variant b.name right.size right.alignment left.parts right.parts in
-    let variant = one_variant right.variant a.variant b.variant (subst (λ (t : List ℕ). IsVariantWord t a.variant) same.first left.variant_is) right.variant_is in
+    let variant = one_variant right.variant a.variant b.variant (subst (λ (t : List ℕ). IsVariantTerm t a.variant) same.first left.variant_is) right.variant_is in
     let size = one_natural right.size a.size b.size (subst (λ (t : List ℕ). IsNatural t a.size) same.third left.size_is) right.size_is in
-    let alignment = one_alignment right.alignment a.alignment b.alignment (subst (λ (t : List ℕ). IsAlignmentWord t a.alignment) same.fourth left.alignment_is) right.alignment_is in
+    let alignment = one_alignment right.alignment a.alignment b.alignment (subst (λ (t : List ℕ). IsAlignmentTerm t a.alignment) same.fourth left.alignment_is) right.alignment_is in
     λ i. record { variant = variant i; name = same.second i; size = size i; alignment = alignment i }
 
 -- ---- values that tell of no type
 
 -- what tells of a type is around its first three commas
 module _ (value variant name size alignment : List ℕ) (parts : AreParts value variant name size alignment) where
-  same_parts : (d : Detail) (is : IsDetailWord value d) → SameParts variant name size alignment is.variant d.name is.size is.alignment
+  same_parts : (d : Detail) (is : IsDetailTerm value d) → SameParts variant name size alignment is.variant d.name is.size is.alignment
   same_parts d is = one_parting value variant name size alignment is.variant d.name is.size is.alignment parts is.parts
 
-  pub no_variant : ((v : TypeVariant) → IsVariantWord variant v → ⊥) → (d : Detail) → IsDetailWord value d → ⊥
-  no_variant none d is = none d.variant (subst (λ (t : List ℕ). IsVariantWord t d.variant) (sym (same_parts d is).first) is.variant_is)
+  pub no_variant : ((v : TypeVariant) → IsVariantTerm variant v → ⊥) → (d : Detail) → IsDetailTerm value d → ⊥
+  no_variant none d is = none d.variant (subst (λ (t : List ℕ). IsVariantTerm t d.variant) (sym (same_parts d is).first) is.variant_is)
 
-  pub no_size : ((n : ℕ) → IsNatural size n → ⊥) → (d : Detail) → IsDetailWord value d → ⊥
+  pub no_size : ((n : ℕ) → IsNatural size n → ⊥) → (d : Detail) → IsDetailTerm value d → ⊥
   no_size none d is = none d.size (subst (λ (t : List ℕ). IsNatural t d.size) (sym (same_parts d is).third) is.size_is)
 
-  pub no_alignment : ((n : ℕ) → IsNatural alignment n → ⊥) → (d : Detail) → IsDetailWord value d → ⊥
+  pub no_alignment : ((n : ℕ) → IsNatural alignment n → ⊥) → (d : Detail) → IsDetailTerm value d → ⊥
   no_alignment none d is = none d.alignment (subst (λ (t : List ℕ). IsNatural t d.alignment) (sym (same_parts d is).fourth) is.alignment_is.0)
 
-  pub no_name : (HasNameLength name → ⊥) → (d : Detail) → IsDetailWord value d → ⊥
+  pub no_name : (HasNameLength name → ⊥) → (d : Detail) → IsDetailTerm value d → ⊥
   no_name out d is = out (subst (λ (t : List ℕ). HasNameLength t) (sym (same_parts d is).second) is.name_is)
 
-  pub not_aligned : (n : ℕ) → IsNatural alignment n → (IsAlignment n → ⊥) → (d : Detail) → IsDetailWord value d → ⊥
+  pub not_aligned : (n : ℕ) → IsNatural alignment n → (IsAlignment n → ⊥) → (d : Detail) → IsDetailTerm value d → ⊥
   not_aligned n number out d is =
       let same = one_natural alignment n d.alignment number (subst (λ (t : List ℕ). IsNatural t d.alignment) (sym (same_parts d is).fourth) is.alignment_is.0) in
       out (subst (λ (m : ℕ). IsAlignment m) (sym same) is.alignment_is.1)
 
-pub no_parts : (value : List ℕ) → ((first second third fourth : List ℕ) → AreParts value first second third fourth → ⊥) → (d : Detail) → IsDetailWord value d → ⊥
+pub no_parts : (value : List ℕ) → ((first second third fourth : List ℕ) → AreParts value first second third fourth → ⊥) → (d : Detail) → IsDetailTerm value d → ⊥
 no_parts value none d is = none is.variant d.name is.size is.alignment is.parts
 
 -- ---- values that have no such parts

@@ -4,18 +4,18 @@ use Rattle.std.specs.Char.{digit_value}
 use Rattle.std.specs.Str.Parse.{digits_value}
 use Rattle.iceoryx2_description.specs.declared.time.ClockFault.{ClockFault}
 use Rattle.iceoryx2_description.specs.Span.{Span}
-use Rattle.negotiate_lines.specs.Words.{AreAround, IsNumber}
-use Rattle.negotiate_lines.specs.Values.{IsNatural, IsSpanWord, IsNoneOr, IsClockWord, IsTruthWord}
+use Rattle.negotiate_lines.specs.Terms.{AreAround, IsNumber}
+use Rattle.negotiate_lines.specs.Values.{IsNatural, IsSpanTerm, IsNoneOr, IsClockTerm, IsTruthTerm}
 use Rattle.negotiate_lines.specs.Vocabulary.{Sets}
 use Rattle.negotiate_lines.proofs.Around.{one_cut}
 
 -- ---- seconds and nanoseconds
 
-pub no_seconds : (value s n : List ℕ) → AreAround 44 value s n → ((k : ℕ) → IsNatural s k → ⊥) → (span : Span) → IsSpanWord value span → ⊥
+pub no_seconds : (value s n : List ℕ) → AreAround 44 value s n → ((k : ℕ) → IsNatural s k → ⊥) → (span : Span) → IsSpanTerm value span → ⊥
 no_seconds value s n cut none span is =
     none span.seconds (subst (λ (t : List ℕ). IsNatural t span.seconds) (one_cut 44 value is.seconds s is.nanoseconds n is.around cut).front is.seconds_are)
 
-pub no_nanoseconds : (value s n : List ℕ) → AreAround 44 value s n → ((k : ℕ) → IsNumber 1000000000 n k → ⊥) → (span : Span) → IsSpanWord value span → ⊥
+pub no_nanoseconds : (value s n : List ℕ) → AreAround 44 value s n → ((k : ℕ) → IsNumber 1000000000 n k → ⊥) → (span : Span) → IsSpanTerm value span → ⊥
 no_nanoseconds value s n cut none span is =
     none span.nanoseconds (subst (λ (t : List ℕ). IsNumber 1000000000 t span.nanoseconds) (one_cut 44 value is.seconds s is.nanoseconds n is.around cut).back is.nanoseconds_are)
 
@@ -31,7 +31,7 @@ false-true h = absurd cc
 pub one_natural : (value : List ℕ) (n m : ℕ) → IsNatural value n → IsNatural value m → n ≡ m
 one_natural value n m left right = left.value ∙ sym right.value
 
-pub one_span : (value : List ℕ) (s t : Span) → IsSpanWord value s → IsSpanWord value t → s ≡ t
+pub one_span : (value : List ℕ) (s t : Span) → IsSpanTerm value s → IsSpanTerm value t → s ≡ t
 one_span value s t left right =
     let both = one_cut 44 value left.seconds right.seconds left.nanoseconds right.nanoseconds left.around right.around in
     let seconds : s.seconds ≡ t.seconds = left.seconds_are.value ∙ ap (λ (w : List ℕ). digits_value 10 w) both.front ∙ sym right.seconds_are.value in
@@ -47,14 +47,14 @@ unfolding has_comma
 comma_between [] back = or_true (has_comma back)
 comma_between (b ∷ front) back = rw (comma_between front back) refl
 
-comma_of_span : (value : List ℕ) (s : Span) → IsSpanWord value s → has_comma value ≡ true
+comma_of_span : (value : List ℕ) (s : Span) → IsSpanTerm value s → has_comma value ≡ true
 comma_of_span value s is = ap has_comma is.around.are ∙ comma_between is.seconds is.nanoseconds
 
-pub no_span_none : (s : Span) → IsSpanWord (codes "none") s → ⊥
+pub no_span_none : (s : Span) → IsSpanTerm (codes "none") s → ⊥
 unfolding has_comma
 no_span_none s is = absurd (false-true (comma_of_span (codes "none") s is))
 
-no_span_fault : (s : Span) → IsSpanWord (codes "fault") s → ⊥
+no_span_fault : (s : Span) → IsSpanTerm (codes "fault") s → ⊥
 unfolding has_comma
 no_span_fault s is = absurd (false-true (comma_of_span (codes "fault") s is))
 
@@ -74,17 +74,17 @@ module _ {A : Type 0} (Says : List ℕ → A → Type 0) (one : (value : List �
   one_or_none never value (Some a) None left right = absurd (never a (subst (λ (v : List ℕ). Says v a) right left))
   one_or_none never value (Some a) (Some b) left right = ap (λ (x : A). Some x) (one value a b left right)
 
-pub one_clock : (value : List ℕ) (a b : Result Span ClockFault) → IsClockWord value a → IsClockWord value b → a ≡ b
+pub one_clock : (value : List ℕ) (a b : Result Span ClockFault) → IsClockTerm value a → IsClockTerm value b → a ≡ b
 one_clock value (Ok s) (Ok t) left right = ap (λ (x : Span). Ok x) (one_span value s t left right)
-one_clock value (Ok s) (Err f) left right = absurd (no_span_fault s (subst (λ (v : List ℕ). IsSpanWord v s) right left))
-one_clock value (Err f) (Ok t) left right = absurd (no_span_fault t (subst (λ (v : List ℕ). IsSpanWord v t) left right))
+one_clock value (Ok s) (Err f) left right = absurd (no_span_fault s (subst (λ (v : List ℕ). IsSpanTerm v s) right left))
+one_clock value (Err f) (Ok t) left right = absurd (no_span_fault t (subst (λ (v : List ℕ). IsSpanTerm v t) left right))
 one_clock value (Err f) (Err g) left right = refl
 
-true_word_false_word : codes "true" ≡ codes "false" → ⊥
-true_word_false_word e = false-true (ap (λ (w : List ℕ). bytes_eq w (codes "false")) e)
+true_term_false_term : codes "true" ≡ codes "false" → ⊥
+true_term_false_term e = false-true (ap (λ (w : List ℕ). bytes_eq w (codes "false")) e)
 
-pub one_truth : (value : List ℕ) (a b : Bool) → IsTruthWord value a → IsTruthWord value b → a ≡ b
+pub one_truth : (value : List ℕ) (a b : Bool) → IsTruthTerm value a → IsTruthTerm value b → a ≡ b
 one_truth value true true left right = refl
-one_truth value true false left right = absurd (true_word_false_word (sym left ∙ right))
-one_truth value false true left right = absurd (true_word_false_word (sym right ∙ left))
+one_truth value true false left right = absurd (true_term_false_term (sym left ∙ right))
+one_truth value false true left right = absurd (true_term_false_term (sym right ∙ left))
 one_truth value false false left right = refl

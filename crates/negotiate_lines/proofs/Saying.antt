@@ -1,17 +1,17 @@
--- A line says what its words say.
+-- A line says what its terms say.
 use Rattle.std.proofs.Common.{◌≡◌, ℕ, List, subst}
 use Rattle.std.specs.Prelude.{Result, Ok, Err, IfOk}
 use Rattle.std.specs.Str.{IsUtf8}
 use Rattle.negotiate_lines.specs.declared.line.Line.{Line}
 use Rattle.negotiate_lines.specs.declared.line.Line.TheVariants as line
-use Rattle.negotiate_lines.specs.Words.{words_of}
+use Rattle.negotiate_lines.specs.Terms.{terms_of}
 use Rattle.negotiate_lines.specs.Lines.{AreLine, IsLine}
 
-is_line : (bytes : List ℕ) (told : Line) → IsUtf8 bytes → AreLine (words_of bytes) told → IsLine bytes told
+is_line : (bytes : List ℕ) (told : Line) → IsUtf8 bytes → AreLine (terms_of bytes) told → IsLine bytes told
 is_line bytes line.Blank utf8 are = (utf8, are)
 is_line bytes (line.Command said) utf8 are = (utf8, are)
 is_line bytes line.NotACommand utf8 are = λ _. are
 
-pub line_said : {E : Type 0} (bytes text : List ℕ) (r : Result Line E) → text ≡ bytes → IsUtf8 bytes → IfOk r (AreLine (words_of text)) → IfOk r (IsLine bytes)
-line_said bytes text (Ok told) same utf8 are = is_line bytes told utf8 (subst (λ (t : List ℕ). AreLine (words_of t) told) same are)
+pub line_said : {E : Type 0} (bytes text : List ℕ) (r : Result Line E) → text ≡ bytes → IsUtf8 bytes → IfOk r (AreLine (terms_of text)) → IfOk r (IsLine bytes)
+line_said bytes text (Ok told) same utf8 are = is_line bytes told utf8 (subst (λ (t : List ℕ). AreLine (terms_of t) told) same are)
 line_said bytes text (Err e) same utf8 are = tt

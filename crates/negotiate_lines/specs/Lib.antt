@@ -1,11 +1,11 @@
-pub mod Words
+pub mod Terms
 pub mod Values
 pub mod Vocabulary
-pub mod CallWords
-pub mod EventWords
+pub mod CallTerms
+pub mod EventTerms
 pub mod EventMeanings
-pub mod PublishSubscribeWords
+pub mod PublishSubscribeTerms
 pub mod PublishSubscribeMeanings
-pub mod RequestResponseWords
+pub mod RequestResponseTerms
 pub mod RequestResponseMeanings
 pub mod Lines

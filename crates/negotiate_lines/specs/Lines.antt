@@ -11,16 +11,16 @@ use Rattle.iceoryx2_commands.specs.declared.command.How.TheVariants as how
 use Rattle.iceoryx2_commands.specs.declared.command.Settings.{Settings}
 use Rattle.iceoryx2_commands.specs.declared.command.Settings.TheVariants as settings
 use Rattle.iceoryx2_commands.specs.Commands.{slot_count}
-use Rattle.negotiate_lines.specs.declared.call_word.Admitted.{Admitted}
-use Rattle.negotiate_lines.specs.Words.{words_of, IsNumber}
+use Rattle.negotiate_lines.specs.declared.call_term.Admitted.{Admitted}
+use Rattle.negotiate_lines.specs.Terms.{terms_of, IsNumber}
 use Rattle.negotiate_lines.specs.Vocabulary.{Vocabulary}
-use Rattle.negotiate_lines.specs.CallWords.{no_particulars, TakesWords}
+use Rattle.negotiate_lines.specs.CallTerms.{no_particulars, TakesTerms}
 use Rattle.negotiate_lines.specs.declared.line.Line.{Line}
 use Rattle.negotiate_lines.specs.declared.line.Line.TheVariants as line
 use Rattle.negotiate_lines.specs.declared.line.NamedCall.{NamedCall}
-use Rattle.negotiate_lines.specs.EventWords.{event_vocabulary}
-use Rattle.negotiate_lines.specs.PublishSubscribeWords.{publish_subscribe_vocabulary}
-use Rattle.negotiate_lines.specs.RequestResponseWords.{request_response_vocabulary}
+use Rattle.negotiate_lines.specs.EventTerms.{event_vocabulary}
+use Rattle.negotiate_lines.specs.PublishSubscribeTerms.{publish_subscribe_vocabulary}
+use Rattle.negotiate_lines.specs.RequestResponseTerms.{request_response_vocabulary}
 
 -- ---- the end of a line
 
@@ -34,33 +34,33 @@ without_end_of line = without_last 13 (without_last 10 line)
 
 -- ---- calls
 
--- the word that says how a service is wanted
-abbrev pub how_word : How → List ℕ
-how_word how.Create = codes "create"
-how_word how.Open = codes "open"
-how_word how.OpenOrCreate = codes "open_or_create"
+-- the term that says how a service is wanted
+abbrev pub how_term : How → List ℕ
+how_term how.Create = codes "create"
+how_term how.Open = codes "open"
+how_term how.OpenOrCreate = codes "open_or_create"
 
--- which of the words that every pattern has go with such a call: the time where the pattern's creates are told it
+-- which of the terms that every pattern has go with such a call: the time where the pattern's creates are told it
 abbrev pub admitted_of : (has_clock : Bool) → How → Admitted
 admitted_of has_clock how.Create = record { now = has_clock; require_key = false }
 admitted_of has_clock how.Open = record { now = false; require_key = true }
 admitted_of has_clock how.OpenOrCreate = record { now = has_clock; require_key = true }
 
--- The words are a call in a pattern's vocabulary. Those behind the name make all of it that the first five don't.
-pub record SaysNamedCall {N S : Type 0} (v : Vocabulary N S) (words : List (List ℕ)) (call : NamedCall S)
+-- The terms are a call in a pattern's vocabulary. Those behind the name make all of it that the first five don't.
+pub record SaysNamedCall {N S : Type 0} (v : Vocabulary N S) (terms : List (List ℕ)) (call : NamedCall S)
     : Type 0 where
   pub node : List ℕ
   pub slot : List ℕ
   pub others : List (List ℕ)
-  pub are : words ≡ v.pattern ∷ how_word call.how ∷ node ∷ slot ∷ call.name ∷ others
+  pub are : terms ≡ v.pattern ∷ how_term call.how ∷ node ∷ slot ∷ call.name ∷ others
   pub node_is : IsNumber (2 ^ 64) node call.node
   pub slot_is : IsNumber slot_count slot call.slot
   pub name_is : IsName call.name
-  pub taken : TakesWords v (admitted_of v.has_clock call.how) no_particulars others call.parts
+  pub taken : TakesTerms v (admitted_of v.has_clock call.how) no_particulars others call.parts
 
 -- a session's call, with its settings as a pattern has them
-abbrev pub named_call : {S : Type 0} → Call → List S → NamedCall S
-named_call call setters = record {
+abbrev pub parse_call : {S : Type 0} → Call → List S → NamedCall S
+parse_call call setters = record {
   how = call.how;
   node = call.node;
   slot = call.slot;
@@ -68,36 +68,36 @@ named_call call setters = record {
   parts = record { settings = setters; requirements = call.attributes; now = call.now };
 }
 
--- The words are a builder call, in the vocabulary of the pattern of its settings.
+-- The terms are a builder call, in the vocabulary of the pattern of its settings.
 abbrev pub SaysSettings : Settings → List (List ℕ) → Call → Type 0
-SaysSettings (settings.Event setters) words call = SaysNamedCall event_vocabulary words (named_call call setters.items)
-SaysSettings (settings.PublishSubscribe setters) words call =
-    SaysNamedCall publish_subscribe_vocabulary words (named_call call setters.items)
-SaysSettings (settings.RequestResponse setters) words call =
-    SaysNamedCall request_response_vocabulary words (named_call call setters.items)
+SaysSettings (settings.Event setters) terms call = SaysNamedCall event_vocabulary terms (parse_call call setters.items)
+SaysSettings (settings.PublishSubscribe setters) terms call =
+    SaysNamedCall publish_subscribe_vocabulary terms (parse_call call setters.items)
+SaysSettings (settings.RequestResponse setters) terms call =
+    SaysNamedCall request_response_vocabulary terms (parse_call call setters.items)
 
 -- ---- lines
 
--- The words close a slot.
-pub record SaysClose (words : List (List ℕ)) (closed : ℕ) : Type 0 where
+-- The terms close a slot.
+pub record SaysClose (terms : List (List ℕ)) (closed : ℕ) : Type 0 where
   pub slot : List ℕ
-  pub are : words ≡ codes "close" ∷ slot ∷ []
+  pub are : terms ≡ codes "close" ∷ slot ∷ []
   pub slot_is : IsNumber slot_count slot closed
 
--- The words are the command.
+-- The terms are the command.
 abbrev pub Says : List (List ℕ) → Command → Type 0
-Says words (command.Call call) = SaysSettings call.settings words call
-Says words (command.Close slot) = SaysClose words slot
-Says words command.List = words ≡ codes "list" ∷ []
+Says terms (command.Call call) = SaysSettings call.settings terms call
+Says terms (command.Close slot) = SaysClose terms slot
+Says terms command.List = terms ≡ codes "list" ∷ []
 
--- The words are what the line is told to be: nothing, a command, or words that are no command.
+-- The terms are what the line is told to be: nothing, a command, or terms that are no command.
 abbrev pub AreLine : List (List ℕ) → Line → Type 0
-AreLine words line.Blank = words ≡ []
-AreLine words (line.Command said) = Says words said
-AreLine words line.NotACommand = (words ≢ []) × ((said : Command) → Says words said → ⊥)
+AreLine terms line.Blank = terms ≡ []
+AreLine terms (line.Command said) = Says terms said
+AreLine terms line.NotACommand = (terms ≢ []) × ((said : Command) → Says terms said → ⊥)
 
 -- The bytes are what the line is told to be. Bytes that are no text are no command.
 abbrev pub IsLine : List ℕ → Line → Type 0
-IsLine bytes line.Blank = IsUtf8 bytes × AreLine (words_of bytes) line.Blank
-IsLine bytes (line.Command said) = IsUtf8 bytes × AreLine (words_of bytes) (line.Command said)
-IsLine bytes line.NotACommand = IsUtf8 bytes → AreLine (words_of bytes) line.NotACommand
+IsLine bytes line.Blank = IsUtf8 bytes × AreLine (terms_of bytes) line.Blank
+IsLine bytes (line.Command said) = IsUtf8 bytes × AreLine (terms_of bytes) (line.Command said)
+IsLine bytes line.NotACommand = IsUtf8 bytes → AreLine (terms_of bytes) line.NotACommand

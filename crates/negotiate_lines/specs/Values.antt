@@ -1,4 +1,4 @@
--- What the value of a word says by itself.
+-- What the value of a term says by itself.
 use Rattle.std.specs.Prelude.{ℕ, ◌≡◌, ◌^◌, Bool, true, false, List, Option, Some, None, Result, Ok, Err, codes}
 use Rattle.iceoryx2_types.specs.declared.types.TypeVariant.{TypeVariant}
 use Rattle.iceoryx2_types.specs.declared.types.TypeVariant.TheVariants.{FixedSize, Dynamic}
@@ -6,44 +6,44 @@ use Rattle.iceoryx2_types.specs.Types.{Detail, HasNameLength, IsAlignment}
 use Rattle.iceoryx2_description.specs.declared.time.TheConstants.{NANOSECONDS_PER_SECOND}
 use Rattle.iceoryx2_description.specs.declared.time.ClockFault.{ClockFault}
 use Rattle.iceoryx2_description.specs.Span.{Span}
-use Rattle.negotiate_lines.specs.Words.{AreAround, IsNumber}
+use Rattle.negotiate_lines.specs.Terms.{AreAround, IsNumber}
 
 abbrev pub IsNatural : List ℕ → ℕ → Type 0
 IsNatural = IsNumber (2 ^ 64)
 
 -- seconds and nanoseconds, around the first comma
-pub record IsSpanWord (value : List ℕ) (span : Span) : Type 0 where
+pub record IsSpanTerm (value : List ℕ) (span : Span) : Type 0 where
   pub seconds : List ℕ
   pub nanoseconds : List ℕ
   pub around : AreAround 44 value seconds nanoseconds
   pub seconds_are : IsNatural seconds span.seconds
   pub nanoseconds_are : IsNumber NANOSECONDS_PER_SECOND nanoseconds span.nanoseconds
 
--- the word `none`, or what says a value
+-- the term `none`, or what says a value
 abbrev pub IsNoneOr : {A : Type 0} → (List ℕ → A → Type 0) → List ℕ → Option A → Type 0
 IsNoneOr Says value None = value ≡ codes "none"
 IsNoneOr Says value (Some a) = Says value a
 
--- the word `fault`, or a time
-abbrev pub IsClockWord : List ℕ → Result Span ClockFault → Type 0
-IsClockWord value (Ok time) = IsSpanWord value time
-IsClockWord value (Err fault) = value ≡ codes "fault"
+-- the term `fault`, or a time
+abbrev pub IsClockTerm : List ℕ → Result Span ClockFault → Type 0
+IsClockTerm value (Ok time) = IsSpanTerm value time
+IsClockTerm value (Err fault) = value ≡ codes "fault"
 
--- the word `true` or `false`
-abbrev pub IsTruthWord : List ℕ → Bool → Type 0
-IsTruthWord value true = value ≡ codes "true"
-IsTruthWord value false = value ≡ codes "false"
+-- the term `true` or `false`
+abbrev pub IsTruthTerm : List ℕ → Bool → Type 0
+IsTruthTerm value true = value ≡ codes "true"
+IsTruthTerm value false = value ≡ codes "false"
 
 -- ---- types
 
 -- a power of two
-abbrev pub IsAlignmentWord : List ℕ → ℕ → Type 0
-IsAlignmentWord value n = IsNatural value n × IsAlignment n
+abbrev pub IsAlignmentTerm : List ℕ → ℕ → Type 0
+IsAlignmentTerm value n = IsNatural value n × IsAlignment n
 
--- the word `fixed` or `dynamic`
-abbrev pub IsVariantWord : List ℕ → TypeVariant → Type 0
-IsVariantWord value FixedSize = value ≡ codes "fixed"
-IsVariantWord value Dynamic = value ≡ codes "dynamic"
+-- the term `fixed` or `dynamic`
+abbrev pub IsVariantTerm : List ℕ → TypeVariant → Type 0
+IsVariantTerm value FixedSize = value ≡ codes "fixed"
+IsVariantTerm value Dynamic = value ≡ codes "dynamic"
 
 -- the four parts of a value, around its first three commas
 pub record AreParts (value first second third fourth : List ℕ) : Type 0 where
@@ -54,12 +54,12 @@ pub record AreParts (value first second third fourth : List ℕ) : Type 0 where
   pub around_third : AreAround 44 behind_second third fourth
 
 -- Variant, name, size and alignment of a type. A fourth comma would stand in the alignment, which is a number.
-pub record IsDetailWord (value : List ℕ) (detail : Detail) : Type 0 where
+pub record IsDetailTerm (value : List ℕ) (detail : Detail) : Type 0 where
   pub variant : List ℕ
   pub size : List ℕ
   pub alignment : List ℕ
   pub parts : AreParts value variant detail.name size alignment
-  pub variant_is : IsVariantWord variant detail.variant
+  pub variant_is : IsVariantTerm variant detail.variant
   pub name_is : HasNameLength detail.name
   pub size_is : IsNatural size detail.size
-  pub alignment_is : IsAlignmentWord alignment detail.alignment
+  pub alignment_is : IsAlignmentTerm alignment detail.alignment

@@ -1,13 +1,13 @@
 //! What a line of the program `negotiate` says: a command.
 #![tactic(auto)]
 
-mod call_word;
-mod event_words;
+mod arguments;
+mod call_term;
+mod event_terms;
 pub mod line;
-mod particulars;
-mod publish_subscribe_words;
-mod request_response_words;
-mod type_word;
+mod publish_subscribe_terms;
+mod request_response_terms;
+mod term;
+mod type_term;
 mod value;
 mod vocabulary;
-mod word;

@@ -2,29 +2,29 @@
 
 ghost use Rattle.std.specs.Prelude.{◌≡◌, ◌≢◌, [], ◌∷◌, IfOk, codes};
 ghost use Rattle.iceoryx2_commands.specs.Commands.{slot_count};
-ghost use Rattle.negotiate_lines.specs.Words.{Finds, IsNumberOf, words_of};
+ghost use Rattle.negotiate_lines.specs.Terms.{Finds, IsNumberOf, terms_of};
 ghost use Rattle.negotiate_lines.specs.Lines.{AreLine, IsLine, SaysNamedCall};
-ghost use Rattle.negotiate_lines.specs.Lines.{admitted_of, how_word, without_end_of};
+ghost use Rattle.negotiate_lines.specs.Lines.{admitted_of, how_term, without_end_of};
 
-use crate::event_words::EventWords;
-use crate::publish_subscribe_words::PublishSubscribeWords;
-use crate::request_response_words::RequestResponseWords;
+use crate::arguments::{CallArguments, call_arguments};
+use crate::call_term::Admitted;
+use crate::event_terms::EventTerms;
+use crate::publish_subscribe_terms::PublishSubscribeTerms;
+use crate::request_response_terms::RequestResponseTerms;
+use crate::term::{next_term, number, number_below};
+use crate::vocabulary::HasVocabulary;
 use iceoryx2_commands::command::{Call, Command, How, SLOTS, Settings};
 use iceoryx2_description::description::{ServiceName, ServiceNameError};
-use crate::call_word::Admitted;
-use crate::particulars::{CallParts, call_parts};
-use crate::vocabulary::HasVocabulary;
-use crate::word::{next_word, number, number_below};
 use std::alloc::{AllocError, Global};
 
 /// What a line says.
 #[derive(Debug, Drop)]
 pub enum Line {
-    /// It has no word.
+    /// It has no term.
     Blank,
     /// It is a command.
     Command(Command),
-    /// It has words, and they are no command.
+    /// It has terms, and they are no command.
     NotACommand,
 }
 
@@ -42,32 +42,32 @@ pub fn without_end(line: &[u8]) -> &[u8]
     }
 }
 
-/// Reads a line, without its end. Its words are separated by one or more spaces.
+/// Reads a line, without its end. Its terms are separated by one or more spaces.
 ///
-/// Its words are read one by one, and none is kept. Memory is taken for a service's name and for
-/// what the words behind it say; where there is none, nothing is read.
+/// Its terms are read one by one, and none is kept. Memory is taken for a service's name and for
+/// what the terms behind it say; where there is none, nothing is read.
 pub fn parse(alloc: Global, line: &[u8]) -> Result<Line, AllocError>
     ensures { IfOk result (IsLine line.now) }
 {
     match std::str::from_utf8(line) {
-        Ok(text) => said(alloc, text),
+        Ok(text) => parse_text(alloc, text),
         Err(_) => Ok(Line::NotACommand),
     }
 }
 
 /// What a text says.
-fn said(alloc: Global, text: &str) -> Result<Line, AllocError>
-    ensures { IfOk result (AreLine (words_of text.now)) }
+fn parse_text(alloc: Global, text: &str) -> Result<Line, AllocError>
+    ensures { IfOk result (AreLine (terms_of text.now)) }
 {
-    match next_word(text) {
+    match next_term(text) {
         None => Ok(Line::Blank),
-        Some((first, others)) => said_behind(alloc, first, others),
+        Some((first, others)) => parse_terms(alloc, first, others),
     }
 }
 
-/// What a word and those behind it say.
-fn said_behind(alloc: Global, first: &str, others: &str) -> Result<Line, AllocError>
-    ensures { IfOk result (AreLine (first.now ∷ words_of others.now)) }
+/// What a term and those behind it say.
+fn parse_terms(alloc: Global, first: &str, others: &str) -> Result<Line, AllocError>
+    ensures { IfOk result (AreLine (first.now ∷ terms_of others.now)) }
 {
     match first {
         "list" => Ok(list(others)),
@@ -79,30 +79,30 @@ fn said_behind(alloc: Global, first: &str, others: &str) -> Result<Line, AllocEr
     }
 }
 
-/// What the word `list` says before others.
+/// What the term `list` says before others.
 fn list(others: &str) -> Line
-    ensures { AreLine (codes "list" ∷ words_of others.now) result }
+    ensures { AreLine (codes "list" ∷ terms_of others.now) result }
 {
-    match next_word(others) {
+    match next_term(others) {
         None => Line::Command(Command::List),
         Some(_) => Line::NotACommand,
     }
 }
 
-/// What the word `close` says before others.
+/// What the term `close` says before others.
 fn close(others: &str) -> Line
-    ensures { AreLine (codes "close" ∷ words_of others.now) result }
+    ensures { AreLine (codes "close" ∷ terms_of others.now) result }
 {
-    let Some((slot, others)) = next_word(others) else {
+    let Some((slot, others)) = next_term(others) else {
         return Line::NotACommand;
     };
-    match next_word(others) {
+    match next_term(others) {
         None => close_of(slot),
         Some(_) => Line::NotACommand,
     }
 }
 
-/// What the word `close` says before another one.
+/// What the term `close` says before another one.
 fn close_of(slot: &str) -> Line
     ensures { AreLine (codes "close" ∷ slot.now ∷ []) result }
 {
@@ -114,19 +114,19 @@ fn close_of(slot: &str) -> Line
 
 /// The number of a slot.
 #[tactic(auto, using(crate::proofs::Numbers::numbers))]
-fn slot_number(word: &str) -> Option<usize>
-    ensures { IsNumberOf slot_count word.now result }
+fn slot_number(term: &str) -> Option<usize>
+    ensures { IsNumberOf slot_count term.now result }
 {
-    match number_below(word, SLOTS as u64) {
+    match number_below(term, SLOTS as u64) {
         Some(slot) => Some(slot as usize),
         None => None,
     }
 }
 
-fn how_of(word: &str) -> Option<How>
-    ensures { Finds (λ how. word.now ≡ how_word how) result }
+fn how_of(term: &str) -> Option<How>
+    ensures { Finds (λ how. term.now ≡ how_term how) result }
 {
-    match word {
+    match term {
         "create" => Some(How::Create),
         "open" => Some(How::Open),
         "open_or_create" => Some(How::OpenOrCreate),
@@ -134,7 +134,7 @@ fn how_of(word: &str) -> Option<How>
     }
 }
 
-/// Which of the words that every pattern has go with such a call.
+/// Which of the terms that every pattern has go with such a call.
 fn admitted<V: HasVocabulary>(how: How) -> Admitted
     ensures { result ≡ admitted_of V.vocabulary.has_clock how }
 {
@@ -161,33 +161,33 @@ struct NamedCall<S> {
     node: u64,
     slot: usize,
     name: ServiceName,
-    parts: CallParts<S>,
+    parts: CallArguments<S>,
 }
 
-/// What a pattern's word says before others.
-fn named_call<V: HasVocabulary>(
+/// What a pattern's term says before others.
+fn parse_call<V: HasVocabulary>(
     alloc: Global,
     others: &str,
 ) -> Result<Option<NamedCall<V::Setting>>, AllocError>
-    ensures { IfOk result (Finds (SaysNamedCall V.vocabulary (V.vocabulary.pattern ∷ words_of others.now))) }
+    ensures { IfOk result (Finds (SaysNamedCall V.vocabulary (V.vocabulary.pattern ∷ terms_of others.now))) }
 {
-    let Some((how, others)) = next_word(others) else {
+    let Some((how, others)) = next_term(others) else {
         return Ok(None);
     };
-    let Some((node, others)) = next_word(others) else {
+    let Some((node, others)) = next_term(others) else {
         return Ok(None);
     };
-    let Some((slot, others)) = next_word(others) else {
+    let Some((slot, others)) = next_term(others) else {
         return Ok(None);
     };
-    let Some((name, others)) = next_word(others) else {
+    let Some((name, others)) = next_term(others) else {
         return Ok(None);
     };
-    call_named::<V>(alloc, how, node, slot, name, others)
+    build_call::<V>(alloc, how, node, slot, name, others)
 }
 
 /// What it says before these four and others.
-fn call_named<V: HasVocabulary>(
+fn build_call<V: HasVocabulary>(
     alloc: Global,
     how: &str,
     node: &str,
@@ -196,7 +196,7 @@ fn call_named<V: HasVocabulary>(
     others: &str,
 ) -> Result<Option<NamedCall<V::Setting>>, AllocError>
     ensures { IfOk result (Finds (SaysNamedCall V.vocabulary
-        (V.vocabulary.pattern ∷ how.now ∷ node.now ∷ slot.now ∷ name.now ∷ words_of others.now))) }
+        (V.vocabulary.pattern ∷ how.now ∷ node.now ∷ slot.now ∷ name.now ∷ terms_of others.now))) }
 {
     let (Some(how), Some(node), Some(slot)) = (how_of(how), number(node), slot_number(slot)) else {
         return Ok(None);
@@ -206,7 +206,7 @@ fn call_named<V: HasVocabulary>(
         Err(ServiceNameError::Length) => return Ok(None),
         Err(ServiceNameError::OutOfMemory) => return Err(AllocError),
     };
-    match call_parts::<V>(alloc, admitted::<V>(how), others) {
+    match call_arguments::<V>(alloc, admitted::<V>(how), others) {
         Ok(Some(parts)) => Ok(Some(NamedCall {
             how,
             node,
@@ -219,11 +219,11 @@ fn call_named<V: HasVocabulary>(
     }
 }
 
-/// What the word `event` says before others.
+/// What the term `event` says before others.
 fn event(alloc: Global, others: &str) -> Result<Line, AllocError>
-    ensures { IfOk result (AreLine (codes "event" ∷ words_of others.now)) }
+    ensures { IfOk result (AreLine (codes "event" ∷ terms_of others.now)) }
 {
-    let call = match named_call::<EventWords>(alloc, others) {
+    let call = match parse_call::<EventTerms>(alloc, others) {
         Ok(Some(call)) => call,
         Ok(None) => return Ok(Line::NotACommand),
         Err(_) => return Err(AllocError),
@@ -240,11 +240,11 @@ fn event(alloc: Global, others: &str) -> Result<Line, AllocError>
     })))
 }
 
-/// What the word `pubsub` says before others.
+/// What the term `pubsub` says before others.
 fn publish_subscribe(alloc: Global, others: &str) -> Result<Line, AllocError>
-    ensures { IfOk result (AreLine (codes "pubsub" ∷ words_of others.now)) }
+    ensures { IfOk result (AreLine (codes "pubsub" ∷ terms_of others.now)) }
 {
-    let call = match named_call::<PublishSubscribeWords>(alloc, others) {
+    let call = match parse_call::<PublishSubscribeTerms>(alloc, others) {
         Ok(Some(call)) => call,
         Ok(None) => return Ok(Line::NotACommand),
         Err(_) => return Err(AllocError),
@@ -261,11 +261,11 @@ fn publish_subscribe(alloc: Global, others: &str) -> Result<Line, AllocError>
     })))
 }
 
-/// What the word `rr` says before others.
+/// What the term `rr` says before others.
 fn request_response(alloc: Global, others: &str) -> Result<Line, AllocError>
-    ensures { IfOk result (AreLine (codes "rr" ∷ words_of others.now)) }
+    ensures { IfOk result (AreLine (codes "rr" ∷ terms_of others.now)) }
 {
-    let call = match named_call::<RequestResponseWords>(alloc, others) {
+    let call = match parse_call::<RequestResponseTerms>(alloc, others) {
         Ok(Some(call)) => call,
         Ok(None) => return Ok(Line::NotACommand),
         Err(_) => return Err(AllocError),

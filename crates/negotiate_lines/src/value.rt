@@ -1,15 +1,15 @@
-//! What the value of a word says by itself.
+//! What the value of a term says by itself.
 
-ghost use Rattle.negotiate_lines.specs.Words.{Finds};
-ghost use Rattle.negotiate_lines.specs.Values.{IsClockWord, IsNatural, IsNoneOr, IsSpanWord, IsTruthWord};
+ghost use Rattle.negotiate_lines.specs.Terms.{Finds};
+ghost use Rattle.negotiate_lines.specs.Values.{IsClockTerm, IsNatural, IsNoneOr, IsSpanTerm, IsTruthTerm};
 
-use crate::word::{around, number, number_below};
+use crate::term::{around, number, number_below};
 use iceoryx2_description::event::EventId;
 use iceoryx2_description::time::{ClockFault, Duration, NANOSECONDS_PER_SECOND, Time};
 
 /// Seconds and nanoseconds, around a comma. The nanoseconds are fewer than 1,000,000,000.
 fn duration(value: &str) -> Option<Duration>
-    ensures { Finds (IsSpanWord value.now) result }
+    ensures { Finds (IsSpanTerm value.now) result }
 {
     let (seconds, nanoseconds) = around(value, ',')?;
     let Some(seconds) = number(seconds) else {
@@ -21,9 +21,9 @@ fn duration(value: &str) -> Option<Duration>
     Duration::new(seconds, nanoseconds as u32)
 }
 
-/// Such a length of time, or the word `none`.
+/// Such a length of time, or the term `none`.
 pub fn duration_or_none(value: &str) -> Option<Option<Duration>>
-    ensures { Finds (IsNoneOr IsSpanWord value.now) result }
+    ensures { Finds (IsNoneOr IsSpanTerm value.now) result }
 {
     match value {
         "none" => Some(None),
@@ -31,7 +31,7 @@ pub fn duration_or_none(value: &str) -> Option<Option<Duration>>
     }
 }
 
-/// The number of an event, or the word `none`.
+/// The number of an event, or the term `none`.
 pub fn event_or_none(value: &str) -> Option<Option<EventId>>
     ensures { Finds (IsNoneOr IsNatural value.now) result }
 {
@@ -41,9 +41,9 @@ pub fn event_or_none(value: &str) -> Option<Option<EventId>>
     }
 }
 
-/// The seconds and nanoseconds of a time, or the word `fault`.
+/// The seconds and nanoseconds of a time, or the term `fault`.
 pub(crate) fn time_or_fault(value: &str) -> Option<Result<Time, ClockFault>>
-    ensures { Finds (IsClockWord value.now) result }
+    ensures { Finds (IsClockTerm value.now) result }
 {
     match value {
         "fault" => Some(Err(ClockFault)),
@@ -53,15 +53,15 @@ pub(crate) fn time_or_fault(value: &str) -> Option<Result<Time, ClockFault>>
 
 /// A time since the time zero.
 fn time(value: &str) -> Option<Time>
-    ensures { Finds (IsSpanWord value.now) result }
+    ensures { Finds (IsSpanTerm value.now) result }
 {
     let since_zero = duration(value)?;
     Time::new(since_zero.seconds(), since_zero.nanoseconds())
 }
 
-/// The word `true` or `false`.
+/// The term `true` or `false`.
 pub fn truth_value(value: &str) -> Option<bool>
-    ensures { Finds (IsTruthWord value.now) result }
+    ensures { Finds (IsTruthTerm value.now) result }
 {
     match value {
         "true" => Some(true),

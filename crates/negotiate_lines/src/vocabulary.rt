@@ -1,12 +1,12 @@
 //! What a pattern calls its settings, and what their values say.
 
 ghost use Rattle.std.specs.Prelude.{◌≡◌, IfOk};
-ghost use Rattle.negotiate_lines.specs.Words.{Finds};
+ghost use Rattle.negotiate_lines.specs.Terms.{Finds};
 ghost use Rattle.negotiate_lines.specs.Vocabulary.{IsUnambiguous, Vocabulary};
 
 use std::alloc::{AllocError, Global};
 
-/// The words that a pattern has for itself.
+/// The terms that a pattern has for itself.
 pub trait HasVocabulary {
     /// The name of a setting.
     type Name: Copy;
@@ -14,7 +14,7 @@ pub trait HasVocabulary {
     /// A setter of the pattern's builder, with its value.
     type Setting: Drop;
 
-    /// The words, and what they say.
+    /// The terms, and what they say.
     ghost vocabulary: { Vocabulary Self.Name Self.Setting };
 
     /// Whether the calls that create a service are told the time.
@@ -22,8 +22,8 @@ pub trait HasVocabulary {
         ensures { result ≡ vocabulary.has_clock };
 
     /// The setting of this name.
-    fn setting_name(word: &str) -> Option<Self::Name>
-        ensures { Finds (λ name. word.now ≡ vocabulary.word name) result };
+    fn setting_name(term: &str) -> Option<Self::Name>
+        ensures { Finds (λ name. term.now ≡ vocabulary.term name) result };
 
     /// The setter of this name with this value, or `None` where it takes no such value.
     /// `AllocError` where what it holds finds no memory.
@@ -34,6 +34,6 @@ pub trait HasVocabulary {
     ) -> Result<Option<Self::Setting>, AllocError>
         ensures { IfOk result (Finds (vocabulary.Says name value.now)) };
 
-    /// Each word has one meaning.
+    /// Each term has one meaning.
     ghost is_unambiguous: { IsUnambiguous vocabulary };
 }

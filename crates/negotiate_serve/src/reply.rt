@@ -4,8 +4,8 @@ ghost use Rattle.std.specs.Prelude.{◌≡◌, ◌++◌, IfOk, OnOk, string_byte
 ghost use Rattle.negotiate_serve.specs.Replies.{GrowsBy, GrowsByEntry, GrowsByService, ListsServices, Tells};
 ghost use Rattle.negotiate_serve.specs.Replies.{how_many_it_has, pattern_word, who_it_is};
 
-use iceoryx2_commands::command::{Refusal, Reply};
 use iceoryx2_byte_form::bytes::{DecodeError, decode};
+use iceoryx2_commands::command::{Refusal, Reply};
 use iceoryx2_description::description::{MessagingPattern, ServiceHash, StaticConfig};
 use iceoryx2_world::listing::{Entry, ListedRow, ListedSegment};
 use std::alloc::AllocError;

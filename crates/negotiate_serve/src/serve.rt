@@ -2,9 +2,9 @@
 
 use crate::reply::describe;
 use iceoryx2_commands::command::Command;
+use iceoryx2_description::config::Config;
 use iceoryx2_session::session::Session;
 use iceoryx2_table::table::Table;
-use iceoryx2_description::config::Config;
 use negotiate_lines::line::{self, Line};
 use std::alloc::{AllocError, Global};
 use std::io::{self, BufRead, BufReader, ErrorKind, Read, Write};

@@ -51,7 +51,7 @@ fn a_type_of_another_form_is_no_command_and_not_out_of_memory(rt: HostRuntime) {
     assert_no_commands(&rt, rt.alloc(), TYPES);
 }
 
-/// A line with these words, then a text of so many letters, and then these.
+/// A line with these terms, then a text of so many letters, and then these.
 fn around(alloc: Global, before: &str, letters: usize, behind: &str) -> Result<String, AllocError> {
     let text = "n".repeat(alloc, letters)?;
     format!(in alloc; "{before}{text}{behind}")
@@ -105,11 +105,11 @@ fn a_key_or_a_value_of_another_length_is_no_command_and_not_out_of_memory(rt: Ho
     }
 }
 
-/// A line with 65 different words, each this one with a number and then a colon behind it.
-fn repeated(alloc: Global, before: &str, word: &str) -> Result<String, AllocError> {
+/// A line with 65 different terms, each this one with a number and then a colon behind it.
+fn repeated(alloc: Global, before: &str, term: &str) -> Result<String, AllocError> {
     let mut line = String::from_str(alloc, before)?;
     for number in 0..65u64 {
-        write!(&mut line, " {word}{number}:")?;
+        write!(&mut line, " {term}{number}:")?;
     }
     Ok(line)
 }
@@ -122,7 +122,7 @@ fn a_65th_pair_or_key_is_no_command_and_not_out_of_memory(rt: HostRuntime) {
     assert_built(&rt, rt.alloc(), keys, NO_COMMAND, 2);
 }
 
-/// Lines with a word that says nothing, or that doesn't go with the call.
+/// Lines with a term that says nothing, or that doesn't go with the call.
 const WORDS: &[&str] = &[
     "event create 1 0 a max_nodes",
     "event create 1 0 a max_node=1",
@@ -138,11 +138,11 @@ const WORDS: &[&str] = &[
 ];
 
 #[test]
-fn a_word_that_says_nothing_is_no_command_and_not_out_of_memory(rt: HostRuntime) {
+fn a_term_that_says_nothing_is_no_command_and_not_out_of_memory(rt: HostRuntime) {
     assert_no_commands(&rt, rt.alloc(), WORDS);
 }
 
-/// Lines that end before the name of a service, and whose words before it say nothing.
+/// Lines that end before the name of a service, and whose terms before it say nothing.
 const FRONTS: &[&str] = &[
     "event",
     "event create",
@@ -160,6 +160,6 @@ const FRONTS: &[&str] = &[
 ];
 
 #[test]
-fn a_line_without_its_words_is_no_command_and_not_out_of_memory(rt: HostRuntime) {
+fn a_line_without_its_terms_is_no_command_and_not_out_of_memory(rt: HostRuntime) {
     assert_no_commands(&rt, rt.alloc(), FRONTS);
 }

@@ -4,17 +4,17 @@
 #[cfg(test)]
 mod ample_memory;
 #[cfg(test)]
-mod event_words;
+mod event_terms;
 #[cfg(test)]
 mod faults;
 #[cfg(test)]
 mod lines;
 #[cfg(test)]
-mod publish_subscribe_words;
+mod publish_subscribe_terms;
 #[cfg(test)]
 mod replies;
 #[cfg(test)]
-mod request_response_words;
+mod request_response_terms;
 #[cfg(test)]
 mod scripts;
 #[cfg(test)]

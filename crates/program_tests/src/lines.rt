@@ -61,7 +61,7 @@ const CREATIONS: &[&str] = &[
     "event create 1 1 Größe/名前",
 ];
 
-/// Lines without a word.
+/// Lines without a term.
 const BLANKS: &[&str] = &["", "\n", "\r\n", " \n", "   \r\n", "\r"];
 
 #[test]
@@ -86,7 +86,7 @@ fn a_command_is_written_in_many_ways(rt: HostRuntime) {
 }
 
 #[test]
-fn lines_without_words_are_skipped(rt: HostRuntime) {
+fn lines_without_terms_are_skipped(rt: HostRuntime) {
     for &line in BLANKS {
         assert_answers(&rt, rt.alloc(), line, "", 0);
     }
@@ -106,18 +106,18 @@ fn names_have_at_most_255_bytes(rt: HostRuntime) {
     assert_built(&rt, alloc, naming(alloc, 256), "line 1: not a command\n", 2);
 }
 
-/// Two lines, one of this text alone and one of a command, with this text around each word.
+/// Two lines, one of this text alone and one of a command, with this text around each term.
 fn spaced_by(alloc: Global, spaces: &str) -> Result<String, AllocError> {
     format!(in alloc; "{spaces}\n{spaces}event{spaces}create{spaces}1{spaces}0{spaces}a{spaces}")
 }
 
-/// Two lines, one of spaces alone and one of a command, with 2,000 spaces around each word.
+/// Two lines, one of spaces alone and one of a command, with 2,000 spaces around each term.
 fn spaced(alloc: Global) -> Result<String, AllocError> {
     let spaces = " ".repeat(alloc, 2000)?;
     spaced_by(alloc, &spaces)
 }
 
 #[test]
-fn words_stand_apart_by_any_number_of_spaces(rt: HostRuntime) {
+fn terms_stand_apart_by_any_number_of_spaces(rt: HostRuntime) {
     assert_built(&rt, rt.alloc(), spaced(rt.alloc()), "ok 0 number=0\n", 0);
 }

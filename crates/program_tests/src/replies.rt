@@ -2,11 +2,11 @@
 
 use crate::support::assert_same;
 use iceoryx2_commands::command::{Refusal, Reply};
+use iceoryx2_description::description::ServiceHash;
 use iceoryx2_errors::error::{
     EventCreateError, EventOpenError, PublishSubscribeCreateError, PublishSubscribeOpenError,
     RequestResponseCreateError, RequestResponseOpenError,
 };
-use iceoryx2_description::description::ServiceHash;
 use iceoryx2_world::listing::{Entry, ListedRow, ListedSegment};
 use iceoryx2_world::world::Bytes;
 use negotiate_serve::reply::describe;

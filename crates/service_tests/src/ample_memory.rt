@@ -11,6 +11,7 @@ use crate::support::{assert_same, drop_table, name, table_from};
 use crate::types::{I64, SLICE, U32};
 use iceoryx2_access::storage::Existence;
 use iceoryx2_builder::builder::Node;
+use iceoryx2_description::config::Config;
 use iceoryx2_errors::error::{
     EventCreateError, EventOpenError, PublishSubscribeCreateError, PublishSubscribeOpenError,
     PublishSubscribeOpenOrCreateError, RequestResponseCreateError, RequestResponseOpenError,
@@ -18,7 +19,6 @@ use iceoryx2_errors::error::{
 use iceoryx2_script::script::Scripted;
 use iceoryx2_table::local::Local;
 use iceoryx2_types::types::{CustomHeaderMarker, CustomPayloadMarker, Slice};
-use iceoryx2_description::config::Config;
 use std::alloc::Global;
 use std::process::Abort;
 

@@ -5,6 +5,8 @@ use crate::request_response::support as respond;
 use crate::storages::support::events;
 use crate::support::{DEFAULTS, assert_same, drop_table, table_from};
 use iceoryx2_builder::builder::event::Builder;
+use iceoryx2_description::event::{EventId, StaticConfig};
+use iceoryx2_description::time::Time;
 use iceoryx2_errors::error::{
     EventCreateError, EventOpenError, PublishSubscribeCreateError, PublishSubscribeOpenError,
     RequestResponseCreateError, RequestResponseOpenError,
@@ -12,8 +14,6 @@ use iceoryx2_errors::error::{
 use iceoryx2_table::local::Local;
 use iceoryx2_table::table::Table;
 use iceoryx2_types::types::TypeVariant;
-use iceoryx2_description::event::{EventId, StaticConfig};
-use iceoryx2_description::time::Time;
 use std::alloc::Global;
 use std::process::Abort;
 

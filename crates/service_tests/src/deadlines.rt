@@ -2,10 +2,10 @@
 
 use crate::support::*;
 use iceoryx2_builder::builder::event::{Builder, EventCreateError, EventId, EventOpenError};
-use iceoryx2_table::local::Local;
-use iceoryx2_table::table::Table;
 use iceoryx2_description::event::Deadline;
 use iceoryx2_description::time::{ClockFault, Time};
+use iceoryx2_table::local::Local;
+use iceoryx2_table::table::Table;
 use std::alloc::Global;
 use std::process::Abort;
 

@@ -3,14 +3,14 @@
 use crate::support::*;
 use iceoryx2_builder::builder::Node;
 use iceoryx2_builder::builder::event::{Builder, EventId};
-use iceoryx2_errors::error::{EventCreateError, EventOpenError};
-use iceoryx2_port_factory::port_factory::event::PortFactory;
-use iceoryx2_table::local::Local;
-use iceoryx2_table::table::Table;
 use iceoryx2_description::config::Config;
 use iceoryx2_description::description::ServiceHash;
 use iceoryx2_description::event::StaticConfig;
 use iceoryx2_description::time::Time;
+use iceoryx2_errors::error::{EventCreateError, EventOpenError};
+use iceoryx2_port_factory::port_factory::event::PortFactory;
+use iceoryx2_table::local::Local;
+use iceoryx2_table::table::Table;
 use std::alloc::Global;
 use std::process::Abort;
 
@@ -76,7 +76,7 @@ fn opened_by_its_creator(rt: &impl Abort, alloc: Global) -> (Has, u64, Has) {
     let first = created(rt, wanting(rt, alloc, 1), &mut table);
     let second = opened(rt, wanting(rt, alloc, 1), &mut table);
     let before = has(rt, alloc, &table);
-    let (_, participants) = seats(rt, &table);
+    let (_, participants) = node_views(rt, &table);
     closed(rt, first, &mut table);
     closed(rt, second, &mut table);
     let after = has(rt, alloc, &table);

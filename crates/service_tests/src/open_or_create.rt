@@ -8,6 +8,7 @@ use crate::storages::support::events;
 use crate::subjects::PUBLISH_SUBSCRIBE;
 use crate::support::{Pairs, assert_same, drop_table, hash_of_events, held, table_from, verifier};
 use iceoryx2_access::storage::{Existence, OpenSegmentError, Service, Tag};
+use iceoryx2_description::time::Time;
 use iceoryx2_errors::error::{
     EventCreateError, EventOpenError, EventOpenOrCreateError, PublishSubscribeCreateError,
     PublishSubscribeOpenError, PublishSubscribeOpenOrCreateError,
@@ -15,7 +16,6 @@ use iceoryx2_errors::error::{
 use iceoryx2_script::script::{Answer, Script, Scripted};
 use iceoryx2_table::local::Local;
 use iceoryx2_table::table::Table;
-use iceoryx2_description::time::Time;
 use std::alloc::Global;
 use std::process::Abort;
 

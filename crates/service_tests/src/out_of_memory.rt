@@ -13,6 +13,8 @@ use iceoryx2_access::storage::{
 };
 use iceoryx2_builder::builder::{self, Node, event, publish_subscribe, request_response};
 use iceoryx2_commands::command::How;
+use iceoryx2_description::config::Config;
+use iceoryx2_description::time::Time;
 use iceoryx2_errors::error::{
     EventCreateError, EventOpenError, EventOpenOrCreateError, PublishSubscribeCreateError,
     PublishSubscribeOpenError, PublishSubscribeOpenOrCreateError, RequestResponseCreateError,
@@ -20,8 +22,6 @@ use iceoryx2_errors::error::{
 };
 use iceoryx2_script::script::{Answer, Script, Scripted};
 use iceoryx2_types::types::{CustomHeaderMarker, CustomPayloadMarker, Slice};
-use iceoryx2_description::config::Config;
-use iceoryx2_description::time::Time;
 use std::alloc::Global;
 use std::process::Abort;
 

@@ -2,10 +2,10 @@
 
 use crate::support::*;
 use iceoryx2_commands::command::{Command, How, Refusal, Reply};
-use iceoryx2_errors::error::{EventCreateError, EventOpenError, EventOpenOrCreateError};
-use iceoryx2_session::session::Session;
 use iceoryx2_description::config::Config;
 use iceoryx2_description::time::Time;
+use iceoryx2_errors::error::{EventCreateError, EventOpenError, EventOpenOrCreateError};
+use iceoryx2_session::session::Session;
 use std::alloc::{AllocError, Global};
 use std::process::Abort;
 

@@ -2,12 +2,12 @@
 
 use crate::support::*;
 use iceoryx2_attribute::attribute::AttributeVerifier;
-use iceoryx2_commands::command::{Command, EventSetting, How, Refusal, Reply};
+use iceoryx2_commands::command::{Command, EventSetter, How, Refusal, Reply};
+use iceoryx2_description::config::Config;
+use iceoryx2_description::time::{ClockFault, Duration, Time};
 use iceoryx2_errors::error::{EventCreateError, EventOpenError};
 use iceoryx2_session::session::Session;
 use iceoryx2_table::table::Table;
-use iceoryx2_description::config::Config;
-use iceoryx2_description::time::{ClockFault, Duration, Time};
 use std::alloc::Global;
 use std::process::Abort;
 
@@ -36,7 +36,7 @@ fn call(
     alloc: Global,
     session: &mut Session,
     called: Called,
-    settings: &[EventSetting],
+    settings: &[EventSetter],
 ) -> Reply {
     let attributes = AttributeVerifier::new(alloc);
     let now = Ok(Time::default());
@@ -120,12 +120,12 @@ fn finishing_closes_every_slot(rt: HostRuntime) {
 }
 
 /// Settings, the last of which counts.
-const SETTINGS: [EventSetting; 5] = [
-    EventSetting::MaxNodes(9),
-    EventSetting::MaxNotifiers(3),
-    EventSetting::MaxListeners(4),
-    EventSetting::EventIdMaxValue(5),
-    EventSetting::MaxNodes(2),
+const SETTINGS: [EventSetter; 5] = [
+    EventSetter::MaxNodes(9),
+    EventSetter::MaxNotifiers(3),
+    EventSetter::MaxListeners(4),
+    EventSetter::EventIdMaxValue(5),
+    EventSetter::MaxNodes(2),
 ];
 
 /// What a create with several settings answers, a second one, and an open of what is missing; and
@@ -133,7 +133,7 @@ const SETTINGS: [EventSetting; 5] = [
 fn answers_of_settings(rt: &impl Abort, alloc: Global) -> ([Reply; 3], u64) {
     let mut session = started(alloc, Config::default());
     let made = call(rt, alloc, &mut session, (How::Create, 1, 0, "a"), &SETTINGS);
-    let (max_nodes, _) = seats(rt, session.table());
+    let (max_nodes, _) = node_views(rt, session.table());
     let refused = call(rt, alloc, &mut session, (How::Create, 1, 1, "a"), &[]);
     let missing = call(rt, alloc, &mut session, (How::Open, 1, 1, "b"), &[]);
     drop_table(finished(session));
@@ -160,8 +160,8 @@ fn with_deadline() -> Config {
 /// What creates and opens answer that are refused, each for its own reason.
 fn refusals(rt: &impl Abort, alloc: Global) -> [Reply; 6] {
     let mut session = started(alloc, with_deadline());
-    let one = [EventSetting::MaxNodes(1)];
-    let two = [EventSetting::MaxNodes(2)];
+    let one = [EventSetter::MaxNodes(1)];
+    let two = [EventSetter::MaxNodes(2)];
     let missing = call(rt, alloc, &mut session, (How::Open, 1, 0, "a"), &[]);
     let attributes = AttributeVerifier::new(alloc);
     let create = (How::Create, 1, 1, "a");

@@ -5,15 +5,15 @@ use iceoryx2_access::storage::{Service, ServiceNameHasher, Sha1Hasher};
 use iceoryx2_attribute::attribute::{AttributeSpecifier, AttributeVerifier};
 use iceoryx2_builder::builder::Node;
 use iceoryx2_builder::builder::event::Builder;
-use iceoryx2_commands::command::{Call, Command, EventSetting, How, Settings};
-use iceoryx2_errors::error::{EventCreateError, EventOpenError};
-use iceoryx2_port_factory::port_factory::event::PortFactory;
-use iceoryx2_table::local::Local;
-use iceoryx2_table::table::Table;
+use iceoryx2_commands::command::{Call, Command, EventSetter, How, Settings};
 use iceoryx2_description::config::Config;
 use iceoryx2_description::description::{ServiceHash, ServiceName};
 use iceoryx2_description::event::{Deadline, StaticConfig};
 use iceoryx2_description::time::{ClockFault, Duration, Time};
+use iceoryx2_errors::error::{EventCreateError, EventOpenError};
+use iceoryx2_port_factory::port_factory::event::PortFactory;
+use iceoryx2_table::local::Local;
+use iceoryx2_table::table::Table;
 use iceoryx2_world::listing::{Entry, ListedRow, ListedSegment};
 use std::alloc::Global;
 use std::fmt::Debug;
@@ -303,7 +303,7 @@ pub fn row_and_segment(rt: &impl Abort, table: &Table) -> (Row, Segment) {
 }
 
 /// The nodes for which the segment of the only service has room, and those that are in it.
-pub fn seats(rt: &impl Abort, table: &Table) -> (u64, u64) {
+pub fn node_views(rt: &impl Abort, table: &Table) -> (u64, u64) {
     match row_and_segment(rt, table) {
         (_, Some((_, max_nodes, participants, _))) => (max_nodes, participants),
         _ => panic!(rt; "no segment"),
@@ -316,7 +316,7 @@ pub fn held(table: &Table, node: u64, hash: &ServiceHash) -> (bool, u64) {
 }
 
 /// Settings in a vector.
-fn listed_settings(rt: &impl Abort, alloc: Global, settings: &[EventSetting]) -> Vec<EventSetting> {
+fn listed_settings(rt: &impl Abort, alloc: Global, settings: &[EventSetter]) -> Vec<EventSetter> {
     let mut all = Vec::new(alloc);
     match all.extend_from_slice(settings) {
         Ok(()) => all,
@@ -332,7 +332,7 @@ pub fn command(
     rt: &impl Abort,
     alloc: Global,
     (how, node, slot, text): Called,
-    settings: &[EventSetting],
+    settings: &[EventSetter],
     attributes: AttributeVerifier,
     now: Result<Time, ClockFault>,
 ) -> Command {

@@ -2,9 +2,9 @@
 
 use crate::plain::{Plain, PlainTable};
 use iceoryx2_access::storage::Service;
+use iceoryx2_description::description::ServiceHash;
 use iceoryx2_table::local::Local;
 use iceoryx2_table::table::{Step, Table};
-use iceoryx2_description::description::ServiceHash;
 use iceoryx2_world::listing::Entry;
 use std::alloc::{AllocError, Global};
 

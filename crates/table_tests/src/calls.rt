@@ -6,9 +6,9 @@ use crate::support::name;
 use iceoryx2_access::storage::{Service, Storage};
 use iceoryx2_builder::builder::{Builder, Node, event, publish_subscribe, request_response};
 use iceoryx2_commands::command::{How, Refusal};
+use iceoryx2_description::time::Time;
 use iceoryx2_port_factory::port_factory::Registration;
 use iceoryx2_types::types::{CustomHeaderMarker, CustomPayloadMarker, Slice};
-use iceoryx2_description::time::Time;
 use std::alloc::Global;
 use std::process::Abort;
 

@@ -2,14 +2,14 @@
 
 use crate::support::name;
 use iceoryx2_attribute::attribute::AttributeSet;
+use iceoryx2_description::config::Config;
+use iceoryx2_description::description::{MessagingPattern, ServiceHash, StaticConfig};
+use iceoryx2_description::{event, publish_subscribe, request_response};
 use iceoryx2_types::types::publish_subscribe::Header;
 use iceoryx2_types::types::request_response::{RequestHeader, ResponseHeader};
 use iceoryx2_types::types::{
     CustomHeaderMarker, CustomPayloadMarker, MessageTypeDetails, TypeVariant, ZeroCopySend,
 };
-use iceoryx2_description::config::Config;
-use iceoryx2_description::description::{MessagingPattern, ServiceHash, StaticConfig};
-use iceoryx2_description::{event, publish_subscribe, request_response};
 use std::alloc::Global;
 use std::process::Abort;
 

@@ -5,8 +5,8 @@ use iceoryx2_access::storage::{
     Existence, FetchError, LockError, MakeSegmentError, OpenSegmentError, PublishError, Release,
     ReleaseError, RemoveError, Service, Sha1Hasher, Storage, Tag, TagError,
 };
-use iceoryx2_table::table::{Act, Step};
 use iceoryx2_description::description::{ServiceHash, StaticConfig};
+use iceoryx2_table::table::{Act, Step};
 use iceoryx2_world::listing::Entry;
 use iceoryx2_world::world::{Participant, Phase};
 use std::alloc::{AllocError, Global};

@@ -8,15 +8,15 @@ use crate::support::push;
 use iceoryx2_attribute::attribute::{AttributeSpecifier, AttributeVerifier};
 use iceoryx2_builder::builder::{Node, event};
 use iceoryx2_commands::command::{
-    Call, Command, EventSetting, How, PublishSubscribeSetting, Refusal, Reply,
-    RequestResponseSetting, SLOTS, Settings,
+    Call, Command, EventSetter, How, PublishSubscribeSetter, Refusal, Reply, RequestResponseSetter,
+    SLOTS, Settings,
 };
+use iceoryx2_description::config::Config;
+use iceoryx2_description::time::{ClockFault, Time};
 use iceoryx2_port_factory::port_factory::Registration;
 use iceoryx2_session::session::Session;
 use iceoryx2_table::local::Local;
 use iceoryx2_table::table::Table;
-use iceoryx2_description::config::Config;
-use iceoryx2_description::time::{ClockFault, Time};
 use std::alloc::Global;
 use std::process::Abort;
 
@@ -88,7 +88,7 @@ pub struct PlainSession {
 /// A call for events, after each setter. A create defines the required pairs.
 fn of_events(
     builder: event::Builder<Plain>,
-    settings: Vec<EventSetting>,
+    settings: Vec<EventSetter>,
     attributes: AttributeVerifier,
     (how, now): (How, Result<Time, ClockFault>),
     table: &mut PlainTable,
@@ -121,7 +121,7 @@ fn of_events(
 /// A call for publish-subscribe.
 fn of_messages(
     builder: MessageBuilder<Plain>,
-    settings: Vec<PublishSubscribeSetting>,
+    settings: Vec<PublishSubscribeSetter>,
     attributes: AttributeVerifier,
     how: How,
     table: &mut PlainTable,
@@ -152,7 +152,7 @@ fn of_messages(
 /// A call for request-response.
 fn of_requests(
     builder: RequestBuilder<Plain>,
-    settings: Vec<RequestResponseSetting>,
+    settings: Vec<RequestResponseSetter>,
     attributes: AttributeVerifier,
     how: How,
     table: &mut PlainTable,

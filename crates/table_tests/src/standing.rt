@@ -2,8 +2,8 @@
 
 use iceoryx2_access::storage::{Existence, FetchError, OpenSegmentError};
 use iceoryx2_byte_form::bytes::encode;
-use iceoryx2_table::table::Act;
 use iceoryx2_description::description::{ServiceHash, StaticConfig};
+use iceoryx2_table::table::Act;
 use iceoryx2_world::listing::{Entry, ListedRow, ListedSegment};
 use iceoryx2_world::world::{Bytes, Participant, Phase, Row};
 use std::alloc::{AllocError, Global};

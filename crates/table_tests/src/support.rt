@@ -7,7 +7,7 @@ use iceoryx2_attribute::attribute::AttributeVerifier;
 use iceoryx2_builder::builder::Node;
 use iceoryx2_builder::builder::event::Builder;
 use iceoryx2_commands::command::{
-    Call, Command, EventSetting, How, PublishSubscribeSetting, RequestResponseSetting, Settings,
+    Call, Command, EventSetter, How, PublishSubscribeSetter, RequestResponseSetter, Settings,
 };
 use iceoryx2_description::config::Config;
 use iceoryx2_description::description::ServiceName;
@@ -72,13 +72,13 @@ fn only<T: Drop>(rt: &impl Abort, alloc: Global, setter: T) -> Vec<T> {
 /// The setter of a pattern for so many nodes.
 pub fn for_nodes(rt: &impl Abort, alloc: Global, pattern: Pattern, nodes: u64) -> Settings {
     match pattern {
-        Pattern::Event => Settings::Event(only(rt, alloc, EventSetting::MaxNodes(nodes))),
+        Pattern::Event => Settings::Event(only(rt, alloc, EventSetter::MaxNodes(nodes))),
         Pattern::PublishSubscribe => {
-            let setter = PublishSubscribeSetting::MaxNodes(nodes);
+            let setter = PublishSubscribeSetter::MaxNodes(nodes);
             Settings::PublishSubscribe(only(rt, alloc, setter))
         }
         Pattern::RequestResponse => {
-            let setter = RequestResponseSetting::MaxNodes(nodes);
+            let setter = RequestResponseSetter::MaxNodes(nodes);
             Settings::RequestResponse(only(rt, alloc, setter))
         }
     }

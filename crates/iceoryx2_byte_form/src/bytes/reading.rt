@@ -11,19 +11,19 @@ use super::{
     DecodeError, EVENT_BYTE, MAGIC, PUBLISH_SUBSCRIBE_BYTE, REQUEST_RESPONSE_BYTE,
     VERSION_WITH_CREATOR, VERSION_WITHOUT_CREATOR,
 };
-use iceoryx2_attribute::attribute::{
-    AttributeSet, MAX_ATTRIBUTES, MAX_KEY_LENGTH, MAX_VALUE_LENGTH, MIN_KEY_LENGTH, PushError,
-};
 use crate::parts::reading::{
     bytes_of, id_of, literal_of, message_of, optional_deadline_of, text_of, truth_of, u16_at,
     u64_at,
 };
-use iceoryx2_types::types::MessageTypeDetails;
+use iceoryx2_attribute::attribute::{
+    AttributeSet, MAX_ATTRIBUTES, MAX_KEY_LENGTH, MAX_VALUE_LENGTH, MIN_KEY_LENGTH, PushError,
+};
 use iceoryx2_description::description::{
     HASH_LENGTH, MAX_NAME_LENGTH, MIN_NAME_LENGTH, MessagingPattern, ServiceHash, ServiceName,
     StaticConfig,
 };
 use iceoryx2_description::{event, publish_subscribe, request_response};
+use iceoryx2_types::types::MessageTypeDetails;
 use std::alloc::Global;
 
 #[tactic(auto, unfolding(crate::specs::Reading::event_at))]

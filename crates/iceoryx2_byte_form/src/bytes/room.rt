@@ -2,9 +2,9 @@
 //! change no form, so it is only tested.
 
 use iceoryx2_attribute::attribute::AttributeSet;
-use iceoryx2_types::types::{MessageTypeDetails, TypeDetail};
 use iceoryx2_description::description::{MessagingPattern, StaticConfig};
 use iceoryx2_description::event::{self, Deadline, EventId};
+use iceoryx2_types::types::{MessageTypeDetails, TypeDetail};
 
 /// A version byte or a flag, alone or with what stands behind it where it is there.
 fn optional<T: Copy>(value: Option<T>, length: usize) -> usize {

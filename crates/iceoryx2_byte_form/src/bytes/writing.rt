@@ -9,10 +9,10 @@ use super::{
     EVENT_BYTE, MAGIC, PUBLISH_SUBSCRIBE_BYTE, REQUEST_RESPONSE_BYTE, VERSION_WITH_CREATOR,
     VERSION_WITHOUT_CREATOR,
 };
-use iceoryx2_attribute::attribute::{Attribute, AttributeSet};
 use crate::parts::writing::{
     put_id, put_message, put_number, put_optional_deadline, put_text, put_truth,
 };
+use iceoryx2_attribute::attribute::{Attribute, AttributeSet};
 use iceoryx2_description::description::{MessagingPattern, StaticConfig};
 use iceoryx2_description::{event, publish_subscribe, request_response};
 use std::alloc::AllocError;

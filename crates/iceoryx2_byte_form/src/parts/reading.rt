@@ -12,12 +12,12 @@ ghost use Rattle.iceoryx2_byte_form.specs.declared.parts.reading.DecodeError.The
 ghost use Rattle.iceoryx2_byte_form.specs.PartReading.{IsReadBy, number_at, bytes_at, literal_at, text_at, truth_at, option_at};
 ghost use Rattle.iceoryx2_byte_form.specs.PartReading.{span_at, deadline_at, variant_at, detail_at, message_at};
 
+use iceoryx2_description::event::{Deadline, EventId};
+use iceoryx2_description::time::{Duration, Time};
 use iceoryx2_types::types::{
     MAX_TYPE_NAME_LENGTH, MIN_TYPE_NAME_LENGTH, MessageTypeDetails, TypeDetail, TypeDetailError,
     TypeVariant,
 };
-use iceoryx2_description::event::{Deadline, EventId};
-use iceoryx2_description::time::{Duration, Time};
 use std::alloc::{AllocError, Global};
 use std::error::Error;
 use std::fmt;

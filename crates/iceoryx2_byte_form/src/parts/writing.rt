@@ -3,9 +3,9 @@
 ghost use Rattle.std.specs.Prelude.{◌≡◌, ◌<◌, ◌^◌, ◌++◌, length, OnOk};
 ghost use Rattle.iceoryx2_byte_form.specs.PartForm as form;
 
-use iceoryx2_types::types::{MessageTypeDetails, TypeDetail, TypeVariant};
 use iceoryx2_description::event::{Deadline, EventId};
 use iceoryx2_description::time::{Duration, Time};
+use iceoryx2_types::types::{MessageTypeDetails, TypeDetail, TypeVariant};
 use std::alloc::AllocError;
 
 /// Eight bytes.

@@ -2,12 +2,12 @@
 use Rattle.std.proofs.Common.{◌≡◌, ◌≢◌, ◌⊎◌, ℕ, ◌≤◌, Bool, true, false, List, Result, Ok, Err, inl, inr, refl, sym, ap, subst, ◌∙◌}
 use Rattle.std.specs.Prelude.{IfOk}
 use Rattle.iceoryx2_description.specs.Description.{Description}
-use Rattle.iceoryx2_access.specs.Factory.{Factory}
+use Rattle.iceoryx2_access.specs.Registered.{Registered}
 use Rattle.iceoryx2_access.specs.Letter.{Letter}
 use Rattle.iceoryx2_access.specs.Run.{Run, Each}
 use Rattle.iceoryx2_world.specs.World.{World}
 use Rattle.iceoryx2_world.specs.Across.{Agrees}
-use Rattle.iceoryx2_world.specs.Faulty.{IsFaulty}
+use Rattle.iceoryx2_world.specs.Fallible.{IsFallibleAccess}
 use Rattle.iceoryx2_world.specs.Standing.{Stands}
 use Rattle.iceoryx2_pattern.specs.declared.pattern.OpenRefusal.TheVariants as open_refusal
 use Rattle.iceoryx2_pattern.specs.declared.pattern.CreateRefusal.TheVariants as create_refusal
@@ -30,37 +30,37 @@ use Rattle.iceoryx2_call_laws.proofs.calls.Opened.{open_stands}
 use Rattle.iceoryx2_call_laws.proofs.calls.Turns.{open_or_create_stands}
 
 -- a word of a call that doesn't prepare is one of a call that may
-may_prepare : {E : Type 0} (b : Bool) {no_memory : E} {IsWord : List Letter → Result Factory E → Type 0} {word : List Letter} {answer : Result Factory E} → PreparedIf b no_memory IsWord word answer → IsPrepared no_memory IsWord word answer
+may_prepare : {E : Type 0} (b : Bool) {no_memory : E} {IsWord : List Letter → Result Registered E → Type 0} {word : List Letter} {answer : Result Registered E} → PreparedIf b no_memory IsWord word answer → IsPrepared no_memory IsWord word answer
 may_prepare true is = is
 may_prepare false is = prepared is
 
 module _ {D F E C : Type 0} (c : AnyCall D F E C) where
-  pub each_word : (P : (way : Way) → List Letter → Result Factory (ErrorBy E C way) → Type 0)
-      → ((word : List Letter) (answer : Result Factory C) → IsCreateCall (creating c) c.asks.node c.asks.hash c.asks.name c.asks.now word answer → P ToCreate word answer)
-      → ((word : List Letter) (answer : Result Factory E) → IsOpenCall (opening c) c.asks.node c.asks.hash word answer → P ToOpen word answer)
-      → ((word : List Letter) (answer : Result Factory (OpenOrCreateRefusal E C)) → IsAttempted c.asks word answer → P ToOpenOrCreate word answer)
-      → (way : Way) (word : List Letter) (answer : Result Factory (ErrorBy E C way)) → IsWordBy c way word answer → P way word answer
+  pub each_word : (P : (way : Way) → List Letter → Result Registered (ErrorBy E C way) → Type 0)
+      → ((word : List Letter) (answer : Result Registered C) → IsCreateCall (creating c) c.asks.node c.asks.hash c.asks.name c.asks.now word answer → P ToCreate word answer)
+      → ((word : List Letter) (answer : Result Registered E) → IsOpenCall (opening c) c.asks.node c.asks.hash word answer → P ToOpen word answer)
+      → ((word : List Letter) (answer : Result Registered (OpenOrCreateRefusal E C)) → IsAttempted c.asks word answer → P ToOpenOrCreate word answer)
+      → (way : Way) (word : List Letter) (answer : Result Registered (ErrorBy E C way)) → IsWordBy c way word answer → P way word answer
   each_word P creates opens both ToCreate word answer is = creates word answer (may_prepare c.prepares is)
   each_word P creates opens both ToOpen word answer is = opens word answer (may_prepare c.prepares is)
   each_word P creates opens both ToOpenOrCreate word answer is = both word answer (may_prepare c.prepares is)
 
   -- none releases a ticket
-  pub any_letters : (word : List Letter) (answer : Result Factory (ErrorBy E C c.way)) → IsWordOf c word answer → Each IsNoRelease word
+  pub any_letters : (word : List Letter) (answer : Result Registered (ErrorBy E C c.way)) → IsWordOf c word answer → Each IsNoRelease word
   any_letters word answer is = each_word (λ way word answer. Each IsNoRelease word) (λ word answer is. create_call_letters is) (λ word answer is. open_call_letters is) (λ word answer is. attempt_letters is) c.way word answer is
 
   -- each is short
-  pub any_short : (word : List Letter) (answer : Result Factory (ErrorBy E C c.way)) → IsWordOf c word answer → IsShortBy c.way word
+  pub any_short : (word : List Letter) (answer : Result Registered (ErrorBy E C c.way)) → IsWordOf c word answer → IsShortBy c.way word
   any_short word answer is = each_word (λ way word answer. IsShortBy way word) (λ word answer is. create_call_within (creating c) c.asks.node c.asks.hash is) (λ word answer is. open_call_within (opening c) c.asks.node c.asks.hash is) (λ word answer is. open_or_create_call_within c.asks.meaning c.asks.adjusted c.asks.retried c.asks.required c.asks.node c.asks.hash c.asks.name c.asks.now is) c.way word answer is
 
   -- what a granted one has given
-  pub record Given (way : Way) (w v : World) (r : Factory) : Type 0 where
+  pub record Given (way : Way) (w v : World) (r : Registered) : Type 0 where
     pub stands : Stands v r
     pub node : r.node ≡ c.asks.node
     pub hash : r.description.hash ≡ c.asks.hash
     pub carries : MayCarryBy c way r.description
     pub ticket : w.counter ≤ r.ticket
 
-  given_create : {w v : World} (word : List Letter) (own : Result Factory C) → IsCreateCall (creating c) c.asks.node c.asks.hash c.asks.name c.asks.now word own → Run IsFaulty w word v → Agrees w → IfOk own (Given ToCreate w v)
+  given_create : {w v : World} (word : List Letter) (own : Result Registered C) → IsCreateCall (creating c) c.asks.node c.asks.hash c.asks.name c.asks.now word own → Run IsFallibleAccess w word v → Agrees w → IfOk own (Given ToCreate w v)
   given_create word (Err e) is run old = tt
   given_create word (Ok r) is run old = let o = create_stands (granted_call is) run old in record {
     stands = o.0;
@@ -70,7 +70,7 @@ module _ {D F E C : Type 0} (c : AnyCall D F E C) where
     ticket = o.3;
   }
 
-  given_open : {w v : World} (word : List Letter) (own : Result Factory E) → IsOpenCall (opening c) c.asks.node c.asks.hash word own → Run IsFaulty w word v → Agrees w → IfOk own (Given ToOpen w v)
+  given_open : {w v : World} (word : List Letter) (own : Result Registered E) → IsOpenCall (opening c) c.asks.node c.asks.hash word own → Run IsFallibleAccess w word v → Agrees w → IfOk own (Given ToOpen w v)
   given_open word (Err e) is run old = tt
   given_open word (Ok r) is run old = let o = open_stands (granted_call is) run old in record {
     stands = o.stands;
@@ -88,13 +88,13 @@ module _ {D F E C : Type 0} (c : AnyCall D F E C) where
   carried (meets same accepts) = inl (record { hash = same; accepted = accepts })
   carried holds = inr refl
 
-  given_either : {w v : World} (word : List Letter) (answer : Result Factory (OpenOrCreateRefusal E C)) → IsAttempted c.asks word answer → Run IsFaulty w word v → Agrees w → IfOk answer (Given ToOpenOrCreate w v)
+  given_either : {w v : World} (word : List Letter) (answer : Result Registered (OpenOrCreateRefusal E C)) → IsAttempted c.asks word answer → Run IsFallibleAccess w word v → Agrees w → IfOk answer (Given ToOpenOrCreate w v)
   given_either word (Err e) is run old = tt
   given_either word (Ok r) is run old =
       let o = open_or_create_stands (granted_call is) run old in
       let carries = granted_carries (granted_call is) in
       record { stands = o.0; node = carries.0; hash = carries_hash carries.1; carries = λ raises. carried (carries_once raises carries.1); ticket = o.1 }
 
-  pub any_given : (w v : World) (word : List Letter) (answer : Result Factory (ErrorBy E C c.way)) → IsWordOf c word answer → Run IsFaulty w word v → Agrees w → IfOk answer (Given c.way w v)
-  any_given w v word answer is = each_word (λ way word answer. Run IsFaulty w word v → Agrees w → IfOk answer (Given way w v))
+  pub any_given : (w v : World) (word : List Letter) (answer : Result Registered (ErrorBy E C c.way)) → IsWordOf c word answer → Run IsFallibleAccess w word v → Agrees w → IfOk answer (Given c.way w v)
+  any_given w v word answer is = each_word (λ way word answer. Run IsFallibleAccess w word v → Agrees w → IfOk answer (Given way w v))
       given_create given_open given_either c.way word answer is

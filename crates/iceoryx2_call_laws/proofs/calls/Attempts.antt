@@ -1,11 +1,11 @@
 -- What is so of the words of an open or create is so where it may prepare its types first.
 use Rattle.std.proofs.Common.{◌≡◌, List, Result, Err, ap}
-use Rattle.iceoryx2_access.specs.Factory.{Factory}
+use Rattle.iceoryx2_access.specs.Registered.{Registered}
 use Rattle.iceoryx2_access.specs.Letter.{Letter}
 use Rattle.iceoryx2_access.specs.Run.{Run, Each}
 use Rattle.iceoryx2_world.specs.World.{World}
 use Rattle.iceoryx2_world.specs.Across.{Agrees}
-use Rattle.iceoryx2_world.specs.Faulty.{IsFaulty}
+use Rattle.iceoryx2_world.specs.Fallible.{IsFallibleAccess}
 use Rattle.iceoryx2_create_and_open.proofs.Prepared.{each_call, refused_call}
 use Rattle.iceoryx2_open_or_create.specs.declared.open_or_create.OpenOrCreateRefusal.{OpenOrCreateRefusal}
 use Rattle.iceoryx2_call_laws.specs.Attempts.{Attempt, IsAttempted}
@@ -16,11 +16,11 @@ use Rattle.iceoryx2_call_laws.proofs.calls.Turns.{open_or_create_letters, open_o
 use Rattle.iceoryx2_call_laws.proofs.calls.Words.{IsNoRelease}
 
 module _ {D F E C : Type 0} {a : Attempt D F E C} where
-  pub attempt_letters : {word : List Letter} {answer : Result Factory (OpenOrCreateRefusal E C)} → IsAttempted a word answer → Each IsNoRelease word
+  pub attempt_letters : {word : List Letter} {answer : Result Registered (OpenOrCreateRefusal E C)} → IsAttempted a word answer → Each IsNoRelease word
   attempt_letters = each_call (λ word answer. Each IsNoRelease word) tt (λ word answer is. open_or_create_letters is)
 
-  pub attempt_tickets : {word : List Letter} {answer : Result Factory (OpenOrCreateRefusal E C)} {w v : World} → IsAttempted a word answer → Run IsFaulty w word v → v.tickets ≡ tickets_after w.tickets answer
-  attempt_tickets {w = w} {v = v} = each_call (λ word answer. Run IsFaulty w word v → v.tickets ≡ tickets_after w.tickets answer) (λ run. ap (λ (z : World). z.tickets) (nowhere run)) (λ word answer is run. open_or_create_tickets answer is run)
+  pub attempt_tickets : {word : List Letter} {answer : Result Registered (OpenOrCreateRefusal E C)} {w v : World} → IsAttempted a word answer → Run IsFallibleAccess w word v → v.tickets ≡ tickets_after w.tickets answer
+  attempt_tickets {w = w} {v = v} = each_call (λ word answer. Run IsFallibleAccess w word v → v.tickets ≡ tickets_after w.tickets answer) (λ run. ap (λ (z : World). z.tickets) (nowhere run)) (λ word answer is run. open_or_create_tickets answer is run)
 
-  pub refused_attempt_calm : {word : List Letter} {refusal : OpenOrCreateRefusal E C} (w : World) → Agrees w → IsAttempted a word (Err refusal) → AtEach IsFaulty ActsCalmly w word
-  refused_attempt_calm w old = refused_call (AtEach IsFaulty ActsCalmly w) tt (λ word refusal is. refused_open_or_create_calm w is old)
+  pub refused_attempt_calm : {word : List Letter} {refusal : OpenOrCreateRefusal E C} (w : World) → Agrees w → IsAttempted a word (Err refusal) → AtEach IsFallibleAccess ActsCalmly w word
+  refused_attempt_calm w old = refused_call (AtEach IsFallibleAccess ActsCalmly w) tt (λ word refusal is. refused_open_or_create_calm w is old)

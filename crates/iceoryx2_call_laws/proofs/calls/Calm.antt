@@ -9,7 +9,7 @@ use Rattle.iceoryx2_world.specs.World.{World, phase_of, locked_number}
 use Rattle.iceoryx2_access.specs.Letter.{Letter}
 use Rattle.iceoryx2_access.specs.Letter as letter
 use Rattle.iceoryx2_world.specs.Across.{Agrees}
-use Rattle.iceoryx2_world.specs.Faulty.{IsFaulty}
+use Rattle.iceoryx2_world.specs.Fallible.{IsFallibleAccess}
 use Rattle.iceoryx2_world.specs.Calm.{IsCalmLetter}
 use Rattle.iceoryx2_world.proofs.agreement.Parts.{locking}
 use Rattle.iceoryx2_world.proofs.agreement.Accesses.{peers_keep, faulty_keeps, granted}
@@ -18,7 +18,7 @@ use Rattle.iceoryx2_world.proofs.agreement.Calm.{own_calmed, own_unlocks, publis
 use Rattle.iceoryx2_create_and_open.specs.declared.look.Outcome.{Outcome}
 use Rattle.iceoryx2_pattern.specs.declared.pattern.CreateRefusal.{CreateRefusal}
 use Rattle.iceoryx2_pattern.specs.Meaning.{Meaning}
-use Rattle.iceoryx2_access.specs.Factory.{Factory}
+use Rattle.iceoryx2_access.specs.Registered.{Registered}
 use Rattle.iceoryx2_create_and_open.specs.Looks.{IsLookWord, absent, broken, fetched}
 use Rattle.iceoryx2_create_and_open.specs.GivesBack.{OwnLock, OwnSegment, own_tag, GivesBack, nothing_left, segment_back, lock_back, tag_back}
 use Rattle.iceoryx2_create_and_open.specs.Segments.{clearings, IsSegmentWord, made, not_made, not_removed, still_there}
@@ -30,13 +30,13 @@ use Rattle.iceoryx2_create_and_open.specs.Opens.{IsReady, ready, IsFailedRound, 
 use Rattle.iceoryx2_call_laws.specs.Calls.{AtEach, ActsCalmly, ChangesLast}
 
 -- the lock stays with its node
-lock_stays : (node : ℕ) (hash : ServiceHash) (b : Bool) (w : World) (l : Letter) (v : World) → IsCalmLetter l → IsFaulty w l v → WhileLocked node hash b w → WhileLocked node hash b v
+lock_stays : (node : ℕ) (hash : ServiceHash) (b : Bool) (w : World) (l : Letter) (v : World) → IsCalmLetter l → IsFallibleAccess w l v → WhileLocked node hash b w → WhileLocked node hash b v
 lock_stays node hash false w l v ok s has = tt
 lock_stays node hash true w l v ok (inl a) has = (has.0, (own_calmed a.between l v ok a.own).locks (Node node) hash has.0 (ap locked_number (peers_phase a.peers node hash) ∙ has.1))
 lock_stays node hash true w l v ok (inr f) has = (has.0, ap (λ u. locked_number (phase_of u (Node node) hash)) f.1 ∙ has.1)
 
 -- Each access of such a word is calm.
-pub calm_at_each : {node : ℕ} {hash : ServiceHash} {b c : Bool} {word : List Letter} (w : World) → Tame node hash b word c → WhileLocked node hash b w → Agrees w → AtEach IsFaulty ActsCalmly w word
+pub calm_at_each : {node : ℕ} {hash : ServiceHash} {b c : Bool} {word : List Letter} (w : World) → Tame node hash b word c → WhileLocked node hash b w → Agrees w → AtEach IsFallibleAccess ActsCalmly w word
 calm_at_each w ends has old = tt
 calm_at_each {node} {hash} {b = b} w (goes {l = l} ok more) has old = λ v s. (
   λ a. (own_calmed a.between l v ok a.own).same,
@@ -122,14 +122,14 @@ module _ {F E C : Type 0} {m : Meaning F E C} {node : ℕ} {hash : ServiceHash} 
   open_tame (all_failed before) = rounds_tame before
 
   -- A refused call changes nothing.
-  pub refused_create_calm : {stops : Bool} {d : Description} {word : List Letter} {error : C} (w : World) → IsCreating m node hash stops d word (Err error) → Agrees w → AtEach IsFaulty ActsCalmly w word
+  pub refused_create_calm : {stops : Bool} {d : Description} {word : List Letter} {error : C} (w : World) → IsCreating m node hash stops d word (Err error) → Agrees w → AtEach IsFallibleAccess ActsCalmly w word
   refused_create_calm w is old = calm_at_each w (create_tame is) tt old
 
-  pub refused_open_calm : {word : List Letter} {error : E} (w : World) → IsOpenWord m node hash word (Err error) → Agrees w → AtEach IsFaulty ActsCalmly w word
+  pub refused_open_calm : {word : List Letter} {error : E} (w : World) → IsOpenWord m node hash word (Err error) → Agrees w → AtEach IsFallibleAccess ActsCalmly w word
   refused_open_calm w is old = calm_at_each w (open_tame is) tt old
 
   -- A granted create changes something where it publishes.
-  service_changes : {d : Description} {tag : Tag} {x z : List Letter} {r : Factory} (w : World) → Tame node hash false x false → IsServiceWord m node hash d tag z (Ok r) → Agrees w → ChangesLast node hash w (x ++ z)
+  service_changes : {d : Description} {tag : Tag} {x z : List Letter} {r : Registered} (w : World) → Tame node hash false x false → IsServiceWord m node hash d tag z (Ok r) → Agrees w → ChangesLast node hash w (x ++ z)
   service_changes {d} {x = x} w before (published {v = y} n t segment) old = record {
     front = x ++ letter.Lock node hash (Ok n) ∷ y;
     final = letter.Publish node hash n d (Ok t);
@@ -138,18 +138,18 @@ module _ {F E C : Type 0} {m : Meaning F E C} {node : ℕ} {hash : ServiceHash} 
     change = λ u v a. publishing_counts a.between v node hash n d t a.own;
   }
 
-  created_changes_after : {stops : Bool} {d : Description} {x z : List Letter} {r : Factory} (w : World) → Tame node hash false x false → IsCreating m node hash stops d z (Ok r) → Agrees w → ChangesLast node hash w (x ++ z)
+  created_changes_after : {stops : Bool} {d : Description} {x z : List Letter} {r : Registered} (w : World) → Tame node hash false x false → IsCreating m node hash stops d z (Ok r) → Agrees w → ChangesLast node hash w (x ++ z)
   created_changes_after {x = x} w before (creates.made {u} {v} _ _ entry service) old =
       subst (ChangesLast node hash w) (append_assoc x u v) (service_changes w (tame_both before (entry_tame entry)) service old)
 
-  pub created_changes : {stops : Bool} {d : Description} {word : List Letter} {r : Factory} (w : World) → IsCreating m node hash stops d word (Ok r) → Agrees w → ChangesLast node hash w word
+  pub created_changes : {stops : Bool} {d : Description} {word : List Letter} {r : Registered} (w : World) → IsCreating m node hash stops d word (Ok r) → Agrees w → ChangesLast node hash w word
   created_changes w is old = created_changes_after w ends is old
 
   -- so does one after a look in a round of an open or create
-  pub creates_after : {stops : Bool} {d : Description} (x u v : List Letter) {r : Factory} (w : World) → Tame node hash false (x ++ u) false → IsCreating m node hash stops d v (Ok r) → Agrees w → ChangesLast node hash w (x ++ (u ++ v))
+  pub creates_after : {stops : Bool} {d : Description} (x u v : List Letter) {r : Registered} (w : World) → Tame node hash false (x ++ u) false → IsCreating m node hash stops d v (Ok r) → Agrees w → ChangesLast node hash w (x ++ (u ++ v))
   creates_after x u v w before is old = subst (ChangesLast node hash w) (append_assoc x u v) (created_changes_after w before is old)
 
-  round_changes : {x y : List Letter} {r : Factory} (w : World) → Tame node hash false x false → IsLastRound m node hash y (Ok r) → Agrees w → ChangesLast node hash w (x ++ y)
+  round_changes : {x y : List Letter} {r : Registered} (w : World) → Tame node hash false x false → IsLastRound m node hash y (Ok r) → Agrees w → ChangesLast node hash w (x ++ y)
   round_changes {x = x} w before (opens.opened {u = y} {n = n} t r) old = record {
     front = x ++ y;
     final = letter.OpenSegment node hash n (Ok t);
@@ -159,12 +159,12 @@ module _ {F E C : Type 0} {m : Meaning F E C} {node : ℕ} {hash : ServiceHash} 
   }
 
   -- A granted open changes something where it opens.
-  opened_changes_after : {x z : List Letter} {r : Factory} (w : World) → Tame node hash false x false → IsOpenWord m node hash z (Ok r) → Agrees w → ChangesLast node hash w (x ++ z)
+  opened_changes_after : {x z : List Letter} {r : Registered} (w : World) → Tame node hash false x false → IsOpenWord m node hash z (Ok r) → Agrees w → ChangesLast node hash w (x ++ z)
   opened_changes_after {x = x} w before (ended {u} {v} small rounds l) old =
       subst (ChangesLast node hash w) (append_assoc x u v) (round_changes w (tame_both before (rounds_tame rounds)) l old)
 
-  pub opened_changes : {word : List Letter} {r : Factory} (w : World) → IsOpenWord m node hash word (Ok r) → Agrees w → ChangesLast node hash w word
+  pub opened_changes : {word : List Letter} {r : Registered} (w : World) → IsOpenWord m node hash word (Ok r) → Agrees w → ChangesLast node hash w word
   opened_changes w is old = opened_changes_after w ends is old
 
-  pub opens_after : (x u v : List Letter) {r : Factory} (w : World) → Tame node hash false (x ++ u) false → IsOpenWord m node hash v (Ok r) → Agrees w → ChangesLast node hash w (x ++ (u ++ v))
+  pub opens_after : (x u v : List Letter) {r : Registered} (w : World) → Tame node hash false (x ++ u) false → IsOpenWord m node hash v (Ok r) → Agrees w → ChangesLast node hash w (x ++ (u ++ v))
   opens_after x u v w before is old = subst (ChangesLast node hash w) (append_assoc x u v) (opened_changes_after w before is old)

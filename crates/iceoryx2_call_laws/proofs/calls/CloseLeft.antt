@@ -8,7 +8,7 @@ use Rattle.iceoryx2_access.specs.declared.storage.Release.TheVariants as leave
 use Rattle.iceoryx2_access.specs.Letter.{Letter}
 use Rattle.iceoryx2_access.specs.Letter as letter
 use Rattle.iceoryx2_access.specs.Run.{Run}
-use Rattle.iceoryx2_access.specs.Factory.{Factory}
+use Rattle.iceoryx2_access.specs.Registered.{Registered}
 use Rattle.iceoryx2_access.proofs.Run.{head, last}
 use Rattle.iceoryx2_world.specs.Sets as set
 use Rattle.iceoryx2_world.specs.declared.world.Participant.{Participant}
@@ -19,11 +19,11 @@ use Rattle.iceoryx2_world.specs.declared.world.Row.{Row}
 use Rattle.iceoryx2_world.specs.declared.world.Row.TheVariants as row
 use Rattle.iceoryx2_world.specs.World.{World, Segment, row_of, segment_of, phase_of, joined_number, ticket_of}
 use Rattle.iceoryx2_world.specs.Acts as act
-use Rattle.iceoryx2_world.specs.Steps.{Spot}
+use Rattle.iceoryx2_world.specs.Steps.{ServiceView}
 use Rattle.iceoryx2_world.specs.Agreement.{Later, IsPublished}
 use Rattle.iceoryx2_world.specs.Across.{Agrees}
 use Rattle.iceoryx2_world.specs.Access.{write, release_answer}
-use Rattle.iceoryx2_world.specs.Faulty.{IsFaulty}
+use Rattle.iceoryx2_world.specs.Fallible.{IsFallibleAccess}
 use Rattle.iceoryx2_world.specs.StepCases.{IsStep, leaves_once, leaves, leaves_last}
 use Rattle.iceoryx2_world.proofs.agreement.StepCases.{step_case}
 use Rattle.iceoryx2_world.proofs.agreement.Effects.{allowed_step}
@@ -47,7 +47,7 @@ LeadsTo n leave.StillCounted old new = (k : ℕ) × (1 < k) × (old ≡ at.Joine
 LeadsTo n leave.Left old new = new ≡ at.Idle
 LeadsTo n leave.Last old new = new ≡ at.Leaving n
 
-leave_row : {p : Participant} {h : ServiceHash} {x : Phase} {r : Option Row} {s : Option Segment} {c : ℕ} {new : Spot} (n : ℕ) → IsStep p h act.Leave x r s c new → joined_number x ≡ Some n → LeadsTo n (release_answer new.phase) x new.phase
+leave_row : {p : Participant} {h : ServiceHash} {x : Phase} {r : Option Row} {s : Option Segment} {c : ℕ} {new : ServiceView} (n : ℕ) → IsStep p h act.Leave x r s c new → joined_number x ≡ Some n → LeadsTo n (release_answer new.phase) x new.phase
 leave_row n (leaves_once {n = m} {k = k} more) e = let same : m ≡ n = cc in (k, more, ap (λ z. at.Joined z k) same, ap (λ z. at.Joined z (k - 1)) same)
 leave_row n (leaves one others) e = refl
 leave_row n (leaves_last {n = m} one alone) e = let same : m ≡ n = cc in ap at.Leaving same
@@ -57,13 +57,13 @@ row_stays : (w v : World) (h : ServiceHash) (n : ℕ) → Later w v → IsPublis
 row_stays w v h n later was is = is.1 ∙ ap (λ b. Some (row.Published n b)) (sym ((later.rows h).same_bytes n was.0 is.0 was.1 is.1)) ∙ sym was.1
 
 -- A release that is granted.
-record ReleasedTo (r : Factory) (a : Released) (w v : World) : Type 0 where
+record ReleasedTo (r : Registered) (a : Released) (w v : World) : Type 0 where
   pub tickets : v.tickets ≡ map.remove w.tickets r.ticket
   pub tags : v.tags ≡ w.tags
   pub phase : LeadsTo r.number a (phase_of w (Node r.node) r.description.hash) (phase_of v (Node r.node) r.description.hash)
   pub row : IsPublished r.number (row_of w r.description.hash)
 
-release_to : (r : Factory) (a : Released) (w v : World) → IsFaulty w (letter.Release r.ticket r.node r.description.hash r.number (Ok a)) v → Agrees w → ReleasedTo r a w v
+release_to : (r : Registered) (a : Released) (w v : World) → IsFallibleAccess w (letter.Release r.ticket r.node r.description.hash r.number (Ok a)) v → Agrees w → ReleasedTo r a w v
 release_to r a w v x old =
     let t = r.ticket in
     let i = r.node in
@@ -77,9 +77,9 @@ release_to r a w v x old =
     let here : ticket_of w t ≡ Some (mine i h n) = ap (λ k. map.get k t) (sym same.tickets) ∙ rel.ticket in
     let joined = old.held.number t (mine i h n) here in
     let still = peers_phase b.peers i h in
-    let spot : phase_of v (Node i) h ≡ st.spot.phase = ap (λ z. phase_of z (Node i) h) rel.is ∙ own_phase u rel.mid i h act.Leave st in
-    let leads = leave_row n (step_case (Node i) h act.Leave (phase_of u (Node i) h) (row_of u h) (segment_of u h) u.counter st.spot st.is) (ap joined_number still ∙ joined) in
-    let to : LeadsTo n (release_answer (phase_of v (Node i) h)) (phase_of u (Node i) h) (phase_of v (Node i) h) = subst (λ y. LeadsTo n (release_answer y) (phase_of u (Node i) h) y) (sym spot) leads in
+    let view : phase_of v (Node i) h ≡ st.view.phase = ap (λ z. phase_of z (Node i) h) rel.is ∙ own_phase u rel.mid i h act.Leave st in
+    let leads = leave_row n (step_case (Node i) h act.Leave (phase_of u (Node i) h) (row_of u h) (segment_of u h) u.counter st.view st.is) (ap joined_number still ∙ joined) in
+    let to : LeadsTo n (release_answer (phase_of v (Node i) h)) (phase_of u (Node i) h) (phase_of v (Node i) h) = subst (λ y. LeadsTo n (release_answer y) (phase_of u (Node i) h) y) (sym view) leads in
     let answered : LeadsTo n a (phase_of u (Node i) h) (phase_of v (Node i) h) = subst (λ y. LeadsTo n y (phase_of u (Node i) h) (phase_of v (Node i) h)) (sym (released_as u v t i h n a b.own)) to in
     let j = joined_means _ n joined in
     record {
@@ -91,7 +91,7 @@ release_to r a w v x old =
 
 module _ (i : ℕ) (h : ServiceHash) where
   -- the removals
-  tags_after : (w v : World) (a : Result (Unit {0}) RemoveError) → IsFaulty w (letter.RemoveTag i h a) v → v.tags ≡ tags_without a w.tags (i, h)
+  tags_after : (w v : World) (a : Result (Unit {0}) RemoveError) → IsFallibleAccess w (letter.RemoveTag i h a) v → v.tags ≡ tags_without a w.tags (i, h)
   tags_after w v (Ok y) x =
       let a = granted w (letter.RemoveTag i h (Ok y)) v (λ e. cc) x in
       ap (λ (z : World). z.tags) (a.own.is ∙ ap (write a.between i h) a.own.own.1) ∙ ap (λ s. set.remove s (i, h)) (peers_leave a.peers).tags
@@ -103,7 +103,7 @@ module _ (i : ℕ) (h : ServiceHash) where
     pub tags : v.tags ≡ w.tags
     pub phase : phase_of v (Node i) h ≡ last_phase a n
 
-  segment_removed : (w v : World) (n : ℕ) (a : Result (Unit {0}) RemoveError) → phase_of w (Node i) h ≡ at.Leaving n → IsFaulty w (letter.RemoveSegment i h a) v → HasRemoved n a w v
+  segment_removed : (w v : World) (n : ℕ) (a : Result (Unit {0}) RemoveError) → phase_of w (Node i) h ≡ at.Leaving n → IsFallibleAccess w (letter.RemoveSegment i h a) v → HasRemoved n a w v
   segment_removed w v n (Ok y) is x =
       let b = granted w (letter.RemoveSegment i h (Ok y)) v (λ e. cc) x in
       record {
@@ -132,13 +132,13 @@ module _ (i : ℕ) (h : ServiceHash) where
     pub row : RowAfter a n (row_of w h) (row_of v h)
     pub phase : phase_of v (Node i) h ≡ phase_after segment a n
 
-  ended : (w v : World) (n : ℕ) (segment a : Result (Unit {0}) RemoveError) → Agrees w → phase_of w (Node i) h ≡ last_phase segment n → IsFaulty w (letter.RemoveDescription i h a) v → HasEnded n segment a w v
+  ended : (w v : World) (n : ℕ) (segment a : Result (Unit {0}) RemoveError) → Agrees w → phase_of w (Node i) h ≡ last_phase segment n → IsFallibleAccess w (letter.RemoveDescription i h a) v → HasEnded n segment a w v
   ended w v n segment (Ok y) old is x =
       let b = granted w (letter.RemoveDescription i h (Ok y)) v (λ e. cc) x in
       let u = b.between in
       let e = unlocking u v i h y b.own in
       let st = allowed_step u v (Node i) h act.RemoveDescription e in
-      let k = unlock_row (step_case (Node i) h act.RemoveDescription (phase_of u (Node i) h) (row_of u h) (segment_of u h) u.counter st.spot st.is) in
+      let k = unlock_row (step_case (Node i) h act.RemoveDescription (phase_of u (Node i) h) (row_of u h) (segment_of u h) u.counter st.view st.is) in
       let s = still u n segment (peers_keep b.peers old).0 (peers_phase b.peers i h ∙ is) in
       record {
         tags = step_tags u v (Node i) h act.RemoveDescription e ∙ (peers_leave b.peers).tags;
@@ -157,7 +157,7 @@ module _ (i : ℕ) (h : ServiceHash) where
   row_from u w v n (Err e) later was is k = (k.0, k.1 ∙ row_stays u w h n later was is)
 
 -- What each close leaves.
-pub close_leaves : {r : Factory} {word : List Letter} {answer : Result (Unit {0}) (CloseError Factory)} {w v : World} → IsCloseWord r word answer → ((s : Factory) → answer ≢ Err (closing.NotHere s)) → Run IsFaulty w word v → Agrees w → CloseLeaves r w v word
+pub close_leaves : {r : Registered} {word : List Letter} {answer : Result (Unit {0}) (CloseError Registered)} {w v : World} → IsCloseWord r word answer → ((s : Registered) → answer ≢ Err (closing.NotHere s)) → Run IsFallibleAccess w word v → Agrees w → CloseLeaves r w v word
 close_leaves not_here here run old = absurd (here _ refl)
 close_leaves {r} {w = w} {v = v} still_counted here run old =
     let k = release_to r leave.StillCounted w v (last run) old in

@@ -15,7 +15,7 @@ use Rattle.iceoryx2_access.proofs.Run.{head, last}
 use Rattle.iceoryx2_world.proofs.agreement.Granted.{release_granted, tag_granted, segment_granted, description_granted, MayClear, MayEnd}
 use Rattle.iceoryx2_world.proofs.agreement.Closing.{released_last, tag_removed_phase, segment_removed_phase}
 use Rattle.iceoryx2_errors.specs.declared.error.CloseError.{CloseError}
-use Rattle.iceoryx2_access.specs.Factory.{Factory}
+use Rattle.iceoryx2_access.specs.Registered.{Registered}
 use Rattle.iceoryx2_port_factory.specs.Closes.{IsCloseWord, first_refused, not_here, still_counted, left, last as last_left}
 
 -- the removals of the last one to leave, one after the other
@@ -31,11 +31,11 @@ description_ok : (w v : World) (i : ℕ) (h : ServiceHash) (m : ℕ) (a : Result
 description_ok w v i h m (Ok x) is s = refl
 description_ok w v i h m (Err e) is s = absurd (description_granted w v i h e (subst MayEnd (sym is) tt) s)
 
-all_ok : {tag segment description : Result (Unit {0}) RemoveError} → tag ≡ Ok tt → segment ≡ Ok tt → description ≡ Ok tt → first_refused {F = Factory} tag segment description ≡ Ok tt
-all_ok a b c = λ i. first_refused {F = Factory} (a i) (b i) (c i)
+all_ok : {tag segment description : Result (Unit {0}) RemoveError} → tag ≡ Ok tt → segment ≡ Ok tt → description ≡ Ok tt → first_refused {F = Registered} tag segment description ≡ Ok tt
+all_ok a b c = λ i. first_refused {F = Registered} (a i) (b i) (c i)
 
 -- The table closes what stands.
-pub close_ok : {r : Factory} {word : List Letter} {answer : Result (Unit {0}) (CloseError Factory)} {w v : World} → IsCloseWord r word answer → Run IsAccess w word v → Agrees w → Stands w r → answer ≡ Ok tt
+pub close_ok : {r : Registered} {word : List Letter} {answer : Result (Unit {0}) (CloseError Registered)} {w v : World} → IsCloseWord r word answer → Run IsAccess w word v → Agrees w → Stands w r → answer ≡ Ok tt
 close_ok {r} {w = w} {v = v} not_here run old s = absurd (release_granted w v r _ old s (last run))
 close_ok still_counted run old s = refl
 close_ok {r} {v = v} (left tag) run old s =

@@ -6,14 +6,14 @@ use Rattle.iceoryx2_world.specs.Peers.{IsAccess}
 use Rattle.iceoryx2_world.proofs.Runs.{run_map, refusable_map}
 use Rattle.iceoryx2_world.proofs.Waiting.{table_access}
 use Rattle.iceoryx2_world.specs.Tables.{TableState, IsTableAccess}
-use Rattle.iceoryx2_script.specs.Faults.{FaultyState, IsFaultyAccess}
+use Rattle.iceoryx2_script.specs.Faults.{FaultyState, IsInjectedFault}
 use Rattle.iceoryx2_script.proofs.Runs.{refusable}
-use Rattle.iceoryx2_access.specs.Factory.{Factory}
+use Rattle.iceoryx2_access.specs.Registered.{Registered}
 use Rattle.iceoryx2_access.specs.Letter.{Letter}
 use Rattle.iceoryx2_access.specs.Run.{Run, Each}
 use Rattle.iceoryx2_world.specs.World.{World}
 use Rattle.iceoryx2_world.specs.Across.{Agrees}
-use Rattle.iceoryx2_world.specs.Faulty.{IsFaulty}
+use Rattle.iceoryx2_world.specs.Fallible.{IsFallibleAccess}
 use Rattle.iceoryx2_world.specs.Standing.{Spares, Stands}
 use Rattle.iceoryx2_world.proofs.agreement.Accesses.{faulty_keeps, run_keeps}
 use Rattle.iceoryx2_world.proofs.agreement.Stands.{faulty_stands, older_ticket}
@@ -24,23 +24,23 @@ use Rattle.iceoryx2_call_laws.proofs.calls.Words.{throughout, throughout_map, al
 use Rattle.iceoryx2_call_laws.proofs.calls.Standing.{stands_among, one_service}
 use Rattle.iceoryx2_call_laws.proofs.calls.AnyCalls.{Given, any_letters, any_short, any_given}
 
-is_open : (w : World) (f : Factory) → Agrees w → Stands w f → IsOpen w f
+is_open : (w : World) (f : Registered) → Agrees w → Stands w f → IsOpen w f
 is_open w f old s = record { stands = s; one_description = λ g t same. (one_service w g f t s same).1; among = stands_among w f old s }
 
-pub open_throughout : (w : World) (word : List Letter) (f : Factory) → Each (Spares f) word → Agrees w → Stands w f → Throughout IsFaulty (λ v. IsOpen v f) w word
+pub open_throughout : (w : World) (word : List Letter) (f : Registered) → Each (Spares f) word → Agrees w → Stands w f → Throughout IsFallibleAccess (λ v. IsOpen v f) w word
 open_throughout w word f each old s =
-    throughout_map IsFaulty (λ v. Agrees v × Stands v f) (λ v. IsOpen v f) (λ v k. is_open v f k.0 k.1) w word (
+    throughout_map IsFallibleAccess (λ v. Agrees v × Stands v f) (λ v. IsOpen v f) (λ v k. is_open v f k.0 k.1) w word (
     throughout (λ v. Agrees v × Stands v f) (Spares f) (λ u l v spares a k. ((faulty_keeps u l v a k.0).0, faulty_stands u l v f a spares k.0 k.1)) w word each (old, s)
     )
 
 -- over a storage whose accesses are accesses of its world
-module _ {S : Type 0} (step : S → Letter → S → Type 0) (world : S → World) (of_world : (s t : S) (l : Letter) → step s l t → IsFaulty (world s) l (world t)) where
-  along : (P : World → Type 0) (s : S) (word : List Letter) → Throughout IsFaulty P (world s) word → Throughout step (λ u. P (world u)) s word
+module _ {S : Type 0} (step : S → Letter → S → Type 0) (world : S → World) (of_world : (s t : S) (l : Letter) → step s l t → IsFallibleAccess (world s) l (world t)) where
+  along : (P : World → Type 0) (s : S) (word : List Letter) → Throughout IsFallibleAccess P (world s) word → Throughout step (λ u. P (world u)) s word
   along P s [] p = p
   along P s (l ∷ word) p = (p.0, λ u a. along P u word (p.1 (world u) (of_world s u l a)))
 
   module _ {D F E C : Type 0} (c : AnyCall D F E C) where
-    gives : (s t : S) (answer : Result Factory (ErrorBy E C c.way)) → Agrees (world s) → Agrees (world t) → IfOk answer (Given c c.way (world s) (world t)) → IfOk answer (IsGiven step world c s t)
+    gives : (s t : S) (answer : Result Registered (ErrorBy E C c.way)) → Agrees (world s) → Agrees (world t) → IfOk answer (Given c c.way (world s) (world t)) → IfOk answer (IsGiven step world c s t)
     gives s t (Err e) old new g = tt
     gives s t (Ok r) old new g = record {
       node = g.node;
@@ -51,9 +51,9 @@ module _ {S : Type 0} (step : S → Letter → S → Type 0) (world : S → Worl
       stays_open = λ more spares. along (λ u. IsOpen u r) t more (open_throughout (world t) more r spares new g.stands);
     }
 
-    pub as_promised : {s t : S} (word : List Letter) (answer : Result Factory (ErrorBy E C c.way)) → IsWordOf c word answer → Run step s word t → Agrees (world s) → IsAsPromised step world c s word answer t
+    pub as_promised : {s t : S} (word : List Letter) (answer : Result Registered (ErrorBy E C c.way)) → IsWordOf c word answer → Run step s word t → Agrees (world s) → IsAsPromised step world c s word answer t
     as_promised {s} {t} word answer is run old =
-        let worlds : Run IsFaulty (world s) word (world t) = run_map world of_world run in
+        let worlds : Run IsFallibleAccess (world s) word (world t) = run_map world of_world run in
         let new = (run_keeps worlds old).0 in
         record {
           counts = any_short c word answer is;
@@ -63,17 +63,17 @@ module _ {S : Type 0} (step : S → Letter → S → Type 0) (world : S → Worl
         }
 
 -- Every open factory stands.
-module _ {S : Type 0} (step : S → Letter → S → Type 0) (world : S → World) (of_world : (s t : S) (l : Letter) → step s l t → IsFaulty (world s) l (world t)) {D F E C : Type 0} (c : AnyCall D F E C) where
-  record StillOpen (f : Factory) (s : S) : Type 0 where
+module _ {S : Type 0} (step : S → Letter → S → Type 0) (world : S → World) (of_world : (s t : S) (l : Letter) → step s l t → IsFallibleAccess (world s) l (world t)) {D F E C : Type 0} (c : AnyCall D F E C) where
+  record StillOpen (f : Registered) (s : S) : Type 0 where
     pub agrees : Agrees (world s)
     pub stands : Stands (world s) f
     pub node : f.node ≡ c.asks.node
     pub hash : f.description.hash ≡ c.asks.hash
     pub carries : MayCarryBy c c.way f.description
 
-  still_open : {f : Factory} {s : S} → IsOpenSince step world c f s → StillOpen f s
+  still_open : {f : Registered} {s : S} → IsOpenSince step world c f s → StillOpen f s
   still_open {f} (answered {word = word} {s = s} {t = t} old is run) =
-      let worlds : Run IsFaulty (world s) word (world t) = run_map world of_world run in
+      let worlds : Run IsFallibleAccess (world s) word (world t) = run_map world of_world run in
       let g = any_given c (world s) (world t) word (Ok f) is worlds old in
       record { agrees = (run_keeps worlds old).0; stands = g.stands; node = g.node; hash = g.hash; carries = g.carries }
   still_open {f} (spared {letter = l} {s = s} {t = t} before spares a) =
@@ -86,12 +86,12 @@ module _ {S : Type 0} (step : S → Letter → S → Type 0) (world : S → Worl
         carries = o.carries;
       }
 
-  pub open_as_asked : {f : Factory} {s : S} → IsOpenSince step world c f s → IsOpenAsAsked c (world s) f
+  pub open_as_asked : {f : Registered} {s : S} → IsOpenSince step world c f s → IsOpenAsAsked c (world s) f
   open_as_asked {f} {s} is = let o = still_open is in record { is_open = is_open (world s) f o.agrees o.stands; node = o.node; hash = o.hash; carries = o.carries }
 
 -- a table's accesses, and those of a faulty storage with a table inside
-pub of_table : (s t : TableState) (l : Letter) → IsTableAccess s l t → IsFaulty s.world l t.world
+pub of_table : (s t : TableState) (l : Letter) → IsTableAccess s l t → IsFallibleAccess s.world l t.world
 of_table s t l a = inl (table_access s t l a)
 
-pub of_faulty_table : (s t : FaultyState TableState) (l : Letter) → IsFaultyAccess IsTableAccess s l t → IsFaulty s.inner.world l t.inner.world
+pub of_faulty_table : (s t : FaultyState TableState) (l : Letter) → IsInjectedFault IsTableAccess s l t → IsFallibleAccess s.inner.world l t.inner.world
 of_faulty_table s t l a = refusable_map IsTableAccess IsAccess (λ u. u.world) table_access s.inner t.inner l (last (refusable (one a)))

@@ -21,12 +21,12 @@ use Rattle.iceoryx2_world.specs.Orders.{tag_cmp, tag_total, tag_exact}
 use Rattle.iceoryx2_world.specs.World.{World, Segment, row_of, segment_of, phase_of, begins, locked_number, tag_of}
 use Rattle.iceoryx2_world.specs.Acts.{Act}
 use Rattle.iceoryx2_world.specs.Acts as act
-use Rattle.iceoryx2_world.specs.Steps.{Spot, world_after}
+use Rattle.iceoryx2_world.specs.Steps.{ServiceView, world_after}
 use Rattle.iceoryx2_world.specs.Agreement.{IsSpent}
 use Rattle.iceoryx2_world.specs.Across.{Agrees}
-use Rattle.iceoryx2_world.specs.Access.{Change, seat, write, MakesTag, IsOwnPart}
+use Rattle.iceoryx2_world.specs.Access.{Change, node_view, write, MakesTag, IsOwnPart}
 use Rattle.iceoryx2_world.specs.Peers.{Peers, none, peer, IsAccess}
-use Rattle.iceoryx2_world.specs.Faulty.{IsFaulty}
+use Rattle.iceoryx2_world.specs.Fallible.{IsFallibleAccess}
 use Rattle.iceoryx2_world.specs.StepCases.{IsStep, locks as row_locks, clears as row_clears, unmakes, unlocks as row_unlocks, clears_last, ends as row_ends, makes as row_makes}
 use Rattle.iceoryx2_world.proofs.agreement.StepCases.{step_case}
 use Rattle.iceoryx2_world.proofs.agreement.Maps.{set_has, either, self}
@@ -37,8 +37,8 @@ use Rattle.iceoryx2_world.proofs.agreement.Accesses.{peers_keep, own_keeps, acce
 use Rattle.iceoryx2_world.proofs.agreement.Granted.{peers_phase, tag_granted, segment_granted, description_granted, MayClear, MayEnd}
 use Rattle.iceoryx2_world.proofs.agreement.Spent.{world_segment, spent_own, spent_peers}
 use Rattle.iceoryx2_world.proofs.agreement.Stands.{own_row, own_phase, own_segment}
-use Rattle.iceoryx2_create_and_open.specs.Keeps as keeps
-use Rattle.iceoryx2_create_and_open.specs.Keeps.{KeptTag, NoTag, HasTag, KeptLock, NoLock, Locked, WithSegment, GivenBack, HasService, IsUnlocked, MakesNothing, Keeps, GivesAllBack}
+use Rattle.iceoryx2_create_and_open.specs.TracksOwned as keeps
+use Rattle.iceoryx2_create_and_open.specs.TracksOwned.{OwnedTag, OwnsNoTag, OwnsTag, OwnedLock, NoLock, Locked, WithSegment, GivenBack, HasService, IsUnlocked, MakesNothing, TracksOwned, GivesAllBack}
 use Rattle.iceoryx2_call_laws.specs.Leaves.{IsGranted, HasAtMostRead, LacksRow, LacksSegment, NodeHasRead, Leaves, LeavesOfLock, LeavesNothing, StaysAway, SpendsNumber, tags_after}
 use Rattle.iceoryx2_call_laws.proofs.calls.Plain.{IsPlain, Untouched, plain_untouched, read_both, step_tags, row_stays_away}
 
@@ -104,7 +104,7 @@ module _ (node : ℕ) (hash : ServiceHash) where
   IsGone n false w = IsSpent w hash n
   IsGone n true w = (n < w.counter) × LacksRow w hash n
 
-  abbrev HoldsLock : KeptLock → World → Type 0
+  abbrev HoldsLock : OwnedLock → World → Type 0
   HoldsLock NoLock w = Unit {0}
   HoldsLock (Locked n is_segment_left) w = IsHeld n is_segment_left w
   HoldsLock (WithSegment n) w = IsHeld n true w
@@ -113,25 +113,25 @@ module _ (node : ℕ) (hash : ServiceHash) where
   HoldsLock (HasService n) w = ⊥
 
   -- where the node was and is
-  abbrev IsAt : KeptLock → (old new : Phase) → Type 0
+  abbrev IsAt : OwnedLock → (old new : Phase) → Type 0
   IsAt NoLock old new = HasAtMostRead old new
   IsAt (GivenBack n false is_segment_left) old new = (begins old ≡ true) × (begins new ≡ true)
   IsAt _ old new = begins old ≡ true
 
-  abbrev HoldsTag : KeptTag → set.FinSet tag_cmp → set.FinSet tag_cmp → Type 0
-  HoldsTag (NoTag false) old new = new ≡ old
-  HoldsTag (NoTag true) old new = (new ≡ set.insert old (node, hash)) × (set.contains old (node, hash) ≡ false)
-  HoldsTag HasTag old new = (new ≡ set.insert old (node, hash)) × (set.contains old (node, hash) ≡ false)
+  abbrev HoldsTag : OwnedTag → set.FinSet tag_cmp → set.FinSet tag_cmp → Type 0
+  HoldsTag (OwnsNoTag false) old new = new ≡ old
+  HoldsTag (OwnsNoTag true) old new = (new ≡ set.insert old (node, hash)) × (set.contains old (node, hash) ≡ false)
+  HoldsTag OwnsTag old new = (new ≡ set.insert old (node, hash)) × (set.contains old (node, hash) ≡ false)
 
   -- What a call that began at the first world has made of the second.
-  record Kept (start : World) (t : KeptTag) (k : KeptLock) (w : World) : Type 0 where
+  record Kept (start : World) (t : OwnedTag) (k : OwnedLock) (w : World) : Type 0 where
     pub tickets : w.tickets ≡ start.tickets
     pub tags : HoldsTag t start.tags w.tags
     pub phase : IsAt k (phase_of start (Node node) hash) (phase_of w (Node node) hash)
     pub holds : HoldsLock k w
 
   -- along steps that leave tags and tickets and at most read
-  at_after : (k : KeptLock) (old x y : Phase) → HasAtMostRead x y → IsAt k old x → IsAt k old y
+  at_after : (k : OwnedLock) (old x y : Phase) → HasAtMostRead x y → IsAt k old x → IsAt k old y
   at_after NoLock old x y r p = read_both p r
   at_after (Locked n l) old x y r p = p
   at_after (WithSegment n) old x y r p = p
@@ -139,7 +139,7 @@ module _ (node : ℕ) (hash : ServiceHash) where
   at_after (GivenBack n false l) old x y r p = (p.0, read_begins r p.1)
   at_after (HasService n) old x y r p = p
 
-  tag_after : (t : KeptTag) (old x y : set.FinSet tag_cmp) → y ≡ x → HoldsTag t old x → HoldsTag t old y
+  tag_after : (t : OwnedTag) (old x y : set.FinSet tag_cmp) → y ≡ x → HoldsTag t old x → HoldsTag t old y
   tag_after t old x y e h = subst (λ z. HoldsTag t old z) (sym e) h
 
   held_peers : (n : ℕ) (l : Bool) {w v : World} → Peers w v → Agrees w → IsHeld n l w → IsHeld n l v
@@ -149,7 +149,7 @@ module _ (node : ℕ) (hash : ServiceHash) where
   gone_peers n false peers old h = spent_peers hash n peers old h
   gone_peers n true {w} {v} peers old h = let later = (peers_keep peers old).1 in (grind (arith, later.counter, h.0), row_stays_away w v hash n later h.0 h.1)
 
-  holds_peers : (k : KeptLock) {w v : World} → Peers w v → Agrees w → HoldsLock k w → HoldsLock k v
+  holds_peers : (k : OwnedLock) {w v : World} → Peers w v → Agrees w → HoldsLock k w → HoldsLock k v
   holds_peers NoLock peers old h = tt
   holds_peers (Locked n l) peers old h = held_peers n l peers old h
   holds_peers (WithSegment n) peers old h = held_peers n true peers old h
@@ -157,7 +157,7 @@ module _ (node : ℕ) (hash : ServiceHash) where
   holds_peers (GivenBack n false l) peers old h = gone_peers n l peers old h
   holds_peers (HasService n) peers old h = h
 
-  kept_peers : {start w v : World} (t : KeptTag) (k : KeptLock) → Peers w v → Agrees w → Kept start t k w → Kept start t k v
+  kept_peers : {start w v : World} (t : OwnedTag) (k : OwnedLock) → Peers w v → Agrees w → Kept start t k w → Kept start t k v
   kept_peers {start} {w} {v} t k peers old h = let same = peers_leave peers in record {
     tickets = same.tickets ∙ h.tickets;
     tags = tag_after t start.tags w.tags v.tags same.tags h.tags;
@@ -173,7 +173,7 @@ module _ (node : ℕ) (hash : ServiceHash) where
   gone_own n false w l v o old h = spent_own w l v hash n o old h
   gone_own n true w l v o old h = let later = (own_keeps w l v o old).1 in (grind (arith, later.counter, h.0), row_stays_away w v hash n later h.0 h.1)
 
-  holds_plain : (k : KeptLock) (w : World) (l : Letter) (v : World) → IsPlain l → IsOwnPart w l v → Agrees w → HoldsLock k w → HoldsLock k v
+  holds_plain : (k : OwnedLock) (w : World) (l : Letter) (v : World) → IsPlain l → IsOwnPart w l v → Agrees w → HoldsLock k w → HoldsLock k v
   holds_plain NoLock w l v ok o old h = tt
   holds_plain (Locked n b) w l v ok o old h = held_plain n b (plain_untouched w l v ok o) h
   holds_plain (WithSegment n) w l v ok o old h = held_plain n true (plain_untouched w l v ok o) h
@@ -181,7 +181,7 @@ module _ (node : ℕ) (hash : ServiceHash) where
   holds_plain (GivenBack n false b) w l v ok o old h = gone_own n b w l v o old h
   holds_plain (HasService n) w l v ok o old h = h
 
-  kept_own : {start : World} (t : KeptTag) (k : KeptLock) (w : World) (l : Letter) (v : World) → IsPlain l → IsOwnPart w l v → Agrees w → Kept start t k w → Kept start t k v
+  kept_own : {start : World} (t : OwnedTag) (k : OwnedLock) (w : World) (l : Letter) (v : World) → IsPlain l → IsOwnPart w l v → Agrees w → Kept start t k w → Kept start t k v
   kept_own {start} t k w l v ok o old h = let u = plain_untouched w l v ok o in record {
     tickets = u.tickets ∙ h.tickets;
     tags = tag_after t start.tags w.tags v.tags u.tags h.tags;
@@ -190,7 +190,7 @@ module _ (node : ℕ) (hash : ServiceHash) where
   }
 
   -- a plain access
-  kept_plain : {start : World} (t : KeptTag) (k : KeptLock) (w : World) (l : Letter) (v : World) → IsPlain l → IsFaulty w l v → Agrees w → Kept start t k w → Kept start t k v
+  kept_plain : {start : World} (t : OwnedTag) (k : OwnedLock) (w : World) (l : Letter) (v : World) → IsPlain l → IsFallibleAccess w l v → Agrees w → Kept start t k w → Kept start t k v
   kept_plain t k w l v ok (inl a) old h = kept_own t k a.between l v ok a.own (peers_keep a.peers old).0 (kept_peers t k a.peers old h)
   kept_plain {start} t k w l v ok (inr f) old h = subst (λ u. Kept start t k u) (sym f.1) h
 
@@ -201,31 +201,31 @@ tag_put w v i h false c e (inl o) is = (sym e, is ∙ ap (write w i h) o.1)
 tag_put w v i h false c e (inr o) is = absurd (cc (o.0))
 
 -- what the steps leave
-record Begun (x : Phase) (c : ℕ) (new : Spot) : Type 0 where
+record Begun (x : Phase) (c : ℕ) (new : ServiceView) : Type 0 where
   pub before : begins x ≡ true
   pub lock : locked_number new.phase ≡ Some c
 
-lock_row : {p : Participant} {h : ServiceHash} {x : Phase} {r : Option Row} {s : Option Segment} {c : ℕ} {new : Spot} → IsStep p h act.Lock x r s c new → Begun x c new
+lock_row : {p : Participant} {h : ServiceHash} {x : Phase} {r : Option Row} {s : Option Segment} {c : ℕ} {new : ServiceView} → IsStep p h act.Lock x r s c new → Begun x c new
 lock_row (row_locks free below) = record { before = free; lock = refl }
 
-make_row : {p : Participant} {h : ServiceHash} {m : ℕ} {x : Phase} {r : Option Row} {s : Option Segment} {c : ℕ} {new : Spot} → IsStep p h (act.Make m) x r s c new → locked_number new.phase ≡ locked_number x
+make_row : {p : Participant} {h : ServiceHash} {m : ℕ} {x : Phase} {r : Option Row} {s : Option Segment} {c : ℕ} {new : ServiceView} → IsStep p h (act.Make m) x r s c new → locked_number new.phase ≡ locked_number x
 make_row (row_makes room) = refl
 
-record Cleared (x : Phase) (new : Spot) : Type 0 where
+record Cleared (x : Phase) (new : ServiceView) : Type 0 where
   pub segment : new.segment ≡ None
   pub lock : (n : ℕ) → locked_number x ≡ Some n → locked_number new.phase ≡ Some n
 
-clear_row : {p : Participant} {h : ServiceHash} {x : Phase} {r : Option Row} {s : Option Segment} {c : ℕ} {new : Spot} → IsStep p h act.RemoveSegment x r s c new → Cleared x new
+clear_row : {p : Participant} {h : ServiceHash} {x : Phase} {r : Option Row} {s : Option Segment} {c : ℕ} {new : ServiceView} → IsStep p h act.RemoveSegment x r s c new → Cleared x new
 clear_row row_clears = record { segment = refl; lock = λ n l. l }
 clear_row unmakes = record { segment = refl; lock = λ n l. l }
 clear_row clears_last = record { segment = refl; lock = λ n l. absurd (cc) }
 
-pub record Unlocked (s : Option Segment) (new : Spot) : Type 0 where
+pub record Unlocked (s : Option Segment) (new : ServiceView) : Type 0 where
   pub row : new.row ≡ None
   pub segment : new.segment ≡ s
   pub phase : new.phase ≡ at.Idle
 
-pub unlock_row : {p : Participant} {h : ServiceHash} {x : Phase} {r : Option Row} {s : Option Segment} {c : ℕ} {new : Spot} → IsStep p h act.RemoveDescription x r s c new → Unlocked s new
+pub unlock_row : {p : Participant} {h : ServiceHash} {x : Phase} {r : Option Row} {s : Option Segment} {c : ℕ} {new : ServiceView} → IsStep p h act.RemoveDescription x r s c new → Unlocked s new
 unlock_row (row_unlocks lock) = record { row = refl; segment = refl; phase = refl }
 unlock_row (row_ends last) = record { row = refl; segment = refl; phase = refl }
 
@@ -241,7 +241,7 @@ back s x lacks = map.same_map tag_total tag_exact _ _ (λ q. map.get-remove tag_
 
 module _ (node : ℕ) (hash : ServiceHash) where
   -- only the tags are others
-  holds_tags : (k : KeptLock) (w v : World) (t : set.FinSet tag_cmp) → v ≡ record w { tags = t } → HoldsLock node hash k w → HoldsLock node hash k v
+  holds_tags : (k : OwnedLock) (w v : World) (t : set.FinSet tag_cmp) → v ≡ record w { tags = t } → HoldsLock node hash k w → HoldsLock node hash k v
   holds_tags NoLock w v t e h = tt
   holds_tags (Locked n l) w v t e h = subst (λ u. IsHeld node hash n l u) (sym e) h
   holds_tags (WithSegment n) w v t e h = subst (λ u. IsHeld node hash n true u) (sym e) h
@@ -253,12 +253,12 @@ module _ (node : ℕ) (hash : ServiceHash) where
   has_own : (tags : set.FinSet tag_cmp) → set.contains (set.insert tags (node, hash)) (node, hash) ≡ true
   has_own tags = set_has tag_total tag_exact tags (node, hash)
 
-  tag_of_kept : (left : Bool) (old now : set.FinSet tag_cmp) → HoldsTag node hash (NoTag left) old now → set.contains now (node, hash) ≡ false → HoldsTag node hash HasTag old (set.insert now (node, hash))
+  tag_of_kept : (left : Bool) (old now : set.FinSet tag_cmp) → HoldsTag node hash (OwnsNoTag left) old now → set.contains now (node, hash) ≡ false → HoldsTag node hash OwnsTag old (set.insert now (node, hash))
   tag_of_kept false old now h lacks = (ap (λ s. set.insert s (node, hash)) h, ap (λ s. set.contains s (node, hash)) (sym h) ∙ lacks)
   tag_of_kept true old now h lacks = let has = ap (λ s. set.contains s (node, hash)) h.0 ∙ has_own old in absurd (cc)
 
   -- a step of the node under its lock
-  kept_step : {start : World} (t : KeptTag) (j k : KeptLock) (w v : World) (a : Act) → world_after w (Node node) hash a ≡ Some v
+  kept_step : {start : World} (t : OwnedTag) (j k : OwnedLock) (w v : World) (a : Act) → world_after w (Node node) hash a ≡ Some v
       → IsAt node hash k (phase_of start (Node node) hash) (phase_of v (Node node) hash) → HoldsLock node hash k v → Kept node hash start t j w → Kept node hash start t k v
   kept_step {start} t j k w v a e phase holds h = record {
     tickets = step_tickets w v (Node node) hash a (allowed_step w v (Node node) hash a e) ∙ h.tickets;
@@ -267,7 +267,7 @@ module _ (node : ℕ) (hash : ServiceHash) where
     holds = holds;
   }
 
-  kept_locks : {start : World} (t : KeptTag) (n : ℕ) (w v : World) → IsFaulty w (letter.Lock node hash (Ok n)) v → Agrees w → Kept node hash start t NoLock w → Kept node hash start t (Locked n false) v
+  kept_locks : {start : World} (t : OwnedTag) (n : ℕ) (w v : World) → IsFallibleAccess w (letter.Lock node hash (Ok n)) v → Agrees w → Kept node hash start t NoLock w → Kept node hash start t (Locked n false) v
   kept_locks {start} t n w v x old h =
       let a = granted w (letter.Lock node hash (Ok n)) v (λ e. cc) x in
       let u = a.between in
@@ -275,31 +275,31 @@ module _ (node : ℕ) (hash : ServiceHash) where
       let now = kept_peers node hash t NoLock a.peers old h in
       let k = locking u v node hash n a.own in
       let st = allowed_step u v (Node node) hash act.Lock k.1 in
-      let b = lock_row (step_case (Node node) hash act.Lock (phase_of u (Node node) hash) (row_of u hash) (segment_of u hash) u.counter st.spot st.is) in
+      let b = lock_row (step_case (Node node) hash act.Lock (phase_of u (Node node) hash) (row_of u hash) (segment_of u hash) u.counter st.view st.is) in
       let lacks : LacksSegment v hash n = λ y is same. elim (world_segment u v (Node node) hash act.Lock k.1 hash y is) [
         | inl z ↦ grind (arith, (agrees.everywhere hash).segment_below z.0 z.1, z.2, same, k.0)
         | inr l ↦ unlocked_begins (phase_of u (Node node) hash) y.number b.before l
       ] in
       kept_step t NoLock (Locked n false) u v act.Lock k.1 (begins_before now.phase b.before) (ap locked_number (own_phase u v node hash act.Lock st) ∙ b.lock ∙ ap Some (sym k.0), λ _. lacks) now
 
-  kept_makes : {start : World} (t : KeptTag) (n m : ℕ) (y : Unit {0}) (w v : World) → IsFaulty w (letter.MakeSegment node hash n m (Ok y)) v → Agrees w → Kept node hash start t (Locked n false) w → Kept node hash start t (WithSegment n) v
+  kept_makes : {start : World} (t : OwnedTag) (n m : ℕ) (y : Unit {0}) (w v : World) → IsFallibleAccess w (letter.MakeSegment node hash n m (Ok y)) v → Agrees w → Kept node hash start t (Locked n false) w → Kept node hash start t (WithSegment n) v
   kept_makes t n m y w v x old h =
       let a = granted w (letter.MakeSegment node hash n m (Ok y)) v (λ e. cc) x in
       let u = a.between in
       let now = kept_peers node hash t (Locked n false) a.peers old h in
       let e = making u v node hash n m y a.own in
       let st = allowed_step u v (Node node) hash (act.Make m) e in
-      let b = make_row (step_case (Node node) hash (act.Make m) (phase_of u (Node node) hash) (row_of u hash) (segment_of u hash) u.counter st.spot st.is) in
+      let b = make_row (step_case (Node node) hash (act.Make m) (phase_of u (Node node) hash) (row_of u hash) (segment_of u hash) u.counter st.view st.is) in
       kept_step t (Locked n false) (WithSegment n) u v (act.Make m) e now.phase (ap locked_number (own_phase u v node hash (act.Make m) st) ∙ b ∙ now.holds.0, λ kept. absurd (cc)) now
 
-  kept_clears : {start : World} (t : KeptTag) (n : ℕ) (l : Bool) (y : Unit {0}) (w v : World) → IsFaulty w (letter.RemoveSegment node hash (Ok y)) v → Agrees w → Kept node hash start t (Locked n l) w → Kept node hash start t (Locked n false) v
+  kept_clears : {start : World} (t : OwnedTag) (n : ℕ) (l : Bool) (y : Unit {0}) (w v : World) → IsFallibleAccess w (letter.RemoveSegment node hash (Ok y)) v → Agrees w → Kept node hash start t (Locked n l) w → Kept node hash start t (Locked n false) v
   kept_clears t n l y w v x old h =
       let a = granted w (letter.RemoveSegment node hash (Ok y)) v (λ e. cc) x in
       let u = a.between in
       let now = kept_peers node hash t (Locked n l) a.peers old h in
       let e = clearing u v node hash y a.own in
       let st = allowed_step u v (Node node) hash act.RemoveSegment e in
-      let b = clear_row (step_case (Node node) hash act.RemoveSegment (phase_of u (Node node) hash) (row_of u hash) (segment_of u hash) u.counter st.spot st.is) in
+      let b = clear_row (step_case (Node node) hash act.RemoveSegment (phase_of u (Node node) hash) (row_of u hash) (segment_of u hash) u.counter st.view st.is) in
       let gone : segment_of v hash ≡ None = own_segment u v (Node node) hash act.RemoveSegment st ∙ b.segment in
       let lacks : LacksSegment v hash n = λ z is. absurd (cc) in
       kept_step t (Locked n l) (Locked n false) u v act.RemoveSegment e now.phase (ap locked_number (own_phase u v node hash act.RemoveSegment st) ∙ b.lock n now.holds.0, λ _. lacks) now
@@ -308,7 +308,7 @@ module _ (node : ℕ) (hash : ServiceHash) where
   gone_after false n w v below gone same lacks = record { below = below; row = λ x is. absurd (cc); segment = λ x is. lacks refl x (sym same ∙ is) }
   gone_after true n w v below gone same lacks = (below, λ x is. absurd (cc))
 
-  kept_unlocks : {start : World} (t : KeptTag) (n : ℕ) (l : Bool) (y : Unit {0}) (w v : World) → IsFaulty w (letter.RemoveDescription node hash (Ok y)) v → Agrees w → Kept node hash start t (Locked n l) w → Kept node hash start t (GivenBack n false l) v
+  kept_unlocks : {start : World} (t : OwnedTag) (n : ℕ) (l : Bool) (y : Unit {0}) (w v : World) → IsFallibleAccess w (letter.RemoveDescription node hash (Ok y)) v → Agrees w → Kept node hash start t (Locked n l) w → Kept node hash start t (GivenBack n false l) v
   kept_unlocks t n l y w v x old h =
       let a = granted w (letter.RemoveDescription node hash (Ok y)) v (λ e. cc) x in
       let u = a.between in
@@ -316,14 +316,14 @@ module _ (node : ℕ) (hash : ServiceHash) where
       let now = kept_peers node hash t (Locked n l) a.peers old h in
       let e = unlocking u v node hash y a.own in
       let st = allowed_step u v (Node node) hash act.RemoveDescription e in
-      let b = unlock_row (step_case (Node node) hash act.RemoveDescription (phase_of u (Node node) hash) (row_of u hash) (segment_of u hash) u.counter st.spot st.is) in
+      let b = unlock_row (step_case (Node node) hash act.RemoveDescription (phase_of u (Node node) hash) (row_of u hash) (segment_of u hash) u.counter st.view st.is) in
       let below : n < v.counter = grind (arith, step_counter u v (Node node) hash act.RemoveDescription st, (agrees.everywhere hash).row_below (row.Locked n) ((agrees.everywhere hash).locked (Node node) n now.holds.0)) in
       let gone : row_of v hash ≡ None = own_row u v (Node node) hash act.RemoveDescription st ∙ b.row in
       let same : segment_of v hash ≡ segment_of u hash = own_segment u v (Node node) hash act.RemoveDescription st ∙ b.segment in
       kept_step t (Locked n l) (GivenBack n false l) u v act.RemoveDescription e (now.phase, ap begins (own_phase u v node hash act.RemoveDescription st ∙ b.phase)) (gone_after l n u v below gone same now.holds.1) now
 
   -- only the tags are others
-  kept_other_tags : {start : World} (s t : KeptTag) (k : KeptLock) (w v : World) (tags : set.FinSet tag_cmp) → v ≡ record w { tags = tags } → HoldsTag node hash t start.tags tags → Kept node hash start s k w → Kept node hash start t k v
+  kept_other_tags : {start : World} (s t : OwnedTag) (k : OwnedLock) (w v : World) (tags : set.FinSet tag_cmp) → v ≡ record w { tags = tags } → HoldsTag node hash t start.tags tags → Kept node hash start s k w → Kept node hash start t k v
   kept_other_tags {start} s t k w v tags e now h = record {
     tickets = ap (λ (z : World). z.tickets) e ∙ h.tickets;
     tags = tag_after node hash t start.tags tags v.tags (ap (λ (z : World). z.tags) e) now;
@@ -331,46 +331,46 @@ module _ (node : ℕ) (hash : ServiceHash) where
     holds = holds_tags k w v tags e h.holds;
   }
 
-  kept_tags : {start : World} (left : Bool) (w v : World) → IsFaulty w (letter.MakeTag node hash (Ok Made)) v → Agrees w → Kept node hash start (NoTag left) NoLock w → Kept node hash start HasTag NoLock v
+  kept_tags : {start : World} (left : Bool) (w v : World) → IsFallibleAccess w (letter.MakeTag node hash (Ok Made)) v → Agrees w → Kept node hash start (OwnsNoTag left) NoLock w → Kept node hash start OwnsTag NoLock v
   kept_tags {start} left w v x old h =
       let a = granted w (letter.MakeTag node hash (Ok Made)) v (λ e. cc) x in
       let u = a.between in
-      let now = kept_peers node hash (NoTag left) NoLock a.peers old h in
+      let now = kept_peers node hash (OwnsNoTag left) NoLock a.peers old h in
       let p = a.own in
-      let made = tag_put u v node hash (seat u node hash).tag p.change refl p.own p.is in
-      kept_other_tags (NoTag left) HasTag NoLock u v (set.insert u.tags (node, hash)) made.1 (tag_of_kept left start.tags u.tags now.tags made.0) now
+      let made = tag_put u v node hash (node_view u node hash).tag p.change refl p.own p.is in
+      kept_other_tags (OwnsNoTag left) OwnsTag NoLock u v (set.insert u.tags (node, hash)) made.1 (tag_of_kept left start.tags u.tags now.tags made.0) now
 
-  kept_untags : {start : World} (k : KeptLock) (y : Unit {0}) (w v : World) → IsFaulty w (letter.RemoveTag node hash (Ok y)) v → Agrees w → Kept node hash start HasTag k w → Kept node hash start (NoTag false) k v
+  kept_untags : {start : World} (k : OwnedLock) (y : Unit {0}) (w v : World) → IsFallibleAccess w (letter.RemoveTag node hash (Ok y)) v → Agrees w → Kept node hash start OwnsTag k w → Kept node hash start (OwnsNoTag false) k v
   kept_untags {start} k y w v x old h =
       let a = granted w (letter.RemoveTag node hash (Ok y)) v (λ e. cc) x in
       let u = a.between in
-      let now = kept_peers node hash HasTag k a.peers old h in
+      let now = kept_peers node hash OwnsTag k a.peers old h in
       let p = a.own in
       let is : v ≡ record u { tags = set.remove u.tags (node, hash) } = p.is ∙ ap (write u node hash) p.own.1 in
-      kept_other_tags HasTag (NoTag false) k u v (set.remove u.tags (node, hash)) is (ap (λ s. set.remove s (node, hash)) now.tags.0 ∙ back start.tags (node, hash) now.tags.1) now
+      kept_other_tags OwnsTag (OwnsNoTag false) k u v (set.remove u.tags (node, hash)) is (ap (λ s. set.remove s (node, hash)) now.tags.0 ∙ back start.tags (node, hash) now.tags.1) now
 
 -- what a refused removal leaves is remembered
 module _ {node : ℕ} {hash : ServiceHash} {start w : World} where
-  with_left_segment : (t : KeptTag) (n : ℕ) → Kept node hash start t (WithSegment n) w → Kept node hash start t (Locked n true) w
+  with_left_segment : (t : OwnedTag) (n : ℕ) → Kept node hash start t (WithSegment n) w → Kept node hash start t (Locked n true) w
   with_left_segment t n h = record { tickets = h.tickets; tags = h.tags; phase = h.phase; holds = h.holds }
 
-  with_left_lock : (t : KeptTag) (n : ℕ) (l : Bool) → Kept node hash start t (Locked n l) w → Kept node hash start t (GivenBack n true l) w
+  with_left_lock : (t : OwnedTag) (n : ℕ) (l : Bool) → Kept node hash start t (Locked n l) w → Kept node hash start t (GivenBack n true l) w
   with_left_lock t n l h = record { tickets = h.tickets; tags = h.tags; phase = h.phase; holds = h.holds }
 
-  with_left_tag : (k : KeptLock) → Kept node hash start HasTag k w → Kept node hash start (NoTag true) k w
+  with_left_tag : (k : OwnedLock) → Kept node hash start OwnsTag k w → Kept node hash start (OwnsNoTag true) k w
   with_left_tag k h = record { tickets = h.tickets; tags = h.tags; phase = h.phase; holds = h.holds }
 
 -- who has the service keeps it
-service_stays : {node : ℕ} {hash : ServiceHash} {s t : KeptTag} {n : ℕ} {k : KeptLock} {word : List Letter} → Keeps node hash s (HasService n) word t k → k ≡ HasService n
+service_stays : {node : ℕ} {hash : ServiceHash} {s t : OwnedTag} {n : ℕ} {k : OwnedLock} {word : List Letter} → TracksOwned node hash s (HasService n) word t k → k ≡ HasService n
 service_stays keeps.ends = refl
 service_stays (keeps.removes_tag answer free p) = absurd free
 service_stays (keeps.goes_on l p) = service_stays p
 
-no_service : {node : ℕ} {hash : ServiceHash} {s t : KeptTag} {n : ℕ} {k : KeptLock} {word : List Letter} → Keeps node hash s (HasService n) word t k → IsUnlocked k → ⊥
+no_service : {node : ℕ} {hash : ServiceHash} {s t : OwnedTag} {n : ℕ} {k : OwnedLock} {word : List Letter} → TracksOwned node hash s (HasService n) word t k → IsUnlocked k → ⊥
 no_service p free = subst IsUnlocked (service_stays p) free
 
 -- What a word that gives back has made of the world.
-kept_run : {node : ℕ} {hash : ServiceHash} {s t : KeptTag} {j k : KeptLock} {word : List Letter} {start w v : World} → Keeps node hash s j word t k → IsUnlocked k → Run IsFaulty w word v → Agrees w → Kept node hash start s j w → Kept node hash start t k v
+kept_run : {node : ℕ} {hash : ServiceHash} {s t : OwnedTag} {j k : OwnedLock} {word : List Letter} {start w v : World} → TracksOwned node hash s j word t k → IsUnlocked k → Run IsFallibleAccess w word v → Agrees w → Kept node hash start s j w → Kept node hash start t k v
 kept_run keeps.ends free done old h = h
 kept_run {node} {hash} {w = w} (keeps.makes_tag {is_left = l} p) free (next {mid = mid} x rest) old h =
     kept_run p free rest (faulty_keeps w (letter.MakeTag node hash (Ok Made)) mid x old).0 (kept_tags node hash l w mid x old h)
@@ -391,7 +391,7 @@ kept_run {node} {hash} {w = w} (keeps.unlocks {s = s} {number = n} {is_segment_l
 kept_run {node} {hash} {w = w} (keeps.removes_tag {j = j} (Ok y) _ p) free (next {mid = mid} x rest) old h =
     kept_run p free rest (faulty_keeps w (letter.RemoveTag node hash (Ok y)) mid x old).0 (kept_untags node hash j y w mid x old h)
 kept_run {node} {hash} {w = w} (keeps.removes_tag {j = j} (Err e) _ p) free (next {mid = mid} x rest) old h =
-    kept_run p free rest (faulty_keeps w (letter.RemoveTag node hash (Err e)) mid x old).0 (with_left_tag j (kept_plain node hash HasTag j w (letter.RemoveTag node hash (Err e)) mid tt x old h))
+    kept_run p free rest (faulty_keeps w (letter.RemoveTag node hash (Err e)) mid x old).0 (with_left_tag j (kept_plain node hash OwnsTag j w (letter.RemoveTag node hash (Err e)) mid tt x old h))
 kept_run {node} {hash} {w = w} (keeps.clears {s = s} {number = n} {max_nodes = m} {answer = Ok y} p) free (next {mid = mid} x (next {mid = last} z rest)) old h =
     let first = letter.MakeSegment node hash n m (Err make.AlreadyExists) in
     let old_2 = (faulty_keeps w first mid x old).0 in
@@ -405,14 +405,14 @@ kept_run {node} {hash} {w = w} (keeps.goes_on {s = s} {j = j} {letter = l} is p)
     kept_run p free rest (faulty_keeps w l mid x old).0 (kept_plain node hash s j w l mid (makes_nothing is) x old h)
 
 module _ (node : ℕ) (hash : ServiceHash) where
-  begin_kept : (w : World) → Kept node hash w (NoTag false) NoLock w
+  begin_kept : (w : World) → Kept node hash w (OwnsNoTag false) NoLock w
   begin_kept w = record { tickets = refl; tags = refl; phase = inl refl; holds = tt }
 
-  tags_left : (l : Bool) (old new : set.FinSet tag_cmp) → HoldsTag node hash (NoTag l) old new → new ≡ tags_after l old (node, hash)
+  tags_left : (l : Bool) (old new : set.FinSet tag_cmp) → HoldsTag node hash (OwnsNoTag l) old new → new ≡ tags_after l old (node, hash)
   tags_left false old new h = h
   tags_left true old new h = h.0
 
-  lock_left : (k : KeptLock) (w v : World) → Agrees v → IsUnlocked k → IsAt node hash k (phase_of w (Node node) hash) (phase_of v (Node node) hash) → HoldsLock node hash k v → LeavesOfLock node hash k w v
+  lock_left : (k : OwnedLock) (w v : World) → Agrees v → IsUnlocked k → IsAt node hash k (phase_of w (Node node) hash) (phase_of v (Node node) hash) → HoldsLock node hash k v → LeavesOfLock node hash k w v
   lock_left NoLock w v new free phase holds = phase
   lock_left (GivenBack n false false) w v new free phase holds = record { begun = phase.0; below = holds.below; unlocked = λ _. (phase.1, holds.row); locked = λ kept. absurd (cc); segment = λ _. holds.segment }
   lock_left (GivenBack n false true) w v new free phase holds = record { begun = phase.0; below = holds.0; unlocked = λ _. (phase.1, holds.1); locked = λ kept. absurd (cc); segment = λ kept. absurd (cc) }
@@ -428,13 +428,13 @@ module _ (node : ℕ) (hash : ServiceHash) where
   lock_left (HasService n) w v new free phase holds = absurd free
 
   -- A word that gives back leaves only that for which a removal was refused.
-  pub gives_back : {word : List Letter} {w v : World} (g : GivesAllBack node hash word) → Run IsFaulty w word v → Agrees w → Leaves node hash g.is_tag_left g.lock w v
+  pub gives_back : {word : List Letter} {w v : World} (g : GivesAllBack node hash word) → Run IsFallibleAccess w word v → Agrees w → Leaves node hash g.is_tag_left g.lock w v
   gives_back {w = w} {v = v} g run old =
       let h = kept_run g.keeps g.is_unlocked run old (begin_kept w) in
       record { tickets = h.tickets; tags = tags_left g.is_tag_left w.tags v.tags h.tags; of_lock = lock_left g.lock w v (run_keeps run old).0 g.is_unlocked h.phase h.holds }
 
   -- and what it gave back of a lock stays away
-  away : (k : KeptLock) (v : World) → IsUnlocked k → HoldsLock node hash k v → StaysAway node hash k v
+  away : (k : OwnedLock) (v : World) → IsUnlocked k → HoldsLock node hash k v → StaysAway node hash k v
   away (GivenBack n false false) v free holds = record { below = holds.below; row = holds.row; segment = holds.segment }
   away (GivenBack n false true) v free holds = holds
   away (GivenBack n true l) v free holds = tt
@@ -443,16 +443,16 @@ module _ (node : ℕ) (hash : ServiceHash) where
   away (WithSegment n) v free holds = absurd free
   away (HasService n) v free holds = absurd free
 
-  pub stays_away : {word : List Letter} {w v : World} (g : GivesAllBack node hash word) → Run IsFaulty w word v → Agrees w → StaysAway node hash g.lock v
+  pub stays_away : {word : List Letter} {w v : World} (g : GivesAllBack node hash word) → Run IsFallibleAccess w word v → Agrees w → StaysAway node hash g.lock v
   stays_away {w = w} {v = v} g run old = away g.lock v g.is_unlocked (kept_run g.keeps g.is_unlocked run old (begin_kept w)).holds
 
 -- a word that leaves at most a tag
-abbrev pub only_tag : {node : ℕ} {hash : ServiceHash} {word : List Letter} (is_left : Bool) → Keeps node hash (NoTag false) NoLock word (NoTag is_left) NoLock → GivesAllBack node hash word
+abbrev pub only_tag : {node : ℕ} {hash : ServiceHash} {word : List Letter} (is_left : Bool) → TracksOwned node hash (OwnsNoTag false) NoLock word (OwnsNoTag is_left) NoLock → GivesAllBack node hash word
 only_tag is_left p = record { is_tag_left = is_left; lock = NoLock; is_unlocked = tt; keeps = p }
 
 -- and so it is in the world
-pub leaves_tag : (node : ℕ) (hash : ServiceHash) {word : List Letter} {w v : World} (is_left : Bool) → Keeps node hash (NoTag false) NoLock word (NoTag is_left) NoLock → Run IsFaulty w word v → Agrees w
-    → (l : Bool) × Keeps node hash (NoTag false) NoLock word (NoTag l) NoLock × Leaves node hash l NoLock w v
+pub leaves_tag : (node : ℕ) (hash : ServiceHash) {word : List Letter} {w v : World} (is_left : Bool) → TracksOwned node hash (OwnsNoTag false) NoLock word (OwnsNoTag is_left) NoLock → Run IsFallibleAccess w word v → Agrees w
+    → (l : Bool) × TracksOwned node hash (OwnsNoTag false) NoLock word (OwnsNoTag l) NoLock × Leaves node hash l NoLock w v
 leaves_tag node hash is_left p run old = (is_left, p, gives_back node hash (only_tag is_left p) run old)
 
 -- Where nothing is refused by a fault, each removal of such a word is granted.
@@ -490,7 +490,7 @@ nothing_refused keeps.gets_no_segment = tt
 nothing_refused keeps.publishes_nothing = tt
 nothing_refused keeps.opens_nothing = tt
 
-granted_run : {node : ℕ} {hash : ServiceHash} {s t : KeptTag} {j k : KeptLock} {word : List Letter} {start w v : World} → Keeps node hash s j word t k → IsUnlocked k → Run IsAccess w word v → Agrees w → Kept node hash start s j w → Each IsGranted word
+granted_run : {node : ℕ} {hash : ServiceHash} {s t : OwnedTag} {j k : OwnedLock} {word : List Letter} {start w v : World} → TracksOwned node hash s j word t k → IsUnlocked k → Run IsAccess w word v → Agrees w → Kept node hash start s j w → Each IsGranted word
 granted_run keeps.ends free done old h = tt
 granted_run {node} {hash} {w = w} (keeps.makes_tag {is_left = l} p) free (next {mid = mid} x rest) old h =
     (tt, granted_run p free rest (access_keeps w (letter.MakeTag node hash (Ok Made)) mid x old).0 (kept_tags node hash l w mid (inl x) old h))
@@ -524,16 +524,16 @@ granted_run {node} {hash} {w = w} (keeps.goes_on {s = s} {j = j} {letter = l} is
     (nothing_refused is, granted_run p free rest (access_keeps w l mid x old).0 (kept_plain node hash s j w l mid (makes_nothing is) (inl x) old h))
 
 -- where each removal is granted nothing is left
-abbrev LeftNoTag : KeptTag → Type 0
-LeftNoTag (NoTag l) = l ≡ false
-LeftNoTag HasTag = Unit {0}
+abbrev LeftNoTag : OwnedTag → Type 0
+LeftNoTag (OwnsNoTag l) = l ≡ false
+LeftNoTag OwnsTag = Unit {0}
 
-abbrev LeftNoLock : KeptLock → Type 0
+abbrev LeftNoLock : OwnedLock → Type 0
 LeftNoLock (Locked n l) = l ≡ false
 LeftNoLock (GivenBack n a b) = (a ≡ false) × (b ≡ false)
 LeftNoLock _ = Unit {0}
 
-none_left : {node : ℕ} {hash : ServiceHash} {s t : KeptTag} {j k : KeptLock} {word : List Letter} → Keeps node hash s j word t k → Each IsGranted word → LeftNoTag s → LeftNoLock j → LeftNoTag t × LeftNoLock k
+none_left : {node : ℕ} {hash : ServiceHash} {s t : OwnedTag} {j k : OwnedLock} {word : List Letter} → TracksOwned node hash s j word t k → Each IsGranted word → LeftNoTag s → LeftNoLock j → LeftNoTag t × LeftNoLock k
 none_left keeps.ends each a b = (a, b)
 none_left (keeps.makes_tag p) each a b = none_left p each.1 tt b
 none_left (keeps.locks p) each a b = none_left p each.1 a refl
@@ -550,14 +550,14 @@ none_left (keeps.clears p) each a b = none_left p each.1.1 a b
 none_left (keeps.goes_on l p) each a b = none_left p each.1 a b
 
 -- the number of the lock stays the same
-abbrev number_of : KeptLock → Option ℕ
+abbrev number_of : OwnedLock → Option ℕ
 number_of NoLock = None
 number_of (Locked n l) = Some n
 number_of (WithSegment n) = Some n
 number_of (GivenBack n a b) = Some n
 number_of (HasService n) = Some n
 
-same_number : {node : ℕ} {hash : ServiceHash} {s t : KeptTag} {j k : KeptLock} {word : List Letter} (n : ℕ) → Keeps node hash s j word t k → number_of j ≡ Some n → number_of k ≡ Some n
+same_number : {node : ℕ} {hash : ServiceHash} {s t : OwnedTag} {j k : OwnedLock} {word : List Letter} (n : ℕ) → TracksOwned node hash s j word t k → number_of j ≡ Some n → number_of k ≡ Some n
 same_number n keeps.ends e = e
 same_number n (keeps.makes_tag p) e = absurd (cc)
 same_number n (keeps.locks p) e = absurd (cc)
@@ -581,7 +581,7 @@ spends_nothing h v keeps.gets_no_segment = tt
 spends_nothing h v keeps.publishes_nothing = tt
 spends_nothing h v keeps.opens_nothing = tt
 
-spends : {node : ℕ} {hash : ServiceHash} {s t : KeptTag} {j k : KeptLock} {word : List Letter} (v : World) → Keeps node hash s j word t k → ((n : ℕ) → number_of k ≡ Some n → IsSpent v hash n) → Each (SpendsNumber hash v) word
+spends : {node : ℕ} {hash : ServiceHash} {s t : OwnedTag} {j k : OwnedLock} {word : List Letter} (v : World) → TracksOwned node hash s j word t k → ((n : ℕ) → number_of k ≡ Some n → IsSpent v hash n) → Each (SpendsNumber hash v) word
 spends v keeps.ends f = tt
 spends v (keeps.makes_tag p) f = (tt, spends v p f)
 spends v (keeps.locks {number = n} p) f = (f n (same_number n p refl), spends v p f)
@@ -595,16 +595,16 @@ spends v (keeps.clears p) f = (tt, (tt, spends v p f))
 spends {hash = hash} v (keeps.goes_on l p) f = (spends_nothing hash v l, spends v p f)
 
 module _ (node : ℕ) (hash : ServiceHash) where
-  tags_same : (l : Bool) (old new : set.FinSet tag_cmp) → l ≡ false → HoldsTag node hash (NoTag l) old new → new ≡ old
+  tags_same : (l : Bool) (old new : set.FinSet tag_cmp) → l ≡ false → HoldsTag node hash (OwnsNoTag l) old new → new ≡ old
   tags_same false old new clean h = h
   tags_same true old new clean h = absurd (cc)
 
   -- what is known of the lock
-  record Over (k : KeptLock) (w v : World) : Type 0 where
+  record Over (k : OwnedLock) (w v : World) : Type 0 where
     pub phase : NodeHasRead node hash w v
     pub spent : (n : ℕ) → number_of k ≡ Some n → IsSpent v hash n
 
-  over : (k : KeptLock) (w v : World) → IsUnlocked k → LeftNoLock k → IsAt node hash k (phase_of w (Node node) hash) (phase_of v (Node node) hash) → HoldsLock node hash k v → Over k w v
+  over : (k : OwnedLock) (w v : World) → IsUnlocked k → LeftNoLock k → IsAt node hash k (phase_of w (Node node) hash) (phase_of v (Node node) hash) → HoldsLock node hash k v → Over k w v
   over NoLock w v free clean phase holds = record { phase = phase; spent = λ n e. absurd (cc) }
   over (GivenBack m false false) w v free clean phase holds = record { phase = inr phase; spent = λ n e. let same : m ≡ n = cc in subst (IsSpent v hash) same holds }
   over (GivenBack m false true) w v free clean phase holds = let no = clean.1 in absurd (cc)

@@ -18,7 +18,7 @@ use Rattle.iceoryx2_access.specs.declared.storage.PublishError.TheVariants as Pu
 use Rattle.iceoryx2_access.specs.Letter.{Letter}
 use Rattle.iceoryx2_access.specs.Letter as letter
 use Rattle.iceoryx2_access.specs.Run.{Run}
-use Rattle.iceoryx2_access.specs.Factory.{Factory}
+use Rattle.iceoryx2_access.specs.Registered.{Registered}
 use Rattle.iceoryx2_access.proofs.Run.{head, split, last}
 use Rattle.iceoryx2_world.specs.declared.world.Participant.{Participant}
 use Rattle.iceoryx2_world.specs.declared.world.Participant.TheVariants.{Node}
@@ -29,7 +29,7 @@ use Rattle.iceoryx2_world.specs.World.{World, Segment, Tickets, row_of, segment_
 use Rattle.iceoryx2_world.specs.Steps.{last_number}
 use Rattle.iceoryx2_world.specs.Agreement.{AgreesAt}
 use Rattle.iceoryx2_world.specs.Across.{Agrees}
-use Rattle.iceoryx2_world.specs.Access.{Seat, seat, seat_after, IsOwnPart}
+use Rattle.iceoryx2_world.specs.Access.{NodeView, node_view, node_view_after, IsOwnPart}
 use Rattle.iceoryx2_world.proofs.agreement.Whole.{own_hash}
 use Rattle.iceoryx2_pattern.specs.declared.pattern.CreateRefusal.{CreateRefusal}
 use Rattle.iceoryx2_pattern.specs.declared.pattern.CreateRefusal.TheVariants as refusal
@@ -40,7 +40,7 @@ use Rattle.iceoryx2_create_and_open.specs.Segments as segment
 use Rattle.iceoryx2_create_and_open.specs.Creates.{IsEntryWord, IsServiceWord, IsCreating, IsCreateWord, clock_stops, description_of, time_of}
 use Rattle.iceoryx2_create_and_open.specs.Creates as create
 use Rattle.iceoryx2_call_laws.specs.OverNoRow.{AnswersOverNoRow, made, forbidden, no_time, no_number, no_memory}
-use Rattle.iceoryx2_call_laws.proofs.quiet.Seats.{AtSeat, move_all}
+use Rattle.iceoryx2_call_laws.proofs.quiet.NodeViews.{AtNode, move_all}
 use Rattle.iceoryx2_call_laws.proofs.quiet.Here.{create_here}
 use Rattle.iceoryx2_call_laws.proofs.quiet.Absent.{into, ended, from, same_number, over, at_lock, locked, with_segment, counts_over, tag_over, lock_over, lock_refused, lock_given, make_and, Makes, makes, makes_none, segment_part, segment_refused, segment_there, publish_made, look_over}
 
@@ -56,18 +56,18 @@ begins_without c h r s phase a gone p (at.Cleared n) e = let is = (a.cleared p n
 
 module _ (i : ℕ) (h : ServiceHash) where
   -- the tag is made, or there
-  any_tag : (x : Phase) (s : Option Segment) (c : ℕ) (g : Bool) (k : Tickets) {a : Result Tag TagError} {t : Seat} → AtSeat i h (over x s c g k) (letter.MakeTag i h a) t → ((tag : Tag) × (a ≡ Ok tag) × (t ≡ over x s c true k)) ⊎ (a ≡ Err Tagging.OutOfMemory)
-  any_tag x s c true k r = inl (Found, r.own.0, r.is ∙ ap (seat_after _) r.own.1)
+  any_tag : (x : Phase) (s : Option Segment) (c : ℕ) (g : Bool) (k : Tickets) {a : Result Tag TagError} {t : NodeView} → AtNode i h (over x s c g k) (letter.MakeTag i h a) t → ((tag : Tag) × (a ≡ Ok tag) × (t ≡ over x s c true k)) ⊎ (a ≡ Err Tagging.OutOfMemory)
+  any_tag x s c true k r = inl (Found, r.own.0, r.is ∙ ap (node_view_after _) r.own.1)
   any_tag x s c false k r = elim (tag_over i h x s c k r) [ inl y ↦ inl (Made, y.0, y.1) | inr y ↦ inr y.0 ]
 
   -- the segment that was left is found once and removed
-  find_left : (n m c : ℕ) (k : Tickets) (y : Segment) {a : Result (Unit {0}) MakeSegmentError} {t : Seat} → nat_lt 0 m ≡ true → AtSeat i h (at_lock n (Some y) c k) (letter.MakeSegment i h n m a) t → (a ≡ Err Making.AlreadyExists) × (t ≡ at_lock n (Some y) c k)
-  find_left n m c k y positive r = let own = rw (same_number n, positive) at r.own in (own.0, r.is ∙ ap (seat_after _) own.1)
+  find_left : (n m c : ℕ) (k : Tickets) (y : Segment) {a : Result (Unit {0}) MakeSegmentError} {t : NodeView} → nat_lt 0 m ≡ true → AtNode i h (at_lock n (Some y) c k) (letter.MakeSegment i h n m a) t → (a ≡ Err Making.AlreadyExists) × (t ≡ at_lock n (Some y) c k)
+  find_left n m c k y positive r = let own = rw (same_number n, positive) at r.own in (own.0, r.is ∙ ap (node_view_after _) own.1)
 
-  clear_left : (n c : ℕ) (k : Tickets) (s : Option Segment) {a : Result (Unit {0}) RemoveError} {t : Seat} → AtSeat i h (at_lock n s c k) (letter.RemoveSegment i h a) t → (a ≡ Ok tt) × (t ≡ locked n c k)
-  clear_left n c k s r = (r.own.0, r.is ∙ ap (seat_after _) r.own.1)
+  clear_left : (n c : ℕ) (k : Tickets) (s : Option Segment) {a : Result (Unit {0}) RemoveError} {t : NodeView} → AtNode i h (at_lock n s c k) (letter.RemoveSegment i h a) t → (a ≡ Ok tt) × (t ≡ locked n c k)
+  clear_left n c k s r = (r.own.0, r.is ∙ ap (node_view_after _) r.own.1)
 
-  left_clearings : (n m c : ℕ) (k : Tickets) (y : Segment) (j : ℕ) {t : Seat} → nat_lt 0 m ≡ true → Run (AtSeat i h) (at_lock n (Some y) c k) (clearings i h n m (suc j)) t → t ≡ locked n c k
+  left_clearings : (n m c : ℕ) (k : Tickets) (y : Segment) (j : ℕ) {t : NodeView} → nat_lt 0 m ≡ true → Run (AtNode i h) (at_lock n (Some y) c k) (clearings i h n m (suc j)) t → t ≡ locked n c k
   left_clearings n m c k y zero positive r =
       let f = head r in
       (clear_left n c k (Some y) (last (from (find_left n m c k y positive f.first).1 f.rest))).1
@@ -75,10 +75,10 @@ module _ (i : ℕ) (h : ServiceHash) where
       let s = split (clearings i h n m (suc j)) _ r in
       elim (make_and i h n m c k positive (from (left_clearings n m c k y j positive s.first) s.second)) [ inl z ↦ absurd (grind (arith, z.0)) | inr z ↦ absurd (grind (arith, z.0)) ]
 
-  make_next : (n m c : ℕ) (k : Tickets) (y : Segment) (j : ℕ) {a : Result (Unit {0}) MakeSegmentError} {w : List Letter} {t : Seat} → nat_lt 0 m ≡ true → Run (AtSeat i h) (at_lock n (Some y) c k) (clearings i h n m (suc j) ++ letter.MakeSegment i h n m a ∷ w) t → ((a ≡ Ok tt) × Run (AtSeat i h) (with_segment i h n m c k) w t) ⊎ ((a ≡ Err Making.OutOfMemory) × Run (AtSeat i h) (locked n c k) w t)
+  make_next : (n m c : ℕ) (k : Tickets) (y : Segment) (j : ℕ) {a : Result (Unit {0}) MakeSegmentError} {w : List Letter} {t : NodeView} → nat_lt 0 m ≡ true → Run (AtNode i h) (at_lock n (Some y) c k) (clearings i h n m (suc j) ++ letter.MakeSegment i h n m a ∷ w) t → ((a ≡ Ok tt) × Run (AtNode i h) (with_segment i h n m c k) w t) ⊎ ((a ≡ Err Making.OutOfMemory) × Run (AtNode i h) (locked n c k) w t)
   make_next n m c k y j positive r = let s = split (clearings i h n m (suc j)) _ r in make_and i h n m c k positive (from (left_clearings n m c k y j positive s.first) s.second)
 
-  left_part : (n m c : ℕ) (k : Tickets) (y : Segment) {a : Result (Unit {0}) CreateRefusal} {w : List Letter} {t : Seat} → nat_lt 0 m ≡ true → IsSegmentWord i h n m w a → Run (AtSeat i h) (at_lock n (Some y) c k) w t → Makes i h n m c k a t
+  left_part : (n m c : ℕ) (k : Tickets) (y : Segment) {a : Result (Unit {0}) CreateRefusal} {w : List Letter} {t : NodeView} → nat_lt 0 m ≡ true → IsSegmentWord i h n m w a → Run (AtNode i h) (at_lock n (Some y) c k) w t → Makes i h n m c k a t
   left_part n m c k y positive (segment.made zero le) r = let f = find_left n m c k y positive (last r) in absurd (grind (arith, f.0))
   left_part n m c k y positive (segment.made (suc j) le) r = elim (make_next n m c k y j positive r) [ inl z ↦ into (Makes i h n m c k) refl (ended z.1) makes | inr z ↦ absurd (grind (arith, z.0)) ]
   left_part n m c k y positive (segment.not_made zero e le other) r = let f = find_left n m c k y positive (last r) in absurd (other (cc (f.0)))
@@ -90,7 +90,7 @@ module _ (i : ℕ) (h : ServiceHash) where
   left_part n m c k y positive (segment.not_removed (suc j) e lt) r = elim (make_next n m c k y j positive r) [ inl z ↦ absurd (grind (arith, z.0)) | inr z ↦ absurd (grind (arith, z.0)) ]
   left_part n m c k y positive segment.still_there r = elim (make_next n m c k y 4 positive r) [ inl z ↦ absurd (grind (arith, z.0)) | inr z ↦ absurd (grind (arith, z.0)) ]
 
-  any_part : (n m c : ℕ) (k : Tickets) (s : Option Segment) {a : Result (Unit {0}) CreateRefusal} {w : List Letter} {t : Seat} → nat_lt 0 m ≡ true → IsSegmentWord i h n m w a → Run (AtSeat i h) (at_lock n s c k) w t → Makes i h n m c k a t
+  any_part : (n m c : ℕ) (k : Tickets) (s : Option Segment) {a : Result (Unit {0}) CreateRefusal} {w : List Letter} {t : NodeView} → nat_lt 0 m ≡ true → IsSegmentWord i h n m w a → Run (AtNode i h) (at_lock n s c k) w t → Makes i h n m c k a t
   any_part n m c k None positive is r = segment_part i h n m c k positive is r
   any_part n m c k (Some y) positive is r = left_part n m c k y positive is r
 
@@ -101,17 +101,17 @@ module _ {F E C : Type 0} (m : Meaning F E C) (i : ℕ) (h : ServiceHash) (name 
   abbrev stops : Bool
   stops = clock_stops m.needs_clock now
 
-  abbrev Answers : Result Factory C → Type 0
+  abbrev Answers : Result Registered C → Type 0
   Answers a = AnswersOverNoRow m i h name now c a
 
   answers : {e : CreateRefusal} → e ≡ refusal.OutOfMemory → Answers (Err (m.create_refusal e))
   answers is = subst (λ z. Answers (Err (m.create_refusal z))) (sym is) no_memory
 
-  data Enters : Result Tag C → Seat → Type 0 where
+  data Enters : Result Tag C → NodeView → Type 0 where
     enters : {tag : Tag} → Enters (Ok tag) (over x s c true k)
-    enters_not : {t : Seat} → Enters (Err (m.create_refusal refusal.OutOfMemory)) t
+    enters_not : {t : NodeView} → Enters (Err (m.create_refusal refusal.OutOfMemory)) t
 
-  entry : (g : Bool) {a : Result Tag C} {w : List Letter} {t : Seat} → IsEntryWord m i h w a → Run (AtSeat i h) (over x s c g k) w t → Enters a t
+  entry : (g : Bool) {a : Result Tag C} {w : List Letter} {t : NodeView} → IsEntryWord m i h w a → Run (AtNode i h) (over x s c g k) w t → Enters a t
   entry g (create.look_faulty l) r = let y = look_over m i h x s c g k l r in absurd (cc)
   entry g (create.look_found l) r = let y = look_over m i h x s c g k l r in absurd (cc)
   entry g (create.counted {u = u} l) r =
@@ -133,26 +133,26 @@ module _ {F E C : Type 0} (m : Meaning F E C) (i : ℕ) (h : ServiceHash) (name 
         | inr y ↦ absurd (grind (arith, y))
       ]
 
-  entry_refused : {e : C} {t : Seat} → Enters (Err e) t → e ≡ m.create_refusal refusal.OutOfMemory
+  entry_refused : {e : C} {t : NodeView} → Enters (Err e) t → e ≡ m.create_refusal refusal.OutOfMemory
   entry_refused enters_not = refl
 
-  entry_made : {tag : Tag} {t : Seat} → Enters (Ok tag) t → t ≡ over x s c true k
+  entry_made : {tag : Tag} {t : NodeView} → Enters (Ok tag) t → t ≡ over x s c true k
   entry_made enters = refl
 
   module _ (positive : nat_lt 0 (max_nodes_of d.pattern) ≡ true) where
     -- after the lock
-    record Begun (n : ℕ) (w : List Letter) (t : Seat) : Type 0 where
+    record Begun (n : ℕ) (w : List Letter) (t : NodeView) : Type 0 where
       number : n ≡ c
       counter : c < last_number
-      rest : Run (AtSeat i h) (at_lock n s (c + 1) k) w t
+      rest : Run (AtNode i h) (at_lock n s (c + 1) k) w t
 
-    begun : {w : List Letter} {n : ℕ} {t : Seat} → Run (AtSeat i h) (over x s c true k) (letter.Lock i h (Ok n) ∷ w) t → Begun n w t
+    begun : {w : List Letter} {n : ℕ} {t : NodeView} → Run (AtNode i h) (over x s c true k) (letter.Lock i h (Ok n) ∷ w) t → Begun n w t
     begun {n = n} r =
         let f = head r in
         let y = lock_given i h (lock_over i h x s c k (Ok n) f.mid b f.first) in
         record { number = y.0; counter = grind (arith, nat_tests, y.2); rest = from y.1 f.rest }
 
-    serving : {tag : Tag} {a : Result Factory C} {w : List Letter} {t : Seat} → m.history_refusal ≡ None → stops ≡ false → IsServiceWord m i h d tag w a → Run (AtSeat i h) (over x s c true k) w t → Answers a
+    serving : {tag : Tag} {a : Result Registered C} {w : List Letter} {t : NodeView} → m.history_refusal ≡ None → stops ≡ false → IsServiceWord m i h d tag w a → Run (AtNode i h) (over x s c true k) w t → Answers a
     serving fits runs (create.not_locked z g) r =
         let f = head r in
         elim (lock_refused i h (lock_over i h x s c k _ _ b f.first)) [
@@ -180,7 +180,7 @@ module _ {F E C : Type 0} (m : Meaning F E C) (i : ℕ) (h : ServiceHash) (name 
           | inr y ↦ absurd (grind (arith, y.0))
         ]
 
-    answering : (g : Bool) {a : Result Factory C} {w : List Letter} {t : Seat} → IsCreateWord m i h name now w a → Run (AtSeat i h) (over x s c g k) w t → Answers a
+    answering : (g : Bool) {a : Result Registered C} {w : List Letter} {t : NodeView} → IsCreateWord m i h name now w a → Run (AtNode i h) (over x s c g k) w t → Answers a
     answering g (create.forbidden bad) r = forbidden bad
     answering g (create.not_entered fits e) r = subst (λ z. Answers (Err z)) (sym (entry_refused (entry g e r))) no_memory
     answering g (create.clock_fault fits stopped e back) r = no_time fits stopped
@@ -190,9 +190,9 @@ module _ {F E C : Type 0} (m : Meaning F E C) (i : ℕ) (h : ServiceHash) (name 
 
 module _ {F E C : Type 0} (m : Meaning F E C) (i : ℕ) (h : ServiceHash) (name : List ℕ) (now : Result Span ClockFault) where
   -- In the world.
-  pub create_over_no_row : {word : List Letter} {answer : Result Factory C} {w v : World} → 0 < max_nodes_of (m.published (time_of now)) → Agrees w → row_of w h ≡ None → IsCreateWord m i h name now word answer → Run IsOwnPart w word v → AnswersOverNoRow m i h name now w.counter answer
+  pub create_over_no_row : {word : List Letter} {answer : Result Registered C} {w v : World} → 0 < max_nodes_of (m.published (time_of now)) → Agrees w → row_of w h ≡ None → IsCreateWord m i h name now word answer → Run IsOwnPart w word v → AnswersOverNoRow m i h name now w.counter answer
   create_over_no_row {w = w} room old gone is run =
       let all = move_all i h (create_here is) run in
       let b = begins_without w.counter h (row_of w h) (segment_of w h) (λ p. phase_of w p h) (old.everywhere h) gone (Node i) (phase_of w (Node i) h) refl in
-      let start : seat w i h ≡ over (phase_of w (Node i) h) (segment_of w h) w.counter (tag_of w i h) w.tickets = λ j. record { spot = record { phase = phase_of w (Node i) h; row = gone j; segment = segment_of w h; counter = w.counter }; tag = tag_of w i h; tickets = w.tickets } in
+      let start : node_view w i h ≡ over (phase_of w (Node i) h) (segment_of w h) w.counter (tag_of w i h) w.tickets = λ j. record { view = record { phase = phase_of w (Node i) h; row = gone j; segment = segment_of w h; counter = w.counter }; tag = tag_of w i h; tickets = w.tickets } in
       answering m i h name now (phase_of w (Node i) h) (segment_of w h) w.counter w.tickets b (grind (arith, nat_tests, room)) (tag_of w i h) is (from start all.at)

@@ -6,19 +6,19 @@ use Rattle.iceoryx2_access.specs.Letter.{Letter}
 use Rattle.iceoryx2_access.specs.Letter as letter
 use Rattle.iceoryx2_access.specs.Run.{Run}
 use Rattle.iceoryx2_world.specs.Across.{Agrees}
-use Rattle.iceoryx2_world.specs.Faulty.{IsFaulty}
+use Rattle.iceoryx2_world.specs.Fallible.{IsFallibleAccess}
 use Rattle.iceoryx2_world.specs.Standing.{Stands}
 use Rattle.iceoryx2_access.proofs.Run.{split, head}
 use Rattle.iceoryx2_world.proofs.agreement.Accesses.{run_keeps, faulty_keeps}
 use Rattle.iceoryx2_world.proofs.agreement.Stands.{found_stands}
 use Rattle.iceoryx2_pattern.specs.Meaning.{Meaning}
-use Rattle.iceoryx2_access.specs.Factory.{Factory}
+use Rattle.iceoryx2_access.specs.Registered.{Registered}
 use Rattle.iceoryx2_pattern.specs.Verdict.{verdict}
 use Rattle.iceoryx2_create_and_open.specs.Looks.{fetched, fits}
 use Rattle.iceoryx2_create_and_open.specs.Opens.{ready, IsLastRound, opened, IsOpenWord, ended}
 
 -- the factory of an open over these worlds
-pub record IsOpened {F E C : Type 0} (m : Meaning F E C) (node : ℕ) (hash : ServiceHash) (r : Factory) (w v : World) : Type 0 where
+pub record IsOpened {F E C : Type 0} (m : Meaning F E C) (node : ℕ) (hash : ServiceHash) (r : Registered) (w v : World) : Type 0 where
   pub stands : Stands v r
   pub node_is : r.node ≡ node
   pub hash_is : r.description.hash ≡ hash
@@ -27,7 +27,7 @@ pub record IsOpened {F E C : Type 0} (m : Meaning F E C) (node : ℕ) (hash : Se
   pub new_ticket : w.counter ≤ r.ticket
 
 module _ {F E C : Type 0} {m : Meaning F E C} {node : ℕ} {hash : ServiceHash} where
-  round_stands : {word : List Letter} {r : Factory} {w v : World} → IsLastRound m node hash word (Ok r) → Run IsFaulty w word v → Agrees w → IsOpened m node hash r w v
+  round_stands : {word : List Letter} {r : Registered} {w v : World} → IsLastRound m node hash word (Ok r) → Run IsFallibleAccess w word v → Agrees w → IsOpened m node hash r w v
   round_stands {w = w} {v = v} (opened {n = n} {d = d} t (ready tag (fetched {there} may (fits {bytes = b} form same misfit)) accepted)) run old =
       let first = head run in
       let looked = faulty_keeps w (letter.Exists hash there) first.mid first.first old in
@@ -41,7 +41,7 @@ module _ {F E C : Type 0} {m : Meaning F E C} {node : ℕ} {hash : ServiceHash} 
         new_ticket = grind (arith, looked.1.counter, new.1);
       }
 
-  pub open_stands : {word : List Letter} {r : Factory} {w v : World} → IsOpenWord m node hash word (Ok r) → Run IsFaulty w word v → Agrees w → IsOpened m node hash r w v
+  pub open_stands : {word : List Letter} {r : Registered} {w v : World} → IsOpenWord m node hash word (Ok r) → Run IsFallibleAccess w word v → Agrees w → IsOpened m node hash r w v
   open_stands {r} {v = z} (ended {u = x} {v = y} small before round) run old =
       let first = split x y run in
       let rounds = run_keeps first.first old in

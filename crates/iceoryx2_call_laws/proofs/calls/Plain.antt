@@ -10,11 +10,11 @@ use Rattle.iceoryx2_world.specs.Orders.{hash_total, hash_exact}
 use Rattle.iceoryx2_world.specs.World.{World, Segment, row_of, segment_of, phase_of, begins}
 use Rattle.iceoryx2_world.specs.Acts.{Act}
 use Rattle.iceoryx2_world.specs.Acts as act
-use Rattle.iceoryx2_world.specs.Steps.{Spot, world_after}
+use Rattle.iceoryx2_world.specs.Steps.{ServiceView, world_after}
 use Rattle.iceoryx2_world.specs.Agreement.{Later}
 use Rattle.iceoryx2_access.specs.Letter.{Letter}
 use Rattle.iceoryx2_access.specs.Letter as letter
-use Rattle.iceoryx2_world.specs.Access.{Change, seat, write, own_step, read_change, MakesTag, IsOwnPart}
+use Rattle.iceoryx2_world.specs.Access.{Change, node_view, write, own_step, read_change, MakesTag, IsOwnPart}
 use Rattle.iceoryx2_world.specs.StepCases.{IsStep, reads}
 use Rattle.iceoryx2_world.proofs.agreement.StepCases.{step_case}
 use Rattle.iceoryx2_world.proofs.agreement.Maps.{set_cases}
@@ -38,7 +38,7 @@ IsPlain _ = Unit {0}
 abbrev Reads : World → World → Type 0
 Reads w v = (v ≡ w) ⊎ ((i : ℕ) × (h : ServiceHash) × (world_after w (Node i) h act.Read ≡ Some v))
 
-read_reads : (w v : World) (i : ℕ) (h : ServiceHash) (c : Change) (o : Option Spot) → own_step i h act.Read (seat w i h).spot ≡ o → c ≡ read_change o → v ≡ write w i h c → Reads w v
+read_reads : (w v : World) (i : ℕ) (h : ServiceHash) (c : Change) (o : Option ServiceView) → own_step i h act.Read (node_view w i h).view ≡ o → c ≡ read_change o → v ≡ write w i h c → Reads w v
 read_reads w v i h c None e m is = inl (unchanged w v i h c m is)
 read_reads w v i h c (Some s) e m is = inr (i, h, moved_world w v i h act.Read c s e m is)
 
@@ -50,13 +50,13 @@ tag_plain w v i h false r c other (inr o) is = inl (unchanged w v i h c o.1 is)
 plain_part : (w : World) (l : Letter) (v : World) → IsPlain l → IsOwnPart w l v → Reads w v
 plain_part w (letter.Exists h a) v ok p = inl (unchanged w v 0 h p.change p.own.1 p.is)
 plain_part w (letter.Fetch i h a) v ok p = elim (answer_cases _ _ a p.change p.own) [
-  | inl k ↦ read_reads w v i h p.change (own_step i h act.Read (seat w i h).spot) refl (k.change ∙ (fetched_ok i h (seat w i h).spot (row_of w h) k.given k.from).1) p.is
+  | inl k ↦ read_reads w v i h p.change (own_step i h act.Read (node_view w i h).view) refl (k.change ∙ (fetched_ok i h (node_view w i h).view (row_of w h) k.given k.from).1) p.is
   | inr k ↦ inl (unchanged w v i h p.change k.change p.is)
 ]
 plain_part w (letter.Counts i h a) v ok p = inl (unchanged w v i h p.change p.own.1 p.is)
 plain_part w (letter.MakeTag i h (Ok Made)) v ok p = absurd ok
-plain_part w (letter.MakeTag i h (Ok Found)) v ok p = tag_plain w v i h (seat w i h).tag (Ok Found) p.change (λ e. cc) p.own p.is
-plain_part w (letter.MakeTag i h (Err e)) v ok p = tag_plain w v i h (seat w i h).tag (Err e) p.change (λ e. cc) p.own p.is
+plain_part w (letter.MakeTag i h (Ok Found)) v ok p = tag_plain w v i h (node_view w i h).tag (Ok Found) p.change (λ e. cc) p.own p.is
+plain_part w (letter.MakeTag i h (Err e)) v ok p = tag_plain w v i h (node_view w i h).tag (Err e) p.change (λ e. cc) p.own p.is
 plain_part w (letter.RemoveTag i h (Ok x)) v ok p = absurd ok
 plain_part w (letter.RemoveTag i h (Err e)) v ok p = let is = p.own.0 in absurd (cc)
 plain_part w (letter.Lock i h (Ok n)) v ok p = absurd ok
@@ -95,26 +95,26 @@ pub step_tags : (w v : World) (p : Participant) (g : ServiceHash) (a : Act) → 
 step_tags w v p g a e = subst (λ (z : World). z.tags ≡ w.tags) (allowed_step w v p g a e).world refl
 
 -- what a reading finds and leaves
-record Read (x : Phase) (s : Option Segment) (new : Spot) : Type 0 where
+record Read (x : Phase) (s : Option Segment) (new : ServiceView) : Type 0 where
   pub before : begins x ≡ true
   pub now : begins new.phase ≡ true
   pub segment : new.segment ≡ s
 
-read_row : {p : Participant} {h : ServiceHash} {x : Phase} {r : Option Row} {s : Option Segment} {c : ℕ} {new : Spot} → IsStep p h act.Read x r s c new → Read x s new
+read_row : {p : Participant} {h : ServiceHash} {x : Phase} {r : Option Row} {s : Option Segment} {c : ℕ} {new : ServiceView} → IsStep p h act.Read x r s c new → Read x s new
 read_row (reads free) = record { before = free; now = refl; segment = refl }
 
 read_untouched : (w v : World) (i : ℕ) (g : ServiceHash) → world_after w (Node i) g act.Read ≡ Some v → Untouched w v
 read_untouched w v i g e =
     let st = allowed_step w v (Node i) g act.Read e in
-    let r = read_row (step_case (Node i) g act.Read (phase_of w (Node i) g) (row_of w g) (segment_of w g) w.counter st.spot st.is) in
+    let r = read_row (step_case (Node i) g act.Read (phase_of w (Node i) g) (row_of w g) (segment_of w g) w.counter st.view st.is) in
     record {
       tags = step_tags w v (Node i) g act.Read e;
       tickets = step_tickets w v (Node i) g act.Read st;
-      segments = λ h. subst (λ u. segment_of u h ≡ segment_of w h) st.world (elim (set_cases hash_total hash_exact w.segments g st.spot.segment h) [
+      segments = λ h. subst (λ u. segment_of u h ≡ segment_of w h) st.world (elim (set_cases hash_total hash_exact w.segments g st.view.segment h) [
         | inl k ↦ k.1 ∙ r.segment ∙ ap (segment_of w) (sym k.0)
         | inr k ↦ k.1
       ]);
-      phases = λ j h. subst (λ u. HasAtMostRead (phase_of w (Node j) h) (phase_of u (Node j) h)) st.world (elim (place_cases w (Node i) g st.spot (Node j) h) [
+      phases = λ j h. subst (λ u. HasAtMostRead (phase_of w (Node j) h) (phase_of u (Node j) h)) st.world (elim (place_cases w (Node i) g st.view (Node j) h) [
         | inl k ↦ inr ((λ z. begins (phase_of w (k.0 z) (k.1 z))) ∙ r.before, ap begins k.2 ∙ r.now)
         | inr k ↦ inl k.1
       ]);

@@ -6,11 +6,11 @@ use Rattle.iceoryx2_description.specs.Description.{Description, max_nodes_of}
 use Rattle.iceoryx2_description.specs.Span.{Span}
 use Rattle.iceoryx2_access.specs.Letter.{Letter}
 use Rattle.iceoryx2_access.specs.Run.{Run, Each, done}
-use Rattle.iceoryx2_access.specs.Factory.{Factory}
+use Rattle.iceoryx2_access.specs.Registered.{Registered}
 use Rattle.iceoryx2_world.specs.World.{World, row_of}
 use Rattle.iceoryx2_world.specs.Across.{Agrees}
 use Rattle.iceoryx2_world.specs.Access.{IsOwnPart}
-use Rattle.iceoryx2_world.specs.Faulty.{IsFaulty}
+use Rattle.iceoryx2_world.specs.Fallible.{IsFallibleAccess}
 use Rattle.iceoryx2_pattern.specs.declared.pattern.CreateRefusal.TheVariants.{OutOfMemory}
 use Rattle.iceoryx2_pattern.specs.Meaning.{Meaning}
 use Rattle.iceoryx2_create_and_open.specs.Creates.{IsCreating, time_of}
@@ -30,24 +30,24 @@ nowhere done = refl
 
 module _ {F E C : Type 0} {m : Meaning F E C} {node : ℕ} {hash : ServiceHash} where
   module _ {stops : Bool} {d : Description} where
-    pub create_call_letters : {word : List Letter} {answer : Result Factory C} → IsPrepared (m.create_refusal OutOfMemory) (IsCreating m node hash stops d) word answer → Each IsNoRelease word
+    pub create_call_letters : {word : List Letter} {answer : Result Registered C} → IsPrepared (m.create_refusal OutOfMemory) (IsCreating m node hash stops d) word answer → Each IsNoRelease word
     create_call_letters = each_call (λ word answer. Each IsNoRelease word) tt (λ word answer is. create_letters is)
 
-    pub create_call_tickets : {word : List Letter} {answer : Result Factory C} {w v : World} → d.hash ≡ hash → IsPrepared (m.create_refusal OutOfMemory) (IsCreating m node hash stops d) word answer → Run IsFaulty w word v → v.tickets ≡ tickets_after w.tickets answer
-    create_call_tickets {w = w} {v = v} same = each_call (λ word answer. Run IsFaulty w word v → v.tickets ≡ tickets_after w.tickets answer) (λ run. ap (λ (z : World). z.tickets) (nowhere run)) (λ word answer is run. create_tickets answer same is run)
+    pub create_call_tickets : {word : List Letter} {answer : Result Registered C} {w v : World} → d.hash ≡ hash → IsPrepared (m.create_refusal OutOfMemory) (IsCreating m node hash stops d) word answer → Run IsFallibleAccess w word v → v.tickets ≡ tickets_after w.tickets answer
+    create_call_tickets {w = w} {v = v} same = each_call (λ word answer. Run IsFallibleAccess w word v → v.tickets ≡ tickets_after w.tickets answer) (λ run. ap (λ (z : World). z.tickets) (nowhere run)) (λ word answer is run. create_tickets answer same is run)
 
-    pub refused_create_call_calm : {word : List Letter} {error : C} (w : World) → Agrees w → IsPrepared (m.create_refusal OutOfMemory) (IsCreating m node hash stops d) word (Err error) → AtEach IsFaulty ActsCalmly w word
-    refused_create_call_calm w old = refused_call (AtEach IsFaulty ActsCalmly w) tt (λ word error is. refused_create_calm w is old)
+    pub refused_create_call_calm : {word : List Letter} {error : C} (w : World) → Agrees w → IsPrepared (m.create_refusal OutOfMemory) (IsCreating m node hash stops d) word (Err error) → AtEach IsFallibleAccess ActsCalmly w word
+    refused_create_call_calm w old = refused_call (AtEach IsFallibleAccess ActsCalmly w) tt (λ word error is. refused_create_calm w is old)
 
   module _ (name : List ℕ) (now : Result Span ClockFault) where
-    pub create_call_over_no_row : {word : List Letter} {answer : Result Factory C} {w v : World} → 0 < max_nodes_of (m.published (time_of now)) → Agrees w → row_of w hash ≡ None → IsCreateCall m node hash name now word answer → Run IsOwnPart w word v → AnswersOverNoRow m node hash name now w.counter answer
+    pub create_call_over_no_row : {word : List Letter} {answer : Result Registered C} {w v : World} → 0 < max_nodes_of (m.published (time_of now)) → Agrees w → row_of w hash ≡ None → IsCreateCall m node hash name now word answer → Run IsOwnPart w word v → AnswersOverNoRow m node hash name now w.counter answer
     create_call_over_no_row {w = w} {v = v} room old gone = each_call (λ word answer. Run IsOwnPart w word v → AnswersOverNoRow m node hash name now w.counter answer) (λ run. no_memory) (λ word answer is run. create_over_no_row m node hash name now room old gone is run)
 
-  pub open_call_letters : {word : List Letter} {answer : Result Factory E} → IsOpenCall m node hash word answer → Each IsNoRelease word
+  pub open_call_letters : {word : List Letter} {answer : Result Registered E} → IsOpenCall m node hash word answer → Each IsNoRelease word
   open_call_letters = each_call (λ word answer. Each IsNoRelease word) tt (λ word answer is. open_letters is)
 
-  pub open_call_tickets : {word : List Letter} {answer : Result Factory E} {w v : World} → IsOpenCall m node hash word answer → Run IsFaulty w word v → v.tickets ≡ tickets_after w.tickets answer
-  open_call_tickets {w = w} {v = v} = each_call (λ word answer. Run IsFaulty w word v → v.tickets ≡ tickets_after w.tickets answer) (λ run. ap (λ (z : World). z.tickets) (nowhere run)) (λ word answer is run. open_tickets answer is run)
+  pub open_call_tickets : {word : List Letter} {answer : Result Registered E} {w v : World} → IsOpenCall m node hash word answer → Run IsFallibleAccess w word v → v.tickets ≡ tickets_after w.tickets answer
+  open_call_tickets {w = w} {v = v} = each_call (λ word answer. Run IsFallibleAccess w word v → v.tickets ≡ tickets_after w.tickets answer) (λ run. ap (λ (z : World). z.tickets) (nowhere run)) (λ word answer is run. open_tickets answer is run)
 
-  pub refused_open_call_calm : {word : List Letter} {error : E} (w : World) → Agrees w → IsOpenCall m node hash word (Err error) → AtEach IsFaulty ActsCalmly w word
-  refused_open_call_calm w old = refused_call (AtEach IsFaulty ActsCalmly w) tt (λ word error is. refused_open_calm w is old)
+  pub refused_open_call_calm : {word : List Letter} {error : E} (w : World) → Agrees w → IsOpenCall m node hash word (Err error) → AtEach IsFallibleAccess ActsCalmly w word
+  refused_open_call_calm w old = refused_call (AtEach IsFallibleAccess ActsCalmly w) tt (λ word error is. refused_open_calm w is old)

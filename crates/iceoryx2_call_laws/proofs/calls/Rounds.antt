@@ -9,11 +9,11 @@ use Rattle.iceoryx2_world.specs.World.{World}
 use Rattle.iceoryx2_world.specs.Across.{Agrees}
 use Rattle.iceoryx2_world.specs.Agreement.{IsSpent}
 use Rattle.iceoryx2_world.specs.Peers.{IsAccess}
-use Rattle.iceoryx2_world.specs.Faulty.{IsFaulty}
+use Rattle.iceoryx2_world.specs.Fallible.{IsFallibleAccess}
 use Rattle.iceoryx2_world.proofs.agreement.Accesses.{faulty_keeps, run_keeps, with_refusals}
 use Rattle.iceoryx2_world.proofs.agreement.Spent.{spent_access}
 use Rattle.iceoryx2_world.proofs.agreement.Stands.{each_append, each_map}
-use Rattle.iceoryx2_create_and_open.specs.Keeps.{KeptLock, NoLock, Locked, WithSegment, GivenBack, HasService}
+use Rattle.iceoryx2_create_and_open.specs.TracksOwned.{OwnedLock, NoLock, Locked, WithSegment, GivenBack, HasService}
 use Rattle.iceoryx2_open_or_create.specs.Leaves as rounds
 use Rattle.iceoryx2_open_or_create.specs.Leaves.{GivesBackByRounds}
 use Rattle.iceoryx2_call_laws.specs.Leaves.{IsGranted, LeavesByRounds, LeavesNothing, SpendsNumber, StaysAway, no_round, one_more}
@@ -21,18 +21,18 @@ use Rattle.iceoryx2_call_laws.proofs.calls.Left.{gives_back, gives_all_back, sta
 use Rattle.iceoryx2_call_laws.proofs.calls.Plain.{read_both, row_stays_away}
 
 -- a number that is spent stays so
-spent_run : {w v : World} {word : List Letter} (h : ServiceHash) (n : ℕ) → Run IsFaulty w word v → Agrees w → IsSpent w h n → IsSpent v h n
+spent_run : {w v : World} {word : List Letter} (h : ServiceHash) (n : ℕ) → Run IsFallibleAccess w word v → Agrees w → IsSpent w h n → IsSpent v h n
 spent_run h n done old is = is
 spent_run {w = w} h n (next {mid = u} {letter = l} s rest) old is = spent_run h n rest (faulty_keeps w l u s old).0 (spent_access w l u h n s old is)
 
-spends_on : {w v : World} {word : List Letter} (h : ServiceHash) → Run IsFaulty w word v → Agrees w → (l : Letter) → SpendsNumber h w l → SpendsNumber h v l
+spends_on : {w v : World} {word : List Letter} (h : ServiceHash) → Run IsFallibleAccess w word v → Agrees w → (l : Letter) → SpendsNumber h w l → SpendsNumber h v l
 spends_on h run old (letter.Lock i g (Ok n)) is = spent_run h n run old is
 spends_on h run old (letter.Lock i g (Err e)) is = tt
 spends_on h run old _ is = tt
 
 module _ (node : ℕ) (hash : ServiceHash) where
   -- what was given back of a lock stays away
-  away_on : (k : KeptLock) {w v : World} {word : List Letter} → Run IsFaulty w word v → Agrees w → StaysAway node hash k w → StaysAway node hash k v
+  away_on : (k : OwnedLock) {w v : World} {word : List Letter} → Run IsFallibleAccess w word v → Agrees w → StaysAway node hash k w → StaysAway node hash k v
   away_on (GivenBack n false false) run old is = spent_run hash n run old is
   away_on (GivenBack n false true) {w} {v} run old is = let later = (run_keeps run old).1 in (grind (arith, later.counter, is.0), row_stays_away w v hash n later is.0 is.1)
   away_on (GivenBack n true l) run old is = tt
@@ -41,7 +41,7 @@ module _ (node : ℕ) (hash : ServiceHash) where
   away_on (WithSegment n) run old is = tt
   away_on (HasService n) run old is = tt
 
-  leaves_before : {word rest : List Letter} {w v end : World} → GivesBackByRounds node hash word → Run IsFaulty w word v → Run IsFaulty v rest end → Agrees w → LeavesByRounds node hash w end word v
+  leaves_before : {word rest : List Letter} {w v end : World} → GivesBackByRounds node hash word → Run IsFallibleAccess w word v → Run IsFallibleAccess v rest end → Agrees w → LeavesByRounds node hash w end word v
   leaves_before rounds.no_round done more old = no_round
   leaves_before (rounds.one_more {u = x} {v = y} before g) run more old =
       let parts = split x y run in
@@ -49,7 +49,7 @@ module _ (node : ℕ) (hash : ServiceHash) where
       one_more (leaves_before before parts.first (both parts.second more) old) parts.second g (gives_back node hash g parts.second mid)
       (away_on g.lock more (run_keeps run old).0 (stays_away node hash g parts.second mid))
 
-  pub leaves_by_rounds : {word : List Letter} {w v : World} → GivesBackByRounds node hash word → Run IsFaulty w word v → Agrees w → LeavesByRounds node hash w v word v
+  pub leaves_by_rounds : {word : List Letter} {w v : World} → GivesBackByRounds node hash word → Run IsFallibleAccess w word v → Agrees w → LeavesByRounds node hash w v word v
   leaves_by_rounds back run old = leaves_before back run done old
 
   -- Where nothing is refused by a fault, each removal is granted, and nothing stays.

@@ -5,13 +5,13 @@ use Rattle.iceoryx2_attribute.specs.Requirements.{Requirements}
 use Rattle.iceoryx2_description.specs.declared.description.ServiceHash.{ServiceHash}
 use Rattle.iceoryx2_description.specs.declared.time.ClockFault.{ClockFault}
 use Rattle.iceoryx2_description.specs.Span.{Span}
-use Rattle.iceoryx2_access.specs.Factory.{Factory}
+use Rattle.iceoryx2_access.specs.Registered.{Registered}
 use Rattle.iceoryx2_access.specs.Letter.{Letter}
 use Rattle.iceoryx2_access.specs.Run.{Run, Each}
 use Rattle.iceoryx2_access.proofs.Run.{split}
 use Rattle.iceoryx2_world.specs.World.{World}
 use Rattle.iceoryx2_world.specs.Across.{Agrees}
-use Rattle.iceoryx2_world.specs.Faulty.{IsFaulty}
+use Rattle.iceoryx2_world.specs.Fallible.{IsFallibleAccess}
 use Rattle.iceoryx2_world.specs.Standing.{Stands, ticket_for}
 use Rattle.iceoryx2_world.proofs.agreement.Accesses.{run_keeps}
 use Rattle.iceoryx2_world.proofs.agreement.Calm.{Tame, ends, tame_both}
@@ -39,14 +39,14 @@ module _ {D F E C : Type 0} {meaning : D → Meaning F E C} {adjusted : D → D}
   turns_letters no_turn = tt
   turns_letters (one_more {u} before t) = each_append IsNoRelease u _ (turns_letters before) (retried_letters t)
 
-  last_letters : {asked : D} {w : List Letter} {r : Result Factory (OpenOrCreateRefusal E C)} → IsLastTurn meaning adjusted retried required node hash name now asked w r → Each IsNoRelease w
+  last_letters : {asked : D} {w : List Letter} {r : Result Registered (OpenOrCreateRefusal E C)} → IsLastTurn meaning adjusted retried required node hash name now asked w r → Each IsNoRelease w
   last_letters (look_faulty l) = look_letters l
   last_letters (not_opened {u} l o _) = each_append IsNoRelease u _ (look_letters l) (open_letters o)
   last_letters (opened {u} l o) = each_append IsNoRelease u _ (look_letters l) (open_letters o)
   last_letters (not_created {u} l c _) = each_append IsNoRelease u _ (look_letters l) (create_letters c)
   last_letters (created {u} l c) = each_append IsNoRelease u _ (look_letters l) (create_letters c)
 
-  pub open_or_create_letters : {first : D} {w : List Letter} {r : Result Factory (OpenOrCreateRefusal E C)} → IsOpenOrCreateWord meaning adjusted retried required node hash name now first w r → Each IsNoRelease w
+  pub open_or_create_letters : {first : D} {w : List Letter} {r : Result Registered (OpenOrCreateRefusal E C)} → IsOpenOrCreateWord meaning adjusted retried required node hash name now first w r → Each IsNoRelease w
   open_or_create_letters (ended {u} small before t) = each_append IsNoRelease u _ (turns_letters before) (last_letters t)
   open_or_create_letters (in_flux before) = turns_letters before
 
@@ -69,21 +69,21 @@ module _ {D F E C : Type 0} {meaning : D → Meaning F E C} {adjusted : D → D}
   open_or_create_tame (ended small before t) = tame_both (turns_tame before) (last_tame t)
   open_or_create_tame (in_flux before) = turns_tame before
 
-  pub refused_open_or_create_calm : {first : D} {word : List Letter} {refusal : OpenOrCreateRefusal E C} (w : World) → IsOpenOrCreateWord meaning adjusted retried required node hash name now first word (Err refusal) → Agrees w → AtEach IsFaulty ActsCalmly w word
+  pub refused_open_or_create_calm : {first : D} {word : List Letter} {refusal : OpenOrCreateRefusal E C} (w : World) → IsOpenOrCreateWord meaning adjusted retried required node hash name now first word (Err refusal) → Agrees w → AtEach IsFallibleAccess ActsCalmly w word
   refused_open_or_create_calm w is old = calm_at_each w (open_or_create_tame is) tt old
 
   -- ---- a granted one changes something in its last access
 
-  turn_changes : {asked : D} {x y : List Letter} {r : Factory} (w : World) → Tame node hash false x false → IsLastTurn meaning adjusted retried required node hash name now asked y (Ok r) → Agrees w → ChangesLast node hash w (x ++ y)
+  turn_changes : {asked : D} {x y : List Letter} {r : Registered} (w : World) → Tame node hash false x false → IsLastTurn meaning adjusted retried required node hash name now asked y (Ok r) → Agrees w → ChangesLast node hash w (x ++ y)
   turn_changes {x} w before (opened {u} {v} l o) old = opens_after x u v w (tame_both before (look_tame l)) o old
   turn_changes {x} w before (created {u} {v} l c) old = creates_after x u v w (tame_both before (look_tame l)) c old
 
-  pub granted_open_or_create_changes : {first : D} {word : List Letter} {r : Factory} (w : World) → IsOpenOrCreateWord meaning adjusted retried required node hash name now first word (Ok r) → Agrees w → ChangesLast node hash w word
+  pub granted_open_or_create_changes : {first : D} {word : List Letter} {r : Registered} (w : World) → IsOpenOrCreateWord meaning adjusted retried required node hash name now first word (Ok r) → Agrees w → ChangesLast node hash w word
   granted_open_or_create_changes w (ended small before t) old = turn_changes w (turns_tame before) t old
 
   -- ---- its factory stands
 
-  turn_stands : {asked : D} {word : List Letter} {r : Factory} {w v : World} → IsLastTurn meaning adjusted retried required node hash name now asked word (Ok r) → Run IsFaulty w word v → Agrees w → Stands v r × (w.counter ≤ r.ticket)
+  turn_stands : {asked : D} {word : List Letter} {r : Registered} {w v : World} → IsLastTurn meaning adjusted retried required node hash name now asked word (Ok r) → Run IsFallibleAccess w word v → Agrees w → Stands v r × (w.counter ≤ r.ticket)
   turn_stands (opened {u = x} {v = y} l o) run old =
       let parts = split x y run in
       let looked = run_keeps parts.first old in
@@ -95,7 +95,7 @@ module _ {D F E C : Type 0} {meaning : D → Meaning F E C} {adjusted : D → D}
       let new = create_stands c parts.second looked.0 in
       (new.0, grind (arith, looked.1.counter, new.3))
 
-  pub open_or_create_stands : {first : D} {word : List Letter} {r : Factory} {w v : World} → IsOpenOrCreateWord meaning adjusted retried required node hash name now first word (Ok r) → Run IsFaulty w word v → Agrees w → Stands v r × (w.counter ≤ r.ticket)
+  pub open_or_create_stands : {first : D} {word : List Letter} {r : Registered} {w v : World} → IsOpenOrCreateWord meaning adjusted retried required node hash name now first word (Ok r) → Run IsFallibleAccess w word v → Agrees w → Stands v r × (w.counter ≤ r.ticket)
   open_or_create_stands (ended {u = x} {v = y} small before t) run old =
       let parts = split x y run in
       let turns = run_keeps parts.first old in
@@ -104,7 +104,7 @@ module _ {D F E C : Type 0} {meaning : D → Meaning F E C} {adjusted : D → D}
 
   -- ---- the tickets after it
 
-  turn_tickets : {asked : D} {word : List Letter} {r : Factory} {w v : World} → IsLastTurn meaning adjusted retried required node hash name now asked word (Ok r) → Run IsFaulty w word v → v.tickets ≡ map.insert w.tickets r.ticket (ticket_for r)
+  turn_tickets : {asked : D} {word : List Letter} {r : Registered} {w v : World} → IsLastTurn meaning adjusted retried required node hash name now asked word (Ok r) → Run IsFallibleAccess w word v → v.tickets ≡ map.insert w.tickets r.ticket (ticket_for r)
   turn_tickets {r} (opened {u = x} {v = y} l o) run =
       let parts = split x y run in
       open_tickets (Ok r) o parts.second ∙ ap (λ k. map.insert k r.ticket (ticket_for r)) (tame_tickets {b = false} (look_tame l) parts.first)
@@ -112,11 +112,11 @@ module _ {D F E C : Type 0} {meaning : D → Meaning F E C} {adjusted : D → D}
       let parts = split x y run in
       create_tickets (Ok r) refl c parts.second ∙ ap (λ k. map.insert k r.ticket (ticket_for r)) (tame_tickets {b = false} (look_tame l) parts.first)
 
-  granted_tickets : {first : D} {word : List Letter} {r : Factory} {w v : World} → IsOpenOrCreateWord meaning adjusted retried required node hash name now first word (Ok r) → Run IsFaulty w word v → v.tickets ≡ map.insert w.tickets r.ticket (ticket_for r)
+  granted_tickets : {first : D} {word : List Letter} {r : Registered} {w v : World} → IsOpenOrCreateWord meaning adjusted retried required node hash name now first word (Ok r) → Run IsFallibleAccess w word v → v.tickets ≡ map.insert w.tickets r.ticket (ticket_for r)
   granted_tickets {r} (ended {u = x} {v = y} small before t) run =
       let parts = split x y run in
       turn_tickets t parts.second ∙ ap (λ k. map.insert k r.ticket (ticket_for r)) (tame_tickets (turns_tame before) parts.first)
 
-  pub open_or_create_tickets : {first : D} {word : List Letter} (answer : Result Factory (OpenOrCreateRefusal E C)) {w v : World} → IsOpenOrCreateWord meaning adjusted retried required node hash name now first word answer → Run IsFaulty w word v → v.tickets ≡ tickets_after w.tickets answer
+  pub open_or_create_tickets : {first : D} {word : List Letter} (answer : Result Registered (OpenOrCreateRefusal E C)) {w v : World} → IsOpenOrCreateWord meaning adjusted retried required node hash name now first word answer → Run IsFallibleAccess w word v → v.tickets ≡ tickets_after w.tickets answer
   open_or_create_tickets (Ok r) is run = granted_tickets is run
   open_or_create_tickets (Err e) is run = tame_tickets (open_or_create_tame is) run

@@ -7,8 +7,8 @@ use Rattle.iceoryx2_access.specs.Letter.{Letter}
 use Rattle.iceoryx2_access.specs.Letter as letter
 use Rattle.iceoryx2_world.specs.Agreement.{Later}
 use Rattle.iceoryx2_world.specs.Across.{Agrees}
-use Rattle.iceoryx2_world.specs.Faulty.{IsFaulty}
-use Rattle.iceoryx2_access.specs.Factory.{Factory}
+use Rattle.iceoryx2_world.specs.Fallible.{IsFallibleAccess}
+use Rattle.iceoryx2_access.specs.Registered.{Registered}
 use Rattle.iceoryx2_world.specs.Standing.{Stands, Spares}
 use Rattle.iceoryx2_access.specs.Run.{Each}
 use Rattle.iceoryx2_access.specs.declared.storage.MakeSegmentError.TheVariants as make
@@ -22,7 +22,7 @@ use Rattle.iceoryx2_errors.specs.declared.error.CloseError.TheVariants.{NotHere}
 use Rattle.iceoryx2_create_and_open.specs.Counts.{IsWithin}
 use Rattle.iceoryx2_pattern.specs.Meaning.{Meaning}
 use Rattle.iceoryx2_create_and_open.specs.Looks.{IsLookWord, absent, broken, fetched}
-use Rattle.iceoryx2_create_and_open.specs.GivesBack.{Thing, GivesBack, nothing_left, segment_back, lock_back, tag_back}
+use Rattle.iceoryx2_create_and_open.specs.GivesBack.{MadeByCall, GivesBack, nothing_left, segment_back, lock_back, tag_back}
 use Rattle.iceoryx2_create_and_open.specs.Segments.{clearings, IsSegmentWord, made, not_made, not_removed, still_there}
 use Rattle.iceoryx2_create_and_open.specs.declared.create.TheConstants.{CLEARING_LIMIT}
 use Rattle.iceoryx2_create_and_open.specs.Creates as creates
@@ -34,7 +34,7 @@ use Rattle.iceoryx2_port_factory.proofs.HandedBack.{removed_here}
 use Rattle.iceoryx2_call_laws.specs.Calls.{Throughout}
 
 -- what each access keeps is true throughout
-pub throughout : (P : World → Type 0) (I : Letter → Type 0) → ((u : World) (l : Letter) (v : World) → I l → IsFaulty u l v → P u → P v) → (w : World) (word : List Letter) → Each I word → P w → Throughout IsFaulty P w word
+pub throughout : (P : World → Type 0) (I : Letter → Type 0) → ((u : World) (l : Letter) (v : World) → I l → IsFallibleAccess u l v → P u → P v) → (w : World) (word : List Letter) → Each I word → P w → Throughout IsFallibleAccess P w word
 throughout P I keeps w [] each p = p
 throughout P I keeps w (l ∷ word) each p = (p, λ v s. throughout P I keeps v word each.1 (keeps w l v each.0 s p))
 
@@ -50,13 +50,13 @@ any [] = tt
 any (l ∷ word) = (tt, any word)
 
 -- the agreement
-pub agrees_throughout : (w : World) (word : List Letter) → Agrees w → Throughout IsFaulty (λ v. Agrees v × Later w v) w word
+pub agrees_throughout : (w : World) (word : List Letter) → Agrees w → Throughout IsFallibleAccess (λ v. Agrees v × Later w v) w word
 agrees_throughout w word old = throughout (λ v. Agrees v × Later w v) IsAny (λ u l v _ s k. let one = faulty_keeps u l v s k.0 in (one.0, later_trans w u v old.everywhere k.1 one.1)) w word (any word) (old, later_refl w)
 
 -- and a factory
-pub stands_throughout : (w : World) (word : List Letter) (f : Factory) → Each (Spares f) word → Agrees w → Stands w f → Throughout IsFaulty (λ v. Stands v f) w word
+pub stands_throughout : (w : World) (word : List Letter) (f : Registered) → Each (Spares f) word → Agrees w → Stands w f → Throughout IsFallibleAccess (λ v. Stands v f) w word
 stands_throughout w word f each old s =
-    throughout_map IsFaulty (λ v. Agrees v × Stands v f) (λ v. Stands v f) (λ v k. k.1) w word (
+    throughout_map IsFallibleAccess (λ v. Agrees v × Stands v f) (λ v. Stands v f) (λ v k. k.1) w word (
     throughout (λ v. Agrees v × Stands v f) (Spares f) (λ u l v spares a k. ((faulty_keeps u l v a k.0).0, faulty_stands u l v f a spares k.0 k.1)) w word each (old, s)
     )
 
@@ -65,7 +65,7 @@ abbrev pub IsNoRelease : Letter → Type 0
 IsNoRelease (letter.Release t i h n a) = ⊥
 IsNoRelease _ = Unit {0}
 
-pub spared : (f : Factory) (l : Letter) → IsNoRelease l → Spares f l
+pub spared : (f : Registered) (l : Letter) → IsNoRelease l → Spares f l
 spared f (letter.Release t i h n a) o = absurd o
 spared f _ o = tt
 
@@ -74,7 +74,7 @@ clearings_letters node hash number max_nodes zero = tt
 clearings_letters node hash number max_nodes (suc k) = each_append IsNoRelease (clearings node hash number max_nodes k) _ (clearings_letters node hash number max_nodes k) (tt, (tt, tt))
 
 module _ {node : ℕ} {hash : ServiceHash} where
-  back_letters : {things : List Thing} {w : List Letter} → GivesBack node hash things w → Each IsNoRelease w
+  back_letters : {owned : List MadeByCall} {w : List Letter} → GivesBack node hash owned w → Each IsNoRelease w
   back_letters nothing_left = tt
   back_letters (segment_back answer r) = (tt, back_letters r)
   back_letters (lock_back answer r) = (tt, back_letters r)
@@ -100,13 +100,13 @@ module _ {F E C : Type 0} {m : Meaning F E C} {node : ℕ} {hash : ServiceHash} 
   entry_letters (creates.no_tag {u} e l) = each_append IsNoRelease u _ (look_letters l) (tt, (tt, tt))
   entry_letters (entered {u} tag l) = each_append IsNoRelease u _ (look_letters l) (tt, (tt, tt))
 
-  service_letters : {d : Description} {tag : Tag} {w : List Letter} {r : Result Factory C} → IsServiceWord m node hash d tag w r → Each IsNoRelease w
+  service_letters : {d : Description} {tag : Tag} {w : List Letter} {r : Result Registered C} → IsServiceWord m node hash d tag w r → Each IsNoRelease w
   service_letters (not_locked x b) = (tt, back_letters b)
   service_letters (no_segment {v} s b) = (tt, each_append IsNoRelease v _ (segment_letters s) (back_letters b))
   service_letters (not_published {v} x s b) = (tt, each_append IsNoRelease v _ (segment_letters s) (tt, back_letters b))
   service_letters (published {v} n t s) = (tt, each_append IsNoRelease v _ (segment_letters s) (tt, tt))
 
-  pub create_letters : {stops : Bool} {d : Description} {w : List Letter} {r : Result Factory C} → IsCreating m node hash stops d w r → Each IsNoRelease w
+  pub create_letters : {stops : Bool} {d : Description} {w : List Letter} {r : Result Registered C} → IsCreating m node hash stops d w r → Each IsNoRelease w
   create_letters (forbidden _) = tt
   create_letters (not_entered _ e) = entry_letters e
   create_letters (clock_fault {u} _ _ e b) = each_append IsNoRelease u _ (entry_letters e) (back_letters b)
@@ -118,7 +118,7 @@ module _ {F E C : Type 0} {m : Meaning F E C} {node : ℕ} {hash : ServiceHash} 
   failed_letters : {w : List Letter} → IsFailedRound m node hash w → Each IsNoRelease w
   failed_letters (failed {u} {v} r l b) = each_append IsNoRelease u _ (ready_letters r) (tt, each_append IsNoRelease v _ (look_letters l) (back_letters b))
 
-  last_letters : {w : List Letter} {r : Result Factory E} → IsLastRound m node hash w r → Each IsNoRelease w
+  last_letters : {w : List Letter} {r : Result Registered E} → IsLastRound m node hash w r → Each IsNoRelease w
   last_letters (opens.look_faulty l) = look_letters l
   last_letters (opens.look_none l) = look_letters l
   last_letters (opens.not_accepted l _) = look_letters l
@@ -132,32 +132,32 @@ module _ {F E C : Type 0} {m : Meaning F E C} {node : ℕ} {hash : ServiceHash} 
   rounds_letters no_round = tt
   rounds_letters (one_more {u} before r) = each_append IsNoRelease u _ (rounds_letters before) (failed_letters r)
 
-  pub open_letters : {w : List Letter} {r : Result Factory E} → IsOpenWord m node hash w r → Each IsNoRelease w
+  pub open_letters : {w : List Letter} {r : Result Registered E} → IsOpenWord m node hash w r → Each IsNoRelease w
   open_letters (ended {u} small before l) = each_append IsNoRelease u _ (rounds_letters before) (last_letters l)
   open_letters (all_failed before) = rounds_letters before
 
-pub all_spared : (f : Factory) (word : List Letter) → Each IsNoRelease word → Each (Spares f) word
+pub all_spared : (f : Registered) (word : List Letter) → Each IsNoRelease word → Each (Spares f) word
 all_spared f word each = each_map IsNoRelease (Spares f) (spared f) word each
 
 -- a close releases its own ticket alone
-pub close_spares : {r : Factory} {word : List Letter} {answer : Result (Unit {0}) (CloseError Factory)} (f : Factory) → f.ticket ≢ r.ticket → IsCloseWord r word answer → Each (Spares f) word
+pub close_spares : {r : Registered} {word : List Letter} {answer : Result (Unit {0}) (CloseError Registered)} (f : Registered) → f.ticket ≢ r.ticket → IsCloseWord r word answer → Each (Spares f) word
 close_spares f apart not_here = (tt, tt)
 close_spares f apart still_counted = (λ e _ _ _. apart (sym e), tt)
 close_spares f apart (left tag) = (λ e _ _ _. apart (sym e), (tt, tt))
 close_spares f apart (last tag segment description) = (λ e _ _ _. apart (sym e), (tt, (tt, (tt, tt))))
 
 -- and none where it is not there
-not_here_by : {r : Factory} {word : List Letter} {answer : Result (Unit {0}) (CloseError Factory)} (s : Factory) → answer ≡ Err (NotHere s) → IsCloseWord r word answer → (s ≡ r) × ((f : Factory) → Each (Spares f) word)
+not_here_by : {r : Registered} {word : List Letter} {answer : Result (Unit {0}) (CloseError Registered)} (s : Registered) → answer ≡ Err (NotHere s) → IsCloseWord r word answer → (s ≡ r) × ((f : Registered) → Each (Spares f) word)
 not_here_by s e not_here = (cc, λ f. (tt, tt))
 not_here_by s e still_counted = absurd (cc)
 not_here_by s e (left tag) = absurd (removed_here s tag (Ok tt) (Ok tt) e)
 not_here_by s e (last tag segment description) = absurd (removed_here s tag segment description e)
 
-pub not_here_means : {r s : Factory} {word : List Letter} → IsCloseWord r word (Err (NotHere s)) → (s ≡ r) × ((f : Factory) → Each (Spares f) word)
+pub not_here_means : {r s : Registered} {word : List Letter} → IsCloseWord r word (Err (NotHere s)) → (s ≡ r) × ((f : Registered) → Each (Spares f) word)
 not_here_means {s} is = not_here_by s refl is
 
 -- A close is short.
-pub close_within : {r : Factory} {word : List Letter} {answer : Result (Unit {0}) (CloseError Factory)} → IsCloseWord r word answer → IsWithin word 0 0 0 1
+pub close_within : {r : Registered} {word : List Letter} {answer : Result (Unit {0}) (CloseError Registered)} → IsCloseWord r word answer → IsWithin word 0 0 0 1
 close_within not_here = record { few_looks = omega arith; few_openings = omega arith; few_makings = omega arith; few_removals = omega arith }
 close_within still_counted = record { few_looks = omega arith; few_openings = omega arith; few_makings = omega arith; few_removals = omega arith }
 close_within (left tag) = record { few_looks = omega arith; few_openings = omega arith; few_makings = omega arith; few_removals = omega arith }

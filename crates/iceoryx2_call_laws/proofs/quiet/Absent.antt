@@ -30,14 +30,14 @@ use Rattle.iceoryx2_world.specs.Steps.{new_segment, last_number}
 use Rattle.iceoryx2_access.specs.Letter.{Letter}
 use Rattle.iceoryx2_access.specs.Letter as letter
 use Rattle.iceoryx2_access.specs.Run.{Run, done}
-use Rattle.iceoryx2_world.specs.Access.{Seat, Change, seat_after, or_refused, IsAnswer}
+use Rattle.iceoryx2_world.specs.Access.{NodeView, Change, node_view_after, or_refused, IsAnswer}
 use Rattle.iceoryx2_access.proofs.Run.{head, split, last}
 use Rattle.iceoryx2_create_and_open.specs.declared.look.Outcome.{Outcome}
 use Rattle.iceoryx2_create_and_open.specs.declared.look.Outcome.TheVariants as outcome
 use Rattle.iceoryx2_pattern.specs.declared.pattern.CreateRefusal.{CreateRefusal}
 use Rattle.iceoryx2_pattern.specs.declared.pattern.CreateRefusal.TheVariants as refusal
 use Rattle.iceoryx2_pattern.specs.Meaning.{Meaning}
-use Rattle.iceoryx2_access.specs.Factory.{Factory}
+use Rattle.iceoryx2_access.specs.Registered.{Registered}
 use Rattle.iceoryx2_create_and_open.specs.Refusals.{of_tag, of_lock, of_make, of_publish}
 use Rattle.iceoryx2_create_and_open.specs.Looks.{IsLookWord}
 use Rattle.iceoryx2_create_and_open.specs.Looks as look
@@ -47,7 +47,7 @@ use Rattle.iceoryx2_create_and_open.specs.Segments.{IsSegmentWord, clearings}
 use Rattle.iceoryx2_create_and_open.specs.Segments as segment
 use Rattle.iceoryx2_create_and_open.specs.Creates.{IsEntryWord, IsServiceWord, IsCreating}
 use Rattle.iceoryx2_create_and_open.specs.Creates as create
-use Rattle.iceoryx2_call_laws.proofs.quiet.Seats.{AtSeat}
+use Rattle.iceoryx2_call_laws.proofs.quiet.NodeViews.{AtNode}
 
 pub into : {A B : Type 0} (P : A → B → Type 0) {a b : A} {c d : B} → a ≡ b → c ≡ d → P b d → P a c
 into P {b = b} {c = c} e f p = subst (λ x. P x c) (sym e) (subst (λ y. P b y) (sym f) p)
@@ -63,113 +63,113 @@ pub same_number : (n : ℕ) → (n == n) ≡ true
 same_number n = grind (arith, nat_tests)
 
 -- a seat by its parts
-abbrev pub at_seat : Phase → Option Row → Option Segment → ℕ → Bool → Tickets → Seat
-at_seat x r s c g k = record { spot = record { phase = x; row = r; segment = s; counter = c }; tag = g; tickets = k }
+abbrev pub at_node : Phase → Option Row → Option Segment → ℕ → Bool → Tickets → NodeView
+at_node x r s c g k = record { view = record { phase = x; row = r; segment = s; counter = c }; tag = g; tickets = k }
 
 -- without a row, where a segment may have been left; and with nothing
-abbrev pub over : Phase → Option Segment → ℕ → Bool → Tickets → Seat
-over x s c g k = at_seat x None s c g k
+abbrev pub over : Phase → Option Segment → ℕ → Bool → Tickets → NodeView
+over x s c g k = at_node x None s c g k
 
-abbrev pub bare : Phase → ℕ → Bool → Tickets → Seat
+abbrev pub bare : Phase → ℕ → Bool → Tickets → NodeView
 bare x c g k = over x None c g k
 
 -- with the lock
-abbrev pub at_lock : ℕ → Option Segment → ℕ → Tickets → Seat
-at_lock n s c k = at_seat (at.Locked n) (Some (row.Locked n)) s c true k
+abbrev pub at_lock : ℕ → Option Segment → ℕ → Tickets → NodeView
+at_lock n s c k = at_node (at.Locked n) (Some (row.Locked n)) s c true k
 
-abbrev pub locked : ℕ → ℕ → Tickets → Seat
+abbrev pub locked : ℕ → ℕ → Tickets → NodeView
 locked n c k = at_lock n None c k
 
 module _ (i : ℕ) (h : ServiceHash) where
-  abbrev pub with_segment : ℕ → ℕ → ℕ → Tickets → Seat
-  with_segment n m c k = at_seat (at.Made n) (Some (row.Locked n)) (Some (new_segment (Node i) n m)) c true k
+  abbrev pub with_segment : ℕ → ℕ → ℕ → Tickets → NodeView
+  with_segment n m c k = at_node (at.Made n) (Some (row.Locked n)) (Some (new_segment (Node i) n m)) c true k
 
-  abbrev pub joined : ℕ → ℕ → List ℕ → ℕ → Tickets → Seat
-  joined n m b c k = at_seat (at.Joined n 1) (Some (row.Published n b)) (Some (new_segment (Node i) n m)) c true (map.insert k n (record { node = i; hash = h; number = n }))
+  abbrev pub joined : ℕ → ℕ → List ℕ → ℕ → Tickets → NodeView
+  joined n m b c k = at_node (at.Joined n 1) (Some (row.Published n b)) (Some (new_segment (Node i) n m)) c true (map.insert k n (record { node = i; hash = h; number = n }))
 
-  pub counts_over : (x : Phase) (s : Option Segment) (c : ℕ) (g : Bool) (k : Tickets) {a : Bool} {t : Seat} → begins x ≡ true → AtSeat i h (over x s c g k) (letter.Counts i h a) t → (a ≡ false) × (t ≡ over x s c g k)
-  counts_over at.Idle s c g k b r = (r.own.0, r.is ∙ ap (seat_after _) r.own.1)
-  counts_over (at.Read n) s c g k b r = (r.own.0, r.is ∙ ap (seat_after _) r.own.1)
+  pub counts_over : (x : Phase) (s : Option Segment) (c : ℕ) (g : Bool) (k : Tickets) {a : Bool} {t : NodeView} → begins x ≡ true → AtNode i h (over x s c g k) (letter.Counts i h a) t → (a ≡ false) × (t ≡ over x s c g k)
+  counts_over at.Idle s c g k b r = (r.own.0, r.is ∙ ap (node_view_after _) r.own.1)
+  counts_over (at.Read n) s c g k b r = (r.own.0, r.is ∙ ap (node_view_after _) r.own.1)
   counts_over _ s c g k b r = absurd (cc)
 
-  pub tag_over : (x : Phase) (s : Option Segment) (c : ℕ) (k : Tickets) {a : Result Tag TagError} {t : Seat} → AtSeat i h (over x s c false k) (letter.MakeTag i h a) t → ((a ≡ Ok Made) × (t ≡ over x s c true k)) ⊎ ((a ≡ Err Tagging.OutOfMemory) × (t ≡ over x s c false k))
-  tag_over x s c k r = elim (r.own) [ inl y ↦ inl (y.0, r.is ∙ ap (seat_after _) y.1) | inr y ↦ inr (y.0, r.is ∙ ap (seat_after _) y.1) ]
+  pub tag_over : (x : Phase) (s : Option Segment) (c : ℕ) (k : Tickets) {a : Result Tag TagError} {t : NodeView} → AtNode i h (over x s c false k) (letter.MakeTag i h a) t → ((a ≡ Ok Made) × (t ≡ over x s c true k)) ⊎ ((a ≡ Err Tagging.OutOfMemory) × (t ≡ over x s c false k))
+  tag_over x s c k r = elim (r.own) [ inl y ↦ inl (y.0, r.is ∙ ap (node_view_after _) y.1) | inr y ↦ inr (y.0, r.is ∙ ap (node_view_after _) y.1) ]
 
-  pub data Locks (x : Phase) (s : Option Segment) (c : ℕ) (k : Tickets) : Result ℕ LockError → Seat → Type 0 where
+  pub data Locks (x : Phase) (s : Option Segment) (c : ℕ) (k : Tickets) : Result ℕ LockError → NodeView → Type 0 where
     locks : nat_lt c last_number ≡ true → Locks x s c k (Ok c) (at_lock c s (c + 1) k)
     starved : nat_lt c last_number ≡ true → Locks x s c k (Err Locking.OutOfMemory) (over x s c true k)
     at_end : nat_lt c last_number ≡ false → Locks x s c k (Err Locking.Other) (over x s c true k)
 
-  lock_by : (x : Phase) (s : Option Segment) (c : ℕ) (k : Tickets) (b : Bool) (a : Result ℕ LockError) (o : Change) (t : Seat) → nat_lt c last_number ≡ b → IsAnswer Locking.OutOfMemory (or_refused Locking.Other c (cond b (Some (record { phase = at.Locked c; row = Some (row.Locked c); segment = s; counter = c + 1 })) None)) a o → t ≡ seat_after (over x s c true k) o → Locks x s c k a t
-  lock_by x s c k true a o t e (inl y) is = into (Locks x s c k) y.0 (is ∙ ap (seat_after _) y.1) (locks e)
-  lock_by x s c k true a o t e (inr y) is = into (Locks x s c k) y.0 (is ∙ ap (seat_after _) y.1) (starved e)
-  lock_by x s c k false a o t e y is = into (Locks x s c k) y.0 (is ∙ ap (seat_after _) y.1) (at_end e)
+  lock_by : (x : Phase) (s : Option Segment) (c : ℕ) (k : Tickets) (b : Bool) (a : Result ℕ LockError) (o : Change) (t : NodeView) → nat_lt c last_number ≡ b → IsAnswer Locking.OutOfMemory (or_refused Locking.Other c (cond b (Some (record { phase = at.Locked c; row = Some (row.Locked c); segment = s; counter = c + 1 })) None)) a o → t ≡ node_view_after (over x s c true k) o → Locks x s c k a t
+  lock_by x s c k true a o t e (inl y) is = into (Locks x s c k) y.0 (is ∙ ap (node_view_after _) y.1) (locks e)
+  lock_by x s c k true a o t e (inr y) is = into (Locks x s c k) y.0 (is ∙ ap (node_view_after _) y.1) (starved e)
+  lock_by x s c k false a o t e y is = into (Locks x s c k) y.0 (is ∙ ap (node_view_after _) y.1) (at_end e)
 
-  pub lock_over : (x : Phase) (s : Option Segment) (c : ℕ) (k : Tickets) (a : Result ℕ LockError) (t : Seat) → begins x ≡ true → AtSeat i h (over x s c true k) (letter.Lock i h a) t → Locks x s c k a t
+  pub lock_over : (x : Phase) (s : Option Segment) (c : ℕ) (k : Tickets) (a : Result ℕ LockError) (t : NodeView) → begins x ≡ true → AtNode i h (over x s c true k) (letter.Lock i h a) t → Locks x s c k a t
   lock_over at.Idle s c k a t b r = lock_by at.Idle s c k _ a r.change t refl r.own r.is
   lock_over (at.Read n) s c k a t b r = lock_by (at.Read n) s c k _ a r.change t refl r.own r.is
   lock_over _ s c k a t b r = absurd (cc)
 
-  make_locked : (n m c : ℕ) (k : Tickets) (a : Result (Unit {0}) MakeSegmentError) (t : Seat) → nat_lt 0 m ≡ true → AtSeat i h (locked n c k) (letter.MakeSegment i h n m a) t → ((a ≡ Ok tt) × (t ≡ with_segment n m c k)) ⊎ ((a ≡ Err Making.OutOfMemory) × (t ≡ locked n c k))
-  make_locked n m c k a t positive r = elim (rw (same_number n, positive) at r.own) [ inl y ↦ inl (y.0, r.is ∙ ap (seat_after _) y.1) | inr y ↦ inr (y.0, r.is ∙ ap (seat_after _) y.1) ]
+  make_locked : (n m c : ℕ) (k : Tickets) (a : Result (Unit {0}) MakeSegmentError) (t : NodeView) → nat_lt 0 m ≡ true → AtNode i h (locked n c k) (letter.MakeSegment i h n m a) t → ((a ≡ Ok tt) × (t ≡ with_segment n m c k)) ⊎ ((a ≡ Err Making.OutOfMemory) × (t ≡ locked n c k))
+  make_locked n m c k a t positive r = elim (rw (same_number n, positive) at r.own) [ inl y ↦ inl (y.0, r.is ∙ ap (node_view_after _) y.1) | inr y ↦ inr (y.0, r.is ∙ ap (node_view_after _) y.1) ]
 
-  pub publish_made : (d : Description) (n c : ℕ) (k : Tickets) (a : Result ℕ PublishError) (t : Seat) → eq_by_cmp hash_cmp d.hash h ≡ true → AtSeat i h (with_segment n (max_nodes_of d.pattern) c k) (letter.Publish i h n d a) t
+  pub publish_made : (d : Description) (n c : ℕ) (k : Tickets) (a : Result ℕ PublishError) (t : NodeView) → eq_by_cmp hash_cmp d.hash h ≡ true → AtNode i h (with_segment n (max_nodes_of d.pattern) c k) (letter.Publish i h n d a) t
       → ((a ≡ Ok n) × (t ≡ joined n (max_nodes_of d.pattern) (form.description d) c k)) ⊎ ((a ≡ Err Publishing.OutOfMemory) × (t ≡ with_segment n (max_nodes_of d.pattern) c k))
-  publish_made d n c k a t own r = elim (rw (same_number n, own, same_number (max_nodes_of d.pattern)) at r.own.1) [ inl y ↦ inl (y.0, r.is ∙ ap (seat_after _) y.1) | inr y ↦ inr (y.0, r.is ∙ ap (seat_after _) y.1) ]
+  publish_made d n c k a t own r = elim (rw (same_number n, own, same_number (max_nodes_of d.pattern)) at r.own.1) [ inl y ↦ inl (y.0, r.is ∙ ap (node_view_after _) y.1) | inr y ↦ inr (y.0, r.is ∙ ap (node_view_after _) y.1) ]
 
   -- the removals of a give-back
-  untag : (x : Phase) (c : ℕ) (k : Tickets) {a : Result (Unit {0}) RemoveError} {t : Seat} → AtSeat i h (bare x c true k) (letter.RemoveTag i h a) t → t ≡ bare x c false k
-  untag x c k r = r.is ∙ ap (seat_after _) r.own.1
+  untag : (x : Phase) (c : ℕ) (k : Tickets) {a : Result (Unit {0}) RemoveError} {t : NodeView} → AtNode i h (bare x c true k) (letter.RemoveTag i h a) t → t ≡ bare x c false k
+  untag x c k r = r.is ∙ ap (node_view_after _) r.own.1
 
-  unlock : (n c : ℕ) (k : Tickets) {a : Result (Unit {0}) RemoveError} {t : Seat} → AtSeat i h (locked n c k) (letter.RemoveDescription i h a) t → t ≡ bare at.Idle c true k
-  unlock n c k r = r.is ∙ ap (seat_after _) r.own.1
+  unlock : (n c : ℕ) (k : Tickets) {a : Result (Unit {0}) RemoveError} {t : NodeView} → AtNode i h (locked n c k) (letter.RemoveDescription i h a) t → t ≡ bare at.Idle c true k
+  unlock n c k r = r.is ∙ ap (node_view_after _) r.own.1
 
-  unmake : (n m c : ℕ) (k : Tickets) {a : Result (Unit {0}) RemoveError} {t : Seat} → AtSeat i h (with_segment n m c k) (letter.RemoveSegment i h a) t → t ≡ locked n c k
-  unmake n m c k r = r.is ∙ ap (seat_after _) r.own.1
+  unmake : (n m c : ℕ) (k : Tickets) {a : Result (Unit {0}) RemoveError} {t : NodeView} → AtNode i h (with_segment n m c k) (letter.RemoveSegment i h a) t → t ≡ locked n c k
+  unmake n m c k r = r.is ∙ ap (node_view_after _) r.own.1
 
-  back_tag : (x : Phase) (c : ℕ) (k : Tickets) {w : List Letter} {t : Seat} → GivesBack i h (OwnTag ∷ []) w → Run (AtSeat i h) (bare x c true k) w t → t ≡ bare x c false k
+  back_tag : (x : Phase) (c : ℕ) (k : Tickets) {w : List Letter} {t : NodeView} → GivesBack i h (OwnTag ∷ []) w → Run (AtNode i h) (bare x c true k) w t → t ≡ bare x c false k
   back_tag x c k (back.tag_back a back.nothing_left) r = untag x c k (last r)
 
-  back_lock : (n c : ℕ) (k : Tickets) {w : List Letter} {t : Seat} → GivesBack i h (OwnLock ∷ OwnTag ∷ []) w → Run (AtSeat i h) (locked n c k) w t → t ≡ bare at.Idle c false k
+  back_lock : (n c : ℕ) (k : Tickets) {w : List Letter} {t : NodeView} → GivesBack i h (OwnLock ∷ OwnTag ∷ []) w → Run (AtNode i h) (locked n c k) w t → t ≡ bare at.Idle c false k
   back_lock n c k (back.lock_back a g) r = let f = head r in back_tag at.Idle c k g (from (unlock n c k f.first) f.rest)
 
-  back_segment : (n m c : ℕ) (k : Tickets) {w : List Letter} {t : Seat} → GivesBack i h (OwnSegment ∷ OwnLock ∷ OwnTag ∷ []) w → Run (AtSeat i h) (with_segment n m c k) w t → t ≡ bare at.Idle c false k
+  back_segment : (n m c : ℕ) (k : Tickets) {w : List Letter} {t : NodeView} → GivesBack i h (OwnSegment ∷ OwnLock ∷ OwnTag ∷ []) w → Run (AtNode i h) (with_segment n m c k) w t → t ≡ bare at.Idle c false k
   back_segment n m c k (back.segment_back a g) r = let f = head r in back_lock n c k g (from (unmake n m c k f.first) f.rest)
 
-  pub make_and : (n m c : ℕ) (k : Tickets) {a : Result (Unit {0}) MakeSegmentError} {w : List Letter} {t : Seat} → nat_lt 0 m ≡ true → Run (AtSeat i h) (locked n c k) (letter.MakeSegment i h n m a ∷ w) t → ((a ≡ Ok tt) × Run (AtSeat i h) (with_segment n m c k) w t) ⊎ ((a ≡ Err Making.OutOfMemory) × Run (AtSeat i h) (locked n c k) w t)
+  pub make_and : (n m c : ℕ) (k : Tickets) {a : Result (Unit {0}) MakeSegmentError} {w : List Letter} {t : NodeView} → nat_lt 0 m ≡ true → Run (AtNode i h) (locked n c k) (letter.MakeSegment i h n m a ∷ w) t → ((a ≡ Ok tt) × Run (AtNode i h) (with_segment n m c k) w t) ⊎ ((a ≡ Err Making.OutOfMemory) × Run (AtNode i h) (locked n c k) w t)
   make_and n m c k {a = a} positive r = let f = head r in elim (make_locked n m c k a f.mid positive f.first) [ inl y ↦ inl (y.0, from y.1 f.rest) | inr y ↦ inr (y.0, from y.1 f.rest) ]
 
   -- the segment is made at the first try
-  none_clearings : (n m c : ℕ) (k : Tickets) (j : ℕ) {t : Seat} → nat_lt 0 m ≡ true → Run (AtSeat i h) (locked n c k) (clearings i h n m j) t → t ≡ locked n c k
+  none_clearings : (n m c : ℕ) (k : Tickets) (j : ℕ) {t : NodeView} → nat_lt 0 m ≡ true → Run (AtNode i h) (locked n c k) (clearings i h n m j) t → t ≡ locked n c k
   none_clearings n m c k zero positive r = ended r
   none_clearings n m c k (suc j) positive r =
       let s = split (clearings i h n m j) _ r in
       elim (make_and n m c k positive (from (none_clearings n m c k j positive s.first) s.second)) [ inl y ↦ absurd (grind (arith, y.0)) | inr y ↦ absurd (grind (arith, y.0)) ]
 
-  make_after : (n m c : ℕ) (k : Tickets) (j : ℕ) {a : Result (Unit {0}) MakeSegmentError} {w : List Letter} {t : Seat} → nat_lt 0 m ≡ true → Run (AtSeat i h) (locked n c k) (clearings i h n m j ++ letter.MakeSegment i h n m a ∷ w) t → ((a ≡ Ok tt) × Run (AtSeat i h) (with_segment n m c k) w t) ⊎ ((a ≡ Err Making.OutOfMemory) × Run (AtSeat i h) (locked n c k) w t)
+  make_after : (n m c : ℕ) (k : Tickets) (j : ℕ) {a : Result (Unit {0}) MakeSegmentError} {w : List Letter} {t : NodeView} → nat_lt 0 m ≡ true → Run (AtNode i h) (locked n c k) (clearings i h n m j ++ letter.MakeSegment i h n m a ∷ w) t → ((a ≡ Ok tt) × Run (AtNode i h) (with_segment n m c k) w t) ⊎ ((a ≡ Err Making.OutOfMemory) × Run (AtNode i h) (locked n c k) w t)
   make_after n m c k j positive r = let s = split (clearings i h n m j) _ r in make_and n m c k positive (from (none_clearings n m c k j positive s.first) s.second)
 
-  pub data Makes (n m c : ℕ) (k : Tickets) : Result (Unit {0}) CreateRefusal → Seat → Type 0 where
+  pub data Makes (n m c : ℕ) (k : Tickets) : Result (Unit {0}) CreateRefusal → NodeView → Type 0 where
     makes : Makes n m c k (Ok tt) (with_segment n m c k)
     makes_none : Makes n m c k (Err refusal.OutOfMemory) (locked n c k)
 
-  pub segment_part : (n m c : ℕ) (k : Tickets) {a : Result (Unit {0}) CreateRefusal} {w : List Letter} {t : Seat} → nat_lt 0 m ≡ true → IsSegmentWord i h n m w a → Run (AtSeat i h) (locked n c k) w t → Makes n m c k a t
+  pub segment_part : (n m c : ℕ) (k : Tickets) {a : Result (Unit {0}) CreateRefusal} {w : List Letter} {t : NodeView} → nat_lt 0 m ≡ true → IsSegmentWord i h n m w a → Run (AtNode i h) (locked n c k) w t → Makes n m c k a t
   segment_part n m c k positive (segment.made j le) r = elim (make_after n m c k j positive r) [ inl y ↦ into (Makes n m c k) refl (ended y.1) makes | inr y ↦ absurd (grind (arith, y.0)) ]
   segment_part n m c k positive (segment.not_made j e le other) r = elim (make_after n m c k j positive r) [ inl y ↦ absurd (grind (arith, y.0)) | inr y ↦ let is : e ≡ Making.OutOfMemory = cc in into (Makes n m c k) (ap (λ x. Err (of_make x)) is) (ended y.1) makes_none ]
   segment_part n m c k positive (segment.not_removed j e lt) r = elim (make_after n m c k j positive r) [ inl y ↦ absurd (grind (arith, y.0)) | inr y ↦ absurd (grind (arith, y.0)) ]
   segment_part n m c k positive segment.still_there r = elim (make_after n m c k 5 positive r) [ inl y ↦ absurd (grind (arith, y.0)) | inr y ↦ absurd (grind (arith, y.0)) ]
 
-  pub segment_refused : {n m c : ℕ} {k : Tickets} {e : CreateRefusal} {t : Seat} → Makes n m c k (Err e) t → (e ≡ refusal.OutOfMemory) × (t ≡ locked n c k)
+  pub segment_refused : {n m c : ℕ} {k : Tickets} {e : CreateRefusal} {t : NodeView} → Makes n m c k (Err e) t → (e ≡ refusal.OutOfMemory) × (t ≡ locked n c k)
   segment_refused makes_none = (refl, refl)
 
-  pub segment_there : {n m c : ℕ} {k : Tickets} {t : Seat} → Makes n m c k (Ok tt) t → t ≡ with_segment n m c k
+  pub segment_there : {n m c : ℕ} {k : Tickets} {t : NodeView} → Makes n m c k (Ok tt) t → t ≡ with_segment n m c k
   segment_there makes = refl
 
-  pub lock_refused : {x : Phase} {s : Option Segment} {c : ℕ} {k : Tickets} {z : LockError} {t : Seat} → Locks x s c k (Err z) t → ((z ≡ Locking.OutOfMemory) × (t ≡ over x s c true k)) ⊎ ((z ≡ Locking.Other) × (t ≡ over x s c true k) × (nat_lt c last_number ≡ false))
+  pub lock_refused : {x : Phase} {s : Option Segment} {c : ℕ} {k : Tickets} {z : LockError} {t : NodeView} → Locks x s c k (Err z) t → ((z ≡ Locking.OutOfMemory) × (t ≡ over x s c true k)) ⊎ ((z ≡ Locking.Other) × (t ≡ over x s c true k) × (nat_lt c last_number ≡ false))
   lock_refused (starved e) = inl (refl, refl)
   lock_refused (at_end e) = inr (refl, refl, e)
 
-  pub lock_given : {x : Phase} {s : Option Segment} {c n : ℕ} {k : Tickets} {t : Seat} → Locks x s c k (Ok n) t → (n ≡ c) × (t ≡ at_lock n s (c + 1) k) × (nat_lt c last_number ≡ true)
+  pub lock_given : {x : Phase} {s : Option Segment} {c n : ℕ} {k : Tickets} {t : NodeView} → Locks x s c k (Ok n) t → (n ≡ c) × (t ≡ at_lock n s (c + 1) k) × (nat_lt c last_number ≡ true)
   lock_given (locks e) = (refl, refl, e)
 
   own_tag_back : {tag : Tag} {w : List Letter} → tag ≡ Made → GivesBack i h (own_tag tag) w → GivesBack i h (OwnTag ∷ []) w
@@ -182,20 +182,20 @@ module _ (i : ℕ) (h : ServiceHash) where
   own_segment_back {w = w} e g = subst (λ z. GivesBack i h (OwnSegment ∷ OwnLock ∷ own_tag z) w) e g
 
 module _ {F E C : Type 0} (m : Meaning F E C) (i : ℕ) (h : ServiceHash) where
-  pub look_over : (x : Phase) (s : Option Segment) (c : ℕ) (g : Bool) (k : Tickets) {o : Outcome F} {w : List Letter} {t : Seat} → IsLookWord m i h w o → Run (AtSeat i h) (over x s c g k) w t → (o ≡ outcome.Nothing) × (t ≡ over x s c g k)
-  look_over x s c g k look.absent r = let l = last r in (refl, l.is ∙ ap (seat_after _) l.own.1)
+  pub look_over : (x : Phase) (s : Option Segment) (c : ℕ) (g : Bool) (k : Tickets) {o : Outcome F} {w : List Letter} {t : NodeView} → IsLookWord m i h w o → Run (AtNode i h) (over x s c g k) w t → (o ≡ outcome.Nothing) × (t ≡ over x s c g k)
+  look_over x s c g k look.absent r = let l = last r in (refl, l.is ∙ ap (node_view_after _) l.own.1)
   look_over x s c g k look.broken r = let l = last r in absurd (grind (arith, l.own.0))
   look_over x s c g k (look.fetched look.yes leads) r = let l = (head r).first in absurd (grind (arith, l.own.0))
   look_over x s c g k (look.fetched look.being_set_up leads) r = let l = (head r).first in absurd (grind (arith, l.own.0))
 
-  pub look_bare : (x : Phase) (c : ℕ) (g : Bool) (k : Tickets) {o : Outcome F} {w : List Letter} {t : Seat} → IsLookWord m i h w o → Run (AtSeat i h) (bare x c g k) w t → (o ≡ outcome.Nothing) × (t ≡ bare x c g k)
+  pub look_bare : (x : Phase) (c : ℕ) (g : Bool) (k : Tickets) {o : Outcome F} {w : List Letter} {t : NodeView} → IsLookWord m i h w o → Run (AtNode i h) (bare x c g k) w t → (o ≡ outcome.Nothing) × (t ≡ bare x c g k)
   look_bare x c g k l r = look_over x None c g k l r
 
-  pub data Enters (x : Phase) (c : ℕ) (k : Tickets) : Result Tag C → Seat → Type 0 where
+  pub data Enters (x : Phase) (c : ℕ) (k : Tickets) : Result Tag C → NodeView → Type 0 where
     enters : Enters x c k (Ok Made) (bare x c true k)
     enters_not : Enters x c k (Err (m.create_refusal refusal.OutOfMemory)) (bare x c false k)
 
-  entry : (x : Phase) (c : ℕ) (k : Tickets) {a : Result Tag C} {w : List Letter} {t : Seat} → begins x ≡ true → IsEntryWord m i h w a → Run (AtSeat i h) (bare x c false k) w t → Enters x c k a t
+  entry : (x : Phase) (c : ℕ) (k : Tickets) {a : Result Tag C} {w : List Letter} {t : NodeView} → begins x ≡ true → IsEntryWord m i h w a → Run (AtNode i h) (bare x c false k) w t → Enters x c k a t
   entry x c k b (create.look_faulty l) r = let y = look_bare x c false k l r in absurd (cc)
   entry x c k b (create.look_found l) r = let y = look_bare x c false k l r in absurd (cc)
   entry x c k b (create.counted {u = u} l) r =
@@ -219,18 +219,18 @@ module _ {F E C : Type 0} (m : Meaning F E C) (i : ℕ) (h : ServiceHash) where
         | inr y ↦ absurd (grind (arith, y.0))
       ]
 
-  entry_refused : {x : Phase} {c : ℕ} {k : Tickets} {e : C} {t : Seat} → Enters x c k (Err e) t → (e ≡ m.create_refusal refusal.OutOfMemory) × (t ≡ bare x c false k)
+  entry_refused : {x : Phase} {c : ℕ} {k : Tickets} {e : C} {t : NodeView} → Enters x c k (Err e) t → (e ≡ m.create_refusal refusal.OutOfMemory) × (t ≡ bare x c false k)
   entry_refused enters_not = (refl, refl)
 
-  entry_made : {x : Phase} {c : ℕ} {k : Tickets} {tag : Tag} {t : Seat} → Enters x c k (Ok tag) t → (tag ≡ Made) × (t ≡ bare x c true k)
+  entry_made : {x : Phase} {c : ℕ} {k : Tickets} {tag : Tag} {t : NodeView} → Enters x c k (Ok tag) t → (tag ≡ Made) × (t ≡ bare x c true k)
   entry_made enters = (refl, refl)
 
   module _ (stops : Bool) (d : Description) where
-    abbrev pub registered : ℕ → Factory
+    abbrev pub registered : ℕ → Registered
     registered c = record { node = i; number = c; ticket = c; description = d }
 
     -- What create does at a seat without a service.
-    pub data Founds (c : ℕ) (k : Tickets) : Result Factory C → Seat → Type 0 where
+    pub data Founds (c : ℕ) (k : Tickets) : Result Registered C → NodeView → Type 0 where
       forbids : {y : Phase} {error : C} → begins y ≡ true → m.history_refusal ≡ Some error → Founds c k (Err error) (bare y c false k)
       no_time : {y : Phase} → begins y ≡ true → m.history_refusal ≡ None → stops ≡ true → Founds c k (Err (m.create_refusal refusal.InternalFailure)) (bare y c false k)
       no_number : {y : Phase} → begins y ≡ true → m.history_refusal ≡ None → stops ≡ false → nat_lt c last_number ≡ false → Founds c k (Err (m.create_refusal refusal.InternalFailure)) (bare y c false k)
@@ -239,23 +239,23 @@ module _ {F E C : Type 0} (m : Meaning F E C) (i : ℕ) (h : ServiceHash) where
       founds : IsDescription d → m.history_refusal ≡ None → stops ≡ false → nat_lt c last_number ≡ true → Founds c k (Ok (registered c)) (joined i h c (max_nodes_of d.pattern) (form.description d) (c + 1) k)
 
     module _ (x : Phase) (c : ℕ) (k : Tickets) (b : begins x ≡ true) (positive : nat_lt 0 (max_nodes_of d.pattern) ≡ true) (own_hash : eq_by_cmp hash_cmp d.hash h ≡ true) where
-      abbrev FoundsHere : Result Factory C → Seat → Type 0
+      abbrev FoundsHere : Result Registered C → NodeView → Type 0
       FoundsHere a t = Founds c k a t
 
       -- after the lock
-      record Begun (tag : Tag) (n : ℕ) (w : List Letter) (t : Seat) : Type 0 where
+      record Begun (tag : Tag) (n : ℕ) (w : List Letter) (t : NodeView) : Type 0 where
         own : tag ≡ Made
         number : n ≡ c
         counter : nat_lt c last_number ≡ true
-        rest : Run (AtSeat i h) (locked n (c + 1) k) w t
+        rest : Run (AtNode i h) (locked n (c + 1) k) w t
 
-      locked_first : {tag : Tag} {w : List Letter} {n : ℕ} {t : Seat} → tag ≡ Made → Run (AtSeat i h) (bare x c true k) (letter.Lock i h (Ok n) ∷ w) t → Begun tag n w t
+      locked_first : {tag : Tag} {w : List Letter} {n : ℕ} {t : NodeView} → tag ≡ Made → Run (AtNode i h) (bare x c true k) (letter.Lock i h (Ok n) ∷ w) t → Begun tag n w t
       locked_first {n = n} own r =
           let f = head r in
           let y = lock_given i h (lock_over i h x None c k (Ok n) f.mid b f.first) in
           record { own = own; number = y.0; counter = y.2; rest = from y.1 f.rest }
 
-      serving : {tag : Tag} {a : Result Factory C} {w : List Letter} {t : Seat} → m.history_refusal ≡ None → stops ≡ false → tag ≡ Made → IsServiceWord m i h d tag w a → Run (AtSeat i h) (bare x c true k) w t → Founds c k a t
+      serving : {tag : Tag} {a : Result Registered C} {w : List Letter} {t : NodeView} → m.history_refusal ≡ None → stops ≡ false → tag ≡ Made → IsServiceWord m i h d tag w a → Run (AtNode i h) (bare x c true k) w t → Founds c k a t
       serving fits runs own (create.not_locked z g) r =
           let f = head r in
           elim (lock_refused i h (lock_over i h x None c k _ _ b f.first)) [
@@ -284,7 +284,7 @@ module _ {F E C : Type 0} (m : Meaning F E C) (i : ℕ) (h : ServiceHash) where
             | inr y ↦ absurd (grind (arith, y.0))
           ]
 
-      pub founding : {a : Result Factory C} {w : List Letter} {t : Seat} → IsCreating m i h stops d w a → Run (AtSeat i h) (bare x c false k) w t → Founds c k a t
+      pub founding : {a : Result Registered C} {w : List Letter} {t : NodeView} → IsCreating m i h stops d w a → Run (AtNode i h) (bare x c false k) w t → Founds c k a t
       founding (create.forbidden bad) r = into FoundsHere refl (ended r) (forbids b bad)
       founding (create.not_entered fits e) r = let en = entry_refused (entry x c k b e r) in into FoundsHere (ap Err en.0) en.1 (forgets b fits)
       founding (create.clock_fault {tag = tag} {u = u} fits stopped e g) r =

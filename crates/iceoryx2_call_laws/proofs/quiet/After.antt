@@ -17,7 +17,7 @@ use Rattle.iceoryx2_world.proofs.agreement.Whole.{same_hash}
 use Rattle.iceoryx2_pattern.specs.declared.pattern.OpenRefusal.TheVariants as refusal
 use Rattle.iceoryx2_pattern.specs.Meaning.{Meaning}
 use Rattle.iceoryx2_pattern.specs.Verdict.{verdict}
-use Rattle.iceoryx2_access.specs.Factory.{Factory}
+use Rattle.iceoryx2_access.specs.Registered.{Registered}
 use Rattle.iceoryx2_call_laws.specs.Quiet.{QuietService, Quiet, ShowsService, Shows, service_at, times_counted, is_counted}
 use Rattle.iceoryx2_call_laws.specs.QuietCalls.{Creates, Opens, Closes, closed, HasPlace, HasNumber, first_counts, created_by, opened_by, closed_by, more_counts, fewer_counts, with_service, spend}
 use Rattle.iceoryx2_call_laws.specs.QuietCalls as call
@@ -78,7 +78,7 @@ close_of_new q i h d z gone (closed x k there counted) =
 
 module _ {F E C : Type 0} (m : Meaning F E C) (i : ℕ) (h : ServiceHash) where
   -- A create and then the close of its factory leave nothing of the service, and one number is spent.
-  pub create_and_close : (name : List ℕ) (now : Result Span ClockFault) (w v : World) (q p z : Quiet) (r : Factory) → Shows w q → Shows v z → Creates m q i h name now (Ok r) p → Closes p r.node r.description.hash z → HasNothingAt v h × HoldsTheSame w v × (v.counter ≡ w.counter + 1)
+  pub create_and_close : (name : List ℕ) (now : Result Span ClockFault) (w v : World) (q p z : Quiet) (r : Registered) → Shows w q → Shows v z → Creates m q i h name now (Ok r) p → Closes p r.node r.description.hash z → HasNothingAt v h × HoldsTheSame w v × (v.counter ≡ w.counter + 1)
   create_and_close name now w v q p z r s t (call.created fits gone runs room) c =
       let back = close_of_new q i h r.description z gone c in
       (nothing_at v z h t (ap (λ k. map.get k h) back.1 ∙ gone), holds_the_same w v q z s t back.1, t.counter ∙ back.0 ∙ ap (λ n. n + 1) (sym s.counter))
@@ -91,7 +91,7 @@ module _ {F E C : Type 0} (m : Meaning F E C) (i : ℕ) (h : ServiceHash) where
   still_counted x k e (Peer j) = refl
 
   -- A further factory of a node takes no further place: the segment stays as it is, and the node's count rises by one.
-  pub opened_again : (w v : World) (q p : Quiet) (r : Factory) (x : QuietService) (k : ℕ) → Shows w q → Shows v p → service_at q h ≡ Some x → times_counted x i ≡ Some k → Opens m q i h (Ok r) p
+  pub opened_again : (w v : World) (q p : Quiet) (r : Registered) (x : QuietService) (k : ℕ) → Shows w q → Shows v p → service_at q h ≡ Some x → times_counted x i ≡ Some k → Opens m q i h (Ok r) p
       → (segment_of v h ≡ segment_of w h) × (join_count (phase_of w (Node i) h) ≡ k) × (join_count (phase_of v (Node i) h) ≡ k + 1)
   opened_again w v q p r x k s t there counted (call.opened y is_y good fits place room) =
       let same : y ≡ x = let is = sym is_y ∙ there in cc in
@@ -105,7 +105,7 @@ module _ {F E C : Type 0} (m : Meaning F E C) (i : ℕ) (h : ServiceHash) where
       )
 
   -- An open that the requirement accepts, with a place and a number left, is Ok or wants memory.
-  pub accepted : (q p : Quiet) (x : QuietService) (r : Result Factory E) → service_at q h ≡ Some x → m.misfit x.description ≡ None → verdict (m.requirement x.description) ≡ Ok tt → HasPlace x i → HasNumber q → Opens m q i h r p → IfErr r (λ e. e ≡ m.open_refusal refusal.OutOfMemory)
+  pub accepted : (q p : Quiet) (x : QuietService) (r : Result Registered E) → service_at q h ≡ Some x → m.misfit x.description ≡ None → verdict (m.requirement x.description) ≡ Ok tt → HasPlace x i → HasNumber q → Opens m q i h r p → IfErr r (λ e. e ≡ m.open_refusal refusal.OutOfMemory)
   accepted q p x r there good fits place room (call.absent gone) = let is = sym gone ∙ there in absurd (cc)
   accepted q p x r there good fits place room (call.misfit y is_y bad) = let same : y ≡ x = let is = sym is_y ∙ there in cc in let is = sym good ∙ ap (λ z. m.misfit z.description) (sym same) ∙ bad in absurd (cc)
   accepted q p x r there good fits place room (call.not_accepted y is_y _ unfit) = let same : y ≡ x = let is = sym is_y ∙ there in cc in let is = sym fits ∙ ap (λ z. verdict (m.requirement z.description)) (sym same) ∙ unfit in absurd (cc)

@@ -5,7 +5,7 @@ use Rattle.iceoryx2_description.specs.Description.{Description}
 use Rattle.iceoryx2_world.specs.World.{World}
 use Rattle.iceoryx2_access.specs.Letter.{Letter}
 use Rattle.iceoryx2_access.specs.Run.{Run, done}
-use Rattle.iceoryx2_access.specs.Factory.{Factory}
+use Rattle.iceoryx2_access.specs.Registered.{Registered}
 use Rattle.iceoryx2_access.proofs.Run.{split}
 use Rattle.iceoryx2_world.specs.Access.{IsOwnPart}
 use Rattle.iceoryx2_world.specs.Across.{Agrees}
@@ -36,21 +36,21 @@ module _ {D F E C : Type 0} (a : Attempt D F E C) (steady : IsSteady a) (q : Qui
   abbrev IsRetried : List Letter → D → Type 0
   IsRetried = IsRetriedTurn a.meaning a.adjusted a.retried a.required a.node a.hash a.name a.now a.asked
 
-  abbrev IsLast : List Letter → Result Factory (OpenOrCreateRefusal E C) → Type 0
+  abbrev IsLast : List Letter → Result Registered (OpenOrCreateRefusal E C) → Type 0
   IsLast = IsLastTurn a.meaning a.adjusted a.retried a.required a.node a.hash a.name a.now a.asked
 
-  abbrev IsCreate : List Letter → Result Factory C → Type 0
+  abbrev IsCreate : List Letter → Result Registered C → Type 0
   IsCreate = IsMaking a.meaning a.adjusted a.retried a.required a.node a.hash a.name a.now a.asked
 
-  abbrev IsOpen : List Letter → Result Factory E → Type 0
+  abbrev IsOpen : List Letter → Result Registered E → Type 0
   IsOpen = IsOpening a.meaning a.adjusted a.retried a.required a.node a.hash a.name a.now a.asked
 
-  abbrev IsIt : World → Result Factory (OpenOrCreateRefusal E C) → World → Type 0
+  abbrev IsIt : World → Result Registered (OpenOrCreateRefusal E C) → World → Type 0
   IsIt w answer v = IsCall w (Attempts a q answer) answer v
 
   -- ---- no refusal of the machine is tried again
 
-  create_ends : {answer : Result Factory C} {p : Quiet} (error : C) → answer ≡ Err error → service_at q a.hash ≡ None → Creates (making a) q a.node a.hash a.name a.now answer p → a.retried.of_create error ≡ false
+  create_ends : {answer : Result Registered C} {p : Quiet} (error : C) → answer ≡ Err error → service_at q a.hash ≡ None → Creates (making a) q a.node a.hash a.name a.now answer p → a.retried.of_create error ≡ false
   create_ends error e gone (call.forbidden {error = f} bad) = let is : f ≡ error = cc in ap a.retried.of_create (sym is) ∙ steady.ends_at_once.forbidden f bad
   create_ends error e gone (call.exists x fits there) = absurd (cc)
   create_ends error e gone (call.no_time fits _ stops) = let is : (making a).create_refusal _ ≡ error = cc in ap a.retried.of_create (sym is) ∙ steady.ends_at_once.not_created
@@ -59,7 +59,7 @@ module _ {D F E C : Type 0} (a : Attempt D F E C) (steady : IsSteady a) (q : Qui
   create_ends error e gone (call.no_memory fits) = let is : (making a).create_refusal _ ≡ error = cc in ap a.retried.of_create (sym is) ∙ steady.ends_at_once.created_without_memory
   create_ends error e gone (call.no_memory_locked fits _ runs room) = let is : (making a).create_refusal _ ≡ error = cc in ap a.retried.of_create (sym is) ∙ steady.ends_at_once.created_without_memory
 
-  open_ends : {answer : Result Factory E} {p : Quiet} (x : QuietService) (error : E) → answer ≡ Err error → service_at q a.hash ≡ Some x → (a.meaning a.asked).misfit x.description ≡ None → Opens (opening a) q a.node a.hash answer p → a.retried.of_open error ≡ false
+  open_ends : {answer : Result Registered E} {p : Quiet} (x : QuietService) (error : E) → answer ≡ Err error → service_at q a.hash ≡ Some x → (a.meaning a.asked).misfit x.description ≡ None → Opens (opening a) q a.node a.hash answer p → a.retried.of_open error ≡ false
   open_ends x error e there fits (call.absent gone) = absurd (cc)
   open_ends x error e there fits (call.misfit y at bad) = let is : y ≡ x = cc in let none = ap (λ (z : QuietService). (a.meaning a.asked).misfit z.description) is ∙ fits in absurd (cc)
   open_ends x error e there fits (call.not_accepted {error = f} y at good unfit) = let is : f ≡ error = cc in ap a.retried.of_open (sym is) ∙ steady.ends_at_once.not_accepted y.description f unfit
@@ -70,17 +70,17 @@ module _ {D F E C : Type 0} (a : Attempt D F E C) (steady : IsSteady a) (q : Qui
 
   -- ---- the part after the look of a round
 
-  made_after : {word : List Letter} {w v : World} (answer : Result Factory C) → Shows w q → Agrees w → IsCreate word answer → Run IsOwnPart w word v → IsCall w (Creates (making a) q a.node a.hash a.name a.now answer) answer v
+  made_after : {word : List Letter} {w v : World} (answer : Result Registered C) → Shows w q → Agrees w → IsCreate word answer → Run IsOwnPart w word v → IsCall w (Creates (making a) q a.node a.hash a.name a.now answer) answer v
   made_after {word} {w} {v} answer s old is run = create_follows (making a) a.node a.hash a.name a.now w v q word answer steady.making_is_regular (steady.takes_nodes (time_of a.now)) s old is run
 
-  opened_after : {word : List Letter} {w v : World} (answer : Result Factory E) → Shows w q → Agrees w → IsOpen word answer → Run IsOwnPart w word v → IsCall w (Opens (opening a) q a.node a.hash answer) answer v
+  opened_after : {word : List Letter} {w v : World} (answer : Result Registered E) → Shows w q → Agrees w → IsOpen word answer → Run IsOwnPart w word v → IsCall w (Opens (opening a) q a.node a.hash answer) answer v
   opened_after {word} {w} {v} answer s old is run = open_follows (opening a) a.node a.hash w v q word answer steady.opening_is_regular s old is run
 
-  created_call : {w v : World} (answer : Result Factory C) → service_at q a.hash ≡ None → IsCall w (Creates (making a) q a.node a.hash a.name a.now answer) answer v → IsIt w (map_err refusal.Create answer) v
+  created_call : {w v : World} (answer : Result Registered C) → service_at q a.hash ≡ None → IsCall w (Creates (making a) q a.node a.hash a.name a.now answer) answer v → IsIt w (map_err refusal.Create answer) v
   created_call (Ok r) gone c = record { state = c.state; call = attempt.creates gone c.call; shows = c.shows; agrees = c.agrees; tickets = c.tickets; given = c.given; kept = c.kept }
   created_call (Err e) gone c = record { state = c.state; call = attempt.creates gone c.call; shows = c.shows; agrees = c.agrees; tickets = c.tickets; given = tt; kept = c.kept }
 
-  opened_call : {w v : World} (answer : Result Factory E) (x : QuietService) → service_at q a.hash ≡ Some x → IsCall w (Opens (opening a) q a.node a.hash answer) answer v → IsIt w (map_err refusal.Open answer) v
+  opened_call : {w v : World} (answer : Result Registered E) (x : QuietService) → service_at q a.hash ≡ Some x → IsCall w (Opens (opening a) q a.node a.hash answer) answer v → IsIt w (map_err refusal.Open answer) v
   opened_call (Ok r) x there c = record { state = c.state; call = attempt.opens x there c.call; shows = c.shows; agrees = c.agrees; tickets = c.tickets; given = c.given; kept = c.kept }
   opened_call (Err e) x there c = record { state = c.state; call = attempt.opens x there c.call; shows = c.shows; agrees = c.agrees; tickets = c.tickets; given = tt; kept = c.kept }
 
@@ -92,14 +92,14 @@ module _ {D F E C : Type 0} (a : Attempt D F E C) (steady : IsSteady a) (q : Qui
 
   module _ {w v : World} (s : Shows w q) (old : Agrees w) where
     -- a create after a look, where there is no service
-    then_created : {x y : List Letter} (answer : Result Factory C) → service_at q a.hash ≡ None → IsLookWord (a.meaning a.asked) a.node a.hash x outcome.Nothing → IsCreate y answer → Run IsOwnPart w (x ++ y) v → IsCall w (Creates (making a) q a.node a.hash a.name a.now answer) answer v
+    then_created : {x y : List Letter} (answer : Result Registered C) → service_at q a.hash ≡ None → IsLookWord (a.meaning a.asked) a.node a.hash x outcome.Nothing → IsCreate y answer → Run IsOwnPart w (x ++ y) v → IsCall w (Creates (making a) q a.node a.hash a.name a.now answer) answer v
     then_created {x} {y} answer gone l c run =
         let parts = split x y run in
         let rest = (look_rests_absent (a.meaning a.asked) a.node a.hash s old gone l parts.first).1 in
         after_rest (λ p. Creates (making a) p a.node a.hash a.name a.now answer) answer s rest (made_after answer (rest_shows rest) rest.agrees c parts.second)
 
     -- an open after a look, where there is one
-    then_opened : {x y : List Letter} {n : ℕ} {d : Description} (answer : Result Factory E) (z : QuietService) → service_at q a.hash ≡ Some z → IsLookWord (a.meaning a.asked) a.node a.hash x (outcome.Found n d) → IsOpen y answer → Run IsOwnPart w (x ++ y) v
+    then_opened : {x y : List Letter} {n : ℕ} {d : Description} (answer : Result Registered E) (z : QuietService) → service_at q a.hash ≡ Some z → IsLookWord (a.meaning a.asked) a.node a.hash x (outcome.Found n d) → IsOpen y answer → Run IsOwnPart w (x ++ y) v
         → ((a.meaning a.asked).misfit z.description ≡ None) × IsCall w (Opens (opening a) q a.node a.hash answer) answer v
     then_opened {x} {y} answer z there l o run =
         let parts = split x y run in
@@ -123,7 +123,7 @@ module _ {D F E C : Type 0} (a : Attempt D F E C) (steady : IsSteady a) (q : Qui
       | Some z ↦ λ there. not_there x y z there l run
     ] refl
 
-    last_is : {word : List Letter} {answer : Result Factory (OpenOrCreateRefusal E C)} → IsLast word answer → Run IsOwnPart w word v → IsIt w answer v
+    last_is : {word : List Letter} {answer : Result Registered (OpenOrCreateRefusal E C)} → IsLast word answer → Run IsOwnPart w word v → IsIt w answer v
     last_is {word} (look_faulty {fault} l) run = elim (service_at q a.hash) as (λ z. service_at q a.hash ≡ z → IsIt w (Err (refusal.Open ((a.meaning a.asked).open_error_of fault))) v) [
       | None ↦ λ gone. let none = (look_rests_absent (a.meaning a.asked) a.node a.hash s old gone l run).0 in absurd (cc)
       | Some z ↦ λ there. opened_call (Err ((a.meaning a.asked).open_error_of fault)) z there (opened_after (Err ((a.meaning a.asked).open_error_of fault)) s old (faulty_open l) run)
@@ -159,7 +159,7 @@ module _ {D F E C : Type 0} (a : Attempt D F E C) (steady : IsSteady a) (q : Qui
       let none = no_turns before parts.first s old in
       absurd (none_retried s old (subst (λ d. IsRetriedTurn a.meaning a.adjusted a.retried a.required a.node a.hash a.name a.now d y next) none.asked_still t) (subst (λ u. Run IsOwnPart u y v) none.world parts.second))
 
-  pub attempt_follows : {word : List Letter} {answer : Result Factory (OpenOrCreateRefusal E C)} {w v : World} → Shows w q → Agrees w → IsOpenOrCreateWord a.meaning a.adjusted a.retried a.required a.node a.hash a.name a.now a.asked word answer → Run IsOwnPart w word v → IsIt w answer v
+  pub attempt_follows : {word : List Letter} {answer : Result Registered (OpenOrCreateRefusal E C)} {w v : World} → Shows w q → Agrees w → IsOpenOrCreateWord a.meaning a.adjusted a.retried a.required a.node a.hash a.name a.now a.asked word answer → Run IsOwnPart w word v → IsIt w answer v
   attempt_follows {v = v} s old (ended {u = x} {v = y} {answer = answer} small before t) run =
       let parts = split x y run in
       let none = no_turns before parts.first s old in
@@ -168,12 +168,12 @@ module _ {D F E C : Type 0} (a : Attempt D F E C) (steady : IsSteady a) (q : Qui
 
 -- ---- a refused one keeps the services
 
-carried_error : {G R : Type 0} (carry : G → R) (answer : Result Factory G) (error : R) → map_err carry answer ≡ Err error → (e : G) × (answer ≡ Err e)
+carried_error : {G R : Type 0} (carry : G → R) (answer : Result Registered G) (error : R) → map_err carry answer ≡ Err error → (e : G) × (answer ≡ Err e)
 carried_error carry (Ok r) error is = absurd (cc)
 carried_error carry (Err e) error is = (e, refl)
 
 module _ {D F E C : Type 0} (a : Attempt D F E C) (q : Quiet) where
-  keeps_services : {answer : Result Factory (OpenOrCreateRefusal E C)} {p : Quiet} (error : OpenOrCreateRefusal E C) → answer ≡ Err error → Attempts a q answer p → p.services ≡ q.services
+  keeps_services : {answer : Result Registered (OpenOrCreateRefusal E C)} {p : Quiet} (error : OpenOrCreateRefusal E C) → answer ≡ Err error → Attempts a q answer p → p.services ≡ q.services
   keeps_services {p = p} error is (attempt.creates {answer = answer} gone c) =
       let e = carried_error refusal.Create answer error is in
       create_refused (making a) a.node a.hash a.name a.now q p e.0 (subst (λ z. Creates (making a) q a.node a.hash a.name a.now z p) e.1 c)
@@ -183,7 +183,7 @@ module _ {D F E C : Type 0} (a : Attempt D F E C) (q : Quiet) where
 
 -- Where it may prepare its types first.
 module _ {D F E C : Type 0} (a : Attempt D F E C) where
-  pub attempt_call_follows : {word : List Letter} {answer : Result Factory (OpenOrCreateRefusal E C)} {w v : World} {q : Quiet} → IsSteady a → Shows w q → Agrees w → IsAttempted a word answer → Run IsOwnPart w word v → IsCall w (AttemptsPrepared a q answer) answer v
+  pub attempt_call_follows : {word : List Letter} {answer : Result Registered (OpenOrCreateRefusal E C)} {w v : World} {q : Quiet} → IsSteady a → Shows w q → Agrees w → IsAttempted a word answer → Run IsOwnPart w word v → IsCall w (AttemptsPrepared a q answer) answer v
   attempt_call_follows {w = w} {v = v} {q = q} steady s old = prepared_follows w v s old (λ word answer is run. attempt_follows a steady q s old is run)
 
   pub refused_attempt : {w v : World} {q p : Quiet} (error : OpenOrCreateRefusal E C) → Shows w q → Shows v p → AttemptsPrepared a q (Err error) p → HoldsTheSame w v

@@ -22,7 +22,7 @@ use Rattle.iceoryx2_world.proofs.agreement.Accesses.{own_keeps, later_refl, late
 use Rattle.iceoryx2_errors.specs.declared.error.CloseError.{CloseError}
 use Rattle.iceoryx2_port_factory.specs.Closes.{IsCloseWord}
 use Rattle.iceoryx2_pattern.specs.Meaning.{Meaning}
-use Rattle.iceoryx2_access.specs.Factory.{Factory}
+use Rattle.iceoryx2_access.specs.Registered.{Registered}
 use Rattle.iceoryx2_create_and_open.specs.Creates.{IsCreateWord, time_of, description_of}
 use Rattle.iceoryx2_create_and_open.specs.Opens.{IsOpenWord}
 use Rattle.iceoryx2_call_laws.specs.Quiet.{QuietService, Quiet, ShowsService, Shows, no_service, service_at}
@@ -31,7 +31,7 @@ use Rattle.iceoryx2_call_laws.specs.QuietCalls.{Creates, Opens, created_by, open
 use Rattle.iceoryx2_call_laws.specs.QuietCalls as call
 use Rattle.iceoryx2_call_laws.specs.QuietLaws.{IsCall, IsClose}
 use Rattle.iceoryx2_call_laws.specs.Tickets.{tickets_after}
-use Rattle.iceoryx2_call_laws.proofs.quiet.Seats.{move_all}
+use Rattle.iceoryx2_call_laws.proofs.quiet.NodeViews.{move_all}
 use Rattle.iceoryx2_call_laws.proofs.quiet.Here.{create_here, open_here, close_here}
 use Rattle.iceoryx2_call_laws.proofs.quiet.Create.{Made, create_absent}
 use Rattle.iceoryx2_call_laws.proofs.quiet.There.{create_there}
@@ -40,7 +40,7 @@ use Rattle.iceoryx2_call_laws.proofs.quiet.Close.{close_counted}
 use Rattle.iceoryx2_call_laws.proofs.quiet.Opened.{open_absent, open_there}
 
 -- The machine has the service of a registration, whose ticket is the old counter's value.
-pub record GivesIn (w : World) (q : Quiet) (r : Factory) : Type 0 where
+pub record GivesIn (w : World) (q : Quiet) (r : Registered) : Type 0 where
   service : QuietService
   there : service_at q r.description.hash ≡ Some service
   number : service.number ≡ r.number
@@ -56,7 +56,7 @@ run_keeps {w = u} {v = w} (next {mid = v} {letter = l} o rest) old =
     (more.0, later_trans u v w old.everywhere one.1 more.1)
 
 -- what a call that the machine has made leaves
-pub is_call : {E : Type 0} {Calls : Quiet → Type 0} {w v : World} {word : List Letter} (r : Result Factory E) → (made : Made Calls (tickets_after w.tickets r) v) → IfOk r (λ x. GivesIn w made.state x) → Run IsOwnPart w word v → Agrees w → IsCall w Calls r v
+pub is_call : {E : Type 0} {Calls : Quiet → Type 0} {w v : World} {word : List Letter} (r : Result Registered E) → (made : Made Calls (tickets_after w.tickets r) v) → IfOk r (λ x. GivesIn w made.state x) → Run IsOwnPart w word v → Agrees w → IsCall w Calls r v
 is_call {E = E} {w = w} {v = v} (Err e) made gives run old =
     let kept = run_keeps run old in
     record { state = made.state; call = made.call; shows = made.shows; agrees = kept.0; tickets = made.tickets; given = gives; kept = kept_by_call {E = E} w v (Err e) old kept.0 kept.1 made.tickets (λ x is. absurd (cc)) }
@@ -69,14 +69,14 @@ is_call {E = E} {w = w} {v = v} (Ok r) made gives run old =
       agrees = kept.0;
       tickets = made.tickets;
       given = (given_stands w v made.state r gives.service made.shows kept.0 gives.there gives.number gives.description made.tickets, gives.ticket);
-      kept = kept_by_call {E = E} w v (Ok r) old kept.0 kept.1 made.tickets (λ x is. let same : r ≡ x = cc in ap (λ (z : Factory). z.ticket) (sym same) ∙ gives.ticket);
+      kept = kept_by_call {E = E} w v (Ok r) old kept.0 kept.1 made.tickets (λ x is. let same : r ≡ x = cc in ap (λ (z : Registered). z.ticket) (sym same) ∙ gives.ticket);
     }
 
 pub with_service_has : (q : Quiet) (h : ServiceHash) (x : QuietService) → service_at (spend (with_service q h (Some x))) h ≡ Some x
 with_service_has q h x = map.get-insert hash_total q.services h x h ∙ ap (λ b. cond b (Some x) (service_at q h)) (own_hash h)
 
 module _ {F E C : Type 0} (m : Meaning F E C) (q : Quiet) (i : ℕ) (h : ServiceHash) (w : World) (s : Shows w q) where
-  create_gives : (name : List ℕ) (now : Result Span ClockFault) (r : Result Factory C) (p : Quiet) → Creates m q i h name now r p → IfOk r (λ x. GivesIn w p x)
+  create_gives : (name : List ℕ) (now : Result Span ClockFault) (r : Result Registered C) (p : Quiet) → Creates m q i h name now r p → IfOk r (λ x. GivesIn w p x)
   create_gives name now r p (call.created fits gone runs room) = record { service = created_by i (description_of m i h name now) q.counter; there = with_service_has q h (created_by i (description_of m i h name now) q.counter); number = refl; description = refl; ticket = sym s.counter }
   create_gives name now r p (call.forbidden bad) = tt
   create_gives name now r p (call.exists x fits there) = tt
@@ -85,7 +85,7 @@ module _ {F E C : Type 0} (m : Meaning F E C) (q : Quiet) (i : ℕ) (h : Service
   create_gives name now r p (call.no_memory fits) = tt
   create_gives name now r p (call.no_memory_locked fits gone runs room) = tt
 
-  open_gives : (r : Result Factory E) (p : Quiet) → Opens m q i h r p → IfOk r (λ x. GivesIn w p x)
+  open_gives : (r : Result Registered E) (p : Quiet) → Opens m q i h r p → IfOk r (λ x. GivesIn w p x)
   open_gives r p (call.opened x there good fits place room) =
       let at_h = subst (λ o. ShowsService w h o) there (s.services h) in
       record { service = opened_by i x; there = ap (service_at (spend (with_service q h (Some (opened_by i x))))) at_h.hash ∙ with_service_has q h (opened_by i x); number = refl; description = refl; ticket = sym s.counter }
@@ -109,7 +109,7 @@ empty_shows c = record {
 
 module _ {F E C : Type 0} (m : Meaning F E C) (i : ℕ) (h : ServiceHash) where
   -- A create over a world that shows q is the machine's.
-  pub create_follows : (name : List ℕ) (now : Result Span ClockFault) (w v : World) (q : Quiet) (word : List Letter) (r : Result Factory C) → IsRegular m → 0 < max_nodes_of (m.published (time_of now)) → Shows w q → Agrees w
+  pub create_follows : (name : List ℕ) (now : Result Span ClockFault) (w v : World) (q : Quiet) (word : List Letter) (r : Result Registered C) → IsRegular m → 0 < max_nodes_of (m.published (time_of now)) → Shows w q → Agrees w
       → IsCreateWord m i h name now word r → Run IsOwnPart w word v → IsCall w (Creates m q i h name now r) r v
   create_follows name now w v q word r regular room s old is_word run =
       let all = move_all i h (create_here is_word) run in
@@ -121,7 +121,7 @@ module _ {F E C : Type 0} (m : Meaning F E C) (i : ℕ) (h : ServiceHash) where
       is_call r made (create_gives m q i h w s name now r made.state made.call) run old
 
   -- So is an open.
-  pub open_follows : (w v : World) (q : Quiet) (word : List Letter) (r : Result Factory E) → IsRegular m → Shows w q → Agrees w → IsOpenWord m i h word r → Run IsOwnPart w word v → IsCall w (Opens m q i h r) r v
+  pub open_follows : (w v : World) (q : Quiet) (word : List Letter) (r : Result Registered E) → IsRegular m → Shows w q → Agrees w → IsOpenWord m i h word r → Run IsOwnPart w word v → IsCall w (Opens m q i h r) r v
   open_follows w v q word r regular s old is_word run =
       let all = move_all i h (open_here is_word) run in
       let made : Made (Opens m q i h r) (tickets_after w.tickets r) v = elim (service_at q h) as (λ o. service_at q h ≡ o → Made (Opens m q i h r) (tickets_after w.tickets r) v) [
@@ -131,7 +131,7 @@ module _ {F E C : Type 0} (m : Meaning F E C) (i : ℕ) (h : ServiceHash) where
       is_call r made (open_gives m q i h w s r made.state made.call) run old
 
 -- A close of a factory whose ticket is there is Ok, and the machine's.
-pub close_follows : (f : Factory) (w v : World) (q : Quiet) (word : List Letter) (r : Result (Unit {0}) (CloseError Factory)) → Shows w q → Agrees w → ticket_of w f.ticket ≡ Some (ticket_for f)
+pub close_follows : (f : Registered) (w v : World) (q : Quiet) (word : List Letter) (r : Result (Unit {0}) (CloseError Registered)) → Shows w q → Agrees w → ticket_of w f.ticket ≡ Some (ticket_for f)
     → IsCloseWord f word r → Run IsOwnPart w word v → (r ≡ Ok tt) × IsClose w q f v
 close_follows f w v q word r s old here is_word run =
     let all = move_all f.node f.description.hash (close_here is_word) run in

@@ -17,24 +17,24 @@ use Rattle.iceoryx2_world.specs.Orders.{hash_total, participant_cmp, participant
 use Rattle.iceoryx2_world.specs.World.{World, Segment, row_of, segment_of, phase_of, Tickets, tag_of, ticket_of}
 use Rattle.iceoryx2_access.specs.Letter.{Letter}
 use Rattle.iceoryx2_access.specs.Run.{Run}
-use Rattle.iceoryx2_world.specs.Access.{Seat, seat, is_ticket}
+use Rattle.iceoryx2_world.specs.Access.{NodeView, node_view, is_ticket}
 use Rattle.iceoryx2_world.specs.Standing.{ticket_for}
 use Rattle.iceoryx2_world.proofs.agreement.Moved.{same_self}
 use Rattle.iceoryx2_world.proofs.agreement.Whole.{own_hash, get-set_to}
 use Rattle.iceoryx2_errors.specs.declared.error.CloseError.{CloseError}
-use Rattle.iceoryx2_access.specs.Factory.{Factory}
+use Rattle.iceoryx2_access.specs.Registered.{Registered}
 use Rattle.iceoryx2_port_factory.specs.Closes.{IsCloseWord}
 use Rattle.iceoryx2_call_laws.specs.Quiet.{NodeCounts, QuietService, Quiet, IsThere, ShowsService, Shows, CountIs, service_at, times_counted, is_counted}
 use Rattle.iceoryx2_call_laws.specs.QuietCalls.{Closes, closed, fewer_counts, with_counts, closed_by, with_service}
-use Rattle.iceoryx2_call_laws.proofs.quiet.Seats.{Apart, AtSeat}
-use Rattle.iceoryx2_call_laws.proofs.quiet.Absent.{at_seat, from}
+use Rattle.iceoryx2_call_laws.proofs.quiet.NodeViews.{Apart, AtNode}
+use Rattle.iceoryx2_call_laws.proofs.quiet.Absent.{at_node, from}
 use Rattle.iceoryx2_call_laws.proofs.quiet.Lift.{services_after, phase_beside, tag_beside, equal_or_not, not_same, other_node, no_node}
 use Rattle.iceoryx2_call_laws.proofs.quiet.Counts.{get_fewer_own, get_fewer_none, get_fewer_other, len_fewer_same, len_fewer_less}
 use Rattle.iceoryx2_call_laws.proofs.quiet.Create.{Made}
 use Rattle.iceoryx2_call_laws.proofs.quiet.There.{was_there}
 use Rattle.iceoryx2_call_laws.proofs.quiet.Leave.{Closed, counts, goes, clears, closing, joins_here}
 
-module _ (f : Factory) (w v : World) (q : Quiet) (a : Apart f.node f.description.hash w v) (s : Shows w q) (x : QuietService) (is_there : service_at q f.description.hash ≡ Some x) (number : x.number ≡ f.number) (k : ℕ) (counted : times_counted x f.node ≡ Some k) (here : ticket_of w f.ticket ≡ Some (ticket_for f)) where
+module _ (f : Registered) (w v : World) (q : Quiet) (a : Apart f.node f.description.hash w v) (s : Shows w q) (x : QuietService) (is_there : service_at q f.description.hash ≡ Some x) (number : x.number ≡ f.number) (k : ℕ) (counted : times_counted x f.node ≡ Some k) (here : ticket_of w f.ticket ≡ Some (ticket_for f)) where
   abbrev i : ℕ
   i = f.node
 
@@ -66,27 +66,27 @@ module _ (f : Factory) (w v : World) (q : Quiet) (a : Apart f.node f.description
   -- the service goes on, with these nodes
   goes_on : (y : Phase) (nodes : set.FinSet participant_cmp) (tag : Bool) → 1 ≤ map.len m → set.len nodes ≡ map.len m → set.contains nodes (Node i) ≡ is_some (map.get m i)
       → ((z : Participant) → z ≢ Node i → set.contains nodes z ≡ set.contains was.nodes z) → CountIs x.number y (map.get m i) → tag ≡ is_some (map.get m i)
-      → seat v i h ≡ at_seat y (Some (row.Published x.number (form.description x.description))) (Some (record { number = x.number; capacity = max_nodes_of x.description.pattern; participants = nodes; marked = false })) w.counter tag rest → Shows v p
+      → node_view v i h ≡ at_node y (Some (row.Published x.number (form.description x.description))) (Some (record { number = x.number; capacity = max_nodes_of x.description.pattern; participants = nodes; marked = false })) w.counter tag rest → Shows v p
   goes_on y nodes tag some len member members count tagged is =
       let used : nat_lt 0 (map.len m) ≡ true = grind (arith, nat_tests, some) in
-      shows (ap (λ (z : Seat). z.spot.counter) is) (rw used (record {
+      shows (ap (λ (z : NodeView). z.view.counter) is) (rw used (record {
         limits = was.limits;
         hash = was.hash;
-        row = ap (λ (z : Seat). z.spot.row) is;
+        row = ap (λ (z : NodeView). z.view.row) is;
         nodes = nodes;
-        segment = ap (λ (z : Seat). z.spot.segment) is;
+        segment = ap (λ (z : NodeView). z.view.segment) is;
         members = both;
         as_many = len;
         one_or_more = some;
-        phases = λ j. elim (equal_or_not j i) [ inl e ↦ rw (e, ap (λ (z : Seat). z.spot.phase) is) count | inr e ↦ rw (get_fewer_other x.counts i k j e, phase_beside a j e) (was.phases j) ];
-        tags = λ j. elim (equal_or_not j i) [ inl e ↦ rw e (ap (λ (z : Seat). z.tag) is ∙ tagged) | inr e ↦ tag_beside a j e ∙ was.tags j ∙ sym (ap is_some (get_fewer_other x.counts i k j e)) ];
+        phases = λ j. elim (equal_or_not j i) [ inl e ↦ rw (e, ap (λ (z : NodeView). z.view.phase) is) count | inr e ↦ rw (get_fewer_other x.counts i k j e, phase_beside a j e) (was.phases j) ];
+        tags = λ j. elim (equal_or_not j i) [ inl e ↦ rw e (ap (λ (z : NodeView). z.tag) is ∙ tagged) | inr e ↦ tag_beside a j e ∙ was.tags j ∙ sym (ap is_some (get_fewer_other x.counts i k j e)) ];
       }))
     where
       both : (z : Participant) → set.contains nodes z ≡ is_counted (record x { counts = m }) z
       both (Node j) = elim (equal_or_not j i) [ inl e ↦ rw e member | inr e ↦ members (Node j) (other_node j i e) ∙ was.members (Node j) ∙ sym (ap is_some (get_fewer_other x.counts i k j e)) ]
       both (Peer j) = members (Peer j) (no_node j i) ∙ was.members (Peer j)
 
-  still_case : nat_lt 1 k ≡ true → seat v i h ≡ at_seat (at.Joined x.number (k - 1)) (Some (row.Published x.number (form.description x.description))) (Some (record { number = x.number; capacity = max_nodes_of x.description.pattern; participants = was.nodes; marked = false })) w.counter (tag_of w i h) rest → Shows v p
+  still_case : nat_lt 1 k ≡ true → node_view v i h ≡ at_node (at.Joined x.number (k - 1)) (Some (row.Published x.number (form.description x.description))) (Some (record { number = x.number; capacity = max_nodes_of x.description.pattern; participants = was.nodes; marked = false })) w.counter (tag_of w i h) rest → Shows v p
   still_case e is =
       let own = get_fewer_own x.counts i k e in
       let len = len_fewer_same x.counts i k e counted in
@@ -101,7 +101,7 @@ module _ (f : Factory) (w v : World) (q : Quiet) (a : Apart f.node f.description
       (was.tags i ∙ has ∙ sym (ap is_some own))
       is
 
-  left_case : nat_lt 1 k ≡ false → nat_lt 1 (set.len was.nodes) ≡ true → seat v i h ≡ at_seat at.Idle (Some (row.Published x.number (form.description x.description))) (Some (record { number = x.number; capacity = max_nodes_of x.description.pattern; participants = set.remove was.nodes (Node i); marked = false })) w.counter false rest → Shows v p
+  left_case : nat_lt 1 k ≡ false → nat_lt 1 (set.len was.nodes) ≡ true → node_view v i h ≡ at_node at.Idle (Some (row.Published x.number (form.description x.description))) (Some (record { number = x.number; capacity = max_nodes_of x.description.pattern; participants = set.remove was.nodes (Node i); marked = false })) w.counter false rest → Shows v p
   left_case e g is =
       let above : 1 < set.len was.nodes = grind (arith, nat_tests, g) in
       let own = get_fewer_none x.counts i k e in
@@ -118,7 +118,7 @@ module _ (f : Factory) (w v : World) (q : Quiet) (a : Apart f.node f.description
       (sym (ap is_some own))
       is
 
-  last_case : nat_lt 1 k ≡ false → nat_lt 1 (set.len was.nodes) ≡ false → seat v i h ≡ at_seat at.Idle None None w.counter false rest → Shows v p
+  last_case : nat_lt 1 k ≡ false → nat_lt 1 (set.len was.nodes) ≡ false → node_view v i h ≡ at_node at.Idle None None w.counter false rest → Shows v p
   last_case e g is =
       let low : set.len was.nodes ≤ 1 = grind (arith, nat_tests, g) in
       let len = len_fewer_less x.counts i k e counted in
@@ -126,29 +126,29 @@ module _ (f : Factory) (w v : World) (q : Quiet) (a : Apart f.node f.description
       let none : map.len m ≡ 0 = omega (arith, low, as_many, len) in
       let gone : nat_lt 0 (map.len m) ≡ false = grind (arith, nat_tests, none) in
       let others : (j : ℕ) → j ≢ i → times_counted x j ≡ None = λ j other. sym (get_fewer_other x.counts i k j other) ∙ ap (λ z. map.get z j) (map.empty_of_len m none) ∙ map.get-empty nat_cmp j in
-      shows (ap (λ (z : Seat). z.spot.counter) is) (rw gone (record {
-        row = ap (λ (z : Seat). z.spot.row) is;
-        segment = ap (λ (z : Seat). z.spot.segment) is;
-        phases = λ j. elim (equal_or_not j i) [ inl y ↦ rw (y, ap (λ (z : Seat). z.spot.phase) is) refl | inr y ↦ rw (phase_beside a j y) (subst (λ o. CountIs x.number (phase_of w (Node j) h) o) (others j y) (was.phases j)) ];
-        tags = λ j. elim (equal_or_not j i) [ inl y ↦ rw y (ap (λ (z : Seat). z.tag) is) | inr y ↦ tag_beside a j y ∙ was.tags j ∙ ap is_some (others j y) ];
+      shows (ap (λ (z : NodeView). z.view.counter) is) (rw gone (record {
+        row = ap (λ (z : NodeView). z.view.row) is;
+        segment = ap (λ (z : NodeView). z.view.segment) is;
+        phases = λ j. elim (equal_or_not j i) [ inl y ↦ rw (y, ap (λ (z : NodeView). z.view.phase) is) refl | inr y ↦ rw (phase_beside a j y) (subst (λ o. CountIs x.number (phase_of w (Node j) h) o) (others j y) (was.phases j)) ];
+        tags = λ j. elim (equal_or_not j i) [ inl y ↦ rw y (ap (λ (z : NodeView). z.tag) is) | inr y ↦ tag_beside a j y ∙ was.tags j ∙ ap is_some (others j y) ];
       }))
 
   abbrev here_segment : Segment
   here_segment = record { number = x.number; capacity = max_nodes_of x.description.pattern; participants = was.nodes; marked = false }
 
-  begin : seat w i h ≡ joins_here i h f.number f.ticket k (form.description x.description) here_segment w.counter (tag_of w i h) w.tickets
-  begin = (λ z. record { spot = record { phase = joined_here.0 z; row = was.row z; segment = was.segment z; counter = w.counter }; tag = tag_of w i h; tickets = w.tickets }) ∙ ap (λ n. joins_here i h n f.ticket k (form.description x.description) here_segment w.counter (tag_of w i h) w.tickets) number
+  begin : node_view w i h ≡ joins_here i h f.number f.ticket k (form.description x.description) here_segment w.counter (tag_of w i h) w.tickets
+  begin = (λ z. record { view = record { phase = joined_here.0 z; row = was.row z; segment = was.segment z; counter = w.counter }; tag = tag_of w i h; tickets = w.tickets }) ∙ ap (λ n. joins_here i h n f.ticket k (form.description x.description) here_segment w.counter (tag_of w i h) w.tickets) number
 
-  by_case : (u : Seat) → Closed i h x.number f.ticket k (form.description x.description) here_segment w.counter (tag_of w i h) w.tickets u → seat v i h ≡ u → Shows v p × (v.tickets ≡ rest)
-  by_case u (counts e) is = (still_case e is, ap (λ (z : Seat). z.tickets) is)
-  by_case u (goes e g) is = (left_case e g is, ap (λ (z : Seat). z.tickets) is)
-  by_case u (clears e g) is = (last_case e g is, ap (λ (z : Seat). z.tickets) is)
+  by_case : (u : NodeView) → Closed i h x.number f.ticket k (form.description x.description) here_segment w.counter (tag_of w i h) w.tickets u → node_view v i h ≡ u → Shows v p × (v.tickets ≡ rest)
+  by_case u (counts e) is = (still_case e is, ap (λ (z : NodeView). z.tickets) is)
+  by_case u (goes e g) is = (left_case e g is, ap (λ (z : NodeView). z.tickets) is)
+  by_case u (clears e g) is = (last_case e g is, ap (λ (z : NodeView). z.tickets) is)
 
   has_ticket : is_ticket i h f.number (map.get w.tickets f.ticket) ≡ true
   has_ticket = ap (is_ticket i h f.number) here ∙ rw (own_hash h) (grind (arith, nat_tests))
 
-  pub close_counted : (word : List Letter) (r : Result (Unit {0}) (CloseError Factory)) → IsCloseWord f word r → Run (AtSeat i h) (seat w i h) word (seat v i h) → (r ≡ Ok tt) × Made (Closes q i h) rest v
+  pub close_counted : (word : List Letter) (r : Result (Unit {0}) (CloseError Registered)) → IsCloseWord f word r → Run (AtNode i h) (node_view w i h) word (node_view v i h) → (r ≡ Ok tt) × Made (Closes q i h) rest v
   close_counted word r is_word run =
       let done_ = closing f k (form.description x.description) here_segment w.counter (tag_of w i h) w.tickets joined_here.1 has_ticket is_word (from begin run) in
-      let shown = by_case _ (subst (λ n. Closed i h n f.ticket k (form.description x.description) here_segment w.counter (tag_of w i h) w.tickets (seat v i h)) (sym number) done_.1) refl in
+      let shown = by_case _ (subst (λ n. Closed i h n f.ticket k (form.description x.description) here_segment w.counter (tag_of w i h) w.tickets (node_view v i h)) (sym number) done_.1) refl in
       (done_.0, record { state = p; call = closed x k is_there counted; shows = shown.0; tickets = shown.1 })

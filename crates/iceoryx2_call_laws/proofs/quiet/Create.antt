@@ -16,17 +16,17 @@ use Rattle.iceoryx2_world.specs.World.{World, row_of, segment_of, phase_of, begi
 use Rattle.iceoryx2_world.specs.Steps.{alone, last_number}
 use Rattle.iceoryx2_access.specs.Letter.{Letter}
 use Rattle.iceoryx2_access.specs.Run.{Run}
-use Rattle.iceoryx2_world.specs.Access.{Seat, seat}
+use Rattle.iceoryx2_world.specs.Access.{NodeView, node_view}
 use Rattle.iceoryx2_world.proofs.agreement.Moved.{same_self, contains_alone, len_alone}
 use Rattle.iceoryx2_world.proofs.agreement.Whole.{own_hash}
 use Rattle.iceoryx2_pattern.specs.Meaning.{Meaning}
-use Rattle.iceoryx2_access.specs.Factory.{Factory}
+use Rattle.iceoryx2_access.specs.Registered.{Registered}
 use Rattle.iceoryx2_create_and_open.specs.Creates.{IsCreateWord, clock_stops, description_of}
 use Rattle.iceoryx2_call_laws.specs.Quiet.{Quiet, IsAbsent, ShowsService, Shows, service_at, is_counted}
 use Rattle.iceoryx2_call_laws.specs.QuietCalls.{Creates, created_by, with_service, spend}
 use Rattle.iceoryx2_call_laws.specs.QuietCalls as call
 use Rattle.iceoryx2_call_laws.specs.Tickets.{tickets_after}
-use Rattle.iceoryx2_call_laws.proofs.quiet.Seats.{Apart, AtSeat}
+use Rattle.iceoryx2_call_laws.proofs.quiet.NodeViews.{Apart, AtNode}
 use Rattle.iceoryx2_call_laws.proofs.quiet.Absent.{from, bare, joined, Founds, forbids, no_time, no_number, forgets, forgets_locked, founds, founding}
 use Rattle.iceoryx2_call_laws.proofs.quiet.Lift.{services_after, same_services, phase_beside, tag_beside, equal_or_not, not_same, other_node, no_node}
 use Rattle.iceoryx2_call_laws.proofs.quiet.Counts.{get_first_own, get_first_other, len_first}
@@ -42,40 +42,40 @@ module _ (i : ℕ) (h : ServiceHash) (w v : World) (q : Quiet) (a : Apart i h w 
   pub was_absent : IsAbsent (row_of w h) (segment_of w h) (λ j. phase_of w (Node j) h) (λ j. tag_of w j h)
   was_absent = subst (λ o. ShowsService w h o) gone (s.services h)
 
-  pub begin_absent : seat w i h ≡ bare (phase_of w (Node i) h) q.counter false w.tickets
-  begin_absent = λ k. record { spot = record { phase = phase_of w (Node i) h; row = was_absent.row k; segment = was_absent.segment k; counter = s.counter k }; tag = was_absent.tags i k; tickets = w.tickets }
+  pub begin_absent : node_view w i h ≡ bare (phase_of w (Node i) h) q.counter false w.tickets
+  begin_absent = λ k. record { view = record { phase = phase_of w (Node i) h; row = was_absent.row k; segment = was_absent.segment k; counter = s.counter k }; tag = was_absent.tags i k; tickets = w.tickets }
 
-  pub stays_absent : (y : Phase) (e : ℕ) → begins y ≡ true → seat v i h ≡ bare y e false w.tickets → Shows v (record q { counter = e })
+  pub stays_absent : (y : Phase) (e : ℕ) → begins y ≡ true → node_view v i h ≡ bare y e false w.tickets → Shows v (record q { counter = e })
   stays_absent y e b is = record {
-    counter = ap (λ (x : Seat). x.spot.counter) is;
+    counter = ap (λ (x : NodeView). x.view.counter) is;
     services = services_after q (record q { counter = e }) None a s (same_services q h None gone) (record {
-      row = ap (λ (x : Seat). x.spot.row) is;
-      segment = ap (λ (x : Seat). x.spot.segment) is;
-      phases = λ j. elim (equal_or_not j i) [ inl x ↦ rw (x, ap (λ (z : Seat). z.spot.phase) is) b | inr x ↦ rw (phase_beside a j x) (was_absent.phases j) ];
-      tags = λ j. elim (equal_or_not j i) [ inl x ↦ rw x (ap (λ (z : Seat). z.tag) is) | inr x ↦ tag_beside a j x ∙ was_absent.tags j ];
+      row = ap (λ (x : NodeView). x.view.row) is;
+      segment = ap (λ (x : NodeView). x.view.segment) is;
+      phases = λ j. elim (equal_or_not j i) [ inl x ↦ rw (x, ap (λ (z : NodeView). z.view.phase) is) b | inr x ↦ rw (phase_beside a j x) (was_absent.phases j) ];
+      tags = λ j. elim (equal_or_not j i) [ inl x ↦ rw x (ap (λ (z : NodeView). z.tag) is) | inr x ↦ tag_beside a j x ∙ was_absent.tags j ];
     });
   }
 
-  stands : (d : Description) → IsDescription d → d.hash ≡ h → seat v i h ≡ joined i h q.counter (max_nodes_of d.pattern) (form.description d) (q.counter + 1) w.tickets → Shows v (spend (with_service q h (Some (created_by i d q.counter))))
+  stands : (d : Description) → IsDescription d → d.hash ≡ h → node_view v i h ≡ joined i h q.counter (max_nodes_of d.pattern) (form.description d) (q.counter + 1) w.tickets → Shows v (spend (with_service q h (Some (created_by i d q.counter))))
   stands d limits hash is =
       let x = created_by i d q.counter in
       record {
-        counter = ap (λ (z : Seat). z.spot.counter) is;
+        counter = ap (λ (z : NodeView). z.view.counter) is;
         services = services_after q (spend (with_service q h (Some x))) (Some x) a s (λ g. get-insert hash_total q.services h x g) (record {
           limits = limits;
           hash = hash;
-          row = ap (λ (z : Seat). z.spot.row) is;
+          row = ap (λ (z : NodeView). z.view.row) is;
           nodes = alone (Node i);
-          segment = ap (λ (z : Seat). z.spot.segment) is;
+          segment = ap (λ (z : NodeView). z.view.segment) is;
           members = members x.number d;
           as_many = len_alone (Node i) ∙ sym (len_first i);
           one_or_more = omega (arith, len_first i);
           phases = λ j. elim (equal_or_not j i) [
-            | inl e ↦ rw (e, get_first_own i) (ap (λ (z : Seat). z.spot.phase) is, omega arith)
+            | inl e ↦ rw (e, get_first_own i) (ap (λ (z : NodeView). z.view.phase) is, omega arith)
             | inr e ↦ rw (get_first_other i j e, phase_beside a j e) (was_absent.phases j)
           ];
           tags = λ j. elim (equal_or_not j i) [
-            | inl e ↦ rw (e, get_first_own i) (ap (λ (z : Seat). z.tag) is)
+            | inl e ↦ rw (e, get_first_own i) (ap (λ (z : NodeView). z.tag) is)
             | inr e ↦ rw (get_first_other i j e) (tag_beside a j e ∙ was_absent.tags j)
           ];
         });
@@ -92,7 +92,7 @@ module _ {F E C : Type 0} (m : Meaning F E C) (i : ℕ) (h : ServiceHash) (name 
   abbrev d : Description
   d = description_of m i h name now
 
-  abbrev MadeHere : Result Factory C → Type 0
+  abbrev MadeHere : Result Registered C → Type 0
   MadeHere r = Made (Creates m q i h name now r) (tickets_after w.tickets r) v
 
   has_number : nat_lt q.counter last_number ≡ true → q.counter < last_number
@@ -101,13 +101,13 @@ module _ {F E C : Type 0} (m : Meaning F E C) (i : ℕ) (h : ServiceHash) (name 
   has_no_number : nat_lt q.counter last_number ≡ false → last_number ≤ q.counter
   has_no_number e = grind (arith, nat_tests, e)
 
-  made : (r : Result Factory C) (x : Seat) → Founds m i h (clock_stops m.needs_clock now) d q.counter w.tickets r x → seat v i h ≡ x → MadeHere r
-  made r x (forbids b bad) is = record { state = q; call = call.forbidden bad; shows = stays_absent i h w v q a s gone _ q.counter b is; tickets = ap (λ (z : Seat). z.tickets) is }
-  made r x (no_time b fits stops) is = record { state = q; call = call.no_time fits gone stops; shows = stays_absent i h w v q a s gone _ q.counter b is; tickets = ap (λ (z : Seat). z.tickets) is }
-  made r x (no_number b fits runs end) is = record { state = q; call = call.no_number fits gone runs (has_no_number end); shows = stays_absent i h w v q a s gone _ q.counter b is; tickets = ap (λ (z : Seat). z.tickets) is }
-  made r x (forgets b fits) is = record { state = q; call = call.no_memory fits; shows = stays_absent i h w v q a s gone _ q.counter b is; tickets = ap (λ (z : Seat). z.tickets) is }
-  made r x (forgets_locked b fits runs room) is = record { state = spend q; call = call.no_memory_locked fits gone runs (has_number room); shows = stays_absent i h w v q a s gone _ (q.counter + 1) b is; tickets = ap (λ (z : Seat). z.tickets) is }
-  made r x (founds limits fits runs room) is = record { state = spend (with_service q h (Some (created_by i d q.counter))); call = call.created fits gone runs (has_number room); shows = stands i h w v q a s gone d limits refl is; tickets = ap (λ (z : Seat). z.tickets) is }
+  made : (r : Result Registered C) (x : NodeView) → Founds m i h (clock_stops m.needs_clock now) d q.counter w.tickets r x → node_view v i h ≡ x → MadeHere r
+  made r x (forbids b bad) is = record { state = q; call = call.forbidden bad; shows = stays_absent i h w v q a s gone _ q.counter b is; tickets = ap (λ (z : NodeView). z.tickets) is }
+  made r x (no_time b fits stops) is = record { state = q; call = call.no_time fits gone stops; shows = stays_absent i h w v q a s gone _ q.counter b is; tickets = ap (λ (z : NodeView). z.tickets) is }
+  made r x (no_number b fits runs end) is = record { state = q; call = call.no_number fits gone runs (has_no_number end); shows = stays_absent i h w v q a s gone _ q.counter b is; tickets = ap (λ (z : NodeView). z.tickets) is }
+  made r x (forgets b fits) is = record { state = q; call = call.no_memory fits; shows = stays_absent i h w v q a s gone _ q.counter b is; tickets = ap (λ (z : NodeView). z.tickets) is }
+  made r x (forgets_locked b fits runs room) is = record { state = spend q; call = call.no_memory_locked fits gone runs (has_number room); shows = stays_absent i h w v q a s gone _ (q.counter + 1) b is; tickets = ap (λ (z : NodeView). z.tickets) is }
+  made r x (founds limits fits runs room) is = record { state = spend (with_service q h (Some (created_by i d q.counter))); call = call.created fits gone runs (has_number room); shows = stands i h w v q a s gone d limits refl is; tickets = ap (λ (z : NodeView). z.tickets) is }
 
-  pub create_absent : (r : Result Factory C) (word : List Letter) → nat_lt 0 (max_nodes_of d.pattern) ≡ true → IsCreateWord m i h name now word r → Run (AtSeat i h) (seat w i h) word (seat v i h) → MadeHere r
+  pub create_absent : (r : Result Registered C) (word : List Letter) → nat_lt 0 (max_nodes_of d.pattern) ≡ true → IsCreateWord m i h name now word r → Run (AtNode i h) (node_view w i h) word (node_view v i h) → MadeHere r
   create_absent r word positive is_word run = made r _ (founding m i h (clock_stops m.needs_clock now) d (phase_of w (Node i) h) q.counter w.tickets ((was_absent i h w v q a s gone).phases i) positive (own_hash h) is_word (from (begin_absent i h w v q a s gone) run)) refl

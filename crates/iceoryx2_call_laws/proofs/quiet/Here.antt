@@ -8,10 +8,10 @@ use Rattle.iceoryx2_create_and_open.specs.declared.look.Outcome.{Outcome}
 use Rattle.iceoryx2_pattern.specs.declared.pattern.CreateRefusal.{CreateRefusal}
 use Rattle.iceoryx2_errors.specs.declared.error.CloseError.{CloseError}
 use Rattle.iceoryx2_pattern.specs.Meaning.{Meaning}
-use Rattle.iceoryx2_access.specs.Factory.{Factory}
+use Rattle.iceoryx2_access.specs.Registered.{Registered}
 use Rattle.iceoryx2_create_and_open.specs.Looks.{IsLookWord}
 use Rattle.iceoryx2_create_and_open.specs.Looks as look
-use Rattle.iceoryx2_create_and_open.specs.GivesBack.{GivesBack, Thing}
+use Rattle.iceoryx2_create_and_open.specs.GivesBack.{GivesBack, MadeByCall}
 use Rattle.iceoryx2_create_and_open.specs.GivesBack as back
 use Rattle.iceoryx2_create_and_open.specs.Segments.{IsSegmentWord, clearings}
 use Rattle.iceoryx2_create_and_open.specs.declared.create.TheConstants.{CLEARING_LIMIT}
@@ -22,10 +22,10 @@ use Rattle.iceoryx2_create_and_open.specs.Opens.{IsReady, IsFailedRound, IsLastR
 use Rattle.iceoryx2_create_and_open.specs.Opens as opening
 use Rattle.iceoryx2_port_factory.specs.Closes.{IsCloseWord}
 use Rattle.iceoryx2_port_factory.specs.Closes as closing
-use Rattle.iceoryx2_call_laws.proofs.quiet.Seats.{AllHere, none, more, all_both}
+use Rattle.iceoryx2_call_laws.proofs.quiet.NodeViews.{AllHere, none, more, all_both}
 
 module _ {i : ℕ} {h : ServiceHash} where
-  pub back_here : {ts : List Thing} {w : List Letter} → GivesBack i h ts w → AllHere i h w
+  pub back_here : {ts : List MadeByCall} {w : List Letter} → GivesBack i h ts w → AllHere i h w
   back_here back.nothing_left = none
   back_here (back.segment_back a r) = more (refl, refl) (back_here r)
   back_here (back.lock_back a r) = more (refl, refl) (back_here r)
@@ -55,13 +55,13 @@ module _ {F E C : Type 0} {m : Meaning F E C} {i : ℕ} {h : ServiceHash} where
   entry_here (create.no_tag e l) = all_both (look_here l) (more (refl, refl) (more (refl, refl) none))
   entry_here (create.entered t l) = all_both (look_here l) (more (refl, refl) (more (refl, refl) none))
 
-  service_here : {d : Description} {tag : Tag} {w : List Letter} {r : Result Factory C} → IsServiceWord m i h d tag w r → AllHere i h w
+  service_here : {d : Description} {tag : Tag} {w : List Letter} {r : Result Registered C} → IsServiceWord m i h d tag w r → AllHere i h w
   service_here (create.not_locked z g) = more (refl, refl) (back_here g)
   service_here (create.no_segment s g) = more (refl, refl) (all_both (segment_here s) (back_here g))
   service_here (create.not_published z s g) = more (refl, refl) (all_both (segment_here s) (more (refl, refl) (back_here g)))
   service_here (create.published n t s) = more (refl, refl) (all_both (segment_here s) (more (refl, refl) none))
 
-  pub create_here : {stops : Bool} {d : Description} {w : List Letter} {r : Result Factory C} → IsCreating m i h stops d w r → AllHere i h w
+  pub create_here : {stops : Bool} {d : Description} {w : List Letter} {r : Result Registered C} → IsCreating m i h stops d w r → AllHere i h w
   create_here (create.forbidden _) = none
   create_here (create.not_entered _ e) = entry_here e
   create_here (create.clock_fault _ _ e g) = all_both (entry_here e) (back_here g)
@@ -73,7 +73,7 @@ module _ {F E C : Type 0} {m : Meaning F E C} {i : ℕ} {h : ServiceHash} where
   failed_here : {w : List Letter} → IsFailedRound m i h w → AllHere i h w
   failed_here (opening.failed r l g) = all_both (ready_here r) (more (refl, refl) (all_both (look_here l) (back_here g)))
 
-  last_here : {w : List Letter} {r : Result Factory E} → IsLastRound m i h w r → AllHere i h w
+  last_here : {w : List Letter} {r : Result Registered E} → IsLastRound m i h w r → AllHere i h w
   last_here (opening.look_faulty l) = look_here l
   last_here (opening.look_none l) = look_here l
   last_here (opening.not_accepted l e) = look_here l
@@ -87,11 +87,11 @@ module _ {F E C : Type 0} {m : Meaning F E C} {i : ℕ} {h : ServiceHash} where
   rounds_here opening.no_round = none
   rounds_here (opening.one_more rs r) = all_both (rounds_here rs) (failed_here r)
 
-  pub open_here : {w : List Letter} {r : Result Factory E} → IsOpenWord m i h w r → AllHere i h w
+  pub open_here : {w : List Letter} {r : Result Registered E} → IsOpenWord m i h w r → AllHere i h w
   open_here (opening.ended _ rs r) = all_both (rounds_here rs) (last_here r)
   open_here (opening.all_failed rs) = rounds_here rs
 
-pub close_here : {f : Factory} {w : List Letter} {r : Result (Unit {0}) (CloseError Factory)} → IsCloseWord f w r → AllHere f.node f.description.hash w
+pub close_here : {f : Registered} {w : List Letter} {r : Result (Unit {0}) (CloseError Registered)} → IsCloseWord f w r → AllHere f.node f.description.hash w
 close_here closing.not_here = more (refl, refl) none
 close_here closing.still_counted = more (refl, refl) none
 close_here (closing.left tag) = more (refl, refl) (more (refl, refl) none)

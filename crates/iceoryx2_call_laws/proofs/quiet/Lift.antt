@@ -15,7 +15,7 @@ use Rattle.iceoryx2_world.specs.World.{World, phase_of, tag_of}
 use Rattle.iceoryx2_world.proofs.agreement.Moved.{same, same_is}
 use Rattle.iceoryx2_world.proofs.agreement.Whole.{own_hash, same_hash}
 use Rattle.iceoryx2_call_laws.specs.Quiet.{QuietService, Quiet, service_at, ShowsAt, ShowsService, Shows}
-use Rattle.iceoryx2_call_laws.proofs.quiet.Seats.{Apart, at_tag}
+use Rattle.iceoryx2_call_laws.proofs.quiet.NodeViews.{Apart, at_tag}
 
 and_false : (b : Bool) → (b && false) ≡ false
 and_false true = refl

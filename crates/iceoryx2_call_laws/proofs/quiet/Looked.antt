@@ -8,8 +8,8 @@ use Rattle.iceoryx2_world.specs.declared.world.Participant.TheVariants.{Node}
 use Rattle.iceoryx2_world.specs.World.{World, phase_of, segment_of, tag_of}
 use Rattle.iceoryx2_access.specs.Letter.{Letter}
 use Rattle.iceoryx2_access.specs.Run.{Run}
-use Rattle.iceoryx2_access.specs.Factory.{Factory}
-use Rattle.iceoryx2_world.specs.Access.{IsOwnPart, Seat, seat}
+use Rattle.iceoryx2_access.specs.Registered.{Registered}
+use Rattle.iceoryx2_world.specs.Access.{IsOwnPart, NodeView, node_view}
 use Rattle.iceoryx2_world.specs.Across.{Agrees}
 use Rattle.iceoryx2_world.specs.Standing.{Stands}
 use Rattle.iceoryx2_pattern.specs.Meaning.{Meaning}
@@ -23,7 +23,7 @@ use Rattle.iceoryx2_call_laws.proofs.quiet.Absent.{from, look_bare}
 use Rattle.iceoryx2_call_laws.proofs.quiet.Calls.{is_call}
 use Rattle.iceoryx2_call_laws.proofs.quiet.Create.{was_absent, begin_absent, stays_absent}
 use Rattle.iceoryx2_call_laws.proofs.quiet.Here.{look_here}
-use Rattle.iceoryx2_call_laws.proofs.quiet.Seats.{Apart, move_all}
+use Rattle.iceoryx2_call_laws.proofs.quiet.NodeViews.{Apart, move_all}
 use Rattle.iceoryx2_call_laws.proofs.quiet.There.{LooksThere, finds, look_there, still_counts, was_there, begin_there, stays_there}
 
 -- A word that left the machine as it was.
@@ -34,7 +34,7 @@ rests : {w v : World} {q : Quiet} {word : List Letter} → Shows v q → v.ticke
 rests {q = q} shows same run old = is_call (Err tt) (record { state = q; call = refl; shows = shows; tickets = same }) tt run old
 
 -- After it a call is what it would have been before.
-pub after_rest : {E : Type 0} (Calls : Quiet → Quiet → Type 0) {w u v : World} {q : Quiet} (answer : Result Factory E) → Shows w q → Rests w q u → IsCall u (Calls q) answer v → IsCall w (Calls q) answer v
+pub after_rest : {E : Type 0} (Calls : Quiet → Quiet → Type 0) {w u v : World} {q : Quiet} (answer : Result Registered E) → Shows w q → Rests w q u → IsCall u (Calls q) answer v → IsCall w (Calls q) answer v
 after_rest {E = E} Calls {w = w} {u = u} {v = v} answer s rest c = record {
   state = c.state;
   call = c.call;
@@ -48,7 +48,7 @@ after_rest {E = E} Calls {w = w} {u = u} {v = v} answer s rest c = record {
     same : u.counter ≡ w.counter
     same = rest.shows.counter ∙ ap (λ (p : Quiet). p.counter) rest.call ∙ sym s.counter
 
-    given : (r : Result Factory E) → IfOk r (λ x. Stands v x × (x.ticket ≡ u.counter)) → IfOk r (λ x. Stands v x × (x.ticket ≡ w.counter))
+    given : (r : Result Registered E) → IfOk r (λ x. Stands v x × (x.ticket ≡ u.counter)) → IfOk r (λ x. Stands v x × (x.ticket ≡ w.counter))
     given (Ok x) g = (g.0, g.1 ∙ same)
     given (Err e) g = tt
 
@@ -66,15 +66,15 @@ module _ {F E C : Type 0} (m : Meaning F E C) (i : ℕ) (h : ServiceHash) {w v :
   look_rests_absent gone l run =
       let all = move_all i h (look_here l) run in
       let at = look_bare m i h (phase_of w (Node i) h) q.counter false w.tickets l (from (begin_absent i h w v q all.apart s gone) all.at) in
-      (at.0, rests (stays_absent i h w v q all.apart s gone _ q.counter ((was_absent i h w v q all.apart s gone).phases i) at.1) (ap (λ (z : Seat). z.tickets) at.1) run old)
+      (at.0, rests (stays_absent i h w v q all.apart s gone _ q.counter ((was_absent i h w v q all.apart s gone).phases i) at.1) (ap (λ (z : NodeView). z.tickets) at.1) run old)
 
   -- where it is there, it may find it
   module _ (x : QuietService) (is_there : service_at q h ≡ Some x) where
-    found_by : {n : ℕ} {d : Description} {t : Seat} {word : List Letter} (a : Apart i h w v) → Run IsOwnPart w word v → seat v i h ≡ t
+    found_by : {n : ℕ} {d : Description} {t : NodeView} {word : List Letter} (a : Apart i h w v) → Run IsOwnPart w word v → node_view v i h ≡ t
         → LooksThere i h x.number (form.description x.description) (segment_of w h) w.counter (tag_of w i h) w.tickets m x.description (was_there i h w v q a s x is_there).limits (was_there i h w v q a s x is_there).hash refl (phase_of w (Node i) h) (outcome.Found n d) t
         → FindsIt m w q v x
     found_by a run is (finds p good) = record {
-      rest = rests (stays_there i h w v q a s x is_there _ (still_counts (times_counted x i) p ((was_there i h w v q a s x is_there).phases i)) is) (ap (λ (z : Seat). z.tickets) is) run old;
+      rest = rests (stays_there i h w v q a s x is_there _ (still_counts (times_counted x i) p ((was_there i h w v q a s x is_there).phases i)) is) (ap (λ (z : NodeView). z.tickets) is) run old;
       fits = good;
     }
 

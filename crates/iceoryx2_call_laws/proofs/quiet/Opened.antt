@@ -18,35 +18,35 @@ use Rattle.iceoryx2_world.specs.World.{World, row_of, segment_of, phase_of, Tick
 use Rattle.iceoryx2_world.specs.Steps.{last_number}
 use Rattle.iceoryx2_access.specs.Letter.{Letter}
 use Rattle.iceoryx2_access.specs.Run.{Run}
-use Rattle.iceoryx2_world.specs.Access.{Seat, seat}
+use Rattle.iceoryx2_world.specs.Access.{NodeView, node_view}
 use Rattle.iceoryx2_world.specs.Across.{Agrees}
 use Rattle.iceoryx2_world.proofs.agreement.Moved.{contains_inserted}
 use Rattle.iceoryx2_world.proofs.agreement.Few.{few_tickets}
 use Rattle.iceoryx2_pattern.specs.Meaning.{Meaning}
-use Rattle.iceoryx2_access.specs.Factory.{Factory}
+use Rattle.iceoryx2_access.specs.Registered.{Registered}
 use Rattle.iceoryx2_create_and_open.specs.Opens.{IsOpenWord}
 use Rattle.iceoryx2_call_laws.specs.Quiet.{NodeCounts, QuietService, Quiet, IsThere, Shows, CountIs, service_at, times_counted, is_counted}
 use Rattle.iceoryx2_pattern.specs.Regular.{IsRegular}
 use Rattle.iceoryx2_call_laws.specs.QuietCalls.{Opens, HasPlace, more_counts, opened_by, with_service, spend}
 use Rattle.iceoryx2_call_laws.specs.QuietCalls as call
 use Rattle.iceoryx2_call_laws.specs.Tickets.{tickets_after}
-use Rattle.iceoryx2_call_laws.proofs.quiet.Seats.{Apart, AtSeat}
-use Rattle.iceoryx2_call_laws.proofs.quiet.Absent.{at_seat, from}
+use Rattle.iceoryx2_call_laws.proofs.quiet.NodeViews.{Apart, AtNode}
+use Rattle.iceoryx2_call_laws.proofs.quiet.Absent.{at_node, from}
 use Rattle.iceoryx2_call_laws.proofs.quiet.Lift.{services_after, phase_beside, tag_beside, equal_or_not, not_same, other_node, no_node}
 use Rattle.iceoryx2_call_laws.proofs.quiet.Counts.{get_more_own, get_more_other, len_more_new, len_more_old}
 use Rattle.iceoryx2_call_laws.proofs.quiet.Create.{Made, was_absent, begin_absent, stays_absent}
 use Rattle.iceoryx2_call_laws.proofs.quiet.There.{was_there, stays_there}
-use Rattle.iceoryx2_call_laws.proofs.quiet.Open.{opening_absent, stood, joined_seat, Place, OpensHere, starves, bad, unfit, no_place, no_number, opens, opening_there}
+use Rattle.iceoryx2_call_laws.proofs.quiet.Open.{opening_absent, stood, joined_view, Place, OpensHere, starves, bad, unfit, no_place, no_number, opens, opening_there}
 
 module _ {F E C : Type 0} (m : Meaning F E C) (i : ℕ) (h : ServiceHash) (w v : World) (q : Quiet) (a : Apart i h w v) (s : Shows w q) (gone : service_at q h ≡ None) where
-  pub open_absent : (r : Result Factory E) (word : List Letter) → IsOpenWord m i h word r → Run (AtSeat i h) (seat w i h) word (seat v i h) → Made (Opens m q i h r) (tickets_after w.tickets r) v
+  pub open_absent : (r : Result Registered E) (word : List Letter) → IsOpenWord m i h word r → Run (AtNode i h) (node_view w i h) word (node_view v i h) → Made (Opens m q i h r) (tickets_after w.tickets r) v
   open_absent r word is_word run =
       let e = opening_absent m i h (phase_of w (Node i) h) q.counter w.tickets is_word (from (begin_absent i h w v q a s gone) run) in
       subst (λ r. Made (Opens m q i h r) (tickets_after w.tickets r) v) (sym e.0) (record {
         state = q;
         call = call.absent gone;
         shows = stays_absent i h w v q a s gone (phase_of w (Node i) h) q.counter ((was_absent i h w v q a s gone).phases i) e.1;
-        tickets = ap (λ (z : Seat). z.tickets) e.1;
+        tickets = ap (λ (z : NodeView). z.tickets) e.1;
       })
 
 module _ (i : ℕ) (h : ServiceHash) (w v : World) (q : Quiet) (a : Apart i h w v) (s : Shows w q) (x : QuietService) (is_there : service_at q h ≡ Some x) where
@@ -69,20 +69,20 @@ module _ (i : ℕ) (h : ServiceHash) (w v : World) (q : Quiet) (a : Apart i h w 
   more_tickets = map.insert w.tickets q.counter (record { node = i; hash = h; number = x.number })
 
   opened_on : (f : Phase) (nodes : set.FinSet participant_cmp) → CountIs x.number f (Some new) → set.len nodes ≡ map.len more → 1 ≤ map.len more → set.contains nodes (Node i) ≡ true → ((z : Participant) → z ≢ Node i → set.contains nodes z ≡ set.contains was.nodes z)
-      → seat v i h ≡ at_seat f (Some (row.Published x.number (form.description x.description))) (Some (record { number = x.number; capacity = max_nodes_of x.description.pattern; participants = nodes; marked = false })) (q.counter + 1) true more_tickets → Shows v p
+      → node_view v i h ≡ at_node f (Some (row.Published x.number (form.description x.description))) (Some (record { number = x.number; capacity = max_nodes_of x.description.pattern; participants = nodes; marked = false })) (q.counter + 1) true more_tickets → Shows v p
   opened_on f nodes count len some member members is = record {
-    counter = ap (λ (z : Seat). z.spot.counter) is;
+    counter = ap (λ (z : NodeView). z.view.counter) is;
     services = services_after q p (Some y) a s (λ g. get-insert hash_total q.services h y g) (record {
       limits = was.limits;
       hash = was.hash;
-      row = ap (λ (z : Seat). z.spot.row) is;
+      row = ap (λ (z : NodeView). z.view.row) is;
       nodes = nodes;
-      segment = ap (λ (z : Seat). z.spot.segment) is;
+      segment = ap (λ (z : NodeView). z.view.segment) is;
       members = both;
       as_many = len;
       one_or_more = some;
-      phases = λ j. elim (equal_or_not j i) [ inl e ↦ rw (e, ap (λ (z : Seat). z.spot.phase) is, get_more_own x.counts i) count | inr e ↦ rw (get_more_other x.counts i j e, phase_beside a j e) (was.phases j) ];
-      tags = λ j. elim (equal_or_not j i) [ inl e ↦ rw e (ap (λ (z : Seat). z.tag) is ∙ sym (ap is_some (get_more_own x.counts i))) | inr e ↦ tag_beside a j e ∙ was.tags j ∙ sym (ap is_some (get_more_other x.counts i j e)) ];
+      phases = λ j. elim (equal_or_not j i) [ inl e ↦ rw (e, ap (λ (z : NodeView). z.view.phase) is, get_more_own x.counts i) count | inr e ↦ rw (get_more_other x.counts i j e, phase_beside a j e) (was.phases j) ];
+      tags = λ j. elim (equal_or_not j i) [ inl e ↦ rw e (ap (λ (z : NodeView). z.tag) is ∙ sym (ap is_some (get_more_own x.counts i))) | inr e ↦ tag_beside a j e ∙ was.tags j ∙ sym (ap is_some (get_more_other x.counts i j e)) ];
     });
   }
     where
@@ -90,7 +90,7 @@ module _ (i : ℕ) (h : ServiceHash) (w v : World) (q : Quiet) (a : Apart i h w 
       both (Node j) = elim (equal_or_not j i) [ inl e ↦ rw e (member ∙ sym (ap is_some (get_more_own x.counts i))) | inr e ↦ members (Node j) (other_node j i e) ∙ was.members (Node j) ∙ sym (ap is_some (get_more_other x.counts i j e)) ]
       both (Peer j) = members (Peer j) (no_node j i) ∙ was.members (Peer j)
 
-  pub shows_opened : (o : Option ℕ) → times_counted x i ≡ o → seat v i h ≡ joined_seat i h x.number (max_nodes_of x.description.pattern) (form.description x.description) was.nodes q.counter w.tickets o → Shows v p
+  pub shows_opened : (o : Option ℕ) → times_counted x i ≡ o → node_view v i h ≡ joined_view i h x.number (max_nodes_of x.description.pattern) (form.description x.description) was.nodes q.counter w.tickets o → Shows v p
   shows_opened None e is =
       let zero_count : unwrap_or (times_counted x i) 0 ≡ 0 = ap (λ o. unwrap_or o 0) e in
       let one : 1 ≡ new = omega (arith, zero_count) in
@@ -118,11 +118,11 @@ module _ {F E C : Type 0} (m : Meaning F E C) (regular : IsRegular m) (i : ℕ) 
   abbrev before : IsThere h x (row_of w h) (segment_of w h) (λ j. phase_of w (Node j) h) (λ j. tag_of w j h)
   before = was_there i h w v q a s x is_there
 
-  abbrev here : Bool → Phase → Seat
+  abbrev here : Bool → Phase → NodeView
   here g f = stood i h x.number (max_nodes_of x.description.pattern) (form.description x.description) before.nodes q.counter w.tickets g f
 
-  begin : seat w i h ≡ here (is_some (times_counted x i)) (phase_of w (Node i) h)
-  begin = λ z. record { spot = record { phase = phase_of w (Node i) h; row = before.row z; segment = before.segment z; counter = s.counter z }; tag = before.tags i z; tickets = w.tickets }
+  begin : node_view w i h ≡ here (is_some (times_counted x i)) (phase_of w (Node i) h)
+  begin = λ z. record { view = record { phase = phase_of w (Node i) h; row = before.row z; segment = before.segment z; counter = s.counter z }; tag = before.tags i z; tickets = w.tickets }
 
   -- no node has opened it more often than there are tickets below the counter
   low : nat_lt q.counter last_number ≡ true → (j : ℕ) → times_counted x i ≡ Some j → nat_lt j last_number ≡ true
@@ -133,26 +133,26 @@ module _ {F E C : Type 0} (m : Meaning F E C) (regular : IsRegular m) (i : ℕ) 
       let under : j < last_number = omega (arith, held, few_tickets w old.numbered i h, above, s.counter) in
       grind (arith, nat_tests, under)
 
-  abbrev MadeHere : Result Factory E → Type 0
+  abbrev MadeHere : Result Registered E → Type 0
   MadeHere r = Made (Opens m q i h r) (tickets_after w.tickets r) v
 
-  kept : (r : Result Factory E) (f : Phase) → Opens m q i h r q → tickets_after w.tickets r ≡ w.tickets → CountIs x.number f (times_counted x i) → seat v i h ≡ here (is_some (times_counted x i)) f → MadeHere r
+  kept : (r : Result Registered E) (f : Phase) → Opens m q i h r q → tickets_after w.tickets r ≡ w.tickets → CountIs x.number f (times_counted x i) → node_view v i h ≡ here (is_some (times_counted x i)) f → MadeHere r
   kept r f call no_ticket count is = record {
     state = q;
     call = call;
-    shows = stays_there i h w v q a s x is_there f count (is ∙ (λ z. record { spot = record { phase = f; row = Some (row.Published x.number (form.description x.description)); segment = sym before.segment z; counter = sym s.counter z }; tag = sym (before.tags i) z; tickets = w.tickets }));
-    tickets = ap (λ (z : Seat). z.tickets) is ∙ sym no_ticket;
+    shows = stays_there i h w v q a s x is_there f count (is ∙ (λ z. record { view = record { phase = f; row = Some (row.Published x.number (form.description x.description)); segment = sym before.segment z; counter = sym s.counter z }; tag = sym (before.tags i) z; tickets = w.tickets }));
+    tickets = ap (λ (z : NodeView). z.tickets) is ∙ sym no_ticket;
   }
 
   place_of : Place i h x.number (max_nodes_of x.description.pattern) (form.description x.description) before.nodes q.counter w.tickets (times_counted x i) → HasPlace x i
   place_of (inl e) = inl e
   place_of (inr e) = let above : set.len before.nodes < max_nodes_of x.description.pattern = grind (arith, nat_tests, e) in inr (omega (arith, above, before.as_many))
 
-  joined_tickets : (o : Option ℕ) → (joined_seat i h x.number (max_nodes_of x.description.pattern) (form.description x.description) before.nodes q.counter w.tickets o).tickets ≡ map.insert w.tickets q.counter (record { node = i; hash = h; number = x.number })
+  joined_tickets : (o : Option ℕ) → (joined_view i h x.number (max_nodes_of x.description.pattern) (form.description x.description) before.nodes q.counter w.tickets o).tickets ≡ map.insert w.tickets q.counter (record { node = i; hash = h; number = x.number })
   joined_tickets None = refl
   joined_tickets (Some j) = refl
 
-  made : (r : Result Factory E) (u : Seat) → OpensHere i h x.number (max_nodes_of x.description.pattern) (form.description x.description) before.nodes q.counter w.tickets m regular x.description before.limits before.hash refl (times_counted x i) (phase_of w (Node i) h) (before.phases i) low r u → seat v i h ≡ u → MadeHere r
+  made : (r : Result Registered E) (u : NodeView) → OpensHere i h x.number (max_nodes_of x.description.pattern) (form.description x.description) before.nodes q.counter w.tickets m regular x.description before.limits before.hash refl (times_counted x i) (phase_of w (Node i) h) (before.phases i) low r u → node_view v i h ≡ u → MadeHere r
   made r u (starves count) is = kept r _ (call.no_memory x is_there) refl count is
   made r u (bad count e) is = kept r _ (call.misfit x is_there e) refl count is
   made r u (unfit count good e) is = kept r _ (call.not_accepted x is_there good e) refl count is
@@ -164,8 +164,8 @@ module _ {F E C : Type 0} (m : Meaning F E C) (regular : IsRegular m) (i : ℕ) 
         state = p i h w v q a s x is_there;
         call = call.opened x is_there good fits (place_of place) lt;
         shows = shows_opened i h w v q a s x is_there (times_counted x i) refl is;
-        tickets = ap (λ (z : Seat). z.tickets) is ∙ joined_tickets (times_counted x i) ∙ ap (λ g. map.insert w.tickets q.counter (record { node = i; hash = g; number = x.number })) (sym before.hash);
+        tickets = ap (λ (z : NodeView). z.tickets) is ∙ joined_tickets (times_counted x i) ∙ ap (λ g. map.insert w.tickets q.counter (record { node = i; hash = g; number = x.number })) (sym before.hash);
       }
 
-  pub open_there : (r : Result Factory E) (word : List Letter) → IsOpenWord m i h word r → Run (AtSeat i h) (seat w i h) word (seat v i h) → MadeHere r
+  pub open_there : (r : Result Registered E) (word : List Letter) → IsOpenWord m i h word r → Run (AtNode i h) (node_view w i h) word (node_view v i h) → MadeHere r
   open_there r word is_word run = made r _ (opening_there i h x.number (max_nodes_of x.description.pattern) (form.description x.description) before.nodes q.counter w.tickets m regular x.description before.limits before.hash refl (times_counted x i) (phase_of w (Node i) h) (before.phases i) low is_word (from begin run)) refl

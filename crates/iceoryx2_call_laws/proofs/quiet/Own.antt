@@ -2,7 +2,7 @@
 use Rattle.std.proofs.Common.{◌≡◌, ℕ, Some, Result, Ok, ◌⊎◌, inl, inr, refl, sym, ap, ◌∙◌}
 use Rattle.std.specs.Prelude.{None, IfErr}
 use Rattle.iceoryx2_description.specs.Description.{Description}
-use Rattle.iceoryx2_access.specs.Factory.{Factory}
+use Rattle.iceoryx2_access.specs.Registered.{Registered}
 use Rattle.iceoryx2_pattern.specs.declared.pattern.OpenRefusal.TheVariants as refusal
 use Rattle.iceoryx2_pattern.specs.Verdict.{verdict}
 use Rattle.iceoryx2_create_and_open.specs.OwnSettings.{AcceptsOwn}
@@ -33,7 +33,7 @@ module _ {D F E C : Type 0} (c : AnyCall D F E C) (own : AcceptsOwn (creating c)
   given_accepted ToOpen d meets = meets.accepted
   given_accepted ToOpenOrCreate d carries = either_accepted d (carries raises)
 
-  pub opens_own : (node : ℕ) (q p : Quiet) (f : Factory) (w : World) (answer : Result Factory E)
+  pub opens_own : (node : ℕ) (q p : Quiet) (f : Registered) (w : World) (answer : Result Registered E)
       → IsOpenAsAsked c w f → Shows w q
       → ((x : QuietService) → service_at q c.asks.hash ≡ Some x → HasPlace x node) → HasNumber q → Opens (opening c) q node c.asks.hash answer p
       → IfErr answer (λ e. e ≡ (opening c).open_refusal refusal.OutOfMemory)

@@ -2,7 +2,7 @@
 use Rattle.std.proofs.Common.{List, [], Result, Ok, Err, sym, ap, subst}
 use Rattle.iceoryx2_access.specs.Letter.{Letter}
 use Rattle.iceoryx2_access.specs.Run.{Run}
-use Rattle.iceoryx2_access.specs.Factory.{Factory}
+use Rattle.iceoryx2_access.specs.Registered.{Registered}
 use Rattle.iceoryx2_world.specs.World.{World}
 use Rattle.iceoryx2_world.specs.Access.{IsOwnPart}
 use Rattle.iceoryx2_world.specs.Across.{Agrees}
@@ -14,9 +14,9 @@ use Rattle.iceoryx2_call_laws.specs.QuietLaws.{IsCall}
 use Rattle.iceoryx2_call_laws.specs.QuietPrepared.{PreparesFirst, unprepared, prepared}
 use Rattle.iceoryx2_call_laws.proofs.calls.Prepared.{nowhere}
 
-module _ {E : Type 0} {no_memory : E} {q : Quiet} {Calls : Result Factory E → Quiet → Type 0} where
+module _ {E : Type 0} {no_memory : E} {q : Quiet} {Calls : Result Registered E → Quiet → Type 0} where
   -- whatever it answers, where it is also so of want of memory that changes nothing
-  pub each_prepared : (P : Result Factory E → Quiet → Type 0) → P (Err no_memory) q → ((answer : Result Factory E) (p : Quiet) → Calls answer p → P answer p) → {answer : Result Factory E} {p : Quiet} → PreparesFirst no_memory q Calls answer p → P answer p
+  pub each_prepared : (P : Result Registered E → Quiet → Type 0) → P (Err no_memory) q → ((answer : Result Registered E) (p : Quiet) → Calls answer p → P answer p) → {answer : Result Registered E} {p : Quiet} → PreparesFirst no_memory q Calls answer p → P answer p
   each_prepared P unchanged of_call unprepared = unchanged
   each_prepared P unchanged of_call (prepared {answer = answer} {p = p} is) = of_call answer p is
 
@@ -26,7 +26,7 @@ module _ {E : Type 0} {no_memory : E} {q : Quiet} {Calls : Result Factory E → 
   refused_prepared P unchanged of_call {error = error} (prepared {p = p} is) = of_call error p is
 
   -- where it is granted
-  pub granted_prepared : {r : Factory} {p : Quiet} → PreparesFirst no_memory q Calls (Ok r) p → Calls (Ok r) p
+  pub granted_prepared : {r : Registered} {p : Quiet} → PreparesFirst no_memory q Calls (Ok r) p → Calls (Ok r) p
   granted_prepared (prepared is) = is
 
   -- A call without an access over a world that shows q.
@@ -44,8 +44,8 @@ module _ {E : Type 0} {no_memory : E} {q : Quiet} {Calls : Result Factory E → 
       }
 
   -- Where each word of a call is a call of the machine, it is so where the call may prepare its types first.
-  pub prepared_follows : {IsWord : List Letter → Result Factory E → Type 0} {word : List Letter} {answer : Result Factory E} (w v : World) → Shows w q → Agrees w
-      → ((word : List Letter) (answer : Result Factory E) → IsWord word answer → Run IsOwnPart w word v → IsCall w (Calls answer) answer v)
+  pub prepared_follows : {IsWord : List Letter → Result Registered E → Type 0} {word : List Letter} {answer : Result Registered E} (w v : World) → Shows w q → Agrees w
+      → ((word : List Letter) (answer : Result Registered E) → IsWord word answer → Run IsOwnPart w word v → IsCall w (Calls answer) answer v)
       → IsPrepared no_memory IsWord word answer → Run IsOwnPart w word v → IsCall w (PreparesFirst no_memory q Calls answer) answer v
   prepared_follows w v shows old follows =
       each_call (λ word answer. Run IsOwnPart w word v → IsCall w (PreparesFirst no_memory q Calls answer) answer v)

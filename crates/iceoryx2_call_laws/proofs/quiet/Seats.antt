@@ -9,19 +9,19 @@ use Rattle.iceoryx2_world.specs.declared.world.Participant.TheVariants.{Node}
 use Rattle.iceoryx2_description.specs.declared.description.ServiceHash.{ServiceHash}
 use Rattle.iceoryx2_world.specs.Orders.{hash_cmp, tag_cmp, tag_total}
 use Rattle.iceoryx2_world.specs.World.{World, row_of, segment_of, phase_of, Tickets, tag_of}
-use Rattle.iceoryx2_world.specs.Steps.{Spot}
+use Rattle.iceoryx2_world.specs.Steps.{ServiceView}
 use Rattle.iceoryx2_access.specs.Letter.{Letter, caller_of, service_of}
 use Rattle.iceoryx2_access.specs.Letter as letter
 use Rattle.iceoryx2_access.specs.Run.{Run, done, next}
-use Rattle.iceoryx2_world.specs.Access.{Seat, Change, seat, set_tag, write, seat_after, nothing, existence, IsSeatAnswer, IsOwnPart}
+use Rattle.iceoryx2_world.specs.Access.{NodeView, Change, node_view, set_tag, write, node_view_after, nothing, existence, IsNodeAnswer, IsOwnPart}
 use Rattle.iceoryx2_world.proofs.agreement.Moved.{same, same_self}
 use Rattle.iceoryx2_world.proofs.agreement.Whole.{row_put, segment_put, phase_put, own_hash}
 
 -- The letter at one seat.
-pub record AtSeat (i : ℕ) (h : ServiceHash) (s : Seat) (l : Letter) (t : Seat) : Type 0 where
+pub record AtNode (i : ℕ) (h : ServiceHash) (s : NodeView) (l : Letter) (t : NodeView) : Type 0 where
   pub change : Change
-  pub own : IsSeatAnswer i h s l change
-  pub is : t ≡ seat_after s change
+  pub own : IsNodeAnswer i h s l change
+  pub is : t ≡ node_view_after s change
 
 -- A letter of this node and this service.
 abbrev pub Here : ℕ → ServiceHash → Letter → Type 0
@@ -53,27 +53,27 @@ module _ (w : World) (i : ℕ) (h : ServiceHash) where
   tag_write : (o : Option Bool) → set.contains (set_tag w.tags (i, h) o) (i, h) ≡ unwrap_or o (tag_of w i h)
   tag_write o = contains-set_tag w.tags (i, h) (i, h) o ∙ ap (λ b. cond b (unwrap_or o (tag_of w i h)) (tag_of w i h)) (ap is_eq (tied_itself tag_total (i, h)))
 
-  pub seat_write : (c : Change) → seat (write w i h c) i h ≡ seat_after (seat w i h) c
-  seat_write c = spots c.spot c.tag c.tickets
+  pub node_view_write : (c : Change) → node_view (write w i h c) i h ≡ node_view_after (node_view w i h) c
+  node_view_write c = views c.view c.tag c.tickets
     where
-      spots : (x : Option Spot) (g : Option Bool) (k : Option Tickets) → seat (write w i h (record { spot = x; tag = g; tickets = k })) i h ≡ seat_after (seat w i h) (record { spot = x; tag = g; tickets = k })
-      spots None g k = let tag = tag_write g in λ j. record { spot = record { phase = phase_of w (Node i) h; row = row_of w h; segment = segment_of w h; counter = w.counter }; tag = tag j; tickets = unwrap_or k w.tickets }
-      spots (Some s) g k =
+      views : (x : Option ServiceView) (g : Option Bool) (k : Option Tickets) → node_view (write w i h (record { view = x; tag = g; tickets = k })) i h ≡ node_view_after (node_view w i h) (record { view = x; tag = g; tickets = k })
+      views None g k = let tag = tag_write g in λ j. record { view = record { phase = phase_of w (Node i) h; row = row_of w h; segment = segment_of w h; counter = w.counter }; tag = tag j; tickets = unwrap_or k w.tickets }
+      views (Some s) g k =
           let row = row_put w (Node i) h s h ∙ ap (λ b. cond b s.row (row_of w h)) (own_hash h) in
           let segment = segment_put w (Node i) h s h ∙ ap (λ b. cond b s.segment (segment_of w h)) (own_hash h) in
           let phase = phase_put w (Node i) h s (Node i) h ∙ ap (λ b. cond (b && is_eq (hash_cmp h h)) s.phase (phase_of w (Node i) h)) (same_self (Node i)) ∙ ap (λ b. cond b s.phase (phase_of w (Node i) h)) (own_hash h) in
           let tag = tag_write g in
-          λ j. record { spot = record { phase = phase j; row = row j; segment = segment j; counter = s.counter }; tag = tag j; tickets = unwrap_or k w.tickets }
+          λ j. record { view = record { phase = phase j; row = row j; segment = segment j; counter = s.counter }; tag = tag j; tickets = unwrap_or k w.tickets }
 
   tags_write : (o : Option Bool) (j : ℕ) (g : ServiceHash) → at_tag j g i h ≡ false → set.contains (set_tag w.tags (i, h) o) (j, g) ≡ tag_of w j g
   tags_write o j g e = contains-set_tag w.tags (i, h) (j, g) o ∙ ap (λ b. cond b (unwrap_or o (tag_of w j g)) (tag_of w j g)) e
 
   pub apart_write : (c : Change) → Apart i h w (write w i h c)
-  apart_write c = spots c.spot c.tag c.tickets
+  apart_write c = views c.view c.tag c.tickets
     where
-      spots : (x : Option Spot) (g : Option Bool) (k : Option Tickets) → Apart i h w (write w i h (record { spot = x; tag = g; tickets = k }))
-      spots None o k = record { rows = λ g e. refl; segments = λ g e. refl; phases = λ q g e. refl; tags = tags_write o }
-      spots (Some s) o k = record {
+      views : (x : Option ServiceView) (g : Option Bool) (k : Option Tickets) → Apart i h w (write w i h (record { view = x; tag = g; tickets = k }))
+      views None o k = record { rows = λ g e. refl; segments = λ g e. refl; phases = λ q g e. refl; tags = tags_write o }
+      views (Some s) o k = record {
         rows = λ g e. row_put w (Node i) h s g ∙ ap (λ b. cond b s.row (row_of w g)) e;
         segments = λ g e. segment_put w (Node i) h s g ∙ ap (λ b. cond b s.segment (segment_of w g)) e;
         phases = λ q g e. phase_put w (Node i) h s q g ∙ ap (λ b. cond b s.phase (phase_of w q g)) e;
@@ -82,20 +82,20 @@ module _ (w : World) (i : ℕ) (h : ServiceHash) where
 
 -- What an access of this seat gives there and elsewhere.
 pub record Moves (i : ℕ) (h : ServiceHash) (w : World) (l : Letter) (v : World) : Type 0 where
-  pub at : AtSeat i h (seat w i h) l (seat v i h)
+  pub at : AtNode i h (node_view w i h) l (node_view v i h)
   pub apart : Apart i h w v
 
-written : (w v : World) (i : ℕ) (h : ServiceHash) (l : Letter) (c : Change) → IsSeatAnswer i h (seat w i h) l c → v ≡ write w i h c → Moves i h w l v
-written w v i h l c own is = subst (λ (u : World). Moves i h w l u) (sym is) (record { at = record { change = c; own = own; is = seat_write w i h c }; apart = apart_write w i h c })
+written : (w v : World) (i : ℕ) (h : ServiceHash) (l : Letter) (c : Change) → IsNodeAnswer i h (node_view w i h) l c → v ≡ write w i h c → Moves i h w l v
+written w v i h l c own is = subst (λ (u : World). Moves i h w l u) (sym is) (record { at = record { change = c; own = own; is = node_view_write w i h c }; apart = apart_write w i h c })
 
-of_seat : (w v : World) (i : ℕ) (h : ServiceHash) (l : Letter) → caller_of l ≡ i → service_of l ≡ h → IsOwnPart w l v → Moves i h w l v
-of_seat w v i h l e f x = subst (λ j. Moves j h w l v) e (subst (λ g. Moves (caller_of l) g w l v) f (written w v (caller_of l) (service_of l) l x.change x.own x.is))
+of_node : (w v : World) (i : ℕ) (h : ServiceHash) (l : Letter) → caller_of l ≡ i → service_of l ≡ h → IsOwnPart w l v → Moves i h w l v
+of_node w v i h l e f x = subst (λ j. Moves j h w l v) e (subst (λ g. Moves (caller_of l) g w l v) f (written w v (caller_of l) (service_of l) l x.change x.own x.is))
 
 pub move : (i : ℕ) (h : ServiceHash) (w : World) (l : Letter) (v : World) → Here i h l → IsOwnPart w l v → Moves i h w l v
 move i h w (letter.Exists g a) v e x =
     let same_world : v ≡ w = x.is ∙ ap (write w 0 g) x.own.1 in
     subst (λ (u : World). Moves i h w (letter.Exists g a) u) (sym same_world) (record { at = record { change = nothing; own = (x.own.0 ∙ ap (λ k. existence (row_of w k)) e, refl); is = refl }; apart = apart_same i h w })
-move i h w l v e x = of_seat w v i h l e.0 e.1 x
+move i h w l v e x = of_node w v i h l e.0 e.1 x
 
 -- every letter is of this seat
 pub data AllHere (i : ℕ) (h : ServiceHash) : List Letter → Type 0 where
@@ -107,7 +107,7 @@ all_both none b = b
 all_both (more e a) b = more e (all_both a b)
 
 pub record MovesAll (i : ℕ) (h : ServiceHash) (w : World) (word : List Letter) (v : World) : Type 0 where
-  pub at : Run (AtSeat i h) (seat w i h) word (seat v i h)
+  pub at : Run (AtNode i h) (node_view w i h) word (node_view v i h)
   pub apart : Apart i h w v
 
 -- A run of accesses of one seat, at that seat.

@@ -17,14 +17,14 @@ use Rattle.iceoryx2_world.specs.World.{World, Segment, row_of, segment_of, phase
 use Rattle.iceoryx2_access.specs.Letter.{Letter}
 use Rattle.iceoryx2_access.specs.Letter as letter
 use Rattle.iceoryx2_access.specs.Run.{Run}
-use Rattle.iceoryx2_world.specs.Access.{Seat, seat, seat_after}
+use Rattle.iceoryx2_world.specs.Access.{NodeView, node_view, node_view_after}
 use Rattle.iceoryx2_access.proofs.Run.{head, split, last}
 use Rattle.iceoryx2_errors.specs.declared.error.ServiceState.TheVariants as state
 use Rattle.iceoryx2_create_and_open.specs.declared.look.Outcome.{Outcome}
 use Rattle.iceoryx2_create_and_open.specs.declared.look.Outcome.TheVariants as outcome
 use Rattle.iceoryx2_pattern.specs.declared.pattern.CreateRefusal.TheVariants as refusal
 use Rattle.iceoryx2_pattern.specs.Meaning.{Meaning}
-use Rattle.iceoryx2_access.specs.Factory.{Factory}
+use Rattle.iceoryx2_access.specs.Registered.{Registered}
 use Rattle.iceoryx2_create_and_open.specs.Looks.{LeadsTo, IsLookWord}
 use Rattle.iceoryx2_create_and_open.specs.Looks as look
 use Rattle.iceoryx2_create_and_open.specs.Creates.{IsEntryWord, IsCreateWord}
@@ -34,8 +34,8 @@ use Rattle.iceoryx2_pattern.specs.Regular.{IsRegular}
 use Rattle.iceoryx2_call_laws.specs.QuietCalls.{Creates}
 use Rattle.iceoryx2_call_laws.specs.QuietCalls as call
 use Rattle.iceoryx2_call_laws.specs.Tickets.{tickets_after}
-use Rattle.iceoryx2_call_laws.proofs.quiet.Seats.{Apart, AtSeat}
-use Rattle.iceoryx2_call_laws.proofs.quiet.Absent.{at_seat, ended, from}
+use Rattle.iceoryx2_call_laws.proofs.quiet.NodeViews.{Apart, AtNode}
+use Rattle.iceoryx2_call_laws.proofs.quiet.Absent.{at_node, ended, from}
 use Rattle.iceoryx2_call_laws.proofs.quiet.Lift.{services_after, same_services, phase_beside, tag_beside, equal_or_not}
 use Rattle.iceoryx2_call_laws.proofs.quiet.Create.{Made}
 
@@ -48,27 +48,27 @@ same_pair : {A B E : Type 0} {a c : A} {b d : B} → ◌≡◌ {A = Result (A ×
 same_pair {A = A} {B = B} {a = a} {c = c} {b = b} {d = d} e = let pair : ◌≡◌ {A = A × B} (a, b) (c, d) = cc in (ap (λ (p : A × B). p.0) pair, ap (λ (p : A × B). p.1) pair)
 
 module _ (i : ℕ) (h : ServiceHash) (n : ℕ) (b : List ℕ) (sg : Option Segment) (c : ℕ) (g : Bool) (k : Tickets) where
-  abbrev pub over : Phase → Seat
-  over x = at_seat x (Some (row.Published n b)) sg c g k
+  abbrev pub over : Phase → NodeView
+  over x = at_node x (Some (row.Published n b)) sg c g k
 
-  pub data Fetches (x : Phase) : Result (ℕ × List ℕ) FetchError → Seat → Type 0 where
+  pub data Fetches (x : Phase) : Result (ℕ × List ℕ) FetchError → NodeView → Type 0 where
     fetches : {y : Phase} → Fetched n x y → Fetches x (Ok (n, b)) (over y)
     starves : Fetches x (Err Fetching.OutOfMemory) (over x)
 
-  fetches_as : {x y : Phase} {a : Result (ℕ × List ℕ) FetchError} {t : Seat} → a ≡ Ok (n, b) → t ≡ over y → Fetched n x y → Fetches x a t
+  fetches_as : {x y : Phase} {a : Result (ℕ × List ℕ) FetchError} {t : NodeView} → a ≡ Ok (n, b) → t ≡ over y → Fetched n x y → Fetches x a t
   fetches_as {x = x} {t = t} e f p = subst (λ a. Fetches x a t) (sym e) (subst (λ t. Fetches x (Ok (n, b)) t) (sym f) (fetches p))
 
-  starves_as : {x : Phase} {a : Result (ℕ × List ℕ) FetchError} {t : Seat} → a ≡ Err Fetching.OutOfMemory → t ≡ over x → Fetches x a t
+  starves_as : {x : Phase} {a : Result (ℕ × List ℕ) FetchError} {t : NodeView} → a ≡ Err Fetching.OutOfMemory → t ≡ over x → Fetches x a t
   starves_as {x = x} {t = t} e f = subst (λ a. Fetches x a t) (sym e) (subst (λ t. Fetches x (Err Fetching.OutOfMemory) t) (sym f) starves)
 
-  fetch_there : (x : Phase) (a : Result (ℕ × List ℕ) FetchError) (t : Seat) → AtSeat i h (over x) (letter.Fetch i h a) t → Fetches x a t
-  fetch_there at.Idle a t r = elim (r.own) [ inl y ↦ fetches_as y.0 (r.is ∙ ap (seat_after _) y.1) (reads refl) | inr y ↦ starves_as y.0 (r.is ∙ ap (seat_after _) y.1) ]
-  fetch_there (at.Read m) a t r = elim (r.own) [ inl y ↦ fetches_as y.0 (r.is ∙ ap (seat_after _) y.1) (reads refl) | inr y ↦ starves_as y.0 (r.is ∙ ap (seat_after _) y.1) ]
-  fetch_there x a t r = elim (r.own) [ inl y ↦ fetches_as y.0 (r.is ∙ ap (seat_after _) y.1) (keeps refl) | inr y ↦ starves_as y.0 (r.is ∙ ap (seat_after _) y.1) ]
+  fetch_there : (x : Phase) (a : Result (ℕ × List ℕ) FetchError) (t : NodeView) → AtNode i h (over x) (letter.Fetch i h a) t → Fetches x a t
+  fetch_there at.Idle a t r = elim (r.own) [ inl y ↦ fetches_as y.0 (r.is ∙ ap (node_view_after _) y.1) (reads refl) | inr y ↦ starves_as y.0 (r.is ∙ ap (node_view_after _) y.1) ]
+  fetch_there (at.Read m) a t r = elim (r.own) [ inl y ↦ fetches_as y.0 (r.is ∙ ap (node_view_after _) y.1) (reads refl) | inr y ↦ starves_as y.0 (r.is ∙ ap (node_view_after _) y.1) ]
+  fetch_there x a t r = elim (r.own) [ inl y ↦ fetches_as y.0 (r.is ∙ ap (node_view_after _) y.1) (keeps refl) | inr y ↦ starves_as y.0 (r.is ∙ ap (node_view_after _) y.1) ]
 
   -- What a look finds: the service of this description.
   module _ {F E C : Type 0} (m : Meaning F E C) (d : Description) (limits : IsDescription d) (hash : d.hash ≡ h) (form_of : b ≡ form.description d) where
-    pub data LooksThere (x : Phase) : Outcome F → Seat → Type 0 where
+    pub data LooksThere (x : Phase) : Outcome F → NodeView → Type 0 where
       finds : {y : Phase} → Fetched n x y → m.misfit d ≡ None → LooksThere x (outcome.Found n d) (over y)
       misfits : {y : Phase} {fault : F} → Fetched n x y → m.misfit d ≡ Some fault → LooksThere x (outcome.Faulty fault) (over y)
       forgets : {y : Phase} → Fetched n x y → LooksThere x (outcome.Faulty (m.fault state.OutOfMemory)) (over y)
@@ -104,42 +104,42 @@ module _ (i : ℕ) (h : ServiceHash) (n : ℕ) (b : List ℕ) (sg : Option Segme
     leads_not (look.misfit f same bad) e = absurd (cc)
     leads_not (look.fits f same good) e = absurd (cc)
 
-    leads : {x : Phase} {a : Result (ℕ × List ℕ) FetchError} {o : Outcome F} {t : Seat} → Fetches x a t → LeadsTo m h a o → LooksThere x o t
+    leads : {x : Phase} {a : Result (ℕ × List ℕ) FetchError} {o : Outcome F} {t : NodeView} → Fetches x a t → LeadsTo m h a o → LooksThere x o t
     leads (fetches p) l = leads_there p l refl
     leads starves l = leads_not l refl
 
-    pub look_there : (x : Phase) {o : Outcome F} {w : List Letter} {t : Seat} → IsLookWord m i h w o → Run (AtSeat i h) (over x) w t → LooksThere x o t
+    pub look_there : (x : Phase) {o : Outcome F} {w : List Letter} {t : NodeView} → IsLookWord m i h w o → Run (AtNode i h) (over x) w t → LooksThere x o t
     look_there x look.absent r = absurd (grind (arith, (last r).own.0))
     look_there x look.broken r = absurd (grind (arith, (last r).own.0))
     look_there x (look.fetched may l) r =
         let f = head r in
-        leads (fetch_there x _ _ (last (from (f.first.is ∙ ap (seat_after _) f.first.own.1) f.rest))) l
+        leads (fetch_there x _ _ (last (from (f.first.is ∙ ap (node_view_after _) f.first.own.1) f.rest))) l
 
 -- where only the phase of one node changed, and it counts as before
 module _ (i : ℕ) (h : ServiceHash) (w v : World) (q : Quiet) (a : Apart i h w v) (s : Shows w q) (x : QuietService) (is_there : service_at q h ≡ Some x) where
   pub was_there : IsThere h x (row_of w h) (segment_of w h) (λ j. phase_of w (Node j) h) (λ j. tag_of w j h)
   was_there = subst (λ o. ShowsService w h o) is_there (s.services h)
 
-  abbrev pub over_here : Phase → Seat
+  abbrev pub over_here : Phase → NodeView
   over_here y = over i h x.number (form.description x.description) (segment_of w h) w.counter (tag_of w i h) w.tickets y
 
-  pub begin_there : seat w i h ≡ over_here (phase_of w (Node i) h)
-  begin_there = λ k. record { spot = record { phase = phase_of w (Node i) h; row = was_there.row k; segment = segment_of w h; counter = w.counter }; tag = tag_of w i h; tickets = w.tickets }
+  pub begin_there : node_view w i h ≡ over_here (phase_of w (Node i) h)
+  begin_there = λ k. record { view = record { phase = phase_of w (Node i) h; row = was_there.row k; segment = segment_of w h; counter = w.counter }; tag = tag_of w i h; tickets = w.tickets }
 
-  pub stays_there : (y : Phase) → CountIs x.number y (times_counted x i) → seat v i h ≡ over_here y → Shows v q
+  pub stays_there : (y : Phase) → CountIs x.number y (times_counted x i) → node_view v i h ≡ over_here y → Shows v q
   stays_there y counts is = record {
-    counter = ap (λ (z : Seat). z.spot.counter) is ∙ s.counter;
+    counter = ap (λ (z : NodeView). z.view.counter) is ∙ s.counter;
     services = services_after q q (Some x) a s (same_services q h (Some x) is_there) (record {
       limits = was_there.limits;
       hash = was_there.hash;
-      row = ap (λ (z : Seat). z.spot.row) is;
+      row = ap (λ (z : NodeView). z.view.row) is;
       nodes = was_there.nodes;
-      segment = ap (λ (z : Seat). z.spot.segment) is ∙ was_there.segment;
+      segment = ap (λ (z : NodeView). z.view.segment) is ∙ was_there.segment;
       members = was_there.members;
       as_many = was_there.as_many;
       one_or_more = was_there.one_or_more;
-      phases = λ j. elim (equal_or_not j i) [ inl e ↦ rw (e, ap (λ (z : Seat). z.spot.phase) is) counts | inr e ↦ rw (phase_beside a j e) (was_there.phases j) ];
-      tags = λ j. elim (equal_or_not j i) [ inl e ↦ rw e (ap (λ (z : Seat). z.tag) is ∙ was_there.tags i) | inr e ↦ tag_beside a j e ∙ was_there.tags j ];
+      phases = λ j. elim (equal_or_not j i) [ inl e ↦ rw (e, ap (λ (z : NodeView). z.view.phase) is) counts | inr e ↦ rw (phase_beside a j e) (was_there.phases j) ];
+      tags = λ j. elim (equal_or_not j i) [ inl e ↦ rw e (ap (λ (z : NodeView). z.tag) is ∙ was_there.tags i) | inr e ↦ tag_beside a j e ∙ was_there.tags j ];
     });
   }
 
@@ -154,34 +154,34 @@ module _ {F E C : Type 0} (m : Meaning F E C) (regular : IsRegular m) (i : ℕ) 
   abbrev was : IsThere h x (row_of w h) (segment_of w h) (λ j. phase_of w (Node j) h) (λ j. tag_of w j h)
   was = was_there i h w v q a s x is_there
 
-  abbrev Looks : Outcome F → Seat → Type 0
+  abbrev Looks : Outcome F → NodeView → Type 0
   Looks o t = LooksThere i h x.number (form.description x.description) (segment_of w h) w.counter (tag_of w i h) w.tickets m x.description was.limits was.hash refl (phase_of w (Node i) h) o t
 
-  looked : {o : Outcome F} {word : List Letter} {t : Seat} → IsLookWord m i h word o → Run (AtSeat i h) (seat w i h) word t → Looks o t
+  looked : {o : Outcome F} {word : List Letter} {t : NodeView} → IsLookWord m i h word o → Run (AtNode i h) (node_view w i h) word t → Looks o t
   looked l r = look_there i h x.number (form.description x.description) (segment_of w h) w.counter (tag_of w i h) w.tickets m x.description was.limits was.hash refl (phase_of w (Node i) h) l (from (begin_there i h w v q a s x is_there) r)
 
-  never : {word : List Letter} (rest : List Letter) {t : Seat} → IsLookWord m i h word outcome.Nothing → Run (AtSeat i h) (seat w i h) (word ++ rest) t → ⊥
+  never : {word : List Letter} (rest : List Letter) {t : NodeView} → IsLookWord m i h word outcome.Nothing → Run (AtNode i h) (node_view w i h) (word ++ rest) t → ⊥
   never {word} rest l r = elim (looked l (split word rest r).first) [ ]
 
-  never_enters : {u : List Letter} {tag : Tag} {t : Seat} → IsEntryWord m i h u (Ok tag) → Run (AtSeat i h) (seat w i h) u t → ⊥
+  never_enters : {u : List Letter} {tag : Tag} {t : NodeView} → IsEntryWord m i h u (Ok tag) → Run (AtNode i h) (node_view w i h) u t → ⊥
   never_enters (create.entered tag l) r = never _ l r
 
   module _ (name : List ℕ) (now : Result Span ClockFault) where
-    abbrev MadeHere : Result Factory C → Type 0
+    abbrev MadeHere : Result Registered C → Type 0
     MadeHere r = Made (Creates m q i h name now r) (tickets_after w.tickets r) v
 
-    kept : (r : Result Factory C) (y : Phase) → Creates m q i h name now r q → tickets_after w.tickets r ≡ w.tickets → CountIs x.number y (times_counted x i) → seat v i h ≡ over_here i h w v q a s x is_there y → MadeHere r
-    kept r y call no_ticket count is = record { state = q; call = call; shows = stays_there i h w v q a s x is_there y count is; tickets = ap (λ (z : Seat). z.tickets) is ∙ sym no_ticket }
+    kept : (r : Result Registered C) (y : Phase) → Creates m q i h name now r q → tickets_after w.tickets r ≡ w.tickets → CountIs x.number y (times_counted x i) → node_view v i h ≡ over_here i h w v q a s x is_there y → MadeHere r
+    kept r y call no_ticket count is = record { state = q; call = call; shows = stays_there i h w v q a s x is_there y count is; tickets = ap (λ (z : NodeView). z.tickets) is ∙ sym no_ticket }
 
-    faulty : {fault : F} {t : Seat} → m.history_refusal ≡ None → Looks (outcome.Faulty fault) t → seat v i h ≡ t → MadeHere (Err (m.create_error_of fault))
+    faulty : {fault : F} {t : NodeView} → m.history_refusal ≡ None → Looks (outcome.Faulty fault) t → node_view v i h ≡ t → MadeHere (Err (m.create_error_of fault))
     faulty fits (misfits p bad) is = subst (λ e. MadeHere (Err e)) (sym (regular.misfit _ _ bad)) (kept _ _ (call.exists x fits is_there) refl (still_counts _ p (was.phases i)) is)
     faulty fits (forgets p) is = subst (λ e. MadeHere (Err e)) (sym regular.create_memory) (kept _ _ (call.no_memory fits) refl (still_counts _ p (was.phases i)) is)
     faulty fits starved is = subst (λ e. MadeHere (Err e)) (sym regular.create_memory) (kept _ _ (call.no_memory fits) refl (was.phases i) is)
 
-    found : {n : ℕ} {d : Description} {t : Seat} → m.history_refusal ≡ None → Looks (outcome.Found n d) t → seat v i h ≡ t → MadeHere (Err (m.create_refusal refusal.AlreadyExists))
+    found : {n : ℕ} {d : Description} {t : NodeView} → m.history_refusal ≡ None → Looks (outcome.Found n d) t → node_view v i h ≡ t → MadeHere (Err (m.create_refusal refusal.AlreadyExists))
     found fits (finds p good) is = kept _ _ (call.exists x fits is_there) refl (still_counts _ p (was.phases i)) is
 
-    pub create_there : (r : Result Factory C) (word : List Letter) → IsCreateWord m i h name now word r → Run (AtSeat i h) (seat w i h) word (seat v i h) → MadeHere r
+    pub create_there : (r : Result Registered C) (word : List Letter) → IsCreateWord m i h name now word r → Run (AtNode i h) (node_view w i h) word (node_view v i h) → MadeHere r
     create_there r word (create.forbidden bad) run = kept _ _ (call.forbidden bad) refl (was.phases i) (ended run ∙ begin_there i h w v q a s x is_there)
     create_there r word (create.not_entered fits (create.look_faulty l)) run = faulty fits (looked l run) refl
     create_there r word (create.not_entered fits (create.look_found l)) run = found fits (looked l run) refl

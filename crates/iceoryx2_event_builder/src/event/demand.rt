@@ -7,8 +7,12 @@ ghost use Rattle.iceoryx2_event_builder.specs.Event.{setting_rows, created_deadl
 ghost use Rattle.iceoryx2_event_builder.specs.Event.{deadline_value as value_of};
 ghost use Rattle.iceoryx2_event_builder.specs.Request.{fresh_demand, demand_with, demanded_deadline};
 
-use crate::event::setting::EventSetting;
+use crate::event::setting::EventSetter;
 use iceoryx2_builder_common::zeros::raise_zero;
+use iceoryx2_description::config;
+use iceoryx2_description::description::{MessagingPattern, StaticConfig};
+use iceoryx2_description::event::{self, Deadline};
+use iceoryx2_description::time::{Duration, Time};
 use iceoryx2_errors::error::{
     EventCreateError, EventOpenError, EventOpenOrCreateError, ServiceState,
 };
@@ -16,10 +20,6 @@ use iceoryx2_open_or_create::open_or_create::OpenOrCreateRefusal;
 use iceoryx2_open_or_create::retries::Retries;
 use iceoryx2_pattern::pattern::{CreateRefusal, OpenRefusal, Pattern};
 use iceoryx2_pattern::verdict::{need_at_least, need_duration, need_event};
-use iceoryx2_description::config;
-use iceoryx2_description::description::{MessagingPattern, StaticConfig};
-use iceoryx2_description::event::{self, Deadline};
-use iceoryx2_description::time::{Duration, Time};
 use std::alloc::AllocError;
 
 /// Which settings a builder of events requires.
@@ -72,39 +72,39 @@ impl EventDemand {
     }
 
     /// Carries out one setter: sets the value, and marks the setting.
-    pub(crate) fn set(&mut self, setting: EventSetting)
+    pub(crate) fn set(&mut self, setting: EventSetter)
         ensures { self.new ≡ demand_with self.old setting }
     {
         match setting {
-            EventSetting::MaxNotifiers(value) => {
+            EventSetter::MaxNotifiers(value) => {
                 self.settings.max_notifiers = value;
                 self.marks.max_notifiers = true;
             }
-            EventSetting::MaxListeners(value) => {
+            EventSetter::MaxListeners(value) => {
                 self.settings.max_listeners = value;
                 self.marks.max_listeners = true;
             }
-            EventSetting::EventIdMaxValue(value) => {
+            EventSetter::EventIdMaxValue(value) => {
                 self.settings.event_id_max_value = value;
                 self.marks.event_id_max_value = true;
             }
-            EventSetting::MaxNodes(value) => {
+            EventSetter::MaxNodes(value) => {
                 self.settings.max_nodes = value;
                 self.marks.max_nodes = true;
             }
-            EventSetting::NotifierCreatedEvent(id) => {
+            EventSetter::NotifierCreatedEvent(id) => {
                 self.settings.notifier_created_event = id;
                 self.marks.notifier_created_event = true;
             }
-            EventSetting::NotifierDroppedEvent(id) => {
+            EventSetter::NotifierDroppedEvent(id) => {
                 self.settings.notifier_dropped_event = id;
                 self.marks.notifier_dropped_event = true;
             }
-            EventSetting::NotifierDeadEvent(id) => {
+            EventSetter::NotifierDeadEvent(id) => {
                 self.settings.notifier_dead_event = id;
                 self.marks.notifier_dead_event = true;
             }
-            EventSetting::Deadline(value) => {
+            EventSetter::Deadline(value) => {
                 self.settings.deadline = deadline_before_creation(value);
                 self.marks.deadline = true;
             }

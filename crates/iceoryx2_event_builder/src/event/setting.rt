@@ -5,7 +5,7 @@ use iceoryx2_description::time::Duration;
 
 /// One setter of the builder of events, with its value.
 #[derive(Clone, Copy, Debug, PartialEq, Eq)]
-pub enum EventSetting {
+pub enum EventSetter {
     /// How many notifiers the service has room for.
     MaxNotifiers(u64),
     /// How many listeners the service has room for.

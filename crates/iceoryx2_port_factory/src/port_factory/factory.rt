@@ -37,9 +37,9 @@ pub struct PortFactory<S: Service, K: Kind> {
 
 impl<S: Service, K: Kind> Model for PortFactory<S, K> {
     ghost use Rattle.std.specs.Prelude.{◌≡◌, true};
-    ghost use Rattle.iceoryx2_access.specs.Factory.{Factory};
+    ghost use Rattle.iceoryx2_access.specs.Registered.{Registered};
 
-    ghost Value = { Factory };
+    ghost Value = { Registered };
 
     ghost view = { λ factory. factory.registration };
 

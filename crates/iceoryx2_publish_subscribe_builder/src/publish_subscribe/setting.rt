@@ -4,7 +4,7 @@ use iceoryx2_types::types::{Alignment, TypeDetail};
 
 /// One setter of the builder of publish-subscribe, with its value.
 #[derive(Debug, Drop, PartialEq, Eq)]
-pub enum PublishSubscribeSetting {
+pub enum PublishSubscribeSetter {
     /// For how many publishers the service is.
     MaxPublishers(u64),
     /// For how many subscribers the service is.

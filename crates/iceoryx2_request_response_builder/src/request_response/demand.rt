@@ -6,6 +6,9 @@ ghost use Rattle.iceoryx2_request_response_builder.specs.Request.{fresh_demand};
 ghost use Rattle.iceoryx2_request_response_builder.specs.RequestResponse.{request_response_refusal, setting_rows};
 
 use iceoryx2_builder_common::zeros::raise_zero;
+use iceoryx2_description::description::{MessagingPattern, StaticConfig};
+use iceoryx2_description::time::Time;
+use iceoryx2_description::{config, request_response};
 use iceoryx2_errors::error::request_response::ServiceAvailabilityState;
 use iceoryx2_errors::error::{
     RequestResponseCreateError, RequestResponseOpenError, RequestResponseOpenOrCreateError,
@@ -16,9 +19,6 @@ use iceoryx2_open_or_create::retries::Retries;
 use iceoryx2_pattern::pattern::{CreateRefusal, OpenRefusal, Pattern};
 use iceoryx2_pattern::verdict::{need_at_least, need_flag};
 use iceoryx2_types::types::MessageTypeDetails;
-use iceoryx2_description::description::{MessagingPattern, StaticConfig};
-use iceoryx2_description::time::Time;
-use iceoryx2_description::{config, request_response};
 use std::alloc::AllocError;
 
 /// Which settings a builder of request-response requires.

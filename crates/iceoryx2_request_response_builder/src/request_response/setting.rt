@@ -4,7 +4,7 @@ use iceoryx2_types::types::{Alignment, TypeDetail};
 
 /// One setter of the builder of request-response, with its value.
 #[derive(Debug, Drop, PartialEq, Eq)]
-pub enum RequestResponseSetting {
+pub enum RequestResponseSetter {
     /// Whether a full buffer's oldest request gives way to a new one.
     EnableSafeOverflowForRequests(bool),
     /// Whether a full buffer's oldest response gives way to a new one.

@@ -125,9 +125,9 @@ impl<S> Faulty<S> {
 }
 
 impl<S: Storage> Storage for Faulty<S> {
-    ghost use Rattle.iceoryx2_script.specs.Faults.{IsFaultyAccess};
+    ghost use Rattle.iceoryx2_script.specs.Faults.{IsInjectedFault};
 
-    ghost step = { λ old letter new. IsFaultyAccess S.step old letter new };
+    ghost step = { λ old letter new. IsInjectedFault S.step old letter new };
 
     fn exists(&mut self, hash: &ServiceHash) -> Existence {
         self.counters.count_look();

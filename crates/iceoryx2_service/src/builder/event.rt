@@ -1,7 +1,7 @@
 //! The builder of services of events, its errors and its laws.
 
+pub use iceoryx2_description::event::EventId;
 pub use iceoryx2_errors::error::{EventCreateError, EventOpenError, EventOpenOrCreateError};
 pub use iceoryx2_event_builder::event::{
-    Builder, EventSetting, LETTER, demand, ends_at_once, laws, letter_is_e, setting,
+    Builder, EventSetter, PREFIX, demand, ends_at_once, laws, prefix_is_e, setting,
 };
-pub use iceoryx2_description::event::EventId;

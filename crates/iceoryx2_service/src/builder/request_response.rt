@@ -5,6 +5,6 @@ pub use iceoryx2_errors::error::request_response::{
     ServiceAvailabilityState,
 };
 pub use iceoryx2_request_response_builder::request_response::{
-    Builder, LETTER, RequestResponseSetting, demand, ends_at_once, laws, letter_is_r, requested,
+    Builder, PREFIX, RequestResponseSetter, demand, ends_at_once, laws, prefix_is_r, requested,
     setting,
 };

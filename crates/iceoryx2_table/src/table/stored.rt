@@ -9,13 +9,13 @@ ghost use Rattle.iceoryx2_access.specs.Letter as letter;
 ghost use Rattle.iceoryx2_access.specs.Letter.{fetch_answer};
 ghost use Rattle.iceoryx2_world.specs.Access.{IsOwnPart, has_lock, has_made as has_made_spec, is_ticket};
 
+use crate::services::Services;
 use iceoryx2_access::storage::{
     Existence, FetchError, LockError, MakeSegmentError, OpenSegmentError, PublishError, Release,
     ReleaseError, RemoveError, Tag, TagError,
 };
-use iceoryx2_world::batches::Step;
-use crate::services::Services;
 use iceoryx2_description::description::{ServiceHash, StaticConfig};
+use iceoryx2_world::batches::Step;
 use iceoryx2_world::listing::Entry;
 use iceoryx2_world::world::{Participant, Phase, Row, Ticket};
 use sorted_map::SortedVec;

@@ -12,13 +12,13 @@ use Rattle.iceoryx2_world.specs.Orders.{tag_cmp}
 use Rattle.iceoryx2_world.specs.World.{World, Segment, row_of, segment_of, phase_of, joined_number, locked_number, phase_number, row_number, ticket_of}
 use Rattle.iceoryx2_world.specs.Acts.{Act, IsAct}
 use Rattle.iceoryx2_world.specs.Acts as act
-use Rattle.iceoryx2_world.specs.Steps.{Spot, world_after}
+use Rattle.iceoryx2_world.specs.Steps.{ServiceView, world_after}
 use Rattle.iceoryx2_world.specs.Agreement.{AgreesAt, AgreesEverywhere, Later, IsPublished}
 use Rattle.iceoryx2_world.specs.Across.{Agrees}
 use Rattle.iceoryx2_access.specs.Letter.{Letter}
 use Rattle.iceoryx2_world.specs.Access.{IsOwnPart}
 use Rattle.iceoryx2_world.specs.Peers.{Peers, none, peer, IsAccess}
-use Rattle.iceoryx2_world.specs.Faulty.{IsFaulty}
+use Rattle.iceoryx2_world.specs.Fallible.{IsFallibleAccess}
 use Rattle.iceoryx2_access.specs.MayRefuse.{IsFault}
 use Rattle.iceoryx2_access.specs.Run.{Run, done, next}
 use Rattle.iceoryx2_world.proofs.agreement.Whole.{after_keeps}
@@ -75,7 +75,7 @@ tags_keep : (w : World) (t : set.FinSet tag_cmp) → Agrees w → Agrees (record
 tags_keep w t old = (record { everywhere = old.everywhere; numbered = record { below = old.numbered.below; apart = old.numbered.apart; free = old.numbered.free }; held = record { number = old.held.number; count = old.held.count } }, record { counter = omega arith; rows = λ h. later_same _ _ })
 
 -- a Join changes neither row nor counter
-join_counter : {p : Participant} {h : ServiceHash} {x : Phase} {r : Option Row} {s : Option Segment} {c : ℕ} {new : Spot} → IsStep p h act.Join x r s c new → new.counter ≡ c
+join_counter : {p : Participant} {h : ServiceHash} {x : Phase} {r : Option Row} {s : Option Segment} {c : ℕ} {new : ServiceView} → IsStep p h act.Join x r s c new → new.counter ≡ c
 join_counter (row_joins number unmarked room) = refl
 join_counter (joins_again below) = refl
 
@@ -107,7 +107,7 @@ opened_keeps w v id h n t p old =
     let u = p.mid in
     let st = allowed_step w u (Node id) h act.Join p.step in
     let kept = after_keeps w u (Node id) h act.Join tt p.step old.everywhere in
-    let still : u.counter ≡ w.counter = subst (λ (z : World). z.counter ≡ w.counter) st.world (join_counter (step_case (Node id) h act.Join (phase_of w (Node id) h) (row_of w h) (segment_of w h) w.counter st.spot st.is)) in
+    let still : u.counter ≡ w.counter = subst (λ (z : World). z.counter ≡ w.counter) st.world (join_counter (step_case (Node id) h act.Join (phase_of w (Node id) h) (row_of w h) (segment_of w h) w.counter st.view st.is)) in
     let free : (g : ServiceHash) → row_of u g ≢ Some (row.Locked w.counter) = λ g l. absurd (grind (arith, (kept.0 g).row_below (row.Locked w.counter) l, still)) in
     let fresh : ticket_of w w.counter ≡ None = is_none _ (λ x i. grind (arith, old.numbered.below w.counter x i)) in
     subst (λ z. Agrees z × Later w z) (sym (p.is ∙ ap (λ s. ticket_put (record u { counter = w.counter + 1 }) s (mine id h n)) p.ticket)) (gain_keeps w u id h act.Join n w.counter (w.counter + 1) tt (λ x y g. g) p.step p.number fresh (omega arith) (omega (arith, still)) free old)
@@ -141,11 +141,11 @@ access_keeps w l v a old =
     (second.0, later_trans w a.between v old.everywhere first.1 second.1)
 
 -- also where any access may be refused
-pub faulty_keeps : (w : World) (l : Letter) (v : World) → IsFaulty w l v → Agrees w → Agrees v × Later w v
+pub faulty_keeps : (w : World) (l : Letter) (v : World) → IsFallibleAccess w l v → Agrees w → Agrees v × Later w v
 faulty_keeps w l v (inl a) old = access_keeps w l v a old
 faulty_keeps w l v (inr f) old = same_keeps w v f.1 old
 
-pub run_keeps : {w v : World} {word : List Letter} → Run IsFaulty w word v → Agrees w → Agrees v × Later w v
+pub run_keeps : {w v : World} {word : List Letter} → Run IsFallibleAccess w word v → Agrees w → Agrees v × Later w v
 run_keeps done old = (old, later_refl _)
 run_keeps {w = u} {v = w} (next {mid = v} {letter = l} a rest) old =
     let one = faulty_keeps u l v a old in
@@ -153,11 +153,11 @@ run_keeps {w = u} {v = w} (next {mid = v} {letter = l} a rest) old =
     (more.0, later_trans u v w old.everywhere one.1 more.1)
 
 -- accesses that are not refused are such accesses too
-pub with_refusals : {w v : World} {word : List Letter} → Run IsAccess w word v → Run IsFaulty w word v
+pub with_refusals : {w v : World} {word : List Letter} → Run IsAccess w word v → Run IsFallibleAccess w word v
 with_refusals done = done
 with_refusals (next a rest) = next (inl a) (with_refusals rest)
 
 -- an answer that isn't the general fault is the table's own
-pub granted : (w : World) (l : Letter) (v : World) → (IsFault l → ⊥) → IsFaulty w l v → IsAccess w l v
+pub granted : (w : World) (l : Letter) (v : World) → (IsFault l → ⊥) → IsFallibleAccess w l v → IsAccess w l v
 granted w l v other (inl a) = a
 granted w l v other (inr f) = absurd (other f.0)

@@ -13,7 +13,7 @@ use Rattle.iceoryx2_world.specs.Orders.{hash_total, hash_exact}
 use Rattle.iceoryx2_world.specs.World.{World, Segment, row_of, segment_of, phase_of, begins, locked_number, join_count}
 use Rattle.iceoryx2_world.specs.Acts.{Act}
 use Rattle.iceoryx2_world.specs.Acts as act
-use Rattle.iceoryx2_world.specs.Steps.{Spot, world_after}
+use Rattle.iceoryx2_world.specs.Steps.{ServiceView, world_after}
 use Rattle.iceoryx2_world.specs.Across.{Agrees}
 use Rattle.iceoryx2_access.specs.Letter.{Letter}
 use Rattle.iceoryx2_access.specs.Letter as letter
@@ -27,7 +27,7 @@ use Rattle.iceoryx2_world.proofs.agreement.Worlds.{place_cases, step_places}
 use Rattle.iceoryx2_world.proofs.agreement.Parts.{IsCalm, Part, stays, tagged, calm, removed, publishes, joins, releases, own_part, publishing, joining, releasing}
 use Rattle.iceoryx2_world.proofs.agreement.Accesses.{joined_means}
 
-record Calmly (x : Phase) (r : Option Row) (new : Spot) : Type 0 where
+record Calmly (x : Phase) (r : Option Row) (new : ServiceView) : Type 0 where
   pub row : published_of new.row ≡ published_of r
   pub lock : (n : ℕ) → locked_number x ≡ Some n → locked_number new.phase ≡ Some n
 
@@ -36,7 +36,7 @@ begins_unlocked at.Idle e = refl
 begins_unlocked (at.Read m) e = refl
 begins_unlocked _ e = absurd (cc)
 
-calm_row : {p : Participant} {h : ServiceHash} {act : Act} {x : Phase} {r : Option Row} {s : Option Segment} {c : ℕ} {new : Spot} → IsStep p h act x r s c new
+calm_row : {p : Participant} {h : ServiceHash} {act : Act} {x : Phase} {r : Option Row} {s : Option Segment} {c : ℕ} {new : ServiceView} → IsStep p h act x r s c new
     → IsCalm act → Calmly x r new
 calm_row (reads {x = x} free) ok = record { row = refl; lock = λ m l. let none = begins_unlocked x free in absurd (cc) }
 calm_row (row_locks {x = x} free below) ok = record { row = refl; lock = λ m l. let none = begins_unlocked x free in absurd (cc) }
@@ -63,17 +63,17 @@ calm_idles (act.Publish d) x y ok i = absurd ok
 calm_idles act.Join x y ok i = absurd ok
 calm_idles act.Leave x y ok i = absurd ok
 
-unlock_row : {p : Participant} {h : ServiceHash} {x : Phase} {r : Option Row} {s : Option Segment} {c : ℕ} {new : Spot} → IsStep p h act.RemoveDescription x r s c new → new.row ≡ None
+unlock_row : {p : Participant} {h : ServiceHash} {x : Phase} {r : Option Row} {s : Option Segment} {c : ℕ} {new : ServiceView} → IsStep p h act.RemoveDescription x r s c new → new.row ≡ None
 unlock_row (row_unlocks lock) = refl
 unlock_row (row_ends last) = refl
 
-step_same : (w v : World) (p : Participant) (g : ServiceHash) (a : Act) → (st : AllowedStep w v p g a) → published_of st.spot.row ≡ published_of (row_of w g) → join_count st.spot.phase ≡ join_count (phase_of w p g) → SameServices w v
+step_same : (w v : World) (p : Participant) (g : ServiceHash) (a : Act) → (st : AllowedStep w v p g a) → published_of st.view.row ≡ published_of (row_of w g) → join_count st.view.phase ≡ join_count (phase_of w p g) → SameServices w v
 step_same w v p g a st row count = subst (λ u. SameServices w u) st.world (record {
-  published = λ h. elim (set_cases hash_total hash_exact w.rows g st.spot.row h) [
+  published = λ h. elim (set_cases hash_total hash_exact w.rows g st.view.row h) [
     | inl e ↦ ap published_of e.1 ∙ row ∙ ap (λ k. published_of (row_of w k)) (sym e.0)
     | inr e ↦ ap published_of e.1
   ];
-  counts = λ q h. elim (place_cases w p g st.spot q h) [
+  counts = λ q h. elim (place_cases w p g st.view q h) [
     | inl e ↦ ap join_count e.2 ∙ count ∙ (λ i. join_count (phase_of w (sym e.0 i) (sym e.1 i)))
     | inr e ↦ ap join_count e.1
   ];
@@ -90,11 +90,11 @@ calmed_same w v e = subst (λ u. Calmed w u) (sym e) (record { same = record { p
 calmed : (w v : World) (id : ℕ) (g : ServiceHash) (a : Act) → IsCalm a → world_after w (Node id) g a ≡ Some v → Calmed w v
 calmed w v id g a ok e =
     let st = allowed_step w v (Node id) g a e in
-    let c = calm_row (step_case (Node id) g a (phase_of w (Node id) g) (row_of w g) (segment_of w g) w.counter st.spot st.is) ok in
-    let i = calm_idles a _ _ ok (step_effect (Node id) g a (phase_of w (Node id) g) (row_of w g) (segment_of w g) w.counter st.spot st.is).change in
+    let c = calm_row (step_case (Node id) g a (phase_of w (Node id) g) (row_of w g) (segment_of w g) w.counter st.view st.is) ok in
+    let i = calm_idles a _ _ ok (step_effect (Node id) g a (phase_of w (Node id) g) (row_of w g) (segment_of w g) w.counter st.view st.is).change in
     record {
       same = step_same w v (Node id) g a st c.row (i.now ∙ sym i.before);
-      locks = λ q h n l. subst (λ u. locked_number (phase_of u q h) ≡ Some n) st.world (elim (place_cases w (Node id) g st.spot q h) [
+      locks = λ q h n l. subst (λ u. locked_number (phase_of u q h) ≡ Some n) st.world (elim (place_cases w (Node id) g st.view q h) [
         | inl k ↦ ap locked_number k.2 ∙ c.lock n ((λ j. locked_number (phase_of w (sym k.0 j) (sym k.1 j))) ∙ l)
         | inr k ↦ ap locked_number k.1 ∙ l
       ]);
@@ -121,9 +121,9 @@ part_unlocks w v i h n a lock old (removed j g is e) =
     let hash : h ≡ g = cc in
     let here : world_after w (Node i) h act.RemoveDescription ≡ Some v = (λ k. world_after w (Node (node k)) (hash k) act.RemoveDescription) ∙ e in
     let st = allowed_step w v (Node i) h act.RemoveDescription here in
-    let row = unlock_row (step_case (Node i) h act.RemoveDescription (phase_of w (Node i) h) (row_of w h) (segment_of w h) w.counter st.spot st.is) in
+    let row = unlock_row (step_case (Node i) h act.RemoveDescription (phase_of w (Node i) h) (row_of w h) (segment_of w h) w.counter st.view st.is) in
     let was = (old.everywhere h).locked (Node i) n lock in
-    let c = (step_effect (Node i) h act.RemoveDescription (phase_of w (Node i) h) (row_of w h) (segment_of w h) w.counter st.spot st.is).change in
+    let c = (step_effect (Node i) h act.RemoveDescription (phase_of w (Node i) h) (row_of w h) (segment_of w h) w.counter st.view st.is).change in
     step_same w v (Node i) h act.RemoveDescription st (ap published_of row ∙ ap published_of (sym was)) (c.now ∙ sym c.before)
 part_unlocks w v i h n a lock old (publishes j g m d t is p) = absurd (cc)
 part_unlocks w v i h n a lock old (joins j g m t is p) = absurd (cc)
@@ -173,13 +173,13 @@ tame_both (goes k r) t = goes k (tame_both r t)
 tame_both (locks r) t = locks (tame_both r t)
 tame_both (unlocks a r) t = unlocks a (tame_both r t)
 
-lock_spot : {p : Participant} {h : ServiceHash} {x : Phase} {r : Option Row} {s : Option Segment} {c : ℕ} {new : Spot} → IsStep p h act.Lock x r s c new → locked_number new.phase ≡ Some c
-lock_spot (row_locks free below) = refl
+lock_view : {p : Participant} {h : ServiceHash} {x : Phase} {r : Option Row} {s : Option Segment} {c : ℕ} {new : ServiceView} → IsStep p h act.Lock x r s c new → locked_number new.phase ≡ Some c
+lock_view (row_locks free below) = refl
 
 -- who locks has the lock, and its number
 pub locked_now : (w v : World) (id : ℕ) (h : ServiceHash) → world_after w (Node id) h act.Lock ≡ Some v → locked_number (phase_of v (Node id) h) ≡ Some w.counter
 locked_now w v id h e = let st = allowed_step w v (Node id) h act.Lock e in
-    subst (λ u. locked_number (phase_of u (Node id) h) ≡ Some w.counter) st.world (elim (place_cases w (Node id) h st.spot (Node id) h) [
-      | inl k ↦ ap locked_number k.2 ∙ lock_spot (step_case (Node id) h act.Lock (phase_of w (Node id) h) (row_of w h) (segment_of w h) w.counter st.spot st.is)
+    subst (λ u. locked_number (phase_of u (Node id) h) ≡ Some w.counter) st.world (elim (place_cases w (Node id) h st.view (Node id) h) [
+      | inl k ↦ ap locked_number k.2 ∙ lock_view (step_case (Node id) h act.Lock (phase_of w (Node id) h) (row_of w h) (segment_of w h) w.counter st.view st.is)
       | inr k ↦ absurd (k.0 refl refl)
     ])

@@ -9,7 +9,7 @@ use Rattle.iceoryx2_world.specs.declared.world.Row.{Row}
 use Rattle.iceoryx2_world.specs.declared.world.Row.TheVariants as row
 use Rattle.iceoryx2_world.specs.World.{World, Segment, row_of, segment_of, phase_of, begins, joined_number, phase_number, locked_number, is_last, join_count}
 use Rattle.iceoryx2_world.specs.Acts.{Act, Publish, Join, Leave}
-use Rattle.iceoryx2_world.specs.Steps.{Spot, spot_after, put, world_after}
+use Rattle.iceoryx2_world.specs.Steps.{ServiceView, view_after, put, world_after}
 use Rattle.iceoryx2_world.specs.StepCases.{IsStep, reads, locks, clears, makes, unmakes, unlocks, publishes, joins, joins_again, leaves_once, leaves, leaves_last, clears_last, ends}
 use Rattle.iceoryx2_world.proofs.agreement.StepCases.{step_case}
 
@@ -37,7 +37,7 @@ PhaseChange (Publish d) x y = Gains x y
 PhaseChange Leave x y = Loses x y
 PhaseChange _ x y = Idles x y
 
-pub record Effect (act : Act) (x : Phase) (r : Option Row) (c : ℕ) (new : Spot) : Type 0 where
+pub record Effect (act : Act) (x : Phase) (r : Option Row) (c : ℕ) (new : ServiceView) : Type 0 where
   pub rises : c ≤ new.counter
   pub locks : (n : ℕ) → new.row ≡ Some (row.Locked n) → (r ≡ Some (row.Locked n)) ⊎ ((n ≡ c) × (c < new.counter))
   pub change : PhaseChange act x new.phase
@@ -65,7 +65,7 @@ calms : {act : Act} {x : Phase} {r : Option Row} {c : ℕ} {y : Phase} {s : Opti
     → Effect act x r c (record { phase = y; row = r; segment = s; counter = c })
 calms change = record { rises = omega arith; locks = λ n l. inl l; change = change }
 
-row_effect : {p : Participant} {h : ServiceHash} {act : Act} {x : Phase} {r : Option Row} {s : Option Segment} {c : ℕ} {new : Spot} → IsStep p h act x r s c new
+row_effect : {p : Participant} {h : ServiceHash} {act : Act} {x : Phase} {r : Option Row} {s : Option Segment} {c : ℕ} {new : ServiceView} → IsStep p h act x r s c new
     → Effect act x r c new
 row_effect (reads {x = x} free) = let i = begins_idle x free in calms (idles i.0 refl i.1 refl)
 row_effect (locks {x = x} free below) = let i = begins_idle x free in
@@ -86,19 +86,19 @@ row_effect clears_last = calms (idles refl refl refl refl)
 row_effect (ends {x = x} last) = let i = last_idle x last in
     record { rises = omega arith; locks = λ n l. absurd (cc); change = idles i.0 refl i.1 refl }
 
-pub step_effect : (p : Participant) (h : ServiceHash) (act : Act) (x : Phase) (r : Option Row) (s : Option Segment) (c : ℕ) (new : Spot)
-    → spot_after p h act x r s c ≡ Some new → Effect act x r c new
+pub step_effect : (p : Participant) (h : ServiceHash) (act : Act) (x : Phase) (r : Option Row) (s : Option Segment) (c : ℕ) (new : ServiceView)
+    → view_after p h act x r s c ≡ Some new → Effect act x r c new
 step_effect p h act x r s c new e = row_effect (step_case p h act x r s c new e)
 
 -- an allowed step of a world
 pub record AllowedStep (w v : World) (p : Participant) (h : ServiceHash) (act : Act) : Type 0 where
-  pub spot : Spot
-  pub is : spot_after p h act (phase_of w p h) (row_of w h) (segment_of w h) w.counter ≡ Some spot
-  pub world : put w p h spot ≡ v
+  pub view : ServiceView
+  pub is : view_after p h act (phase_of w p h) (row_of w h) (segment_of w h) w.counter ≡ Some view
+  pub world : put w p h view ≡ v
 
-of_option : (w v : World) (p : Participant) (h : ServiceHash) (act : Act) (o : Option Spot) → spot_after p h act (phase_of w p h) (row_of w h) (segment_of w h) w.counter ≡ o → option_map (put w p h) o ≡ Some v → AllowedStep w v p h act
+of_option : (w v : World) (p : Participant) (h : ServiceHash) (act : Act) (o : Option ServiceView) → view_after p h act (phase_of w p h) (row_of w h) (segment_of w h) w.counter ≡ o → option_map (put w p h) o ≡ Some v → AllowedStep w v p h act
 of_option w v p h act None is e = absurd (cc)
-of_option w v p h act (Some s) is e = record { spot = s; is = is; world = cc }
+of_option w v p h act (Some s) is e = record { view = s; is = is; world = cc }
 
 pub allowed_step : (w v : World) (p : Participant) (h : ServiceHash) (act : Act) → world_after w p h act ≡ Some v → AllowedStep w v p h act
 allowed_step w v p h act e = of_option w v p h act _ refl e

@@ -19,14 +19,14 @@ use Rattle.iceoryx2_world.specs.Orders.{hash_cmp, hash_exact, tag_cmp}
 use Rattle.iceoryx2_world.specs.World.{World, Segment, row_of, segment_of, phase_of, phase_number, ticket_of, Tickets}
 use Rattle.iceoryx2_world.specs.Acts.{Act}
 use Rattle.iceoryx2_world.specs.Acts as act
-use Rattle.iceoryx2_world.specs.Steps.{Spot, put, world_after}
+use Rattle.iceoryx2_world.specs.Steps.{ServiceView, put, world_after}
 use Rattle.iceoryx2_access.specs.declared.storage.Tag.{Tag}
 use Rattle.iceoryx2_access.specs.declared.storage.TagError.{TagError}
 use Rattle.iceoryx2_access.specs.declared.storage.OpenSegmentError.{OpenSegmentError}
 use Rattle.iceoryx2_access.specs.declared.storage.Release.{Release as Released}
 use Rattle.iceoryx2_access.specs.Letter.{Letter}
 use Rattle.iceoryx2_access.specs.Letter as letter
-use Rattle.iceoryx2_world.specs.Access.{Seat, Change, seat, write, nothing, spot_becomes, spot_becomes_with, IsAnswer, IsSureAnswer, or_refused, read_change, own_step, with_ticket, is_ticket, fetch_of, MakesTag, lock_of, make_of, publishing_of, opening_of, release_of, release_answer, has_made, has_lock, open_refusal, join_refusal, IsOwnPart}
+use Rattle.iceoryx2_world.specs.Access.{NodeView, Change, node_view, write, nothing, view_becomes, view_becomes_with, IsAnswer, IsSureAnswer, or_refused, read_change, own_step, with_ticket, is_ticket, fetch_of, MakesTag, lock_of, make_of, publishing_of, opening_of, release_of, release_answer, has_made, has_lock, open_refusal, join_refusal, IsOwnPart}
 use Rattle.iceoryx2_world.proofs.agreement.Worlds.{ticket_put, ticket_removed}
 
 -- An answer that is given, with its change.
@@ -65,43 +65,43 @@ refused_else true o e is = absurd (cc)
 refused_else false o e is = (refl, is)
 
 -- a step that is made
-pub record Stepping (o : Option Spot) {A : Type 0} (x : A × Change) (answer : A) : Type 0 where
-  pub spot : Spot
-  pub from : o ≡ Some spot
-  pub is : x ≡ (answer, spot_becomes spot)
+pub record Stepping (o : Option ServiceView) {A : Type 0} (x : A × Change) (answer : A) : Type 0 where
+  pub view : ServiceView
+  pub from : o ≡ Some view
+  pub is : x ≡ (answer, view_becomes view)
 
-pub step_ok : {A E : Type 0} (e : E) (a : A) (o : Option Spot) (x : A × Change) → or_refused e a o ≡ Ok x → Stepping o x a
+pub step_ok : {A E : Type 0} (e : E) (a : A) (o : Option ServiceView) (x : A × Change) → or_refused e a o ≡ Ok x → Stepping o x a
 step_ok e a None x is = absurd (cc)
-step_ok e a (Some s) x is = record { spot = s; from = refl; is = cc }
+step_ok e a (Some s) x is = record { view = s; from = refl; is = cc }
 
 module _ (i : ℕ) (h : ServiceHash) where
   abbrev pub mine : ℕ → Ticket
   mine n = record { node = i; hash = h; number = n }
 
-  published_ok : (n : ℕ) (k : Tickets) (o : Option Spot) (x : ℕ × Change) → publishing_of i h n k o ≡ Ok x → (s : Spot) × (o ≡ Some s) × (x ≡ (n, spot_becomes_with s (with_ticket i h k n n)))
+  published_ok : (n : ℕ) (k : Tickets) (o : Option ServiceView) (x : ℕ × Change) → publishing_of i h n k o ≡ Ok x → (s : ServiceView) × (o ≡ Some s) × (x ≡ (n, view_becomes_with s (with_ticket i h k n n)))
   published_ok n k None x is = absurd (cc)
   published_ok n k (Some s) x is = (s, refl, cc)
 
-  opened_ok : (n : ℕ) (s : Seat) (e : Option OpenSegmentError) (o : Option Spot) (x : ℕ × Change) → opening_of i h n s e o ≡ Ok x → (e ≡ None) × (y : Spot) × (o ≡ Some y) × (x ≡ (s.spot.counter, spot_becomes_with (record y { counter = s.spot.counter + 1 }) (with_ticket i h s.tickets s.spot.counter n)))
+  opened_ok : (n : ℕ) (s : NodeView) (e : Option OpenSegmentError) (o : Option ServiceView) (x : ℕ × Change) → opening_of i h n s e o ≡ Ok x → (e ≡ None) × (y : ServiceView) × (o ≡ Some y) × (x ≡ (s.view.counter, view_becomes_with (record y { counter = s.view.counter + 1 }) (with_ticket i h s.tickets s.view.counter n)))
   opened_ok n s (Some e) o x is = absurd (cc)
   opened_ok n s None None x is = absurd (cc)
   opened_ok n s None (Some y) x is = (refl, y, refl, cc)
 
-  pub release_ok : (t : ℕ) (k : Tickets) (o : Option Spot) (x : Released × Change) → release_of i h t k o ≡ Ok x → (s : Spot) × (o ≡ Some s) × (x ≡ (release_answer s.phase, spot_becomes_with s (map.remove k t)))
+  pub release_ok : (t : ℕ) (k : Tickets) (o : Option ServiceView) (x : Released × Change) → release_of i h t k o ≡ Ok x → (s : ServiceView) × (o ≡ Some s) × (x ≡ (release_answer s.phase, view_becomes_with s (map.remove k t)))
   release_ok t k None x is = absurd (cc)
   release_ok t k (Some s) x is = (s, refl, cc)
 
-  pub fetched_ok : (s : Spot) (r : Option Row) (x : _) → fetch_of i h s r ≡ Ok x → (r ≡ Some (row.Published x.0.0 x.0.1)) × (x.1 ≡ read_change (own_step i h act.Read s))
+  pub fetched_ok : (s : ServiceView) (r : Option Row) (x : _) → fetch_of i h s r ≡ Ok x → (r ≡ Some (row.Published x.0.0 x.0.1)) × (x.1 ≡ read_change (own_step i h act.Read s))
   fetched_ok s None x is = absurd (cc)
   fetched_ok s (Some (row.Locked n)) x is = absurd (cc)
   fetched_ok s (Some (row.Published n b)) x is = let same : x ≡ ((n, b), read_change (own_step i h act.Read s)) = cc in (λ j. Some (row.Published (sym same j).0.0 (sym same j).0.1), λ j. (same j).1)
 
-  locked_ok : (s : Spot) (r : Option Row) (x : ℕ × Change) → lock_of i h s r ≡ Ok x → Stepping (own_step i h act.Lock s) x s.counter
+  locked_ok : (s : ServiceView) (r : Option Row) (x : ℕ × Change) → lock_of i h s r ≡ Ok x → Stepping (own_step i h act.Lock s) x s.counter
   locked_ok s None x is = step_ok _ s.counter (own_step i h act.Lock s) x is
   locked_ok s (Some (row.Locked n)) x is = absurd (cc)
   locked_ok s (Some (row.Published n b)) x is = absurd (cc)
 
-  pub made_ok : (m : ℕ) (s : Spot) (o : Option Segment) (x : Unit {0} × Change) → make_of i h m s o ≡ Ok x → Stepping (own_step i h (act.Make m) s) x tt
+  pub made_ok : (m : ℕ) (s : ServiceView) (o : Option Segment) (x : Unit {0} × Change) → make_of i h m s o ≡ Ok x → Stepping (own_step i h (act.Make m) s) x tt
   made_ok m s None x is = step_ok _ tt (own_step i h (act.Make m) s) x is
   made_ok m s (Some y) x is = absurd (cc)
 
@@ -173,13 +173,13 @@ pub unchanged : (w v : World) (i : ℕ) (h : ServiceHash) (c : Change) → c ≡
 unchanged w v i h c e is = is ∙ ap (write w i h) e
 
 -- a step, in the world
-pub made_step : (w : World) (i : ℕ) (h : ServiceHash) (a : Act) (s : Spot) → own_step i h a (seat w i h).spot ≡ Some s → world_after w (Node i) h a ≡ Some (put w (Node i) h s)
+pub made_step : (w : World) (i : ℕ) (h : ServiceHash) (a : Act) (s : ServiceView) → own_step i h a (node_view w i h).view ≡ Some s → world_after w (Node i) h a ≡ Some (put w (Node i) h s)
 made_step w i h a s e = ap (option_map (put w (Node i) h)) e
 
-pub moved_world : (w v : World) (i : ℕ) (h : ServiceHash) (a : Act) (c : Change) (s : Spot) → own_step i h a (seat w i h).spot ≡ Some s → c ≡ spot_becomes s → v ≡ write w i h c → world_after w (Node i) h a ≡ Some v
+pub moved_world : (w v : World) (i : ℕ) (h : ServiceHash) (a : Act) (c : Change) (s : ServiceView) → own_step i h a (node_view w i h).view ≡ Some s → c ≡ view_becomes s → v ≡ write w i h c → world_after w (Node i) h a ≡ Some v
 moved_world w v i h a c s e m is = made_step w i h a s e ∙ ap Some (sym (is ∙ ap (write w i h) m))
 
-read_part : (w v : World) (i : ℕ) (h : ServiceHash) (l : Letter) (c : Change) (o : Option Spot) → own_step i h act.Read (seat w i h).spot ≡ o → c ≡ read_change o → v ≡ write w i h c → Part w l v
+read_part : (w v : World) (i : ℕ) (h : ServiceHash) (l : Letter) (c : Change) (o : Option ServiceView) → own_step i h act.Read (node_view w i h).view ≡ o → c ≡ read_change o → v ≡ write w i h c → Part w l v
 read_part w v i h l c None e m is = stays (unchanged w v i h c m is)
 read_part w v i h l c (Some s) e m is = calm i h act.Read tt (moved_world w v i h act.Read c s e m is)
 
@@ -208,7 +208,7 @@ publishing w v i h n d t p = elim (answer_cases _ _ _ p.change p.own.1) [
 pub joining : (w v : World) (i : ℕ) (h : ServiceHash) (n t : ℕ) → IsOwnPart w (letter.OpenSegment i h n (Ok t)) v → Joining w i h n t v
 joining w v i h n t p = elim (answer_cases _ _ _ p.change p.own) [
   | inl k ↦
-      let all = opened_ok i h n (seat w i h) _ _ k.given k.from in
+      let all = opened_ok i h n (node_view w i h) _ _ k.given k.from in
       let answer : t ≡ k.given.0 = cc (k.answer) in
       record {
         number = open_means n (segment_of w h) w.counter _ all.0;
@@ -237,34 +237,34 @@ releasing w v t i h n a p = elim (sure_answer_cases _ _ p.change p.own) [
 -- what a fetch that is granted found
 pub fetching : (w v : World) (i : ℕ) (h : ServiceHash) (n : ℕ) (b : _) → IsOwnPart w (letter.Fetch i h (Ok (n, b))) v → row_of w h ≡ Some (row.Published n b)
 fetching w v i h n b p = elim (answer_cases _ _ _ p.change p.own) [
-  | inl k ↦ let found = fetched_ok i h (seat w i h).spot (row_of w h) k.given k.from in let same : (n, b) ≡ k.given.0 = cc (k.answer) in found.0 ∙ (λ j. Some (row.Published (sym same j).0 (sym same j).1))
+  | inl k ↦ let found = fetched_ok i h (node_view w i h).view (row_of w h) k.given k.from in let same : (n, b) ≡ k.given.0 = cc (k.answer) in found.0 ∙ (λ j. Some (row.Published (sym same j).0 (sym same j).1))
   | inr k ↦ absurd (cc (k.answer))
 ]
 
 -- a lock's number is the counter's value
 pub locking : (w v : World) (i : ℕ) (h : ServiceHash) (n : ℕ) → IsOwnPart w (letter.Lock i h (Ok n)) v → (n ≡ w.counter) × (world_after w (Node i) h act.Lock ≡ Some v)
 locking w v i h n p = elim (answer_cases _ _ _ p.change p.own) [
-  | inl k ↦ let s = locked_ok i h (seat w i h).spot (row_of w h) k.given k.from in let answer : n ≡ k.given.0 = cc (k.answer) in
-      (answer ∙ (λ j. (s.is j).0), moved_world w v i h act.Lock p.change s.spot s.from (k.change ∙ (λ j. (s.is j).1)) p.is)
+  | inl k ↦ let s = locked_ok i h (node_view w i h).view (row_of w h) k.given k.from in let answer : n ≡ k.given.0 = cc (k.answer) in
+      (answer ∙ (λ j. (s.is j).0), moved_world w v i h act.Lock p.change s.view s.from (k.change ∙ (λ j. (s.is j).1)) p.is)
   | inr k ↦ absurd (cc (k.answer))
 ]
 
 -- a segment is made, or removed, or a description is
 pub making : (w v : World) (i : ℕ) (h : ServiceHash) (n m : ℕ) (a : Unit {0}) → IsOwnPart w (letter.MakeSegment i h n m (Ok a)) v → world_after w (Node i) h (act.Make m) ≡ Some v
 making w v i h n m a p = elim (answer_cases _ _ (Ok a) p.change p.own) [
-  | inl k ↦ let s = made_ok i h m (seat w i h).spot (segment_of w h) k.given (passed _ _ _ k.given k.from).1 in moved_world w v i h (act.Make m) p.change s.spot s.from (k.change ∙ (λ j. (s.is j).1)) p.is
+  | inl k ↦ let s = made_ok i h m (node_view w i h).view (segment_of w h) k.given (passed _ _ _ k.given k.from).1 in moved_world w v i h (act.Make m) p.change s.view s.from (k.change ∙ (λ j. (s.is j).1)) p.is
   | inr k ↦ absurd (cc (k.answer))
 ]
 
 pub clearing : (w v : World) (i : ℕ) (h : ServiceHash) (a : Unit {0}) → IsOwnPart w (letter.RemoveSegment i h (Ok a)) v → world_after w (Node i) h act.RemoveSegment ≡ Some v
 clearing w v i h a p = elim (sure_answer_cases _ (Ok a) p.change p.own) [
-  | inl k ↦ let s = step_ok _ _ (own_step i h act.RemoveSegment (seat w i h).spot) k.given k.from in moved_world w v i h act.RemoveSegment p.change s.spot s.from (k.change ∙ (λ j. (s.is j).1)) p.is
+  | inl k ↦ let s = step_ok _ _ (own_step i h act.RemoveSegment (node_view w i h).view) k.given k.from in moved_world w v i h act.RemoveSegment p.change s.view s.from (k.change ∙ (λ j. (s.is j).1)) p.is
   | inr k ↦ absurd (cc (k.answer))
 ]
 
 pub unlocking : (w v : World) (i : ℕ) (h : ServiceHash) (a : Unit {0}) → IsOwnPart w (letter.RemoveDescription i h (Ok a)) v → world_after w (Node i) h act.RemoveDescription ≡ Some v
 unlocking w v i h a p = elim (sure_answer_cases _ (Ok a) p.change p.own) [
-  | inl k ↦ let s = step_ok _ _ (own_step i h act.RemoveDescription (seat w i h).spot) k.given k.from in moved_world w v i h act.RemoveDescription p.change s.spot s.from (k.change ∙ (λ j. (s.is j).1)) p.is
+  | inl k ↦ let s = step_ok _ _ (own_step i h act.RemoveDescription (node_view w i h).view) k.given k.from in moved_world w v i h act.RemoveDescription p.change s.view s.from (k.change ∙ (λ j. (s.is j).1)) p.is
   | inr k ↦ absurd (cc (k.answer))
 ]
 
@@ -272,26 +272,26 @@ unlocking w v i h a p = elim (sure_answer_cases _ (Ok a) p.change p.own) [
 pub own_part : (w : World) (l : Letter) (v : World) → IsOwnPart w l v → Part w l v
 own_part w (letter.Exists h a) v p = stays (unchanged w v 0 h p.change p.own.1 p.is)
 own_part w (letter.Fetch i h a) v p = elim (answer_cases _ _ a p.change p.own) [
-  | inl k ↦ read_part w v i h _ p.change (own_step i h act.Read (seat w i h).spot) refl (k.change ∙ (fetched_ok i h (seat w i h).spot (row_of w h) k.given k.from).1) p.is
+  | inl k ↦ read_part w v i h _ p.change (own_step i h act.Read (node_view w i h).view) refl (k.change ∙ (fetched_ok i h (node_view w i h).view (row_of w h) k.given k.from).1) p.is
   | inr k ↦ stays (unchanged w v i h p.change k.change p.is)
 ]
 own_part w (letter.Counts i h a) v p = stays (unchanged w v i h p.change p.own.1 p.is)
-own_part w (letter.MakeTag i h a) v p = tag_part w v i h _ (seat w i h).tag a p.change p.own p.is
+own_part w (letter.MakeTag i h a) v p = tag_part w v i h _ (node_view w i h).tag a p.change p.own p.is
 own_part w (letter.RemoveTag i h a) v p = tagged _ (p.is ∙ ap (write w i h) p.own.1)
 own_part w (letter.Lock i h a) v p = elim (answer_cases _ _ a p.change p.own) [
-  | inl k ↦ let s = locked_ok i h (seat w i h).spot (row_of w h) k.given k.from in calm i h act.Lock tt (moved_world w v i h act.Lock p.change s.spot s.from (k.change ∙ (λ j. (s.is j).1)) p.is)
+  | inl k ↦ let s = locked_ok i h (node_view w i h).view (row_of w h) k.given k.from in calm i h act.Lock tt (moved_world w v i h act.Lock p.change s.view s.from (k.change ∙ (λ j. (s.is j).1)) p.is)
   | inr k ↦ stays (unchanged w v i h p.change k.change p.is)
 ]
 own_part w (letter.MakeSegment i h n m a) v p = elim (answer_cases _ _ a p.change p.own) [
-  | inl k ↦ let s = made_ok i h m (seat w i h).spot (segment_of w h) k.given (passed (has_lock n (phase_of w (Node i) h) && nat_lt 0 m) _ _ k.given k.from).1 in calm i h (act.Make m) tt (moved_world w v i h (act.Make m) p.change s.spot s.from (k.change ∙ (λ j. (s.is j).1)) p.is)
+  | inl k ↦ let s = made_ok i h m (node_view w i h).view (segment_of w h) k.given (passed (has_lock n (phase_of w (Node i) h) && nat_lt 0 m) _ _ k.given k.from).1 in calm i h (act.Make m) tt (moved_world w v i h (act.Make m) p.change s.view s.from (k.change ∙ (λ j. (s.is j).1)) p.is)
   | inr k ↦ stays (unchanged w v i h p.change k.change p.is)
 ]
 own_part w (letter.RemoveSegment i h a) v p = elim (sure_answer_cases _ a p.change p.own) [
-  | inl k ↦ let s = step_ok _ _ (own_step i h act.RemoveSegment (seat w i h).spot) k.given k.from in calm i h act.RemoveSegment tt (moved_world w v i h act.RemoveSegment p.change s.spot s.from (k.change ∙ (λ j. (s.is j).1)) p.is)
+  | inl k ↦ let s = step_ok _ _ (own_step i h act.RemoveSegment (node_view w i h).view) k.given k.from in calm i h act.RemoveSegment tt (moved_world w v i h act.RemoveSegment p.change s.view s.from (k.change ∙ (λ j. (s.is j).1)) p.is)
   | inr k ↦ stays (unchanged w v i h p.change k.change p.is)
 ]
 own_part w (letter.RemoveDescription i h a) v p = elim (sure_answer_cases _ a p.change p.own) [
-  | inl k ↦ let s = step_ok _ _ (own_step i h act.RemoveDescription (seat w i h).spot) k.given k.from in removed i h (ap (letter.RemoveDescription i h) k.answer) (moved_world w v i h act.RemoveDescription p.change s.spot s.from (k.change ∙ (λ j. (s.is j).1)) p.is)
+  | inl k ↦ let s = step_ok _ _ (own_step i h act.RemoveDescription (node_view w i h).view) k.given k.from in removed i h (ap (letter.RemoveDescription i h) k.answer) (moved_world w v i h act.RemoveDescription p.change s.view s.from (k.change ∙ (λ j. (s.is j).1)) p.is)
   | inr k ↦ stays (unchanged w v i h p.change k.change p.is)
 ]
 own_part w (letter.Publish i h n d (Ok t)) v p = publishes i h n d t refl (publishing w v i h n d t p)

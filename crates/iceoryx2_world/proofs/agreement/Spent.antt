@@ -10,13 +10,13 @@ use Rattle.iceoryx2_world.specs.Orders.{hash_total, hash_exact}
 use Rattle.iceoryx2_world.specs.World.{World, Segment, row_of, segment_of, phase_of, locked_number}
 use Rattle.iceoryx2_world.specs.Acts.{Act, IsAct, Read, Lock, RemoveSegment, RemoveDescription, Make, Publish, Join, Leave}
 use Rattle.iceoryx2_world.specs.Acts as act
-use Rattle.iceoryx2_world.specs.Steps.{Spot, put, world_after, with_one, without_one, without_any}
+use Rattle.iceoryx2_world.specs.Steps.{ServiceView, put, world_after, with_one, without_one, without_any}
 use Rattle.iceoryx2_world.specs.Agreement.{AgreesEverywhere, IsSpent}
 use Rattle.iceoryx2_world.specs.Across.{Agrees}
 use Rattle.iceoryx2_access.specs.Letter.{Letter}
 use Rattle.iceoryx2_world.specs.Access.{IsOwnPart}
 use Rattle.iceoryx2_world.specs.Peers.{Peers, none, peer}
-use Rattle.iceoryx2_world.specs.Faulty.{IsFaulty}
+use Rattle.iceoryx2_world.specs.Fallible.{IsFallibleAccess}
 use Rattle.iceoryx2_world.proofs.agreement.Whole.{after_keeps}
 use Rattle.iceoryx2_world.specs.StepCases.{IsStep, reads, locks, clears, makes, unmakes, unlocks, publishes, joins as adds, joins_again, leaves_once, leaves, leaves_last, clears_last, ends}
 use Rattle.iceoryx2_world.proofs.agreement.StepCases.{step_case}
@@ -39,7 +39,7 @@ no_origin x s y e = absurd (cc)
 some_origin : (x : Option ℕ) (z t : Segment) → z.number ≡ t.number → Origin x (Some z) (Some t)
 some_origin x z t e y is = let same : t ≡ y = cc in inl (z, refl, e ∙ ap (λ (k : Segment). k.number) same)
 
-row_segment : {p : Participant} {h : ServiceHash} {act : Act} {x : Phase} {r : Option Row} {s : Option Segment} {c : ℕ} {new : Spot} → IsStep p h act x r s c new
+row_segment : {p : Participant} {h : ServiceHash} {act : Act} {x : Phase} {r : Option Row} {s : Option Segment} {c : ℕ} {new : ServiceView} → IsStep p h act x r s c new
     → Origin (locked_number x) s new.segment
 row_segment (reads free) = same_origin _ _
 row_segment (locks free below) = same_origin _ _
@@ -60,9 +60,9 @@ row_segment (ends last) = same_origin _ _
 pub world_segment : (w v : World) (p : Participant) (g : ServiceHash) (a : Act) → world_after w p g a ≡ Some v → (h : ServiceHash) (y : Segment) → segment_of v h ≡ Some y → ((z : Segment) × (segment_of w h ≡ Some z) × (z.number ≡ y.number)) ⊎ (locked_number (phase_of w p h) ≡ Some y.number)
 world_segment w v p g a e h y is =
     let st = allowed_step w v p g a e in
-    let there : segment_of (put w p g st.spot) h ≡ Some y = ap (λ u. segment_of u h) st.world ∙ is in
-    elim (set_cases hash_total hash_exact w.segments g st.spot.segment h) [
-      | inl k ↦ elim (row_segment (step_case p g a (phase_of w p g) (row_of w g) (segment_of w g) w.counter st.spot st.is) y (sym k.1 ∙ there)) [
+    let there : segment_of (put w p g st.view) h ≡ Some y = ap (λ u. segment_of u h) st.world ∙ is in
+    elim (set_cases hash_total hash_exact w.segments g st.view.segment h) [
+      | inl k ↦ elim (row_segment (step_case p g a (phase_of w p g) (row_of w g) (segment_of w g) w.counter st.view st.is) y (sym k.1 ∙ there)) [
         | inl z ↦ inl (z.0, ap (segment_of w) k.0 ∙ z.1, z.2)
         | inr l ↦ inr (ap (λ f. locked_number (phase_of w p f)) k.0 ∙ l)
       ]
@@ -111,6 +111,6 @@ part_spent w l v h n (releases t i g m a is p) old s = let new = spent_step w p.
 pub spent_own : (w : World) (l : Letter) (v : World) (h : ServiceHash) (n : ℕ) → IsOwnPart w l v → Agrees w → IsSpent w h n → IsSpent v h n
 spent_own w l v h n o old s = part_spent w l v h n (own_part w l v o) old s
 
-pub spent_access : (w : World) (l : Letter) (v : World) (h : ServiceHash) (n : ℕ) → IsFaulty w l v → Agrees w → IsSpent w h n → IsSpent v h n
+pub spent_access : (w : World) (l : Letter) (v : World) (h : ServiceHash) (n : ℕ) → IsFallibleAccess w l v → Agrees w → IsSpent w h n → IsSpent v h n
 spent_access w l v h n (inl a) old s = spent_own a.between l v h n a.own (peers_keep a.peers old).0 (spent_peers h n a.peers old s)
 spent_access w l v h n (inr f) old s = spent_same w v h n f.1 s

@@ -17,15 +17,15 @@ use Rattle.iceoryx2_world.specs.Orders.{hash_total, hash_exact}
 use Rattle.iceoryx2_world.specs.World.{World, Segment, row_of, segment_of, phase_of, joined_number, locked_number, ticket_of}
 use Rattle.iceoryx2_world.specs.Acts.{Act, IsAct}
 use Rattle.iceoryx2_world.specs.Acts as act
-use Rattle.iceoryx2_world.specs.Steps.{Spot, world_after}
+use Rattle.iceoryx2_world.specs.Steps.{ServiceView, world_after}
 use Rattle.iceoryx2_world.specs.Agreement.{AgreesEverywhere, Later}
 use Rattle.iceoryx2_world.specs.Across.{Agrees}
 use Rattle.iceoryx2_access.specs.declared.storage.Release.{Release as Released}
 use Rattle.iceoryx2_access.specs.Letter.{Letter}
 use Rattle.iceoryx2_access.specs.Letter as letter
 use Rattle.iceoryx2_world.specs.Peers.{Peers, none, peer, IsAccess}
-use Rattle.iceoryx2_world.specs.Faulty.{IsFaulty}
-use Rattle.iceoryx2_access.specs.Factory.{Factory}
+use Rattle.iceoryx2_world.specs.Fallible.{IsFallibleAccess}
+use Rattle.iceoryx2_access.specs.Registered.{Registered}
 use Rattle.iceoryx2_world.specs.Standing.{ticket_for, Stands, Spares}
 use Rattle.iceoryx2_access.specs.Run.{Each, Run, done, next}
 use Rattle.iceoryx2_access.proofs.Run.{split, head, last}
@@ -39,7 +39,7 @@ use Rattle.iceoryx2_world.proofs.agreement.Parts.{mine, Part, stays, tagged, cal
 use Rattle.iceoryx2_world.proofs.agreement.Accesses.{later_refl, later_trans, joined_means, peers_keep, own_keeps, access_keeps, faulty_keeps, run_keeps, granted}
 
 -- A factory stands where its ticket is and its node is registered, with what its service had before.
-pub stands_by : (u w : World) (f : Factory) → Later u w → IsDescription f.description → row_of u f.description.hash ≡ Some (row.Published f.number (form.description f.description)) → AgreesEverywhere w → joined_number (phase_of w (Node f.node) f.description.hash) ≡ Some f.number → ticket_of w f.ticket ≡ Some (ticket_for f) → Stands w f
+pub stands_by : (u w : World) (f : Registered) → Later u w → IsDescription f.description → row_of u f.description.hash ≡ Some (row.Published f.number (form.description f.description)) → AgreesEverywhere w → joined_number (phase_of w (Node f.node) f.description.hash) ≡ Some f.number → ticket_of w f.ticket ≡ Some (ticket_for f) → Stands w f
 stands_by u w f later limits was each joined ticket =
     let j = joined_means _ f.number joined in
     let c = (each f.description.hash).joined (Node f.node) f.number j.0 j.1 in
@@ -51,26 +51,26 @@ stands_by u w f later limits was each joined ticket =
     }
 
 -- where the whole world agrees, the ticket alone does it
-pub stands_by_ticket : (u w : World) (f : Factory) → Later u w → IsDescription f.description → row_of u f.description.hash ≡ Some (row.Published f.number (form.description f.description)) → Agrees w → ticket_of w f.ticket ≡ Some (ticket_for f) → Stands w f
+pub stands_by_ticket : (u w : World) (f : Registered) → Later u w → IsDescription f.description → row_of u f.description.hash ≡ Some (row.Published f.number (form.description f.description)) → Agrees w → ticket_of w f.ticket ≡ Some (ticket_for f) → Stands w f
 stands_by_ticket u w f later limits was a ticket = stands_by u w f later limits was a.everywhere (a.held.number f.ticket (ticket_for f) ticket) ticket
 
 -- In a world that agrees each ticket is one of a factory that stands.
-pub ticket_stands : (w : World) (t : ℕ) (x : Ticket) → Agrees w → ticket_of w t ≡ Some x → (f : Factory) × (f.ticket ≡ t) × (ticket_for f ≡ x) × Stands w f
+pub ticket_stands : (w : World) (t : ℕ) (x : Ticket) → Agrees w → ticket_of w t ≡ Some x → (f : Registered) × (f.ticket ≡ t) × (ticket_for f ≡ x) × Stands w f
 ticket_stands w t x a e =
     let j = joined_means _ x.number (a.held.number t x e) in
     let c = (a.everywhere x.hash).joined (Node x.node) x.number j.0 j.1 in
     let d = (a.everywhere x.hash).published x.number c.1.0 c.1.1 in
-    let f : Factory = record { node = x.node; number = x.number; ticket = t; description = d.description } in
+    let f : Registered = record { node = x.node; number = x.number; ticket = t; description = d.description } in
     let same : ticket_for f ≡ x = λ i. record { node = x.node; hash = d.hash i; number = x.number } in
     let row : row_of w d.description.hash ≡ Some (row.Published x.number (form.description d.description)) = ap (row_of w) d.hash ∙ c.1.1 ∙ ap (λ b. Some (row.Published x.number b)) d.form.1 in
     (f, refl, same, stands_by_ticket w w f (later_refl w) d.form.0 row a (e ∙ ap Some (sym same)))
 
 -- A step of another participant.
-pub other_stands : (w v : World) (p : Participant) (g : ServiceHash) (a : Act) (f : Factory) → (Node f.node ≢ p) → IsAct a → world_after w p g a ≡ Some v → Agrees w → Stands w f → Stands v f
+pub other_stands : (w v : World) (p : Participant) (g : ServiceHash) (a : Act) (f : Registered) → (Node f.node ≢ p) → IsAct a → world_after w p g a ≡ Some v → Agrees w → Stands w f → Stands v f
 other_stands w v p g a f apart ok e old s =
     let st = allowed_step w v p g a e in
     let kept = after_keeps w v p g a ok e old.everywhere in
-    let still : phase_of v (Node f.node) f.description.hash ≡ phase_of w (Node f.node) f.description.hash = subst (λ (u : World). phase_of u (Node f.node) f.description.hash ≡ phase_of w (Node f.node) f.description.hash) st.world (elim (place_cases w p g st.spot (Node f.node) f.description.hash) [
+    let still : phase_of v (Node f.node) f.description.hash ≡ phase_of w (Node f.node) f.description.hash = subst (λ (u : World). phase_of u (Node f.node) f.description.hash ≡ phase_of w (Node f.node) f.description.hash) st.world (elim (place_cases w p g st.view (Node f.node) f.description.hash) [
       | inl k ↦ absurd (apart k.0)
       | inr k ↦ k.1
     ]) in
@@ -84,7 +84,7 @@ step_ticket w v p g a t x e k = ap (λ m. map.get m t) (step_tickets w v p g a (
 other_ticket : (u v : World) (s t : ℕ) (o : Option Ticket) (x : Ticket) → s ≢ t → ((q : ℕ) → ((q ≡ s) × (ticket_of v q ≡ o)) ⊎ ((q ≢ s) × (ticket_of v q ≡ ticket_of u q))) → ticket_of u t ≡ Some x → ticket_of v t ≡ Some x
 other_ticket u v s t o x apart cases k = elim (cases t) [ inl i ↦ absurd (apart (sym i.0)) | inr i ↦ i.1 ∙ k ]
 
-part_ticket : (w : World) (l : Letter) (v : World) (f : Factory) → Part w l v → Spares f l → Agrees w → ticket_of w f.ticket ≡ Some (ticket_for f) → ticket_of v f.ticket ≡ Some (ticket_for f)
+part_ticket : (w : World) (l : Letter) (v : World) (f : Registered) → Part w l v → Spares f l → Agrees w → ticket_of w f.ticket ≡ Some (ticket_for f) → ticket_of v f.ticket ≡ Some (ticket_for f)
 part_ticket w l v f (stays e) spares old k = ap (λ z. ticket_of z f.ticket) e ∙ k
 part_ticket w l v f (tagged t e) spares old k = ap (λ z. ticket_of z f.ticket) e ∙ k
 part_ticket w l v f (calm i h a ok e) spares old k = step_ticket w v (Node i) h a f.ticket _ e k
@@ -107,84 +107,84 @@ peers_ticket none t x k = k
 peers_ticket {w = u} {v = w} (peer {v = v} id g a ok e rest) t x k = peers_ticket rest t x (step_ticket u v (Peer id) g a t x e k)
 
 -- An access that isn't a granted release of its ticket.
-pub access_stands : (w : World) (l : Letter) (v : World) (f : Factory) → IsAccess w l v → Spares f l → Agrees w → Stands w f → Stands v f
+pub access_stands : (w : World) (l : Letter) (v : World) (f : Registered) → IsAccess w l v → Spares f l → Agrees w → Stands w f → Stands v f
 access_stands w l v f a spares old s =
     let kept = access_keeps w l v a old in
     stands_by_ticket w v f kept.1 s.limits s.row kept.0 (part_ticket a.between l v f (own_part a.between l v a.own) spares (peers_keep a.peers old).0 (peers_ticket a.peers f.ticket _ s.ticket))
 
-pub faulty_stands : (w : World) (l : Letter) (v : World) (f : Factory) → IsFaulty w l v → Spares f l → Agrees w → Stands w f → Stands v f
+pub faulty_stands : (w : World) (l : Letter) (v : World) (f : Registered) → IsFallibleAccess w l v → Spares f l → Agrees w → Stands w f → Stands v f
 faulty_stands w l v f (inl a) spares old s = access_stands w l v f a spares old s
 faulty_stands w l v f (inr e) spares old s = subst (λ u. Stands u f) (sym e.1) s
 
-pub run_stands : {w v : World} {word : List Letter} (f : Factory) → Run IsFaulty w word v → Each (Spares f) word → Agrees w → Stands w f → Stands v f
+pub run_stands : {w v : World} {word : List Letter} (f : Registered) → Run IsFallibleAccess w word v → Each (Spares f) word → Agrees w → Stands w f → Stands v f
 run_stands f done spares old s = s
 run_stands {w = u} {v = w} f (next {mid = v} {letter = l} a rest) spares old s = run_stands f rest spares.1 (faulty_keeps u l v a old).0 (faulty_stands u l v f a spares.0 old s)
 
 -- the row that a publishing leaves
-publish_spot : {p : Participant} {h : ServiceHash} {d : Description} {n : ℕ} {x : Phase} {r : Option Row} {s : Option Segment} {c : ℕ} {new : Spot} → x ≡ at.Made n
+publish_view : {p : Participant} {h : ServiceHash} {d : Description} {n : ℕ} {x : Phase} {r : Option Row} {s : Option Segment} {c : ℕ} {new : ServiceView} → x ≡ at.Made n
     → IsStep p h (act.Publish d) x r s c new → (new.row ≡ Some (row.Published n (form.description d))) × (d.hash ≡ h)
-publish_spot {d = d} {n = n} is (row_publishes {n = m} hash nodes) = let same : m ≡ n = cc in (ap (λ k. Some (row.Published k (form.description d))) same, hash)
+publish_view {d = d} {n = n} is (row_publishes {n = m} hash nodes) = let same : m ≡ n = cc in (ap (λ k. Some (row.Published k (form.description d))) same, hash)
 
-pub own_row : (w v : World) (p : Participant) (h : ServiceHash) (a : Act) → (st : AllowedStep w v p h a) → row_of v h ≡ st.spot.row
-own_row w v p h a st = subst (λ u. row_of u h ≡ st.spot.row) st.world (elim (set_cases hash_total hash_exact w.rows h st.spot.row h) [ inl e ↦ e.1 | inr e ↦ absurd (e.0 refl) ])
+pub own_row : (w v : World) (p : Participant) (h : ServiceHash) (a : Act) → (st : AllowedStep w v p h a) → row_of v h ≡ st.view.row
+own_row w v p h a st = subst (λ u. row_of u h ≡ st.view.row) st.world (elim (set_cases hash_total hash_exact w.rows h st.view.row h) [ inl e ↦ e.1 | inr e ↦ absurd (e.0 refl) ])
 
-pub own_phase : (w v : World) (i : ℕ) (h : ServiceHash) (a : Act) → (st : AllowedStep w v (Node i) h a) → phase_of v (Node i) h ≡ st.spot.phase
-own_phase w v i h a st = subst (λ u. phase_of u (Node i) h ≡ st.spot.phase) st.world (elim (place_cases w (Node i) h st.spot (Node i) h) [ inl k ↦ k.2 | inr k ↦ absurd (k.0 refl refl) ])
+pub own_phase : (w v : World) (i : ℕ) (h : ServiceHash) (a : Act) → (st : AllowedStep w v (Node i) h a) → phase_of v (Node i) h ≡ st.view.phase
+own_phase w v i h a st = subst (λ u. phase_of u (Node i) h ≡ st.view.phase) st.world (elim (place_cases w (Node i) h st.view (Node i) h) [ inl k ↦ k.2 | inr k ↦ absurd (k.0 refl refl) ])
 
-pub own_segment : (w v : World) (p : Participant) (h : ServiceHash) (a : Act) → (st : AllowedStep w v p h a) → segment_of v h ≡ st.spot.segment
-own_segment w v p h a st = subst (λ u. segment_of u h ≡ st.spot.segment) st.world (elim (set_cases hash_total hash_exact w.segments h st.spot.segment h) [ inl e ↦ e.1 | inr e ↦ absurd (e.0 refl) ])
+pub own_segment : (w v : World) (p : Participant) (h : ServiceHash) (a : Act) → (st : AllowedStep w v p h a) → segment_of v h ≡ st.view.segment
+own_segment w v p h a st = subst (λ u. segment_of u h ≡ st.view.segment) st.world (elim (set_cases hash_total hash_exact w.segments h st.view.segment h) [ inl e ↦ e.1 | inr e ↦ absurd (e.0 refl) ])
 
 -- a ticket that was put is there
 ticket_there : (u : World) (t : ℕ) (x : Ticket) → ticket_of (ticket_put u t x) t ≡ Some x
 ticket_there u t x = elim (set_cases nat_cmp_total exact_unsigned u.tickets t (Some x) t) [ inl i ↦ i.1 | inr i ↦ absurd (i.0 refl) ]
 
 -- Who publishes has a factory that stands, with the number as its ticket.
-pub published_stands : (w v : World) (i : ℕ) (h : ServiceHash) (n : ℕ) (d : Description) (t : ℕ) → IsFaulty w (letter.Publish i h n d (Ok t)) v → Agrees w → Stands v (record { node = i; number = n; ticket = t; description = d }) × (d.hash ≡ h) × (t ≡ n)
+pub published_stands : (w v : World) (i : ℕ) (h : ServiceHash) (n : ℕ) (d : Description) (t : ℕ) → IsFallibleAccess w (letter.Publish i h n d (Ok t)) v → Agrees w → Stands v (record { node = i; number = n; ticket = t; description = d }) × (d.hash ≡ h) × (t ≡ n)
 published_stands w v i h n d t e old =
     let a = granted w (letter.Publish i h n d (Ok t)) v (λ x. cc) e in
     let p = publishing a.between v i h n d t a.own in
     let st = allowed_step a.between p.mid (Node i) h (act.Publish d) p.step in
     let new = (access_keeps w (letter.Publish i h n d (Ok t)) v a old).0 in
-    let is = publish_spot p.phase (step_case (Node i) h (act.Publish d) (phase_of a.between (Node i) h) (row_of a.between h) (segment_of a.between h) a.between.counter st.spot st.is) in
-    let f : Factory = record { node = i; number = n; ticket = t; description = d } in
+    let is = publish_view p.phase (step_case (Node i) h (act.Publish d) (phase_of a.between (Node i) h) (row_of a.between h) (segment_of a.between h) a.between.counter st.view st.is) in
+    let f : Registered = record { node = i; number = n; ticket = t; description = d } in
     let row : row_of v d.hash ≡ Some (row.Published n (form.description d)) = ap (row_of v) is.1 ∙ ap (λ z. row_of z h) p.is ∙ own_row a.between p.mid (Node i) h (act.Publish d) st ∙ is.0 in
     let ticket : ticket_of v t ≡ Some (ticket_for f) = ap (λ z. ticket_of z t) p.is ∙ ticket_there p.mid t (mine i h n) ∙ (λ j. Some (record { node = i; hash = sym is.1 j; number = n })) in
     (stands_by_ticket v v f (later_refl v) p.limits row new ticket, is.1, p.ticket)
 
 -- Who opens a segment has a factory that stands with the description that was published under its number,
 -- and its ticket is a new one.
-pub opened_stands : (u w v : World) (i : ℕ) (h : ServiceHash) (n : ℕ) (d : Description) (t : ℕ) → Later u w → AgreesEverywhere u → row_of u h ≡ Some (row.Published n (form.description d)) → IsDescription d → d.hash ≡ h → IsFaulty w (letter.OpenSegment i h n (Ok t)) v → Agrees w → Stands v (record { node = i; number = n; ticket = t; description = d }) × (w.counter ≤ t)
+pub opened_stands : (u w v : World) (i : ℕ) (h : ServiceHash) (n : ℕ) (d : Description) (t : ℕ) → Later u w → AgreesEverywhere u → row_of u h ≡ Some (row.Published n (form.description d)) → IsDescription d → d.hash ≡ h → IsFallibleAccess w (letter.OpenSegment i h n (Ok t)) v → Agrees w → Stands v (record { node = i; number = n; ticket = t; description = d }) × (w.counter ≤ t)
 opened_stands u w v i h n d t later each was limits hash e old =
     let a = granted w (letter.OpenSegment i h n (Ok t)) v (λ x. cc) e in
     let p = joining a.between v i h n t a.own in
     let between = peers_keep a.peers old in
     let new = access_keeps w (letter.OpenSegment i h n (Ok t)) v a old in
-    let f : Factory = record { node = i; number = n; ticket = t; description = d } in
+    let f : Registered = record { node = i; number = n; ticket = t; description = d } in
     let ticket : ticket_of v t ≡ Some (ticket_for f) = ap (λ z. ticket_of z t) p.is ∙ ticket_there (record p.mid { counter = a.between.counter + 1 }) t (mine i h n) ∙ (λ j. Some (record { node = i; hash = sym hash j; number = n })) in
     (stands_by_ticket u v f (later_trans u w v each later new.1) limits (ap (row_of u) hash ∙ was) new.0 ticket, grind (arith, between.1.counter, p.ticket))
 
 -- a granted release takes its ticket out
-pub released_gone : (w v : World) (t i : ℕ) (h : ServiceHash) (n : ℕ) (a : Released) → IsFaulty w (letter.Release t i h n (Ok a)) v → ticket_of v t ≡ None
+pub released_gone : (w v : World) (t i : ℕ) (h : ServiceHash) (n : ℕ) (a : Released) → IsFallibleAccess w (letter.Release t i h n (Ok a)) v → ticket_of v t ≡ None
 released_gone w v t i h n a e =
     let b = granted w (letter.Release t i h n (Ok a)) v (λ x. cc) e in
     let p = releasing b.between v t i h n a b.own in
     ap (λ z. ticket_of z t) p.is ∙ elim (set_cases nat_cmp_total exact_unsigned (p.mid).tickets t None t) [ inl k ↦ k.1 | inr k ↦ absurd (k.0 refl) ]
 
 -- a fetch that is granted: the row is there, and after it too
-pub fetched_row : (w v : World) (i : ℕ) (h : ServiceHash) (n : ℕ) (b : List ℕ) → IsFaulty w (letter.Fetch i h (Ok (n, b))) v → Agrees w → (u : World) × Agrees u × (row_of u h ≡ Some (row.Published n b)) × Later w u × Later u v
+pub fetched_row : (w v : World) (i : ℕ) (h : ServiceHash) (n : ℕ) (b : List ℕ) → IsFallibleAccess w (letter.Fetch i h (Ok (n, b))) v → Agrees w → (u : World) × Agrees u × (row_of u h ≡ Some (row.Published n b)) × Later w u × Later u v
 fetched_row w v i h n b e old =
     let a = granted w (letter.Fetch i h (Ok (n, b))) v (λ x. cc) e in
     let mid = peers_keep a.peers old in
     (a.between, mid.0, fetching a.between v i h n b a.own, mid.1, (own_keeps a.between (letter.Fetch i h (Ok (n, b))) v a.own mid.0).1)
 
 -- a lock that is granted has a new number
-pub locked_number_new : (w v : World) (i : ℕ) (h : ServiceHash) (n : ℕ) → IsFaulty w (letter.Lock i h (Ok n)) v → Agrees w → w.counter ≤ n
+pub locked_number_new : (w v : World) (i : ℕ) (h : ServiceHash) (n : ℕ) → IsFallibleAccess w (letter.Lock i h (Ok n)) v → Agrees w → w.counter ≤ n
 locked_number_new w v i h n e old =
     let a = granted w (letter.Lock i h (Ok n)) v (λ x. cc) e in
     grind (arith, (peers_keep a.peers old).1.counter, (locking a.between v i h n a.own).0)
 
 -- From the lock to the publishing.
-pub created_stands : (u v : World) (i : ℕ) (h : ServiceHash) (n : ℕ) (d : Description) (t : ℕ) (word : List Letter) → Run IsFaulty u (letter.Lock i h (Ok n) ∷ (word ++ letter.Publish i h n d (Ok t) ∷ [])) v → Agrees u → Stands v (record { node = i; number = n; ticket = t; description = d }) × (d.hash ≡ h) × (u.counter ≤ t)
+pub created_stands : (u v : World) (i : ℕ) (h : ServiceHash) (n : ℕ) (d : Description) (t : ℕ) (word : List Letter) → Run IsFallibleAccess u (letter.Lock i h (Ok n) ∷ (word ++ letter.Publish i h n d (Ok t) ∷ [])) v → Agrees u → Stands v (record { node = i; number = n; ticket = t; description = d }) × (d.hash ≡ h) × (u.counter ≤ t)
 created_stands u v i h n d t word run old =
     let first = head run in
     let rest = split word _ first.rest in
@@ -194,7 +194,7 @@ created_stands u v i h n d t word run old =
     (published.0, published.1, grind (arith, locked_number_new u first.mid i h n first.first old, published.2))
 
 -- From the fetch to the opening.
-pub found_stands : (u v : World) (i : ℕ) (h : ServiceHash) (n : ℕ) (d : Description) (b : List ℕ) (t : ℕ) (word : List Letter) → Run IsFaulty u (letter.Fetch i h (Ok (n, b)) ∷ (word ++ letter.OpenSegment i h n (Ok t) ∷ [])) v → form.IsForm d b → d.hash ≡ h → Agrees u → Stands v (record { node = i; number = n; ticket = t; description = d }) × (u.counter ≤ t)
+pub found_stands : (u v : World) (i : ℕ) (h : ServiceHash) (n : ℕ) (d : Description) (b : List ℕ) (t : ℕ) (word : List Letter) → Run IsFallibleAccess u (letter.Fetch i h (Ok (n, b)) ∷ (word ++ letter.OpenSegment i h n (Ok t) ∷ [])) v → form.IsForm d b → d.hash ≡ h → Agrees u → Stands v (record { node = i; number = n; ticket = t; description = d }) × (u.counter ≤ t)
 found_stands u v i h n d b t word run is hash old =
     let first = head run in
     let rest = split word _ first.rest in
@@ -215,5 +215,5 @@ each_map P Q f [] a = tt
 each_map P Q f (l ∷ word) a = (f l a.0, each_map P Q f word a.1)
 
 -- A factory that stood has another ticket than one not below the counter.
-pub older_ticket : (w : World) (f : Factory) (t : ℕ) → Agrees w → Stands w f → w.counter ≤ t → f.ticket ≢ t
+pub older_ticket : (w : World) (f : Registered) (t : ℕ) → Agrees w → Stands w f → w.counter ≤ t → f.ticket ≢ t
 older_ticket w f t a s low e = grind (arith, a.numbered.below f.ticket _ s.ticket)

@@ -8,15 +8,15 @@ use Rattle.iceoryx2_world.specs.declared.world.Row.TheVariants as row
 use Rattle.iceoryx2_world.specs.World.{Segment, begins, locked_number, is_last}
 use Rattle.iceoryx2_byte_form.specs.Form as form
 use Rattle.iceoryx2_world.specs.Acts.{Act, IsAct}
-use Rattle.iceoryx2_world.specs.Steps.{Spot, spot_after}
+use Rattle.iceoryx2_world.specs.Steps.{ServiceView, view_after}
 use Rattle.iceoryx2_world.specs.Agreement.{AgreesAt, LaterAt}
 use Rattle.iceoryx2_world.proofs.agreement.Moved.{moved}
 use Rattle.iceoryx2_world.specs.StepCases.{IsStep, reads, locks, clears, makes, unmakes, unlocks, publishes, joins, joins_again, leaves_once, leaves, leaves_last, clears_last, ends}
 use Rattle.iceoryx2_world.proofs.agreement.StepCases.{step_case}
-use Rattle.iceoryx2_world.proofs.agreement.Keeps.{read_keeps, lock_keeps, make_keeps, unmake_keeps, unlock_keeps, publish_keeps, join_keeps, recount_keeps, leave_keeps, last_keeps, clear_keeps, end_keeps}
+use Rattle.iceoryx2_world.proofs.agreement.Preserved.{read_keeps, lock_keeps, make_keeps, unmake_keeps, unlock_keeps, publish_keeps, join_keeps, recount_keeps, leave_keeps, last_keeps, clear_keeps, end_keeps}
 
 -- what a step keeps, and that the row is a later one
-pub record StepKeeps (c : ℕ) (r : Option Row) (h : ServiceHash) (f : Participant → Phase) (p : Participant) (new : Spot) : Type 0 where
+pub record StepKeeps (c : ℕ) (r : Option Row) (h : ServiceHash) (f : Participant → Phase) (p : Participant) (new : ServiceView) : Type 0 where
   pub rises : c ≤ new.counter
   pub later : LaterAt c r new.row
   pub agrees : AgreesAt new.counter h new.row new.segment (moved f p new.phase)
@@ -41,7 +41,7 @@ goes : {c : ℕ} {r : Option Row} {h : ServiceHash} {f : Participant → Phase} 
     → AgreesAt c h None s (moved f p x) → StepKeeps c r h f p (record { phase = x; row = None; segment = s; counter = c })
 goes a = record { rises = omega arith; later = later_none _ _; agrees = a }
 
-row_keeps : {p : Participant} {h : ServiceHash} {act : Act} {x : Phase} {r : Option Row} {s : Option Segment} {c : ℕ} {new : Spot} → IsStep p h act x r s c new
+row_keeps : {p : Participant} {h : ServiceHash} {act : Act} {x : Phase} {r : Option Row} {s : Option Segment} {c : ℕ} {new : ServiceView} → IsStep p h act x r s c new
     → (f : Participant → Phase) → f p ≡ x → IsAct act → AgreesAt c h r s f → StepKeeps c r h f p new
 row_keeps {p} {h} (reads {n = n} {c = c} {b = b} {s = s} free) f was ok a = stays (read_keeps c h f p n b s (ap begins was ∙ free) a)
 row_keeps {p} {h} (locks {c = c} {s = s} free below) f was ok a =
@@ -63,6 +63,6 @@ row_keeps {p} {h} (leaves_last {n = n} {k = k} {c = c} {r = r} {s = s} one alone
 row_keeps {p} {h} (clears_last {n = n} {c = c} {r = r} {s = s}) f was ok a = stays (clear_keeps c h f p n r s was a)
 row_keeps {p} {h} (ends {c = c} {r = r} {s = s} last) f was ok a = goes (end_keeps c h f p r s (ap is_last was ∙ last) a)
 
-pub step_keeps : (p : Participant) (h : ServiceHash) (act : Act) (x : Phase) (r : Option Row) (s : Option Segment) (c : ℕ) (new : Spot)
-    (f : Participant → Phase) → f p ≡ x → IsAct act → spot_after p h act x r s c ≡ Some new → AgreesAt c h r s f → StepKeeps c r h f p new
+pub step_keeps : (p : Participant) (h : ServiceHash) (act : Act) (x : Phase) (r : Option Row) (s : Option Segment) (c : ℕ) (new : ServiceView)
+    (f : Participant → Phase) → f p ≡ x → IsAct act → view_after p h act x r s c ≡ Some new → AgreesAt c h r s f → StepKeeps c r h f p new
 step_keeps p h act x r s c new f was ok e a = row_keeps (step_case p h act x r s c new e) f was ok a

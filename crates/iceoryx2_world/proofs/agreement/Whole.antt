@@ -15,7 +15,7 @@ use Rattle.iceoryx2_world.specs.declared.world.Row.{Row}
 use Rattle.iceoryx2_world.specs.Orders.{hash_cmp, hash_exact, hash_total, place_cmp, place_total, participant_cmp}
 use Rattle.iceoryx2_world.specs.World.{World, Segment, row_of, segment_of, phase_of, or_idle, unless_idle, set_to}
 use Rattle.iceoryx2_world.specs.Acts.{Act, IsAct}
-use Rattle.iceoryx2_world.specs.Steps.{Spot, spot_after, put, world_after}
+use Rattle.iceoryx2_world.specs.Steps.{ServiceView, view_after, put, world_after}
 use Rattle.iceoryx2_world.specs.Agreement.{AgreesAt, AgreesEverywhere, LaterAt, Later}
 use Rattle.iceoryx2_world.proofs.agreement.Moved.{moved, same}
 use Rattle.iceoryx2_world.proofs.agreement.Step.{step_keeps, later_same}
@@ -43,17 +43,17 @@ idle_cond true x y = refl
 idle_cond false x y = refl
 
 -- the phases that a spot's put leaves
-pub phase_put : (w : World) (p : Participant) (h : ServiceHash) (s : Spot) (q : Participant) (g : ServiceHash) → phase_of (put w p h s) q g ≡ cond (same q p && is_eq (hash_cmp g h)) s.phase (phase_of w q g)
+pub phase_put : (w : World) (p : Participant) (h : ServiceHash) (s : ServiceView) (q : Participant) (g : ServiceHash) → phase_of (put w p h s) q g ≡ cond (same q p && is_eq (hash_cmp g h)) s.phase (phase_of w q g)
 phase_put w p h s q g =
     ap or_idle (get-set_to place_total w.phases (p, h) (unless_idle s.phase) (q, g))
     ∙ idle_cond (eq_by_cmp place_cmp (q, g) (p, h)) (unless_idle s.phase) (map.get w.phases (q, g))
     ∙ ap (λ b. cond b (or_idle (unless_idle s.phase)) (phase_of w q g)) (both_tied (participant_cmp q p) (hash_cmp g h))
     ∙ ap (λ x. cond (same q p && is_eq (hash_cmp g h)) x (phase_of w q g)) (stored s.phase)
 
-pub row_put : (w : World) (p : Participant) (h : ServiceHash) (s : Spot) (g : ServiceHash) → row_of (put w p h s) g ≡ cond (is_eq (hash_cmp g h)) s.row (row_of w g)
+pub row_put : (w : World) (p : Participant) (h : ServiceHash) (s : ServiceView) (g : ServiceHash) → row_of (put w p h s) g ≡ cond (is_eq (hash_cmp g h)) s.row (row_of w g)
 row_put w p h s g = get-set_to hash_total w.rows h s.row g
 
-pub segment_put : (w : World) (p : Participant) (h : ServiceHash) (s : Spot) (g : ServiceHash) → segment_of (put w p h s) g ≡ cond (is_eq (hash_cmp g h)) s.segment (segment_of w g)
+pub segment_put : (w : World) (p : Participant) (h : ServiceHash) (s : ServiceView) (g : ServiceHash) → segment_of (put w p h s) g ≡ cond (is_eq (hash_cmp g h)) s.segment (segment_of w g)
 segment_put w p h s g = get-set_to hash_total w.segments h s.segment g
 
 and_true : (b : Bool) → (b && true) ≡ b
@@ -90,7 +90,7 @@ pub own_hash : (h : ServiceHash) → is_eq (hash_cmp h h) ≡ true
 own_hash h = ap is_eq (tied_itself hash_total h)
 
 -- at another hash nothing changes
-other_hash : (w : World) (p : Participant) (h : ServiceHash) (s : Spot) (g : ServiceHash) → is_eq (hash_cmp g h) ≡ false → w.counter ≤ s.counter → AgreesAt w.counter g (row_of w g) (segment_of w g) (λ q. phase_of w q g) → AgreesAt s.counter g (row_of (put w p h s) g) (segment_of (put w p h s) g) (λ q. phase_of (put w p h s) q g)
+other_hash : (w : World) (p : Participant) (h : ServiceHash) (s : ServiceView) (g : ServiceHash) → is_eq (hash_cmp g h) ≡ false → w.counter ≤ s.counter → AgreesAt w.counter g (row_of w g) (segment_of w g) (λ q. phase_of w q g) → AgreesAt s.counter g (row_of (put w p h s) g) (segment_of (put w p h s) g) (λ q. phase_of (put w p h s) q g)
 other_hash w p h s g apart le a =
     let rows : row_of w g ≡ row_of (put w p h s) g = sym (row_put w p h s g ∙ ap (λ b. cond b s.row (row_of w g)) apart) in
     let segments : segment_of w g ≡ segment_of (put w p h s) g = sym (segment_put w p h s g ∙ ap (λ b. cond b s.segment (segment_of w g)) apart) in
@@ -99,7 +99,7 @@ other_hash w p h s g apart le a =
     subst (λ (X : Type 0). X) moved_along (AgreesAt-later _ _ g _ _ _ le a)
 
 -- at its own hash the spot stands
-own_place : (w : World) (p : Participant) (h : ServiceHash) (s : Spot) → AgreesAt s.counter h s.row s.segment (moved (λ q. phase_of w q h) p s.phase) → AgreesAt s.counter h (row_of (put w p h s) h) (segment_of (put w p h s) h) (λ q. phase_of (put w p h s) q h)
+own_place : (w : World) (p : Participant) (h : ServiceHash) (s : ServiceView) → AgreesAt s.counter h s.row s.segment (moved (λ q. phase_of w q h) p s.phase) → AgreesAt s.counter h (row_of (put w p h s) h) (segment_of (put w p h s) h) (λ q. phase_of (put w p h s) q h)
 unfolding moved
 own_place w p h s a =
     let rows : s.row ≡ row_of (put w p h s) h = sym (row_put w p h s h ∙ ap (λ b. cond b s.row (row_of w h)) (own_hash h)) in
@@ -108,13 +108,13 @@ own_place w p h s a =
     let moved_along : ◌≡◌ {A = Type 0} (AgreesAt s.counter h s.row s.segment (λ q. cond (same q p) s.phase (phase_of w q h))) (AgreesAt s.counter h (row_of (put w p h s) h) (segment_of (put w p h s) h) (λ q. phase_of (put w p h s) q h)) = λ i. AgreesAt s.counter h (rows i) (segments i) (λ q. phases q i) in
     subst (λ (X : Type 0). X) moved_along a
 
-later_from : (w : World) (p : Participant) (h : ServiceHash) (s : Spot) → LaterAt w.counter (row_of w h) s.row → (g : ServiceHash) → LaterAt w.counter (row_of w g) (row_of (put w p h s) g)
+later_from : (w : World) (p : Participant) (h : ServiceHash) (s : ServiceView) → LaterAt w.counter (row_of w h) s.row → (g : ServiceHash) → LaterAt w.counter (row_of w g) (row_of (put w p h s) g)
 later_from w p h s l g = elim (is_eq (hash_cmp g h)) as (λ b. is_eq (hash_cmp g h) ≡ b → LaterAt w.counter (row_of w g) (row_of (put w p h s) g)) [
   | true ↦ λ t. let own : g ≡ h = same_hash g h t in subst (λ (k : ServiceHash). LaterAt w.counter (row_of w k) (row_of (put w p h s) k)) (sym own) (rw (row_put w p h s h, own_hash h) l)
   | false ↦ λ t. rw (row_put w p h s g, t) (later_same _ _)
 ] refl
 
-everywhere : (w : World) (p : Participant) (h : ServiceHash) (act : Act) (o : Option Spot) (w' : World) → IsAct act → spot_after p h act (phase_of w p h) (row_of w h) (segment_of w h) w.counter ≡ o → option_map (put w p h) o ≡ Some w' → AgreesEverywhere w → AgreesEverywhere w' × Later w w'
+everywhere : (w : World) (p : Participant) (h : ServiceHash) (act : Act) (o : Option ServiceView) (w' : World) → IsAct act → view_after p h act (phase_of w p h) (row_of w h) (segment_of w h) w.counter ≡ o → option_map (put w p h) o ≡ Some w' → AgreesEverywhere w → AgreesEverywhere w' × Later w w'
 everywhere w p h act None w' ok is e a = absurd (cc)
 everywhere w p h act (Some s) w' ok is e a =
     let kept = step_keeps p h act (phase_of w p h) (row_of w h) (segment_of w h) w.counter s (λ q. phase_of w q h) refl ok is (a h) in

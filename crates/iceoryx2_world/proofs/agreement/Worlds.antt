@@ -13,7 +13,7 @@ use Rattle.iceoryx2_world.specs.Orders.{hash_total, hash_exact, place_total, pla
 use Rattle.iceoryx2_world.specs.World.{World, row_of, segment_of, phase_of, or_idle, unless_idle, joined_number, phase_number, ticket_of, join_count}
 use Rattle.iceoryx2_world.specs.Acts.{Act, IsAct}
 use Rattle.iceoryx2_world.specs.Acts as act
-use Rattle.iceoryx2_world.specs.Steps.{Spot, put, world_after}
+use Rattle.iceoryx2_world.specs.Steps.{ServiceView, put, world_after}
 use Rattle.iceoryx2_world.specs.Agreement.{AgreesEverywhere, Later}
 use Rattle.iceoryx2_world.proofs.agreement.Whole.{AgreesAt-later, after_keeps, stored}
 use Rattle.iceoryx2_world.specs.Across.{AgreesOnNumbers, Agrees}
@@ -35,7 +35,7 @@ pub not_peer : (i j : ℕ) → Node i ≡ Peer j → ⊥
 not_peer i j e = cc
 
 -- the phases after a put
-pub place_cases : (w : World) (p : Participant) (h : ServiceHash) (s : Spot) (q : Participant) (g : ServiceHash) → ((q ≡ p) × (g ≡ h) × (phase_of (put w p h s) q g ≡ s.phase)) ⊎ (((q ≡ p) → (g ≡ h) → ⊥) × (phase_of (put w p h s) q g ≡ phase_of w q g))
+pub place_cases : (w : World) (p : Participant) (h : ServiceHash) (s : ServiceView) (q : Participant) (g : ServiceHash) → ((q ≡ p) × (g ≡ h) × (phase_of (put w p h s) q g ≡ s.phase)) ⊎ (((q ≡ p) → (g ≡ h) → ⊥) × (phase_of (put w p h s) q g ≡ phase_of w q g))
 place_cases w p h s q g = elim (set_cases place_total place_exact w.phases (p, h) (unless_idle s.phase) (q, g)) [
   | inl e ↦ inl (ap (λ (x : Participant × ServiceHash). x.0) e.0, ap (λ (x : Participant × ServiceHash). x.1) e.0, ap or_idle e.1 ∙ stored s.phase)
   | inr e ↦ inr (λ a b. e.0 (λ i. (a i, b i)), ap or_idle e.1)
@@ -43,14 +43,14 @@ place_cases w p h s q g = elim (set_cases place_total place_exact w.phases (p, h
 
 -- a step moves one place of a node
 pub step_places : (w v : World) (id : ℕ) (h : ServiceHash) (a : Act) → AllowedStep w v (Node id) h a → Places w v id h (PhaseChange a)
-step_places w v id h a st = subst (λ u. Places w u id h (PhaseChange a)) st.world (λ i g. elim (place_cases w (Node id) h st.spot (Node i) g) [
-  | inl e ↦ inl (same_node i id e.0, e.1, rw (ap (λ q. phase_of (put w (Node id) h st.spot) q h) (sym e.0) ∙ ap (phase_of (put w (Node id) h st.spot) (Node i)) (sym e.1) ∙ e.2) (step_effect (Node id) h a (phase_of w (Node id) h) (row_of w h) (segment_of w h) w.counter st.spot st.is).change)
+step_places w v id h a st = subst (λ u. Places w u id h (PhaseChange a)) st.world (λ i g. elim (place_cases w (Node id) h st.view (Node i) g) [
+  | inl e ↦ inl (same_node i id e.0, e.1, rw (ap (λ q. phase_of (put w (Node id) h st.view) q h) (sym e.0) ∙ ap (phase_of (put w (Node id) h st.view) (Node i)) (sym e.1) ∙ e.2) (step_effect (Node id) h a (phase_of w (Node id) h) (row_of w h) (segment_of w h) w.counter st.view st.is).change)
   | inr e ↦ inr (λ x y. e.0 (ap Node x) y, e.1)
 ])
 
 -- no peer moves a node
 pub peer_places : (w v : World) (id : ℕ) (h : ServiceHash) (a : Act) → AllowedStep w v (Peer id) h a → (i : ℕ) (g : ServiceHash) → phase_of v (Node i) g ≡ phase_of w (Node i) g
-peer_places w v id h a st i g = subst (λ (u : World). phase_of u (Node i) g ≡ phase_of w (Node i) g) st.world (elim (place_cases w (Peer id) h st.spot (Node i) g) [
+peer_places w v id h a st i g = subst (λ (u : World). phase_of u (Node i) g ≡ phase_of w (Node i) g) st.world (elim (place_cases w (Peer id) h st.view (Node i) g) [
   | inl e ↦ absurd (not_peer i id e.0)
   | inr e ↦ e.1
 ])
@@ -59,12 +59,12 @@ pub step_tickets : (w v : World) (p : Participant) (h : ServiceHash) (a : Act) �
 step_tickets w v p h a st = subst (λ (u : World). u.tickets ≡ w.tickets) st.world refl
 
 pub step_counter : (w v : World) (p : Participant) (h : ServiceHash) (a : Act) → AllowedStep w v p h a → w.counter ≤ v.counter
-step_counter w v p h a st = subst (λ (u : World). w.counter ≤ u.counter) st.world (step_effect p h a (phase_of w p h) (row_of w h) (segment_of w h) w.counter st.spot st.is).rises
+step_counter w v p h a st = subst (λ (u : World). w.counter ≤ u.counter) st.world (step_effect p h a (phase_of w p h) (row_of w h) (segment_of w h) w.counter st.view st.is).rises
 
 -- Each lock of the new world is an old one, or the step's with the counter as number.
 pub step_locks : (w v : World) (p : Participant) (h : ServiceHash) (a : Act) → AllowedStep w v p h a → (g : ServiceHash) (n : ℕ) → row_of v g ≡ Some (row.Locked n) → (row_of w g ≡ Some (row.Locked n)) ⊎ ((g ≡ h) × (n ≡ w.counter) × (n < v.counter))
-step_locks w v p h a st g n = subst (λ (u : World). row_of u g ≡ Some (row.Locked n) → (row_of w g ≡ Some (row.Locked n)) ⊎ ((g ≡ h) × (n ≡ w.counter) × (n < u.counter))) st.world (λ l. elim (set_cases hash_total hash_exact w.rows h st.spot.row g) [
-  | inl e ↦ elim ((step_effect p h a (phase_of w p h) (row_of w h) (segment_of w h) w.counter st.spot st.is).locks n (sym e.1 ∙ l)) [
+step_locks w v p h a st g n = subst (λ (u : World). row_of u g ≡ Some (row.Locked n) → (row_of w g ≡ Some (row.Locked n)) ⊎ ((g ≡ h) × (n ≡ w.counter) × (n < u.counter))) st.world (λ l. elim (set_cases hash_total hash_exact w.rows h st.view.row g) [
+  | inl e ↦ elim ((step_effect p h a (phase_of w p h) (row_of w h) (segment_of w h) w.counter st.view st.is).locks n (sym e.1 ∙ l)) [
     | inl same ↦ inl (ap (row_of w) e.0 ∙ same)
     | inr new ↦ inr (e.0, new.0, grind (arith, new.1))
   ]

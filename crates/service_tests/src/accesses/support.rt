@@ -7,9 +7,9 @@ use iceoryx2_access::storage::{
     ReleaseError, RemoveError, Storage, Tag, TagError,
 };
 use iceoryx2_attribute::attribute::AttributeSet;
-use iceoryx2_table::table::Table;
 use iceoryx2_description::description::{MessagingPattern, ServiceHash, StaticConfig};
 use iceoryx2_description::{config, event};
+use iceoryx2_table::table::Table;
 use std::alloc::Global;
 use std::process::Abort;
 

@@ -5,8 +5,8 @@ use iceoryx2_access::storage::{
     Existence, FetchError, LockError, MakeSegmentError, OpenSegmentError, PublishError, Release,
     ReleaseError, RemoveError, Storage, Tag,
 };
-use iceoryx2_table::table::Table;
 use iceoryx2_description::description::ServiceHash;
+use iceoryx2_table::table::Table;
 use iceoryx2_world::listing::{Entry, ListedRow, ListedSegment};
 use std::alloc::Global;
 use std::process::Abort;

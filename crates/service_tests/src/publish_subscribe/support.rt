@@ -7,13 +7,13 @@ pub use crate::support::{
 pub use crate::types::{I64, SLICE, Told, U32, alignment, consists_of, detail};
 use iceoryx2_access::storage::Service;
 use iceoryx2_builder::builder::Node;
-use iceoryx2_builder::builder::publish_subscribe::{Builder, PublishSubscribeSetting};
+use iceoryx2_builder::builder::publish_subscribe::{Builder, PublishSubscribeSetter};
+use iceoryx2_description::config::Config;
 use iceoryx2_errors::error::{PublishSubscribeCreateError, PublishSubscribeOpenError};
 use iceoryx2_port_factory::port_factory::publish_subscribe::PortFactory;
 use iceoryx2_table::local::Local;
 use iceoryx2_table::table::Table;
 use iceoryx2_types::types::{CustomHeaderMarker, CustomPayloadMarker, Slice, ZeroCopySend};
-use iceoryx2_description::config::Config;
 use std::alloc::Global;
 use std::process::Abort;
 
@@ -39,18 +39,18 @@ pub type Asks = &'static [Ask];
 pub const DEFAULTS: [u64; 6] = [2, 8, 2, 0, 2, 20];
 
 /// The setter that an ask means.
-fn setting(rt: &impl Abort, alloc: Global, ask: Ask) -> PublishSubscribeSetting {
+fn setting(rt: &impl Abort, alloc: Global, ask: Ask) -> PublishSubscribeSetter {
     match ask {
-        Ask::Publishers(value) => PublishSubscribeSetting::MaxPublishers(value),
-        Ask::Subscribers(value) => PublishSubscribeSetting::MaxSubscribers(value),
-        Ask::Buffer(value) => PublishSubscribeSetting::SubscriberMaxBufferSize(value),
-        Ask::History(value) => PublishSubscribeSetting::HistorySize(value),
-        Ask::Borrowed(value) => PublishSubscribeSetting::SubscriberMaxBorrowedSamples(value),
-        Ask::Overflow(value) => PublishSubscribeSetting::EnableSafeOverflow(value),
-        Ask::Nodes(value) => PublishSubscribeSetting::MaxNodes(value),
-        Ask::Alignment(value) => PublishSubscribeSetting::PayloadAlignment(alignment(rt, value)),
-        Ask::Payload(told) => PublishSubscribeSetting::PayloadType(detail(rt, alloc, told)),
-        Ask::UserHeader(told) => PublishSubscribeSetting::UserHeaderType(detail(rt, alloc, told)),
+        Ask::Publishers(value) => PublishSubscribeSetter::MaxPublishers(value),
+        Ask::Subscribers(value) => PublishSubscribeSetter::MaxSubscribers(value),
+        Ask::Buffer(value) => PublishSubscribeSetter::SubscriberMaxBufferSize(value),
+        Ask::History(value) => PublishSubscribeSetter::HistorySize(value),
+        Ask::Borrowed(value) => PublishSubscribeSetter::SubscriberMaxBorrowedSamples(value),
+        Ask::Overflow(value) => PublishSubscribeSetter::EnableSafeOverflow(value),
+        Ask::Nodes(value) => PublishSubscribeSetter::MaxNodes(value),
+        Ask::Alignment(value) => PublishSubscribeSetter::PayloadAlignment(alignment(rt, value)),
+        Ask::Payload(told) => PublishSubscribeSetter::PayloadType(detail(rt, alloc, told)),
+        Ask::UserHeader(told) => PublishSubscribeSetter::UserHeaderType(detail(rt, alloc, told)),
     }
 }
 

@@ -17,10 +17,10 @@ const MESSAGE: [Told<'static>; 3] = [
 ];
 
 /// The service of these tests.
-type Factory = PortFactory<Local, i64, u32>;
+type Registered = PortFactory<Local, i64, u32>;
 
 /// That service, which node 1 creates.
-fn created(rt: &impl Abort, alloc: Global, table: &mut Table) -> Factory {
+fn created(rt: &impl Abort, alloc: Global, table: &mut Table) -> Registered {
     let builder = builder::<i64, Local>(rt, alloc, 1)
         .payload_alignment(alignment(rt, 16))
         .history_size(1)
@@ -64,12 +64,12 @@ fn with_slice(
 }
 
 /// Whether its messages are made of what is wanted.
-fn is_of_its_types(factory: &Factory) -> bool {
+fn is_of_its_types(factory: &Registered) -> bool {
     consists_of(&factory.static_config().message_type_details, MESSAGE)
 }
 
 /// Closes a factory of it that stands.
-fn close(rt: &impl Abort, factory: Factory, table: &mut Table) {
+fn close(rt: &impl Abort, factory: Registered, table: &mut Table) {
     match factory.close(table) {
         Ok(()) => {}
         Err(_) => panic!(rt; "not closed"),

@@ -4,14 +4,14 @@
 pub use crate::support::{assert_same, drop_table, name, table_from, verifier};
 pub use crate::types::{I64, SLICE, Told, U32, alignment, consists_of, detail};
 use iceoryx2_builder::builder::Node;
-use iceoryx2_builder::builder::request_response::{Builder, RequestResponseSetting as Setting};
+use iceoryx2_builder::builder::request_response::{Builder, RequestResponseSetter as Setting};
+use iceoryx2_description::config::Config;
+use iceoryx2_description::request_response::StaticConfig;
 use iceoryx2_errors::error::{RequestResponseCreateError, RequestResponseOpenError};
 use iceoryx2_port_factory::port_factory::request_response::PortFactory;
 use iceoryx2_table::local::Local;
 use iceoryx2_table::table::Table;
 use iceoryx2_types::types::{CustomHeaderMarker, CustomPayloadMarker, Slice, ZeroCopySend};
-use iceoryx2_description::config::Config;
-use iceoryx2_description::request_response::StaticConfig;
 use std::alloc::Global;
 use std::process::Abort;
 

@@ -1,13 +1,13 @@
 //! Builders with the types of a program.
 
 use crate::request_response::support::*;
+use iceoryx2_description::description::ServiceHash;
 use iceoryx2_errors::error::{RequestResponseCreateError, RequestResponseOpenError};
 use iceoryx2_port_factory::port_factory::request_response::PortFactory;
 use iceoryx2_table::local::Local;
 use iceoryx2_table::table::Table;
 use iceoryx2_types::types::TypeVariant::{Dynamic, FixedSize};
 use iceoryx2_types::types::{CustomPayloadMarker, Slice, ZeroCopySend};
-use iceoryx2_description::description::ServiceHash;
 use std::alloc::Global;
 use std::process::Abort;
 

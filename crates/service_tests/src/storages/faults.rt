@@ -4,11 +4,11 @@ use self::Row::*;
 use crate::storages::support::Answer::*;
 use crate::storages::support::Call::*;
 use crate::storages::support::*;
+use iceoryx2_description::description::ServiceHash;
 use iceoryx2_errors::error::{EventCreateError, EventOpenError};
 use iceoryx2_script::script::{Faulty, FaultyService};
 use iceoryx2_table::local::Local;
 use iceoryx2_table::table::Table;
-use iceoryx2_description::description::ServiceHash;
 use std::alloc::Global;
 use std::process::Abort;
 

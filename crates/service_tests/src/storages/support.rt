@@ -6,12 +6,12 @@ pub use crate::support::{
 };
 use iceoryx2_access::storage::Service;
 use iceoryx2_builder::builder::event::Builder;
+use iceoryx2_description::config::Config;
+use iceoryx2_description::time::Time;
 use iceoryx2_errors::error::{
     CloseError, EventCreateError, EventOpenError, EventOpenOrCreateError,
 };
 use iceoryx2_port_factory::port_factory::event::PortFactory;
-use iceoryx2_description::config::Config;
-use iceoryx2_description::time::Time;
 use std::alloc::Global;
 use std::process::Abort;
 

@@ -7,9 +7,9 @@ use crate::patterns::{Pattern, service};
 use crate::plain::Plain;
 use crate::support::events;
 use iceoryx2_access::storage::{Existence, MakeSegmentError, OpenSegmentError, Storage};
+use iceoryx2_description::time::Time;
 use iceoryx2_script::script::{Faulty, FaultyService};
 use iceoryx2_table::local::Local;
-use iceoryx2_description::time::Time;
 use std::alloc::Global;
 use std::process::Abort;
 

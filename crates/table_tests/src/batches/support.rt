@@ -3,9 +3,9 @@
 use crate::body::Body;
 use crate::patterns::{NAME, Offer, Pattern, described, service, settings_of};
 pub use crate::support::{assert_same, entries, name, push};
+use iceoryx2_description::description::ServiceHash;
 use iceoryx2_script::script::Faulty;
 use iceoryx2_table::table::{Act, Step};
-use iceoryx2_description::description::ServiceHash;
 use iceoryx2_world::listing::{Entry, ListedRow, ListedSegment};
 use std::alloc::Global;
 use std::process::Abort;

@@ -6,7 +6,7 @@ use Rattle.iceoryx2_world.proofs.Waiting.{refusable_run}
 use Rattle.iceoryx2_script.proofs.Runs.{refusable}
 use Rattle.iceoryx2_call_laws.proofs.calls.Headline.{open_as_asked, as_promised, of_faulty_table}
 use Rattle.iceoryx2_world.specs.Tables.{IsTableAccess}
-use Rattle.iceoryx2_script.specs.Faults.{IsFaultyAccess}
+use Rattle.iceoryx2_script.specs.Faults.{IsInjectedFault}
 use Rattle.iceoryx2_call_laws.proofs.calls.AnyLeft.{any_leaves}
 use Rattle.std.specs.Prelude.{Err}
 use Rattle.iceoryx2_call_laws.proofs.fault_laws.agreement_under_faults.Goals as goal
@@ -36,10 +36,10 @@ pub returns-clause-over_no_row : goal.returns-clause-over_no_row
 returns-clause-over_no_row g c = λ m node hash name now word answer w v room old gone is run. create_call_over_no_row name now room old gone is run
 
 pub returns-clause-every_open_factory_stands : goal.returns-clause-every_open_factory_stands
-returns-clause-every_open_factory_stands g c = λ call word answer s t is run old. as_promised (IsFaultyAccess IsTableAccess) (λ u. u.inner.world) of_faulty_table call word answer is run old
+returns-clause-every_open_factory_stands g c = λ call word answer s t is run old. as_promised (IsInjectedFault IsTableAccess) (λ u. u.inner.world) of_faulty_table call word answer is run old
 
 pub returns-clause-leaves : goal.returns-clause-leaves
 returns-clause-leaves g c = λ call word refusal w v is run old. any_leaves call w v old word (Err refusal) is run
 
 pub returns-clause-open_until_released : goal.returns-clause-open_until_released
-returns-clause-open_until_released g c = λ call f s is. open_as_asked (IsFaultyAccess IsTableAccess) (λ u. u.inner.world) of_faulty_table call is
+returns-clause-open_until_released g c = λ call f s is. open_as_asked (IsInjectedFault IsTableAccess) (λ u. u.inner.world) of_faulty_table call is

@@ -7,7 +7,7 @@ use Rattle.iceoryx2_call_laws.proofs.calls.Left.{gives_back}
 use Rattle.iceoryx2_world.proofs.Waiting.{table_run}
 use Rattle.iceoryx2_call_laws.proofs.calls.Headline.{open_as_asked, as_promised, of_table}
 use Rattle.iceoryx2_world.specs.Tables.{IsTableAccess}
-use Rattle.iceoryx2_world.specs.Faulty.{IsFaulty}
+use Rattle.iceoryx2_world.specs.Fallible.{IsFallibleAccess}
 use Rattle.iceoryx2_call_laws.proofs.calls.AnyCalls.{any_short}
 use Rattle.iceoryx2_call_laws.proofs.calls.AnyLeft.{any_tickets, any_refused, any_granted, any_leaves, any_gives_back}
 use Rattle.std.specs.Prelude.{Ok, Err}
@@ -47,7 +47,7 @@ pub returns-clause-every_open_factory_stands : goal.returns-clause-every_open_fa
 returns-clause-every_open_factory_stands g c = λ call word answer s t is run old. as_promised IsTableAccess (λ u. u.world) of_table call word answer is run old
 
 pub returns-clause-in_any_world : goal.returns-clause-in_any_world
-returns-clause-in_any_world g c = λ call word answer w v is run old. as_promised IsFaulty (λ u. u) (λ s t l a. a) call word answer is run old
+returns-clause-in_any_world g c = λ call word answer w v is run old. as_promised IsFallibleAccess (λ u. u) (λ s t l a. a) call word answer is run old
 
 pub returns-clause-tickets : goal.returns-clause-tickets
 returns-clause-tickets g c = λ call word answer w v is run. any_tickets call w v word answer is run

@@ -8,12 +8,12 @@ use Rattle.iceoryx2_world.specs.declared.world.Phase.TheVariants as at
 use Rattle.iceoryx2_world.specs.Orders.{hash_cmp, hash_total, hash_exact, place_cmp}
 use Rattle.iceoryx2_world.specs.World.{Segment}
 use Rattle.iceoryx2_world.specs.Acts as act
-use Rattle.iceoryx2_world.specs.Steps.{to_spot, last_number, with_one}
+use Rattle.iceoryx2_world.specs.Steps.{to_view, last_number, with_one}
 use Rattle.iceoryx2_table.specs.declared.services.Position.{Position}
 use Rattle.iceoryx2_table.specs.Book.{Admits}
 use Rattle.iceoryx2_world.specs.Batches.{needs_room}
 use Rattle.iceoryx2_table.proofs.Views.{kept}
-use Rattle.iceoryx2_table.proofs.Spots.{by_phase, by_both, did, refused, starved}
+use Rattle.iceoryx2_table.proofs.ServiceViews.{by_phase, by_both, did, refused, starved}
 use Rattle.iceoryx2_table.proofs.services.Services.join.Goals as goal
 
 pub returns-then-admitted : goal.returns-then-admitted
@@ -31,7 +31,7 @@ returns-then-admitted c =
     let written = map_of_written hash_cmp c.self.inside.segments h admitted in
     let ad = subst (λ (b : Bool). Admits n p s (Ok b) admitted) c.if-admitted.true c.in-Ok.ensures in
     let tried = by_both _ p h act.Join (at.Read n) (Some s) (found ∙ c.in-Read.is) it
-    ∙ ap (λ (b : Bool). if b then to_spot (at.Joined n 1) (map.get rows h) (Some (with_one p s)) c.self.inside.counter else None) ad.0 in
+    ∙ ap (λ (b : Bool). if b then to_view (at.Joined n 1) (map.get rows h) (Some (with_one p s)) c.self.inside.counter else None) ad.0 in
     did p h act.Join (record { phase = at.Joined n 1; row = _; segment = Some (with_one p s); counter = _ }) c.self.view_is tried
     (λ i. record {
       rows = kept hash_total hash_exact rows h i;
@@ -52,7 +52,7 @@ returns-else-count-ge18446744073709551615 c =
     let k = c.in-Joined.count in
     let few : nat_lt k last_number ≡ true = grind (arith, nat_tests, c.if-count-ge18446744073709551615.false) in
     did p h act.Join (record { phase = at.Joined n (k + 1); row = _; segment = _; counter = _ }) c.self.view_is
-    (by_phase _ p h act.Join (at.Joined n k) (found ∙ c.in-Joined.is) ∙ ap (λ (b : Bool). if b then to_spot (at.Joined n (k + 1)) (map.get rows h) (map.get segments h) c.self.inside.counter else None) few)
+    (by_phase _ p h act.Join (at.Joined n k) (found ∙ c.in-Joined.is) ∙ ap (λ (b : Bool). if b then to_view (at.Joined n (k + 1)) (map.get rows h) (map.get segments h) c.self.inside.counter else None) few)
     (λ i. record {
       rows = kept hash_total hash_exact rows h i;
       segments = kept hash_total hash_exact segments h i;
@@ -75,7 +75,7 @@ returns-else-admitted c =
     let written = map_of_written hash_cmp c.self.inside.segments h admitted in
     let ad = subst (λ (b : Bool). Admits n p s (Ok b) admitted) c.if-admitted.false c.in-Ok.ensures in
     let tried = by_both _ p h act.Join (at.Read n) (Some s) (found ∙ c.in-Read.is) it
-    ∙ ap (λ (b : Bool). if b then to_spot (at.Joined n 1) (map.get rows h) (Some (with_one p s)) c.self.inside.counter else None) ad.0 in
+    ∙ ap (λ (b : Bool). if b then to_view (at.Joined n 1) (map.get rows h) (Some (with_one p s)) c.self.inside.counter else None) ad.0 in
     refused p h act.Join c.self.view_is tried
     (λ i. record {
       rows = rows;
@@ -99,7 +99,7 @@ returns-in-Err c =
     let written = map_of_written hash_cmp c.self.inside.segments h admitted in
     let ad = c.in-Err.ensures in
     let tried = by_both _ p h act.Join (at.Read n) (Some s) (found ∙ c.in-Read.is) it
-    ∙ ap (λ (b : Bool). if b then to_spot (at.Joined n 1) (map.get rows h) (Some (with_one p s)) c.self.inside.counter else None) ad.0 in
+    ∙ ap (λ (b : Bool). if b then to_view (at.Joined n 1) (map.get rows h) (Some (with_one p s)) c.self.inside.counter else None) ad.0 in
     starved p h act.Join _ c.self.view_is tried (ap (needs_room act.Join) (found ∙ c.in-Read.is))
     (λ i. record {
       rows = rows;

@@ -10,16 +10,16 @@ use Rattle.iceoryx2_world.specs.declared.world.Row.{Row}
 use Rattle.iceoryx2_world.specs.Orders.{hash_cmp, hash_total, hash_exact, place_cmp}
 use Rattle.iceoryx2_world.specs.World.{Segment}
 use Rattle.iceoryx2_world.specs.Acts as act
-use Rattle.iceoryx2_world.specs.Steps.{Spot, to_spot, leave_of, without_one, without_any}
+use Rattle.iceoryx2_world.specs.Steps.{ServiceView, to_view, leave_of, without_one, without_any}
 use Rattle.iceoryx2_table.specs.declared.services.Position.{Position}
 use Rattle.iceoryx2_table.specs.Book.{Dismisses}
 use Rattle.iceoryx2_table.proofs.Views.{kept}
-use Rattle.iceoryx2_table.proofs.Spots.{by_phase, by_both, refused, left}
+use Rattle.iceoryx2_table.proofs.ServiceViews.{by_phase, by_both, refused, left}
 use Rattle.iceoryx2_table.proofs.services.Services.leave.Goals as goal
 
 -- what a leave comes to, by the two tests of the count
-abbrev counted : Participant → ℕ → ℕ → Option Row → Option Segment → ℕ → Bool → Bool → Option Spot
-counted p n k r s c more one = if more then to_spot (at.Joined n (k - 1)) r s c else if one then leave_of p n r s c else None
+abbrev counted : Participant → ℕ → ℕ → Option Row → Option Segment → ℕ → Bool → Bool → Option ServiceView
+counted p n k r s c more one = if more then to_view (at.Joined n (k - 1)) r s c else if one then leave_of p n r s c else None
 
 pub returns-then-count-gt1 : goal.returns-then-count-gt1
 returns-then-count-gt1 c =
@@ -104,7 +104,7 @@ returns-then-dismiss c =
     let tried = by_both _ p h act.Leave (at.Joined n k) (Some s) phase it
     ∙ ap (λ (b : Bool). counted p n k (map.get rows h) (Some s) c.self.inside.counter b (k == 1)) more
     ∙ ap (λ (b : Bool). counted p n k (map.get rows h) (Some s) c.self.inside.counter false b) one
-    ∙ ap (λ (b : Bool). if b then to_spot at.Idle (map.get rows h) (Some (without_one p s)) c.self.inside.counter else to_spot (at.Leaving n) (map.get rows h) (Some (without_any s)) c.self.inside.counter) d.0 in
+    ∙ ap (λ (b : Bool). if b then to_view at.Idle (map.get rows h) (Some (without_one p s)) c.self.inside.counter else to_view (at.Leaving n) (map.get rows h) (Some (without_any s)) c.self.inside.counter) d.0 in
     left p h _ (record { phase = at.Idle; row = _; segment = Some (without_one p s); counter = _ }) c.self.view_is tried refl
     (λ i. record {
       rows = kept hash_total hash_exact rows h i;
@@ -134,7 +134,7 @@ returns c =
     let tried = by_both _ p h act.Leave (at.Joined n k) (Some s) phase it
     ∙ ap (λ (b : Bool). counted p n k (map.get rows h) (Some s) c.self.inside.counter b (k == 1)) more
     ∙ ap (λ (b : Bool). counted p n k (map.get rows h) (Some s) c.self.inside.counter false b) one
-    ∙ ap (λ (b : Bool). if b then to_spot at.Idle (map.get rows h) (Some (without_one p s)) c.self.inside.counter else to_spot (at.Leaving n) (map.get rows h) (Some (without_any s)) c.self.inside.counter) d.0 in
+    ∙ ap (λ (b : Bool). if b then to_view at.Idle (map.get rows h) (Some (without_one p s)) c.self.inside.counter else to_view (at.Leaving n) (map.get rows h) (Some (without_any s)) c.self.inside.counter) d.0 in
     left p h _ (record { phase = at.Leaving n; row = _; segment = Some (without_any s); counter = _ }) c.self.view_is tried refl
     (λ i. record {
       rows = kept hash_total hash_exact rows h i;

@@ -10,7 +10,7 @@ use Rattle.iceoryx2_world.specs.Acts as act
 use Rattle.iceoryx2_world.specs.Steps.{last_number}
 use Rattle.iceoryx2_table.specs.declared.services.Position.{Position}
 use Rattle.iceoryx2_table.proofs.Views.{kept}
-use Rattle.iceoryx2_table.proofs.Spots.{did, starved, lock_tried}
+use Rattle.iceoryx2_table.proofs.ServiceViews.{did, starved, lock_tried}
 use Rattle.iceoryx2_table.proofs.services.Services.lock.Goals as goal
 
 pub returns-then-is_err : goal.returns-then-is_err

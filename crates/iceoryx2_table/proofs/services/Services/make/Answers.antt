@@ -6,10 +6,10 @@ use Rattle.sorted_map.specs.Sorted.{map_of}
 use Rattle.iceoryx2_world.specs.declared.world.Phase.TheVariants as at
 use Rattle.iceoryx2_world.specs.Orders.{hash_cmp, hash_total, hash_exact, place_cmp}
 use Rattle.iceoryx2_world.specs.Acts as act
-use Rattle.iceoryx2_world.specs.Steps.{to_spot, new_segment}
+use Rattle.iceoryx2_world.specs.Steps.{to_view, new_segment}
 use Rattle.iceoryx2_table.specs.declared.services.Position.{Position}
 use Rattle.iceoryx2_table.proofs.Views.{kept, none_of}
-use Rattle.iceoryx2_table.proofs.Spots.{by_both, did, starved}
+use Rattle.iceoryx2_table.proofs.ServiceViews.{by_both, did, starved}
 use Rattle.iceoryx2_table.proofs.services.Services.make.Goals as goal
 
 pub returns-in_default-new : goal.returns-in_default-new
@@ -25,7 +25,7 @@ returns-in_default-new c =
     let none = none_of (map.get segments h) (sym c.place_of-place.ensures.there ∙ sym c.is_ok.ensures.value ∙ c.if-is_ok.false) in
     let some : nat_lt 0 a ≡ true = grind (arith, nat_tests, c.if-max_nodes-eq0.false) in
     let tried = by_both _ p h (act.Make a) (at.Locked n) None (found ∙ c.in-Locked.is) none
-    ∙ ap (λ (b : Bool). if b then to_spot (at.Made n) (map.get rows h) (Some (new_segment p n a)) c.self.inside.counter else None) some in
+    ∙ ap (λ (b : Bool). if b then to_view (at.Made n) (map.get rows h) (Some (new_segment p n a)) c.self.inside.counter else None) some in
     starved p h (act.Make a) _ c.self.view_is tried refl (sym c.self.view_is)
 
 pub returns-then-is_err : goal.returns-then-is_err
@@ -41,7 +41,7 @@ returns-then-is_err c =
     let none = none_of (map.get segments h) (sym c.place_of-place.ensures.there ∙ sym c.is_ok.ensures.value ∙ c.if-is_ok.false) in
     let some : nat_lt 0 a ≡ true = grind (arith, nat_tests, c.if-max_nodes-eq0.false) in
     let tried = by_both _ p h (act.Make a) (at.Locked n) None (found ∙ c.in-Locked.is) none
-    ∙ ap (λ (b : Bool). if b then to_spot (at.Made n) (map.get rows h) (Some (new_segment p n a)) c.self.inside.counter else None) some in
+    ∙ ap (λ (b : Bool). if b then to_view (at.Made n) (map.get rows h) (Some (new_segment p n a)) c.self.inside.counter else None) some in
     starved p h (act.Make a) _ c.self.view_is tried refl
     (λ i. record {
       rows = rows;
@@ -63,7 +63,7 @@ returns c =
     let none = none_of (map.get segments h) (sym c.place_of-place.ensures.there ∙ sym c.is_ok.ensures.value ∙ c.if-is_ok.false) in
     let some : nat_lt 0 a ≡ true = grind (arith, nat_tests, c.if-max_nodes-eq0.false) in
     let tried = by_both _ p h (act.Make a) (at.Locked n) None (found ∙ c.in-Locked.is) none
-    ∙ ap (λ (b : Bool). if b then to_spot (at.Made n) (map.get rows h) (Some (new_segment p n a)) c.self.inside.counter else None) some in
+    ∙ ap (λ (b : Bool). if b then to_view (at.Made n) (map.get rows h) (Some (new_segment p n a)) c.self.inside.counter else None) some in
     did p h (act.Make a) (record { phase = at.Made n; row = _; segment = Some (new_segment p n a); counter = _ }) c.self.view_is tried
     (λ i. record {
       rows = kept hash_total hash_exact rows h i;

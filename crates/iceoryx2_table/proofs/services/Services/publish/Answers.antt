@@ -6,7 +6,7 @@ use Rattle.iceoryx2_world.specs.Orders.{hash_cmp, hash_total, hash_exact, place_
 use Rattle.iceoryx2_world.specs.Acts as act
 use Rattle.iceoryx2_table.specs.declared.services.Position.{Position}
 use Rattle.iceoryx2_table.proofs.Views.{kept}
-use Rattle.iceoryx2_table.proofs.Spots.{did, starved, publish_tried, fitting}
+use Rattle.iceoryx2_table.proofs.ServiceViews.{did, starved, publish_tried, fitting}
 use Rattle.iceoryx2_table.proofs.services.Services.publish.Goals as goal
 
 pub returns-in_default-encode-clause-effect : goal.returns-in_default-encode-clause-effect

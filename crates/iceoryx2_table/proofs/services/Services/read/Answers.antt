@@ -9,7 +9,7 @@ use Rattle.iceoryx2_world.specs.Acts as act
 use Rattle.iceoryx2_table.specs.declared.services.Position.{Position}
 use Rattle.iceoryx2_world.specs.Batches.{needs_room}
 use Rattle.iceoryx2_table.proofs.Views.{kept, when_err}
-use Rattle.iceoryx2_table.proofs.Spots.{did, starved, read_tried, published_row}
+use Rattle.iceoryx2_table.proofs.ServiceViews.{did, starved, read_tried, published_row}
 use Rattle.iceoryx2_table.proofs.services.Services.read.Goals as goal
 
 pub returns-then-is_err : goal.returns-then-is_err

@@ -6,7 +6,7 @@ use Rattle.iceoryx2_world.specs.Acts as act
 use Rattle.iceoryx2_table.specs.declared.services.Position.{Position}
 use Rattle.iceoryx2_table.specs.Book.{TakesDescription}
 use Rattle.iceoryx2_table.proofs.Views.{kept}
-use Rattle.iceoryx2_table.proofs.Spots.{by_phase, did, refused}
+use Rattle.iceoryx2_table.proofs.ServiceViews.{by_phase, did, refused}
 use Rattle.iceoryx2_table.proofs.services.Services.remove_description.Goals as goal
 
 pub returns-then-not-may_remove_description : goal.returns-then-not-may_remove_description

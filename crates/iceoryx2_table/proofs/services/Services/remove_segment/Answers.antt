@@ -5,7 +5,7 @@ use Rattle.iceoryx2_world.specs.Orders.{hash_cmp, hash_total, hash_exact}
 use Rattle.iceoryx2_world.specs.Acts as act
 use Rattle.iceoryx2_table.specs.declared.services.Position.{Position}
 use Rattle.iceoryx2_table.proofs.Views.{kept}
-use Rattle.iceoryx2_table.proofs.Spots.{by_phase, did, refused}
+use Rattle.iceoryx2_table.proofs.ServiceViews.{by_phase, did, refused}
 use Rattle.iceoryx2_table.proofs.services.Services.remove_segment.Goals as goal
 
 pub returns-in_default : goal.returns-in_default

@@ -12,7 +12,7 @@ use Rattle.iceoryx2_world.specs.Acts as act
 use Rattle.iceoryx2_world.specs.Access.{nothing, read_change, fetch_of}
 use Rattle.iceoryx2_world.specs.World.{Tickets}
 use Rattle.iceoryx2_table.specs.Book.{Book, step_at, world_with}
-use Rattle.iceoryx2_table.proofs.Accesses.{part, spot_at, gives_refusal, gives_done, gives_starved, read_or_not}
+use Rattle.iceoryx2_table.proofs.Accesses.{part, view_at, gives_refusal, gives_done, gives_starved, read_or_not}
 use Rattle.iceoryx2_table.proofs.table.stored.StoredWorld.fetch.Goals as goal
 
 pub returns-in_default : goal.returns-in_default
@@ -23,7 +23,7 @@ returns-in_default c =
     let t : set.FinSet tag_cmp = map_of tag_cmp c.self.inside.tags in
     let k : Tickets = map_of nat_cmp c.self.inside.tickets in
     part (letter.Fetch i h (Err Fetching.DoesNotExist)) nothing c.self.view_is
-    (gives_refusal _ _ _ (ap (fetch_of i h (spot_at b i h)) (sym c.in_default.ensures)))
+    (gives_refusal _ _ _ (ap (fetch_of i h (view_at b i h)) (sym c.in_default.ensures)))
     (sym c.self.view_is)
 
 pub returns-in_default-row : goal.returns-in_default-row
@@ -34,7 +34,7 @@ returns-in_default-row c =
     let t : set.FinSet tag_cmp = map_of tag_cmp c.self.inside.tags in
     let k : Tickets = map_of nat_cmp c.self.inside.tickets in
     part (letter.Fetch i h (Err Fetching.NotFinalized)) nothing c.self.view_is
-    (gives_refusal _ _ _ (ap (fetch_of i h (spot_at b i h)) (sym c.in-Some.ensures ∙ ap Some c.in_default-row.is)))
+    (gives_refusal _ _ _ (ap (fetch_of i h (view_at b i h)) (sym c.in-Some.ensures ∙ ap Some c.in_default-row.is)))
     (sym c.self.view_is)
 
 pub returns-in_default-copy : goal.returns-in_default-copy
@@ -45,7 +45,7 @@ returns-in_default-copy c =
     let t : set.FinSet tag_cmp = map_of tag_cmp c.self.inside.tags in
     let k : Tickets = map_of nat_cmp c.self.inside.tickets in
     part (letter.Fetch i h (Err Fetching.OutOfMemory)) nothing c.self.view_is
-    (gives_starved _ _ _ (ap (fetch_of i h (spot_at b i h)) (sym c.in-Some.ensures ∙ ap Some c.in-Published.is)))
+    (gives_starved _ _ _ (ap (fetch_of i h (view_at b i h)) (sym c.in-Some.ensures ∙ ap Some c.in-Published.is)))
     (sym c.self.view_is)
 
 pub returns-in_default-read : goal.returns-in_default-read
@@ -56,7 +56,7 @@ returns-in_default-read c =
     let t : set.FinSet tag_cmp = map_of tag_cmp c.self.inside.tags in
     let k : Tickets = map_of nat_cmp c.self.inside.tickets in
     part (letter.Fetch i h (Err Fetching.OutOfMemory)) nothing c.self.view_is
-    (gives_starved _ _ _ (ap (fetch_of i h (spot_at b i h)) (sym c.in-Some.ensures ∙ ap Some c.in-Published.is)))
+    (gives_starved _ _ _ (ap (fetch_of i h (view_at b i h)) (sym c.in-Some.ensures ∙ ap Some c.in-Published.is)))
     (ap (λ x. world_with x t k) c.in_default-read.ensures.3)
 
 pub returns : goal.returns
@@ -67,5 +67,5 @@ returns c =
     let t : set.FinSet tag_cmp = map_of tag_cmp c.self.inside.tags in
     let k : Tickets = map_of nat_cmp c.self.inside.tickets in
     part (letter.Fetch i h (Ok (c.in-Published.number, c.in-Ok.copy.items))) (read_change (step_at b (Node i) h act.Read)) c.self.view_is
-    (gives_done _ _ _ _ (ap (fetch_of i h (spot_at b i h)) (sym c.in-Some.ensures ∙ ap Some (c.in-Published.is ∙ ap (row.Published c.in-Published.number) (sym c.in-Ok.ensures)))))
+    (gives_done _ _ _ _ (ap (fetch_of i h (view_at b i h)) (sym c.in-Some.ensures ∙ ap Some (c.in-Published.is ∙ ap (row.Published c.in-Published.number) (sym c.in-Ok.ensures)))))
     (read_or_not i h b _ t k _ c.in-Ok-read.ensures)

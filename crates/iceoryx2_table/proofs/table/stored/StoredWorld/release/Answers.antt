@@ -11,7 +11,7 @@ use Rattle.iceoryx2_world.specs.declared.world.Ticket.{Ticket}
 use Rattle.iceoryx2_world.specs.Sets as set
 use Rattle.iceoryx2_world.specs.Orders.{tag_cmp}
 use Rattle.iceoryx2_world.specs.Acts as act
-use Rattle.iceoryx2_world.specs.Access.{nothing, spot_becomes_with, release_of, is_ticket}
+use Rattle.iceoryx2_world.specs.Access.{nothing, view_becomes_with, release_of, is_ticket}
 use Rattle.iceoryx2_world.specs.World.{Tickets}
 use Rattle.iceoryx2_table.specs.Book.{Book, step_at, world_with}
 use Rattle.iceoryx2_table.proofs.Accesses.{part, simply_refusal, simply_done}
@@ -55,6 +55,6 @@ returns c =
     let held = ap (λ (o : Option Ticket). is_ticket i h c.args.number o) (sym c.get_at.ensures) ∙ sym c.is_held.ensures ∙ c.if-not-is_held.false in
     let chosen = λ (x : Bool). if x then release_of i h u k (step_at b (Node i) h act.Leave) else Err NoSuchTicket in
     let done = c.in-Some.ensures in
-    part (letter.Release u i h c.args.number (Ok c.in-Some.release)) (spot_becomes_with done.0 (map.remove k u)) c.self.view_is
-    (simply_done _ _ _ (ap chosen held ∙ ap (release_of i h u k) done.1 ∙ ap (λ r. Ok (r, spot_becomes_with done.0 (map.remove k u))) (sym done.2)))
+    part (letter.Release u i h c.args.number (Ok c.in-Some.release)) (view_becomes_with done.0 (map.remove k u)) c.self.view_is
+    (simply_done _ _ _ (ap chosen held ∙ ap (release_of i h u k) done.1 ∙ ap (λ r. Ok (r, view_becomes_with done.0 (map.remove k u))) (sym done.2)))
     (λ j. world_with (done.3 j) t (c.remove_at.ensures.effect nat_cmp-IsAntisymmetric j))

@@ -8,9 +8,9 @@ use Rattle.iceoryx2_world.specs.declared.world.Participant.TheVariants.{Node}
 use Rattle.iceoryx2_world.specs.Sets as set
 use Rattle.iceoryx2_world.specs.Orders.{tag_cmp}
 use Rattle.iceoryx2_world.specs.Acts as act
-use Rattle.iceoryx2_world.specs.Access.{nothing, spot_becomes, or_refused}
+use Rattle.iceoryx2_world.specs.Access.{nothing, view_becomes, or_refused}
 use Rattle.iceoryx2_world.specs.World.{Tickets}
-use Rattle.iceoryx2_table.specs.Book.{Book, TakesStep, world_with}
+use Rattle.iceoryx2_table.specs.Book.{Book, StepsOrStays, world_with}
 use Rattle.iceoryx2_table.proofs.Accesses.{part, simply_refusal, simply_done}
 use Rattle.iceoryx2_table.proofs.table.stored.StoredWorld.remove_description.Goals as goal
 
@@ -21,8 +21,8 @@ returns-then-remove_description c =
     let b : Book = c.self.inside.services in
     let t : set.FinSet tag_cmp = map_of tag_cmp c.self.inside.tags in
     let k : Tickets = map_of nat_cmp c.self.inside.tickets in
-    let done = subst (λ (d : Bool). TakesStep b (Node i) h act.RemoveDescription d c.remove_description.new.self) c.if-remove_description.true c.remove_description.ensures in
-    part (letter.RemoveDescription i h (Ok tt)) (spot_becomes done.0) c.self.view_is
+    let done = subst (λ (d : Bool). StepsOrStays b (Node i) h act.RemoveDescription d c.remove_description.new.self) c.if-remove_description.true c.remove_description.ensures in
+    part (letter.RemoveDescription i h (Ok tt)) (view_becomes done.0) c.self.view_is
     (simply_done _ _ _ (ap (or_refused Removing.Other tt) done.1))
     (ap (λ x. world_with x t k) done.2)
 
@@ -33,7 +33,7 @@ returns c =
     let b : Book = c.self.inside.services in
     let t : set.FinSet tag_cmp = map_of tag_cmp c.self.inside.tags in
     let k : Tickets = map_of nat_cmp c.self.inside.tickets in
-    let forbidden = subst (λ (d : Bool). TakesStep b (Node i) h act.RemoveDescription d c.remove_description.new.self) c.if-remove_description.false c.remove_description.ensures in
+    let forbidden = subst (λ (d : Bool). StepsOrStays b (Node i) h act.RemoveDescription d c.remove_description.new.self) c.if-remove_description.false c.remove_description.ensures in
     part (letter.RemoveDescription i h (Err Removing.Other)) nothing c.self.view_is
     (simply_refusal _ _ (ap (or_refused Removing.Other tt) forbidden.0))
     (ap (λ x. world_with x t k) forbidden.1)

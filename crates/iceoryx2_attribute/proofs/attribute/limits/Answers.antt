@@ -1,5 +1,0 @@
-use Rattle.std.proofs.Common.{rules}
-use Rattle.iceoryx2_attribute.proofs.attribute.limits.Goals as goal
-
-pub returns-clause-max_value : goal.returns-clause-max_value
-returns-clause-max_value c = search rules

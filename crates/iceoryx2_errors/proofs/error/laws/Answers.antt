@@ -1,5 +1,0 @@
-use Rattle.iceoryx2_errors.proofs.Texts.{text_tells}
-use Rattle.iceoryx2_errors.proofs.error.laws.Goals as goal
-
-pub returns : goal.returns
-returns c = text_tells

@@ -1,5 +1,0 @@
-use Rattle.negotiate_lines.proofs.Around.{found_around}
-use Rattle.negotiate_lines.proofs.word.around.Goals as goal
-
-pub returns : goal.returns
-returns c = found_around c.args.separator c.args.word.now c.split_once.result c.requires c.split_once.ensures.cases

@@ -1,0 +1,28 @@
+-- The terms of a line, and the numbers that they write.
+use Rattle.std.specs.Prelude.{ℕ, ◌≡◌, ◌≢◌, ◌<◌, ◌==◌, List, ◌∷◌, ◌++◌, length, filter}
+use Rattle.std.specs.Prelude.{slice_index, not, Option, MatchOption}
+use Rattle.std.specs.List.{slice_split}
+use Rattle.std.specs.Str.Parse.{IsNumeral, digits_value}
+
+-- the terms of a text: what stands between spaces and is not empty
+abbrev pub terms_of : List ℕ → List (List ℕ)
+terms_of text = filter (λ term. not (length term == 0)) (slice_split (λ byte. byte == 32) text)
+
+-- What stands before the first such byte of a term, and what stands behind it.
+pub record AreAround (byte : ℕ) (term front back : List ℕ) : Type 0 where
+  pub are : term ≡ front ++ byte ∷ back
+  pub first : (i : ℕ) → i < length front → slice_index front i ≢ byte
+
+-- The term is one or more decimal digits, and they write the number, which is below the limit.
+pub record IsNumber (limit : ℕ) (term : List ℕ) (n : ℕ) : Type 0 where
+  pub numeral : IsNumeral 10 term
+  pub value : n ≡ digits_value 10 term
+  pub fits : n < limit
+
+-- what is found is such, and nothing is found where nothing is such
+abbrev pub Finds : {A : Type 0} → (A → Type 0) → Option A → Type 0
+Finds {A = A} IsSuch found = MatchOption found ((a : A) → IsSuch a → ⊥) IsSuch
+
+-- the term's number
+abbrev pub IsNumberOf : ℕ → List ℕ → Option ℕ → Type 0
+IsNumberOf limit term = Finds (IsNumber limit term)
