@@ -3,7 +3,7 @@
 use self::Reading::{Form, Malformed};
 use crate::support::*;
 use iceoryx2_attribute::attribute::AttributeSet;
-use iceoryx2_byte_form::bytes::{DecodeError, decode, laws};
+use iceoryx2_byte_form::bytes::{DecodeError, decode, laws_of_forms};
 use iceoryx2_description::config::Config;
 use iceoryx2_description::description::{MessagingPattern, ServiceHash, StaticConfig};
 use iceoryx2_description::event;
@@ -139,7 +139,7 @@ fn a_description_is_read_and_written(rt: HostRuntime) {
     let made = description(&rt, rt.alloc(), "a", defaults(None));
     let found = compared(&rt, rt.alloc(), form(&rt, rt.alloc(), "00"), made);
     assert_same(&rt, found, (67, true, true, 36));
-    laws();
+    laws_of_forms();
 }
 
 #[test]

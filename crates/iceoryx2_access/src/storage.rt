@@ -201,31 +201,31 @@ pub trait Storage {
         ensures { step self.old (letter.Release ticket node hash.now number result) self.new };
 }
 
-/// What makes a service's hash of its pattern's letter and its name.
+/// What makes a service's hash of its pattern's prefix and its name.
 pub trait ServiceNameHasher {
     ghost use Rattle.iceoryx2_description.specs.declared.description.ServiceHash.{ServiceHash};
 
-    /// The hash of a letter and a name's bytes.
+    /// The hash of a prefix and a name's bytes.
     ghost hash_of: { ℕ → List ℕ → ServiceHash };
 
-    /// The hash of a service. The letter is `e` for events, `p` for publish-subscribe, `r` for
+    /// The hash of a service. The prefix is `e` for events, `p` for publish-subscribe, `r` for
     /// request-response and `b` for a blackboard.
-    fn hash(letter: u8, name: &ServiceName) -> ServiceHash
-        ensures { result ≡ hash_of letter name.now };
+    fn hash(prefix: u8, name: &ServiceName) -> ServiceHash
+        ensures { result ≡ hash_of prefix name.now };
 }
 
-/// SHA-1 of the letter and the name's bytes.
+/// SHA-1 of the prefix and the name's bytes.
 #[derive(Clone, Copy, Debug, PartialEq, Eq)]
 pub struct Sha1Hasher;
 
 impl ServiceNameHasher for Sha1Hasher {
     ghost use Rattle.iceoryx2_description.specs.declared.description.ServiceHash.{ServiceHash};
 
-    ghost hash_of = { λ letter name. record { 0 = sha1 (letter ∷ name) } };
+    ghost hash_of = { λ prefix name. record { 0 = sha1 (prefix ∷ name) } };
 
-    fn hash(letter: u8, name: &ServiceName) -> ServiceHash {
+    fn hash(prefix: u8, name: &ServiceName) -> ServiceHash {
         let mut hasher = Sha1::new();
-        hasher.update(&[letter]);
+        hasher.update(&[prefix]);
         hasher.update(name.as_str().as_bytes());
         ServiceHash(hasher.finalize())
     }

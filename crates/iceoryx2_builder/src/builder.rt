@@ -234,7 +234,7 @@ pub fn laws()
         → Accepts (request_response_opening stronger other_request other_response all) d
         → Accepts (request_response_opening weaker request response some) d }
 {
-    types::laws();
+    types::laws_of_compatibility();
 }
 
 /// What holds of the calls of each builder, whatever they ask and whatever the clock says.
@@ -259,9 +259,9 @@ pub fn laws_of_calls()
         (defining required.pairs (request_response_meaning (request_response_adjusted asked)))
         (requiring required (request_response_meaning asked)) }
 {
-    event::laws();
-    publish_subscribe::laws();
-    request_response::laws();
+    event::opens_what_it_creates();
+    publish_subscribe::opens_what_it_creates();
+    request_response::opens_what_it_creates();
     event::ends_at_once();
     publish_subscribe::ends_at_once();
     request_response::ends_at_once();
@@ -281,5 +281,5 @@ pub fn laws_of_adjusting()
     ensures publish_subscribe_only_raises { OnlyRaises publish_subscribe_meaning publish_subscribe_adjusted }
     ensures request_response_only_raises { OnlyRaises request_response_meaning request_response_adjusted }
 {
-    types::laws();
+    types::laws_of_compatibility();
 }

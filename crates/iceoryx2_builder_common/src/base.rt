@@ -73,10 +73,10 @@ impl<S: Service> BuilderWithServiceType<S> {
         &self.name
     }
 
-    /// The hash of the service of this name, of the pattern with this letter.
-    pub fn hash(&self, letter: u8) -> ServiceHash
-        ensures { result ≡ S.ServiceNameHasher.hash_of letter self.now.name }
+    /// The hash of the service of this name, of the pattern with this prefix.
+    pub fn hash(&self, prefix: u8) -> ServiceHash
+        ensures { result ≡ S.ServiceNameHasher.hash_of prefix self.now.name }
     {
-        S::ServiceNameHasher::hash(letter, &self.name)
+        S::ServiceNameHasher::hash(prefix, &self.name)
     }
 }

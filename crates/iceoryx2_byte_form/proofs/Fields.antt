@@ -16,7 +16,7 @@ use Rattle.iceoryx2_byte_form.specs.declared.parts.reading.DecodeError.{DecodeEr
 use Rattle.iceoryx2_byte_form.specs.declared.parts.reading.DecodeError.TheVariants.{Malformed, OutOfMemory}
 use Rattle.iceoryx2_byte_form.specs.PartForm.{text, number, truth, option, deadline, message}
 use Rattle.iceoryx2_byte_form.specs.PartReading.{Part, as_at, counted_at, deadline_at, IsReadBy}
-use Rattle.iceoryx2_byte_form.proofs.Parts.{IsBytes, IsBytes-rest, bind_some, guard_is, some_is, Takes, Reads, Reads-then, Reads-as, Reads-where, Reads-form, Reads-fits, Reads-each_byte, Reads-literal, Reads-number64, Reads-text, Reads-truth, Reads-option, Reads-counted}
+use Rattle.iceoryx2_byte_form.proofs.PartForms.{IsBytes, IsBytes-rest, bind_some, guard_is, some_is, Takes, Reads, Reads-then, Reads-as, Reads-where, Reads-form, Reads-fits, Reads-each_byte, Reads-literal, Reads-number64, Reads-text, Reads-truth, Reads-option, Reads-counted}
 use Rattle.iceoryx2_byte_form.proofs.Grouped.{regrouped}
 use Rattle.iceoryx2_byte_form.proofs.Times.{Reads-deadline, Reads-id}
 use Rattle.iceoryx2_byte_form.proofs.Messages.{Reads-message}

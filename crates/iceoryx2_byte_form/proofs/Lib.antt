@@ -1,4 +1,4 @@
-pub mod Parts
+pub mod PartForms
 pub mod Grouped
 pub mod Times
 pub mod Messages

@@ -7,7 +7,7 @@ use Rattle.iceoryx2_types.specs.declared.types.TypeVariant.TheVariants.{FixedSiz
 use Rattle.iceoryx2_description.specs.Messages.{IsMeasured, IsMeasuredMessage}
 use Rattle.iceoryx2_byte_form.specs.PartForm.{number, variant, detail, message}
 use Rattle.iceoryx2_byte_form.specs.PartReading.{number_at, variant_at, detail_from, detail_at, message_from, message_at}
-use Rattle.iceoryx2_byte_form.proofs.Parts.{IsBytes, IsBytes-rest, some_is, Any, Takes, Reads, Reads-then, Reads-as, Reads-where, Reads-form, Reads-number64, Reads-text}
+use Rattle.iceoryx2_byte_form.proofs.PartForms.{IsBytes, IsBytes-rest, some_is, Any, Takes, Reads, Reads-then, Reads-as, Reads-where, Reads-form, Reads-number64, Reads-text}
 use Rattle.iceoryx2_byte_form.proofs.Times.{Below64}
 
 variant_takes : (bytes : List ℕ) (x : TypeVariant × List ℕ) → IsBytes bytes → variant_at bytes ≡ Some x → Takes bytes (variant x.0) x.1 × Any x.0

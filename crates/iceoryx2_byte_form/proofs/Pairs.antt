@@ -7,7 +7,7 @@ use Rattle.iceoryx2_attribute.proofs.Ascending.{ascends_front}
 use Rattle.iceoryx2_byte_form.specs.declared.parts.reading.DecodeError.{DecodeError}
 use Rattle.iceoryx2_byte_form.specs.declared.parts.reading.DecodeError.TheVariants.{Malformed, OutOfMemory}
 use Rattle.iceoryx2_byte_form.specs.PartReading.{◌>>=◌, Fails, list_at}
-use Rattle.iceoryx2_byte_form.proofs.Parts.{guard_is, some_is}
+use Rattle.iceoryx2_byte_form.proofs.PartForms.{guard_is, some_is}
 use Rattle.iceoryx2_byte_form.specs.Reading.{pair_at, pairs_at, more_at}
 
 abbrev ReadPairs : Type 0

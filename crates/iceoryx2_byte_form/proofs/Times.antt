@@ -8,7 +8,7 @@ use Rattle.iceoryx2_description.specs.Span.{IsSpan}
 use Rattle.iceoryx2_description.specs.Description.{IsDeadline}
 use Rattle.iceoryx2_byte_form.specs.PartForm.{number, option, span, deadline}
 use Rattle.iceoryx2_byte_form.specs.PartReading.{then_at, where_at, number_at, option_at, span_from, span_at, deadline_from, deadline_at}
-use Rattle.iceoryx2_byte_form.proofs.Parts.{Reads, Reads-then, Reads-as, Reads-where, Reads-number32, Reads-number64, Reads-option}
+use Rattle.iceoryx2_byte_form.proofs.PartForms.{Reads, Reads-then, Reads-as, Reads-where, Reads-number32, Reads-number64, Reads-option}
 
 abbrev pub Below64 : ℕ → Type 0
 Below64 n = n < 2 ^ 64

@@ -3,7 +3,7 @@ use Rattle.std.proofs.Common.{◌≡◌, ℕ, zero, suc, ◌^◌, ◌<◌, List,
 use Rattle.std.specs.Prelude.{IfSome}
 use Rattle.std.specs.Int.{w64}
 use Rattle.iceoryx2_byte_form.specs.PartReading.{number_at}
-use Rattle.iceoryx2_byte_form.proofs.Parts.{IsBytes, IsBytes-rest, bind_some, some_is, Takes, Reads, Reads-number64}
+use Rattle.iceoryx2_byte_form.proofs.PartForms.{IsBytes, IsBytes-rest, bind_some, some_is, Takes, Reads, Reads-number64}
 use Rattle.iceoryx2_byte_form.specs.Form.{versioned}
 use Rattle.iceoryx2_byte_form.specs.Reading.{versioned_at}
 

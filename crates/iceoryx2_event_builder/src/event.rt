@@ -34,10 +34,10 @@ use iceoryx2_port_factory::port_factory::event::PortFactory;
 use std::alloc::AllocError;
 use std::marker::Model;
 
-/// The letter that stands before a name in the hash of a service of events.
+/// The prefix that stands before a name in the hash of a service of events.
 pub const PREFIX: u8 = b'e';
 
-/// The letter is `e`.
+/// The prefix is `e`.
 pub fn prefix_is_e()
     ensures { PREFIX ≡ 101 }
 {}

@@ -47,10 +47,10 @@ use iceoryx2_types::types::{
 use std::alloc::AllocError;
 use std::marker::{Model, PhantomData};
 
-/// The letter that stands before a name in the hash of a service of publish-subscribe.
+/// The prefix that stands before a name in the hash of a service of publish-subscribe.
 pub const PREFIX: u8 = b'p';
 
-/// The letter is `p`.
+/// The prefix is `p`.
 pub fn prefix_is_p()
     ensures { PREFIX ≡ 112 }
 {}

@@ -48,10 +48,10 @@ use iceoryx2_types::types::{
 use std::alloc::AllocError;
 use std::marker::{Model, PhantomData};
 
-/// The letter that stands before a name in the hash of a service of request-response.
+/// The prefix that stands before a name in the hash of a service of request-response.
 pub const PREFIX: u8 = b'r';
 
-/// The letter is `r`.
+/// The prefix is `r`.
 pub fn prefix_is_r()
     ensures { PREFIX ≡ 114 }
 {}

@@ -10,39 +10,39 @@ use Rattle.iceoryx2_script.specs.Plays.{Lacks, Plays, PlaysFront, end, takes, fa
 use Rattle.iceoryx2_script.specs.Script.{ScriptState, IsScriptAccess, Takes, MeetsFront, is_for}
 
 -- an access before a word that takes a front
-met : (b : Bool) (l : Letter) (front : Answer) (rest mid : List Answer) {word : List Letter} {left : List Answer} → is_for l front ≡ b → MeetsFront b l front rest mid → PlaysFront mid word left → PlaysFront (front ∷ rest) (l ∷ word) left
+met : (b : Bool) (l : Letter) (front : Answer) (rest mid : List Answer) {word : List Letter} {remaining : List Answer} → is_for l front ≡ b → MeetsFront b l front rest mid → PlaysFront mid word remaining → PlaysFront (front ∷ rest) (l ∷ word) remaining
 met true l front rest mid e h p = record {
   taken = front ∷ p.taken;
   front = ap (λ xs. front ∷ xs) (sym h.1 ∙ p.front);
   plays = takes h.0 p.plays;
 }
-met false l front rest mid {left} e h p = record {
+met false l front rest mid {remaining} e h p = record {
   taken = p.taken;
   front = sym h.1 ∙ p.front;
   plays = fails (subst (Lacks l) (sym h.1 ∙ p.front) e) h.0 p.plays;
 }
 
-before : (old mid : List Answer) (l : Letter) {word : List Letter} {left : List Answer} → Takes old l mid → PlaysFront mid word left → PlaysFront old (l ∷ word) left
-before [] mid l {left} h p = record {
+before : (old mid : List Answer) (l : Letter) {word : List Letter} {remaining : List Answer} → Takes old l mid → PlaysFront mid word remaining → PlaysFront old (l ∷ word) remaining
+before [] mid l {remaining} h p = record {
   taken = p.taken;
   front = sym h.1 ∙ p.front;
   plays = fails (subst (Lacks l) (sym h.1 ∙ p.front) tt) h.0 p.plays;
 }
 before (front ∷ rest) mid l h p = met (is_for l front) l front rest mid refl h p
 
-pub plays_front : {a b : ScriptState} {word : List Letter} → Run IsScriptAccess a word b → PlaysFront a.left word b.left
+pub plays_front : {a b : ScriptState} {word : List Letter} → Run IsScriptAccess a word b → PlaysFront a.remaining word b.remaining
 plays_front done = record { taken = []; front = refl; plays = end }
 plays_front (next h run) = before _ _ _ h.takes (plays_front run)
 
-at_most : {left : List Answer} {word : List Letter} {taken : List Answer} → Plays left word taken → length taken ≤ length word
+at_most : {remaining : List Answer} {word : List Letter} {taken : List Answer} → Plays remaining word taken → length taken ≤ length word
 at_most end = omega arith
 at_most (takes h p) = let e = at_most p in omega arith
 at_most (fails h f p) = let e = at_most p in omega arith
 
-pub few : {old left : List Answer} {word : List Letter} → PlaysFront old word left → length old ≤ length word + length left
-few {left} p =
+pub few : {old remaining : List Answer} {word : List Letter} → PlaysFront old word remaining → length old ≤ length word + length remaining
+few {remaining} p =
     let e = at_most p.plays in
-    let l = ap length p.front ∙ length-append p.taken left in omega arith
+    let l = ap length p.front ∙ length-append p.taken remaining in omega arith
 
 pub script_counters : {a b : ScriptState} {word : List Letter} → Run IsScriptAccess a word b → b.counters ≡ counters_along word a.counters
 script_counters done = refl

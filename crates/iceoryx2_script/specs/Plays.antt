@@ -10,17 +10,17 @@ abbrev pub Lacks : Letter → List Answer → Type 0
 Lacks l [] = Unit {0}
 Lacks l (front ∷ rest) = is_for l front ≡ false
 
--- Each access has taken the next of these answers, or has found none of its kind in front and failed. `left` is
+-- Each access has taken the next of these answers, or has found none of its kind in front and failed. `remaining` is
 -- what stands behind them.
-pub data Plays (left : List Answer) : List Letter → List Answer → Type 0 where
-  end : Plays left [] []
+pub data Plays (remaining : List Answer) : List Letter → List Answer → Type 0 where
+  end : Plays remaining [] []
   takes : {l : Letter} {word : List Letter} {front : Answer} {taken : List Answer}
-      → Carries l front → Plays left word taken → Plays left (l ∷ word) (front ∷ taken)
+      → Carries l front → Plays remaining word taken → Plays remaining (l ∷ word) (front ∷ taken)
   fails : {l : Letter} {word : List Letter} {taken : List Answer}
-      → Lacks l (taken ++ left) → IsFault l → Plays left word taken → Plays left (l ∷ word) taken
+      → Lacks l (taken ++ remaining) → IsFault l → Plays remaining word taken → Plays remaining (l ∷ word) taken
 
 -- The answers before are those that the word took, and behind them those that are left.
-pub record PlaysFront (old : List Answer) (word : List Letter) (left : List Answer) : Type 0 where
+pub record PlaysFront (old : List Answer) (word : List Letter) (remaining : List Answer) : Type 0 where
   pub taken : List Answer
-  pub front : old ≡ taken ++ left
-  pub plays : Plays left word taken
+  pub front : old ≡ taken ++ remaining
+  pub plays : Plays remaining word taken

@@ -10,7 +10,7 @@ use Rattle.iceoryx2_script.specs.Counters.{counters_after}
 
 -- the answers that weren't taken, in order, and how often was asked
 pub record ScriptState : Type 0 where
-  pub left : List Answer
+  pub remaining : List Answer
   pub counters : Counters
 
 -- The answer is of the access's kind.
@@ -47,14 +47,14 @@ Carries _ _ = ⊥
 
 -- A front of the access's kind is answered and taken; at another the access fails, and it stays.
 abbrev pub MeetsFront : Bool → Letter → Answer → List Answer → List Answer → Type 0
-MeetsFront true l front rest left = Carries l front × (left ≡ rest)
-MeetsFront false l front rest left = IsFault l × (left ≡ front ∷ rest)
+MeetsFront true l front rest remaining = Carries l front × (remaining ≡ rest)
+MeetsFront false l front rest remaining = IsFault l × (remaining ≡ front ∷ rest)
 
 -- What an access leaves of the answers.
 abbrev pub Takes : List Answer → Letter → List Answer → Type 0
-Takes [] l left = IsFault l × (left ≡ [])
-Takes (front ∷ rest) l left = MeetsFront (is_for l front) l front rest left
+Takes [] l remaining = IsFault l × (remaining ≡ [])
+Takes (front ∷ rest) l remaining = MeetsFront (is_for l front) l front rest remaining
 
 pub record IsScriptAccess (old : ScriptState) (l : Letter) (new : ScriptState) : Type 0 where
-  pub takes : Takes old.left l new.left
+  pub takes : Takes old.remaining l new.remaining
   pub counters : new.counters ≡ counters_after l old.counters

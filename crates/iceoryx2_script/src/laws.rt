@@ -16,11 +16,11 @@ pub fn scripts()
     // The answers that were taken are a front of those before, in the order of the accesses that answered
     // them, and the rest is left.
     ensures front { (a b : ScriptState) (word : List Letter)
-        → Run IsScriptAccess a word b → PlaysFront a.left word b.left }
+        → Run IsScriptAccess a word b → PlaysFront a.remaining word b.remaining }
 
     // An access takes at most one answer, so without accesses all are left.
     ensures few { (a b : ScriptState) (word : List Letter)
-        → Run IsScriptAccess a word b → length a.left ≤ length word + length b.left }
+        → Run IsScriptAccess a word b → length a.remaining ≤ length word + length b.remaining }
 
     ensures counters { (a b : ScriptState) (word : List Letter)
         → Run IsScriptAccess a word b → b.counters ≡ counters_along word a.counters }

@@ -46,13 +46,13 @@ impl Model for Script {
 
     ghost Value = { ScriptState };
 
-    ghost view = { λ s. record { left = s.queue; counters = s.counters } };
+    ghost view = { λ s. record { remaining = s.queue; counters = s.counters } };
 }
 
 impl Script {
     /// A script of these answers, of which nothing was asked yet.
     pub fn new(answers: Vec<Answer>) -> Script
-        ensures { result ≡ record { left = answers.items; counters = Counters.NONE } }
+        ensures { result ≡ record { remaining = answers.items; counters = Counters.NONE } }
     {
         Script {
             queue: Queue::new(answers),
@@ -62,7 +62,7 @@ impl Script {
 
     /// The answers that weren't taken, in order.
     pub fn left(&self) -> &[Answer]
-        ensures { result.now ≡ self.now.left }
+        ensures { result.now ≡ self.now.remaining }
     {
         self.queue.left()
     }

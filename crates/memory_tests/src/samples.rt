@@ -53,8 +53,8 @@ impl Pattern {
         }
     }
 
-    /// Its letter in hashes.
-    fn letter(self) -> u8 {
+    /// Its prefix in hashes.
+    fn prefix(self) -> u8 {
         match self {
             Pattern::Event => b'e',
             Pattern::PublishSubscribe => b'p',
@@ -78,7 +78,7 @@ pub fn name(alloc: Global, text: &str) -> Result<ServiceName, Wrong> {
 
 /// The hash of the service that is called for.
 pub fn hash(alloc: Global, pattern: Pattern) -> Result<ServiceHash, Wrong> {
-    Ok(Sha1Hasher::hash(pattern.letter(), &name(alloc, NAME)?))
+    Ok(Sha1Hasher::hash(pattern.prefix(), &name(alloc, NAME)?))
 }
 
 /// A type of messages.

@@ -168,7 +168,7 @@ fn each_law_has_its_path(_rt: HostRuntime) {
     laws::scripts();
     laws::faults::<Table>();
     laws::quiet_laws();
-    bytes::laws();
+    bytes::laws_of_forms();
     builder::laws();
     builder::laws_of_calls();
     builder::laws_of_adjusting();

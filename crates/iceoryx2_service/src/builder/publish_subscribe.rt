@@ -5,5 +5,6 @@ pub use iceoryx2_errors::error::publish_subscribe::{
     ServiceAvailabilityState,
 };
 pub use iceoryx2_publish_subscribe_builder::publish_subscribe::{
-    Builder, PREFIX, PublishSubscribeSetter, demand, ends_at_once, laws, prefix_is_p, setting,
+    Builder, PREFIX, PublishSubscribeSetter, demand, ends_at_once, opens_what_it_creates,
+    prefix_is_p, setting,
 };

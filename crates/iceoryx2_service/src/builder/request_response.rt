@@ -5,6 +5,6 @@ pub use iceoryx2_errors::error::request_response::{
     ServiceAvailabilityState,
 };
 pub use iceoryx2_request_response_builder::request_response::{
-    Builder, PREFIX, RequestResponseSetter, demand, ends_at_once, laws, prefix_is_r, requested,
-    setting,
+    Builder, PREFIX, RequestResponseSetter, demand, ends_at_once, opens_what_it_creates,
+    prefix_is_r, requested, setting,
 };
