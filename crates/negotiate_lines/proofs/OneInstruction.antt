@@ -8,8 +8,8 @@ use Rattle.negotiate_lines.specs.declared.call_term.TermName.TheVariants as befo
 use Rattle.negotiate_lines.specs.Terms.{AreAround}
 use Rattle.negotiate_lines.specs.Vocabulary.{Vocabulary, IsUnambiguous, now_term, attribute_term, require_key_term}
 use Rattle.negotiate_lines.specs.CallTerms.{name_term, Instruction, setting, now, attribute, SaysPair, SaysBehind, SaysTerm, IsRead, instruction_of}
-use Rattle.negotiate_lines.proofs.Around.{one_cut}
-use Rattle.negotiate_lines.proofs.OneValue.{one_clock, false-true}
+use Rattle.negotiate_lines.specs.Around.{one_cut}
+use Rattle.negotiate_lines.specs.OneValue.{one_clock, false-true}
 
 -- ---- the terms that every pattern has
 

@@ -5,8 +5,8 @@ use Rattle.iceoryx2_event_builder.specs.declared.event.setting.EventSetter.{Even
 use Rattle.iceoryx2_event_builder.specs.declared.event.setting.EventSetter.TheVariants as set
 use Rattle.negotiate_lines.specs.Values.{IsNatural, IsNoneOr, IsSpanTerm}
 use Rattle.negotiate_lines.specs.Vocabulary.{IsUnambiguous}
-use Rattle.negotiate_lines.proofs.Names.{unambiguous}
-use Rattle.negotiate_lines.proofs.OneValue.{one_natural, one_span, one_or_none, one_set, no_span_none, no_natural_none}
+use Rattle.negotiate_lines.specs.Names.{unambiguous}
+use Rattle.negotiate_lines.specs.OneValue.{one_natural, one_span, one_or_none, one_set, no_span_none, no_natural_none}
 use Rattle.negotiate_lines.specs.declared.event_terms.EventSettingName.{EventSettingName}
 use Rattle.negotiate_lines.specs.declared.event_terms.EventSettingName.TheVariants as name
 use Rattle.negotiate_lines.specs.EventTerms.{event_setting_term, SaysEventSetting, event_vocabulary}

@@ -1,6 +1,10 @@
 pub mod Terms
 pub mod Values
 pub mod Vocabulary
+pub mod Around
+pub mod Names
+pub mod OneValue
+pub mod OneType
 pub mod CallTerms
 pub mod EventTerms
 pub mod EventMeanings

@@ -4,9 +4,9 @@ use Rattle.iceoryx2_publish_subscribe_builder.specs.declared.publish_subscribe.s
 use Rattle.iceoryx2_publish_subscribe_builder.specs.declared.publish_subscribe.setting.PublishSubscribeSetter.TheVariants as set
 use Rattle.negotiate_lines.specs.Values.{IsNatural, IsTruthTerm, IsAlignmentTerm, IsDetailTerm}
 use Rattle.negotiate_lines.specs.Vocabulary.{IsUnambiguous}
-use Rattle.negotiate_lines.proofs.Names.{unambiguous}
-use Rattle.negotiate_lines.proofs.OneValue.{one_natural, one_truth, one_set}
-use Rattle.negotiate_lines.proofs.OneType.{one_alignment, one_detail}
+use Rattle.negotiate_lines.specs.Names.{unambiguous}
+use Rattle.negotiate_lines.specs.OneValue.{one_natural, one_truth, one_set}
+use Rattle.negotiate_lines.specs.OneType.{one_alignment, one_detail}
 use Rattle.negotiate_lines.specs.declared.publish_subscribe_terms.PlainSettingName.{PlainSettingName}
 use Rattle.negotiate_lines.specs.declared.publish_subscribe_terms.PlainSettingName.TheVariants as plain
 use Rattle.negotiate_lines.specs.declared.publish_subscribe_terms.PublishSubscribeSettingName.{PublishSubscribeSettingName}

@@ -3,9 +3,9 @@ use Rattle.std.specs.Prelude.{◌≡◌, ℕ, List, Option, Some, None, if◌the
 use Rattle.iceoryx2_request_response_builder.specs.declared.request_response.setting.RequestResponseSetter.{RequestResponseSetter}
 use Rattle.negotiate_lines.specs.Values.{IsNatural, IsTruthTerm, IsAlignmentTerm, IsDetailTerm}
 use Rattle.negotiate_lines.specs.Vocabulary.{IsUnambiguous}
-use Rattle.negotiate_lines.proofs.Names.{unambiguous}
-use Rattle.negotiate_lines.proofs.OneValue.{one_natural, one_truth, one_set}
-use Rattle.negotiate_lines.proofs.OneType.{one_alignment, one_detail}
+use Rattle.negotiate_lines.specs.Names.{unambiguous}
+use Rattle.negotiate_lines.specs.OneValue.{one_natural, one_truth, one_set}
+use Rattle.negotiate_lines.specs.OneType.{one_alignment, one_detail}
 use Rattle.negotiate_lines.specs.declared.request_response_terms.FlagName.TheVariants as flag
 use Rattle.negotiate_lines.specs.declared.request_response_terms.NumberName.TheVariants as number
 use Rattle.negotiate_lines.specs.declared.request_response_terms.AlignmentName.TheVariants as alignment

@@ -1,5 +1,5 @@
 use Rattle.std.proofs.Common.{refl}
-use Rattle.negotiate_lines.proofs.OneType.{no_parts, no_variant, no_size, no_alignment, no_name, not_aligned}
+use Rattle.negotiate_lines.specs.OneType.{no_parts, no_variant, no_size, no_alignment, no_name, not_aligned}
 use Rattle.negotiate_lines.proofs.type_term.type_detail.Goals as goal
 
 pub returns-in_default : goal.returns-in_default

@@ -1,4 +1,4 @@
-use Rattle.negotiate_lines.proofs.OneValue.{no_seconds, no_nanoseconds}
+use Rattle.negotiate_lines.specs.OneValue.{no_seconds, no_nanoseconds}
 use Rattle.negotiate_lines.proofs.value.duration.Goals as goal
 
 pub returns-in_default : goal.returns-in_default

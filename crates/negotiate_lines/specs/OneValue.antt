@@ -7,17 +7,21 @@ use Rattle.iceoryx2_description.specs.Span.{Span}
 use Rattle.negotiate_lines.specs.Terms.{AreAround, IsNumber}
 use Rattle.negotiate_lines.specs.Values.{IsNatural, IsSpanTerm, IsNoneOr, IsClockTerm, IsTruthTerm}
 use Rattle.negotiate_lines.specs.Vocabulary.{Sets}
-use Rattle.negotiate_lines.proofs.Around.{one_cut}
+use Rattle.negotiate_lines.specs.Around.{one_cut}
 
 -- ---- seconds and nanoseconds
 
-pub no_seconds : (value s n : List ℕ) → AreAround 44 value s n → ((k : ℕ) → IsNatural s k → ⊥) → (span : Span) → IsSpanTerm value span → ⊥
+pub no_seconds : (value s n : List ℕ) → AreAround 44 value s n → ((k : ℕ) → IsNatural s k → ⊥)
+    → (span : Span) → IsSpanTerm value span → ⊥
 no_seconds value s n cut none span is =
-    none span.seconds (subst (λ (t : List ℕ). IsNatural t span.seconds) (one_cut 44 value is.seconds s is.nanoseconds n is.around cut).front is.seconds_are)
+    none span.seconds (subst (λ (t : List ℕ). IsNatural t span.seconds)
+    (one_cut 44 value is.seconds s is.nanoseconds n is.around cut).front is.seconds_are)
 
-pub no_nanoseconds : (value s n : List ℕ) → AreAround 44 value s n → ((k : ℕ) → IsNumber 1000000000 n k → ⊥) → (span : Span) → IsSpanTerm value span → ⊥
+pub no_nanoseconds : (value s n : List ℕ) → AreAround 44 value s n
+    → ((k : ℕ) → IsNumber 1000000000 n k → ⊥) → (span : Span) → IsSpanTerm value span → ⊥
 no_nanoseconds value s n cut none span is =
-    none span.nanoseconds (subst (λ (t : List ℕ). IsNumber 1000000000 t span.nanoseconds) (one_cut 44 value is.seconds s is.nanoseconds n is.around cut).back is.nanoseconds_are)
+    none span.nanoseconds (subst (λ (t : List ℕ). IsNumber 1000000000 t span.nanoseconds)
+    (one_cut 44 value is.seconds s is.nanoseconds n is.around cut).back is.nanoseconds_are)
 
 -- ---- values
 
@@ -33,9 +37,14 @@ one_natural value n m left right = left.value ∙ sym right.value
 
 pub one_span : (value : List ℕ) (s t : Span) → IsSpanTerm value s → IsSpanTerm value t → s ≡ t
 one_span value s t left right =
-    let both = one_cut 44 value left.seconds right.seconds left.nanoseconds right.nanoseconds left.around right.around in
-    let seconds : s.seconds ≡ t.seconds = left.seconds_are.value ∙ ap (λ (w : List ℕ). digits_value 10 w) both.front ∙ sym right.seconds_are.value in
-    let nanoseconds : s.nanoseconds ≡ t.nanoseconds = left.nanoseconds_are.value ∙ ap (λ (w : List ℕ). digits_value 10 w) both.back ∙ sym right.nanoseconds_are.value in
+    let both =
+    one_cut 44 value left.seconds right.seconds left.nanoseconds right.nanoseconds left.around right.around in
+    let seconds : s.seconds ≡ t.seconds =
+    left.seconds_are.value ∙
+    ap (λ (w : List ℕ). digits_value 10 w) both.front ∙ sym right.seconds_are.value in
+    let nanoseconds : s.nanoseconds ≡ t.nanoseconds =
+    left.nanoseconds_are.value ∙
+    ap (λ (w : List ℕ). digits_value 10 w) both.back ∙ sym right.nanoseconds_are.value in
     λ i. record { seconds = seconds i; nanoseconds = nanoseconds i }
 
 has_comma : List ℕ → Bool
@@ -64,20 +73,26 @@ letter_is_no_digit h = absurd (omega (arith, h))
 pub no_natural_none : (n : ℕ) → IsNatural (codes "none") n → ⊥
 no_natural_none n is = letter_is_no_digit is.numeral.1.0
 
-module _ {A : Type 0} (Says : List ℕ → A → Type 0) (one : (value : List ℕ) (a b : A) → Says value a → Says value b → a ≡ b) where
-  pub one_set : {S : Type 0} (sets : A → S) (value : List ℕ) (s t : S) → Sets Says sets value s → Sets Says sets value t → s ≡ t
+module _ {A : Type 0} (Says : List ℕ → A → Type 0) (one : (value : List ℕ)
+    (a b : A) → Says value a → Says value b → a ≡ b) where
+  pub one_set : {S : Type 0} (sets : A → S) (value : List ℕ) (s t : S) → Sets Says sets value s
+      → Sets Says sets value t → s ≡ t
   one_set sets value s t (a, says, e) (b, others, f) = e ∙ ap sets (one value a b says others) ∙ sym f
 
-  pub one_or_none : ((a : A) → Says (codes "none") a → ⊥) → (value : List ℕ) (a b : Option A) → IsNoneOr Says value a → IsNoneOr Says value b → a ≡ b
+  pub one_or_none : ((a : A) → Says (codes "none") a → ⊥) → (value : List ℕ) (a b : Option A)
+      → IsNoneOr Says value a → IsNoneOr Says value b → a ≡ b
   one_or_none never value None None left right = refl
   one_or_none never value None (Some b) left right = absurd (never b (subst (λ (v : List ℕ). Says v b) left right))
   one_or_none never value (Some a) None left right = absurd (never a (subst (λ (v : List ℕ). Says v a) right left))
   one_or_none never value (Some a) (Some b) left right = ap (λ (x : A). Some x) (one value a b left right)
 
-pub one_clock : (value : List ℕ) (a b : Result Span ClockFault) → IsClockTerm value a → IsClockTerm value b → a ≡ b
+pub one_clock : (value : List ℕ) (a b : Result Span ClockFault) → IsClockTerm value a → IsClockTerm value b
+    → a ≡ b
 one_clock value (Ok s) (Ok t) left right = ap (λ (x : Span). Ok x) (one_span value s t left right)
-one_clock value (Ok s) (Err f) left right = absurd (no_span_fault s (subst (λ (v : List ℕ). IsSpanTerm v s) right left))
-one_clock value (Err f) (Ok t) left right = absurd (no_span_fault t (subst (λ (v : List ℕ). IsSpanTerm v t) left right))
+one_clock value (Ok s) (Err f) left right =
+    absurd (no_span_fault s (subst (λ (v : List ℕ). IsSpanTerm v s) right left))
+one_clock value (Err f) (Ok t) left right =
+    absurd (no_span_fault t (subst (λ (v : List ℕ). IsSpanTerm v t) left right))
 one_clock value (Err f) (Err g) left right = refl
 
 true_term_false_term : codes "true" ≡ codes "false" → ⊥

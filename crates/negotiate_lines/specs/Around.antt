@@ -4,8 +4,10 @@ use Rattle.std.specs.Prelude.{MatchOption}
 use Rattle.std.proofs.lemmas.Str.Pattern.{IsSplitOnceResult, split_parts, split_after}
 use Rattle.negotiate_lines.specs.Terms.{AreAround}
 
-pub found_around : (c : ℕ) (bs : List ℕ) (r : Option (Bor (List ℕ) × Bor (List ℕ))) → c < 128 → IsSplitOnceResult c bs r
-    → MatchOption r ((front back : List ℕ) → AreAround c bs front back → ⊥) (λ parts. AreAround c bs parts.0.now parts.1.now)
+pub found_around : (c : ℕ) (bs : List ℕ) (r : Option (Bor (List ℕ) × Bor (List ℕ))) → c < 128
+    → IsSplitOnceResult c bs r
+    → MatchOption r ((front back : List ℕ) → AreAround c bs front back → ⊥)
+    (λ parts. AreAround c bs parts.0.now parts.1.now)
 found_around c bs None small h = λ front back are. split_after c bs front back None h small are.are are.first
 found_around c bs (Some parts) small h =
     let found = split_parts c bs (Some parts) h small in
@@ -33,7 +35,8 @@ lacks_first c x f lacks e = lacks 0 (omega arith) e
 lacks_rest : (c x : ℕ) (f : List ℕ) → Lacks c (x ∷ f) → Lacks c f
 lacks_rest c x f lacks i within e = lacks (i + 1) (omega (arith, within)) (grind (arith, e))
 
-same_cut : (c : ℕ) (f g b d : List ℕ) → f ++ c ∷ b ≡ g ++ c ∷ d → Lacks c f → Lacks c g → SameCut f g b d
+same_cut : (c : ℕ) (f g b d : List ℕ) → f ++ c ∷ b ≡ g ++ c ∷ d → Lacks c f → Lacks c g
+    → SameCut f g b d
 unfolding head_of tail_of
 same_cut c [] [] b d e left right = record { front = refl; back = ap tail_of e }
 same_cut c [] (y ∷ g) b d e left right = absurd (lacks_first c y g right (sym (ap (head_of 0) e)))

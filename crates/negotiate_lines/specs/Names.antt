@@ -9,7 +9,8 @@ or_else a (Some b) = b
 found_is_some : {A : Type 0} (a : A) → None ≡ Some a → ⊥
 found_is_some a e = absurd cc
 
-module _ {N S : Type 0} (v : Vocabulary N S) (named : List ℕ → Option N) (reads_back : (n : N) → named (v.term n) ≡ Some n) where
+module _ {N S : Type 0} (v : Vocabulary N S) (named : List ℕ → Option N) (reads_back : (n : N) → named
+    (v.term n) ≡ Some n) where
   one_name : (n m : N) → v.term n ≡ v.term m → n ≡ m
   unfolding or_else
   one_name n m e = ap (or_else n) (sym (reads_back n) ∙ ap named e ∙ reads_back m)
@@ -18,7 +19,8 @@ module _ {N S : Type 0} (v : Vocabulary N S) (named : List ℕ → Option N) (re
   other_term term none n e = found_is_some n (sym none ∙ sym (ap named e) ∙ reads_back n)
 
   pub unambiguous : named now_term ≡ None → named attribute_term ≡ None → named require_key_term ≡ None
-      → ((n : N) (value : List ℕ) (s t : S) → v.Says n value s → v.Says n value t → s ≡ t) → IsUnambiguous v
+      → ((n : N) (value : List ℕ)
+      (s t : S) → v.Says n value s → v.Says n value t → s ≡ t) → IsUnambiguous v
   unambiguous now attribute require_key values = record {
     names = one_name;
     not_now = other_term now_term now;
