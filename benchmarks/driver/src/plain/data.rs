@@ -18,7 +18,7 @@ impl ServiceHash {
     }
 }
 
-/// A text of its own, or want of memory.
+/// A text of its own, or out of memory.
 fn copy_text(text: &str) -> Result<String, TryReserveError> {
     let mut copy = String::new();
     copy.try_reserve_exact(text.len())?;
