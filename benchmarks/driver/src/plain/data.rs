@@ -9,10 +9,10 @@ use std::time::Duration;
 pub struct ServiceHash(pub [u8; 20]);
 
 impl ServiceHash {
-    /// SHA-1 of the pattern's letter and the name's bytes.
-    pub fn of(letter: u8, name: &ServiceName) -> ServiceHash {
+    /// SHA-1 of the pattern's prefix and the name's bytes.
+    pub fn of(prefix: u8, name: &ServiceName) -> ServiceHash {
         let mut hasher = Sha1::new();
-        hasher.update([letter]);
+        hasher.update([prefix]);
         hasher.update(name.as_str().as_bytes());
         ServiceHash(hasher.finalize().into())
     }

@@ -15,16 +15,16 @@ enum Line {
     NotACommand,
 }
 
-fn number(word: &str) -> Option<u64> {
-    if word.bytes().all(|byte| byte.is_ascii_digit()) {
-        word.parse().ok()
+fn number(term: &str) -> Option<u64> {
+    if term.bytes().all(|byte| byte.is_ascii_digit()) {
+        term.parse().ok()
     } else {
         None
     }
 }
 
-fn slot_number(word: &str) -> Option<usize> {
-    let slot = usize::try_from(number(word)?).ok()?;
+fn slot_number(term: &str) -> Option<usize> {
+    let slot = usize::try_from(number(term)?).ok()?;
     (slot < SLOTS).then_some(slot)
 }
 
@@ -52,15 +52,15 @@ fn event(how: &str, node: &str, slot: &str, name: &str) -> io::Result<Line> {
     })))
 }
 
-/// Reads a line of words that are separated by one or more spaces.
+/// Reads a line of terms that are separated by one or more spaces.
 fn parse(line: &[u8]) -> io::Result<Line> {
     let line = line.strip_suffix(b"\n").unwrap_or(line);
     let line = line.strip_suffix(b"\r").unwrap_or(line);
     let Ok(text) = std::str::from_utf8(line) else {
         return Ok(Line::NotACommand);
     };
-    let words: Vec<&str> = text.split(' ').filter(|word| !word.is_empty()).collect();
-    match words.as_slice() {
+    let terms: Vec<&str> = text.split(' ').filter(|term| !term.is_empty()).collect();
+    match terms.as_slice() {
         [] => Ok(Line::Blank),
         ["close", slot] => Ok(match slot_number(slot) {
             Some(slot) => Line::Command(Command::Close { slot }),

@@ -7,8 +7,8 @@ use super::table::{PublishError, Release, Table, Tag};
 use crate::maps::Maps;
 use std::time::Duration;
 
-/// The letter that stands before a name in the hash of a service of events.
-const LETTER: u8 = b'e';
+/// The prefix that stands before a name in the hash of a service of events.
+const PREFIX: u8 = b'e';
 
 /// Why a look finds no service that can be used.
 #[derive(Clone, Copy, Debug, PartialEq, Eq)]
@@ -158,7 +158,7 @@ pub fn create<M: Maps>(
     now: Duration,
     table: &mut Table<M>,
 ) -> Result<PortFactory, EventCreateError> {
-    let hash = ServiceHash::of(LETTER, name);
+    let hash = ServiceHash::of(PREFIX, name);
     if look(node, &hash, table)?.is_some() {
         return Err(EventCreateError::AlreadyExists);
     }
@@ -246,7 +246,7 @@ pub fn open<M: Maps>(
     name: &ServiceName,
     table: &mut Table<M>,
 ) -> Result<PortFactory, EventOpenError> {
-    let hash = ServiceHash::of(LETTER, name);
+    let hash = ServiceHash::of(PREFIX, name);
     for _round in 0..6 {
         if let Some(factory) = try_open(asked, node, &hash, table)? {
             return Ok(factory);
