@@ -1,8 +1,6 @@
 -- What a call has been granted whose word joins two states of its storage.
 use Rattle.std.proofs.Common.{◌≡◌, ◌∙◌, ℕ, Bool, true, List, Result, Ok, Err, IfOk, None, ap}
 use Rattle.iceoryx2_description.specs.declared.description.ServiceHash.{ServiceHash}
-use Rattle.iceoryx2_description.specs.declared.time.ClockFault.{ClockFault}
-use Rattle.iceoryx2_description.specs.Span.{Span}
 use Rattle.iceoryx2_description.specs.Description.{Description}
 use Rattle.iceoryx2_description.specs.declared.description.MessagingPattern.{MessagingPattern}
 use Rattle.iceoryx2_access.specs.Registered.{Registered}
@@ -10,6 +8,7 @@ use Rattle.iceoryx2_access.specs.Letter.{Letter}
 use Rattle.iceoryx2_access.specs.Run.{Joins, done}
 use Rattle.iceoryx2_access.proofs.Run.{joins}
 use Rattle.iceoryx2_pattern.specs.Meaning.{Meaning}
+use Rattle.iceoryx2_create_and_open.specs.Caller.{Caller}
 use Rattle.iceoryx2_create_and_open.specs.Creates.{IsCreateWord, description_of}
 use Rattle.iceoryx2_create_and_open.specs.Opens.{IsOpenWord}
 use Rattle.iceoryx2_create_and_open.specs.Prepared.{IsPrepared, prepared, unprepared}
@@ -18,29 +17,19 @@ use Rattle.iceoryx2_create_and_open.proofs.Carried.{created_carries, opened_carr
 second : {A B : Type 0} → A × B → B
 second (a, b) = b
 
-module _ {F E C : Type 0} {m : Meaning F E C} {node : ℕ} {hash : ServiceHash} {S : Type 0} {step : S → Letter → S → Type 0} {old new : S} {r : Registered} where
-  -- a create carries what it published
-  pub created_is : (name : List ℕ) (now : Result Span ClockFault) → Joins step old (λ word. IsCreateWord m node hash name now word (Ok r)) new
-      → r.description ≡ description_of m node hash name now
-  created_is name now joined = second (created_carries joined.is_word)
-
-  -- an open carries what fits
-  pub opened_fits : Joins step old (λ word. IsOpenWord m node hash word (Ok r)) new → m.misfit r.description ≡ None
-  opened_fits joined = (opened_carries joined.is_word).fits
-
-module _ {F E C : Type 0} {m : Meaning F E C} {node : ℕ} {hash : ServiceHash} {S : Type 0} {step : S → Letter → S → Type 0} {old new : S} where
+module _ {F E C : Type 0} {m : Meaning F E C} {S : Type 0} {step : S → Letter → S → Type 0} {old new : S} where
   -- what a create registers is of a pattern that what it published is of
-  pub created_of : (is_of : MessagingPattern → Bool) (name : List ℕ) (now : Result Span ClockFault) (answer : Result Registered C)
-      → Joins step old (λ word. IsCreateWord m node hash name now word answer) new
-      → is_of (description_of m node hash name now).pattern ≡ true → IfOk answer (λ r. is_of r.description.pattern ≡ true)
-  created_of is_of name now (Ok r) joined published = ap (λ d. is_of d.pattern) (created_is name now joined) ∙ published
-  created_of is_of name now (Err e) joined published = tt
+  pub created_of : (is_of : MessagingPattern → Bool) (caller : Caller) (answer : Result Registered C)
+      → Joins step old (λ word. IsCreateWord m caller word answer) new
+      → is_of (description_of m caller).pattern ≡ true → IfOk answer (λ r. is_of r.description.pattern ≡ true)
+  created_of is_of caller (Ok r) joined published = ap (λ d. is_of d.pattern) (second (created_carries joined.is_word)) ∙ published
+  created_of is_of caller (Err e) joined published = tt
 
   -- what an open registers is of a pattern that all that fits is of
-  pub opened_of : (is_of : MessagingPattern → Bool) (answer : Result Registered E)
+  pub opened_of : (is_of : MessagingPattern → Bool) {node : ℕ} {hash : ServiceHash} (answer : Result Registered E)
       → Joins step old (λ word. IsOpenWord m node hash word answer) new
       → ((d : Description) → m.misfit d ≡ None → is_of d.pattern ≡ true) → IfOk answer (λ r. is_of r.description.pattern ≡ true)
-  opened_of is_of (Ok r) joined fits = fits r.description (opened_fits joined)
+  opened_of is_of (Ok r) joined fits = fits r.description (opened_carries joined.is_word).fits
   opened_of is_of (Err e) joined fits = tt
 
 module _ {E : Type 0} {no_memory : E} {IsWord : List Letter → Result Registered E → Type 0} {S : Type 0} {step : S → Letter → S → Type 0} {old : S} where

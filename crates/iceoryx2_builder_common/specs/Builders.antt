@@ -1,12 +1,10 @@
 -- What holds of each builder, whatever its pattern.
-use Rattle.std.specs.Prelude.{ℕ, List, Result}
+use Rattle.std.specs.Prelude.{List}
 use Rattle.iceoryx2_attribute.specs.Attributes.{Pair}
 use Rattle.iceoryx2_attribute.specs.Requirements.{Requirements, no_requirements}
-use Rattle.iceoryx2_description.specs.declared.description.ServiceHash.{ServiceHash}
-use Rattle.iceoryx2_description.specs.declared.time.ClockFault.{ClockFault}
-use Rattle.iceoryx2_description.specs.Span.{Span}
 use Rattle.iceoryx2_pattern.specs.Meaning.{Meaning}
 use Rattle.iceoryx2_pattern.specs.Regular.{IsRegular, TakesNodes}
+use Rattle.iceoryx2_create_and_open.specs.Caller.{Caller}
 use Rattle.iceoryx2_create_and_open.specs.OwnSettings.{AcceptsOwn}
 
 -- What a builder's create and open mean, with the attributes that they define and require: they name
@@ -17,5 +15,4 @@ pub record IsLawfulBuilder {F E C : Type 0}
   pub creating_is_regular : (given : List Pair) → IsRegular (creating given)
   pub opening_is_regular : (required : Requirements) → IsRegular (opening required)
   pub takes_nodes : (given : List Pair) → TakesNodes (creating given)
-  pub accepts_own : (given : List Pair) (hash : ServiceHash) (name : List ℕ) (now : Result Span ClockFault)
-      → AcceptsOwn (creating given) (opening no_requirements) hash name now
+  pub accepts_own : (given : List Pair) (caller : Caller) → AcceptsOwn (creating given) (opening no_requirements) caller

@@ -1,3 +1,4 @@
+pub mod Callers
 pub mod Words
 pub mod Created
 pub mod Opened

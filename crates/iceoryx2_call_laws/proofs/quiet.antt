@@ -17,4 +17,4 @@ pub mod After
 pub mod Listing
 pub mod Own
 pub mod Looked
-pub mod Attempts
+pub mod Ways

@@ -1,5 +1,5 @@
 -- What every call comes to, over a storage with a world inside.
-use Rattle.std.specs.Prelude.{◌≡◌, ◌≢◌, ◌≤◌, ℕ, List, Result, Ok, IfOk}
+use Rattle.std.specs.Prelude.{◌≡◌, ◌≢◌, ◌≤◌, List, Result, Ok, IfOk}
 use Rattle.iceoryx2_access.specs.Registered.{Registered}
 use Rattle.iceoryx2_access.specs.Letter.{Letter}
 use Rattle.iceoryx2_access.specs.Run.{Each, Run}
@@ -8,7 +8,9 @@ use Rattle.iceoryx2_world.specs.Agreement.{IsSegmentOf}
 use Rattle.iceoryx2_world.specs.Across.{Agrees}
 use Rattle.iceoryx2_world.specs.Standing.{Spares, Stands}
 use Rattle.iceoryx2_call_laws.specs.Calls.{Throughout}
-use Rattle.iceoryx2_call_laws.specs.AnyCalls.{AnyCall, ErrorBy, IsShortBy, IsWordOf, MayCarryBy}
+use Rattle.iceoryx2_open_or_create.specs.BuilderCalls.{BuilderCall, ErrorBy}
+use Rattle.iceoryx2_call_laws.specs.AnyCalls.{IsShortBy, MayCarryBy}
+use Rattle.iceoryx2_open_or_create.specs.CallWords.{IsWordOf}
 
 -- An open factory, as the world shows it.
 pub record IsOpen (w : World) (f : Registered) : Type 0 where
@@ -21,12 +23,12 @@ pub record IsOpen (w : World) (f : Registered) : Type 0 where
   pub among : IsSegmentOf f.description f.number (λ p. phase_of w p f.description.hash) stands.segment.segment
 
 module _ {S : Type 0} (step : S → Letter → S → Type 0) (world : S → World)
-    {D F E C : Type 0} (c : AnyCall D F E C) where
+    {D F E C : Type 0} (c : BuilderCall D F E C) where
   -- The factory with which a call from s to t answered Ok.
   pub record IsGiven (s t : S) (r : Registered) : Type 0 where
     -- of the caller and the service that it named
-    pub node : r.node ≡ c.asks.node
-    pub hash : r.description.hash ≡ c.asks.hash
+    pub node : r.node ≡ c.caller.node
+    pub hash : r.description.hash ≡ c.caller.hash
     -- it meets the call's requirement as it was asked, or holds the call's adjusted settings and attributes
     pub carries : MayCarryBy c c.way r.description
     -- its ticket is not below the counter that the call found, so no factory that was open has it
@@ -49,7 +51,7 @@ module _ {S : Type 0} (step : S → Letter → S → Type 0) (world : S → Worl
     pub agrees : Agrees (world t)
 
 module _ {S : Type 0} (step : S → Letter → S → Type 0) (world : S → World)
-    {D F E C : Type 0} (c : AnyCall D F E C) (f : Registered) where
+    {D F E C : Type 0} (c : BuilderCall D F E C) (f : Registered) where
   -- The call has answered Ok with this factory, over a world that agreed, and since then no release of its ticket was
   -- granted, whatever else reached the storage.
   pub data IsOpenSince : S → Type 0 where
@@ -58,8 +60,8 @@ module _ {S : Type 0} (step : S → Letter → S → Type 0) (world : S → Worl
     spared : {letter : Letter} {s t : S} → IsOpenSince s → Spares f letter → step s letter t → IsOpenSince t
 
 -- The factory is open, with what the call that gave it asked.
-pub record IsOpenAsAsked {D F E C : Type 0} (c : AnyCall D F E C) (w : World) (f : Registered) : Type 0 where
+pub record IsOpenAsAsked {D F E C : Type 0} (c : BuilderCall D F E C) (w : World) (f : Registered) : Type 0 where
   pub is_open : IsOpen w f
-  pub node : f.node ≡ c.asks.node
-  pub hash : f.description.hash ≡ c.asks.hash
+  pub node : f.node ≡ c.caller.node
+  pub hash : f.description.hash ≡ c.caller.hash
   pub carries : MayCarryBy c c.way f.description

@@ -2,10 +2,9 @@ pub mod Calls
 pub mod Quiet
 pub mod QuietCalls
 pub mod QuietPrepared
-pub mod QuietAttempts
+pub mod QuietWays
 pub mod QuietLists
 pub mod QuietLaws
-pub mod Attempts
 pub mod AnyCalls
 pub mod Headline
 pub mod CallLeaves

@@ -1,27 +1,24 @@
 -- What a create answers where its service has no row, whatever segment an earlier refusal left there.
-use Rattle.std.specs.Prelude.{◌≡◌, ◌<◌, ◌≤◌, ℕ, Bool, true, false, List, Some, None, Result, Ok, Err}
-use Rattle.iceoryx2_description.specs.declared.description.ServiceHash.{ServiceHash}
-use Rattle.iceoryx2_description.specs.declared.time.ClockFault.{ClockFault}
-use Rattle.iceoryx2_description.specs.Span.{Span}
+use Rattle.std.specs.Prelude.{◌≡◌, ◌<◌, ◌≤◌, ℕ, Bool, true, false, Some, None, Result, Ok, Err}
 use Rattle.iceoryx2_access.specs.Registered.{Registered}
 use Rattle.iceoryx2_world.specs.Steps.{last_number}
 use Rattle.iceoryx2_pattern.specs.declared.pattern.CreateRefusal.TheVariants.{InternalFailure, OutOfMemory}
 use Rattle.iceoryx2_pattern.specs.Meaning.{Meaning}
+use Rattle.iceoryx2_create_and_open.specs.Caller.{Caller}
 use Rattle.iceoryx2_create_and_open.specs.Creates.{clock_stops, description_of}
 
-module _ {F E C : Type 0} (m : Meaning F E C) (node : ℕ) (hash : ServiceHash) (name : List ℕ)
-    (now : Result Span ClockFault) (counter : ℕ) where
+module _ {F E C : Type 0} (m : Meaning F E C) (caller : Caller) (counter : ℕ) where
   abbrev stops : Bool
-  stops = clock_stops m.needs_clock now
+  stops = clock_stops m.needs_clock caller.now
 
   -- Ok with the next number, or one of four things is in the way.
   pub data AnswersOverNoRow : Result Registered C → Type 0 where
     made : m.history_refusal ≡ None → stops ≡ false → counter < last_number
         → AnswersOverNoRow (Ok (record {
-          node = node;
+          node = caller.node;
           number = counter;
           ticket = counter;
-          description = description_of m node hash name now;
+          description = description_of m caller;
         }))
     -- the history rule
     forbidden : {error : C} → m.history_refusal ≡ Some error → AnswersOverNoRow (Err error)

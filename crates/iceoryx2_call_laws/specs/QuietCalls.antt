@@ -1,11 +1,9 @@
 -- The calls of the quiet machine: what each answers, and the state after it. One line a row.
-use Rattle.std.specs.Prelude.{◌≡◌, ℕ, ◌+◌, ◌-◌, ◌<◌, ◌≤◌, ◌⊎◌, true, false, nat_lt, List, Option, Some, None}
+use Rattle.std.specs.Prelude.{◌≡◌, ℕ, ◌+◌, ◌-◌, ◌<◌, ◌≤◌, ◌⊎◌, true, false, nat_lt, Option, Some, None}
 use Rattle.std.specs.Prelude.{Result, Ok, Err, is_some, unwrap_or, if◌then◌else◌}
 use Rattle.std.specs.FinMap as map
 use Rattle.iceoryx2_description.specs.declared.description.ServiceHash.{ServiceHash}
-use Rattle.iceoryx2_description.specs.declared.time.ClockFault.{ClockFault}
 use Rattle.iceoryx2_description.specs.Description.{Description, max_nodes_of}
-use Rattle.iceoryx2_description.specs.Span.{Span}
 use Rattle.iceoryx2_world.specs.World.{set_to}
 use Rattle.iceoryx2_world.specs.Steps.{last_number}
 use Rattle.iceoryx2_pattern.specs.declared.pattern.CreateRefusal.TheVariants as create_refusal
@@ -13,6 +11,7 @@ use Rattle.iceoryx2_pattern.specs.declared.pattern.OpenRefusal.TheVariants as op
 use Rattle.iceoryx2_pattern.specs.Meaning.{Meaning}
 use Rattle.iceoryx2_pattern.specs.Verdict.{verdict}
 use Rattle.iceoryx2_access.specs.Registered.{Registered}
+use Rattle.iceoryx2_create_and_open.specs.Caller.{Caller}
 use Rattle.iceoryx2_create_and_open.specs.Creates.{clock_stops, description_of}
 use Rattle.iceoryx2_call_laws.specs.Quiet.{NodeCounts, QuietService, Quiet, service_at, times_counted}
 
@@ -63,41 +62,42 @@ HasPlace x i = (is_some (times_counted x i) ≡ true) ⊎ (map.len x.counts < ma
 abbrev pub HasNoPlace : QuietService → ℕ → Type 0
 HasNoPlace x i = (times_counted x i ≡ None) × (max_nodes_of x.description.pattern ≤ map.len x.counts)
 
+-- this node creates a service of this description under this hash: the factory, and the machine after it
+abbrev pub factory_created : Quiet → ℕ → Description → Registered
+factory_created q node d = record { node = node; number = q.counter; ticket = q.counter; description = d }
+
+abbrev pub with_created : Quiet → ℕ → ServiceHash → Description → Quiet
+with_created q node hash d = spend (with_service q hash (Some (created_by node d q.counter)))
+
+-- Create.
+module _ {F E C : Type 0} (m : Meaning F E C) (q : Quiet) (caller : Caller) where
+  pub data Creates : Result Registered C → Quiet → Type 0 where
+    forbidden : {error : C} → m.history_refusal ≡ Some error → Creates (Err error) q
+    exists : (x : QuietService) → m.history_refusal ≡ None → service_at q caller.hash ≡ Some x
+        → Creates (Err (m.create_refusal create_refusal.AlreadyExists)) q
+    no_time : m.history_refusal ≡ None → service_at q caller.hash ≡ None
+        → clock_stops m.needs_clock caller.now ≡ true
+        → Creates (Err (m.create_refusal create_refusal.InternalFailure)) q
+    no_number : m.history_refusal ≡ None → service_at q caller.hash ≡ None
+        → clock_stops m.needs_clock caller.now ≡ false → HasNoNumber q
+        → Creates (Err (m.create_refusal create_refusal.InternalFailure)) q
+    created : m.history_refusal ≡ None → service_at q caller.hash ≡ None
+        → clock_stops m.needs_clock caller.now ≡ false → HasNumber q
+        → Creates (Ok (factory_created q caller.node (description_of m caller)))
+        (with_created q caller.node caller.hash (description_of m caller))
+    -- memory may be wanted in place of each answer from the look on; after the lock its number is spent
+    no_memory : m.history_refusal ≡ None → Creates (Err (m.create_refusal create_refusal.OutOfMemory)) q
+    no_memory_locked : m.history_refusal ≡ None → service_at q caller.hash ≡ None
+        → clock_stops m.needs_clock caller.now ≡ false → HasNumber q
+        → Creates (Err (m.create_refusal create_refusal.OutOfMemory)) (spend q)
+
 module _ {F E C : Type 0} (m : Meaning F E C) (q : Quiet) (node : ℕ) (hash : ServiceHash) where
-  -- this node creates a service of this hash: the factory, and the machine after it
-  abbrev pub factory_created : Description → Registered
-  factory_created d = record { node = node; number = q.counter; ticket = q.counter; description = d }
-
-  abbrev pub with_created : Description → Quiet
-  with_created d = spend (with_service q hash (Some (created_by node d q.counter)))
-
-  -- it opens one
+  -- this node opens a service: the factory, and the machine after it
   abbrev pub factory_opened : QuietService → Registered
   factory_opened x = record { node = node; number = x.number; ticket = q.counter; description = x.description }
 
   abbrev pub with_opened : QuietService → Quiet
   with_opened x = spend (with_service q hash (Some (opened_by node x)))
-
-  -- Create, for a name and the clock's answer.
-  pub data Creates (name : List ℕ) (now : Result Span ClockFault) : Result Registered C → Quiet → Type 0 where
-    forbidden : {error : C} → m.history_refusal ≡ Some error → Creates name now (Err error) q
-    exists : (x : QuietService) → m.history_refusal ≡ None → service_at q hash ≡ Some x
-        → Creates name now (Err (m.create_refusal create_refusal.AlreadyExists)) q
-    no_time : m.history_refusal ≡ None → service_at q hash ≡ None → clock_stops m.needs_clock now ≡ true
-        → Creates name now (Err (m.create_refusal create_refusal.InternalFailure)) q
-    no_number : m.history_refusal ≡ None → service_at q hash ≡ None → clock_stops m.needs_clock now ≡ false
-        → HasNoNumber q
-        → Creates name now (Err (m.create_refusal create_refusal.InternalFailure)) q
-    created : m.history_refusal ≡ None → service_at q hash ≡ None → clock_stops m.needs_clock now ≡ false
-        → HasNumber q
-        → Creates name now (Ok (factory_created (description_of m node hash name now)))
-        (with_created (description_of m node hash name now))
-    -- memory may be wanted in place of each answer from the look on; after the lock its number is spent
-    no_memory : m.history_refusal ≡ None → Creates name now (Err (m.create_refusal create_refusal.OutOfMemory)) q
-    no_memory_locked : m.history_refusal ≡ None → service_at q hash ≡ None
-        → clock_stops m.needs_clock now ≡ false
-        → HasNumber q
-        → Creates name now (Err (m.create_refusal create_refusal.OutOfMemory)) (spend q)
 
   -- Open.
   pub data Opens : Result Registered E → Quiet → Type 0 where

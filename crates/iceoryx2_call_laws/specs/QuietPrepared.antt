@@ -1,12 +1,11 @@
 -- The calls of the quiet machine that may prepare the types of their messages first.
-use Rattle.std.specs.Prelude.{ℕ, List, Result, Err}
+use Rattle.std.specs.Prelude.{ℕ, Bool, true, false, Result, Err}
 use Rattle.iceoryx2_description.specs.declared.description.ServiceHash.{ServiceHash}
-use Rattle.iceoryx2_description.specs.declared.time.ClockFault.{ClockFault}
-use Rattle.iceoryx2_description.specs.Span.{Span}
 use Rattle.iceoryx2_access.specs.Registered.{Registered}
 use Rattle.iceoryx2_pattern.specs.declared.pattern.CreateRefusal.TheVariants as create_refusal
 use Rattle.iceoryx2_pattern.specs.declared.pattern.OpenRefusal.TheVariants as open_refusal
 use Rattle.iceoryx2_pattern.specs.Meaning.{Meaning}
+use Rattle.iceoryx2_create_and_open.specs.Caller.{Caller}
 use Rattle.iceoryx2_call_laws.specs.Quiet.{Quiet}
 use Rattle.iceoryx2_call_laws.specs.QuietCalls.{Creates, Opens}
 
@@ -16,12 +15,18 @@ pub data PreparesFirst {E : Type 0} (no_memory : E) (q : Quiet) (Calls : Result 
   unprepared : PreparesFirst no_memory q Calls (Err no_memory) q
   prepared : {answer : Result Registered E} {p : Quiet} → Calls answer p → PreparesFirst no_memory q Calls answer p
 
-module _ {F E C : Type 0} (m : Meaning F E C) (q : Quiet) (node : ℕ) (hash : ServiceHash) where
-  -- Create, for a name and the clock's answer;
-  abbrev pub CreatesPrepared : List ℕ → Result Span ClockFault → Result Registered C → Quiet → Type 0
-  CreatesPrepared name now =
-      PreparesFirst (m.create_refusal create_refusal.OutOfMemory) q (Creates m q node hash name now)
+-- A call, of a builder that prepares its types first where it does.
+abbrev pub PreparesFirstIf : {E : Type 0} → Bool → E → (q : Quiet) → (Result Registered E → Quiet → Type 0)
+    → Result Registered E → Quiet → Type 0
+PreparesFirstIf true no_memory q Calls = PreparesFirst no_memory q Calls
+PreparesFirstIf false no_memory q Calls = Calls
 
-  -- and open.
-  abbrev pub OpensPrepared : Result Registered E → Quiet → Type 0
-  OpensPrepared = PreparesFirst (m.open_refusal open_refusal.OutOfMemory) q (Opens m q node hash)
+-- A create that may prepare its types first,
+abbrev pub CreatesPrepared
+    : {F E C : Type 0} → Meaning F E C → Quiet → Caller → Result Registered C → Quiet → Type 0
+CreatesPrepared m q caller = PreparesFirst (m.create_refusal create_refusal.OutOfMemory) q (Creates m q caller)
+
+-- and such an open.
+abbrev pub OpensPrepared
+    : {F E C : Type 0} → Meaning F E C → Quiet → ℕ → ServiceHash → Result Registered E → Quiet → Type 0
+OpensPrepared m q node hash = PreparesFirst (m.open_refusal open_refusal.OutOfMemory) q (Opens m q node hash)

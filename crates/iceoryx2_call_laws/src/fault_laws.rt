@@ -1,40 +1,35 @@
 //! What is true of whole calls over a table of which any access may be refused.
 
-ghost use Rattle.std.specs.Prelude.{◌≡◌, ◌≢◌, ℕ, ◌<◌, List, Result, Ok, Err, None};
+ghost use Rattle.std.specs.Prelude.{◌≡◌, ◌≢◌, ◌<◌, List, Result, Ok, Err, None};
 ghost use Rattle.iceoryx2_description.specs.Description.{max_nodes_of};
-ghost use Rattle.iceoryx2_description.specs.Span.{Span};
-ghost use Rattle.iceoryx2_description.specs.declared.description.ServiceHash.{ServiceHash};
-ghost use Rattle.iceoryx2_description.specs.declared.time.ClockFault.{ClockFault};
 ghost use Rattle.iceoryx2_world.specs.World.{World, row_of, ticket_of};
 ghost use Rattle.iceoryx2_access.specs.Letter.{Letter};
-ghost use Rattle.iceoryx2_access.specs.Run.{Each, Run};
+ghost use Rattle.iceoryx2_access.specs.Run.{Run};
 ghost use Rattle.iceoryx2_world.specs.Access.{IsOwnPart};
-ghost use Rattle.iceoryx2_world.specs.Agreement.{Later};
 ghost use Rattle.iceoryx2_world.specs.Across.{Agrees};
 ghost use Rattle.iceoryx2_world.specs.Fallible.{IsFallibleAccess};
 ghost use Rattle.iceoryx2_world.specs.Tables.{TableState, IsTableAccess};
 ghost use Rattle.iceoryx2_script.specs.Faults.{FaultyState, IsInjectedFault};
 ghost use Rattle.iceoryx2_access.specs.Registered.{Registered};
-ghost use Rattle.iceoryx2_world.specs.Standing.{Spares, Stands};
 ghost use Rattle.iceoryx2_errors.specs.declared.error.CloseError.{CloseError};
 ghost use Rattle.iceoryx2_errors.specs.declared.error.CloseError.TheVariants.{NotHere};
 ghost use Rattle.iceoryx2_port_factory.specs.Closes.{IsCloseWord};
+ghost use Rattle.iceoryx2_create_and_open.specs.Caller.{Caller};
 ghost use Rattle.iceoryx2_create_and_open.specs.Creates.{time_of};
 ghost use Rattle.iceoryx2_create_and_open.specs.Prepared.{IsCreateCall};
 ghost use Rattle.iceoryx2_pattern.specs.Meaning.{Meaning};
-ghost use Rattle.iceoryx2_call_laws.specs.CallLeaves.{LeavesBy};
-ghost use Rattle.iceoryx2_call_laws.specs.AnyCalls.{AnyCall, ErrorBy, IsWordOf};
+ghost use Rattle.iceoryx2_open_or_create.specs.BuilderCalls.{BuilderCall, ErrorBy};
+ghost use Rattle.iceoryx2_open_or_create.specs.CallWords.{IsWordOf};
 ghost use Rattle.iceoryx2_call_laws.specs.Headline.{IsAsPromised, IsOpenAsAsked, IsOpenSince};
-ghost use Rattle.iceoryx2_call_laws.specs.Calls.{Throughout};
 ghost use Rattle.iceoryx2_call_laws.specs.CloseLeaves.{CloseLeaves};
 ghost use Rattle.iceoryx2_call_laws.specs.OverNoRow.{AnswersOverNoRow};
 
-/// Whichever accesses are refused, those by which a call gives back and by which a close removes
-/// among them, and whatever steps peers take: the world agrees after each access, standing factories
-/// stand, and of a call that was refused or closed only that stays for which a removal was refused.
+/// What such a storage adds to `agreement`, whichever accesses are refused, those by which a call gives
+/// back and by which a close removes among them, and whatever steps peers take.
 ///
-/// An access that is refused answers its general fault and changes nothing. A call is a word of its
-/// accesses; a create, an open and an open or create may prepare the types of their messages first.
+/// An access that is refused answers its general fault and changes nothing. What `agreement` says of
+/// accesses of which any may be refused is true of it as it stands there: the world agrees after each
+/// access, standing factories stand, and of a refused call only that stays for which a removal was refused.
 pub fn agreement_under_faults<D, F: Copy, E: Copy, C: Copy>()
     // The accesses of a faulty storage with a table inside, whichever are refused and whatever batches
     // wait, are accesses of the table's world of which any may be refused. So what is said of runs over
@@ -42,46 +37,22 @@ pub fn agreement_under_faults<D, F: Copy, E: Copy, C: Copy>()
     ensures of_tables { (s t : FaultyState TableState) (word : List Letter)
         → Run (IsInjectedFault IsTableAccess) s word t → Run IsFallibleAccess s.inner.world word t.inner.world }
 
-    // After each access the world agrees and is later than the first one.
-    ensures agrees { (word : List Letter) (w : World)
-        → Agrees w → Throughout IsFallibleAccess (λ v. Agrees v × Later w v) w word }
-
-    // A factory that stands goes on standing whatever accesses follow, refused ones and those of peers among
-    // them, as long as none of them is a granted release of its own ticket.
-    ensures stands { (word : List Letter) (w : World) (f : Registered)
-        → Each (Spares f) word → Agrees w → Stands w f → Throughout IsFallibleAccess (λ v. Stands v f) w word }
-
     // Every open factory stands. Of every call, whichever it is, whichever accesses are refused and whatever it
     // answers: it is within fixed counts; after each of its accesses, whatever steps peers take, each factory that
     // was open is open; and the factory with which it answered Ok has a new ticket, is of its caller and its
     // service, meets what was asked or holds what was published, and is open until its own ticket is released: it
     // carries the one published description of its hash, its segment is there, and its node is among at most
     // `max_nodes`.
-    ensures every_open_factory_stands { (c : AnyCall D F E C) (word : List Letter)
+    ensures every_open_factory_stands { (c : BuilderCall D F E C) (word : List Letter)
         (answer : Result Registered (ErrorBy E C c.way)) (s t : FaultyState TableState)
         → IsWordOf c word answer → Run (IsInjectedFault IsTableAccess) s word t → Agrees s.inner.world
         → IsAsPromised (IsInjectedFault IsTableAccess) (λ u. u.inner.world) c s word answer t }
 
     // The same by history: at any state that such a table comes to after some call answered Ok with a factory, and
     // before the release of its ticket, this factory is open, with what that call asked.
-    ensures open_until_released { (c : AnyCall D F E C) (f : Registered) (s : FaultyState TableState)
+    ensures open_until_released { (c : BuilderCall D F E C) (f : Registered) (s : FaultyState TableState)
         → IsOpenSince (IsInjectedFault IsTableAccess) (λ u. u.inner.world) c f s
         → IsOpenAsAsked c s.inner.world f }
-
-    // A refused call leaves nothing of its own but that for which a removal was refused.
-    ensures leaves { (c : AnyCall D F E C) (word : List Letter) (refusal : ErrorBy E C c.way) (w v : World)
-        → IsWordOf c word (Err refusal) → Run IsFallibleAccess w word v → Agrees w → LeavesBy c c.way w word v }
-
-    // Each factory with another ticket that stands before a close stands throughout it.
-    ensures close_spares { (r : Registered) (word : List Letter) (answer : Result (Unit {0}) (CloseError Registered))
-        (w : World) (f : Registered)
-        → IsCloseWord r word answer → Agrees w → f.ticket ≢ r.ticket
-        → Stands w f → Throughout IsFallibleAccess (λ v. Stands v f) w word }
-
-    // A factory that its close hands back stands on, if it stood.
-    ensures not_here { (r s : Registered) (word : List Letter) (w : World)
-        → IsCloseWord r word (Err (NotHere s)) → Agrees w
-        → (s ≡ r) × (Stands w r → Throughout IsFallibleAccess (λ v. Stands v r) w word) }
 
     // A close that doesn't hand its factory back takes the ticket out,
     ensures taken_out { (r : Registered) (word : List Letter) (answer : Result (Unit {0}) (CloseError Registered))
@@ -98,10 +69,9 @@ pub fn agreement_under_faults<D, F: Copy, E: Copy, C: Copy>()
     // Where the service has no row, whatever segment was left there, a create without further refusals
     // and steps of peers is Ok, or one of four things stops it. Adjusted settings publish for one node
     // or more.
-    ensures over_no_row { (m : Meaning F E C) (node : ℕ) (hash : ServiceHash)
-        (name : List ℕ) (now : Result Span ClockFault)
+    ensures over_no_row { (m : Meaning F E C) (caller : Caller)
         (word : List Letter) (answer : Result Registered C) (w v : World)
-        → 0 < max_nodes_of (m.published (time_of now)) → Agrees w → row_of w hash ≡ None
-        → IsCreateCall m node hash name now word answer → Run IsOwnPart w word v
-        → AnswersOverNoRow m node hash name now w.counter answer }
+        → 0 < max_nodes_of (m.published (time_of caller.now)) → Agrees w → row_of w caller.hash ≡ None
+        → IsCreateCall m caller word answer → Run IsOwnPart w word v
+        → AnswersOverNoRow m caller w.counter answer }
 {}

@@ -1,12 +1,9 @@
 //! What the calls make of a table that nobody else uses.
 
-ghost use Rattle.std.specs.Prelude.{◌≡◌, ◌↔◌, ℕ, ◌+◌, ◌<◌, ◌≤◌, List, Result, Ok, Err, Option, Some, None};
+ghost use Rattle.std.specs.Prelude.{◌≡◌, ◌↔◌, ℕ, ◌+◌, ◌≤◌, List, Result, Ok, Err, Some, None};
 ghost use Rattle.std.specs.Prelude.{IsTrue, IfErr};
 ghost use Rattle.std.specs.FinMap as map;
 ghost use Rattle.iceoryx2_description.specs.declared.description.ServiceHash.{ServiceHash};
-ghost use Rattle.iceoryx2_description.specs.declared.time.ClockFault.{ClockFault};
-ghost use Rattle.iceoryx2_description.specs.Description.{max_nodes_of};
-ghost use Rattle.iceoryx2_description.specs.Span.{Span};
 ghost use Rattle.iceoryx2_world.specs.declared.listing.Entry.{Entry};
 ghost use Rattle.iceoryx2_world.specs.declared.world.Participant.TheVariants.{Node};
 ghost use Rattle.iceoryx2_world.specs.declared.world.Ticket.{Ticket};
@@ -21,23 +18,19 @@ ghost use Rattle.iceoryx2_world.specs.Listing.{Lists};
 ghost use Rattle.iceoryx2_pattern.specs.declared.pattern.OpenRefusal.TheVariants.{OutOfMemory};
 ghost use Rattle.iceoryx2_errors.specs.declared.error.CloseError.{CloseError};
 ghost use Rattle.iceoryx2_pattern.specs.Meaning.{Meaning};
-ghost use Rattle.iceoryx2_pattern.specs.Regular.{IsRegular};
 ghost use Rattle.iceoryx2_pattern.specs.Verdict.{verdict};
 ghost use Rattle.iceoryx2_access.specs.Registered.{Registered};
-ghost use Rattle.iceoryx2_create_and_open.specs.Creates.{IsCreateWord, time_of};
-ghost use Rattle.iceoryx2_create_and_open.specs.Opens.{IsOpenWord};
+ghost use Rattle.iceoryx2_create_and_open.specs.Caller.{Caller};
 ghost use Rattle.iceoryx2_create_and_open.specs.OwnSettings.{AcceptsOwn};
-ghost use Rattle.iceoryx2_create_and_open.specs.Prepared.{IsCreateCall, IsOpenCall};
 ghost use Rattle.iceoryx2_port_factory.specs.Closes.{IsCloseWord};
 ghost use Rattle.iceoryx2_open_or_create.specs.Adjusting.{OnlyRaises};
-ghost use Rattle.iceoryx2_call_laws.specs.AnyCalls.{AnyCall, creating, opening};
+ghost use Rattle.iceoryx2_open_or_create.specs.BuilderCalls.{BuilderCall, ErrorBy, creating, opening};
+ghost use Rattle.iceoryx2_open_or_create.specs.CallWords.{IsWordOf};
 ghost use Rattle.iceoryx2_call_laws.specs.Headline.{IsOpenAsAsked};
 ghost use Rattle.iceoryx2_call_laws.specs.Quiet.{Quiet, QuietService, Shows, no_service, service_at, times_counted};
-ghost use Rattle.iceoryx2_call_laws.specs.QuietCalls.{Creates, Opens, Closes, HasPlace, HasNumber};
+ghost use Rattle.iceoryx2_call_laws.specs.QuietCalls.{Closes, HasPlace, HasNumber};
 ghost use Rattle.iceoryx2_call_laws.specs.QuietPrepared.{CreatesPrepared, OpensPrepared};
-ghost use Rattle.iceoryx2_call_laws.specs.Attempts.{Attempt, IsAttempted, IsAttemptWord};
-ghost use Rattle.iceoryx2_call_laws.specs.QuietAttempts.{Attempts, AttemptsPrepared, IsSteady};
-ghost use Rattle.iceoryx2_open_or_create.specs.declared.open_or_create.OpenOrCreateRefusal.{OpenOrCreateRefusal};
+ghost use Rattle.iceoryx2_call_laws.specs.QuietWays.{Answers, IsSteadyBy};
 ghost use Rattle.iceoryx2_call_laws.specs.QuietLists.{listing};
 ghost use Rattle.iceoryx2_call_laws.specs.QuietLaws.{IsCall, IsClose, HasOpened, HasServiceOf};
 ghost use Rattle.iceoryx2_call_laws.specs.QuietLaws.{HoldsTheSame, HasNothingAt, times_opened};
@@ -89,66 +82,26 @@ pub fn quiet_laws()
 
 /// What holds of the calls of each pattern over such a table.
 pub fn quiet_calls<D, F: Copy, E: Copy, C: Copy>()
-    // A create over a world that shows the machine is the machine's create.
-    ensures create { (m : Meaning F E C) (node : ℕ) (hash : ServiceHash) (name : List ℕ)
-        (now : Result Span ClockFault) (w v : World) (q : Quiet) (word : List Letter) (answer : Result Registered C)
-        → IsRegular m → 0 < max_nodes_of (m.published (time_of now)) → Shows w q → Agrees w
-        → IsCreateWord m node hash name now word answer → Run IsOwnPart w word v
-        → IsCall w (Creates m q node hash name now answer) answer v }
+    // Every call of a steady builder over a world that shows the machine is the machine's, whichever it is. An open or
+    // create is its create where there is no service, and else its open: its first round is its last, where the refusals
+    // of that machine are not tried again. A call that prepares its types first may be out of memory there, and then
+    // changes nothing.
+    ensures call { (c : BuilderCall D F E C) (w v : World) (q : Quiet) (word : List Letter)
+        (answer : Result Registered (ErrorBy E C c.way))
+        → IsSteadyBy c c.way → Shows w q → Agrees w → IsWordOf c word answer → Run IsOwnPart w word v
+        → IsCall w (Answers c q answer) answer v }
 
-    // And so is an open, whatever its rounds.
-    ensures open { (m : Meaning F E C) (node : ℕ) (hash : ServiceHash)
-        (w v : World) (q : Quiet) (word : List Letter) (answer : Result Registered E)
-        → IsRegular m → Shows w q → Agrees w
-        → IsOpenWord m node hash word answer → Run IsOwnPart w word v
-        → IsCall w (Opens m q node hash answer) answer v }
+    // A refused call changes no description, segment, tag or count.
+    ensures refused { (c : BuilderCall D F E C) (w v : World) (q p : Quiet) (refusal : ErrorBy E C c.way)
+        → Shows w q → Shows v p → Answers c q (Err refusal) p → HoldsTheSame w v }
 
-    // An open or create is the machine's create where there is no service, and else its open: its first
-    // round is its last, where the refusals of that machine are not tried again.
-    ensures open_or_create { (a : Attempt D F E C) (w v : World) (q : Quiet) (word : List Letter)
-        (answer : Result Registered (OpenOrCreateRefusal E C))
-        → IsSteady a → Shows w q → Agrees w
-        → IsAttemptWord a word answer → Run IsOwnPart w word v
-        → IsCall w (Attempts a q answer) answer v }
-
-    // Where they may prepare their types first, they are the machine's, or want memory and change nothing.
-    ensures prepared_create { (m : Meaning F E C) (node : ℕ) (hash : ServiceHash) (name : List ℕ)
-        (now : Result Span ClockFault) (w v : World) (q : Quiet) (word : List Letter) (answer : Result Registered C)
-        → IsRegular m → 0 < max_nodes_of (m.published (time_of now)) → Shows w q → Agrees w
-        → IsCreateCall m node hash name now word answer → Run IsOwnPart w word v
-        → IsCall w (CreatesPrepared m q node hash name now answer) answer v }
-    ensures prepared_open { (m : Meaning F E C) (node : ℕ) (hash : ServiceHash)
-        (w v : World) (q : Quiet) (word : List Letter) (answer : Result Registered E)
-        → IsRegular m → Shows w q → Agrees w
-        → IsOpenCall m node hash word answer → Run IsOwnPart w word v
-        → IsCall w (OpensPrepared m q node hash answer) answer v }
-
-    ensures prepared_open_or_create { (a : Attempt D F E C) (w v : World) (q : Quiet) (word : List Letter)
-        (answer : Result Registered (OpenOrCreateRefusal E C))
-        → IsSteady a → Shows w q → Agrees w
-        → IsAttempted a word answer → Run IsOwnPart w word v
-        → IsCall w (AttemptsPrepared a q answer) answer v }
-
-    // A refused call changes no description, segment, tag or count. This and what follows is said of calls that
-    // may prepare their types first; each call of the machine is one of these too.
-    ensures refused_create { (m : Meaning F E C) (node : ℕ) (hash : ServiceHash) (name : List ℕ)
-        (now : Result Span ClockFault) (w v : World) (q p : Quiet) (error : C)
-        → Shows w q → Shows v p → CreatesPrepared m q node hash name now (Err error) p → HoldsTheSame w v }
-    ensures refused_open { (m : Meaning F E C) (node : ℕ) (hash : ServiceHash)
-        (w v : World) (q p : Quiet) (error : E)
-        → Shows w q → Shows v p → OpensPrepared m q node hash (Err error) p → HoldsTheSame w v }
-
-    ensures refused_open_or_create { (a : Attempt D F E C) (w v : World) (q p : Quiet)
-        (refusal : OpenOrCreateRefusal E C)
-        → Shows w q → Shows v p → AttemptsPrepared a q (Err refusal) p → HoldsTheSame w v }
-
+    // What follows is said of calls that may prepare their types first; each call of the machine is one of these too.
     // A create and then the close of its factory leave nothing of that service and the rest as it
     // was, and one number is spent.
-    ensures create_and_close { (m : Meaning F E C) (node : ℕ) (hash : ServiceHash) (name : List ℕ)
-        (now : Result Span ClockFault) (w v : World) (q p z : Quiet) (r : Registered)
+    ensures create_and_close { (m : Meaning F E C) (caller : Caller) (w v : World) (q p z : Quiet) (r : Registered)
         → Shows w q → Shows v z
-        → CreatesPrepared m q node hash name now (Ok r) p → Closes p r.node r.description.hash z
-        → HasNothingAt v hash × HoldsTheSame w v × (v.counter ≡ w.counter + 1) }
+        → CreatesPrepared m q caller (Ok r) p → Closes p r.node r.description.hash z
+        → HasNothingAt v caller.hash × HoldsTheSame w v × (v.counter ≡ w.counter + 1) }
 
     // A further factory of a node takes no further place: the segment stays as it is, and the
     // node's count rises by one.
@@ -172,12 +125,12 @@ pub fn quiet_calls<D, F: Copy, E: Copy, C: Copy>()
     // What a call of a builder has given the same builder opens, whichever node calls, if it accepts what it
     // creates and its create only raises minima: while the factory is open, whatever came between, with a place
     // and a number left, the open is Ok or out of memory.
-    ensures own_settings { (c : AnyCall D F E C) (node : ℕ) (q p : Quiet) (f : Registered) (w : World)
+    ensures own_settings { (c : BuilderCall D F E C) (node : ℕ) (q p : Quiet) (f : Registered) (w : World)
         (answer : Result Registered E)
-        → AcceptsOwn (creating c) (opening c) c.asks.hash c.asks.name c.asks.now
-        → OnlyRaises c.asks.meaning c.asks.adjusted
+        → AcceptsOwn (creating c) (opening c) c.caller
+        → OnlyRaises c.meaning c.adjusted
         → IsOpenAsAsked c w f → Shows w q
-        → ((x : QuietService) → service_at q c.asks.hash ≡ Some x → HasPlace x node) → HasNumber q
-        → OpensPrepared (opening c) q node c.asks.hash answer p
+        → ((x : QuietService) → service_at q c.caller.hash ≡ Some x → HasPlace x node) → HasNumber q
+        → OpensPrepared (opening c) q node c.caller.hash answer p
         → IfErr answer (λ e. e ≡ (opening c).open_refusal OutOfMemory) }
 {}

@@ -1,22 +1,14 @@
 -- What a call's answer carries.
-use Rattle.std.proofs.Common.{◌≡◌, ℕ, Bool, List, Result, Ok, Err, None, refl}
+use Rattle.std.proofs.Common.{◌≡◌, ℕ, Bool, List, Ok, refl}
 use Rattle.iceoryx2_description.specs.declared.description.ServiceHash.{ServiceHash}
 use Rattle.iceoryx2_description.specs.Description.{Description}
 use Rattle.iceoryx2_access.specs.declared.storage.Tag.{Tag}
 use Rattle.iceoryx2_access.specs.Letter.{Letter}
 use Rattle.iceoryx2_pattern.specs.Meaning.{Meaning}
 use Rattle.iceoryx2_access.specs.Registered.{Registered}
-use Rattle.iceoryx2_pattern.specs.Verdict.{verdict}
 use Rattle.iceoryx2_create_and_open.specs.Looks.{fetched, fits}
 use Rattle.iceoryx2_create_and_open.specs.Creates.{IsServiceWord, IsCreating, made, published}
-use Rattle.iceoryx2_create_and_open.specs.Opens.{IsLastRound, ready, opened, IsOpenWord, ended}
-
--- of an open
-pub record Carries {F E C : Type 0} (m : Meaning F E C) (node : ℕ) (hash : ServiceHash) (r : Registered) : Type 0 where
-  pub node_is : r.node ≡ node
-  pub hash_is : r.description.hash ≡ hash
-  pub fits : m.misfit r.description ≡ None
-  pub accepted : verdict (m.requirement r.description) ≡ Ok tt
+use Rattle.iceoryx2_create_and_open.specs.Opens.{IsLastRound, ready, opened, IsOpenWord, ended, CarriesAccepted}
 
 module _ {F E C : Type 0} {m : Meaning F E C} {node : ℕ} {hash : ServiceHash} where
   service_carries : {d : Description} {tag : Tag} {w : List Letter} {r : Registered} → IsServiceWord m node hash d tag w (Ok r) → (r.node ≡ node) × (r.description ≡ d)
@@ -25,8 +17,8 @@ module _ {F E C : Type 0} {m : Meaning F E C} {node : ℕ} {hash : ServiceHash} 
   pub created_carries : {stops : Bool} {d : Description} {w : List Letter} {r : Registered} → IsCreating m node hash stops d w (Ok r) → (r.node ≡ node) × (r.description ≡ d)
   created_carries (made _ _ e s) = service_carries s
 
-  round_carries : {w : List Letter} {r : Registered} → IsLastRound m node hash w (Ok r) → Carries m node hash r
+  round_carries : {w : List Letter} {r : Registered} → IsLastRound m node hash w (Ok r) → CarriesAccepted m node hash r
   round_carries (opened t (ready tag (fetched there (fits form same misfit)) accepted)) = record { node_is = refl; hash_is = same; fits = misfit; accepted = accepted }
 
-  pub opened_carries : {w : List Letter} {r : Registered} → IsOpenWord m node hash w (Ok r) → Carries m node hash r
+  pub opened_carries : {w : List Letter} {r : Registered} → IsOpenWord m node hash w (Ok r) → CarriesAccepted m node hash r
   opened_carries (ended small before l) = round_carries l

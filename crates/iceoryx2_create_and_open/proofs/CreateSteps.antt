@@ -10,7 +10,8 @@ use Rattle.iceoryx2_pattern.specs.declared.pattern.CreateRefusal.TheVariants as 
 use Rattle.iceoryx2_pattern.specs.Meaning.{Meaning}
 use Rattle.iceoryx2_create_and_open.specs.GivesBack.{GivesBack, own_tag}
 use Rattle.iceoryx2_create_and_open.specs.Refusals.{of_tag}
-use Rattle.iceoryx2_create_and_open.specs.Creates.{IsEntryWord, no_copies, no_tag, entered, IsServiceWord, not_entered, clock_fault, made, IsFree, free, IsRestOfCreate}
+use Rattle.iceoryx2_create_and_open.specs.Creates.{IsEntryWord, no_copies, no_tag, entered, IsServiceWord, not_entered, clock_fault, made}
+use Rattle.iceoryx2_create_and_open.specs.CreateParts.{IsFree, free, IsRestOfCreate}
 use Rattle.iceoryx2_create_and_open.proofs.OpenSteps.{behind}
 
 -- the entry with its tag, and what comes then

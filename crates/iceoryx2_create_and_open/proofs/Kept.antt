@@ -24,7 +24,7 @@ use Rattle.iceoryx2_create_and_open.specs.Prepared.{IsPrepared, IsOpenCall}
 use Rattle.iceoryx2_create_and_open.proofs.Prepared.{refused_call}
 use Rattle.iceoryx2_create_and_open.specs.Opens.{IsReady, ready, IsFailedRound, failed, IsLastRound, AreFailedRounds, no_round, one_more, IsOpenWord, ended, all_failed}
 use Rattle.iceoryx2_create_and_open.specs.TracksOwned as keeps
-use Rattle.iceoryx2_create_and_open.specs.TracksOwned.{OwnedTag, OwnsNoTag, OwnedLock, NoLock, Locked, WithSegment, GivenBack, HasService, IsUnlocked, no_own_tag, with_tag, TracksOwned, ends, makes_tag, locks, makes_segment, publishes, removes_segment, unlocks, removes_tag, clears, goes_on, GivesAllBack}
+use Rattle.iceoryx2_create_and_open.specs.TracksOwned.{OwnedTag, OwnsNoTag, OwnedLock, NoLock, Locked, WithSegment, GivenBack, HasService, IsUnlocked, no_own_tag, with_tag, TracksOwned, ends, makes_tag, locks, makes_segment, publishes, removes_segment, unlocks, removes_tag, clears, goes_on, GivesAllBack, GivesTagBack, KeepsAll, KeepsLastTag}
 
 module _ (node : ℕ) (hash : ServiceHash) where
   -- a word from here after which the tag is given back, or left
@@ -132,8 +132,8 @@ module _ {F E C : Type 0} {m : Meaning F E C} {node : ℕ} {hash : ServiceHash} 
   service_kept : {d : Description} {tag : Tag} {w : List Letter} {r : Registered} {t : OwnedTag} → IsServiceWord m node hash d tag w (Ok r) → TracksOwned node hash t NoLock w t (HasService r.number)
   service_kept (published n k s) = locks (then_keeps (segment_kept s) (publishes ends))
 
-  pub created_keeps : {stops : Bool} {d : Description} {w : List Letter} {r : Registered} → IsCreating m node hash stops d w (Ok r) → (tag : Tag) × TracksOwned node hash no_own_tag NoLock w (with_tag no_own_tag tag) (HasService r.number)
-  created_keeps (made {tag} _ _ e s) = (tag, then_keeps (entry_kept e) (service_kept s))
+  pub created_keeps : {stops : Bool} {d : Description} {w : List Letter} {r : Registered} → IsCreating m node hash stops d w (Ok r) → KeepsAll node hash w r.number
+  created_keeps (made {tag} _ _ e s) = record { tag = tag; tracks = then_keeps (entry_kept e) (service_kept s) }
 
   ready_kept : {n : ℕ} {d : Description} {tag : Tag} {w : List Letter} {is_left : Bool} → IsReady m node hash n d tag w → TracksOwned node hash (OwnsNoTag is_left) NoLock w (with_tag (OwnsNoTag is_left) tag) NoLock
   ready_kept (ready tag l _) = then_keeps (look_keeps l) (tag_kept tag ends)
@@ -160,20 +160,20 @@ module _ {F E C : Type 0} {m : Meaning F E C} {node : ℕ} {hash : ServiceHash} 
   rounds_leave (one_more before r) = let first = rounds_leave before in then_untags first.keeps (failed_leaves first.is_left r)
 
   -- a refused open gives back what it made
-  pub refused_open_keeps : {w : List Letter} {error : E} → IsOpenWord m node hash w (Err error) → (is_left : Bool) × TracksOwned node hash no_own_tag NoLock w (OwnsNoTag is_left) NoLock
-  refused_open_keeps (ended small before l) = let first = rounds_leave before in let u = then_untags first.keeps (last_leaves first.is_left l) in (u.is_left, u.keeps)
-  refused_open_keeps (all_failed before) = let u = rounds_leave before in (u.is_left, u.keeps)
+  pub refused_open_keeps : {w : List Letter} {error : E} → IsOpenWord m node hash w (Err error) → GivesTagBack node hash w
+  refused_open_keeps (ended small before l) = let first = rounds_leave before in let u = then_untags first.keeps (last_leaves first.is_left l) in record { is_tag_left = u.is_left; tracks = u.keeps }
+  refused_open_keeps (all_failed before) = let u = rounds_leave before in record { is_tag_left = u.is_left; tracks = u.keeps }
 
   last_kept : {w : List Letter} {r : Registered} (is_left : Bool) → IsLastRound m node hash w (Ok r) → (tag : Tag) × TracksOwned node hash (OwnsNoTag is_left) NoLock w (with_tag (OwnsNoTag is_left) tag) (HasService r.number)
   last_kept is_left (opens.opened {tag = tag} t r) = (tag, then_keeps (ready_kept r) (keeps.opens ends))
 
   -- an open that succeeds keeps at most the tag of its last round
-  pub opened_keeps : {w : List Letter} {r : Registered} → IsOpenWord m node hash w (Ok r) → (is_left : Bool) × (tag : Tag) × TracksOwned node hash no_own_tag NoLock w (with_tag (OwnsNoTag is_left) tag) (HasService r.number)
-  opened_keeps (ended small before l) = let first = rounds_leave before in let last = last_kept first.is_left l in (first.is_left, last.0, then_keeps first.keeps last.1)
+  pub opened_keeps : {w : List Letter} {r : Registered} → IsOpenWord m node hash w (Ok r) → KeepsLastTag node hash w r.number
+  opened_keeps (ended small before l) = let first = rounds_leave before in let last = last_kept first.is_left l in record { is_tag_left = first.is_left; tag = last.0; tracks = then_keeps first.keeps last.1 }
 
   -- and so it is where they may prepare their types first
   pub refused_create_call_keeps : {stops : Bool} {d : Description} {w : List Letter} {error : C} → IsPrepared (m.create_refusal OutOfMemory) (IsCreating m node hash stops d) w (Err error) → GivesAllBack node hash w
   refused_create_call_keeps = refused_call (GivesAllBack node hash) (record { is_tag_left = false; lock = NoLock; is_unlocked = tt; keeps = ends }) (λ w error is. refused_create_keeps is)
 
-  pub refused_open_call_keeps : {w : List Letter} {error : E} → IsOpenCall m node hash w (Err error) → (is_left : Bool) × TracksOwned node hash no_own_tag NoLock w (OwnsNoTag is_left) NoLock
-  refused_open_call_keeps = refused_call (λ w. (is_left : Bool) × TracksOwned node hash no_own_tag NoLock w (OwnsNoTag is_left) NoLock) (false, ends) (λ w error is. refused_open_keeps is)
+  pub refused_open_call_keeps : {w : List Letter} {error : E} → IsOpenCall m node hash w (Err error) → GivesTagBack node hash w
+  refused_open_call_keeps = refused_call (GivesTagBack node hash) (record { is_tag_left = false; tracks = ends }) (λ w error is. refused_open_keeps is)

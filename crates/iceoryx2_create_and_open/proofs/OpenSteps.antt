@@ -12,8 +12,9 @@ use Rattle.iceoryx2_pattern.specs.Verdict.{verdict}
 use Rattle.iceoryx2_create_and_open.specs.declared.look.Outcome.TheVariants.{Found}
 use Rattle.iceoryx2_create_and_open.specs.Looks.{IsLookWord}
 use Rattle.iceoryx2_create_and_open.specs.Refusals.{of_opening, of_tag_opening}
-use Rattle.iceoryx2_create_and_open.specs.Opens.{IsReady, IsSecondLook, second_faulty, second_none, second_found, IsLastRound, IsFailedRound, ready, no_tag, not_opened, opened, then_faulty, then_none, failed}
-use Rattle.iceoryx2_create_and_open.specs.Opens.{IsTaggedOpening, untagged, got, refused, looked, again, IsRestOfRound, round_registration, not_accepted}
+use Rattle.iceoryx2_create_and_open.specs.Opens.{IsReady, IsLastRound, IsFailedRound, ready, no_tag, not_accepted, not_opened, opened, then_faulty, then_none, failed}
+use Rattle.iceoryx2_create_and_open.specs.OpenParts.{IsSecondLook, second_faulty, second_none, second_found}
+use Rattle.iceoryx2_create_and_open.specs.OpenParts.{IsTaggedOpening, untagged, got, refused, looked, again, IsRestOfRound, round_registration}
 
 -- only a failed opening is no refusal
 pub only_failed : (e : OpenSegmentError) → of_opening e ≡ None → e ≡ segment.Failed

@@ -14,8 +14,8 @@ use Rattle.iceoryx2_create_and_open.specs.Looks.{LeadsTo, gone, not_finalized, n
 use Rattle.iceoryx2_create_and_open.specs.Creates.{IsServiceWord, not_locked, no_segment, not_published, published}
 use Rattle.iceoryx2_create_and_open.specs.Creates.{IsEntryWord, look_faulty, look_found, counted, no_copies, no_tag, entered}
 use Rattle.iceoryx2_create_and_open.specs.Creates.{IsCreating, forbidden, not_entered, clock_fault, made}
-use Rattle.iceoryx2_create_and_open.specs.Opens.{IsSecondLook, second_faulty, second_none, second_found}
-use Rattle.iceoryx2_create_and_open.specs.Opens.{IsTaggedOpening, untagged, got, refused, looked, again}
+use Rattle.iceoryx2_create_and_open.specs.OpenParts.{IsSecondLook, second_faulty, second_none, second_found}
+use Rattle.iceoryx2_create_and_open.specs.OpenParts.{IsTaggedOpening, untagged, got, refused, looked, again}
 
 module _ {F E C : Type 0} (m : Meaning F E C) (given : List Pair) (required : Description → List (Clause E)) where
   -- the same, with other attributes and another requirement

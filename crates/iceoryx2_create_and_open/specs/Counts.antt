@@ -31,9 +31,30 @@ makings word = count_by is_making word
 abbrev pub removals : List Letter → ℕ
 removals word = count_by is_removal word
 
--- At most so many looks and openings, and makings and removals of a segment.
-pub record IsWithin (word : List Letter) (most_looks most_openings most_makings most_removals : ℕ) : Type 0 where
-  pub few_looks : looks word ≤ most_looks
-  pub few_openings : openings word ≤ most_openings
-  pub few_makings : makings word ≤ most_makings
-  pub few_removals : removals word ≤ most_removals
+-- How many of each there may be.
+pub record Limits : Type 0 where
+  pub looks : ℕ
+  pub openings : ℕ
+  -- attempts to make a segment, and removals of one
+  pub makings : ℕ
+  pub removals : ℕ
+
+-- At most so many.
+pub record IsWithin (word : List Letter) (most : Limits) : Type 0 where
+  pub few_looks : looks word ≤ most.looks
+  pub few_openings : openings word ≤ most.openings
+  pub few_makings : makings word ≤ most.makings
+  pub few_removals : removals word ≤ most.removals
+
+-- of a create, of an open, of the part of a create that makes its segment, and of a close
+abbrev pub create_limits : Limits
+create_limits = record { looks = 1; openings = 0; makings = 6; removals = 6 }
+
+abbrev pub open_limits : Limits
+open_limits = record { looks = 12; openings = 6; makings = 0; removals = 0 }
+
+abbrev pub segment_limits : Limits
+segment_limits = record { looks = 0; openings = 0; makings = 6; removals = 5 }
+
+abbrev pub close_limits : Limits
+close_limits = record { looks = 0; openings = 0; makings = 0; removals = 1 }

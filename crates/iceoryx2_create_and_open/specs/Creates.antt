@@ -1,5 +1,5 @@
 -- The words of create, with their answers.
-use Rattle.std.specs.Prelude.{◌≡◌, ℕ, Bool, true, false, List, [], ◌∷◌, ◌++◌, Result, Ok, Err, Option, Some, None}
+use Rattle.std.specs.Prelude.{◌≡◌, ℕ, Bool, true, false, List, [], ◌∷◌, ◌++◌, Result, Ok, Err, Some, None}
 use Rattle.iceoryx2_description.specs.declared.description.ServiceHash.{ServiceHash}
 use Rattle.iceoryx2_description.specs.declared.time.ClockFault.{ClockFault}
 use Rattle.iceoryx2_description.specs.Description.{Description, max_nodes_of}
@@ -15,6 +15,7 @@ use Rattle.iceoryx2_pattern.specs.declared.pattern.CreateRefusal.{CreateRefusal}
 use Rattle.iceoryx2_pattern.specs.declared.pattern.CreateRefusal.TheVariants as refusal
 use Rattle.iceoryx2_pattern.specs.Meaning.{Meaning}
 use Rattle.iceoryx2_access.specs.Registered.{Registered}
+use Rattle.iceoryx2_create_and_open.specs.Caller.{Caller}
 use Rattle.iceoryx2_create_and_open.specs.Looks.{IsLookWord}
 use Rattle.iceoryx2_create_and_open.specs.GivesBack.{GivesBack, OwnLock, OwnSegment, own_tag}
 use Rattle.iceoryx2_create_and_open.specs.Refusals.{of_tag, of_lock, of_publish}
@@ -31,15 +32,14 @@ abbrev pub time_of : Result Span ClockFault → Span
 time_of (Ok time) = time
 time_of (Err fault) = zero_span
 
--- what a create of this node publishes, and carries
-abbrev pub description_of : {F E C : Type 0} → Meaning F E C → ℕ → ServiceHash → List ℕ
-    → Result Span ClockFault → Description
-description_of m node hash name now = record {
-  hash = hash;
-  name = name;
+-- what a create of this caller publishes, and carries
+abbrev pub description_of : {F E C : Type 0} → Meaning F E C → Caller → Description
+description_of m caller = record {
+  hash = caller.hash;
+  name = caller.name;
   attributes = m.attributes;
-  pattern = m.published (time_of now);
-  creator = Some node;
+  pattern = m.published (time_of caller.now);
+  creator = Some caller.node;
 }
 
 -- what the node holds that created a service of this description
@@ -93,21 +93,8 @@ module _ {F E C : Type 0} (m : Meaning F E C) (node : ℕ) (hash : ServiceHash) 
         → m.history_refusal ≡ None → clock_stops ≡ false
         → IsEntryWord u (Ok tag) → IsServiceWord d tag v answer → IsCreating clock_stops d (u ++ v) answer
 
-  -- The words of create, for a name and the clock's answer.
-  abbrev pub IsCreateWord : List ℕ → Result Span ClockFault → List Letter → Result Registered C → Type 0
-  IsCreateWord name now word answer =
-      IsCreating (clock_stops m.needs_clock now) (description_of m node hash name now) word answer
-
-  -- What the code's parts are said by: a look that finds nothing, and a count that doesn't know the node,
-  pub data IsFree : List Letter → Type 0 where
-    free : {u : List Letter} → IsLookWord m node hash u Nothing → IsFree (u ++ Counts node hash false ∷ [])
-
-  -- or what is in the way instead;
-  abbrev pub IsObstacle : List Letter → Option C → Type 0
-  IsObstacle word None = IsFree word
-  IsObstacle word (Some error) = IsEntryWord word (Err error)
-
-  -- and what makes a create behind them.
-  abbrev pub IsRestOfCreate : Bool → Description → List Letter → Result Registered C → Type 0
-  IsRestOfCreate clock_stops d word answer =
-      (u : List Letter) → IsFree u → m.history_refusal ≡ None → IsCreating clock_stops d (u ++ word) answer
+-- The words of create.
+abbrev pub IsCreateWord
+    : {F E C : Type 0} → Meaning F E C → Caller → List Letter → Result Registered C → Type 0
+IsCreateWord m caller word answer =
+    IsCreating m caller.node caller.hash (clock_stops m.needs_clock caller.now) (description_of m caller) word answer

@@ -2,8 +2,11 @@ pub mod Looks
 pub mod GivesBack
 pub mod Refusals
 pub mod Segments
+pub mod Caller
 pub mod Creates
+pub mod CreateParts
 pub mod Opens
+pub mod OpenParts
 pub mod Answers
 pub mod Prepared
 pub mod OwnSettings

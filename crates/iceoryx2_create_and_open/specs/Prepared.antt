@@ -1,13 +1,12 @@
 -- The words of calls that may prepare the types of their messages first.
 use Rattle.std.specs.Prelude.{ℕ, List, [], Result, Err}
 use Rattle.iceoryx2_description.specs.declared.description.ServiceHash.{ServiceHash}
-use Rattle.iceoryx2_description.specs.declared.time.ClockFault.{ClockFault}
-use Rattle.iceoryx2_description.specs.Span.{Span}
 use Rattle.iceoryx2_access.specs.Letter.{Letter}
 use Rattle.iceoryx2_access.specs.Registered.{Registered}
 use Rattle.iceoryx2_pattern.specs.declared.pattern.OpenRefusal.TheVariants as open_refusal
 use Rattle.iceoryx2_pattern.specs.declared.pattern.CreateRefusal.TheVariants as create_refusal
 use Rattle.iceoryx2_pattern.specs.Meaning.{Meaning}
+use Rattle.iceoryx2_create_and_open.specs.Caller.{Caller}
 use Rattle.iceoryx2_create_and_open.specs.Creates.{IsCreateWord}
 use Rattle.iceoryx2_create_and_open.specs.Opens.{IsOpenWord}
 
@@ -18,11 +17,12 @@ pub data IsPrepared {E : Type 0} (no_memory : E) (IsWord : List Letter → Resul
   prepared : {word : List Letter} {answer : Result Registered E} → IsWord word answer
       → IsPrepared no_memory IsWord word answer
 
-module _ {F E C : Type 0} (m : Meaning F E C) (node : ℕ) (hash : ServiceHash) where
-  -- The words of a create that may prepare its types first, for a name and the clock's answer;
-  abbrev pub IsCreateCall : List ℕ → Result Span ClockFault → List Letter → Result Registered C → Type 0
-  IsCreateCall name now = IsPrepared (m.create_refusal create_refusal.OutOfMemory) (IsCreateWord m node hash name now)
+-- The words of a create that may prepare its types first,
+abbrev pub IsCreateCall
+    : {F E C : Type 0} → Meaning F E C → Caller → List Letter → Result Registered C → Type 0
+IsCreateCall m caller = IsPrepared (m.create_refusal create_refusal.OutOfMemory) (IsCreateWord m caller)
 
-  -- and those of such an open.
-  abbrev pub IsOpenCall : List Letter → Result Registered E → Type 0
-  IsOpenCall = IsPrepared (m.open_refusal open_refusal.OutOfMemory) (IsOpenWord m node hash)
+-- and those of such an open.
+abbrev pub IsOpenCall
+    : {F E C : Type 0} → Meaning F E C → ℕ → ServiceHash → List Letter → Result Registered E → Type 0
+IsOpenCall m node hash = IsPrepared (m.open_refusal open_refusal.OutOfMemory) (IsOpenWord m node hash)

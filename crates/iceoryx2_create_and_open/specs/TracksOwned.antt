@@ -109,3 +109,19 @@ module _ (node : ℕ) (hash : ServiceHash) where
     pub lock : OwnedLock
     pub is_unlocked : IsUnlocked lock
     pub keeps : TracksOwned no_own_tag NoLock word (OwnsNoTag is_tag_left) lock
+
+  -- A refused open: it locks nothing, and leaves a tag only where the removal of its last one was refused.
+  pub record GivesTagBack (word : List Letter) : Type 0 where
+    pub is_tag_left : Bool
+    pub tracks : TracksOwned no_own_tag NoLock word (OwnsNoTag is_tag_left) NoLock
+
+  -- A granted create: it keeps the service of this number and its tag, which may have been there, and gives nothing back.
+  pub record KeepsAll (word : List Letter) (number : ℕ) : Type 0 where
+    pub tag : Tag
+    pub tracks : TracksOwned no_own_tag NoLock word (with_tag no_own_tag tag) (HasService number)
+
+  -- A granted open: it keeps the service of this number and the tag of its last round, which may have been there.
+  pub record KeepsLastTag (word : List Letter) (number : ℕ) : Type 0 where
+    pub is_tag_left : Bool
+    pub tag : Tag
+    pub tracks : TracksOwned no_own_tag NoLock word (with_tag (OwnsNoTag is_tag_left) tag) (HasService number)

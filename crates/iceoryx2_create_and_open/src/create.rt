@@ -5,8 +5,9 @@ ghost use Rattle.iceoryx2_access.specs.Run.{Joins};
 ghost use Rattle.iceoryx2_pattern.specs.OwnAttributes.{defining};
 ghost use Rattle.iceoryx2_create_and_open.specs.Answers.{map_ok};
 ghost use Rattle.iceoryx2_create_and_open.specs.Creates as creates;
-ghost use Rattle.iceoryx2_create_and_open.specs.Creates.{IsCreateWord, IsRestOfCreate, IsObstacle, IsServiceWord};
-ghost use Rattle.iceoryx2_create_and_open.specs.Creates.{description_of, factory_of};
+ghost use Rattle.iceoryx2_create_and_open.specs.Caller.{Caller};
+ghost use Rattle.iceoryx2_create_and_open.specs.Creates.{IsCreateWord, IsServiceWord, description_of, factory_of};
+ghost use Rattle.iceoryx2_create_and_open.specs.CreateParts.{IsObstacle, IsRestOfCreate};
 ghost use Rattle.iceoryx2_create_and_open.specs.Refusals.{of_lock, of_make, of_publish, of_remove, of_tag};
 ghost use Rattle.iceoryx2_create_and_open.specs.Segments.{IsSegmentWord};
 
@@ -100,7 +101,8 @@ fn describe<P: Pattern>(
     now: Result<Time, ClockFault>,
 ) -> Result<StaticConfig, AllocError>
     ensures { let meaning = defining attributes.now (P.meaning pattern.now) in
-        IfOk result (λ copy. copy ≡ description_of meaning node hash.now name.now now) }
+        let caller : Caller = record { node = node; hash = hash.now; name = name.now; now = now } in
+        IfOk result (λ copy. copy ≡ description_of meaning caller) }
 {
     let time = match now {
         Ok(time) => time,
@@ -183,7 +185,8 @@ pub fn create<P: Pattern, S: Storage>(
 ) -> Result<Registration, P::CreateError>
     ensures adjusted { pattern.new ≡ P.adjusted pattern.old }
     ensures word { let meaning = defining attributes.now (P.meaning (P.adjusted pattern.old)) in
-        Joins S.step storage.old (λ word. IsCreateWord meaning node hash.now name.now now word result) storage.new }
+        let caller : Caller = record { node = node; hash = hash.now; name = name.now; now = now } in
+        Joins S.step storage.old (λ word. IsCreateWord meaning caller word result) storage.new }
 {
     pattern.adjust();
     create_adjusted(pattern, node, hash, name, attributes, now, storage)
@@ -200,7 +203,8 @@ fn create_adjusted<P: Pattern, S: Storage>(
     storage: &mut S,
 ) -> Result<Registration, P::CreateError>
     ensures { let meaning = defining attributes.now (P.meaning pattern.now) in
-        Joins S.step storage.old (λ word. IsCreateWord meaning node hash.now name.now now word result) storage.new }
+        let caller : Caller = record { node = node; hash = hash.now; name = name.now; now = now } in
+        Joins S.step storage.old (λ word. IsCreateWord meaning caller word result) storage.new }
 {
     match pattern.history_refusal() {
         Some(error) => return Err(error),

@@ -3,31 +3,27 @@
 //! A create and an open may prepare the types of their messages first. One that doesn't goes along a word of its
 //! grammar, which is a word of such a call too.
 
-ghost use Rattle.std.specs.Prelude.{◌≡◌, ℕ, Bool, List, Result, Ok, Err, None};
-ghost use Rattle.iceoryx2_description.specs.Span.{Span};
+ghost use Rattle.std.specs.Prelude.{◌≡◌, ℕ, List, Result, Ok, Err};
 ghost use Rattle.iceoryx2_description.specs.declared.description.ServiceHash.{ServiceHash};
-ghost use Rattle.iceoryx2_description.specs.declared.time.ClockFault.{ClockFault};
 ghost use Rattle.iceoryx2_access.specs.Letter.{Letter};
-ghost use Rattle.iceoryx2_access.specs.declared.storage.Tag.{Tag};
 ghost use Rattle.iceoryx2_pattern.specs.declared.pattern.CreateRefusal.{CreateRefusal};
-ghost use Rattle.iceoryx2_errors.specs.declared.error.CloseError.{CloseError};
 ghost use Rattle.iceoryx2_errors.specs.declared.error.CloseError.TheVariants.{NotHere};
 ghost use Rattle.iceoryx2_port_factory.specs.Closes.{IsCloseWord};
-ghost use Rattle.iceoryx2_create_and_open.specs.Counts.{IsWithin};
+ghost use Rattle.iceoryx2_create_and_open.specs.Caller.{Caller};
+ghost use Rattle.iceoryx2_create_and_open.specs.Counts.{IsWithin, create_limits, open_limits, segment_limits};
 ghost use Rattle.iceoryx2_create_and_open.specs.Creates.{description_of};
-ghost use Rattle.iceoryx2_create_and_open.specs.TracksOwned.{GivesAllBack, HasService, TracksOwned, NoLock, OwnsNoTag, no_own_tag, with_tag};
+ghost use Rattle.iceoryx2_create_and_open.specs.TracksOwned.{GivesAllBack, GivesTagBack, KeepsAll, KeepsLastTag};
+ghost use Rattle.iceoryx2_create_and_open.specs.Opens.{CarriesAccepted};
 ghost use Rattle.iceoryx2_create_and_open.specs.Prepared.{IsCreateCall, IsOpenCall};
 ghost use Rattle.iceoryx2_access.specs.Registered.{Registered};
 ghost use Rattle.iceoryx2_create_and_open.specs.Segments.{IsSegmentWord};
 ghost use Rattle.iceoryx2_pattern.specs.Meaning.{Meaning};
-ghost use Rattle.iceoryx2_pattern.specs.Verdict.{verdict};
 
 /// A create looks at most once and opens nothing. It makes a segment in at most six attempts, and
 /// removes one at most six times, the last time to give its own back.
 pub fn create_is_short<F: Copy, E: Copy, C: Copy>()
-    ensures { (m : Meaning F E C) (node : ℕ) (hash : ServiceHash) (name : List ℕ) (now : Result Span ClockFault)
-        (word : List Letter) (answer : Result Registered C)
-        → IsCreateCall m node hash name now word answer → IsWithin word 1 0 6 6 }
+    ensures { (m : Meaning F E C) (caller : Caller) (word : List Letter) (answer : Result Registered C)
+        → IsCreateCall m caller word answer → IsWithin word create_limits }
 {}
 
 /// The part of a create that makes its segment does so in at most six attempts, with at most five
@@ -35,23 +31,22 @@ pub fn create_is_short<F: Copy, E: Copy, C: Copy>()
 pub fn segment_part_is_short()
     ensures { (node : ℕ) (hash : ServiceHash) (number max_nodes : ℕ)
         (word : List Letter) (answer : Result (Unit {0}) CreateRefusal)
-        → IsSegmentWord node hash number max_nodes word answer → IsWithin word 0 0 6 5 }
+        → IsSegmentWord node hash number max_nodes word answer → IsWithin word segment_limits }
 {}
 
 /// An open looks at most twelve times and opens at most six times. It makes and removes no segment.
 pub fn open_is_short<F: Copy, E: Copy, C: Copy>()
     ensures { (m : Meaning F E C) (node : ℕ) (hash : ServiceHash)
         (word : List Letter) (answer : Result Registered E)
-        → IsOpenCall m node hash word answer → IsWithin word 12 6 0 0 }
+        → IsOpenCall m node hash word answer → IsWithin word open_limits }
 {}
 
 /// A refused create has given back what it made: each tag that wasn't there, its lock and its
 /// segment have had one removal each, the last thing first. It leaves only that for which this
 /// removal was refused.
 pub fn refused_create_gives_back<F: Copy, E: Copy, C: Copy>()
-    ensures { (m : Meaning F E C) (node : ℕ) (hash : ServiceHash) (name : List ℕ) (now : Result Span ClockFault)
-        (word : List Letter) (error : C)
-        → IsCreateCall m node hash name now word (Err error) → GivesAllBack node hash word }
+    ensures { (m : Meaning F E C) (caller : Caller) (word : List Letter) (error : C)
+        → IsCreateCall m caller word (Err error) → GivesAllBack caller.node caller.hash word }
 {}
 
 /// A refused open has given back each tag that it made, and took away none that was there. It
@@ -59,16 +54,15 @@ pub fn refused_create_gives_back<F: Copy, E: Copy, C: Copy>()
 pub fn refused_open_gives_back<F: Copy, E: Copy, C: Copy>()
     ensures { (m : Meaning F E C) (node : ℕ) (hash : ServiceHash) (word : List Letter) (error : E)
         → IsOpenCall m node hash word (Err error)
-        → (is_left : Bool) × TracksOwned node hash no_own_tag NoLock word (OwnsNoTag is_left) NoLock }
+        → GivesTagBack node hash word }
 {}
 
 /// A create that succeeds keeps its segment and its lock, under whose number the description now
 /// stands, and its tag, which may have been there. It has given back nothing of its own.
 pub fn create_keeps_what_it_made<F: Copy, E: Copy, C: Copy>()
-    ensures { (m : Meaning F E C) (node : ℕ) (hash : ServiceHash) (name : List ℕ) (now : Result Span ClockFault)
-        (word : List Letter) (r : Registered)
-        → IsCreateCall m node hash name now word (Ok r)
-        → (tag : Tag) × TracksOwned node hash no_own_tag NoLock word (with_tag no_own_tag tag) (HasService r.number) }
+    ensures { (m : Meaning F E C) (caller : Caller) (word : List Letter) (r : Registered)
+        → IsCreateCall m caller word (Ok r)
+        → KeepsAll caller.node caller.hash word r.number }
 {}
 
 /// An open that succeeds keeps the tag of its last round, which may have been there, and has given
@@ -76,16 +70,14 @@ pub fn create_keeps_what_it_made<F: Copy, E: Copy, C: Copy>()
 pub fn open_keeps_its_tag<F: Copy, E: Copy, C: Copy>()
     ensures { (m : Meaning F E C) (node : ℕ) (hash : ServiceHash) (word : List Letter) (r : Registered)
         → IsOpenCall m node hash word (Ok r)
-        → (is_left : Bool) × (tag : Tag)
-        × TracksOwned node hash no_own_tag NoLock word (with_tag (OwnsNoTag is_left) tag) (HasService r.number) }
+        → KeepsLastTag node hash word r.number }
 {}
 
 /// A create that succeeds carries its node and what it published.
 pub fn granted_create_carries<F: Copy, E: Copy, C: Copy>()
-    ensures { (m : Meaning F E C) (node : ℕ) (hash : ServiceHash) (name : List ℕ) (now : Result Span ClockFault)
-        (word : List Letter) (r : Registered)
-        → IsCreateCall m node hash name now word (Ok r)
-        → (r.node ≡ node) × (r.description ≡ description_of m node hash name now) }
+    ensures { (m : Meaning F E C) (caller : Caller) (word : List Letter) (r : Registered)
+        → IsCreateCall m caller word (Ok r)
+        → (r.node ≡ caller.node) × (r.description ≡ description_of m caller) }
 {}
 
 /// An open that succeeds carries its node and a description of the builder's hash that is of the
@@ -93,9 +85,7 @@ pub fn granted_create_carries<F: Copy, E: Copy, C: Copy>()
 pub fn granted_open_carries<F: Copy, E: Copy, C: Copy>()
     ensures { (m : Meaning F E C) (node : ℕ) (hash : ServiceHash) (word : List Letter) (r : Registered)
         → IsOpenCall m node hash word (Ok r)
-        → (r.node ≡ node) × (r.description.hash ≡ hash)
-        × (m.misfit r.description ≡ None)
-        × (verdict (m.requirement r.description) ≡ Ok tt) }
+        → CarriesAccepted m node hash r }
 {}
 
 /// What a close hands back is what was to be closed.

@@ -4,8 +4,9 @@ ghost use Rattle.std.specs.Prelude.{◌≡◌, Option, Some};
 ghost use Rattle.iceoryx2_access.specs.Run.{Joins};
 ghost use Rattle.iceoryx2_pattern.specs.OwnAttributes.{requiring};
 ghost use Rattle.iceoryx2_pattern.specs.Verdict.{verdict};
-ghost use Rattle.iceoryx2_create_and_open.specs.Opens.{IsOpenWord, IsTaggedOpening, IsRound, IsRestOfRound, IsSecondLook};
-ghost use Rattle.iceoryx2_create_and_open.specs.Opens as opens;
+ghost use Rattle.iceoryx2_create_and_open.specs.Opens.{IsOpenWord};
+ghost use Rattle.iceoryx2_create_and_open.specs.OpenParts.{IsTaggedOpening, IsRound, IsRestOfRound, IsSecondLook};
+ghost use Rattle.iceoryx2_create_and_open.specs.OpenParts as parts;
 ghost use Rattle.iceoryx2_create_and_open.specs.Refusals.{of_opening, of_tag_opening};
 
 use crate::give_back::give_back_tag;
@@ -129,7 +130,7 @@ fn open_found<P: Pattern, S: Storage>(
     storage: &mut S,
 ) -> Option<Result<u64, P::OpenError>>
     ensures { let meaning = requiring verifier.now (P.meaning pattern.now) in
-        let answer = opens.round_registration node number existing.now result in Joins S.step storage.old
+        let answer = parts.round_registration node number existing.now result in Joins S.step storage.old
         (λ word. IsRestOfRound meaning node hash.now number existing.now word answer) storage.new }
 {
     match verify(pattern, verifier, existing) {
@@ -146,7 +147,7 @@ fn registration_of<E>(
     answer: Option<Result<u64, E>>,
     description: StaticConfig,
 ) -> Option<Result<Registration, E>>
-    ensures { result ≡ opens.round_registration node number description answer }
+    ensures { result ≡ parts.round_registration node number description answer }
 {
     match answer {
         Some(Ok(ticket)) => Some(Ok(Registration::new(node, number, ticket, description))),

@@ -1,12 +1,10 @@
 -- What a builder's adjusted settings publish is accepted by the same builder.
-use Rattle.std.proofs.Common.{◌≡◌, ℕ, true, List, [], Option, Some, None, Ok, refl}
-use Rattle.std.specs.Prelude.{Result}
+use Rattle.std.proofs.Common.{◌≡◌, true, List, [], Option, Some, None, Ok, refl}
 use Rattle.std.specs.Option.{option_map}
-use Rattle.iceoryx2_description.specs.declared.description.ServiceHash.{ServiceHash}
-use Rattle.iceoryx2_description.specs.declared.time.ClockFault.{ClockFault}
 use Rattle.iceoryx2_description.specs.Span.{Span}
 use Rattle.iceoryx2_description.specs.declared.event.Deadline.{Deadline}
 use Rattle.iceoryx2_pattern.specs.Verdict.{verdict, is_same_span}
+use Rattle.iceoryx2_create_and_open.specs.Caller.{Caller}
 use Rattle.iceoryx2_create_and_open.specs.Creates.{description_of, time_of}
 use Rattle.iceoryx2_pattern.proofs.Verdicts.{no_row}
 use Rattle.iceoryx2_pattern.proofs.MetRows.{offers, sends, lasts, then_more, not_less, same_number, same_choice}
@@ -23,9 +21,9 @@ same_deadline : (now : Span) (deadline : Option Deadline)
 same_deadline now None = refl
 same_deadline now (Some d) = rw (same_number d.value.seconds) (same_number d.value.nanoseconds)
 
-meets : (demand : EventDemand) (node : ℕ) (hash : ServiceHash) (name : List ℕ) (now : Result Span ClockFault)
-    → verdict ((event_meaning demand).requirement (description_of (event_meaning (event_adjusted demand)) node hash name now)) ≡ Ok tt
-meets demand node hash name now =
+meets : (demand : EventDemand) (caller : Caller)
+    → verdict ((event_meaning demand).requirement (description_of (event_meaning (event_adjusted demand)) caller)) ≡ Ok tt
+meets demand caller =
     then_more _ _ (offers _ _ _ _ (not_below demand.settings.max_notifiers))
     (then_more _ _ (offers _ _ _ _ (not_below demand.settings.max_listeners))
     (then_more _ _ (offers _ _ _ _ (not_less demand.settings.event_id_max_value))
@@ -33,8 +31,8 @@ meets demand node hash name now =
     (then_more _ _ (sends _ _ _ _ (same_choice demand.settings.notifier_created_event))
     (then_more _ _ (sends _ _ _ _ (same_choice demand.settings.notifier_dropped_event))
     (then_more _ _ (sends _ _ _ _ (same_choice demand.settings.notifier_dead_event))
-    (then_more _ [] (lasts _ _ _ _ (same_deadline (time_of now) demand.settings.deadline)) no_row)))))))
+    (then_more _ [] (lasts _ _ _ _ (same_deadline (time_of caller.now) demand.settings.deadline)) no_row)))))))
 
-pub own_settings : (demand : EventDemand) (given : List Pair) (hash : ServiceHash) (name : List ℕ) (now : Result Span ClockFault)
-    → AcceptsOwn (event_creating demand given) (event_opening demand no_requirements) hash name now
-own_settings demand given hash name now = record { fits = λ node. refl; accepted = λ node. meets demand node hash name now }
+pub own_settings : (demand : EventDemand) (given : List Pair) (caller : Caller)
+    → AcceptsOwn (event_creating demand given) (event_opening demand no_requirements) caller
+own_settings demand given caller = record { fits = λ node. refl; accepted = λ node. meets demand (record caller { node = node }) }

@@ -1,18 +1,17 @@
 //! The builder of services of events.
 
-ghost use Rattle.std.specs.Prelude.{◌≡◌, [], Some, None};
-ghost use Rattle.iceoryx2_access.specs.Run.{Joins};
-ghost use Rattle.iceoryx2_open_or_create.specs.EndsAtOnce.{EndsAtOnce};
-ghost use Rattle.iceoryx2_open_or_create.specs.OpenOrCreates.{IsOpenOrCreateWord};
-ghost use Rattle.iceoryx2_create_and_open.specs.Answers.{map_err};
-ghost use Rattle.iceoryx2_create_and_open.specs.Creates.{IsCreateWord};
-ghost use Rattle.iceoryx2_create_and_open.specs.Opens.{IsOpenWord};
+ghost use Rattle.std.specs.Prelude.{◌≡◌, Ok, Some, None};
 ghost use Rattle.iceoryx2_attribute.specs.Requirements.{Requirements, no_requirements};
-ghost use Rattle.iceoryx2_event_builder.specs.Event.{event_adjusted, event_creating, event_meaning, event_opening};
-ghost use Rattle.iceoryx2_event_builder.specs.Event.{event_refusal, event_retried};
+ghost use Rattle.iceoryx2_description.specs.Span.{zero_span};
+ghost use Rattle.iceoryx2_create_and_open.specs.Answers.{map_err};
+ghost use Rattle.iceoryx2_open_or_create.specs.BuilderCalls.{ToCreate, ToOpen, ToOpenOrCreate, defines};
+ghost use Rattle.iceoryx2_open_or_create.specs.CallWords.{Calls};
+ghost use Rattle.iceoryx2_open_or_create.specs.EndsAtOnce.{EndsAtOnce};
 ghost use Rattle.iceoryx2_builder_common.specs.Builders.{IsLawfulBuilder};
 ghost use Rattle.iceoryx2_event_builder.specs.declared.event.demand.EventDemand.{EventDemand};
-ghost use Rattle.iceoryx2_event_builder.specs.Request.{fresh_builder, letter_of_events, with_setting};
+ghost use Rattle.iceoryx2_event_builder.specs.Event.{event_creating, event_opening, event_refusal, event_retried};
+ghost use Rattle.iceoryx2_event_builder.specs.EventCalls.{event_call};
+ghost use Rattle.iceoryx2_event_builder.specs.Request.{fresh_builder, with_setting};
 
 pub mod demand;
 pub mod setting;
@@ -205,10 +204,8 @@ impl<S: Service> Builder<S> {
         storage: &mut S::Storage,
         now: Result<Time, ClockFault>,
     ) -> Result<PortFactory<S>, EventCreateError>
-        ensures { Joins S.Storage.step storage.old
-            (λ word. IsCreateWord (event_creating self.demand []) self.node
-            (S.ServiceNameHasher.hash_of letter_of_events self.name) self.name now word result)
-            storage.new }
+        ensures { Calls S.Storage.step (event_call S.ServiceNameHasher.hash_of self ToCreate no_requirements now)
+            storage.old result storage.new }
     {
         let specifier = AttributeSpecifier::new(self.base.name().allocator());
         self.create_with_attributes(&specifier, storage, now)
@@ -228,10 +225,8 @@ impl<S: Service> Builder<S> {
         storage: &mut S::Storage,
         now: Result<Time, ClockFault>,
     ) -> Result<PortFactory<S>, EventCreateError>
-        ensures { Joins S.Storage.step storage.old
-            (λ word. IsCreateWord (event_creating self.demand specifier.now) self.node
-            (S.ServiceNameHasher.hash_of letter_of_events self.name) self.name now word result)
-            storage.new }
+        ensures { Calls S.Storage.step (event_call S.ServiceNameHasher.hash_of self ToCreate (defines specifier.now) now)
+            storage.old result storage.new }
     {
         let Builder { base, mut demand } = self;
         let hash = base.hash(PREFIX);
@@ -244,10 +239,8 @@ impl<S: Service> Builder<S> {
     /// Opens the service, whatever its attributes: `open_with_attributes` of a verifier that
     /// requires none.
     pub fn open(self, storage: &mut S::Storage) -> Result<PortFactory<S>, EventOpenError>
-        ensures { Joins S.Storage.step storage.old
-            (λ word. IsOpenWord (event_opening self.demand no_requirements) self.node
-            (S.ServiceNameHasher.hash_of letter_of_events self.name) word result)
-            storage.new }
+        ensures { Calls S.Storage.step (event_call S.ServiceNameHasher.hash_of self ToOpen no_requirements (Ok zero_span))
+            storage.old result storage.new }
     {
         let verifier = AttributeVerifier::new(self.base.name().allocator());
         self.open_with_attributes(&verifier, storage)
@@ -269,10 +262,8 @@ impl<S: Service> Builder<S> {
         verifier: &AttributeVerifier,
         storage: &mut S::Storage,
     ) -> Result<PortFactory<S>, EventOpenError>
-        ensures { Joins S.Storage.step storage.old
-            (λ word. IsOpenWord (event_opening self.demand verifier.now) self.node
-            (S.ServiceNameHasher.hash_of letter_of_events self.name) word result)
-            storage.new }
+        ensures { Calls S.Storage.step (event_call S.ServiceNameHasher.hash_of self ToOpen verifier.now (Ok zero_span))
+            storage.old result storage.new }
     {
         let Builder { base, demand } = self;
         let hash = base.hash(PREFIX);
@@ -286,11 +277,8 @@ impl<S: Service> Builder<S> {
         storage: &mut S::Storage,
         now: Result<Time, ClockFault>,
     ) -> Result<PortFactory<S>, EventOpenOrCreateError>
-        ensures { Joins S.Storage.step storage.old
-            (λ word. IsOpenOrCreateWord event_meaning event_adjusted event_retried no_requirements self.node
-            (S.ServiceNameHasher.hash_of letter_of_events self.name) self.name now self.demand word
-            (map_err event_refusal result))
-            storage.new }
+        ensures { Calls S.Storage.step (event_call S.ServiceNameHasher.hash_of self ToOpenOrCreate no_requirements now)
+            storage.old (map_err event_refusal result) storage.new }
     {
         let verifier = AttributeVerifier::new(self.base.name().allocator());
         self.open_or_create_with_attributes(&verifier, storage, now)
@@ -311,11 +299,8 @@ impl<S: Service> Builder<S> {
         storage: &mut S::Storage,
         now: Result<Time, ClockFault>,
     ) -> Result<PortFactory<S>, EventOpenOrCreateError>
-        ensures { Joins S.Storage.step storage.old
-            (λ word. IsOpenOrCreateWord event_meaning event_adjusted event_retried verifier.now self.node
-            (S.ServiceNameHasher.hash_of letter_of_events self.name) self.name now self.demand word
-            (map_err event_refusal result))
-            storage.new }
+        ensures { Calls S.Storage.step (event_call S.ServiceNameHasher.hash_of self ToOpenOrCreate verifier.now now)
+            storage.old (map_err event_refusal result) storage.new }
     {
         let Builder { base, mut demand } = self;
         let hash = base.hash(PREFIX);

@@ -1,9 +1,8 @@
 -- What the rounds of an open or create make and give back.
-use Rattle.std.specs.Prelude.{◌≡◌, ℕ, Bool, List, [], ◌++◌}
+use Rattle.std.specs.Prelude.{◌≡◌, ℕ, List, [], ◌++◌}
 use Rattle.iceoryx2_description.specs.declared.description.ServiceHash.{ServiceHash}
-use Rattle.iceoryx2_access.specs.declared.storage.Tag.{Tag}
 use Rattle.iceoryx2_access.specs.Letter.{Letter}
-use Rattle.iceoryx2_create_and_open.specs.TracksOwned.{GivesAllBack, TracksOwned, OwnsNoTag, NoLock, HasService, no_own_tag, with_tag}
+use Rattle.iceoryx2_create_and_open.specs.TracksOwned.{GivesAllBack, KeepsLastTag}
 
 module _ (node : ℕ) (hash : ServiceHash) where
   -- Words one after the other, each of which gives back what it makes.
@@ -17,6 +16,4 @@ module _ (node : ℕ) (hash : ServiceHash) where
     pub in_the_end : List Letter
     pub is_word : word ≡ before ++ in_the_end
     pub gives_back : GivesBackByRounds before
-    pub is_tag_left : Bool
-    pub tag : Tag
-    pub keeps : TracksOwned node hash no_own_tag NoLock in_the_end (with_tag (OwnsNoTag is_tag_left) tag) (HasService number)
+    pub keeps : KeepsLastTag node hash in_the_end number

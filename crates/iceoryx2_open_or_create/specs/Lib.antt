@@ -1,7 +1,9 @@
 pub mod Retried
+pub mod BuilderCalls
 pub mod OpenOrCreates
-pub mod Prepared
+pub mod TurnParts
+pub mod CallWords
 pub mod EndsAtOnce
-pub mod Grants
 pub mod Adjusting
+pub mod Grants
 pub mod Leaves

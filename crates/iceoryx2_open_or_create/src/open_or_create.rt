@@ -1,8 +1,11 @@
 //! How a service is opened, or created where there is none.
 
-ghost use Rattle.std.specs.Prelude.{◌≡◌};
+ghost use Rattle.std.specs.Prelude.{◌≡◌, false};
 ghost use Rattle.iceoryx2_access.specs.Run.{Joins};
-ghost use Rattle.iceoryx2_open_or_create.specs.OpenOrCreates.{IsOpenOrCreateWord, IsTurn};
+ghost use Rattle.iceoryx2_create_and_open.specs.Caller.{Caller};
+ghost use Rattle.iceoryx2_open_or_create.specs.BuilderCalls.{BuilderCall, ToOpenOrCreate};
+ghost use Rattle.iceoryx2_open_or_create.specs.OpenOrCreates.{IsOpenOrCreateWord};
+ghost use Rattle.iceoryx2_open_or_create.specs.TurnParts.{IsTurn};
 
 use crate::retries::{Retries, retries_create, retries_open};
 use iceoryx2_access::storage::Storage;
@@ -53,8 +56,18 @@ fn take_turn<P: Retries, S: Storage>(
     now: Result<Time, ClockFault>,
     storage: &mut S,
 ) -> Option<Result<Registration, OpenOrCreateRefusal<P::OpenError, P::CreateError>>>
-    ensures { Joins S.step storage.old (λ word. IsTurn P.meaning P.adjusted P.retried verifier.now node hash.now
-        name.now now pattern.old word result pattern.new) storage.new }
+    ensures { let caller : Caller = record { node = node; hash = hash.now; name = name.now; now = now } in
+        let call : BuilderCall P P.Fault P.OpenError P.CreateError = record {
+          way = ToOpenOrCreate;
+          caller = caller;
+          meaning = P.meaning;
+          adjusted = P.adjusted;
+          retried = P.retried;
+          asked = pattern.old;
+          required = verifier.now;
+          prepares = false;
+        } in
+        Joins S.step storage.old (λ word. IsTurn call word result pattern.new) storage.new }
 {
     match look(pattern, node, hash, storage).sight() {
         Sight::Unclear(fault) => {
@@ -101,8 +114,18 @@ pub fn open_or_create<P: Retries, S: Storage>(
     now: Result<Time, ClockFault>,
     storage: &mut S,
 ) -> Result<Registration, OpenOrCreateRefusal<P::OpenError, P::CreateError>>
-    ensures { Joins S.step storage.old (λ word. IsOpenOrCreateWord P.meaning P.adjusted P.retried verifier.now node
-        hash.now name.now now pattern.old word result) storage.new }
+    ensures { let caller : Caller = record { node = node; hash = hash.now; name = name.now; now = now } in
+        let call : BuilderCall P P.Fault P.OpenError P.CreateError = record {
+          way = ToOpenOrCreate;
+          caller = caller;
+          meaning = P.meaning;
+          adjusted = P.adjusted;
+          retried = P.retried;
+          asked = pattern.old;
+          required = verifier.now;
+          prepares = false;
+        } in
+        Joins S.step storage.old (λ word. IsOpenOrCreateWord call word result) storage.new }
 {
     for _round in 0..OPEN_OR_CREATE_RETRIES + 1 {
         let again = same_time(&now);

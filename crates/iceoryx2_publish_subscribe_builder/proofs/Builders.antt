@@ -1,13 +1,10 @@
 -- A builder of publish-subscribe is a builder like each other one.
-use Rattle.std.proofs.Common.{◌≡◌, Bool, false, true, cond, ℕ, List, [], Result, Some, None, Ok, refl, sym, ap}
+use Rattle.std.proofs.Common.{◌≡◌, Bool, false, true, cond, List, [], Some, None, Ok, refl, sym, ap}
 use Rattle.iceoryx2_types.specs.Types.{Message, compatible}
 use Rattle.iceoryx2_attribute.specs.Attributes.{Pair}
 use Rattle.iceoryx2_attribute.specs.Requirements.{Requirements, no_requirements}
-use Rattle.iceoryx2_description.specs.declared.description.ServiceHash.{ServiceHash}
 use Rattle.iceoryx2_description.specs.declared.description.MessagingPattern.{MessagingPattern}
 use Rattle.iceoryx2_description.specs.declared.description.MessagingPattern.TheVariants as existing
-use Rattle.iceoryx2_description.specs.declared.time.ClockFault.{ClockFault}
-use Rattle.iceoryx2_description.specs.Span.{Span}
 use Rattle.iceoryx2_errors.specs.States.{publish_subscribe_create_error_of_state}
 use Rattle.iceoryx2_errors.specs.declared.error.publish_subscribe.ServiceAvailabilityState.{ServiceAvailabilityState}
 use Rattle.iceoryx2_errors.specs.declared.error.publish_subscribe.ServiceAvailabilityState.TheVariants as look
@@ -16,6 +13,7 @@ use Rattle.iceoryx2_pattern.specs.Regular.{IsRegular}
 use Rattle.iceoryx2_pattern.specs.Verdict.{at_least, flag_is, verdict}
 use Rattle.iceoryx2_pattern.proofs.Verdicts.{no_row}
 use Rattle.iceoryx2_pattern.proofs.MetRows.{offers, keeps, then_more, not_less, same_flag}
+use Rattle.iceoryx2_create_and_open.specs.Caller.{Caller}
 use Rattle.iceoryx2_create_and_open.specs.Creates.{description_of}
 use Rattle.iceoryx2_create_and_open.specs.OwnSettings.{AcceptsOwn}
 use Rattle.iceoryx2_description.specs.Description.{Description}
@@ -54,9 +52,9 @@ opening_is_regular demand message required =
 
 -- ---- it takes what it created
 
-meets : (demand : PublishSubscribeDemand) (message : Message) (node : ℕ) (hash : ServiceHash) (name : List ℕ) (now : Result Span ClockFault)
-    → verdict ((publish_subscribe_meaning demand message).requirement (description_of (publish_subscribe_meaning (publish_subscribe_adjusted demand) message) node hash name now)) ≡ Ok tt
-meets demand message node hash name now =
+meets : (demand : PublishSubscribeDemand) (message : Message) (caller : Caller)
+    → verdict ((publish_subscribe_meaning demand message).requirement (description_of (publish_subscribe_meaning (publish_subscribe_adjusted demand) message) caller)) ≡ Ok tt
+meets demand message caller =
     then_more _ _ (offers _ _ _ _ (not_below demand.settings.max_publishers))
     (then_more _ _ (offers _ _ _ _ (not_below demand.settings.max_subscribers))
     (then_more _ _ (offers _ _ _ _ (not_below demand.settings.subscriber_max_buffer_size))
@@ -65,11 +63,11 @@ meets demand message node hash name now =
     (then_more _ _ (keeps _ _ _ _ (same_flag demand.settings.enable_safe_overflow))
     (then_more _ [] (offers _ _ _ _ (not_below demand.settings.max_nodes)) no_row))))))
 
-own_settings : (demand : PublishSubscribeDemand) (message : Message) (given : List Pair) (hash : ServiceHash) (name : List ℕ) (now : Result Span ClockFault)
-    → AcceptsOwn (publish_subscribe_creating demand message given) (publish_subscribe_opening demand message no_requirements) hash name now
-own_settings demand message given hash name now = record {
+own_settings : (demand : PublishSubscribeDemand) (message : Message) (given : List Pair) (caller : Caller)
+    → AcceptsOwn (publish_subscribe_creating demand message given) (publish_subscribe_opening demand message no_requirements) caller
+own_settings demand message given caller = record {
   fits = λ node. ap (λ b. cond b None (Some look.IncompatibleTypes)) (fits_itself message);
-  accepted = λ node. meets demand message node hash name now;
+  accepted = λ node. meets demand message (record caller { node = node });
 }
 
 pub publish_subscribe_builder : (demand : PublishSubscribeDemand) (message : Message)

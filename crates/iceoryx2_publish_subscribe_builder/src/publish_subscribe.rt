@@ -1,22 +1,22 @@
 //! The builder of services of publish-subscribe.
 
-ghost use Rattle.std.specs.Prelude.{◌≡◌, [], Ok, IfOk};
-ghost use Rattle.iceoryx2_access.specs.Run.{Joins};
+ghost use Rattle.std.specs.Prelude.{◌≡◌, Ok, IfOk};
 ghost use Rattle.iceoryx2_attribute.specs.Requirements.{Requirements, no_requirements};
-ghost use Rattle.iceoryx2_builder_common.specs.Builders.{IsLawfulBuilder};
-ghost use Rattle.iceoryx2_open_or_create.specs.EndsAtOnce.{EndsAtOnce};
-ghost use Rattle.iceoryx2_open_or_create.specs.Prepared.{IsOpenOrCreateCall};
+ghost use Rattle.iceoryx2_types.specs.Types.{Message};
 ghost use Rattle.iceoryx2_pattern.specs.OwnAttributes.{defining, requiring};
 ghost use Rattle.iceoryx2_create_and_open.specs.Answers.{map_err};
-ghost use Rattle.iceoryx2_create_and_open.specs.Prepared.{IsCreateCall, IsOpenCall};
-ghost use Rattle.iceoryx2_types.specs.Types.{Message};
-ghost use Rattle.iceoryx2_description.specs.Span.{zero_span};
+ghost use Rattle.iceoryx2_open_or_create.specs.BuilderCalls.{ToCreate, ToOpen, ToOpenOrCreate, defines};
+ghost use Rattle.iceoryx2_open_or_create.specs.CallWords.{Calls};
+ghost use Rattle.iceoryx2_open_or_create.specs.EndsAtOnce.{EndsAtOnce};
+ghost use Rattle.iceoryx2_builder_common.specs.Builders.{IsLawfulBuilder};
 ghost use Rattle.iceoryx2_publish_subscribe_builder.specs.PublishSubscribe.{publish_subscribe_creating};
 ghost use Rattle.iceoryx2_publish_subscribe_builder.specs.PublishSubscribe.{publish_subscribe_opening};
-ghost use Rattle.iceoryx2_publish_subscribe_builder.specs.PublishSubscribe.{prepared_adjusted, prepared_meaning};
+ghost use Rattle.iceoryx2_publish_subscribe_builder.specs.PublishSubscribe.{prepared_adjusted};
+ghost use Rattle.iceoryx2_publish_subscribe_builder.specs.PublishSubscribe.{prepared_meaning};
 ghost use Rattle.iceoryx2_publish_subscribe_builder.specs.PublishSubscribe.{publish_subscribe_refusal};
 ghost use Rattle.iceoryx2_publish_subscribe_builder.specs.PublishSubscribe.{publish_subscribe_retried};
-ghost use Rattle.iceoryx2_publish_subscribe_builder.specs.Request.{fresh_builder, letter_of_publish_subscribe};
+ghost use Rattle.iceoryx2_publish_subscribe_builder.specs.PublishSubscribeCalls.{publish_subscribe_call};
+ghost use Rattle.iceoryx2_publish_subscribe_builder.specs.Request.{fresh_builder};
 ghost use Rattle.iceoryx2_publish_subscribe_builder.specs.Request.{message_for, with_setting};
 
 pub mod demand;
@@ -324,10 +324,8 @@ impl<P: ZeroCopySend, U: ZeroCopySend, S: Service> Builder<P, U, S> {
         storage: &mut S::Storage,
     ) -> Result<PortFactory<S, P, U>, PublishSubscribeCreateError>
         ensures { let message = message_for P.detail U.detail self.types in
-            Joins S.Storage.step storage.old
-            (λ word. IsCreateCall (publish_subscribe_creating self.demand message []) self.node
-            (S.ServiceNameHasher.hash_of letter_of_publish_subscribe self.name) self.name (Ok zero_span) word result)
-            storage.new }
+            Calls S.Storage.step (publish_subscribe_call S.ServiceNameHasher.hash_of self message ToCreate no_requirements)
+            storage.old result storage.new }
     {
         let specifier = AttributeSpecifier::new(self.base.name().allocator());
         self.create_with_attributes(&specifier, storage)
@@ -349,10 +347,8 @@ impl<P: ZeroCopySend, U: ZeroCopySend, S: Service> Builder<P, U, S> {
         storage: &mut S::Storage,
     ) -> Result<PortFactory<S, P, U>, PublishSubscribeCreateError>
         ensures { let message = message_for P.detail U.detail self.types in
-            Joins S.Storage.step storage.old
-            (λ word. IsCreateCall (publish_subscribe_creating self.demand message specifier.now) self.node
-            (S.ServiceNameHasher.hash_of letter_of_publish_subscribe self.name) self.name (Ok zero_span) word result)
-            storage.new }
+            Calls S.Storage.step (publish_subscribe_call S.ServiceNameHasher.hash_of self message ToCreate (defines specifier.now))
+            storage.old result storage.new }
     {
         let Ok((base, mut asked)) = self.into_prepared() else {
             return Err(PublishSubscribeCreateError::OutOfMemory);
@@ -372,10 +368,8 @@ impl<P: ZeroCopySend, U: ZeroCopySend, S: Service> Builder<P, U, S> {
         storage: &mut S::Storage,
     ) -> Result<PortFactory<S, P, U>, PublishSubscribeOpenError>
         ensures { let message = message_for P.detail U.detail self.types in
-            Joins S.Storage.step storage.old
-            (λ word. IsOpenCall (publish_subscribe_opening self.demand message no_requirements) self.node
-            (S.ServiceNameHasher.hash_of letter_of_publish_subscribe self.name) word result)
-            storage.new }
+            Calls S.Storage.step (publish_subscribe_call S.ServiceNameHasher.hash_of self message ToOpen no_requirements)
+            storage.old result storage.new }
     {
         let verifier = AttributeVerifier::new(self.base.name().allocator());
         self.open_with_attributes(&verifier, storage)
@@ -400,10 +394,8 @@ impl<P: ZeroCopySend, U: ZeroCopySend, S: Service> Builder<P, U, S> {
         storage: &mut S::Storage,
     ) -> Result<PortFactory<S, P, U>, PublishSubscribeOpenError>
         ensures { let message = message_for P.detail U.detail self.types in
-            Joins S.Storage.step storage.old
-            (λ word. IsOpenCall (publish_subscribe_opening self.demand message verifier.now) self.node
-            (S.ServiceNameHasher.hash_of letter_of_publish_subscribe self.name) word result)
-            storage.new }
+            Calls S.Storage.step (publish_subscribe_call S.ServiceNameHasher.hash_of self message ToOpen verifier.now)
+            storage.old result storage.new }
     {
         let Ok((base, asked)) = self.into_prepared() else {
             return Err(PublishSubscribeOpenError::OutOfMemory);
@@ -418,13 +410,9 @@ impl<P: ZeroCopySend, U: ZeroCopySend, S: Service> Builder<P, U, S> {
         self,
         storage: &mut S::Storage,
     ) -> Result<PortFactory<S, P, U>, PublishSubscribeOpenOrCreateError>
-        ensures { let asked : PreparedDemand
-            = record { demand = self.demand; message = message_for P.detail U.detail self.types } in
-            Joins S.Storage.step storage.old
-            (λ word. IsOpenOrCreateCall prepared_meaning prepared_adjusted publish_subscribe_retried no_requirements
-            self.node (S.ServiceNameHasher.hash_of letter_of_publish_subscribe self.name) self.name (Ok zero_span)
-            asked word (map_err publish_subscribe_refusal result))
-            storage.new }
+        ensures { let message = message_for P.detail U.detail self.types in
+            Calls S.Storage.step (publish_subscribe_call S.ServiceNameHasher.hash_of self message ToOpenOrCreate no_requirements)
+            storage.old (map_err publish_subscribe_refusal result) storage.new }
     {
         let verifier = AttributeVerifier::new(self.base.name().allocator());
         self.open_or_create_with_attributes(&verifier, storage)
@@ -446,13 +434,9 @@ impl<P: ZeroCopySend, U: ZeroCopySend, S: Service> Builder<P, U, S> {
         verifier: &AttributeVerifier,
         storage: &mut S::Storage,
     ) -> Result<PortFactory<S, P, U>, PublishSubscribeOpenOrCreateError>
-        ensures { let asked : PreparedDemand
-            = record { demand = self.demand; message = message_for P.detail U.detail self.types } in
-            Joins S.Storage.step storage.old
-            (λ word. IsOpenOrCreateCall prepared_meaning prepared_adjusted publish_subscribe_retried verifier.now
-            self.node (S.ServiceNameHasher.hash_of letter_of_publish_subscribe self.name) self.name (Ok zero_span)
-            asked word (map_err publish_subscribe_refusal result))
-            storage.new }
+        ensures { let message = message_for P.detail U.detail self.types in
+            Calls S.Storage.step (publish_subscribe_call S.ServiceNameHasher.hash_of self message ToOpenOrCreate verifier.now)
+            storage.old (map_err publish_subscribe_refusal result) storage.new }
     {
         let Ok((base, mut asked)) = self.into_prepared() else {
             return Err(

@@ -1,13 +1,10 @@
 -- A builder of request-response is a builder like each other one.
-use Rattle.std.proofs.Common.{◌≡◌, Bool, false, cond, ℕ, List, [], Result, Some, None, Ok, refl}
+use Rattle.std.proofs.Common.{◌≡◌, Bool, false, cond, List, [], Some, None, Ok, refl}
 use Rattle.iceoryx2_types.specs.Types.{Message, compatible}
 use Rattle.iceoryx2_attribute.specs.Attributes.{Pair}
 use Rattle.iceoryx2_attribute.specs.Requirements.{Requirements, no_requirements}
-use Rattle.iceoryx2_description.specs.declared.description.ServiceHash.{ServiceHash}
 use Rattle.iceoryx2_description.specs.declared.description.MessagingPattern.{MessagingPattern}
 use Rattle.iceoryx2_description.specs.declared.description.MessagingPattern.TheVariants as existing
-use Rattle.iceoryx2_description.specs.declared.time.ClockFault.{ClockFault}
-use Rattle.iceoryx2_description.specs.Span.{Span}
 use Rattle.iceoryx2_errors.specs.States.{request_response_create_error_of_state}
 use Rattle.iceoryx2_errors.specs.declared.error.request_response.ServiceAvailabilityState.{ServiceAvailabilityState}
 use Rattle.iceoryx2_errors.specs.declared.error.request_response.ServiceAvailabilityState.TheVariants as look
@@ -16,6 +13,7 @@ use Rattle.iceoryx2_pattern.specs.Regular.{IsRegular}
 use Rattle.iceoryx2_pattern.specs.Verdict.{at_least, flag_is, verdict}
 use Rattle.iceoryx2_pattern.proofs.Verdicts.{no_row}
 use Rattle.iceoryx2_pattern.proofs.MetRows.{offers, keeps, then_more, same_flag}
+use Rattle.iceoryx2_create_and_open.specs.Caller.{Caller}
 use Rattle.iceoryx2_create_and_open.specs.Creates.{description_of}
 use Rattle.iceoryx2_create_and_open.specs.OwnSettings.{AcceptsOwn}
 use Rattle.iceoryx2_description.specs.Description.{Description}
@@ -58,10 +56,10 @@ opening_is_regular demand request response required =
 
 -- ---- it takes what it created
 
-meets : (demand : RequestResponseDemand) (request response : Message) (node : ℕ) (hash : ServiceHash) (name : List ℕ) (now : Result Span ClockFault)
+meets : (demand : RequestResponseDemand) (request response : Message) (caller : Caller)
     → verdict ((request_response_meaning demand request response).requirement
-    (description_of (request_response_meaning (request_response_adjusted demand) request response) node hash name now)) ≡ Ok tt
-meets demand request response node hash name now =
+    (description_of (request_response_meaning (request_response_adjusted demand) request response) caller)) ≡ Ok tt
+meets demand request response caller =
     then_more _ _ (keeps _ _ _ _ (same_flag demand.settings.enable_safe_overflow_for_requests))
     (then_more _ _ (keeps _ _ _ _ (same_flag demand.settings.enable_safe_overflow_for_responses))
     (then_more _ _ (keeps _ _ _ _ (same_flag demand.settings.enable_fire_and_forget_requests))
@@ -73,11 +71,11 @@ meets demand request response node hash name now =
     (then_more _ _ (offers _ _ _ _ (not_below demand.settings.max_clients))
     (then_more _ [] (offers _ _ _ _ (not_below demand.settings.max_nodes)) no_row)))))))))
 
-own_settings : (demand : RequestResponseDemand) (request response : Message) (given : List Pair) (hash : ServiceHash) (name : List ℕ) (now : Result Span ClockFault)
-    → AcceptsOwn (request_response_creating demand request response given) (request_response_opening demand request response no_requirements) hash name now
-own_settings demand request response given hash name now = record {
+own_settings : (demand : RequestResponseDemand) (request response : Message) (given : List Pair) (caller : Caller)
+    → AcceptsOwn (request_response_creating demand request response given) (request_response_opening demand request response no_requirements) caller
+own_settings demand request response given caller = record {
   fits = λ node. rw (fits_itself request, fits_itself response) refl;
-  accepted = λ node. meets demand request response node hash name now;
+  accepted = λ node. meets demand request response (record caller { node = node });
 }
 
 pub request_response_builder : (demand : RequestResponseDemand) (request response : Message)

@@ -1,23 +1,23 @@
 //! The builder of services of request-response.
 
-ghost use Rattle.std.specs.Prelude.{◌≡◌, [], Ok, IfOk};
-ghost use Rattle.iceoryx2_access.specs.Run.{Joins};
+ghost use Rattle.std.specs.Prelude.{◌≡◌, Ok, IfOk};
 ghost use Rattle.iceoryx2_attribute.specs.Requirements.{Requirements, no_requirements};
-ghost use Rattle.iceoryx2_builder_common.specs.Builders.{IsLawfulBuilder};
-ghost use Rattle.iceoryx2_open_or_create.specs.EndsAtOnce.{EndsAtOnce};
-ghost use Rattle.iceoryx2_open_or_create.specs.Prepared.{IsOpenOrCreateCall};
+ghost use Rattle.iceoryx2_types.specs.Types.{Message};
 ghost use Rattle.iceoryx2_pattern.specs.OwnAttributes.{defining, requiring};
 ghost use Rattle.iceoryx2_create_and_open.specs.Answers.{map_err};
-ghost use Rattle.iceoryx2_create_and_open.specs.Prepared.{IsCreateCall, IsOpenCall};
-ghost use Rattle.iceoryx2_types.specs.Types.{Message};
-ghost use Rattle.iceoryx2_description.specs.Span.{zero_span};
-ghost use Rattle.iceoryx2_request_response_builder.specs.Request.{fresh_builder, letter_of_request_response};
-ghost use Rattle.iceoryx2_request_response_builder.specs.Request.{asked_with, messages_for, with_setting};
-ghost use Rattle.iceoryx2_request_response_builder.specs.RequestResponse.{prepared_adjusted, prepared_meaning};
+ghost use Rattle.iceoryx2_open_or_create.specs.BuilderCalls.{ToCreate, ToOpen, ToOpenOrCreate, defines};
+ghost use Rattle.iceoryx2_open_or_create.specs.CallWords.{Calls};
+ghost use Rattle.iceoryx2_open_or_create.specs.EndsAtOnce.{EndsAtOnce};
+ghost use Rattle.iceoryx2_builder_common.specs.Builders.{IsLawfulBuilder};
 ghost use Rattle.iceoryx2_request_response_builder.specs.RequestResponse.{request_response_creating};
 ghost use Rattle.iceoryx2_request_response_builder.specs.RequestResponse.{request_response_opening};
+ghost use Rattle.iceoryx2_request_response_builder.specs.RequestResponse.{prepared_adjusted};
+ghost use Rattle.iceoryx2_request_response_builder.specs.RequestResponse.{prepared_meaning};
 ghost use Rattle.iceoryx2_request_response_builder.specs.RequestResponse.{request_response_refusal};
 ghost use Rattle.iceoryx2_request_response_builder.specs.RequestResponse.{request_response_retried};
+ghost use Rattle.iceoryx2_request_response_builder.specs.RequestResponseCalls.{request_response_call};
+ghost use Rattle.iceoryx2_request_response_builder.specs.Request.{fresh_builder};
+ghost use Rattle.iceoryx2_request_response_builder.specs.Request.{asked_with, messages_for, with_setting};
 
 pub mod demand;
 pub mod requested;
@@ -401,11 +401,8 @@ impl<Q: ZeroCopySend, QU: ZeroCopySend, R: ZeroCopySend, RU: ZeroCopySend, S: Se
         storage: &mut S::Storage,
     ) -> Result<PortFactory<S, Q, QU, R, RU>, RequestResponseCreateError>
         ensures { let messages = messages_for Q.detail QU.detail R.detail RU.detail self.types in
-            Joins S.Storage.step storage.old
-            (λ word. IsCreateCall
-            (request_response_creating self.demand messages.request messages.response []) self.node
-            (S.ServiceNameHasher.hash_of letter_of_request_response self.name) self.name (Ok zero_span) word result)
-            storage.new }
+            Calls S.Storage.step (request_response_call S.ServiceNameHasher.hash_of self messages ToCreate no_requirements)
+            storage.old result storage.new }
     {
         let specifier = AttributeSpecifier::new(self.base.name().allocator());
         self.create_with_attributes(&specifier, storage)
@@ -426,11 +423,8 @@ impl<Q: ZeroCopySend, QU: ZeroCopySend, R: ZeroCopySend, RU: ZeroCopySend, S: Se
         storage: &mut S::Storage,
     ) -> Result<PortFactory<S, Q, QU, R, RU>, RequestResponseCreateError>
         ensures { let messages = messages_for Q.detail QU.detail R.detail RU.detail self.types in
-            Joins S.Storage.step storage.old
-            (λ word. IsCreateCall
-            (request_response_creating self.demand messages.request messages.response specifier.now) self.node
-            (S.ServiceNameHasher.hash_of letter_of_request_response self.name) self.name (Ok zero_span) word result)
-            storage.new }
+            Calls S.Storage.step (request_response_call S.ServiceNameHasher.hash_of self messages ToCreate (defines specifier.now))
+            storage.old result storage.new }
     {
         let Ok((base, mut asked)) = self.into_prepared() else {
             return Err(RequestResponseCreateError::OutOfMemory);
@@ -450,11 +444,8 @@ impl<Q: ZeroCopySend, QU: ZeroCopySend, R: ZeroCopySend, RU: ZeroCopySend, S: Se
         storage: &mut S::Storage,
     ) -> Result<PortFactory<S, Q, QU, R, RU>, RequestResponseOpenError>
         ensures { let messages = messages_for Q.detail QU.detail R.detail RU.detail self.types in
-            Joins S.Storage.step storage.old
-            (λ word. IsOpenCall
-            (request_response_opening self.demand messages.request messages.response no_requirements) self.node
-            (S.ServiceNameHasher.hash_of letter_of_request_response self.name) word result)
-            storage.new }
+            Calls S.Storage.step (request_response_call S.ServiceNameHasher.hash_of self messages ToOpen no_requirements)
+            storage.old result storage.new }
     {
         let verifier = AttributeVerifier::new(self.base.name().allocator());
         self.open_with_attributes(&verifier, storage)
@@ -480,11 +471,8 @@ impl<Q: ZeroCopySend, QU: ZeroCopySend, R: ZeroCopySend, RU: ZeroCopySend, S: Se
         storage: &mut S::Storage,
     ) -> Result<PortFactory<S, Q, QU, R, RU>, RequestResponseOpenError>
         ensures { let messages = messages_for Q.detail QU.detail R.detail RU.detail self.types in
-            Joins S.Storage.step storage.old
-            (λ word. IsOpenCall
-            (request_response_opening self.demand messages.request messages.response verifier.now) self.node
-            (S.ServiceNameHasher.hash_of letter_of_request_response self.name) word result)
-            storage.new }
+            Calls S.Storage.step (request_response_call S.ServiceNameHasher.hash_of self messages ToOpen verifier.now)
+            storage.old result storage.new }
     {
         let Ok((base, asked)) = self.into_prepared() else {
             return Err(RequestResponseOpenError::OutOfMemory);
@@ -500,11 +488,8 @@ impl<Q: ZeroCopySend, QU: ZeroCopySend, R: ZeroCopySend, RU: ZeroCopySend, S: Se
         storage: &mut S::Storage,
     ) -> Result<PortFactory<S, Q, QU, R, RU>, RequestResponseOpenOrCreateError>
         ensures { let messages = messages_for Q.detail QU.detail R.detail RU.detail self.types in
-            Joins S.Storage.step storage.old
-            (λ word. IsOpenOrCreateCall prepared_meaning prepared_adjusted request_response_retried no_requirements
-            self.node (S.ServiceNameHasher.hash_of letter_of_request_response self.name) self.name (Ok zero_span)
-            (asked_with self.demand messages) word (map_err request_response_refusal result))
-            storage.new }
+            Calls S.Storage.step (request_response_call S.ServiceNameHasher.hash_of self messages ToOpenOrCreate no_requirements)
+            storage.old (map_err request_response_refusal result) storage.new }
     {
         let verifier = AttributeVerifier::new(self.base.name().allocator());
         self.open_or_create_with_attributes(&verifier, storage)
@@ -527,11 +512,8 @@ impl<Q: ZeroCopySend, QU: ZeroCopySend, R: ZeroCopySend, RU: ZeroCopySend, S: Se
         storage: &mut S::Storage,
     ) -> Result<PortFactory<S, Q, QU, R, RU>, RequestResponseOpenOrCreateError>
         ensures { let messages = messages_for Q.detail QU.detail R.detail RU.detail self.types in
-            Joins S.Storage.step storage.old
-            (λ word. IsOpenOrCreateCall prepared_meaning prepared_adjusted request_response_retried verifier.now
-            self.node (S.ServiceNameHasher.hash_of letter_of_request_response self.name) self.name (Ok zero_span)
-            (asked_with self.demand messages) word (map_err request_response_refusal result))
-            storage.new }
+            Calls S.Storage.step (request_response_call S.ServiceNameHasher.hash_of self messages ToOpenOrCreate verifier.now)
+            storage.old (map_err request_response_refusal result) storage.new }
     {
         let Ok((base, mut asked)) = self.into_prepared() else {
             return Err(RequestResponseOpenOrCreateError::RequestResponseOpenError(

@@ -13,7 +13,7 @@ use Rattle.iceoryx2_session.specs.Sessions as goes
 use Rattle.iceoryx2_session.proofs.Places.{set_same}
 
 pub calling : (s : SessionState) (call : Call) (f : Registered) (n : ℕ) (w : TableState) (ys : List (Option Registered)) → FreeAt s.slots call.slot
-    → Builds (builder_call s.config call) call.how s.table (Ok f) w → n ≡ f.number → ys ≡ slice_set s.slots call.slot (Some f)
+    → Builds (builder_call s.config call) s.table (Ok f) w → n ≡ f.number → ys ≡ slice_set s.slots call.slot (Some f)
     → Goes s (command.Call call) (reply.Opened call.slot n) (record s { table = w; slots = ys })
 calling s call f n w ys free is number slots =
     subst (λ (l : List (Option Registered)). Goes s (command.Call call) (reply.Opened call.slot n) (record s { table = w; slots = l })) (sym slots)

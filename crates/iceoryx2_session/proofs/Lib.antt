@@ -3,7 +3,6 @@ pub mod SlotLists
 pub mod Patterns
 pub mod TakenSetters
 pub mod Commands
-pub mod Prepared
 pub mod StandingSlots
 pub mod OwnedTickets
 pub mod QuietSessions

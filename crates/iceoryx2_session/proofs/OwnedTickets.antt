@@ -32,7 +32,7 @@ pub owns_after : {s : SessionState} {c : Command} {a : Reply} {n : SessionState}
 owns_after (goes.call_past le) agrees old owned = owned
 owns_after (goes.call_taken t) agrees old owned = owned
 owns_after {s = s} (goes.called {call = call} f {t = t} free is) agrees old owned =
-    let c = leaves call.how (builder_call s.config call) (Ok f) s.table t agrees is in
+    let c = leaves (builder_call s.config call) (Ok f) s.table t agrees is in
     λ i x e. elim (set_cases nat_cmp_total exact_unsigned s.table.world.tickets f.ticket (Some (ticket_for f)) i) [
       | inl k ↦ record { slot = call.slot; factory = f; holds = set_here s.slots call.slot (Some f) None free; ticket = sym k.0 }
       | inr k ↦
@@ -45,7 +45,7 @@ owns_after {s = s} (goes.called {call = call} f {t = t} free is) agrees old owne
           }
     ]
 owns_after {s = s} (goes.refused {call = call} {e = err} {t = t} free is) agrees old owned =
-    let c = leaves call.how (builder_call s.config call) (Err err) s.table t agrees is in
+    let c = leaves (builder_call s.config call) (Err err) s.table t agrees is in
     λ i x e. owned i x (sym (ap (λ m. map.get m i) c.tickets) ∙ e)
 owns_after (goes.close_past le) agrees old owned = owned
 owns_after (goes.close_empty free) agrees old owned = owned

@@ -10,75 +10,47 @@ use Rattle.iceoryx2_world.proofs.Waiting.{idle_run}
 use Rattle.iceoryx2_world.proofs.agreement.Empty.{empty_agrees}
 use Rattle.iceoryx2_pattern.specs.declared.pattern.CreateRefusal.TheVariants as create_refusal
 use Rattle.iceoryx2_pattern.specs.declared.pattern.OpenRefusal.TheVariants as open_refusal
-use Rattle.iceoryx2_create_and_open.specs.Creates.{time_of}
 use Rattle.iceoryx2_access.specs.Registered.{Registered}
 use Rattle.iceoryx2_call_laws.specs.Quiet.{Quiet, Shows, no_service}
-use Rattle.iceoryx2_call_laws.specs.QuietPrepared.{CreatesPrepared, OpensPrepared}
 use Rattle.iceoryx2_call_laws.specs.QuietLaws.{HoldsTheSame}
-use Rattle.iceoryx2_call_laws.proofs.quiet.After.{refused_create, refused_open}
 use Rattle.iceoryx2_call_laws.proofs.quiet.Listing.{lists_the_machine}
-use Rattle.iceoryx2_call_laws.proofs.quiet.Calls.{create_follows, open_follows, close_follows, empty_shows}
-use Rattle.iceoryx2_commands.specs.declared.command.How.{How}
+use Rattle.iceoryx2_call_laws.proofs.quiet.Calls.{close_follows, empty_shows}
 use Rattle.iceoryx2_commands.specs.declared.command.How.TheVariants as how
 use Rattle.iceoryx2_commands.specs.declared.command.Command.{Command}
 use Rattle.iceoryx2_commands.specs.declared.command.Refusal.{Refusal}
 use Rattle.iceoryx2_commands.specs.declared.command.Reply.{Reply}
-use Rattle.iceoryx2_session.specs.BuilderCalls.{BuilderCall, with_refusal}
+use Rattle.iceoryx2_session.specs.PatternCalls.{PatternCall}
 use Rattle.iceoryx2_session.specs.Patterns.{builder_call}
 use Rattle.iceoryx2_session.specs.Sessions.{SessionState, Builds, Goes}
 use Rattle.iceoryx2_session.specs.Sessions as goes
 use Rattle.iceoryx2_session.specs.StandingSlots.{SlotsStand, OwnsTickets}
-use Rattle.iceoryx2_session.specs.QuietSessions.{IsQuiet, Answers, Moves, IsMoved, TellsNoChange, IsUnchanged}
+use Rattle.iceoryx2_session.specs.QuietSessions.{IsQuiet, AnswersCall, IsMoved, TellsNoChange, IsUnchanged}
 use Rattle.iceoryx2_session.specs.QuietSessions as moves
-use Rattle.iceoryx2_session.proofs.Prepared.{as_prepared, call_follows}
-use Rattle.iceoryx2_call_laws.specs.QuietAttempts.{AttemptsPrepared, opening}
-use Rattle.iceoryx2_call_laws.proofs.quiet.Attempts.{attempt_follows, refused_attempt}
+use Rattle.iceoryx2_call_laws.specs.QuietWays.{Answers, IsSteadyBy}
+use Rattle.iceoryx2_call_laws.proofs.quiet.Ways.{call_follows, refused_call}
 use Rattle.iceoryx2_open_or_create.specs.declared.open_or_create.OpenOrCreateRefusal.TheVariants as either
 use Rattle.iceoryx2_create_and_open.specs.Answers.{map_err}
-use Rattle.iceoryx2_session.proofs.Patterns.{IsRegularCall, call_is_regular}
+use Rattle.iceoryx2_session.proofs.Patterns.{call_is_steady}
 
 -- what a builder call makes of the machine
-record IsBuilt (q : Quiet) (b : BuilderCall) (h : How) (w : World) (answer : Result Registered Refusal) (v : World) : Type 0 where
+record IsBuilt (q : Quiet) (b : PatternCall) (w : World) (answer : Result Registered Refusal) (v : World) : Type 0 where
   state : Quiet
-  call : Answers q b h answer state
+  call : AnswersCall q b answer state
   shows : Shows v state
   agrees : Agrees v
 
-built : (h : How) (b : BuilderCall) (answer : Result Registered Refusal) (s t : TableState) (q : Quiet)
-    → IsRegularCall b → Shows s.world q → Agrees s.world → s.waiting ≡ [] → Builds b h s answer t → IsBuilt q b h s.world answer t.world
-built how.Create b answer s t q regular shows agrees waiting is =
-    let c = call_follows b.prepares (b.creating.create_refusal create_refusal.OutOfMemory) s.world t.world shows agrees (λ word a is_word. create_follows b.creating b.node b.hash b.name b.now s.world t.world q word a regular.creating (regular.takes_nodes (time_of b.now)) shows agrees is_word) is.2.is_word (idle_run waiting is.2.run).0 in
-    record {
-      state = c.state;
-      call = (is.0, is.1, c.call);
-      shows = c.shows;
-      agrees = c.agrees;
-    }
-built how.Open b answer s t q regular shows agrees waiting is =
-    let c = call_follows b.prepares (b.opening.open_refusal open_refusal.OutOfMemory) s.world t.world shows agrees (λ word a is_word. open_follows b.opening b.node b.hash s.world t.world q word a regular.opening shows agrees is_word) is.2.is_word (idle_run waiting is.2.run).0 in
-    record {
-      state = c.state;
-      call = (is.0, is.1, c.call);
-      shows = c.shows;
-      agrees = c.agrees;
-    }
-built how.OpenOrCreate b answer s t q regular shows agrees waiting is =
-    let c = call_follows b.prepares (either.Open ((opening b.attempt).open_refusal open_refusal.OutOfMemory)) s.world t.world shows agrees (λ word a is_word run. attempt_follows b.attempt (regular.steady) q shows agrees is_word run) is.2.is_word (idle_run waiting is.2.run).0 in
-    record {
-      state = c.state;
-      call = (is.0, is.1, c.call);
-      shows = c.shows;
-      agrees = c.agrees;
-    }
+built : (b : PatternCall) (answer : Result Registered Refusal) (s t : TableState) (q : Quiet)
+    → IsSteadyBy b.call b.call.way → Shows s.world q → Agrees s.world → s.waiting ≡ [] → Builds b s answer t → IsBuilt q b s.world answer t.world
+built b answer s t q steady shows agrees waiting is =
+    let c = call_follows b.call q steady shows agrees is.2.is_word (idle_run waiting is.2.run).0 in
+    record { state = c.state; call = (is.0, is.1, c.call); shows = c.shows; agrees = c.agrees }
 
 -- ---- commands
 
 -- nothing waits after a builder call, where nothing waited
-none_waits : (h : How) (b : BuilderCall) (answer : Result Registered Refusal) (s t : TableState)
-    → s.waiting ≡ [] → Builds b h s answer t → t.waiting ≡ []
-none_waits how.Create b answer s t waiting is = (idle_run waiting is.2.run).1.0
-none_waits how.Open b answer s t waiting is = (idle_run waiting is.2.run).1.0
-none_waits how.OpenOrCreate b answer s t waiting is = (idle_run waiting is.2.run).1.0
+none_waits : (b : PatternCall) (answer : Result Registered Refusal) (s t : TableState)
+    → s.waiting ≡ [] → Builds b s answer t → t.waiting ≡ []
+none_waits b answer s t waiting is = (idle_run waiting is.2.run).1.0
 
 quiet_after : (n : SessionState) (q : Quiet) → Shows n.table.world q → Agrees n.table.world → n.table.waiting ≡ [] → IsQuiet n q
 quiet_after n q shows agrees waiting = record { shows = shows; agrees = agrees; waiting = waiting }
@@ -88,11 +60,11 @@ pub moved : {s : SessionState} {c : Command} {a : Reply} {n : SessionState} (q :
 moved q old slots (goes.call_past le) = record { state = q; moves = moves.call_past le; quiet = old; configured = refl }
 moved q old slots (goes.call_taken t) = record { state = q; moves = moves.call_taken t; quiet = old; configured = refl }
 moved {s = s} q old slots (goes.called {call = call} f {t = t} free is) =
-    let c = built call.how (builder_call s.config call) (Ok f) s.table t q (call_is_regular s.config call) old.shows old.agrees old.waiting is in
-    record { state = c.state; moves = moves.called f free c.call; quiet = quiet_after _ c.state c.shows c.agrees (none_waits call.how (builder_call s.config call) (Ok f) s.table t old.waiting is); configured = refl }
+    let c = built (builder_call s.config call) (Ok f) s.table t q (call_is_steady s.config call) old.shows old.agrees old.waiting is in
+    record { state = c.state; moves = moves.called f free c.call; quiet = quiet_after _ c.state c.shows c.agrees (none_waits (builder_call s.config call) (Ok f) s.table t old.waiting is); configured = refl }
 moved {s = s} q old slots (goes.refused {call = call} {e = e} {t = t} free is) =
-    let c = built call.how (builder_call s.config call) (Err e) s.table t q (call_is_regular s.config call) old.shows old.agrees old.waiting is in
-    record { state = c.state; moves = moves.refused free c.call; quiet = quiet_after _ c.state c.shows c.agrees (none_waits call.how (builder_call s.config call) (Err e) s.table t old.waiting is); configured = refl }
+    let c = built (builder_call s.config call) (Err e) s.table t q (call_is_steady s.config call) old.shows old.agrees old.waiting is in
+    record { state = c.state; moves = moves.refused free c.call; quiet = quiet_after _ c.state c.shows c.agrees (none_waits (builder_call s.config call) (Err e) s.table t old.waiting is); configured = refl }
 moved q old slots (goes.close_past le) = record { state = q; moves = moves.close_past le; quiet = old; configured = refl }
 moved q old slots (goes.close_empty free) = record { state = q; moves = moves.close_empty free; quiet = old; configured = refl }
 moved {s = s} q old slots (goes.closed {slot = k} f {t = t} at is) =
@@ -107,23 +79,16 @@ moved q old slots goes.not_listed = record { state = q; moves = moves.not_listed
 not_ok : (e : Refusal) (f : Registered) → let answer : Result Registered Refusal = Err e in answer ≡ Ok f → ⊥
 not_ok e f is = absurd cc
 
-refused_answer : {E : Type 0} (carry : E → Refusal) (e : Refusal) (a : Result Registered E) (P : Type 0) → Err e ≡ with_refusal carry a
+refused_answer : {E : Type 0} (carry : E → Refusal) (e : Refusal) (a : Result Registered E) (P : Type 0) → Err e ≡ map_err carry a
     → ((x : E) → a ≡ Err x → P) → P
 refused_answer carry e (Ok f) P is then = absurd (not_ok e f is)
 refused_answer carry e (Err x) P is then = then x refl
 
 -- a refused call leaves what there was
-refusal_keeps : (h : How) (b : BuilderCall) (e : Refusal) (w v : World) (q p : Quiet)
-    → Shows w q → Shows v p → Answers q b h (Err e) p → HoldsTheSame w v
-refusal_keeps how.Create b e w v q p s t is =
-    refused_answer b.refusal_of_create e is.0 (HoldsTheSame w v) is.1 (λ x same.
-    refused_create b.creating b.node b.hash b.name b.now w v q p x s t (subst (λ (a : Result Registered b.create_error). CreatesPrepared b.creating q b.node b.hash b.name b.now a p) same (as_prepared b.prepares is.2)))
-refusal_keeps how.Open b e w v q p s t is =
-    refused_answer b.refusal_of_open e is.0 (HoldsTheSame w v) is.1 (λ x same.
-    refused_open b.opening b.node b.hash w v q p x s t (subst (λ (a : Result Registered b.open_error). OpensPrepared b.opening q b.node b.hash a p) same (as_prepared b.prepares is.2)))
-refusal_keeps how.OpenOrCreate b e w v q p s t is =
-    refused_answer b.refusal_of_open_or_create e is.0 (HoldsTheSame w v) is.1 (λ x same.
-    refused_attempt b.attempt (b.refusal_of_rounds x) s t (subst (λ (a : Result Registered b.open_or_create_error). AttemptsPrepared b.attempt q (map_err b.refusal_of_rounds a) p) same (as_prepared b.prepares is.2)))
+refusal_keeps : (b : PatternCall) (e : Refusal) (w v : World) (q p : Quiet)
+    → Shows w q → Shows v p → AnswersCall q b (Err e) p → HoldsTheSame w v
+refusal_keeps b e w v q p s t is =
+    refused_answer b.refusal_of e is.0 (HoldsTheSame w v) is.1 (λ x same. refused_call b.call q x s t (subst (λ a. Answers b.call q a p) same is.2))
 
 pub itself : (s : SessionState) → IsUnchanged s s
 itself s = record { slots = refl; services = record { rows = λ h. refl; segments = λ h. refl; tags = λ i h. refl; counts = λ i h. refl } }
@@ -135,8 +100,8 @@ unchanged_by {s = s} q old (goes.call_taken t) still = itself s
 unchanged_by q old (goes.called f free is) still = absurd still
 unchanged_by {s = s} q old (goes.refused {call = call} {e = e} {t = t} free is) still =
     let b = builder_call s.config call in
-    let c = built call.how b (Err e) s.table t q (call_is_regular s.config call) old.shows old.agrees old.waiting is in
-    record { slots = refl; services = refusal_keeps call.how b e s.table.world t.world q c.state old.shows c.shows c.call }
+    let c = built b (Err e) s.table t q (call_is_steady s.config call) old.shows old.agrees old.waiting is in
+    record { slots = refl; services = refusal_keeps b e s.table.world t.world q c.state old.shows c.shows c.call }
 unchanged_by {s = s} q old (goes.close_past le) still = itself s
 unchanged_by {s = s} q old (goes.close_empty free) still = itself s
 unchanged_by q old (goes.closed f at is) still = absurd still

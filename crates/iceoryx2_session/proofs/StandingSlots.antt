@@ -1,9 +1,6 @@
 -- The factories of a session's slots stand, over any table whose world agrees.
 use Rattle.std.proofs.Common.{◌≡◌, ◌≢◌, ℕ, ◌<◌, ◌≤◌, List, Option, Some, None, Result, Ok, Err, inl, inr, replicate, refl, sym, ap, subst, ◌∙◌, arith}
 use Rattle.std.specs.Prelude.{slice_set, IfOk}
-use Rattle.iceoryx2_description.specs.declared.description.ServiceHash.{ServiceHash}
-use Rattle.iceoryx2_description.specs.declared.time.ClockFault.{ClockFault}
-use Rattle.iceoryx2_description.specs.Span.{Span}
 use Rattle.iceoryx2_world.specs.World.{World}
 use Rattle.iceoryx2_world.specs.Across.{Agrees}
 use Rattle.iceoryx2_world.specs.Fallible.{IsFallibleAccess}
@@ -15,35 +12,27 @@ use Rattle.iceoryx2_world.specs.Tables.{TableState, IsTableAccess}
 use Rattle.iceoryx2_world.proofs.Waiting.{table_run}
 use Rattle.iceoryx2_world.specs.Standing.{Stands, ticket_for}
 use Rattle.iceoryx2_world.proofs.agreement.Accesses.{with_refusals}
-use Rattle.iceoryx2_pattern.specs.Meaning.{Meaning}
-use Rattle.iceoryx2_create_and_open.specs.Prepared.{IsCreateCall, IsOpenCall}
-use Rattle.iceoryx2_create_and_open.proofs.Prepared.{granted_call}
 use Rattle.iceoryx2_call_laws.specs.Calls.{Throughout}
 use Rattle.iceoryx2_call_laws.specs.Tickets.{tickets_after}
-use Rattle.iceoryx2_call_laws.proofs.calls.Prepared.{create_call_letters, open_call_letters, create_call_tickets, open_call_tickets}
 use Rattle.iceoryx2_call_laws.proofs.calls.Words.{agrees_throughout, stands_throughout, all_spared, close_spares}
 use Rattle.iceoryx2_call_laws.proofs.calls.Closed.{close_ok}
 use Rattle.iceoryx2_port_factory.specs.Closes.{IsCloseWord}
-use Rattle.iceoryx2_call_laws.proofs.calls.Created.{create_stands}
-use Rattle.iceoryx2_call_laws.proofs.calls.Opened.{open_stands}
-use Rattle.iceoryx2_commands.specs.declared.command.How.{How}
 use Rattle.iceoryx2_commands.specs.declared.command.How.TheVariants as how
 use Rattle.iceoryx2_commands.specs.declared.command.Command.{Command}
 use Rattle.iceoryx2_commands.specs.declared.command.Refusal.{Refusal}
 use Rattle.iceoryx2_commands.specs.declared.command.Reply.{Reply}
 use Rattle.iceoryx2_create_and_open.specs.Answers.{map_err}
-use Rattle.iceoryx2_open_or_create.specs.declared.open_or_create.OpenOrCreateRefusal.{OpenOrCreateRefusal}
-use Rattle.iceoryx2_call_laws.specs.Attempts.{Attempt, IsAttempted}
-use Rattle.iceoryx2_call_laws.proofs.calls.Turns.{open_or_create_stands}
-use Rattle.iceoryx2_call_laws.proofs.calls.Attempts.{attempt_letters, attempt_tickets}
-use Rattle.iceoryx2_session.specs.BuilderCalls.{BuilderCall, with_refusal}
+use Rattle.iceoryx2_create_and_open.specs.Answers.{map_err}
+use Rattle.iceoryx2_open_or_create.specs.BuilderCalls.{BuilderCall, Way}
+use Rattle.iceoryx2_call_laws.proofs.calls.AnyCalls.{Given, any_given, any_letters}
+use Rattle.iceoryx2_call_laws.proofs.calls.AnyLeft.{any_tickets}
+use Rattle.iceoryx2_session.specs.PatternCalls.{PatternCall}
 use Rattle.iceoryx2_session.specs.Patterns.{builder_call}
 use Rattle.iceoryx2_commands.specs.Commands.{slot_count}
 use Rattle.iceoryx2_session.specs.Slots.{HoldsAt}
 use Rattle.iceoryx2_session.specs.Sessions.{SessionState, Builds, ClosesFactory, Goes, IsClosedPlace}
 use Rattle.iceoryx2_session.specs.Sessions as goes
 use Rattle.iceoryx2_session.specs.StandingSlots.{ClosesTaken, SlotsStand}
-use Rattle.iceoryx2_session.proofs.Prepared.{as_prepared_word}
 use Rattle.iceoryx2_session.proofs.SlotLists.{same_factory, same_slot, no_factory, not_free, set_cases, none_held}
 
 -- ---- runs of the session's table
@@ -75,69 +64,31 @@ pub record Leaves (w : World) (answer : Result Registered Refusal) (v : World) :
   pub tickets : v.tickets ≡ tickets_after w.tickets answer
 
 -- what is so of an Ok answer is so however its error is carried
-carried : {E : Type 0} (P : Registered → Type 0) (carry : E → Refusal) (a : Result Registered E) → IfOk a P → IfOk (with_refusal carry a) P
+carried : {E : Type 0} (P : Registered → Type 0) (carry : E → Refusal) (a : Result Registered E) → IfOk a P → IfOk (map_err carry a) P
 carried P carry (Ok f) so = so
 carried P carry (Err e) so = tt
 
 -- the tickets are the same however its error is carried
 carried_tickets : {E : Type 0} (w v : World) (carry : E → Refusal) (a : Result Registered E) → v.tickets ≡ tickets_after w.tickets a
-    → v.tickets ≡ tickets_after w.tickets (with_refusal carry a)
+    → v.tickets ≡ tickets_after w.tickets (map_err carry a)
 carried_tickets w v carry (Ok f) e = e
 carried_tickets w v carry (Err x) e = e
 
-module _ {F E C : Type 0} (m : Meaning F E C) (node : ℕ) (hash : ServiceHash) where
-  created : (name : List ℕ) (now : Result Span ClockFault) {word : List Letter} (a : Result Registered C) {w v : World}
-      → IsCreateCall m node hash name now word a → Run IsFallibleAccess w word v → Agrees w
-      → IfOk a (λ f. Stands v f × (w.counter ≤ f.ticket))
-  created name now (Ok f) is run old = let o = create_stands (granted_call is) run old in (o.0, o.3)
-  created name now (Err e) is run old = tt
+-- a factory that is given stands
+given_stands : {D F E C X : Type 0} (c : BuilderCall D F E C) (way : Way) (w v : World) (a : Result Registered X) → IfOk a (Given c way w v) → IfOk a (λ f. Stands v f × (w.counter ≤ f.ticket))
+given_stands c way w v (Ok f) given = (given.stands, given.ticket)
+given_stands c way w v (Err e) given = tt
 
-  opened : {word : List Letter} (a : Result Registered E) {w v : World}
-      → IsOpenCall m node hash word a → Run IsFallibleAccess w word v → Agrees w
-      → IfOk a (λ f. Stands v f × (w.counter ≤ f.ticket))
-  opened (Ok f) is run old = let o = open_stands (granted_call is) run old in (o.stands, o.new_ticket)
-  opened (Err e) is run old = tt
-
--- nor what the rounds call it
-mapped_tickets : {E X : Type 0} (w v : World) (f : X → E) (a : Result Registered X) → v.tickets ≡ tickets_after w.tickets (map_err f a)
-    → v.tickets ≡ tickets_after w.tickets a
-mapped_tickets w v f (Ok r) e = e
-mapped_tickets w v f (Err x) e = e
-
-attempted : {D F E C X : Type 0} (a : Attempt D F E C) (f : X → OpenOrCreateRefusal E C) {word : List Letter} (answer : Result Registered X) {w v : World}
-    → IsAttempted a word (map_err f answer) → Run IsFallibleAccess w word v → Agrees w
-    → IfOk answer (λ r. Stands v r × (w.counter ≤ r.ticket))
-attempted a f (Ok r) is run old = open_or_create_stands (granted_call is) run old
-attempted a f (Err e) is run old = tt
-
-pub leaves : (h : How) (b : BuilderCall) (answer : Result Registered Refusal) (s t : TableState)
-    → Agrees s.world → Builds b h s answer t → Leaves s.world answer t.world
-leaves how.Create b answer s t old is =
+pub leaves : (b : PatternCall) (answer : Result Registered Refusal) (s t : TableState)
+    → Agrees s.world → Builds b s answer t → Leaves s.world answer t.world
+leaves b answer s t old is =
     let run = faulty is.2.run in
-    let is_call = as_prepared_word b.prepares is.2.is_word in
+    let given = any_given b.call s.world t.world is.2.word is.0 is.2.is_word run old in
     record {
       agrees = agrees_after is.2.word is.2.run old;
-      given = rw is.1 (carried (λ f. Stands t.world f × (s.world.counter ≤ f.ticket)) b.refusal_of_create is.0 (created b.creating b.node b.hash b.name b.now is.0 is_call run old));
-      kept = λ f at. at_end _ (stands_throughout s.world is.2.word f (all_spared f is.2.word (create_call_letters is_call)) old at) run;
-      tickets = rw is.1 (carried_tickets s.world t.world b.refusal_of_create is.0 (create_call_tickets refl is_call run));
-    }
-leaves how.Open b answer s t old is =
-    let run = faulty is.2.run in
-    let is_call = as_prepared_word b.prepares is.2.is_word in
-    record {
-      agrees = agrees_after is.2.word is.2.run old;
-      given = rw is.1 (carried (λ f. Stands t.world f × (s.world.counter ≤ f.ticket)) b.refusal_of_open is.0 (opened b.opening b.node b.hash is.0 is_call run old));
-      kept = λ f at. at_end _ (stands_throughout s.world is.2.word f (all_spared f is.2.word (open_call_letters is_call)) old at) run;
-      tickets = rw is.1 (carried_tickets s.world t.world b.refusal_of_open is.0 (open_call_tickets is_call run));
-    }
-leaves how.OpenOrCreate b answer s t old is =
-    let run = faulty is.2.run in
-    let is_call = as_prepared_word b.prepares is.2.is_word in
-    record {
-      agrees = agrees_after is.2.word is.2.run old;
-      given = rw is.1 (carried (λ f. Stands t.world f × (s.world.counter ≤ f.ticket)) b.refusal_of_open_or_create is.0 (attempted b.attempt b.refusal_of_rounds is.0 is_call run old));
-      kept = λ f at. at_end _ (stands_throughout s.world is.2.word f (all_spared f is.2.word (attempt_letters is_call)) old at) run;
-      tickets = rw is.1 (carried_tickets s.world t.world b.refusal_of_open_or_create is.0 (mapped_tickets s.world t.world b.refusal_of_rounds is.0 (attempt_tickets is_call run)));
+      given = rw is.1 (carried (λ f. Stands t.world f × (s.world.counter ≤ f.ticket)) b.refusal_of is.0 (given_stands b.call b.call.way s.world t.world is.0 given));
+      kept = λ f at. at_end _ (stands_throughout s.world is.2.word f (all_spared f is.2.word (any_letters b.call is.2.word is.0 is.2.is_word)) old at) run;
+      tickets = rw is.1 (carried_tickets s.world t.world b.refusal_of is.0 (any_tickets b.call s.world t.world is.2.word is.0 is.2.is_word run));
     }
 
 -- a close leaves each other factory standing
@@ -206,10 +157,10 @@ pub stand_after : {s : SessionState} {c : Command} {a : Reply} {n : SessionState
 stand_after (goes.call_past le) agrees old = (agrees, old)
 stand_after (goes.call_taken e) agrees old = (agrees, old)
 stand_after {s = s} (goes.called {call = call} f {t = t} free is) agrees old =
-    let c = leaves call.how (builder_call s.config call) (Ok f) s.table t agrees is in
+    let c = leaves (builder_call s.config call) (Ok f) s.table t agrees is in
     (c.agrees, put_stands s t call.slot f agrees old c.given.0 c.given.1 c.kept)
 stand_after {s = s} (goes.refused {call = call} {e = e} {t = t} free is) agrees old =
-    let c = leaves call.how (builder_call s.config call) (Err e) s.table t agrees is in
+    let c = leaves (builder_call s.config call) (Err e) s.table t agrees is in
     (c.agrees, record { stand = λ k f at. c.kept f (old.stand k f at); apart = old.apart })
 stand_after (goes.close_past le) agrees old = (agrees, old)
 stand_after (goes.close_empty free) agrees old = (agrees, old)

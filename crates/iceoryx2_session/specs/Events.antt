@@ -1,47 +1,34 @@
 -- Builder calls for services of events.
-use Rattle.std.specs.Prelude.{Result, false}
-use Rattle.iceoryx2_errors.specs.declared.error.ServiceState.{ServiceState}
-use Rattle.iceoryx2_errors.specs.declared.error.events.EventOpenError.{EventOpenError}
-use Rattle.iceoryx2_errors.specs.declared.error.events.EventCreateError.{EventCreateError}
-use Rattle.iceoryx2_errors.specs.declared.error.events.EventOpenOrCreateError.{EventOpenOrCreateError}
-use Rattle.iceoryx2_event_builder.specs.Request.{EventBuilderState, letter_of_events}
+use Rattle.std.specs.Prelude.{Result}
 use Rattle.iceoryx2_attribute.specs.Requirements.{Requirements}
 use Rattle.iceoryx2_description.specs.declared.time.ClockFault.{ClockFault}
 use Rattle.iceoryx2_description.specs.Span.{Span}
+use Rattle.iceoryx2_errors.specs.declared.error.ServiceState.{ServiceState}
+use Rattle.iceoryx2_errors.specs.declared.error.events.EventOpenError.{EventOpenError}
+use Rattle.iceoryx2_errors.specs.declared.error.events.EventCreateError.{EventCreateError}
+use Rattle.iceoryx2_errors.specs.declared.error.events.EventOpenOrCreateError.TheVariants as either
+use Rattle.iceoryx2_open_or_create.specs.BuilderCalls.{Way}
+use Rattle.iceoryx2_open_or_create.specs.declared.open_or_create.OpenOrCreateRefusal.{OpenOrCreateRefusal}
+use Rattle.iceoryx2_open_or_create.specs.declared.open_or_create.OpenOrCreateRefusal.TheVariants as rounds
 use Rattle.iceoryx2_event_builder.specs.declared.event.demand.EventDemand.{EventDemand}
-use Rattle.iceoryx2_event_builder.specs.Event.{event_adjusted, event_creating, event_meaning, event_opening}
-use Rattle.iceoryx2_event_builder.specs.Event.{event_refusal, event_retried}
+use Rattle.iceoryx2_event_builder.specs.EventCalls.{event_call}
+use Rattle.iceoryx2_event_builder.specs.Request.{EventBuilderState}
+use Rattle.iceoryx2_commands.specs.declared.command.Refusal.{Refusal}
 use Rattle.iceoryx2_commands.specs.declared.command.Refusal.TheVariants as refusal
-use Rattle.iceoryx2_session.specs.BuilderCalls.{BuilderCall, hash_for}
+use Rattle.iceoryx2_session.specs.PatternCalls.{PatternCall, hash_for, refusal_by}
 
--- what the calls of this builder ask: a create defines the pairs, and an open requires pairs and keys
-abbrev pub event_call : EventBuilderState → Requirements → Result Span ClockFault → BuilderCall
-event_call b attributes now = record {
+-- how the refusals of the rounds are carried
+abbrev pub event_rounds : OpenOrCreateRefusal EventOpenError EventCreateError → Refusal
+event_rounds (rounds.Open error) = refusal.EventOpenOrCreate (either.EventOpenError error)
+event_rounds (rounds.Create error) = refusal.EventOpenOrCreate (either.EventCreateError error)
+event_rounds rounds.SystemInFlux = refusal.EventOpenOrCreate either.SystemInFlux
+
+abbrev pub event_pattern_call : EventBuilderState → Way → Requirements → Result Span ClockFault → PatternCall
+event_pattern_call b way attributes now = record {
+  asks = EventDemand;
   fault = ServiceState;
   open_error = EventOpenError;
   create_error = EventCreateError;
-  open_or_create_error = EventOpenOrCreateError;
-  asks = EventDemand;
-  node = b.node;
-  hash = hash_for letter_of_events b.name;
-  name = b.name;
-  now = now;
-  creating = event_creating b.demand attributes.pairs;
-  opening = event_opening b.demand attributes;
-  attempt = record {
-    meaning = event_meaning;
-    adjusted = event_adjusted;
-    retried = event_retried;
-    asked = b.demand;
-    required = attributes;
-    node = b.node;
-    hash = hash_for letter_of_events b.name;
-    name = b.name;
-    now = now;
-  };
-  prepares = false;
-  refusal_of_create = refusal.EventCreate;
-  refusal_of_open = refusal.EventOpen;
-  refusal_of_open_or_create = refusal.EventOpenOrCreate;
-  refusal_of_rounds = event_refusal;
+  call = event_call hash_for b way attributes now;
+  refusal_of = refusal_by refusal.EventCreate refusal.EventOpen event_rounds way;
 }

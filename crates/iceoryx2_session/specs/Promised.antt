@@ -6,43 +6,35 @@ use Rattle.iceoryx2_access.specs.Run.{Run}
 use Rattle.iceoryx2_world.specs.Across.{Agrees}
 use Rattle.iceoryx2_world.specs.Tables.{TableState, IsTableAccess}
 use Rattle.iceoryx2_open_or_create.specs.Adjusting.{OnlyRaises}
-use Rattle.iceoryx2_call_laws.specs.AnyCalls.{AnyCall, ErrorBy, Way, ToCreate, ToOpen, ToOpenOrCreate, IsWordOf}
+use Rattle.iceoryx2_open_or_create.specs.BuilderCalls.{ErrorBy}
+use Rattle.iceoryx2_open_or_create.specs.CallWords.{IsWordOf}
 use Rattle.iceoryx2_call_laws.specs.Headline.{IsAsPromised}
-use Rattle.iceoryx2_commands.specs.declared.command.How.{How}
 use Rattle.iceoryx2_commands.specs.declared.command.How.TheVariants as how
 use Rattle.iceoryx2_commands.specs.declared.command.Command.{Command}
 use Rattle.iceoryx2_commands.specs.declared.command.Command.TheVariants as command
 use Rattle.iceoryx2_commands.specs.declared.command.Refusal.{Refusal}
 use Rattle.iceoryx2_commands.specs.Commands.{slot_count}
-use Rattle.iceoryx2_session.specs.BuilderCalls.{BuilderCall}
+use Rattle.iceoryx2_session.specs.PatternCalls.{PatternCall}
 use Rattle.iceoryx2_session.specs.Patterns.{builder_call}
 use Rattle.iceoryx2_session.specs.Slots.{FreeAt}
 use Rattle.iceoryx2_session.specs.Sessions.{SessionState}
 
-abbrev pub way_of : How → Way
-way_of how.Create = ToCreate
-way_of how.Open = ToOpen
-way_of how.OpenOrCreate = ToOpenOrCreate
-
-abbrev pub any_call : (b : BuilderCall) → How → AnyCall b.asks b.fault b.open_error b.create_error
-any_call b h = record { way = way_of h; asks = b.attempt; prepares = b.prepares }
-
 -- A builder call over a table goes along a word of it, and is as every call is; its create only raises minima. Where
 -- it answers Ok it is with that factory.
-pub record IsPromised (b : BuilderCall) (h : How) (s : TableState) (answer : Result Registered Refusal) (t : TableState)
+pub record IsPromised (b : PatternCall) (s : TableState) (answer : Result Registered Refusal) (t : TableState)
     : Type 0 where
-  pub own : Result Registered (ErrorBy b.open_error b.create_error (way_of h))
+  pub own : Result Registered (ErrorBy b.open_error b.create_error b.call.way)
   pub granted : IfOk answer (λ f. own ≡ Ok f)
   pub word : List Letter
-  pub is_word : IsWordOf (any_call b h) word own
+  pub is_word : IsWordOf b.call word own
   pub run : Run IsTableAccess s word t
-  pub only_raises : OnlyRaises b.attempt.meaning b.attempt.adjusted
-  pub promised : Agrees s.world → IsAsPromised IsTableAccess (λ u. u.world) (any_call b h) s word own t
+  pub only_raises : OnlyRaises b.call.meaning b.call.adjusted
+  pub promised : Agrees s.world → IsAsPromised IsTableAccess (λ u. u.world) b.call s word own t
 
 -- So is the call of a free slot.
 abbrev pub CallsAsPromised : SessionState → Command → SessionState → Type 0
 CallsAsPromised old (command.Call call) new = call.slot < slot_count → FreeAt old.slots call.slot
     → (answer : Result Registered Refusal)
-    × IsPromised (builder_call old.config call) call.how old.table answer new.table
+    × IsPromised (builder_call old.config call) old.table answer new.table
 CallsAsPromised old (command.Close slot) new = Unit {0}
 CallsAsPromised old command.List new = Unit {0}

@@ -1,57 +1,38 @@
 -- Builder calls for services of publish-subscribe.
-use Rattle.std.specs.Prelude.{true, Ok}
 use Rattle.iceoryx2_types.specs.Types.{Message}
+use Rattle.iceoryx2_attribute.specs.Requirements.{Requirements}
 use Rattle.iceoryx2_errors.specs.declared.error.publish_subscribe.ServiceAvailabilityState.{ServiceAvailabilityState}
 use Rattle.iceoryx2_errors.specs.declared.error.publish_subscribe.PublishSubscribeOpenError.{PublishSubscribeOpenError}
 use Rattle.iceoryx2_errors.specs.declared.error.publish_subscribe.PublishSubscribeCreateError.{PublishSubscribeCreateError}
-use Rattle.iceoryx2_errors.specs.declared.error.publish_subscribe.PublishSubscribeOpenOrCreateError.{PublishSubscribeOpenOrCreateError}
-use Rattle.iceoryx2_attribute.specs.Requirements.{Requirements}
-use Rattle.iceoryx2_description.specs.Span.{zero_span}
-use Rattle.iceoryx2_publish_subscribe_builder.specs.Request.{PublishSubscribeBuilderState}
-use Rattle.iceoryx2_publish_subscribe_builder.specs.Request.{letter_of_publish_subscribe, message_for}
-use Rattle.iceoryx2_publish_subscribe_builder.specs.PublishSubscribe.{publish_subscribe_creating}
-use Rattle.iceoryx2_publish_subscribe_builder.specs.PublishSubscribe.{publish_subscribe_opening}
-use Rattle.iceoryx2_publish_subscribe_builder.specs.PublishSubscribe.{prepared_adjusted, prepared_meaning}
-use Rattle.iceoryx2_publish_subscribe_builder.specs.PublishSubscribe.{publish_subscribe_refusal}
-use Rattle.iceoryx2_publish_subscribe_builder.specs.PublishSubscribe.{publish_subscribe_retried}
+use Rattle.iceoryx2_errors.specs.declared.error.publish_subscribe.PublishSubscribeOpenOrCreateError.TheVariants as either
+use Rattle.iceoryx2_open_or_create.specs.BuilderCalls.{Way}
+use Rattle.iceoryx2_open_or_create.specs.declared.open_or_create.OpenOrCreateRefusal.{OpenOrCreateRefusal}
+use Rattle.iceoryx2_open_or_create.specs.declared.open_or_create.OpenOrCreateRefusal.TheVariants as rounds
 use Rattle.iceoryx2_publish_subscribe_builder.specs.declared.publish_subscribe.demand.PreparedDemand.{PreparedDemand}
+use Rattle.iceoryx2_publish_subscribe_builder.specs.PublishSubscribeCalls.{publish_subscribe_call}
+use Rattle.iceoryx2_publish_subscribe_builder.specs.Request.{PublishSubscribeBuilderState, message_for}
+use Rattle.iceoryx2_commands.specs.declared.command.Refusal.{Refusal}
 use Rattle.iceoryx2_commands.specs.declared.command.Refusal.TheVariants as refusal
-use Rattle.iceoryx2_session.specs.BuilderCalls.{BuilderCall, hash_for}
 use Rattle.iceoryx2_session.specs.Markers.{payload_marker, user_header_marker}
+use Rattle.iceoryx2_session.specs.PatternCalls.{PatternCall, hash_for, refusal_by}
 
 -- the message of this builder, whose types are those that setters named
 abbrev pub named_message : PublishSubscribeBuilderState → Message
 named_message b = message_for payload_marker user_header_marker b.types
 
--- what the calls of this builder ask: a create defines the pairs, and an open requires pairs and keys
-abbrev pub publish_subscribe_call : PublishSubscribeBuilderState → Requirements → BuilderCall
-publish_subscribe_call b attributes = record {
+-- how the refusals of the rounds are carried
+abbrev pub publish_subscribe_rounds : OpenOrCreateRefusal PublishSubscribeOpenError PublishSubscribeCreateError → Refusal
+publish_subscribe_rounds (rounds.Open error) = refusal.PublishSubscribeOpenOrCreate (either.PublishSubscribeOpenError error)
+publish_subscribe_rounds (rounds.Create error) =
+    refusal.PublishSubscribeOpenOrCreate (either.PublishSubscribeCreateError error)
+publish_subscribe_rounds rounds.SystemInFlux = refusal.PublishSubscribeOpenOrCreate either.SystemInFlux
+
+abbrev pub publish_subscribe_pattern_call : PublishSubscribeBuilderState → Way → Requirements → PatternCall
+publish_subscribe_pattern_call b way attributes = record {
+  asks = PreparedDemand;
   fault = ServiceAvailabilityState;
   open_error = PublishSubscribeOpenError;
   create_error = PublishSubscribeCreateError;
-  open_or_create_error = PublishSubscribeOpenOrCreateError;
-  asks = PreparedDemand;
-  node = b.node;
-  hash = hash_for letter_of_publish_subscribe b.name;
-  name = b.name;
-  -- time zero: its calls don't ask the clock
-  now = Ok zero_span;
-  creating = publish_subscribe_creating b.demand (named_message b) attributes.pairs;
-  opening = publish_subscribe_opening b.demand (named_message b) attributes;
-  attempt = record {
-    meaning = prepared_meaning;
-    adjusted = prepared_adjusted;
-    retried = publish_subscribe_retried;
-    asked = record { demand = b.demand; message = named_message b };
-    required = attributes;
-    node = b.node;
-    hash = hash_for letter_of_publish_subscribe b.name;
-    name = b.name;
-    now = Ok zero_span;
-  };
-  prepares = true;
-  refusal_of_create = refusal.PublishSubscribeCreate;
-  refusal_of_open = refusal.PublishSubscribeOpen;
-  refusal_of_open_or_create = refusal.PublishSubscribeOpenOrCreate;
-  refusal_of_rounds = publish_subscribe_refusal;
+  call = publish_subscribe_call hash_for b (named_message b) way attributes;
+  refusal_of = refusal_by refusal.PublishSubscribeCreate refusal.PublishSubscribeOpen publish_subscribe_rounds way;
 }

@@ -11,23 +11,22 @@ use Rattle.iceoryx2_world.specs.Across.{Agrees}
 use Rattle.iceoryx2_access.specs.Run.{Run}
 use Rattle.iceoryx2_access.specs.Registered.{Registered}
 use Rattle.iceoryx2_commands.specs.declared.command.Call.{Call}
-use Rattle.iceoryx2_commands.specs.declared.command.How.{How}
 use Rattle.iceoryx2_commands.specs.declared.command.How.TheVariants as how
 use Rattle.iceoryx2_commands.specs.declared.command.Command.{Command}
 use Rattle.iceoryx2_commands.specs.declared.command.Command.TheVariants as command
 use Rattle.iceoryx2_commands.specs.declared.command.Refusal.{Refusal}
 use Rattle.iceoryx2_commands.specs.declared.command.Reply.{Reply}
 use Rattle.iceoryx2_commands.specs.declared.command.Reply.TheVariants as reply
-use Rattle.iceoryx2_session.specs.BuilderCalls.{BuilderCall, IfPrepares, with_refusal}
+use Rattle.iceoryx2_session.specs.PatternCalls.{PatternCall}
 use Rattle.iceoryx2_commands.specs.Commands.{slot_count}
 use Rattle.iceoryx2_session.specs.Slots.{FreeAt, HoldsAt, TakenAt}
 use Rattle.iceoryx2_session.specs.Patterns.{builder_call}
 use Rattle.iceoryx2_session.specs.Sessions.{SessionState, Goes}
 use Rattle.iceoryx2_session.specs.CommandLists.{CarriesOut}
 use Rattle.iceoryx2_call_laws.specs.Quiet.{Quiet, Shows}
-use Rattle.iceoryx2_call_laws.specs.QuietCalls.{Creates, Opens, Closes}
-use Rattle.iceoryx2_call_laws.specs.QuietPrepared.{CreatesPrepared, OpensPrepared}
-use Rattle.iceoryx2_call_laws.specs.QuietAttempts.{Attempts, AttemptsPrepared}
+use Rattle.iceoryx2_call_laws.specs.QuietCalls.{Closes}
+use Rattle.iceoryx2_open_or_create.specs.BuilderCalls.{ErrorBy}
+use Rattle.iceoryx2_call_laws.specs.QuietWays.{Answers}
 use Rattle.iceoryx2_create_and_open.specs.Answers.{map_err}
 use Rattle.iceoryx2_call_laws.specs.QuietLaws.{HoldsTheSame, times_opened}
 use Rattle.iceoryx2_call_laws.specs.QuietLists.{listing}
@@ -38,24 +37,11 @@ pub record IsQuiet (s : SessionState) (q : Quiet) : Type 0 where
   pub agrees : Agrees s.table.world
   pub waiting : s.table.waiting ≡ []
 
--- What the machine answers to a builder call, and its state after it. One that prepares its types first may also want
--- memory, and change nothing.
-abbrev pub Answers : Quiet → BuilderCall → How → Result Registered Refusal → Quiet → Type 0
-Answers q b how.Create answer p =
-    (a : Result Registered b.create_error) × (answer ≡ with_refusal b.refusal_of_create a)
-    × IfPrepares b.prepares
-    (CreatesPrepared b.creating q b.node b.hash b.name b.now a p)
-    (Creates b.creating q b.node b.hash b.name b.now a p)
-Answers q b how.Open answer p =
-    (a : Result Registered b.open_error) × (answer ≡ with_refusal b.refusal_of_open a)
-    × IfPrepares b.prepares
-    (OpensPrepared b.opening q b.node b.hash a p)
-    (Opens b.opening q b.node b.hash a p)
-Answers q b how.OpenOrCreate answer p =
-    (a : Result Registered b.open_or_create_error) × (answer ≡ with_refusal b.refusal_of_open_or_create a)
-    × IfPrepares b.prepares
-    (AttemptsPrepared b.attempt q (map_err b.refusal_of_rounds a) p)
-    (Attempts b.attempt q (map_err b.refusal_of_rounds a) p)
+-- What the machine answers to a builder call, and its state after it.
+abbrev pub AnswersCall : Quiet → PatternCall → Result Registered Refusal → Quiet → Type 0
+AnswersCall q b answer p =
+    (own : Result Registered (ErrorBy b.open_error b.create_error b.call.way))
+    × (answer ≡ map_err b.refusal_of own) × Answers b.call q own p
 
 -- A command with its reply moves the machine and the slots.
 pub data Moves (config : Config) (q : Quiet) (slots : List (Option Registered))
@@ -65,11 +51,11 @@ pub data Moves (config : Config) (q : Quiet) (slots : List (Option Registered))
   call_taken : {call : Call} → TakenAt slots call.slot
       → Moves config q slots (command.Call call) reply.SlotInUse q slots
   called : {call : Call} (f : Registered) {p : Quiet} → FreeAt slots call.slot
-      → Answers q (builder_call config call) call.how (Ok f) p
+      → AnswersCall q (builder_call config call) (Ok f) p
       → Moves config q slots (command.Call call) (reply.Opened call.slot f.number) p
       (slice_set slots call.slot (Some f))
   refused : {call : Call} {e : Refusal} {p : Quiet} → FreeAt slots call.slot
-      → Answers q (builder_call config call) call.how (Err e) p
+      → AnswersCall q (builder_call config call) (Err e) p
       → Moves config q slots (command.Call call) (reply.Refused e) p slots
   close_past : {slot : ℕ} → slot_count ≤ slot
       → Moves config q slots (command.Close slot) reply.NoSuchSlot q slots

@@ -9,21 +9,17 @@ use Rattle.iceoryx2_world.specs.Tables.{TableState, IsTableAccess}
 use Rattle.iceoryx2_access.specs.Run.{Run, Joins}
 use Rattle.iceoryx2_errors.specs.declared.error.CloseError.{CloseError}
 use Rattle.iceoryx2_access.specs.Registered.{Registered}
-use Rattle.iceoryx2_create_and_open.specs.Creates.{IsCreateWord}
-use Rattle.iceoryx2_create_and_open.specs.Opens.{IsOpenWord}
-use Rattle.iceoryx2_create_and_open.specs.Prepared.{IsCreateCall, IsOpenCall}
 use Rattle.iceoryx2_create_and_open.specs.Answers.{map_err}
-use Rattle.iceoryx2_call_laws.specs.Attempts.{IsAttempted, IsAttemptWord}
+use Rattle.iceoryx2_open_or_create.specs.BuilderCalls.{ErrorBy}
+use Rattle.iceoryx2_open_or_create.specs.CallWords.{Calls}
 use Rattle.iceoryx2_port_factory.specs.Closes.{IsCloseWord}
 use Rattle.iceoryx2_commands.specs.declared.command.Call.{Call}
-use Rattle.iceoryx2_commands.specs.declared.command.How.{How}
-use Rattle.iceoryx2_commands.specs.declared.command.How.TheVariants as how
 use Rattle.iceoryx2_commands.specs.declared.command.Command.{Command}
 use Rattle.iceoryx2_commands.specs.declared.command.Command.TheVariants as command
 use Rattle.iceoryx2_commands.specs.declared.command.Refusal.{Refusal}
 use Rattle.iceoryx2_commands.specs.declared.command.Reply.{Reply}
 use Rattle.iceoryx2_commands.specs.declared.command.Reply.TheVariants as reply
-use Rattle.iceoryx2_session.specs.BuilderCalls.{BuilderCall, IfPrepares, with_refusal}
+use Rattle.iceoryx2_session.specs.PatternCalls.{PatternCall}
 use Rattle.iceoryx2_session.specs.Patterns.{builder_call}
 use Rattle.iceoryx2_commands.specs.Commands.{slot_count}
 use Rattle.iceoryx2_session.specs.Slots.{FreeAt, HoldsAt, TakenAt}
@@ -34,25 +30,11 @@ pub record SessionState : Type 0 where
   pub table : TableState
   pub slots : List (Option Registered)
 
--- A builder call goes along a word of its grammar, with that answer. One that prepares its types first may also want
--- memory without an access.
-abbrev pub Builds
-    : BuilderCall → How → TableState → Result Registered Refusal → TableState → Type 0
-Builds b how.Create s answer t =
-    (a : Result Registered b.create_error) × (answer ≡ with_refusal b.refusal_of_create a)
-    × Joins IsTableAccess s (λ word. IfPrepares b.prepares
-    (IsCreateCall b.creating b.node b.hash b.name b.now word a)
-    (IsCreateWord b.creating b.node b.hash b.name b.now word a)) t
-Builds b how.Open s answer t =
-    (a : Result Registered b.open_error) × (answer ≡ with_refusal b.refusal_of_open a)
-    × Joins IsTableAccess s (λ word. IfPrepares b.prepares
-    (IsOpenCall b.opening b.node b.hash word a)
-    (IsOpenWord b.opening b.node b.hash word a)) t
-Builds b how.OpenOrCreate s answer t =
-    (a : Result Registered b.open_or_create_error) × (answer ≡ with_refusal b.refusal_of_open_or_create a)
-    × Joins IsTableAccess s (λ word. IfPrepares b.prepares
-    (IsAttempted b.attempt word (map_err b.refusal_of_rounds a))
-    (IsAttemptWord b.attempt word (map_err b.refusal_of_rounds a))) t
+-- A builder call leads the table from one state to another along a word of it, and the answer carries its error.
+abbrev pub Builds : PatternCall → TableState → Result Registered Refusal → TableState → Type 0
+Builds b s answer t =
+    (own : Result Registered (ErrorBy b.open_error b.create_error b.call.way))
+    × (answer ≡ map_err b.refusal_of own) × Calls IsTableAccess b.call s own t
 
 -- A factory is closed along a word of close, whatever it answers.
 abbrev pub ClosesFactory : TableState → Registered → TableState → Type 0
@@ -86,11 +68,11 @@ pub data Goes (old : SessionState) : Command → Reply → SessionState → Type
   call_past : {call : Call} → slot_count ≤ call.slot → Goes old (command.Call call) reply.NoSuchSlot old
   call_taken : {call : Call} → TakenAt old.slots call.slot → Goes old (command.Call call) reply.SlotInUse old
   called : {call : Call} (f : Registered) {t : TableState} → FreeAt old.slots call.slot
-      → Builds (builder_call old.config call) call.how old.table (Ok f) t
+      → Builds (builder_call old.config call) old.table (Ok f) t
       → Goes old (command.Call call) (reply.Opened call.slot f.number)
       (record old { table = t; slots = slice_set old.slots call.slot (Some f) })
   refused : {call : Call} {e : Refusal} {t : TableState} → FreeAt old.slots call.slot
-      → Builds (builder_call old.config call) call.how old.table (Err e) t
+      → Builds (builder_call old.config call) old.table (Err e) t
       → Goes old (command.Call call) (reply.Refused e) (record old { table = t })
   close_past : {slot : ℕ} → slot_count ≤ slot → Goes old (command.Close slot) reply.NoSuchSlot old
   close_empty : {slot : ℕ} → FreeAt old.slots slot → Goes old (command.Close slot) reply.SlotEmpty old

@@ -2,7 +2,8 @@
 
 ghost use Rattle.std.specs.Prelude.{◌≡◌};
 ghost use Rattle.iceoryx2_event_builder.specs.Request as request;
-ghost use Rattle.iceoryx2_session.specs.Events.{event_call};
+ghost use Rattle.iceoryx2_session.specs.Events.{event_pattern_call};
+ghost use Rattle.iceoryx2_session.specs.PatternCalls.{way_of};
 ghost use Rattle.iceoryx2_session.specs.Sessions.{Builds};
 ghost use Rattle.iceoryx2_session.specs.Setters.{with_settings as set_all};
 
@@ -34,8 +35,8 @@ pub fn call(
     now: Result<Time, ClockFault>,
     table: &mut Table,
 ) -> Result<Registration, Refusal>
-    ensures { Builds (event_call (set_all request.with_setting builder settings.items) attributes now) how
-        table.old result table.new }
+    ensures { let b = set_all request.with_setting builder settings.items in
+        Builds (event_pattern_call b (way_of how) attributes now) table.old result table.new }
 {
     let builder = with_settings(builder, settings);
     match how {

@@ -2,7 +2,8 @@
 
 ghost use Rattle.std.specs.Prelude.{◌≡◌};
 ghost use Rattle.iceoryx2_publish_subscribe_builder.specs.Request as request;
-ghost use Rattle.iceoryx2_session.specs.PublishSubscribe.{publish_subscribe_call};
+ghost use Rattle.iceoryx2_session.specs.PublishSubscribe.{publish_subscribe_pattern_call};
+ghost use Rattle.iceoryx2_session.specs.PatternCalls.{way_of};
 ghost use Rattle.iceoryx2_session.specs.Sessions.{Builds};
 ghost use Rattle.iceoryx2_session.specs.Setters.{with_settings as set_all};
 
@@ -37,8 +38,8 @@ pub fn call(
     how: How,
     table: &mut Table,
 ) -> Result<Registration, Refusal>
-    ensures { Builds (publish_subscribe_call (set_all request.with_setting builder settings.items) attributes) how
-        table.old result table.new }
+    ensures { let b = set_all request.with_setting builder settings.items in
+        Builds (publish_subscribe_pattern_call b (way_of how) attributes) table.old result table.new }
 {
     let builder = with_settings(builder, settings);
     match how {

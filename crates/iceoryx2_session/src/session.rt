@@ -26,7 +26,7 @@ pub struct Session {
 
 /// The builder call of a command.
 fn build(config: Config, call: Call, table: &mut Table) -> Result<Registration, Refusal>
-    ensures { Builds (builder_call config call) call.how table.old result table.new }
+    ensures { Builds (builder_call config call) table.old result table.new }
 {
     let Call {
         how,

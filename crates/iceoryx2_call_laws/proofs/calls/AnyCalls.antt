@@ -19,9 +19,10 @@ use Rattle.iceoryx2_open_or_create.specs.Grants.{Carries, accepted, published}
 use Rattle.iceoryx2_open_or_create.specs.declared.open_or_create.OpenOrCreateRefusal.{OpenOrCreateRefusal}
 use Rattle.iceoryx2_open_or_create.proofs.Adjusting.{carries_once}
 use Rattle.iceoryx2_open_or_create.proofs.Counts.{open_or_create_call_within}
-use Rattle.iceoryx2_open_or_create.proofs.Granted.{granted_carries}
-use Rattle.iceoryx2_call_laws.specs.Attempts.{Attempt, IsAttempted}
-use Rattle.iceoryx2_call_laws.specs.AnyCalls.{AnyCall, ErrorBy, Way, ToCreate, ToOpen, ToOpenOrCreate, PreparedIf, creating, opening, IsWordBy, IsWordOf, Meets, Holds, MayCarryBy, IsShortBy}
+use Rattle.iceoryx2_open_or_create.proofs.Granted.{granted_carries, carries_prepared}
+use Rattle.iceoryx2_open_or_create.specs.BuilderCalls.{BuilderCall, ErrorBy, Way, ToCreate, ToOpen, ToOpenOrCreate, creating, opening}
+use Rattle.iceoryx2_open_or_create.specs.CallWords.{IsOpenOrCreateCall, PreparedIf, IsWordBy, IsWordOf}
+use Rattle.iceoryx2_call_laws.specs.AnyCalls.{Meets, Holds, MayCarryBy, IsShortBy}
 use Rattle.iceoryx2_call_laws.proofs.calls.Words.{IsNoRelease}
 use Rattle.iceoryx2_call_laws.proofs.calls.Prepared.{create_call_letters, open_call_letters}
 use Rattle.iceoryx2_call_laws.proofs.calls.Attempts.{attempt_letters}
@@ -34,11 +35,11 @@ may_prepare : {E : Type 0} (b : Bool) {no_memory : E} {IsWord : List Letter → 
 may_prepare true is = is
 may_prepare false is = prepared is
 
-module _ {D F E C : Type 0} (c : AnyCall D F E C) where
+module _ {D F E C : Type 0} (c : BuilderCall D F E C) where
   pub each_word : (P : (way : Way) → List Letter → Result Registered (ErrorBy E C way) → Type 0)
-      → ((word : List Letter) (answer : Result Registered C) → IsCreateCall (creating c) c.asks.node c.asks.hash c.asks.name c.asks.now word answer → P ToCreate word answer)
-      → ((word : List Letter) (answer : Result Registered E) → IsOpenCall (opening c) c.asks.node c.asks.hash word answer → P ToOpen word answer)
-      → ((word : List Letter) (answer : Result Registered (OpenOrCreateRefusal E C)) → IsAttempted c.asks word answer → P ToOpenOrCreate word answer)
+      → ((word : List Letter) (answer : Result Registered C) → IsCreateCall (creating c) c.caller word answer → P ToCreate word answer)
+      → ((word : List Letter) (answer : Result Registered E) → IsOpenCall (opening c) c.caller.node c.caller.hash word answer → P ToOpen word answer)
+      → ((word : List Letter) (answer : Result Registered (OpenOrCreateRefusal E C)) → IsOpenOrCreateCall c word answer → P ToOpenOrCreate word answer)
       → (way : Way) (word : List Letter) (answer : Result Registered (ErrorBy E C way)) → IsWordBy c way word answer → P way word answer
   each_word P creates opens both ToCreate word answer is = creates word answer (may_prepare c.prepares is)
   each_word P creates opens both ToOpen word answer is = opens word answer (may_prepare c.prepares is)
@@ -46,21 +47,21 @@ module _ {D F E C : Type 0} (c : AnyCall D F E C) where
 
   -- none releases a ticket
   pub any_letters : (word : List Letter) (answer : Result Registered (ErrorBy E C c.way)) → IsWordOf c word answer → Each IsNoRelease word
-  any_letters word answer is = each_word (λ way word answer. Each IsNoRelease word) (λ word answer is. create_call_letters is) (λ word answer is. open_call_letters is) (λ word answer is. attempt_letters is) c.way word answer is
+  any_letters word answer is = each_word (λ way word answer. Each IsNoRelease word) (λ word answer is. create_call_letters is) (λ word answer is. open_call_letters is) (λ word answer is. attempt_letters c is) c.way word answer is
 
   -- each is short
   pub any_short : (word : List Letter) (answer : Result Registered (ErrorBy E C c.way)) → IsWordOf c word answer → IsShortBy c.way word
-  any_short word answer is = each_word (λ way word answer. IsShortBy way word) (λ word answer is. create_call_within (creating c) c.asks.node c.asks.hash is) (λ word answer is. open_call_within (opening c) c.asks.node c.asks.hash is) (λ word answer is. open_or_create_call_within c.asks.meaning c.asks.adjusted c.asks.retried c.asks.required c.asks.node c.asks.hash c.asks.name c.asks.now is) c.way word answer is
+  any_short word answer is = each_word (λ way word answer. IsShortBy way word) (λ word answer is. create_call_within (creating c) c.caller.node c.caller.hash is) (λ word answer is. open_call_within (opening c) c.caller.node c.caller.hash is) (λ word answer is. open_or_create_call_within c is) c.way word answer is
 
   -- what a granted one has given
   pub record Given (way : Way) (w v : World) (r : Registered) : Type 0 where
     pub stands : Stands v r
-    pub node : r.node ≡ c.asks.node
-    pub hash : r.description.hash ≡ c.asks.hash
+    pub node : r.node ≡ c.caller.node
+    pub hash : r.description.hash ≡ c.caller.hash
     pub carries : MayCarryBy c way r.description
     pub ticket : w.counter ≤ r.ticket
 
-  given_create : {w v : World} (word : List Letter) (own : Result Registered C) → IsCreateCall (creating c) c.asks.node c.asks.hash c.asks.name c.asks.now word own → Run IsFallibleAccess w word v → Agrees w → IfOk own (Given ToCreate w v)
+  given_create : {w v : World} (word : List Letter) (own : Result Registered C) → IsCreateCall (creating c) c.caller word own → Run IsFallibleAccess w word v → Agrees w → IfOk own (Given ToCreate w v)
   given_create word (Err e) is run old = tt
   given_create word (Ok r) is run old = let o = create_stands (granted_call is) run old in record {
     stands = o.0;
@@ -70,7 +71,7 @@ module _ {D F E C : Type 0} (c : AnyCall D F E C) where
     ticket = o.3;
   }
 
-  given_open : {w v : World} (word : List Letter) (own : Result Registered E) → IsOpenCall (opening c) c.asks.node c.asks.hash word own → Run IsFallibleAccess w word v → Agrees w → IfOk own (Given ToOpen w v)
+  given_open : {w v : World} (word : List Letter) (own : Result Registered E) → IsOpenCall (opening c) c.caller.node c.caller.hash word own → Run IsFallibleAccess w word v → Agrees w → IfOk own (Given ToOpen w v)
   given_open word (Err e) is run old = tt
   given_open word (Ok r) is run old = let o = open_stands (granted_call is) run old in record {
     stands = o.stands;
@@ -80,20 +81,21 @@ module _ {D F E C : Type 0} (c : AnyCall D F E C) where
     ticket = o.new_ticket;
   }
 
-  carries_hash : {d : Description} → Carries c.asks.meaning c.asks.adjusted c.asks.required c.asks.node c.asks.hash c.asks.name c.asks.now c.asks.asked d → d.hash ≡ c.asks.hash
-  carries_hash (accepted is same fits met) = same
+  carries_hash : {d : Description} → Carries c d → d.hash ≡ c.caller.hash
+  carries_hash (accepted is same a) = same
   carries_hash (published is) = refl
 
-  carried : {d : Description} → MeetsOrHolds c.asks.meaning c.asks.adjusted c.asks.required c.asks.node c.asks.hash c.asks.name c.asks.now c.asks.asked d → Meets c d ⊎ Holds c d
+  carried : {d : Description} → MeetsOrHolds c d → Meets c d ⊎ Holds c d
   carried (meets same accepts) = inl (record { hash = same; accepted = accepts })
   carried holds = inr refl
 
-  given_either : {w v : World} (word : List Letter) (answer : Result Registered (OpenOrCreateRefusal E C)) → IsAttempted c.asks word answer → Run IsFallibleAccess w word v → Agrees w → IfOk answer (Given ToOpenOrCreate w v)
+  given_either : {w v : World} (word : List Letter) (answer : Result Registered (OpenOrCreateRefusal E C)) → IsOpenOrCreateCall c word answer → Run IsFallibleAccess w word v → Agrees w → IfOk answer (Given ToOpenOrCreate w v)
   given_either word (Err e) is run old = tt
   given_either word (Ok r) is run old =
       let o = open_or_create_stands (granted_call is) run old in
       let carries = granted_carries (granted_call is) in
-      record { stands = o.0; node = carries.0; hash = carries_hash carries.1; carries = λ raises. carried (carries_once raises carries.1); ticket = o.1 }
+      let own = carries_prepared c carries.1 in
+      record { stands = o.0; node = carries.0; hash = carries_hash own; carries = λ raises. carried (carries_once raises own); ticket = o.1 }
 
   pub any_given : (w v : World) (word : List Letter) (answer : Result Registered (ErrorBy E C c.way)) → IsWordOf c word answer → Run IsFallibleAccess w word v → Agrees w → IfOk answer (Given c.way w v)
   any_given w v word answer is = each_word (λ way word answer. Run IsFallibleAccess w word v → Agrees w → IfOk answer (Given way w v))

@@ -1,5 +1,5 @@
 -- What any call changes and leaves.
-use Rattle.std.proofs.Common.{◌≡◌, ℕ, Bool, List, Result, Ok, Err, refl}
+use Rattle.std.proofs.Common.{◌≡◌, List, Result, Ok, Err, refl}
 use Rattle.std.specs.Prelude.{IfOk, IfErr}
 use Rattle.iceoryx2_access.specs.Registered.{Registered}
 use Rattle.iceoryx2_access.specs.Letter.{Letter}
@@ -13,8 +13,8 @@ use Rattle.iceoryx2_create_and_open.proofs.Prepared.{granted_call}
 use Rattle.iceoryx2_create_and_open.proofs.Kept.{refused_create_call_keeps, refused_open_call_keeps}
 use Rattle.iceoryx2_open_or_create.specs.declared.open_or_create.OpenOrCreateRefusal.{OpenOrCreateRefusal}
 use Rattle.iceoryx2_open_or_create.proofs.Left.{refused_call_gives_back}
-use Rattle.iceoryx2_call_laws.specs.Attempts.{IsAttempted}
-use Rattle.iceoryx2_call_laws.specs.AnyCalls.{AnyCall, ErrorBy, Way, ToCreate, ToOpen, ToOpenOrCreate, creating, opening, IsWordOf}
+use Rattle.iceoryx2_open_or_create.specs.CallWords.{IsOpenOrCreateCall, IsWordOf}
+use Rattle.iceoryx2_open_or_create.specs.BuilderCalls.{BuilderCall, ErrorBy, Way, ToCreate, ToOpen, ToOpenOrCreate, creating, opening}
 use Rattle.iceoryx2_call_laws.specs.CallLeaves.{LeavesBy}
 use Rattle.iceoryx2_call_laws.specs.Calls.{AtEach, ActsCalmly, ChangesLast}
 use Rattle.iceoryx2_call_laws.specs.Leaves.{IsGranted, LeavesNothing}
@@ -27,7 +27,7 @@ use Rattle.iceoryx2_call_laws.proofs.calls.Turns.{granted_open_or_create_changes
 use Rattle.iceoryx2_call_laws.proofs.calls.Rounds.{leaves_by_rounds, rounds_give_back}
 use Rattle.iceoryx2_call_laws.proofs.calls.Attempts.{attempt_tickets, refused_attempt_calm}
 
-module _ {D F E C : Type 0} (c : AnyCall D F E C) where
+module _ {D F E C : Type 0} (c : BuilderCall D F E C) where
   -- of the three ways in turn, where the fact speaks of the word of a refused call, or of a granted one, alone
   module _ (P : Way → List Letter → Type 0) where
     refused_of : {X : Type 0} (way : Way) (word : List Letter) (own : Result Registered X) (Is : List Letter → Result Registered X → Type 0) → ((e : X) → Is word (Err e) → P way word) → Is word own → IfErr own (λ e. P way word)
@@ -39,47 +39,47 @@ module _ {D F E C : Type 0} (c : AnyCall D F E C) where
     granted_of way word (Err e) Is f is = tt
 
     each_refused :
-        ((word : List Letter) (e : C) → IsCreateCall (creating c) c.asks.node c.asks.hash c.asks.name c.asks.now word (Err e) → P ToCreate word)
-        → ((word : List Letter) (e : E) → IsOpenCall (opening c) c.asks.node c.asks.hash word (Err e) → P ToOpen word)
-        → ((word : List Letter) (e : OpenOrCreateRefusal E C) → IsAttempted c.asks word (Err e) → P ToOpenOrCreate word)
+        ((word : List Letter) (e : C) → IsCreateCall (creating c) c.caller word (Err e) → P ToCreate word)
+        → ((word : List Letter) (e : E) → IsOpenCall (opening c) c.caller.node c.caller.hash word (Err e) → P ToOpen word)
+        → ((word : List Letter) (e : OpenOrCreateRefusal E C) → IsOpenOrCreateCall c word (Err e) → P ToOpenOrCreate word)
         → (word : List Letter) (answer : Result Registered (ErrorBy E C c.way)) → IsWordOf c word answer → IfErr answer (λ e. P c.way word)
     each_refused creates opens both word answer is = each_word c (λ way word answer. IfErr answer (λ e. P way word))
-        (λ word own is. refused_of ToCreate word own (IsCreateCall (creating c) c.asks.node c.asks.hash c.asks.name c.asks.now) (creates word) is)
-        (λ word own is. refused_of ToOpen word own (IsOpenCall (opening c) c.asks.node c.asks.hash) (opens word) is)
-        (λ word answer is. refused_of ToOpenOrCreate word answer (IsAttempted c.asks) (both word) is) c.way word answer is
+        (λ word own is. refused_of ToCreate word own (IsCreateCall (creating c) c.caller) (creates word) is)
+        (λ word own is. refused_of ToOpen word own (IsOpenCall (opening c) c.caller.node c.caller.hash) (opens word) is)
+        (λ word answer is. refused_of ToOpenOrCreate word answer (IsOpenOrCreateCall c) (both word) is) c.way word answer is
 
     each_granted :
-        ((word : List Letter) (r : Registered) → IsCreateCall (creating c) c.asks.node c.asks.hash c.asks.name c.asks.now word (Ok r) → P ToCreate word)
-        → ((word : List Letter) (r : Registered) → IsOpenCall (opening c) c.asks.node c.asks.hash word (Ok r) → P ToOpen word)
-        → ((word : List Letter) (r : Registered) → IsAttempted c.asks word (Ok r) → P ToOpenOrCreate word)
+        ((word : List Letter) (r : Registered) → IsCreateCall (creating c) c.caller word (Ok r) → P ToCreate word)
+        → ((word : List Letter) (r : Registered) → IsOpenCall (opening c) c.caller.node c.caller.hash word (Ok r) → P ToOpen word)
+        → ((word : List Letter) (r : Registered) → IsOpenOrCreateCall c word (Ok r) → P ToOpenOrCreate word)
         → (word : List Letter) (answer : Result Registered (ErrorBy E C c.way)) → IsWordOf c word answer → IfOk answer (λ r. P c.way word)
     each_granted creates opens both word answer is = each_word c (λ way word answer. IfOk answer (λ r. P way word))
-        (λ word own is. granted_of ToCreate word own (IsCreateCall (creating c) c.asks.node c.asks.hash c.asks.name c.asks.now) (creates word) is)
-        (λ word own is. granted_of ToOpen word own (IsOpenCall (opening c) c.asks.node c.asks.hash) (opens word) is)
-        (λ word answer is. granted_of ToOpenOrCreate word answer (IsAttempted c.asks) (both word) is) c.way word answer is
+        (λ word own is. granted_of ToCreate word own (IsCreateCall (creating c) c.caller) (creates word) is)
+        (λ word own is. granted_of ToOpen word own (IsOpenCall (opening c) c.caller.node c.caller.hash) (opens word) is)
+        (λ word answer is. granted_of ToOpenOrCreate word answer (IsOpenOrCreateCall c) (both word) is) c.way word answer is
 
   pub any_tickets : (w v : World) (word : List Letter) (answer : Result Registered (ErrorBy E C c.way)) → IsWordOf c word answer → Run IsFallibleAccess w word v → v.tickets ≡ tickets_after w.tickets answer
   any_tickets w v word answer is = each_word c (λ way word answer. Run IsFallibleAccess w word v → v.tickets ≡ tickets_after w.tickets answer)
       (λ word own is run. create_call_tickets refl is run)
       (λ word own is run. open_call_tickets is run)
-      (λ word answer is run. attempt_tickets is run) c.way word answer is
+      (λ word answer is run. attempt_tickets c is run) c.way word answer is
 
   pub any_refused : (w : World) → Agrees w → (word : List Letter) (answer : Result Registered (ErrorBy E C c.way)) → IsWordOf c word answer → IfErr answer (λ e. AtEach IsFallibleAccess ActsCalmly w word)
   any_refused w old = each_refused (λ way word. AtEach IsFallibleAccess ActsCalmly w word)
-      (λ word e is. refused_create_call_calm w old is) (λ word e is. refused_open_call_calm w old is) (λ word e is. refused_attempt_calm w old is)
+      (λ word e is. refused_create_call_calm w old is) (λ word e is. refused_open_call_calm w old is) (λ word e is. refused_attempt_calm c w old is)
 
-  pub any_granted : (w : World) → Agrees w → (word : List Letter) (answer : Result Registered (ErrorBy E C c.way)) → IsWordOf c word answer → IfOk answer (λ r. ChangesLast c.asks.node c.asks.hash w word)
-  any_granted w old = each_granted (λ way word. ChangesLast c.asks.node c.asks.hash w word)
+  pub any_granted : (w : World) → Agrees w → (word : List Letter) (answer : Result Registered (ErrorBy E C c.way)) → IsWordOf c word answer → IfOk answer (λ r. ChangesLast c.caller.node c.caller.hash w word)
+  any_granted w old = each_granted (λ way word. ChangesLast c.caller.node c.caller.hash w word)
       (λ word r is. created_changes w (granted_call is) old) (λ word r is. opened_changes w (granted_call is) old) (λ word r is. granted_open_or_create_changes w (granted_call is) old)
 
   pub any_leaves : (w v : World) → Agrees w → (word : List Letter) (answer : Result Registered (ErrorBy E C c.way)) → IsWordOf c word answer → IfErr answer (λ e. Run IsFallibleAccess w word v → LeavesBy c c.way w word v)
   any_leaves w v old = each_refused (λ way word. Run IsFallibleAccess w word v → LeavesBy c way w word v)
-      (λ word e is run. let back = refused_create_call_keeps is in (back, gives_back c.asks.node c.asks.hash back run old))
-      (λ word e is run. let back = refused_open_call_keeps is in leaves_tag c.asks.node c.asks.hash back.0 back.1 run old)
-      (λ word e is run. leaves_by_rounds c.asks.node c.asks.hash (refused_call_gives_back is) run old)
+      (λ word e is run. let back = refused_create_call_keeps is in record { gives_back = back; leaves = gives_back c.caller.node c.caller.hash back run old })
+      (λ word e is run. leaves_tag c.caller.node c.caller.hash (refused_open_call_keeps is) run old)
+      (λ word e is run. leaves_by_rounds c.caller.node c.caller.hash (refused_call_gives_back c is) run old)
 
-  pub any_gives_back : (w v : World) → Agrees w → (word : List Letter) (answer : Result Registered (ErrorBy E C c.way)) → IsWordOf c word answer → IfErr answer (λ e. Run IsAccess w word v → Each IsGranted word × LeavesNothing c.asks.node c.asks.hash word w v)
-  any_gives_back w v old = each_refused (λ way word. Run IsAccess w word v → Each IsGranted word × LeavesNothing c.asks.node c.asks.hash word w v)
-      (λ word e is run. gives_all_back c.asks.node c.asks.hash (refused_create_call_keeps is) run old)
-      (λ word e is run. let back = refused_open_call_keeps is in gives_all_back c.asks.node c.asks.hash (only_tag back.0 back.1) run old)
-      (λ word e is run. rounds_give_back c.asks.node c.asks.hash (refused_call_gives_back is) run old)
+  pub any_gives_back : (w v : World) → Agrees w → (word : List Letter) (answer : Result Registered (ErrorBy E C c.way)) → IsWordOf c word answer → IfErr answer (λ e. Run IsAccess w word v → Each IsGranted word × LeavesNothing c.caller.node c.caller.hash word w v)
+  any_gives_back w v old = each_refused (λ way word. Run IsAccess w word v → Each IsGranted word × LeavesNothing c.caller.node c.caller.hash word w v)
+      (λ word e is run. gives_all_back c.caller.node c.caller.hash (refused_create_call_keeps is) run old)
+      (λ word e is run. gives_all_back c.caller.node c.caller.hash (only_tag (refused_open_call_keeps is)) run old)
+      (λ word e is run. rounds_give_back c.caller.node c.caller.hash (refused_call_gives_back c is) run old)

@@ -18,7 +18,9 @@ use Rattle.iceoryx2_world.specs.Standing.{Spares, Stands}
 use Rattle.iceoryx2_world.proofs.agreement.Accesses.{faulty_keeps, run_keeps}
 use Rattle.iceoryx2_world.proofs.agreement.Stands.{faulty_stands, older_ticket}
 use Rattle.iceoryx2_call_laws.specs.Calls.{Throughout}
-use Rattle.iceoryx2_call_laws.specs.AnyCalls.{AnyCall, ErrorBy, IsWordOf, MayCarryBy}
+use Rattle.iceoryx2_open_or_create.specs.BuilderCalls.{BuilderCall, ErrorBy}
+use Rattle.iceoryx2_open_or_create.specs.CallWords.{IsWordOf}
+use Rattle.iceoryx2_call_laws.specs.AnyCalls.{MayCarryBy}
 use Rattle.iceoryx2_call_laws.specs.Headline.{IsOpen, IsOpenAsAsked, IsOpenSince, IsGiven, IsAsPromised, answered, spared}
 use Rattle.iceoryx2_call_laws.proofs.calls.Words.{throughout, throughout_map, all_spared}
 use Rattle.iceoryx2_call_laws.proofs.calls.Standing.{stands_among, one_service}
@@ -39,7 +41,7 @@ module _ {S : Type 0} (step : S → Letter → S → Type 0) (world : S → Worl
   along P s [] p = p
   along P s (l ∷ word) p = (p.0, λ u a. along P u word (p.1 (world u) (of_world s u l a)))
 
-  module _ {D F E C : Type 0} (c : AnyCall D F E C) where
+  module _ {D F E C : Type 0} (c : BuilderCall D F E C) where
     gives : (s t : S) (answer : Result Registered (ErrorBy E C c.way)) → Agrees (world s) → Agrees (world t) → IfOk answer (Given c c.way (world s) (world t)) → IfOk answer (IsGiven step world c s t)
     gives s t (Err e) old new g = tt
     gives s t (Ok r) old new g = record {
@@ -63,12 +65,12 @@ module _ {S : Type 0} (step : S → Letter → S → Type 0) (world : S → Worl
         }
 
 -- Every open factory stands.
-module _ {S : Type 0} (step : S → Letter → S → Type 0) (world : S → World) (of_world : (s t : S) (l : Letter) → step s l t → IsFallibleAccess (world s) l (world t)) {D F E C : Type 0} (c : AnyCall D F E C) where
+module _ {S : Type 0} (step : S → Letter → S → Type 0) (world : S → World) (of_world : (s t : S) (l : Letter) → step s l t → IsFallibleAccess (world s) l (world t)) {D F E C : Type 0} (c : BuilderCall D F E C) where
   record StillOpen (f : Registered) (s : S) : Type 0 where
     pub agrees : Agrees (world s)
     pub stands : Stands (world s) f
-    pub node : f.node ≡ c.asks.node
-    pub hash : f.description.hash ≡ c.asks.hash
+    pub node : f.node ≡ c.caller.node
+    pub hash : f.description.hash ≡ c.caller.hash
     pub carries : MayCarryBy c c.way f.description
 
   still_open : {f : Registered} {s : S} → IsOpenSince step world c f s → StillOpen f s

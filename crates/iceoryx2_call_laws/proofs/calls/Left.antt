@@ -38,7 +38,8 @@ use Rattle.iceoryx2_world.proofs.agreement.Granted.{peers_phase, tag_granted, se
 use Rattle.iceoryx2_world.proofs.agreement.Spent.{world_segment, spent_own, spent_peers}
 use Rattle.iceoryx2_world.proofs.agreement.Stands.{own_row, own_phase, own_segment}
 use Rattle.iceoryx2_create_and_open.specs.TracksOwned as keeps
-use Rattle.iceoryx2_create_and_open.specs.TracksOwned.{OwnedTag, OwnsNoTag, OwnsTag, OwnedLock, NoLock, Locked, WithSegment, GivenBack, HasService, IsUnlocked, MakesNothing, TracksOwned, GivesAllBack}
+use Rattle.iceoryx2_create_and_open.specs.TracksOwned.{OwnedTag, OwnsNoTag, OwnsTag, OwnedLock, NoLock, Locked, WithSegment, GivenBack, HasService, IsUnlocked, MakesNothing, TracksOwned, GivesAllBack, GivesTagBack}
+use Rattle.iceoryx2_call_laws.specs.CallLeaves.{LeavesAtMostTag}
 use Rattle.iceoryx2_call_laws.specs.Leaves.{IsGranted, HasAtMostRead, LacksRow, LacksSegment, NodeHasRead, Leaves, LeavesOfLock, LeavesNothing, StaysAway, SpendsNumber, tags_after}
 use Rattle.iceoryx2_call_laws.proofs.calls.Plain.{IsPlain, Untouched, plain_untouched, read_both, step_tags, row_stays_away}
 
@@ -447,13 +448,12 @@ module _ (node : ℕ) (hash : ServiceHash) where
   stays_away {w = w} {v = v} g run old = away g.lock v g.is_unlocked (kept_run g.keeps g.is_unlocked run old (begin_kept w)).holds
 
 -- a word that leaves at most a tag
-abbrev pub only_tag : {node : ℕ} {hash : ServiceHash} {word : List Letter} (is_left : Bool) → TracksOwned node hash (OwnsNoTag false) NoLock word (OwnsNoTag is_left) NoLock → GivesAllBack node hash word
-only_tag is_left p = record { is_tag_left = is_left; lock = NoLock; is_unlocked = tt; keeps = p }
+abbrev pub only_tag : {node : ℕ} {hash : ServiceHash} {word : List Letter} → GivesTagBack node hash word → GivesAllBack node hash word
+only_tag g = record { is_tag_left = g.is_tag_left; lock = NoLock; is_unlocked = tt; keeps = g.tracks }
 
 -- and so it is in the world
-pub leaves_tag : (node : ℕ) (hash : ServiceHash) {word : List Letter} {w v : World} (is_left : Bool) → TracksOwned node hash (OwnsNoTag false) NoLock word (OwnsNoTag is_left) NoLock → Run IsFallibleAccess w word v → Agrees w
-    → (l : Bool) × TracksOwned node hash (OwnsNoTag false) NoLock word (OwnsNoTag l) NoLock × Leaves node hash l NoLock w v
-leaves_tag node hash is_left p run old = (is_left, p, gives_back node hash (only_tag is_left p) run old)
+pub leaves_tag : (node : ℕ) (hash : ServiceHash) {word : List Letter} {w v : World} → GivesTagBack node hash word → Run IsFallibleAccess w word v → Agrees w → LeavesAtMostTag node hash w word v
+leaves_tag node hash g run old = record { gives_back = g; leaves = gives_back node hash (only_tag g) run old }
 
 -- Where nothing is refused by a fault, each removal of such a word is granted.
 may_clear : (x : Phase) (n : ℕ) → locked_number x ≡ Some n → MayClear x

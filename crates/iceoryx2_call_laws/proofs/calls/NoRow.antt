@@ -39,6 +39,7 @@ use Rattle.iceoryx2_create_and_open.specs.Segments.{IsSegmentWord, clearings}
 use Rattle.iceoryx2_create_and_open.specs.Segments as segment
 use Rattle.iceoryx2_create_and_open.specs.Creates.{IsEntryWord, IsServiceWord, IsCreating, IsCreateWord, clock_stops, description_of, time_of}
 use Rattle.iceoryx2_create_and_open.specs.Creates as create
+use Rattle.iceoryx2_call_laws.proofs.calls.Callers.{called}
 use Rattle.iceoryx2_call_laws.specs.OverNoRow.{AnswersOverNoRow, made, forbidden, no_time, no_number, no_memory}
 use Rattle.iceoryx2_call_laws.proofs.quiet.NodeViews.{AtNode, move_all}
 use Rattle.iceoryx2_call_laws.proofs.quiet.Here.{create_here}
@@ -96,13 +97,13 @@ module _ (i : ℕ) (h : ServiceHash) where
 
 module _ {F E C : Type 0} (m : Meaning F E C) (i : ℕ) (h : ServiceHash) (name : List ℕ) (now : Result Span ClockFault) (x : Phase) (s : Option Segment) (c : ℕ) (k : Tickets) (b : begins x ≡ true) where
   abbrev d : Description
-  d = description_of m i h name now
+  d = description_of m (called i h name now)
 
   abbrev stops : Bool
   stops = clock_stops m.needs_clock now
 
   abbrev Answers : Result Registered C → Type 0
-  Answers a = AnswersOverNoRow m i h name now c a
+  Answers a = AnswersOverNoRow m (called i h name now) c a
 
   answers : {e : CreateRefusal} → e ≡ refusal.OutOfMemory → Answers (Err (m.create_refusal e))
   answers is = subst (λ z. Answers (Err (m.create_refusal z))) (sym is) no_memory
@@ -180,7 +181,7 @@ module _ {F E C : Type 0} (m : Meaning F E C) (i : ℕ) (h : ServiceHash) (name 
           | inr y ↦ absurd (grind (arith, y.0))
         ]
 
-    answering : (g : Bool) {a : Result Registered C} {w : List Letter} {t : NodeView} → IsCreateWord m i h name now w a → Run (AtNode i h) (over x s c g k) w t → Answers a
+    answering : (g : Bool) {a : Result Registered C} {w : List Letter} {t : NodeView} → IsCreateWord m (called i h name now) w a → Run (AtNode i h) (over x s c g k) w t → Answers a
     answering g (create.forbidden bad) r = forbidden bad
     answering g (create.not_entered fits e) r = subst (λ z. Answers (Err z)) (sym (entry_refused (entry g e r))) no_memory
     answering g (create.clock_fault fits stopped e back) r = no_time fits stopped
@@ -190,7 +191,7 @@ module _ {F E C : Type 0} (m : Meaning F E C) (i : ℕ) (h : ServiceHash) (name 
 
 module _ {F E C : Type 0} (m : Meaning F E C) (i : ℕ) (h : ServiceHash) (name : List ℕ) (now : Result Span ClockFault) where
   -- In the world.
-  pub create_over_no_row : {word : List Letter} {answer : Result Registered C} {w v : World} → 0 < max_nodes_of (m.published (time_of now)) → Agrees w → row_of w h ≡ None → IsCreateWord m i h name now word answer → Run IsOwnPart w word v → AnswersOverNoRow m i h name now w.counter answer
+  pub create_over_no_row : {word : List Letter} {answer : Result Registered C} {w v : World} → 0 < max_nodes_of (m.published (time_of now)) → Agrees w → row_of w h ≡ None → IsCreateWord m (called i h name now) word answer → Run IsOwnPart w word v → AnswersOverNoRow m (called i h name now) w.counter answer
   create_over_no_row {w = w} room old gone is run =
       let all = move_all i h (create_here is) run in
       let b = begins_without w.counter h (row_of w h) (segment_of w h) (λ p. phase_of w p h) (old.everywhere h) gone (Node i) (phase_of w (Node i) h) refl in

@@ -16,6 +16,7 @@ use Rattle.iceoryx2_pattern.specs.Meaning.{Meaning}
 use Rattle.iceoryx2_create_and_open.specs.Creates.{IsCreating, time_of}
 use Rattle.iceoryx2_create_and_open.specs.Prepared.{IsPrepared, IsCreateCall, IsOpenCall}
 use Rattle.iceoryx2_create_and_open.proofs.Prepared.{each_call, refused_call}
+use Rattle.iceoryx2_call_laws.proofs.calls.Callers.{called}
 use Rattle.iceoryx2_call_laws.specs.Calls.{AtEach, ActsCalmly}
 use Rattle.iceoryx2_call_laws.specs.OverNoRow.{AnswersOverNoRow, no_memory}
 use Rattle.iceoryx2_call_laws.specs.Tickets.{tickets_after}
@@ -40,8 +41,8 @@ module _ {F E C : Type 0} {m : Meaning F E C} {node : ℕ} {hash : ServiceHash} 
     refused_create_call_calm w old = refused_call (AtEach IsFallibleAccess ActsCalmly w) tt (λ word error is. refused_create_calm w is old)
 
   module _ (name : List ℕ) (now : Result Span ClockFault) where
-    pub create_call_over_no_row : {word : List Letter} {answer : Result Registered C} {w v : World} → 0 < max_nodes_of (m.published (time_of now)) → Agrees w → row_of w hash ≡ None → IsCreateCall m node hash name now word answer → Run IsOwnPart w word v → AnswersOverNoRow m node hash name now w.counter answer
-    create_call_over_no_row {w = w} {v = v} room old gone = each_call (λ word answer. Run IsOwnPart w word v → AnswersOverNoRow m node hash name now w.counter answer) (λ run. no_memory) (λ word answer is run. create_over_no_row m node hash name now room old gone is run)
+    pub create_call_over_no_row : {word : List Letter} {answer : Result Registered C} {w v : World} → 0 < max_nodes_of (m.published (time_of now)) → Agrees w → row_of w hash ≡ None → IsCreateCall m (called node hash name now) word answer → Run IsOwnPart w word v → AnswersOverNoRow m (called node hash name now) w.counter answer
+    create_call_over_no_row {w = w} {v = v} room old gone = each_call (λ word answer. Run IsOwnPart w word v → AnswersOverNoRow m (called node hash name now) w.counter answer) (λ run. no_memory) (λ word answer is run. create_over_no_row m node hash name now room old gone is run)
 
   pub open_call_letters : {word : List Letter} {answer : Result Registered E} → IsOpenCall m node hash word answer → Each IsNoRelease word
   open_call_letters = each_call (λ word answer. Each IsNoRelease word) tt (λ word answer is. open_letters is)

@@ -1,10 +1,6 @@
 -- What is so of the rounds of an open or create, and of a whole one.
 use Rattle.std.proofs.Common.{◌≡◌, ℕ, ◌≤◌, false, List, ◌++◌, Result, Ok, Err, refl, ap, ◌∙◌, arith}
 use Rattle.std.specs.FinMap as map
-use Rattle.iceoryx2_attribute.specs.Requirements.{Requirements}
-use Rattle.iceoryx2_description.specs.declared.description.ServiceHash.{ServiceHash}
-use Rattle.iceoryx2_description.specs.declared.time.ClockFault.{ClockFault}
-use Rattle.iceoryx2_description.specs.Span.{Span}
 use Rattle.iceoryx2_access.specs.Registered.{Registered}
 use Rattle.iceoryx2_access.specs.Letter.{Letter}
 use Rattle.iceoryx2_access.specs.Run.{Run, Each}
@@ -16,9 +12,8 @@ use Rattle.iceoryx2_world.specs.Standing.{Stands, ticket_for}
 use Rattle.iceoryx2_world.proofs.agreement.Accesses.{run_keeps}
 use Rattle.iceoryx2_world.proofs.agreement.Calm.{Tame, ends, tame_both}
 use Rattle.iceoryx2_world.proofs.agreement.Stands.{each_append}
-use Rattle.iceoryx2_pattern.specs.Meaning.{Meaning}
-use Rattle.iceoryx2_open_or_create.specs.Retried.{Retried}
 use Rattle.iceoryx2_open_or_create.specs.declared.open_or_create.OpenOrCreateRefusal.{OpenOrCreateRefusal}
+use Rattle.iceoryx2_open_or_create.specs.BuilderCalls.{BuilderCall}
 use Rattle.iceoryx2_open_or_create.specs.OpenOrCreates.{IsRetriedTurn, open_retried, create_retried, IsLastTurn, look_faulty, not_opened, opened, not_created, created, AreRetriedTurns, no_turn, one_more, IsOpenOrCreateWord, ended, in_flux}
 use Rattle.iceoryx2_call_laws.specs.Calls.{AtEach, ActsCalmly, ChangesLast}
 use Rattle.iceoryx2_call_laws.specs.Tickets.{tickets_after}
@@ -28,95 +23,88 @@ use Rattle.iceoryx2_call_laws.proofs.calls.Created.{create_stands}
 use Rattle.iceoryx2_call_laws.proofs.calls.Opened.{open_stands}
 use Rattle.iceoryx2_call_laws.proofs.calls.Tickets.{tame_tickets, create_tickets, open_tickets}
 
-module _ {D F E C : Type 0} {meaning : D → Meaning F E C} {adjusted : D → D} {retried : Retried E C} {required : Requirements} {node : ℕ} {hash : ServiceHash} {name : List ℕ} {now : Result Span ClockFault} where
-  -- ---- none releases a ticket
-
-  retried_letters : {asked next : D} {w : List Letter} → IsRetriedTurn meaning adjusted retried required node hash name now asked w next → Each IsNoRelease w
+-- of one round
+module _ {D F E C : Type 0} {c : BuilderCall D F E C} where
+  retried_letters : {next : D} {w : List Letter} → IsRetriedTurn c w next → Each IsNoRelease w
   retried_letters (open_retried {u} l o _) = each_append IsNoRelease u _ (look_letters l) (open_letters o)
-  retried_letters (create_retried {u} l c _) = each_append IsNoRelease u _ (look_letters l) (create_letters c)
+  retried_letters (create_retried {u} l m _) = each_append IsNoRelease u _ (look_letters l) (create_letters m)
 
-  turns_letters : {first asked : D} {k : ℕ} {w : List Letter} → AreRetriedTurns meaning adjusted retried required node hash name now first k w asked → Each IsNoRelease w
-  turns_letters no_turn = tt
-  turns_letters (one_more {u} before t) = each_append IsNoRelease u _ (turns_letters before) (retried_letters t)
-
-  last_letters : {asked : D} {w : List Letter} {r : Result Registered (OpenOrCreateRefusal E C)} → IsLastTurn meaning adjusted retried required node hash name now asked w r → Each IsNoRelease w
+  last_letters : {w : List Letter} {r : Result Registered (OpenOrCreateRefusal E C)} → IsLastTurn c w r → Each IsNoRelease w
   last_letters (look_faulty l) = look_letters l
   last_letters (not_opened {u} l o _) = each_append IsNoRelease u _ (look_letters l) (open_letters o)
   last_letters (opened {u} l o) = each_append IsNoRelease u _ (look_letters l) (open_letters o)
-  last_letters (not_created {u} l c _) = each_append IsNoRelease u _ (look_letters l) (create_letters c)
-  last_letters (created {u} l c) = each_append IsNoRelease u _ (look_letters l) (create_letters c)
+  last_letters (not_created {u} l m _) = each_append IsNoRelease u _ (look_letters l) (create_letters m)
+  last_letters (created {u} l m) = each_append IsNoRelease u _ (look_letters l) (create_letters m)
 
-  pub open_or_create_letters : {first : D} {w : List Letter} {r : Result Registered (OpenOrCreateRefusal E C)} → IsOpenOrCreateWord meaning adjusted retried required node hash name now first w r → Each IsNoRelease w
-  open_or_create_letters (ended {u} small before t) = each_append IsNoRelease u _ (turns_letters before) (last_letters t)
-  open_or_create_letters (in_flux before) = turns_letters before
-
-  -- ---- a refused one changes nothing
-
-  retried_tame : {asked next : D} {w : List Letter} → IsRetriedTurn meaning adjusted retried required node hash name now asked w next → Tame node hash false w false
+  retried_tame : {next : D} {w : List Letter} → IsRetriedTurn c w next → Tame c.caller.node c.caller.hash false w false
   retried_tame (open_retried l o _) = tame_both (look_tame l) (open_tame o)
-  retried_tame (create_retried l c _) = tame_both (look_tame l) (create_tame c)
+  retried_tame (create_retried l m _) = tame_both (look_tame l) (create_tame m)
 
-  turns_tame : {first asked : D} {k : ℕ} {w : List Letter} → AreRetriedTurns meaning adjusted retried required node hash name now first k w asked → Tame node hash false w false
-  turns_tame no_turn = ends
-  turns_tame (one_more before t) = tame_both (turns_tame before) (retried_tame t)
-
-  last_tame : {asked : D} {w : List Letter} {refusal : OpenOrCreateRefusal E C} → IsLastTurn meaning adjusted retried required node hash name now asked w (Err refusal) → Tame node hash false w false
+  last_tame : {w : List Letter} {refusal : OpenOrCreateRefusal E C} → IsLastTurn c w (Err refusal) → Tame c.caller.node c.caller.hash false w false
   last_tame (look_faulty l) = look_tame l
   last_tame (not_opened l o _) = tame_both (look_tame l) (open_tame o)
-  last_tame (not_created l c _) = tame_both (look_tame l) (create_tame c)
+  last_tame (not_created l m _) = tame_both (look_tame l) (create_tame m)
 
-  open_or_create_tame : {first : D} {w : List Letter} {refusal : OpenOrCreateRefusal E C} → IsOpenOrCreateWord meaning adjusted retried required node hash name now first w (Err refusal) → Tame node hash false w false
-  open_or_create_tame (ended small before t) = tame_both (turns_tame before) (last_tame t)
-  open_or_create_tame (in_flux before) = turns_tame before
-
-  pub refused_open_or_create_calm : {first : D} {word : List Letter} {refusal : OpenOrCreateRefusal E C} (w : World) → IsOpenOrCreateWord meaning adjusted retried required node hash name now first word (Err refusal) → Agrees w → AtEach IsFallibleAccess ActsCalmly w word
-  refused_open_or_create_calm w is old = calm_at_each w (open_or_create_tame is) tt old
-
-  -- ---- a granted one changes something in its last access
-
-  turn_changes : {asked : D} {x y : List Letter} {r : Registered} (w : World) → Tame node hash false x false → IsLastTurn meaning adjusted retried required node hash name now asked y (Ok r) → Agrees w → ChangesLast node hash w (x ++ y)
+  turn_changes : {x y : List Letter} {r : Registered} (w : World) → Tame c.caller.node c.caller.hash false x false → IsLastTurn c y (Ok r) → Agrees w → ChangesLast c.caller.node c.caller.hash w (x ++ y)
   turn_changes {x} w before (opened {u} {v} l o) old = opens_after x u v w (tame_both before (look_tame l)) o old
-  turn_changes {x} w before (created {u} {v} l c) old = creates_after x u v w (tame_both before (look_tame l)) c old
+  turn_changes {x} w before (created {u} {v} l m) old = creates_after x u v w (tame_both before (look_tame l)) m old
 
-  pub granted_open_or_create_changes : {first : D} {word : List Letter} {r : Registered} (w : World) → IsOpenOrCreateWord meaning adjusted retried required node hash name now first word (Ok r) → Agrees w → ChangesLast node hash w word
-  granted_open_or_create_changes w (ended small before t) old = turn_changes w (turns_tame before) t old
-
-  -- ---- its factory stands
-
-  turn_stands : {asked : D} {word : List Letter} {r : Registered} {w v : World} → IsLastTurn meaning adjusted retried required node hash name now asked word (Ok r) → Run IsFallibleAccess w word v → Agrees w → Stands v r × (w.counter ≤ r.ticket)
+  turn_stands : {word : List Letter} {r : Registered} {w v : World} → IsLastTurn c word (Ok r) → Run IsFallibleAccess w word v → Agrees w → Stands v r × (w.counter ≤ r.ticket)
   turn_stands (opened {u = x} {v = y} l o) run old =
       let parts = split x y run in
       let looked = run_keeps parts.first old in
       let new = open_stands o parts.second looked.0 in
       (new.stands, grind (arith, looked.1.counter, new.new_ticket))
-  turn_stands (created {u = x} {v = y} l c) run old =
+  turn_stands (created {u = x} {v = y} l m) run old =
       let parts = split x y run in
       let looked = run_keeps parts.first old in
-      let new = create_stands c parts.second looked.0 in
+      let new = create_stands m parts.second looked.0 in
       (new.0, grind (arith, looked.1.counter, new.3))
 
-  pub open_or_create_stands : {first : D} {word : List Letter} {r : Registered} {w v : World} → IsOpenOrCreateWord meaning adjusted retried required node hash name now first word (Ok r) → Run IsFallibleAccess w word v → Agrees w → Stands v r × (w.counter ≤ r.ticket)
+  turn_tickets : {word : List Letter} {r : Registered} {w v : World} → IsLastTurn c word (Ok r) → Run IsFallibleAccess w word v → v.tickets ≡ map.insert w.tickets r.ticket (ticket_for r)
+  turn_tickets {r} (opened {u = x} {v = y} l o) run =
+      let parts = split x y run in
+      open_tickets (Ok r) o parts.second ∙ ap (λ k. map.insert k r.ticket (ticket_for r)) (tame_tickets {b = false} (look_tame l) parts.first)
+  turn_tickets {r} (created {u = x} {v = y} l m) run =
+      let parts = split x y run in
+      create_tickets (Ok r) refl m parts.second ∙ ap (λ k. map.insert k r.ticket (ticket_for r)) (tame_tickets {b = false} (look_tame l) parts.first)
+
+-- and of all
+module _ {D F E C : Type 0} {c : BuilderCall D F E C} where
+  turns_letters : {asked : D} {k : ℕ} {w : List Letter} → AreRetriedTurns c k w asked → Each IsNoRelease w
+  turns_letters no_turn = tt
+  turns_letters (one_more {u} before t) = each_append IsNoRelease u _ (turns_letters before) (retried_letters t)
+
+  pub open_or_create_letters : {w : List Letter} {r : Result Registered (OpenOrCreateRefusal E C)} → IsOpenOrCreateWord c w r → Each IsNoRelease w
+  open_or_create_letters (ended {u} small before t) = each_append IsNoRelease u _ (turns_letters before) (last_letters t)
+  open_or_create_letters (in_flux before) = turns_letters before
+
+  turns_tame : {asked : D} {k : ℕ} {w : List Letter} → AreRetriedTurns c k w asked → Tame c.caller.node c.caller.hash false w false
+  turns_tame no_turn = ends
+  turns_tame (one_more before t) = tame_both (turns_tame before) (retried_tame t)
+
+  open_or_create_tame : {w : List Letter} {refusal : OpenOrCreateRefusal E C} → IsOpenOrCreateWord c w (Err refusal) → Tame c.caller.node c.caller.hash false w false
+  open_or_create_tame (ended small before t) = tame_both (turns_tame before) (last_tame t)
+  open_or_create_tame (in_flux before) = turns_tame before
+
+  pub refused_open_or_create_calm : {word : List Letter} {refusal : OpenOrCreateRefusal E C} (w : World) → IsOpenOrCreateWord c word (Err refusal) → Agrees w → AtEach IsFallibleAccess ActsCalmly w word
+  refused_open_or_create_calm w is old = calm_at_each w (open_or_create_tame is) tt old
+
+  pub granted_open_or_create_changes : {word : List Letter} {r : Registered} (w : World) → IsOpenOrCreateWord c word (Ok r) → Agrees w → ChangesLast c.caller.node c.caller.hash w word
+  granted_open_or_create_changes w (ended small before t) old = turn_changes w (turns_tame before) t old
+
+  pub open_or_create_stands : {word : List Letter} {r : Registered} {w v : World} → IsOpenOrCreateWord c word (Ok r) → Run IsFallibleAccess w word v → Agrees w → Stands v r × (w.counter ≤ r.ticket)
   open_or_create_stands (ended {u = x} {v = y} small before t) run old =
       let parts = split x y run in
       let turns = run_keeps parts.first old in
       let new = turn_stands t parts.second turns.0 in
       (new.0, grind (arith, turns.1.counter, new.1))
 
-  -- ---- the tickets after it
-
-  turn_tickets : {asked : D} {word : List Letter} {r : Registered} {w v : World} → IsLastTurn meaning adjusted retried required node hash name now asked word (Ok r) → Run IsFallibleAccess w word v → v.tickets ≡ map.insert w.tickets r.ticket (ticket_for r)
-  turn_tickets {r} (opened {u = x} {v = y} l o) run =
-      let parts = split x y run in
-      open_tickets (Ok r) o parts.second ∙ ap (λ k. map.insert k r.ticket (ticket_for r)) (tame_tickets {b = false} (look_tame l) parts.first)
-  turn_tickets {r} (created {u = x} {v = y} l c) run =
-      let parts = split x y run in
-      create_tickets (Ok r) refl c parts.second ∙ ap (λ k. map.insert k r.ticket (ticket_for r)) (tame_tickets {b = false} (look_tame l) parts.first)
-
-  granted_tickets : {first : D} {word : List Letter} {r : Registered} {w v : World} → IsOpenOrCreateWord meaning adjusted retried required node hash name now first word (Ok r) → Run IsFallibleAccess w word v → v.tickets ≡ map.insert w.tickets r.ticket (ticket_for r)
+  granted_tickets : {word : List Letter} {r : Registered} {w v : World} → IsOpenOrCreateWord c word (Ok r) → Run IsFallibleAccess w word v → v.tickets ≡ map.insert w.tickets r.ticket (ticket_for r)
   granted_tickets {r} (ended {u = x} {v = y} small before t) run =
       let parts = split x y run in
       turn_tickets t parts.second ∙ ap (λ k. map.insert k r.ticket (ticket_for r)) (tame_tickets (turns_tame before) parts.first)
 
-  pub open_or_create_tickets : {first : D} {word : List Letter} (answer : Result Registered (OpenOrCreateRefusal E C)) {w v : World} → IsOpenOrCreateWord meaning adjusted retried required node hash name now first word answer → Run IsFallibleAccess w word v → v.tickets ≡ tickets_after w.tickets answer
+  pub open_or_create_tickets : {word : List Letter} (answer : Result Registered (OpenOrCreateRefusal E C)) {w v : World} → IsOpenOrCreateWord c word answer → Run IsFallibleAccess w word v → v.tickets ≡ tickets_after w.tickets answer
   open_or_create_tickets (Ok r) is run = granted_tickets is run
   open_or_create_tickets (Err e) is run = tame_tickets (open_or_create_tame is) run

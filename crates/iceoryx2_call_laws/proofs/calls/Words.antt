@@ -19,7 +19,7 @@ use Rattle.iceoryx2_create_and_open.specs.declared.look.Outcome.{Outcome}
 use Rattle.iceoryx2_pattern.specs.declared.pattern.CreateRefusal.{CreateRefusal}
 use Rattle.iceoryx2_errors.specs.declared.error.CloseError.{CloseError}
 use Rattle.iceoryx2_errors.specs.declared.error.CloseError.TheVariants.{NotHere}
-use Rattle.iceoryx2_create_and_open.specs.Counts.{IsWithin}
+use Rattle.iceoryx2_create_and_open.specs.Counts.{IsWithin, close_limits}
 use Rattle.iceoryx2_pattern.specs.Meaning.{Meaning}
 use Rattle.iceoryx2_create_and_open.specs.Looks.{IsLookWord, absent, broken, fetched}
 use Rattle.iceoryx2_create_and_open.specs.GivesBack.{MadeByCall, GivesBack, nothing_left, segment_back, lock_back, tag_back}
@@ -157,7 +157,7 @@ pub not_here_means : {r s : Registered} {word : List Letter} → IsCloseWord r w
 not_here_means {s} is = not_here_by s refl is
 
 -- A close is short.
-pub close_within : {r : Registered} {word : List Letter} {answer : Result (Unit {0}) (CloseError Registered)} → IsCloseWord r word answer → IsWithin word 0 0 0 1
+pub close_within : {r : Registered} {word : List Letter} {answer : Result (Unit {0}) (CloseError Registered)} → IsCloseWord r word answer → IsWithin word close_limits
 close_within not_here = record { few_looks = omega arith; few_openings = omega arith; few_makings = omega arith; few_removals = omega arith }
 close_within still_counted = record { few_looks = omega arith; few_openings = omega arith; few_makings = omega arith; few_removals = omega arith }
 close_within (left tag) = record { few_looks = omega arith; few_openings = omega arith; few_makings = omega arith; few_removals = omega arith }

@@ -18,6 +18,7 @@ use Rattle.iceoryx2_pattern.specs.declared.pattern.OpenRefusal.TheVariants as re
 use Rattle.iceoryx2_pattern.specs.Meaning.{Meaning}
 use Rattle.iceoryx2_pattern.specs.Verdict.{verdict}
 use Rattle.iceoryx2_access.specs.Registered.{Registered}
+use Rattle.iceoryx2_call_laws.proofs.calls.Callers.{called}
 use Rattle.iceoryx2_call_laws.specs.Quiet.{QuietService, Quiet, ShowsService, Shows, service_at, times_counted, is_counted}
 use Rattle.iceoryx2_call_laws.specs.QuietCalls.{Creates, Opens, Closes, closed, HasPlace, HasNumber, first_counts, created_by, opened_by, closed_by, more_counts, fewer_counts, with_service, spend}
 use Rattle.iceoryx2_call_laws.specs.QuietCalls as call
@@ -31,7 +32,7 @@ use Rattle.iceoryx2_call_laws.proofs.quiet.Prepared.{refused_prepared}
 
 module _ {F E C : Type 0} (m : Meaning F E C) (i : ℕ) (h : ServiceHash) where
   -- a refused call keeps the services
-  pub create_refused : (name : List ℕ) (now : Result Span ClockFault) (q p : Quiet) (e : C) → Creates m q i h name now (Err e) p → p.services ≡ q.services
+  pub create_refused : (name : List ℕ) (now : Result Span ClockFault) (q p : Quiet) (e : C) → Creates m q (called i h name now) (Err e) p → p.services ≡ q.services
   create_refused name now q p e (call.forbidden bad) = refl
   create_refused name now q p e (call.exists x fits there) = refl
   create_refused name now q p e (call.no_time fits gone stops) = refl
@@ -46,12 +47,6 @@ module _ {F E C : Type 0} (m : Meaning F E C) (i : ℕ) (h : ServiceHash) where
   open_refused q p e (call.no_place x there good fits none) = refl
   open_refused q p e (call.no_number x there good fits place end) = refl
   open_refused q p e (call.no_memory x there) = refl
-
-  pub refused_create : (name : List ℕ) (now : Result Span ClockFault) (w v : World) (q p : Quiet) (e : C) → Shows w q → Shows v p → CreatesPrepared m q i h name now (Err e) p → HoldsTheSame w v
-  refused_create name now w v q p e s t c = holds_the_same w v q p s t (refused_prepared (λ p. p.services ≡ q.services) refl (λ e p is. create_refused name now q p e is) c)
-
-  pub refused_open : (w v : World) (q p : Quiet) (e : E) → Shows w q → Shows v p → OpensPrepared m q i h (Err e) p → HoldsTheSame w v
-  refused_open w v q p e s t c = holds_the_same w v q p s t (refused_prepared (λ p. p.services ≡ q.services) refl (λ e p is. open_refused q p e is) c)
 
 -- the one node of a new service has closed it
 closed_again : (i : ℕ) (d : Description) (n : ℕ) → closed_by i 1 (created_by i d n) ≡ None
@@ -78,7 +73,7 @@ close_of_new q i h d z gone (closed x k there counted) =
 
 module _ {F E C : Type 0} (m : Meaning F E C) (i : ℕ) (h : ServiceHash) where
   -- A create and then the close of its factory leave nothing of the service, and one number is spent.
-  pub create_and_close : (name : List ℕ) (now : Result Span ClockFault) (w v : World) (q p z : Quiet) (r : Registered) → Shows w q → Shows v z → Creates m q i h name now (Ok r) p → Closes p r.node r.description.hash z → HasNothingAt v h × HoldsTheSame w v × (v.counter ≡ w.counter + 1)
+  pub create_and_close : (name : List ℕ) (now : Result Span ClockFault) (w v : World) (q p z : Quiet) (r : Registered) → Shows w q → Shows v z → Creates m q (called i h name now) (Ok r) p → Closes p r.node r.description.hash z → HasNothingAt v h × HoldsTheSame w v × (v.counter ≡ w.counter + 1)
   create_and_close name now w v q p z r s t (call.created fits gone runs room) c =
       let back = close_of_new q i h r.description z gone c in
       (nothing_at v z h t (ap (λ k. map.get k h) back.1 ∙ gone), holds_the_same w v q z s t back.1, t.counter ∙ back.0 ∙ ap (λ n. n + 1) (sym s.counter))

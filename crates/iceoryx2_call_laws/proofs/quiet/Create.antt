@@ -21,6 +21,7 @@ use Rattle.iceoryx2_world.proofs.agreement.Moved.{same_self, contains_alone, len
 use Rattle.iceoryx2_world.proofs.agreement.Whole.{own_hash}
 use Rattle.iceoryx2_pattern.specs.Meaning.{Meaning}
 use Rattle.iceoryx2_access.specs.Registered.{Registered}
+use Rattle.iceoryx2_call_laws.proofs.calls.Callers.{called}
 use Rattle.iceoryx2_create_and_open.specs.Creates.{IsCreateWord, clock_stops, description_of}
 use Rattle.iceoryx2_call_laws.specs.Quiet.{Quiet, IsAbsent, ShowsService, Shows, service_at, is_counted}
 use Rattle.iceoryx2_call_laws.specs.QuietCalls.{Creates, created_by, with_service, spend}
@@ -90,10 +91,10 @@ module _ (i : ℕ) (h : ServiceHash) (w v : World) (q : Quiet) (a : Apart i h w 
 
 module _ {F E C : Type 0} (m : Meaning F E C) (i : ℕ) (h : ServiceHash) (name : List ℕ) (now : Result Span ClockFault) (w v : World) (q : Quiet) (a : Apart i h w v) (s : Shows w q) (gone : service_at q h ≡ None) where
   abbrev d : Description
-  d = description_of m i h name now
+  d = description_of m (called i h name now)
 
   abbrev MadeHere : Result Registered C → Type 0
-  MadeHere r = Made (Creates m q i h name now r) (tickets_after w.tickets r) v
+  MadeHere r = Made (Creates m q (called i h name now) r) (tickets_after w.tickets r) v
 
   has_number : nat_lt q.counter last_number ≡ true → q.counter < last_number
   has_number e = grind (arith, nat_tests, e)
@@ -109,5 +110,5 @@ module _ {F E C : Type 0} (m : Meaning F E C) (i : ℕ) (h : ServiceHash) (name 
   made r x (forgets_locked b fits runs room) is = record { state = spend q; call = call.no_memory_locked fits gone runs (has_number room); shows = stays_absent i h w v q a s gone _ (q.counter + 1) b is; tickets = ap (λ (z : NodeView). z.tickets) is }
   made r x (founds limits fits runs room) is = record { state = spend (with_service q h (Some (created_by i d q.counter))); call = call.created fits gone runs (has_number room); shows = stands i h w v q a s gone d limits refl is; tickets = ap (λ (z : NodeView). z.tickets) is }
 
-  pub create_absent : (r : Result Registered C) (word : List Letter) → nat_lt 0 (max_nodes_of d.pattern) ≡ true → IsCreateWord m i h name now word r → Run (AtNode i h) (node_view w i h) word (node_view v i h) → MadeHere r
+  pub create_absent : (r : Result Registered C) (word : List Letter) → nat_lt 0 (max_nodes_of d.pattern) ≡ true → IsCreateWord m (called i h name now) word r → Run (AtNode i h) (node_view w i h) word (node_view v i h) → MadeHere r
   create_absent r word positive is_word run = made r _ (founding m i h (clock_stops m.needs_clock now) d (phase_of w (Node i) h) q.counter w.tickets ((was_absent i h w v q a s gone).phases i) positive (own_hash h) is_word (from (begin_absent i h w v q a s gone) run)) refl

@@ -20,6 +20,7 @@ use Rattle.iceoryx2_access.specs.Run.{Run}
 use Rattle.iceoryx2_world.specs.Access.{NodeView, node_view, node_view_after}
 use Rattle.iceoryx2_access.proofs.Run.{head, split, last}
 use Rattle.iceoryx2_errors.specs.declared.error.ServiceState.TheVariants as state
+use Rattle.iceoryx2_call_laws.proofs.calls.Callers.{called}
 use Rattle.iceoryx2_create_and_open.specs.declared.look.Outcome.{Outcome}
 use Rattle.iceoryx2_create_and_open.specs.declared.look.Outcome.TheVariants as outcome
 use Rattle.iceoryx2_pattern.specs.declared.pattern.CreateRefusal.TheVariants as refusal
@@ -168,9 +169,9 @@ module _ {F E C : Type 0} (m : Meaning F E C) (regular : IsRegular m) (i : ℕ) 
 
   module _ (name : List ℕ) (now : Result Span ClockFault) where
     abbrev MadeHere : Result Registered C → Type 0
-    MadeHere r = Made (Creates m q i h name now r) (tickets_after w.tickets r) v
+    MadeHere r = Made (Creates m q (called i h name now) r) (tickets_after w.tickets r) v
 
-    kept : (r : Result Registered C) (y : Phase) → Creates m q i h name now r q → tickets_after w.tickets r ≡ w.tickets → CountIs x.number y (times_counted x i) → node_view v i h ≡ over_here i h w v q a s x is_there y → MadeHere r
+    kept : (r : Result Registered C) (y : Phase) → Creates m q (called i h name now) r q → tickets_after w.tickets r ≡ w.tickets → CountIs x.number y (times_counted x i) → node_view v i h ≡ over_here i h w v q a s x is_there y → MadeHere r
     kept r y call no_ticket count is = record { state = q; call = call; shows = stays_there i h w v q a s x is_there y count is; tickets = ap (λ (z : NodeView). z.tickets) is ∙ sym no_ticket }
 
     faulty : {fault : F} {t : NodeView} → m.history_refusal ≡ None → Looks (outcome.Faulty fault) t → node_view v i h ≡ t → MadeHere (Err (m.create_error_of fault))
@@ -181,7 +182,7 @@ module _ {F E C : Type 0} (m : Meaning F E C) (regular : IsRegular m) (i : ℕ) 
     found : {n : ℕ} {d : Description} {t : NodeView} → m.history_refusal ≡ None → Looks (outcome.Found n d) t → node_view v i h ≡ t → MadeHere (Err (m.create_refusal refusal.AlreadyExists))
     found fits (finds p good) is = kept _ _ (call.exists x fits is_there) refl (still_counts _ p (was.phases i)) is
 
-    pub create_there : (r : Result Registered C) (word : List Letter) → IsCreateWord m i h name now word r → Run (AtNode i h) (node_view w i h) word (node_view v i h) → MadeHere r
+    pub create_there : (r : Result Registered C) (word : List Letter) → IsCreateWord m (called i h name now) word r → Run (AtNode i h) (node_view w i h) word (node_view v i h) → MadeHere r
     create_there r word (create.forbidden bad) run = kept _ _ (call.forbidden bad) refl (was.phases i) (ended run ∙ begin_there i h w v q a s x is_there)
     create_there r word (create.not_entered fits (create.look_faulty l)) run = faulty fits (looked l run) refl
     create_there r word (create.not_entered fits (create.look_found l)) run = found fits (looked l run) refl

@@ -1,5 +1,6 @@
 use Rattle.iceoryx2_access.proofs.Run.{joins, one, both}
-use Rattle.iceoryx2_create_and_open.specs.Creates.{look_faulty, look_found, counted, free}
+use Rattle.iceoryx2_create_and_open.specs.Creates.{look_faulty, look_found, counted}
+use Rattle.iceoryx2_create_and_open.specs.CreateParts.{free}
 use Rattle.iceoryx2_create_and_open.proofs.LookSteps.{sees_none, sees_fault, sees_service}
 use Rattle.iceoryx2_create_and_open.proofs.create.obstacle.Goals as goal
 

@@ -3,4 +3,4 @@ use Rattle.iceoryx2_create_and_open.proofs.Carried.{opened_carries}
 use Rattle.iceoryx2_create_and_open.proofs.laws.granted_open_carries.Goals as goal
 
 pub returns : goal.returns
-returns g c = λ m node hash word r w. let o = opened_carries (granted_call w) in (o.node_is, o.hash_is, o.fits, o.accepted)
+returns g c = λ m node hash word r w. opened_carries (granted_call w)

@@ -1,5 +1,5 @@
 use Rattle.iceoryx2_access.proofs.Run.{joins, both}
-use Rattle.iceoryx2_create_and_open.specs.Opens.{second_faulty, second_none, second_found}
+use Rattle.iceoryx2_create_and_open.specs.OpenParts.{second_faulty, second_none, second_found}
 use Rattle.iceoryx2_create_and_open.proofs.LookSteps.{sees_fault, sees_none, sees_service}
 use Rattle.iceoryx2_create_and_open.proofs.open.look_again.Goals as goal
 

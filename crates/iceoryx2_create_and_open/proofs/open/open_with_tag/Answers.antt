@@ -1,7 +1,7 @@
 use Rattle.std.proofs.Common.{sym}
 use Rattle.iceoryx2_access.proofs.Run.{joins, one}
 use Rattle.iceoryx2_access.specs.Run.{next}
-use Rattle.iceoryx2_create_and_open.specs.Opens.{untagged, got, refused, looked, again}
+use Rattle.iceoryx2_create_and_open.specs.OpenParts.{untagged, got, refused, looked, again}
 use Rattle.iceoryx2_create_and_open.proofs.OpenSteps.{only_failed}
 use Rattle.iceoryx2_create_and_open.proofs.open.open_with_tag.Goals as goal
 

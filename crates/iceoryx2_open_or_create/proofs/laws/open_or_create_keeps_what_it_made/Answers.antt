@@ -3,4 +3,4 @@ use Rattle.iceoryx2_open_or_create.proofs.Left.{granted_keeps}
 use Rattle.iceoryx2_open_or_create.proofs.laws.open_or_create_keeps_what_it_made.Goals as goal
 
 pub returns : goal.returns
-returns g c = λ required node hash name now asked word r w. granted_keeps (granted_call w)
+returns g c = λ call word r w. granted_keeps (granted_call w)

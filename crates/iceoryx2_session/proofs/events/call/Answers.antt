@@ -1,12 +1,32 @@
-use Rattle.std.proofs.Common.{Ok, Err, refl, ap, rules}
+use Rattle.std.proofs.Common.{◌≡◌, Err, Ok, ap, refl, sym}
 use Rattle.iceoryx2_session.proofs.events.call.Goals as goal
+use Rattle.iceoryx2_errors.specs.declared.error.events.EventOpenOrCreateError.{EventOpenOrCreateError}
+use Rattle.iceoryx2_errors.specs.declared.error.events.EventOpenOrCreateError.TheVariants as either
+use Rattle.iceoryx2_event_builder.specs.Event.{event_refusal}
+use Rattle.iceoryx2_commands.specs.declared.command.Refusal.TheVariants as refusal
+use Rattle.iceoryx2_session.specs.Events.{event_rounds}
 
--- A create's answers name no call, so that a body without it is refused on what it answers.
+-- the rounds' name of an error is carried as the error
+carried : (e : EventOpenOrCreateError) → event_rounds (event_refusal e) ≡ refusal.EventOpenOrCreate e
+carried (either.EventOpenError error) = refl
+carried (either.EventCreateError error) = refl
+carried either.SystemInFlux = refl
+
 pub returns-in-Ok : goal.returns-in-Ok
-returns-in-Ok c = search rules
+returns-in-Ok c =
+    rw c.in-Create.is (
+      Ok c.in-Ok.factory,
+      ap Ok c.into_registration.ensures.value,
+      rw (c.with_settings-builder.ensures, c.from-specifier.ensures, c.into_required_attributes.ensures, c.in-Ok.is) at c.create_with_attributes.ensures,
+    )
 
 pub returns-in-Create : goal.returns-in-Create
-returns-in-Create c = search rules
+returns-in-Create c =
+    rw c.in-Create.is (
+      Err c.in-Err.error,
+      refl,
+      rw (c.with_settings-builder.ensures, c.from-specifier.ensures, c.into_required_attributes.ensures, c.in-Err.is) at c.create_with_attributes.ensures,
+    )
 
 pub returns-in-Ok-open_with_attributes : goal.returns-in-Ok-open_with_attributes
 returns-in-Ok-open_with_attributes c =
@@ -35,7 +55,7 @@ returns-in-Ok-open_or_create_with_attributes c =
 pub returns : goal.returns
 returns c =
     rw c.in-OpenOrCreate.is (
-      Err c.in-Err-open_or_create_with_attributes.error,
-      refl,
+      Err (event_refusal c.in-Err-open_or_create_with_attributes.error),
+      ap Err (sym (carried c.in-Err-open_or_create_with_attributes.error)),
       rw (c.with_settings-builder.ensures, c.in-Err-open_or_create_with_attributes.is) at c.open_or_create_with_attributes.ensures,
     )

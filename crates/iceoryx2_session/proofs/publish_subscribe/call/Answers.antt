@@ -1,5 +1,16 @@
-use Rattle.std.proofs.Common.{Ok, Err, refl, ap}
+use Rattle.std.proofs.Common.{◌≡◌, Err, Ok, ap, refl, sym}
 use Rattle.iceoryx2_session.proofs.publish_subscribe.call.Goals as goal
+use Rattle.iceoryx2_errors.specs.declared.error.publish_subscribe.PublishSubscribeOpenOrCreateError.{PublishSubscribeOpenOrCreateError}
+use Rattle.iceoryx2_errors.specs.declared.error.publish_subscribe.PublishSubscribeOpenOrCreateError.TheVariants as either
+use Rattle.iceoryx2_publish_subscribe_builder.specs.PublishSubscribe.{publish_subscribe_refusal}
+use Rattle.iceoryx2_commands.specs.declared.command.Refusal.TheVariants as refusal
+use Rattle.iceoryx2_session.specs.PublishSubscribe.{publish_subscribe_rounds}
+
+-- the rounds' name of an error is carried as the error
+carried : (e : PublishSubscribeOpenOrCreateError) → publish_subscribe_rounds (publish_subscribe_refusal e) ≡ refusal.PublishSubscribeOpenOrCreate e
+carried (either.PublishSubscribeOpenError error) = refl
+carried (either.PublishSubscribeCreateError error) = refl
+carried either.SystemInFlux = refl
 
 pub returns-in-Ok : goal.returns-in-Ok
 returns-in-Ok c =
@@ -44,7 +55,7 @@ returns-in-Ok-open_or_create_with_attributes c =
 pub returns : goal.returns
 returns c =
     rw c.in-OpenOrCreate.is (
-      Err c.in-Err-open_or_create_with_attributes.error,
-      refl,
+      Err (publish_subscribe_refusal c.in-Err-open_or_create_with_attributes.error),
+      ap Err (sym (carried c.in-Err-open_or_create_with_attributes.error)),
       rw (c.with_settings-builder.ensures, c.in-Err-open_or_create_with_attributes.is) at c.open_or_create_with_attributes.ensures,
     )

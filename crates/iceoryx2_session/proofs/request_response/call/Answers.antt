@@ -1,5 +1,16 @@
-use Rattle.std.proofs.Common.{Ok, Err, refl, ap}
+use Rattle.std.proofs.Common.{◌≡◌, Err, Ok, ap, refl, sym}
 use Rattle.iceoryx2_session.proofs.request_response.call.Goals as goal
+use Rattle.iceoryx2_errors.specs.declared.error.request_response.RequestResponseOpenOrCreateError.{RequestResponseOpenOrCreateError}
+use Rattle.iceoryx2_errors.specs.declared.error.request_response.RequestResponseOpenOrCreateError.TheVariants as either
+use Rattle.iceoryx2_request_response_builder.specs.RequestResponse.{request_response_refusal}
+use Rattle.iceoryx2_commands.specs.declared.command.Refusal.TheVariants as refusal
+use Rattle.iceoryx2_session.specs.RequestResponse.{request_response_rounds}
+
+-- the rounds' name of an error is carried as the error
+carried : (e : RequestResponseOpenOrCreateError) → request_response_rounds (request_response_refusal e) ≡ refusal.RequestResponseOpenOrCreate e
+carried (either.RequestResponseOpenError error) = refl
+carried (either.RequestResponseCreateError error) = refl
+carried either.SystemInFlux = refl
 
 pub returns-in-Ok : goal.returns-in-Ok
 returns-in-Ok c =
@@ -44,7 +55,7 @@ returns-in-Ok-open_or_create_with_attributes c =
 pub returns : goal.returns
 returns c =
     rw c.in-OpenOrCreate.is (
-      Err c.in-Err-open_or_create_with_attributes.error,
-      refl,
+      Err (request_response_refusal c.in-Err-open_or_create_with_attributes.error),
+      ap Err (sym (carried c.in-Err-open_or_create_with_attributes.error)),
       rw (c.with_settings-builder.ensures, c.in-Err-open_or_create_with_attributes.is) at c.open_or_create_with_attributes.ensures,
     )

@@ -4,7 +4,7 @@ use Rattle.iceoryx2_port_factory.specs.Patterns.{is_events}
 use Rattle.iceoryx2_event_builder.proofs.event.Builder.create_with_attributes.Goals as goal
 
 pub hand_out-requires : goal.hand_out-requires
-hand_out-requires g c = created_of is_events _ _ _ c.create.ensures.word refl
+hand_out-requires g c = created_of is_events _ _ c.create.ensures.word refl
 
 pub returns : goal.returns
 returns g c =

@@ -8,7 +8,7 @@ pub returns-in_default : goal.returns-in_default
 returns-in_default g c = without_types
 
 pub hand_out-requires : goal.hand_out-requires
-hand_out-requires g c = created_of is_request_response _ (Ok zero_span) _ c.create.ensures.word refl
+hand_out-requires g c = created_of is_request_response (record { node = _; hash = _; name = _; now = Ok zero_span }) _ c.create.ensures.word refl
 
 pub returns : goal.returns
 returns g c =

@@ -1,13 +1,15 @@
+use Rattle.std.proofs.Common.{refl}
 use Rattle.iceoryx2_builder_common.proofs.Granted.{with_types, without_types}
-use Rattle.iceoryx2_open_or_create.proofs.Granted.{joined_carries}
-use Rattle.iceoryx2_request_response_builder.proofs.Granted.{what_is_carried}
+use Rattle.iceoryx2_port_factory.specs.Patterns.{is_request_response}
+use Rattle.iceoryx2_open_or_create.proofs.Granted.{joined_carries, carried_of}
+use Rattle.iceoryx2_request_response_builder.proofs.Granted.{what_fits}
 use Rattle.iceoryx2_request_response_builder.proofs.request_response.Builder.open_or_create_with_attributes.Goals as goal
 
 pub returns-in_default : goal.returns-in_default
 returns-in_default g c = without_types
 
 pub new-requires : goal.new-requires
-new-requires g c = what_is_carried (joined_carries c.in-Ok-open_or_create.ensures)
+new-requires g c = carried_of is_request_response (λ asked d. what_fits asked.request asked.response d.pattern) (λ asked now. refl) (joined_carries c.in-Ok-open_or_create.ensures)
 
 pub returns-in-Ok-open_or_create : goal.returns-in-Ok-open_or_create
 returns-in-Ok-open_or_create g c =

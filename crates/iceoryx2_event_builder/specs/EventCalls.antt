@@ -1,0 +1,27 @@
+-- What a call of a builder of events is.
+use Rattle.std.specs.Prelude.{ℕ, List, Result, false}
+use Rattle.iceoryx2_attribute.specs.Requirements.{Requirements}
+use Rattle.iceoryx2_description.specs.declared.description.ServiceHash.{ServiceHash}
+use Rattle.iceoryx2_description.specs.declared.time.ClockFault.{ClockFault}
+use Rattle.iceoryx2_description.specs.Span.{Span}
+use Rattle.iceoryx2_errors.specs.declared.error.ServiceState.{ServiceState}
+use Rattle.iceoryx2_errors.specs.declared.error.events.EventOpenError.{EventOpenError}
+use Rattle.iceoryx2_errors.specs.declared.error.events.EventCreateError.{EventCreateError}
+use Rattle.iceoryx2_open_or_create.specs.BuilderCalls.{BuilderCall, Way}
+use Rattle.iceoryx2_event_builder.specs.declared.event.demand.EventDemand.{EventDemand}
+use Rattle.iceoryx2_event_builder.specs.Event.{event_adjusted, event_meaning, event_retried}
+use Rattle.iceoryx2_event_builder.specs.Request.{EventBuilderState, letter_of_events}
+
+-- Its hash is made by this hasher; a create defines the pairs, and an open requires pairs and keys.
+abbrev pub event_call : (hash_of : ℕ → List ℕ → ServiceHash) → EventBuilderState → Way → Requirements
+    → Result Span ClockFault → BuilderCall EventDemand ServiceState EventOpenError EventCreateError
+event_call hash_of b way required now = record {
+  way = way;
+  caller = record { node = b.node; hash = hash_of letter_of_events b.name; name = b.name; now = now };
+  meaning = event_meaning;
+  adjusted = event_adjusted;
+  retried = event_retried;
+  asked = b.demand;
+  required = required;
+  prepares = false;
+}

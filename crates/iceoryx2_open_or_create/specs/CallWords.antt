@@ -1,0 +1,43 @@
+-- The words of every call of a builder, with their answers.
+use Rattle.std.specs.Prelude.{Bool, true, false, List, Result}
+use Rattle.iceoryx2_access.specs.Registered.{Registered}
+use Rattle.iceoryx2_access.specs.Letter.{Letter}
+use Rattle.iceoryx2_access.specs.Run.{Joins}
+use Rattle.iceoryx2_pattern.specs.declared.pattern.OpenRefusal.TheVariants as open_refusal
+use Rattle.iceoryx2_pattern.specs.declared.pattern.CreateRefusal.TheVariants as create_refusal
+use Rattle.iceoryx2_create_and_open.specs.Creates.{IsCreateWord}
+use Rattle.iceoryx2_create_and_open.specs.Opens.{IsOpenWord}
+use Rattle.iceoryx2_create_and_open.specs.Prepared.{IsPrepared}
+use Rattle.iceoryx2_open_or_create.specs.BuilderCalls.{BuilderCall, Way, ToCreate, ToOpen, ToOpenOrCreate, ErrorBy}
+use Rattle.iceoryx2_open_or_create.specs.BuilderCalls.{creating, opening, rounds_of}
+use Rattle.iceoryx2_open_or_create.specs.OpenOrCreates.{IsOpenOrCreateWord}
+use Rattle.iceoryx2_open_or_create.specs.declared.open_or_create.OpenOrCreateRefusal.{OpenOrCreateRefusal}
+use Rattle.iceoryx2_open_or_create.specs.declared.open_or_create.OpenOrCreateRefusal.TheVariants as refusal
+
+-- A word, of a call that prepares its types first where it does.
+abbrev pub PreparedIf : {E : Type 0} → Bool → E → (List Letter → Result Registered E → Type 0)
+    → List Letter → Result Registered E → Type 0
+PreparedIf true no_memory IsWord = IsPrepared no_memory IsWord
+PreparedIf false no_memory IsWord = IsWord
+
+module _ {D F E C : Type 0} (c : BuilderCall D F E C) where
+  -- An open or create prepares its types once, before the first round. Out of memory there, it has an error of an open.
+  abbrev pub IsOpenOrCreateCall : List Letter → Result Registered (OpenOrCreateRefusal E C) → Type 0
+  IsOpenOrCreateCall = IsPrepared (refusal.Open ((opening c).open_refusal open_refusal.OutOfMemory))
+      (IsOpenOrCreateWord (rounds_of c))
+
+  abbrev pub IsWordBy : (way : Way) → List Letter → Result Registered (ErrorBy E C way) → Type 0
+  IsWordBy ToCreate = PreparedIf c.prepares ((creating c).create_refusal create_refusal.OutOfMemory)
+      (IsCreateWord (creating c) c.caller)
+  IsWordBy ToOpen = PreparedIf c.prepares ((opening c).open_refusal open_refusal.OutOfMemory)
+      (IsOpenWord (opening c) c.caller.node c.caller.hash)
+  IsWordBy ToOpenOrCreate = PreparedIf c.prepares (refusal.Open ((opening c).open_refusal open_refusal.OutOfMemory))
+      (IsOpenOrCreateWord (rounds_of c))
+
+  abbrev pub IsWordOf : List Letter → Result Registered (ErrorBy E C c.way) → Type 0
+  IsWordOf = IsWordBy c.way
+
+-- The call leads a storage from one state to another, with this answer: along a word of it.
+abbrev pub Calls : {S D F E C : Type 0} (step : S → Letter → S → Type 0) (c : BuilderCall D F E C)
+    → S → Result Registered (ErrorBy E C c.way) → S → Type 0
+Calls step c old answer new = Joins step old (λ word. IsWordOf c word answer) new

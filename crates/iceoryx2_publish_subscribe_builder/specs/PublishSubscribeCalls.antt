@@ -1,0 +1,35 @@
+-- What a call of a builder of publish-subscribe is.
+use Rattle.std.specs.Prelude.{ℕ, List, Ok, true}
+use Rattle.iceoryx2_attribute.specs.Requirements.{Requirements}
+use Rattle.iceoryx2_types.specs.Types.{Message}
+use Rattle.iceoryx2_description.specs.declared.description.ServiceHash.{ServiceHash}
+use Rattle.iceoryx2_description.specs.Span.{zero_span}
+use Rattle.iceoryx2_errors.specs.declared.error.publish_subscribe.ServiceAvailabilityState.{ServiceAvailabilityState}
+use Rattle.iceoryx2_errors.specs.declared.error.publish_subscribe.PublishSubscribeOpenError.{PublishSubscribeOpenError}
+use Rattle.iceoryx2_errors.specs.declared.error.publish_subscribe.PublishSubscribeCreateError.{PublishSubscribeCreateError}
+use Rattle.iceoryx2_open_or_create.specs.BuilderCalls.{BuilderCall, Way}
+use Rattle.iceoryx2_publish_subscribe_builder.specs.declared.publish_subscribe.demand.PreparedDemand.{PreparedDemand}
+use Rattle.iceoryx2_publish_subscribe_builder.specs.PublishSubscribe.{prepared_adjusted, prepared_meaning}
+use Rattle.iceoryx2_publish_subscribe_builder.specs.PublishSubscribe.{publish_subscribe_retried}
+use Rattle.iceoryx2_publish_subscribe_builder.specs.Request.{PublishSubscribeBuilderState, letter_of_publish_subscribe}
+
+-- Its hash is made by this hasher, and its messages are of these types; a create defines the pairs, and an open requires
+-- pairs and keys. It doesn't ask the clock: its time is zero.
+abbrev pub publish_subscribe_call : (hash_of : ℕ → List ℕ → ServiceHash) → PublishSubscribeBuilderState → Message → Way
+    → Requirements
+    → BuilderCall PreparedDemand ServiceAvailabilityState PublishSubscribeOpenError PublishSubscribeCreateError
+publish_subscribe_call hash_of b message way required = record {
+  way = way;
+  caller = record {
+    node = b.node;
+    hash = hash_of letter_of_publish_subscribe b.name;
+    name = b.name;
+    now = Ok zero_span;
+  };
+  meaning = prepared_meaning;
+  adjusted = prepared_adjusted;
+  retried = publish_subscribe_retried;
+  asked = record { demand = b.demand; message = message };
+  required = required;
+  prepares = true;
+}

@@ -1,0 +1,35 @@
+-- What a call of a builder of request-response is.
+use Rattle.std.specs.Prelude.{ℕ, List, Ok, true}
+use Rattle.iceoryx2_attribute.specs.Requirements.{Requirements}
+use Rattle.iceoryx2_description.specs.declared.description.ServiceHash.{ServiceHash}
+use Rattle.iceoryx2_description.specs.Span.{zero_span}
+use Rattle.iceoryx2_errors.specs.declared.error.request_response.ServiceAvailabilityState.{ServiceAvailabilityState}
+use Rattle.iceoryx2_errors.specs.declared.error.request_response.RequestResponseOpenError.{RequestResponseOpenError}
+use Rattle.iceoryx2_errors.specs.declared.error.request_response.RequestResponseCreateError.{RequestResponseCreateError}
+use Rattle.iceoryx2_open_or_create.specs.BuilderCalls.{BuilderCall, Way}
+use Rattle.iceoryx2_request_response_builder.specs.declared.request_response.demand.PreparedDemand.{PreparedDemand}
+use Rattle.iceoryx2_request_response_builder.specs.RequestResponse.{prepared_adjusted, prepared_meaning}
+use Rattle.iceoryx2_request_response_builder.specs.RequestResponse.{request_response_retried}
+use Rattle.iceoryx2_request_response_builder.specs.Request.{RequestResponseBuilderState, Messages, asked_with}
+use Rattle.iceoryx2_request_response_builder.specs.Request.{letter_of_request_response}
+
+-- Its hash is made by this hasher, and its requests and responses are of these types; a create defines the pairs, and an
+-- open requires pairs and keys. It doesn't ask the clock: its time is zero.
+abbrev pub request_response_call : (hash_of : ℕ → List ℕ → ServiceHash) → RequestResponseBuilderState → Messages → Way
+    → Requirements
+    → BuilderCall PreparedDemand ServiceAvailabilityState RequestResponseOpenError RequestResponseCreateError
+request_response_call hash_of b messages way required = record {
+  way = way;
+  caller = record {
+    node = b.node;
+    hash = hash_of letter_of_request_response b.name;
+    name = b.name;
+    now = Ok zero_span;
+  };
+  meaning = prepared_meaning;
+  adjusted = prepared_adjusted;
+  retried = request_response_retried;
+  asked = asked_with b.demand messages;
+  required = required;
+  prepares = true;
+}
