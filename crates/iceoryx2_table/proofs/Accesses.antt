@@ -26,10 +26,6 @@ use Rattle.iceoryx2_table.specs.Book.{Book, StepsOrStays, step_at, world_with, s
 pub part : {a w v : World} (l : Letter) (c : Change) → a ≡ w → IsNodeAnswer (caller_of l) (service_of l) (node_view a (caller_of l) (service_of l)) l c → v ≡ write a (caller_of l) (service_of l) c → IsOwnPart w l v
 part {a} {w} {v} l c e own is = subst (λ (x : World). IsOwnPart x l v) e (record { change = c; own = own; is = is })
 
--- what a node sees of a service
-abbrev pub view_at : Book → ℕ → ServiceHash → ServiceView
-view_at b i h = record { phase = or_idle (map.get b.phases (Node i, h)); row = map.get b.rows h; segment = map.get b.segments h; counter = b.counter }
-
 module _ {A E : Type 0} where
   pub gives_refusal : (m e : E) (x : Result (A × Change) E) → x ≡ Err e → IsAnswer m x (Err e) nothing
   gives_refusal m e x q = subst (λ (y : Result (A × Change) E). IsAnswer m y (Err e) nothing) (sym q) (refl, refl)

@@ -2,20 +2,17 @@
 use Rattle.std.proofs.Common.{◌≡◌, Bool, true, false, cond, Option, Some, None, refl, sym, ap, ◌∙◌}
 use Rattle.std.specs.Prelude.{is_some, is_err, ◌&&◌, Result, Ok, Err, OnErr}
 use Rattle.std.specs.FinMap as map
-use Rattle.std.specs.FinMap.{same_map, IsAntisymmetric, get-remove, get-insert}
+use Rattle.std.specs.FinMap.{same_map, IsAntisymmetric}
 use Rattle.std.specs.Ordering.{eq_by_cmp}
 use Rattle.std.specs.declared.cmp.Ordering.{Ordering}
 use Rattle.std.specs.Cmp.{IsTotalOrder, Equal-is}
 use Rattle.iceoryx2_world.specs.World.{set_to}
+use Rattle.iceoryx2_world.proofs.agreement.Whole.{get-set_to}
 
 module _ {K X : Type 0} {R : K → K → Ordering} (o : IsTotalOrder R) (exact : IsAntisymmetric R) where
-  pub get-set_to : (m : map.FinMap R X) (k : K) (v : Option X) (q : K) → map.get (set_to m k v) q ≡ cond (eq_by_cmp R q k) v (map.get m q)
-  get-set_to m k None q = get-remove o m k q
-  get-set_to m k (Some v) q = get-insert o m k v q
-
   -- what stands already is set to no effect
   pub kept : (m : map.FinMap R X) (k : K) → m ≡ set_to m k (map.get m k)
-  kept m k = sym (same_map o exact _ _ (λ q. get-set_to m k (map.get m k) q ∙
+  kept m k = sym (same_map o exact _ _ (λ q. get-set_to o m k (map.get m k) q ∙
       elim (eq_by_cmp R q k) as (λ b. eq_by_cmp R q k ≡ b → cond b (map.get m k) (map.get m q) ≡ map.get m q) [
         | true ↦ λ e. ap (λ x. map.get m x) (sym (exact q k ((Equal-is (R q k)).0 e)))
         | false ↦ λ e. refl

@@ -1,11 +1,7 @@
-use Rattle.iceoryx2_table.proofs.States.{part, agrees, later}
+use Rattle.iceoryx2_table.proofs.States.{takes}
 use Rattle.iceoryx2_table.proofs.table.TableStorage.fetch.Goals as goal
 
-pub returns-clause-part : goal.returns-clause-part
-returns-clause-part c = part _ c.self.view_is c.run_batch.ensures c.fetch.ensures
-
-pub returns-clause-agrees : goal.returns-clause-agrees
-returns-clause-agrees c = agrees _ c.self.view_is c.run_batch.ensures c.fetch.ensures
-
-pub returns-clause-later : goal.returns-clause-later
-returns-clause-later c = later _ c.self.view_is c.run_batch.ensures c.fetch.ensures
+pub returns : goal.returns
+returns c =
+    let is = takes _ c.self.view_is c.run_batch.ensures c.fetch.ensures in
+    record { part = is.part; agrees = is.agrees; later = is.later }
