@@ -1,6 +1,6 @@
 -- Lists that ascend by a total order, and an item put among them.
 use Rattle.std.proofs.Common.{◌≡◌, ℕ, zero, suc, ◌+◌, ◌-◌, ◌<◌, ◌≤◌, Bool, true, false, cond, List, [], ◌∷◌, ◌++◌, length, get_or, Some, None, Result, Ok, Err, IfOk, IfErr, inl, inr, refl, sym, ap, subst, ◌∙◌, arith, All}
-use Rattle.std.specs.Prelude.{◌&&◌, filter}
+use Rattle.std.specs.Prelude.{◌&&◌, filter, if◌then◌else◌}
 use Rattle.std.specs.List.{insert, list_any, slice_get, AllWithin}
 use Rattle.std.specs.List.Sorted.{IsNonDecreasingBy, IsSearchInRange, IsBinarySearchResult}
 use Rattle.std.specs.Ordering.{ordering_index, ordering_reverse, is_lt, is_eq}
@@ -26,6 +26,11 @@ index_small : (r : Ordering) → ordering_index r ≤ 2
 index_small Less = omega arith
 index_small Equal = omega arith
 index_small Greater = omega arith
+
+no_less : (a b : Ordering) → (b ≡ Less → a ≡ Less) → (b ≡ Equal → a ≡ Less) → ordering_index a ≤ ordering_index b
+no_less a Less less equal = rw (less refl) (omega arith)
+no_less a Equal less equal = rw (equal refl) (omega arith)
+no_less a Greater less equal = index_small a
 
 -- the front of a list that ascends
 pub ascends_front : {A : Type 0} (before : A → A → Bool) (xs ys : List A) → ascends_by before (xs ++ ys) ≡ true → ascends_by before xs ≡ true
@@ -240,11 +245,7 @@ module _ {A : Type 0} (R : A → A → Ordering) (o : IsTotalOrder R) where
 
   -- the answer for an item itself
   pub indices_rise : (k x y : A) → R x y ≡ Less → ordering_index (R x k) ≤ ordering_index (R y k)
-  indices_rise k x y less = elim (R y k) as (λ c. R y k ≡ c → ordering_index (R x k) ≤ ordering_index c) [
-    | Less ↦ λ e. rw (o.trans x y k less e) (omega arith)
-    | Equal ↦ λ e. rw (sym (alike_right o y k x e) ∙ less) (omega arith)
-    | Greater ↦ λ e. index_small (R x k)
-  ] refl
+  indices_rise k x y less = no_less (R x k) (R y k) (λ e. o.trans x y k less e) (λ e. sym (alike_right o y k x e) ∙ less)
 
   -- where an item would go
   pub gap : (xs : List A) (x : A) → ascends_by (lt R) xs ≡ true → (r : Result ℕ ℕ) → IsSearchInRange r (length xs) → IsBinarySearchResult (λ y. R y x) xs r → IfErr r (λ at. insert xs at x ≡ with_item (lt R) xs x)
@@ -252,3 +253,29 @@ module _ {A : Type 0} (R : A → A → Ordering) (o : IsTotalOrder R) where
   gap xs x h (Err i) within parted =
       let p = parted (answers_rise (λ y. R y x) (indices_rise x) xs (rises_from xs h)) in
       insert_at x xs i within p.0 p.1
+
+-- what a search for an item answers, where it is listed or not
+pub record IsPlace {A : Type 0} (before : A → A → Bool) (xs : List A) (x : A) (listed : Bool) (r : Result ℕ ℕ) : Type 0 where
+  pub found : IfOk r (λ _. listed ≡ true)
+  pub absent : IfErr r (λ _. listed ≡ false)
+  pub there : IfOk r (λ _. xs ≡ with_item before xs x)
+  pub place : IfErr r (λ at. insert xs at x ≡ with_item before xs x)
+
+pub placed : {A : Type 0} (R : A → A → Ordering) (o : IsTotalOrder R) → CmpEqualImpliesEq R → (xs : List A) (x : A) (listed : Bool) → listed ≡ list_any (λ y. is_eq (R y x)) xs → ascends_by (lt R) xs ≡ true → (r : Result ℕ ℕ) → IsSearchInRange r (length xs) → IsBinarySearchResult (λ y. R y x) xs r → IsPlace (lt R) xs x listed r
+placed R o exact xs x listed e h r within is =
+    let parts = searched R o (λ y. R y x) (indices_rise R o x) xs h r within is in
+    record {
+      found = subst (λ b. IfOk r (λ _. b ≡ true)) (sym e) parts.0;
+      absent = subst (λ b. IfErr r (λ _. b ≡ false)) (sym e) parts.1;
+      there = same r parts.0;
+      place = gap R o xs x h r within is;
+    }
+  where
+    same : (q : Result ℕ ℕ) → IfOk q (λ _. list_any (λ y. is_eq (R y x)) xs ≡ true) → IfOk q (λ _. xs ≡ with_item (lt R) xs x)
+    same (Ok i) found = same_with R o exact xs x h found
+    same (Err i) found = tt
+
+-- what an insert leaves, done or not: xs is read in the fields, and ys is its value
+pub after_insert : {A : Type 0} (P : List A → Type 0) {xs ys new w : List A} (ok : Bool) (at : ℕ) (x given : A) → xs ≡ ys → P xs → P w → insert ys at x ≡ w → given ≡ x → new ≡ (if ok then insert xs at given else xs) → P new
+after_insert P true at x given is old fits place same e = rw (e, same, is, place) fits
+after_insert P false at x given is old fits place same e = rw e old

@@ -1,5 +1,5 @@
 -- Required keys in their order.
-use Rattle.std.proofs.Common.{◌≡◌, ℕ, ◌<◌, ◌≤◌, Bool, true, false, List, [], length, Result, Ok, Err, IfOk, IfErr, if◌then◌else◌, refl, sym, subst, ◌∙◌, arith}
+use Rattle.std.proofs.Common.{◌≡◌, ℕ, ◌<◌, ◌≤◌, Bool, true, List, [], length, Result, if◌then◌else◌, refl, subst, ◌∙◌, arith}
 use Rattle.std.specs.Prelude.{bytes_eq}
 use Rattle.std.specs.List.{insert, list_any}
 use Rattle.std.specs.List.Sorted.{IsSearchInRange, IsBinarySearchResult}
@@ -25,28 +25,9 @@ lists_is keys key = λ i. list_any (λ k. texts_ties k key i) keys
 
 -- ---- what a search finds
 
-if_found : (keys : List (List ℕ)) (key : List ℕ) → ascends_by key_before keys ≡ true → (r : Result ℕ ℕ) → IfOk r (λ _. list_any (λ k. is_eq (text_cmp k key)) keys ≡ true) → IfOk r (λ _. keys ≡ with_key keys key)
+pub placed : (keys : List (List ℕ)) (key : List ℕ) → ascends_by key_before keys ≡ true → (r : Result ℕ ℕ) → IsSearchInRange r (length keys) → IsBinarySearchResult (λ k. text_cmp k key) keys r → ascending.IsPlace key_before keys key (lists_key keys key) r
 unfolding key_before
-if_found keys key h (Ok i) found = ascending.same_with text_cmp nat_list_cmp_total exact_bytes keys key h found
-if_found keys key h (Err i) found = tt
-
-module _ (keys : List (List ℕ)) (key : List ℕ) (h : ascends_by key_before keys ≡ true) (r : Result ℕ ℕ) (within : IsSearchInRange r (length keys)) (is : IsBinarySearchResult (λ k. text_cmp k key) keys r) where
-  parts : IfOk r (λ _. list_any (λ k. is_eq (text_cmp k key)) keys ≡ true) × IfErr r (λ _. list_any (λ k. is_eq (text_cmp k key)) keys ≡ false)
-  unfolding key_before
-  parts = ascending.searched text_cmp nat_list_cmp_total (λ k. text_cmp k key) (ascending.indices_rise text_cmp nat_list_cmp_total key) keys h r within is
-
-  pub found : IfOk r (λ _. lists_key keys key ≡ true)
-  found = subst (λ b. IfOk r (λ _. b ≡ true)) (sym (lists_is keys key)) parts.0
-
-  pub absent : IfErr r (λ _. lists_key keys key ≡ false)
-  absent = subst (λ b. IfErr r (λ _. b ≡ false)) (sym (lists_is keys key)) parts.1
-
-  pub there : IfOk r (λ _. keys ≡ with_key keys key)
-  there = if_found keys key h r parts.0
-
-  pub place : IfErr r (λ at. insert keys at key ≡ with_key keys key)
-  unfolding key_before
-  place = ascending.gap text_cmp nat_list_cmp_total keys key h r within is
+placed keys key h r within is = ascending.placed text_cmp nat_list_cmp_total exact_bytes keys key _ (lists_is keys key) h r within is
 
 -- ---- limits
 
@@ -65,9 +46,9 @@ more_fit keys at key fits one few within is =
     }
 
 -- what an insert of the key leaves
-pub after_insert : (ok : Bool) (keys new : List (List ℕ)) (at : ℕ) (key given : List ℕ) → AreKeys keys → IsKey key → length keys < MAX_REQUIRED_KEYS → at ≤ length keys → insert keys at key ≡ with_key keys key → given ≡ key → new ≡ (if ok then insert keys at given else keys) → AreKeys new
-after_insert true keys new at key given fits one few within is same e = rw (e, same, is) (more_fit keys at key fits one few within is)
-after_insert false keys new at key given fits one few within is same e = rw e fits
+pub after_insert : {keys value new : List (List ℕ)} (ok : Bool) (at : ℕ) (key given : List ℕ) → keys ≡ value → AreKeys keys → IsKey key → length keys < MAX_REQUIRED_KEYS → at ≤ length value → insert value at key ≡ with_key value key → given ≡ key → new ≡ (if ok then insert keys at given else keys) → AreKeys new
+after_insert {value = value} ok at key given is fits one few within place same e =
+    ascending.after_insert AreKeys ok at key given is fits (more_fit value at key (subst AreKeys is fits) one (rw (← is) few) within place) place same e
 
 -- ---- a key that is there
 

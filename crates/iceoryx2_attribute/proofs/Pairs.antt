@@ -49,28 +49,9 @@ keys_rise key p q less = elim (text_cmp p.key q.key) as (λ c. text_cmp p.key q.
 
 -- ---- what a search finds
 
-if_found : (ps : List Pair) (p : Pair) → ascends ps ≡ true → (r : Result ℕ ℕ) → IfOk r (λ _. list_any (λ q. is_eq (pair_cmp q p)) ps ≡ true) → IfOk r (λ _. ps ≡ with_pair ps p)
+pub placed : (ps : List Pair) (p : Pair) → ascends ps ≡ true → (r : Result ℕ ℕ) → IsSearchInRange r (length ps) → IsBinarySearchResult (λ q. pair_cmp q p) ps r → ascending.IsPlace pair_before ps p (has_pair ps p) r
 unfolding pair_before
-if_found ps p h (Ok i) found = ascending.same_with pair_cmp pair_total pair_exact ps p h found
-if_found ps p h (Err i) found = tt
-
-module _ (ps : List Pair) (p : Pair) (h : ascends ps ≡ true) (r : Result ℕ ℕ) (within : IsSearchInRange r (length ps)) (is : IsBinarySearchResult (λ q. pair_cmp q p) ps r) where
-  parts : IfOk r (λ _. list_any (λ q. is_eq (pair_cmp q p)) ps ≡ true) × IfErr r (λ _. list_any (λ q. is_eq (pair_cmp q p)) ps ≡ false)
-  unfolding pair_before
-  parts = ascending.searched pair_cmp pair_total (λ q. pair_cmp q p) (ascending.indices_rise pair_cmp pair_total p) ps h r within is
-
-  pub found : IfOk r (λ _. has_pair ps p ≡ true)
-  found = subst (λ b. IfOk r (λ _. b ≡ true)) (sym (has_is ps p)) parts.0
-
-  pub absent : IfErr r (λ _. has_pair ps p ≡ false)
-  absent = subst (λ b. IfErr r (λ _. b ≡ false)) (sym (has_is ps p)) parts.1
-
-  pub there : IfOk r (λ _. ps ≡ with_pair ps p)
-  there = if_found ps p h r parts.0
-
-  pub place : IfErr r (λ at. insert ps at p ≡ with_pair ps p)
-  unfolding pair_before
-  place = ascending.gap pair_cmp pair_total ps p h r within is
+placed ps p h r within is = ascending.placed pair_cmp pair_total pair_exact ps p _ (has_is ps p) h r within is
 
 found_or_not : (r : Result ℕ ℕ) (b : Bool) → IfOk r (λ _. b ≡ true) → IfErr r (λ _. b ≡ false) → is_ok r ≡ b
 found_or_not (Ok i) b is is_not = sym is
@@ -114,9 +95,9 @@ more_fit ps at p fits one few within is =
     }
 
 -- what an insert of the pair leaves
-pub after_insert : (ok : Bool) (ps new : List Pair) (at : ℕ) (p q : Pair) → AreAttributes ps → IsPair p → length ps < MAX_ATTRIBUTES → at ≤ length ps → insert ps at p ≡ with_pair ps p → q ≡ p → new ≡ (if ok then insert ps at q else ps) → AreAttributes new
-after_insert true ps new at p q fits one few within is same e = rw (e, same, is) (more_fit ps at p fits one few within is)
-after_insert false ps new at p q fits one few within is same e = rw e fits
+pub after_insert : {ps value new : List Pair} (ok : Bool) (at : ℕ) (p given : Pair) → ps ≡ value → AreAttributes ps → IsPair p → length ps < MAX_ATTRIBUTES → at ≤ length value → insert value at p ≡ with_pair value p → given ≡ p → new ≡ (if ok then insert ps at given else ps) → AreAttributes new
+after_insert {value = value} ok at p given is fits one few within place same e =
+    ascending.after_insert AreAttributes ok at p given is fits (more_fit value at p (subst AreAttributes is fits) one (rw (← is) few) within place) place same e
 
 -- one more behind the others
 pub next_fits : (ps : List Pair) (p : Pair) → AreAttributes ps → IsPair p → length ps < MAX_ATTRIBUTES → ascends (ps ++ p ∷ []) ≡ true → AreAttributes (ps ++ p ∷ [])

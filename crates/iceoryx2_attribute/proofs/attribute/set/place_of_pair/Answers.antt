@@ -1,7 +1,7 @@
 use Rattle.std.proofs.Common.{rules}
 use Rattle.std.proofs.lemmas.Fn.{always_returns_same}
 use Rattle.iceoryx2_attribute.specs.Attributes.{pair_of, pair_cmp}
-use Rattle.iceoryx2_attribute.proofs.Pairs.{found, absent, there, place}
+use Rattle.iceoryx2_attribute.proofs.Pairs.{placed}
 use Rattle.iceoryx2_attribute.proofs.attribute.set.place_of_pair.Goals as goal
 
 pub returns : goal.returns
@@ -9,11 +9,5 @@ returns c =
     let facts = c.binary_search_by.ensures in
     let p = pair_of c.args.key.now c.args.value.now in
     let by_pair = facts.position (λ q. pair_cmp q p) (always_returns_same _ _ _ (λ a r h called. search rules)) in
-    let ps = c.args.pairs.now in
-    record {
-      found = found ps p c.requires c.binary_search_by.result facts.bound by_pair;
-      absent = absent ps p c.requires c.binary_search_by.result facts.bound by_pair;
-      there = there ps p c.requires c.binary_search_by.result facts.bound by_pair;
-      in_range = search rules;
-      place = place ps p c.requires c.binary_search_by.result facts.bound by_pair;
-    }
+    let is = placed c.args.pairs.now p c.requires c.binary_search_by.result facts.bound by_pair in
+    record { found = is.found; absent = is.absent; there = is.there; in_range = search rules; place = is.place }
