@@ -1,29 +1,46 @@
 -- Types of messages.
-use Rattle.std.proofs.Common.{◌≡◌, ℕ, zero, suc, List, [], ◌∷◌, ◌++◌, Some, refl, subst, append_assoc, arith}
+use Rattle.std.proofs.Common.{◌≡◌, ℕ, zero, suc, Bool, true, false, List, [], ◌∷◌, refl, subst, append_assoc, arith}
 use Rattle.std.specs.Int.{w64, is_power_of_two}
 use Rattle.iceoryx2_types.specs.declared.types.TheConstants.{MIN_TYPE_NAME_LENGTH, MAX_TYPE_NAME_LENGTH}
 use Rattle.iceoryx2_types.specs.declared.types.TypeVariant.{TypeVariant}
 use Rattle.iceoryx2_types.specs.declared.types.TypeVariant.TheVariants.{FixedSize, Dynamic}
 use Rattle.iceoryx2_description.specs.Messages.{IsMeasured, IsMeasuredMessage}
-use Rattle.iceoryx2_byte_form.specs.PartForm.{number, variant, detail, message}
-use Rattle.iceoryx2_byte_form.specs.PartReading.{number_at, variant_at, detail_from, detail_at, message_from, message_at}
-use Rattle.iceoryx2_byte_form.proofs.PartForms.{IsBytes, IsBytes-rest, some_is, Any, Takes, Reads, Reads-then, Reads-as, Reads-where, Reads-form, Reads-number64, Reads-text}
+use Rattle.iceoryx2_byte_form.specs.PartForm.{number, truth, variant, detail, message}
+use Rattle.iceoryx2_byte_form.specs.PartReading.{Part, as_at, number_at, truth_at, variant_at, detail_from, detail_at, message_from, message_at}
+use Rattle.iceoryx2_byte_form.proofs.PartForms.{Any, Reads, Reads-then, Reads-as, Reads-where, Reads-form, Reads-number64, Reads-text, Reads-truth}
 use Rattle.iceoryx2_byte_form.proofs.Times.{Below64}
 
-variant_takes : (bytes : List ℕ) (x : TypeVariant × List ℕ) → IsBytes bytes → variant_at bytes ≡ Some x → Takes bytes (variant x.0) x.1 × Any x.0
-unfolding variant_at
-variant_takes [] x fits e = absurd cc
-variant_takes (zero ∷ bytes) x fits e = subst (λ (y : TypeVariant × List ℕ). Takes (0 ∷ bytes) (variant y.0) y.1 × Any y.0) (some_is (FixedSize, bytes) x e) (record { parts = refl; rest_fits = IsBytes-rest 0 bytes fits }, tt)
-variant_takes (suc zero ∷ bytes) x fits e = subst (λ (y : TypeVariant × List ℕ). Takes (1 ∷ bytes) (variant y.0) y.1 × Any y.0) (some_is (Dynamic, bytes) x e) (record { parts = refl; rest_fits = IsBytes-rest 1 bytes fits }, tt)
-variant_takes (suc (suc b) ∷ bytes) x fits e = absurd cc
+-- a variant is spelled as a truth value
+abbrev dynamic : TypeVariant → Bool
+dynamic FixedSize = false
+dynamic Dynamic = true
 
-variant_again : (v : TypeVariant) (rest : List ℕ) → Any v → variant_at (variant v ++ rest) ≡ Some (v, rest)
-unfolding variant_at
-variant_again FixedSize rest fits = refl
-variant_again Dynamic rest fits = refl
+abbrev kind : Bool → TypeVariant
+kind false = FixedSize
+kind true = Dynamic
+
+kind_dynamic : (v : TypeVariant) → kind (dynamic v) ≡ v
+kind_dynamic FixedSize = refl
+kind_dynamic Dynamic = refl
+
+dynamic_kind : (b : Bool) → dynamic (kind b) ≡ b
+dynamic_kind false = refl
+dynamic_kind true = refl
+
+same_form : (v : TypeVariant) → truth (dynamic v) ≡ variant v
+same_form FixedSize = refl
+same_form Dynamic = refl
+
+same_part : (bytes : List ℕ) → as_at kind truth_at bytes ≡ variant_at bytes
+unfolding variant_at truth_at
+same_part [] = refl
+same_part (zero ∷ rest) = refl
+same_part (suc zero ∷ rest) = refl
+same_part (suc (suc b) ∷ rest) = refl
 
 Reads-variant : Reads variant_at variant Any
-Reads-variant = record { takes = variant_takes; again = variant_again }
+Reads-variant = subst (λ (r : Part TypeVariant). Reads r variant Any) (λ i bytes. same_part bytes i)
+    (Reads-form (as_at kind truth_at) (λ v. truth (dynamic v)) variant Any (Reads-as kind dynamic truth_at truth Any Any kind_dynamic dynamic_kind (λ b h. tt) (λ v h. tt) Reads-truth) same_form)
 
 Reads-detail : Reads detail_at detail IsMeasured
 unfolding detail_at

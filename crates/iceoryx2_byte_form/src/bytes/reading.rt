@@ -79,10 +79,7 @@ fn publish_subscribe_of(
     let (subscriber_max_borrowed_samples, rest) = u64_at(rest)?;
     let (enable_safe_overflow, rest) = truth_of(rest)?;
     let (max_nodes, rest) = u64_at(rest)?;
-    let (message_type_details, rest) = match message_of(alloc, rest) {
-        Err(error) => return Err(error),
-        Ok(found) => found,
-    };
+    let (message_type_details, rest) = message_of(alloc, rest)?;
     Ok((
         publish_subscribe::StaticConfig {
             max_publishers,
@@ -267,23 +264,11 @@ fn description_of(alloc: Global, bytes: &[u8]) -> Result<(StaticConfig, &[u8]), 
     ensures { IsReadBy (λ x. (x.0, x.1.now)) result (description_at bytes.now) }
 {
     let rest = literal_of(&MAGIC, bytes)?;
-    let (creator, rest) = match versioned_of(rest) {
-        Err(error) => return Err(error),
-        Ok(found) => found,
-    };
+    let (creator, rest) = versioned_of(rest)?;
     let (hash, rest) = hash_of(rest)?;
-    let (name, rest) = match name_of(alloc, rest) {
-        Err(error) => return Err(error),
-        Ok(found) => found,
-    };
-    let (attributes, rest) = match attributes_of(alloc, rest) {
-        Err(error) => return Err(error),
-        Ok(found) => found,
-    };
-    let (pattern, rest) = match pattern_of(alloc, rest) {
-        Err(error) => return Err(error),
-        Ok(found) => found,
-    };
+    let (name, rest) = name_of(alloc, rest)?;
+    let (attributes, rest) = attributes_of(alloc, rest)?;
+    let (pattern, rest) = pattern_of(alloc, rest)?;
     let description = StaticConfig::new(hash, name, attributes, pattern);
     Ok((created_by(description, creator), rest))
 }

@@ -289,17 +289,8 @@ fn detail_of(alloc: Global, bytes: &[u8]) -> Result<(TypeDetail, &[u8]), DecodeE
 pub fn message_of(alloc: Global, bytes: &[u8]) -> Result<(MessageTypeDetails, &[u8]), DecodeError>
     ensures { IsReadBy (λ x. (x.0, x.1.now)) result (message_at bytes.now) }
 {
-    let (header, rest) = match detail_of(alloc, bytes) {
-        Err(error) => return Err(error),
-        Ok(found) => found,
-    };
-    let (user_header, rest) = match detail_of(alloc, rest) {
-        Err(error) => return Err(error),
-        Ok(found) => found,
-    };
-    let (payload, rest) = match detail_of(alloc, rest) {
-        Err(error) => return Err(error),
-        Ok(found) => found,
-    };
+    let (header, rest) = detail_of(alloc, bytes)?;
+    let (user_header, rest) = detail_of(alloc, rest)?;
+    let (payload, rest) = detail_of(alloc, rest)?;
     Ok((MessageTypeDetails::new(header, user_header, payload), rest))
 }
