@@ -1,7 +1,6 @@
 -- The own parts of accesses, from what was tested and done.
 use Rattle.std.proofs.Common.{◌≡◌, ℕ, ◌+◌, Bool, true, false, Option, Some, None, inl, inr, refl, sym, ap, subst, ◌∙◌}
 use Rattle.std.specs.Prelude.{Result, Ok, Err, nat_lt, ◌&&◌, ◌==◌, if◌then◌else◌}
-use Rattle.std.specs.FinMap as map
 use Rattle.iceoryx2_description.specs.declared.description.ServiceHash.{ServiceHash}
 use Rattle.iceoryx2_description.specs.Description.{Description}
 use Rattle.iceoryx2_world.specs.Sets as set
@@ -13,7 +12,7 @@ use Rattle.iceoryx2_access.specs.declared.storage.PublishError.{PublishError}
 use Rattle.iceoryx2_access.specs.declared.storage.PublishError.TheVariants as Publishing
 use Rattle.iceoryx2_access.specs.declared.storage.MakeSegmentError.TheVariants as Making
 use Rattle.iceoryx2_world.specs.Orders.{tag_cmp}
-use Rattle.iceoryx2_world.specs.World.{World, Segment, or_idle, Tickets}
+use Rattle.iceoryx2_world.specs.World.{World, Segment, Tickets}
 use Rattle.iceoryx2_world.specs.Acts as act
 use Rattle.iceoryx2_world.specs.Steps.{ServiceView, view_after, to_view, row_for}
 use Rattle.iceoryx2_access.specs.Letter.{Letter, caller_of, service_of}
@@ -69,22 +68,12 @@ module _ (i : ℕ) (h : ServiceHash) (n : ℕ) (d : Description) (k : Tickets) (
   unmade false m s e = refl
 
   pub no_publish : (x : Phase) (s : Option Segment) → (has_made n x && segment_fits h s d) ≡ false → publishes x s ≡ Err Publishing.Other
-  no_publish at.Idle s e = refl
-  no_publish (at.Read m) s e = refl
-  no_publish (at.Locked m) s e = refl
   no_publish (at.Made m) s e = unmade (m == n) m s e
-  no_publish (at.Joined m q) s e = refl
-  no_publish (at.Leaving m) s e = refl
-  no_publish (at.Cleared m) s e = refl
+  no_publish x s e = refl
 
   pub may_publish : (x : Phase) (s : Option Segment) → (has_made n x && segment_fits h s d) ≡ true → (has_made n x ≡ true) × There (view_after (Node i) h (act.Publish d) x r s c)
-  may_publish at.Idle s e = absurd (cc)
-  may_publish (at.Read m) s e = absurd (cc)
-  may_publish (at.Locked m) s e = absurd (cc)
   may_publish (at.Made m) s e = let p = both_true _ _ e in (p.0, fit m s p.1)
-  may_publish (at.Joined m q) s e = absurd (cc)
-  may_publish (at.Leaving m) s e = absurd (cc)
-  may_publish (at.Cleared m) s e = absurd (cc)
+  may_publish x s e = absurd (cc)
 
   pub publishes_by : (x : Phase) (s : Option Segment) (o : Option ServiceView) → has_made n x ≡ true → view_after (Node i) h (act.Publish d) x r s c ≡ o → publishes x s ≡ publishing_of i h n k o
   publishes_by x s o made e = ap (λ (b : Bool). if b then publishing_of i h n k (view_after (Node i) h (act.Publish d) x r s c) else Err Publishing.Other) made ∙ ap (publishing_of i h n k) e
@@ -103,21 +92,11 @@ make_refused i h n m (at.Locked k) r None c may e = absurd (allowed (nat_lt 0 m)
     allowed : (b : Bool) (y : ServiceView) → b ≡ true → (if b then Some y else None) ≡ None → ⊥
     allowed true y is e = cc
     allowed false y is e = cc
-make_refused i h n m at.Idle r None c may e = absurd (cc)
-make_refused i h n m (at.Read k) r None c may e = absurd (cc)
-make_refused i h n m (at.Made k) r None c may e = absurd (cc)
-make_refused i h n m (at.Joined k q) r None c may e = absurd (cc)
-make_refused i h n m (at.Leaving k) r None c may e = absurd (cc)
-make_refused i h n m (at.Cleared k) r None c may e = absurd (cc)
+make_refused i h n m x r None c may e = absurd (cc)
 
 -- a segment is made only where there is none
 pub make_done : (i : ℕ) (h : ServiceHash) (m : ℕ) (x : Phase) (r : Option Row) (s : Option Segment) (c : ℕ) (y : ServiceView) → view_after (Node i) h (act.Make m) x r s c ≡ Some y
     → make_of i h m (record { phase = x; row = r; segment = s; counter = c }) s ≡ Ok (tt, view_becomes y)
 make_done i h m x r None c y e = ap (or_refused Making.Other tt) e
 make_done i h m (at.Locked k) r (Some s) c y e = absurd (cc)
-make_done i h m at.Idle r (Some s) c y e = absurd (cc)
-make_done i h m (at.Read k) r (Some s) c y e = absurd (cc)
-make_done i h m (at.Made k) r (Some s) c y e = absurd (cc)
-make_done i h m (at.Joined k q) r (Some s) c y e = absurd (cc)
-make_done i h m (at.Leaving k) r (Some s) c y e = absurd (cc)
-make_done i h m (at.Cleared k) r (Some s) c y e = absurd (cc)
+make_done i h m x r (Some s) c y e = absurd (cc)

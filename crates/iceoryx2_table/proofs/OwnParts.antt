@@ -152,12 +152,12 @@ module _ {a w : World} (i : ℕ) (h : ServiceHash) (is : a ≡ w) (n : ℕ) (d :
       (tt, gives_starved _ _ _ (publishes_by i h n d a.tickets _ _ _ _ _ (has true e) s.1))
       (λ j. world_with (s.3 j) a.tags (same j))
 
-  pub published : (b : Book) {done : Bool} {k m : Tickets} → made ≡ true → done ≡ true → StepsOrStays (services_of a) (Node i) h (act.Publish d) done b → (◌≡◌ {A = Result Bool AllocError} (Ok done) (Ok true) → IsDescription d) → k ≡ with_ticket i h m n n → m ≡ a.tickets → IsOwnPart w (letter.Publish i h n d (Ok n)) (world_with b a.tags k)
-  published b e told step limits kept same =
+  pub published : (b : Book) {done : Bool} {k m : Tickets} {x : Ticket} → made ≡ true → done ≡ true → StepsOrStays (services_of a) (Node i) h (act.Publish d) done b → (◌≡◌ {A = Result Bool AllocError} (Ok done) (Ok true) → IsDescription d) → k ≡ map.insert m n x → x ≡ record { node = i; hash = h; number = n } → m ≡ a.tickets → IsOwnPart w (letter.Publish i h n d (Ok n)) (world_with b a.tags k)
+  published b e told step limits kept held same =
       let s = subst (λ (y : Bool). StepsOrStays (services_of a) (Node i) h (act.Publish d) y b) told step in
       part (letter.Publish i h n d (Ok n)) (view_becomes_with s.0 (with_ticket i h a.tickets n n)) is
       (limits (ap Ok told), gives_done _ _ _ _ (publishes_by i h n d a.tickets _ _ _ _ _ (has true e) s.1))
-      (λ j. world_with (s.2 j) a.tags ((kept ∙ ap (λ x. with_ticket i h x n n) same) j))
+      (λ j. world_with (s.2 j) a.tags ((kept ∙ (λ l. map.insert (same l) n (held l))) j))
 
 -- a segment is opened, by what was found against it
 module _ {a w : World} (i : ℕ) (h : ServiceHash) (is : a ≡ w) (n : ℕ) {q : Position} (found : q ≡ position_in a.phases (Node i, h)) {refusal : Option OpenSegmentError} (test : refusal ≡ open_refusal n (map.get a.segments h) a.counter q.phase) where
@@ -186,8 +186,8 @@ module _ {a w : World} (i : ℕ) (h : ServiceHash) (is : a ≡ w) (n : ℕ) {q :
       (λ j. world_with (s.3 j) a.tags (same j))
 
   -- the ticket is the number that is handed out behind the join
-  pub opened : (b : Book) {done : Bool} {v : Book} {u : ℕ} {k m : Tickets} → refusal ≡ None → done ≡ true → StepsOrStays (services_of a) (Node i) h act.Join done b → u ≡ b.counter → v ≡ record b { counter = b.counter + 1 } → k ≡ with_ticket i h m u n → m ≡ a.tickets → IsOwnPart w (letter.OpenSegment i h n (Ok u)) (world_with v a.tags k)
-  opened b {u = u} e told step ticket counted kept still =
+  pub opened : (b : Book) {done : Bool} {v : Book} {u : ℕ} {k m : Tickets} {t : Ticket} → refusal ≡ None → done ≡ true → StepsOrStays (services_of a) (Node i) h act.Join done b → u ≡ b.counter → v ≡ record b { counter = b.counter + 1 } → k ≡ map.insert m u t → t ≡ record { node = i; hash = h; number = n } → m ≡ a.tickets → IsOwnPart w (letter.OpenSegment i h n (Ok u)) (world_with v a.tags k)
+  opened b {u = u} e told step ticket counted kept held still =
       let s = subst (λ (y : Bool). StepsOrStays (services_of a) (Node i) h act.Join y b) told step in
       let x : ServiceView = s.0 in
       let same : b.counter ≡ a.counter = ap (λ (y : Book). y.counter) s.2 ∙ join_counter (Node i) h (phase_of a (Node i) h) (map.get a.rows h) (map.get a.segments h) a.counter x s.1 in
@@ -195,7 +195,7 @@ module _ {a w : World} (i : ℕ) (h : ServiceHash) (is : a ≡ w) (n : ℕ) {q :
       let next : b.counter + 1 ≡ u + 1 = ap (λ y. y + 1) (sym ticket) in
       part (letter.OpenSegment i h n (Ok u)) (view_becomes_with (record x { counter = u + 1 }) (with_ticket i h a.tickets u n)) is
       (gives_done _ _ _ _ (opens _ _ e s.1 ∙ ap (λ y. Ok (y, view_becomes_with (record x { counter = y + 1 }) (with_ticket i h a.tickets y n))) is_u))
-      (λ j. world_with ((counted ∙ (λ l. record (s.2 l) { counter = next l })) j) a.tags ((kept ∙ ap (λ y. with_ticket i h y u n) still) j))
+      (λ j. world_with ((counted ∙ (λ l. record (s.2 l) { counter = next l })) j) a.tags ((kept ∙ (λ l. map.insert (still l) u (held l))) j))
 
 -- a ticket is given back, by whether it is one of this node for this service and number
 module _ {a w : World} (i : ℕ) (h : ServiceHash) (is : a ≡ w) (u n : ℕ) {o : Option Ticket} (found : o ≡ map.get a.tickets u) {held : Bool} (test : held ≡ is_ticket i h n o) where

@@ -19,6 +19,7 @@ use Rattle.iceoryx2_table.specs.Book.{Book, step_at, with_view, StepsTo, Starves
 use Rattle.iceoryx2_access.specs.declared.storage.OpenSegmentError.TheVariants as Opening
 use Rattle.iceoryx2_access.specs.declared.storage.Release.{Release as Released}
 use Rattle.iceoryx2_world.specs.Access.{release_answer, open_refusal}
+use Rattle.iceoryx2_world.proofs.agreement.Parts.{not_refused, refused_else}
 
 -- by the phase that was read
 pub by_phase : (b : Book) (p : Participant) (h : ServiceHash) (a : Act) (x : Phase) → or_idle (map.get b.phases (p, h)) ≡ x → step_at b p h a ≡ view_after p h a x (map.get b.rows h) (map.get b.segments h) b.counter
@@ -40,53 +41,37 @@ starved {a} {b} {new} p h t s is e room f = subst (λ (x : Book). Starves x p h 
 pub left : {a b new : Book} (p : Participant) (h : ServiceHash) (r : Released) (s : ServiceView) → a ≡ b → step_at a p h act.Leave ≡ Some s → r ≡ release_answer s.phase → new ≡ with_view a p h s → TakesLeave b p h (Some r) new
 left {a} {b} {new} p h r s is e l f = subst (λ (x : Book). TakesLeave x p h (Some r) new) is (s, e, l, f)
 
-if_none : {E : Type 0} (b : Bool) (e : E) (o : Option E) → (if b then o else Some e) ≡ None → (b ≡ true) × (o ≡ None)
-if_none true e o x = (refl, x)
-if_none false e o x = absurd (cc)
-
-if_some : {E : Type 0} (b : Bool) (e : E) (o : Option E) → (if b then Some e else o) ≡ None → (b ≡ false) × (o ≡ None)
-if_some true e o x = absurd (cc)
-if_some false e o x = (refl, x)
-
 same_number : (m n : ℕ) → (m == n) ≡ true → m ≡ n
 same_number m n e = grind (arith, nat_tests, e)
 
 failed : (s : Segment) (n : ℕ) → (if s.number == n then if s.marked then Some Opening.Marked else Some Opening.Failed else Some Opening.Failed) ≡ None → ⊥
-failed s n e = let a = if_none (s.number == n) _ _ e in let b = if_some s.marked _ _ a.1 in absurd (cc)
+failed s n e = let a = not_refused (s.number == n) _ _ e in let b = refused_else s.marked _ _ a.1 in absurd (cc)
 
 -- who isn't refused may join, and a number is left
 pub may_join : (p : Participant) (h : ServiceHash) (n c : ℕ) (r : Option Row) (s : Option Segment) (x : Phase) → open_refusal n s c x ≡ None → (nat_lt c last_number ≡ true) × ((t : ServiceView) × (view_after p h act.Join x r s c ≡ Some t))
 may_join p h n c r None x e = absurd (cc)
 may_join p h n c r (Some s) (at.Read m) e =
-    let a = if_none (s.number == n) _ _ e in
-    let b = if_some s.marked _ _ a.1 in
-    let d = if_none (m == n) _ _ b.1 in
-    let f = if_none (has_room n s) _ _ d.1 in
-    let g = if_none (nat_lt c last_number) _ _ f.1 in
+    let a = not_refused (s.number == n) _ _ e in
+    let b = refused_else s.marked _ _ a.1 in
+    let d = not_refused (m == n) _ _ b.1 in
+    let f = not_refused (has_room n s) _ _ d.1 in
+    let g = not_refused (nat_lt c last_number) _ _ f.1 in
     let room : has_room m s ≡ true = subst (λ (k : ℕ). has_room k s ≡ true) (sym (same_number m n d.0)) f.0 in
     (g.0, (_, ap (λ (y : Bool). if y then to_view (at.Joined m 1) r (Some (with_one p s)) c else None) room))
 may_join p h n c r (Some s) (at.Joined m k) e =
-    let a = if_none (s.number == n) _ _ e in
-    let b = if_some s.marked _ _ a.1 in
-    let d = if_none (m == n) _ _ b.1 in
-    let g = if_none (nat_lt c last_number) _ _ d.1 in
-    let f = if_none (nat_lt k last_number) _ _ g.1 in
+    let a = not_refused (s.number == n) _ _ e in
+    let b = refused_else s.marked _ _ a.1 in
+    let d = not_refused (m == n) _ _ b.1 in
+    let g = not_refused (nat_lt c last_number) _ _ d.1 in
+    let f = not_refused (nat_lt k last_number) _ _ g.1 in
     (g.0, (_, ap (λ (y : Bool). if y then to_view (at.Joined m (k + 1)) r (Some s) c else None) f.0))
-may_join p h n c r (Some s) at.Idle e = absurd (failed s n e)
-may_join p h n c r (Some s) (at.Locked m) e = absurd (failed s n e)
-may_join p h n c r (Some s) (at.Made m) e = absurd (failed s n e)
-may_join p h n c r (Some s) (at.Leaving m) e = absurd (failed s n e)
-may_join p h n c r (Some s) (at.Cleared m) e = absurd (failed s n e)
+may_join p h n c r (Some s) x e = absurd (failed s n e)
 
 -- who holds nothing locks what is absent, while a number is left
 locks : (p : Participant) (h : ServiceHash) (x : Phase) (s : Option Segment) (c : ℕ) → begins x ≡ true → view_after p h act.Lock x None s c ≡ (if nat_lt c last_number then to_view (at.Locked c) (Some (row.Locked c)) s (c + 1) else None)
 locks p h at.Idle s c e = refl
 locks p h (at.Read n) s c e = refl
-locks p h (at.Locked n) s c e = absurd (cc)
-locks p h (at.Made n) s c e = absurd (cc)
-locks p h (at.Joined n k) s c e = absurd (cc)
-locks p h (at.Leaving n) s c e = absurd (cc)
-locks p h (at.Cleared n) s c e = absurd (cc)
+locks p h x s c e = absurd (cc)
 
 pub lock_tried : (b : Book) (p : Participant) (h : ServiceHash) (x : Phase) → or_idle (map.get b.phases (p, h)) ≡ x → begins x ≡ true → map.get b.rows h ≡ None → nat_lt b.counter last_number ≡ true
     → step_at b p h act.Lock ≡ to_view (at.Locked b.counter) (Some (row.Locked b.counter)) (map.get b.segments h) (b.counter + 1)
@@ -108,11 +93,7 @@ read_tried b p h x n d e free there =
     reads : (x : Phase) → begins x ≡ true → view_after p h act.Read x (Some (row.Published n d)) (map.get b.segments h) b.counter ≡ to_view (at.Read n) (Some (row.Published n d)) (map.get b.segments h) b.counter
     reads at.Idle f = refl
     reads (at.Read m) f = refl
-    reads (at.Locked m) f = absurd (cc)
-    reads (at.Made m) f = absurd (cc)
-    reads (at.Joined m k) f = absurd (cc)
-    reads (at.Leaving m) f = absurd (cc)
-    reads (at.Cleared m) f = absurd (cc)
+    reads y f = absurd (cc)
 
 -- who made a segment publishes what fits it
 pub publish_tried : (b : Book) (p : Participant) (h : ServiceHash) (d : Description) (n : ℕ) (s : Segment) → or_idle (map.get b.phases (p, h)) ≡ at.Made n → map.get b.segments h ≡ Some s → fits h s d ≡ true
@@ -142,8 +123,4 @@ pub join_counter : (p : Participant) (h : ServiceHash) (x : Phase) (r : Option R
 join_counter p h (at.Read m) r None c t e = absurd (cc)
 join_counter p h (at.Read m) r (Some s) c t e = ap (λ (y : ServiceView). y.counter) (sym (some_if (has_room m s) _ t e))
 join_counter p h (at.Joined m k) r s c t e = ap (λ (y : ServiceView). y.counter) (sym (some_if (nat_lt k last_number) _ t e))
-join_counter p h at.Idle r s c t e = absurd (cc)
-join_counter p h (at.Locked m) r s c t e = absurd (cc)
-join_counter p h (at.Made m) r s c t e = absurd (cc)
-join_counter p h (at.Leaving m) r s c t e = absurd (cc)
-join_counter p h (at.Cleared m) r s c t e = absurd (cc)
+join_counter p h x r s c t e = absurd (cc)

@@ -65,6 +65,17 @@ fn is_held(held: Option<&Ticket>, node: u64, hash: &ServiceHash, number: u64) ->
     }
 }
 
+// What a node is given for a service and number.
+fn ticket_for(node: u64, hash: &ServiceHash, number: u64) -> Ticket
+    ensures { result ≡ record { node = node; hash = hash.now; number = number } }
+{
+    Ticket {
+        node,
+        hash: *hash,
+        number,
+    }
+}
+
 // It has made a segment under the lock of this number.
 fn has_made(phase: Phase, number: u64) -> bool
     ensures { result ≡ has_made_spec number phase }
@@ -307,12 +318,7 @@ impl StoredWorld {
             return Err(PublishError::Other);
         }
         let ticket = number;
-        let held = Ticket {
-            node,
-            hash: *hash,
-            number,
-        };
-        self.tickets.insert(ticket, held);
+        self.tickets.insert(ticket, ticket_for(node, hash, number));
         Ok(ticket)
     }
 
@@ -343,12 +349,7 @@ impl StoredWorld {
             return Err(OpenSegmentError::Failed);
         }
         let ticket = self.services.next_number();
-        let held = Ticket {
-            node,
-            hash: *hash,
-            number,
-        };
-        self.tickets.insert(ticket, held);
+        self.tickets.insert(ticket, ticket_for(node, hash, number));
         Ok(ticket)
     }
 

@@ -13,4 +13,4 @@ returns-in_default-join c = open_starved c.args.node c.args.hash.now c.self.view
 pub returns : goal.returns
 returns c =
     opened c.args.node c.args.hash.now c.self.view_is c.args.number c.position-position.ensures c.open_refusal.ensures c.join.new.self c.in_default.is c.if-not-joined.false c.in-Ok.ensures
-    c.next_number-ticket.ensures.number c.next_number-ticket.ensures.effect c.insert.ensures.effect c.reserve.ensures.same
+    c.next_number-ticket.ensures.number c.next_number-ticket.ensures.effect c.insert.ensures.effect c.ticket_for.ensures c.reserve.ensures.same

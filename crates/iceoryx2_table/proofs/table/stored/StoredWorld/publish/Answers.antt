@@ -17,4 +17,4 @@ returns-in_default c = publish_starved c.args.node c.args.hash.now c.self.view_i
 pub returns : goal.returns
 returns c =
     published c.args.node c.args.hash.now c.self.view_is c.args.number c.args.description.now c.position-position.ensures c.has_made.ensures c.publish.new.self c.if-not-has_made.false c.if-not-published.false
-    c.in-Ok.ensures.effect c.in-Ok.ensures.limits c.insert.ensures.effect c.reserve.ensures.same
+    c.in-Ok.ensures.effect c.in-Ok.ensures.limits c.insert.ensures.effect c.ticket_for.ensures c.reserve.ensures.same
