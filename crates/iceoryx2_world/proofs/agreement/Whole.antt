@@ -26,12 +26,7 @@ get-set_to o m k (Some v) q = map.get-insert o m k v q
 
 pub stored : (x : Phase) → or_idle (unless_idle x) ≡ x
 stored at.Idle = refl
-stored (at.Read n) = refl
-stored (at.Locked n) = refl
-stored (at.Made n) = refl
-stored (at.Joined n k) = refl
-stored (at.Leaving n) = refl
-stored (at.Cleared n) = refl
+stored _ = refl
 
 pub both_tied : (a b : Ordering) → is_eq (ordering_then a b) ≡ (is_eq a && is_eq b)
 both_tied Less b = refl
