@@ -145,12 +145,16 @@ pub faulty_keeps : (w : World) (l : Letter) (v : World) → IsFallibleAccess w l
 faulty_keeps w l v (inl a) old = access_keeps w l v a old
 faulty_keeps w l v (inr f) old = same_keeps w v f.1 old
 
-pub run_keeps : {w v : World} {word : List Letter} → Run IsFallibleAccess w word v → Agrees w → Agrees v × Later w v
-run_keeps done old = (old, later_refl _)
-run_keeps {w = u} {v = w} (next {mid = v} {letter = l} a rest) old =
-    let one = faulty_keeps u l v a old in
-    let more = run_keeps rest one.0 in
+-- what each step keeps a run keeps
+pub keeps_along : {step : World → Letter → World → Type 0} → ((w : World) (l : Letter) (v : World) → step w l v → Agrees w → Agrees v × Later w v) → {w v : World} {word : List Letter} → Run step w word v → Agrees w → Agrees v × Later w v
+keeps_along keeps done old = (old, later_refl _)
+keeps_along keeps {w = u} {v = w} (next {mid = v} {letter = l} a rest) old =
+    let one = keeps u l v a old in
+    let more = keeps_along keeps rest one.0 in
     (more.0, later_trans u v w old.everywhere one.1 more.1)
+
+pub run_keeps : {w v : World} {word : List Letter} → Run IsFallibleAccess w word v → Agrees w → Agrees v × Later w v
+run_keeps = keeps_along faulty_keeps
 
 -- accesses that are not refused are such accesses too
 pub with_refusals : {w v : World} {word : List Letter} → Run IsAccess w word v → Run IsFallibleAccess w word v
