@@ -9,6 +9,7 @@ use Rattle.std.specs.declared.cmp.Ordering.TheVariants.{Less, Equal, Greater}
 use Rattle.std.specs.Cmp.{IsTotalOrder, alike_right, tied_back}
 use Rattle.std.proofs.lemmas.Bool.{cases_lt}
 use Rattle.std.proofs.lemmas.List.Elements.{All-append, All-cons, All-filter}
+use Rattle.std.proofs.lemmas.List.Edits.{length-insert}
 use Rattle.std.proofs.lemmas.List.Folds.{list_any_at, list_any_none}
 use Rattle.std.proofs.lemmas.Map.Lookups.{CmpEqualImpliesEq}
 use Rattle.iceoryx2_attribute.specs.Ascending.{ascends_by, with_item}
@@ -275,7 +276,21 @@ placed R o exact xs x listed e h r within is =
     same (Ok i) found = same_with R o exact xs x h found
     same (Err i) found = tt
 
+-- items within a limit, each once
+pub record AreItems {A : Type 0} (before : A → A → Bool) (P : A → Type 0) (most : ℕ) (xs : List A) : Type 0 where
+  pub few : length xs ≤ most
+  pub each : All P xs
+  pub ascending : ascends_by before xs ≡ true
+
 -- what an insert leaves, done or not: xs is read in the fields, and ys is its value
-pub after_insert : {A : Type 0} (P : List A → Type 0) {xs ys new w : List A} (ok : Bool) (at : ℕ) (x given : A) → xs ≡ ys → P xs → P w → insert ys at x ≡ w → given ≡ x → new ≡ (if ok then insert xs at given else xs) → P new
-after_insert P true at x given is old fits place same e = rw (e, same, is, place) fits
-after_insert P false at x given is old fits place same e = rw e old
+pub after_insert : {A : Type 0} (R : A → A → Ordering) (o : IsTotalOrder R) (P : A → Type 0) (most : ℕ) {xs ys new : List A} (ok : Bool) (at : ℕ) (x given : A) → xs ≡ ys → AreItems (lt R) P most xs → P x → length xs < most → at ≤ length ys → insert ys at x ≡ with_item (lt R) ys x → given ≡ x → new ≡ (if ok then insert xs at given else xs) → AreItems (lt R) P most new
+after_insert {A} R o P most {ys = ys} true at x given is old one few within place same e =
+    let there = subst (AreItems (lt R) P most) is old in
+    let fewer : length ys < most = subst (λ (zs : List A). length zs < most) is few in
+    let size = length-insert ys at x within in
+    rw (e, same, is, place) (record {
+      few = rw (← place) (omega (arith, size, fewer));
+      each = all_with R o P ys x there.each one;
+      ascending = ascends_with R o ys x there.ascending;
+    })
+after_insert R o P most false at x given is old one few within place same e = rw e old

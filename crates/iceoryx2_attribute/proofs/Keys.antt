@@ -6,7 +6,6 @@ use Rattle.std.specs.List.Sorted.{IsSearchInRange, IsBinarySearchResult}
 use Rattle.std.specs.Ordering.{is_eq}
 use Rattle.std.specs.Cmp.Lexicographic.{texts_ties, bytes_decides}
 use Rattle.std.proofs.lemmas.Cmp.{nat_list_cmp_total}
-use Rattle.std.proofs.lemmas.List.Edits.{length-insert}
 use Rattle.std.proofs.lemmas.List.Elements.{All-nil}
 use Rattle.std.proofs.lemmas.List.Folds.{Any-from_list_any}
 use Rattle.std.proofs.lemmas.Str.{is_utf8-from_IsUtf8}
@@ -35,20 +34,14 @@ pub none_fit : AreKeys []
 unfolding ascends_by
 none_fit = record { few = omega arith; each = All-nil IsKey; ascending = refl }
 
-pub more_fit : (keys : List (List ℕ)) (at : ℕ) (key : List ℕ) → AreKeys keys → IsKey key → length keys < MAX_REQUIRED_KEYS → at ≤ length keys → insert keys at key ≡ with_key keys key → AreKeys (with_key keys key)
-unfolding key_before
-more_fit keys at key fits one few within is =
-    let size = length-insert keys at key within in
-    record {
-      few = rw (← is) (omega (arith, size));
-      each = ascending.all_with text_cmp nat_list_cmp_total IsKey keys key fits.each one;
-      ascending = ascending.ascends_with text_cmp nat_list_cmp_total keys key fits.ascending;
-    }
+fit : (keys : List (List ℕ)) → ascending.AreItems key_before IsKey MAX_REQUIRED_KEYS keys → AreKeys keys
+fit keys items = record { few = items.few; each = items.each; ascending = items.ascending }
 
 -- what an insert of the key leaves
 pub after_insert : {keys value new : List (List ℕ)} (ok : Bool) (at : ℕ) (key given : List ℕ) → keys ≡ value → AreKeys keys → IsKey key → length keys < MAX_REQUIRED_KEYS → at ≤ length value → insert value at key ≡ with_key value key → given ≡ key → new ≡ (if ok then insert keys at given else keys) → AreKeys new
-after_insert {value = value} ok at key given is fits one few within place same e =
-    ascending.after_insert AreKeys ok at key given is fits (more_fit value at key (subst AreKeys is fits) one (rw (← is) few) within place) place same e
+unfolding key_before
+after_insert {new = new} ok at key given is fits one few within place same e =
+    fit new (ascending.after_insert text_cmp nat_list_cmp_total IsKey MAX_REQUIRED_KEYS ok at key given is (record { few = fits.few; each = fits.each; ascending = fits.ascending }) one few within place same e)
 
 -- ---- a key that is there
 

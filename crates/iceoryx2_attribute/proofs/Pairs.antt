@@ -8,7 +8,6 @@ use Rattle.std.specs.declared.cmp.Ordering.TheVariants.{Less, Equal, Greater}
 use Rattle.std.specs.Cmp.{IsTotalOrder, both_tied, tied_itself}
 use Rattle.std.specs.Cmp.Lexicographic.{texts_ties}
 use Rattle.std.proofs.lemmas.Cmp.{on_total, then_total, nat_list_cmp_total}
-use Rattle.std.proofs.lemmas.List.Edits.{length-insert}
 use Rattle.std.proofs.lemmas.List.Elements.{All-nil, All-push}
 use Rattle.std.proofs.lemmas.List.Folds.{Any-from_list_any}
 use Rattle.std.proofs.lemmas.Str.{is_utf8-from_IsUtf8}
@@ -84,21 +83,6 @@ pub none_fit : AreAttributes []
 unfolding ascends_by
 none_fit = record { few = omega arith; each = All-nil IsPair; ascending = refl }
 
-pub more_fit : (ps : List Pair) (at : ℕ) (p : Pair) → AreAttributes ps → IsPair p → length ps < MAX_ATTRIBUTES → at ≤ length ps → insert ps at p ≡ with_pair ps p → AreAttributes (with_pair ps p)
-unfolding pair_before
-more_fit ps at p fits one few within is =
-    let size = length-insert ps at p within in
-    record {
-      few = rw (← is) (omega (arith, size));
-      each = ascending.all_with pair_cmp pair_total IsPair ps p fits.each one;
-      ascending = ascending.ascends_with pair_cmp pair_total ps p fits.ascending;
-    }
-
--- what an insert of the pair leaves
-pub after_insert : {ps value new : List Pair} (ok : Bool) (at : ℕ) (p given : Pair) → ps ≡ value → AreAttributes ps → IsPair p → length ps < MAX_ATTRIBUTES → at ≤ length value → insert value at p ≡ with_pair value p → given ≡ p → new ≡ (if ok then insert ps at given else ps) → AreAttributes new
-after_insert {value = value} ok at p given is fits one few within place same e =
-    ascending.after_insert AreAttributes ok at p given is fits (more_fit value at p (subst AreAttributes is fits) one (rw (← is) few) within place) place same e
-
 -- one more behind the others
 pub next_fits : (ps : List Pair) (p : Pair) → AreAttributes ps → IsPair p → length ps < MAX_ATTRIBUTES → ascends (ps ++ p ∷ []) ≡ true → AreAttributes (ps ++ p ∷ [])
 next_fits ps p fits one few ascending = record {
@@ -106,6 +90,15 @@ next_fits ps p fits one few ascending = record {
   each = All-push IsPair ps p fits.each one;
   ascending = ascending;
 }
+
+fit : (ps : List Pair) → ascending.AreItems pair_before IsPair MAX_ATTRIBUTES ps → AreAttributes ps
+fit ps items = record { few = items.few; each = items.each; ascending = items.ascending }
+
+-- what an insert of the pair leaves
+pub after_insert : {ps value new : List Pair} (ok : Bool) (at : ℕ) (p given : Pair) → ps ≡ value → AreAttributes ps → IsPair p → length ps < MAX_ATTRIBUTES → at ≤ length value → insert value at p ≡ with_pair value p → given ≡ p → new ≡ (if ok then insert ps at given else ps) → AreAttributes new
+unfolding pair_before
+after_insert {new = new} ok at p given is fits one few within place same e =
+    fit new (ascending.after_insert pair_cmp pair_total IsPair MAX_ATTRIBUTES ok at p given is (record { few = fits.few; each = fits.each; ascending = fits.ascending }) one few within place same e)
 
 -- ---- equality
 
