@@ -1,6 +1,5 @@
-//! The two bodies of a table, side by side: the one in sorted vectors, and the plain one.
+//! The two bodies of a table by one trait: the one in sorted vectors here, and the plain one in `plain`.
 
-use crate::plain::{Plain, PlainTable};
 use iceoryx2_access::storage::Service;
 use iceoryx2_description::description::ServiceHash;
 use iceoryx2_table::local::Local;
@@ -73,44 +72,6 @@ impl Body for Local {
     }
 
     fn let_go(table: Table) {
-        let _table = table;
-    }
-}
-
-impl Body for Plain {
-    fn new(alloc: Global) -> PlainTable {
-        PlainTable::new(alloc)
-    }
-
-    fn schedule(table: &mut PlainTable, batches: Vec<Vec<Step>>) {
-        table.schedule(batches);
-    }
-
-    fn pending(table: &PlainTable) -> usize {
-        table.pending()
-    }
-
-    fn counter(table: &PlainTable) -> u64 {
-        table.counter()
-    }
-
-    fn skipped(table: &PlainTable) -> u64 {
-        table.skipped()
-    }
-
-    fn list(table: &PlainTable) -> Result<Vec<Entry>, AllocError> {
-        table.list()
-    }
-
-    fn has_tag(table: &PlainTable, node: u64, hash: &ServiceHash) -> bool {
-        table.has_tag(node, hash)
-    }
-
-    fn tickets(table: &PlainTable, node: u64, hash: &ServiceHash) -> u64 {
-        table.tickets(node, hash)
-    }
-
-    fn let_go(table: PlainTable) {
         let _table = table;
     }
 }

@@ -14,8 +14,6 @@ mod plain;
 #[cfg(test)]
 mod plain_session;
 #[cfg(test)]
-mod refusals;
-#[cfg(test)]
 mod schedules;
 #[cfg(test)]
 mod sessions;

@@ -4,7 +4,6 @@ use crate::support::name;
 use iceoryx2_attribute::attribute::AttributeSet;
 use iceoryx2_description::config::Config;
 use iceoryx2_description::description::{MessagingPattern, ServiceHash, StaticConfig};
-use iceoryx2_description::{event, publish_subscribe, request_response};
 use iceoryx2_types::types::publish_subscribe::Header;
 use iceoryx2_types::types::request_response::{RequestHeader, ResponseHeader};
 use iceoryx2_types::types::{
@@ -12,59 +11,34 @@ use iceoryx2_types::types::{
 };
 use std::alloc::Global;
 use std::process::Abort;
-
-/// A pattern of messaging.
-#[derive(Clone, Copy, Debug, PartialEq, Eq)]
-pub enum Pattern {
-    Event,
-    PublishSubscribe,
-    RequestResponse,
-}
-
-/// All of them.
-pub const ALL: &[Pattern] = &[
-    Pattern::Event,
-    Pattern::PublishSubscribe,
-    Pattern::RequestResponse,
-];
+pub use test_support::patterns::{ALL, Pattern};
+use test_support::settings;
 
 /// The name of the service that is called for.
 pub const NAME: &str = "xample";
 
 /// Its hash, as other programs hash it.
-pub fn service(pattern: Pattern) -> ServiceHash {
-    match pattern {
-        Pattern::Event => ServiceHash([
-            0xc3, 0x49, 0x9c, 0x27, 0x29, 0x73, 0x0a, 0x7f, 0x80, 0x7e, 0xfb, 0x86, 0x76, 0xa9,
-            0x2d, 0xcb, 0x6f, 0x8a, 0x3f, 0x8f,
-        ]),
-        Pattern::PublishSubscribe => ServiceHash([
-            0x5f, 0xa2, 0x53, 0xad, 0xf3, 0xbd, 0x93, 0x5e, 0x11, 0xff, 0xb7, 0xe0, 0x27, 0x78,
-            0x10, 0x6a, 0x71, 0x53, 0x3f, 0x98,
-        ]),
-        Pattern::RequestResponse => ServiceHash([
-            0x89, 0x08, 0x67, 0xc5, 0xc5, 0x49, 0x5c, 0xfd, 0x09, 0x43, 0xcc, 0xe9, 0x81, 0x0d,
-            0xb2, 0x23, 0x3d, 0x5e, 0x4d, 0x7e,
-        ]),
-    }
+pub const fn service(pattern: Pattern) -> ServiceHash {
+    ServiceHash(match pattern {
+        Pattern::Event =>
+            *b"\xc3\x49\x9c\x27\x29\x73\x0a\x7f\x80\x7e\xfb\x86\x76\xa9\x2d\xcb\x6f\x8a\x3f\x8f",
+        Pattern::PublishSubscribe =>
+            *b"\x5f\xa2\x53\xad\xf3\xbd\x93\x5e\x11\xff\xb7\xe0\x27\x78\x10\x6a\x71\x53\x3f\x98",
+        Pattern::RequestResponse =>
+            *b"\x89\x08\x67\xc5\xc5\x49\x5c\xfd\x09\x43\xcc\xe9\x81\x0d\xb2\x23\x3d\x5e\x4d\x7e",
+    })
 }
 
 /// The hash of the one with the name `other`, as other programs hash it.
-pub fn other_service(pattern: Pattern) -> ServiceHash {
-    match pattern {
-        Pattern::Event => ServiceHash([
-            0xa8, 0x24, 0x2c, 0x59, 0xc0, 0xad, 0x4d, 0xb2, 0x23, 0x55, 0xc3, 0x67, 0x09, 0xca,
-            0xed, 0x4b, 0xe4, 0xc3, 0xba, 0x00,
-        ]),
-        Pattern::PublishSubscribe => ServiceHash([
-            0xe1, 0x17, 0x53, 0xed, 0xb5, 0xeb, 0x07, 0xe7, 0x74, 0x14, 0x43, 0x7e, 0xd5, 0x5e,
-            0x8b, 0xd8, 0x83, 0x17, 0x15, 0x93,
-        ]),
-        Pattern::RequestResponse => ServiceHash([
-            0x89, 0x1c, 0x01, 0x22, 0x31, 0x7e, 0x1a, 0x1c, 0x39, 0x7f, 0x60, 0x94, 0xe7, 0xc4,
-            0xde, 0x50, 0x71, 0x57, 0x84, 0x97,
-        ]),
-    }
+pub const fn other_service(pattern: Pattern) -> ServiceHash {
+    ServiceHash(match pattern {
+        Pattern::Event =>
+            *b"\xa8\x24\x2c\x59\xc0\xad\x4d\xb2\x23\x55\xc3\x67\x09\xca\xed\x4b\xe4\xc3\xba\x00",
+        Pattern::PublishSubscribe =>
+            *b"\xe1\x17\x53\xed\xb5\xeb\x07\xe7\x74\x14\x43\x7e\xd5\x5e\x8b\xd8\x83\x17\x15\x93",
+        Pattern::RequestResponse =>
+            *b"\x89\x1c\x01\x22\x31\x7e\x1a\x1c\x39\x7f\x60\x94\xe7\xc4\xde\x50\x71\x57\x84\x97",
+    })
 }
 
 /// What is published of a service.
@@ -122,90 +96,24 @@ fn message<H: ZeroCopySend>(rt: &impl Abort, alloc: Global) -> MessageTypeDetail
     }
 }
 
-/// Events with these settings.
-fn events(
-    [max_notifiers, max_listeners, event_id_max_value, max_nodes]: [u64; 4],
-) -> MessagingPattern {
-    MessagingPattern::Event(event::StaticConfig {
-        max_notifiers,
-        max_listeners,
-        event_id_max_value,
-        max_nodes,
-        notifier_created_event: None,
-        notifier_dropped_event: None,
-        notifier_dead_event: None,
-        deadline: None,
-    })
-}
-
-/// Publish-subscribe with these settings.
-fn messages(
-    rt: &impl Abort,
-    alloc: Global,
-    [
-        max_publishers,
-        max_subscribers,
-        subscriber_max_buffer_size,
-        history_size,
-        subscriber_max_borrowed_samples,
-        max_nodes,
-    ]: [u64; 6],
-    enable_safe_overflow: bool,
-) -> MessagingPattern {
-    MessagingPattern::PublishSubscribe(publish_subscribe::StaticConfig {
-        max_publishers,
-        max_subscribers,
-        subscriber_max_buffer_size,
-        history_size,
-        subscriber_max_borrowed_samples,
-        enable_safe_overflow,
-        max_nodes,
-        message_type_details: message::<Header>(rt, alloc),
-    })
-}
-
-/// Request-response with these settings.
-fn requests(
-    rt: &impl Abort,
-    alloc: Global,
-    [for_requests, for_responses, fire_and_forget]: [bool; 3],
-    [
-        max_active_requests_per_client,
-        max_loaned_requests,
-        max_borrowed_responses_per_pending_response,
-        max_response_buffer_size,
-        max_servers,
-        max_clients,
-        max_nodes,
-    ]: [u64; 7],
-) -> MessagingPattern {
-    MessagingPattern::RequestResponse(request_response::StaticConfig {
-        enable_safe_overflow_for_requests: for_requests,
-        enable_safe_overflow_for_responses: for_responses,
-        enable_fire_and_forget_requests: fire_and_forget,
-        max_active_requests_per_client,
-        max_loaned_requests,
-        max_borrowed_responses_per_pending_response,
-        max_response_buffer_size,
-        max_servers,
-        max_clients,
-        max_nodes,
-        request_message_type_details: message::<RequestHeader>(rt, alloc),
-        response_message_type_details: message::<ResponseHeader>(rt, alloc),
-    })
-}
-
 /// The description of a service of this hash and name with these settings.
 pub fn described(
     rt: &impl Abort,
     alloc: Global,
     (hash, text): (ServiceHash, &str),
-    settings: Settings,
+    said: Settings,
 ) -> StaticConfig {
-    let pattern = match settings {
-        Settings::Event(numbers) => events(numbers),
-        Settings::PublishSubscribe(numbers, overflow) => messages(rt, alloc, numbers, overflow),
-        Settings::RequestResponse(flags, numbers) => requests(rt, alloc, flags, numbers),
+    let pattern = match said {
+        Settings::Event(numbers) => MessagingPattern::Event(settings::events(numbers)),
+        Settings::PublishSubscribe(numbers, overflow) => {
+            let message = message::<Header>(rt, alloc);
+            MessagingPattern::PublishSubscribe(settings::messages(numbers, overflow, message))
+        }
+        Settings::RequestResponse(flags, numbers) => {
+            let request = message::<RequestHeader>(rt, alloc);
+            let response = message::<ResponseHeader>(rt, alloc);
+            MessagingPattern::RequestResponse(settings::requests(flags, numbers, request, response))
+        }
     };
     StaticConfig::new(
         hash,
@@ -218,45 +126,14 @@ pub fn described(
 /// The settings that a description says.
 pub fn settings_in(description: &StaticConfig) -> Settings {
     match description.messaging_pattern() {
-        MessagingPattern::Event(settings) => Settings::Event([
-            settings.max_notifiers,
-            settings.max_listeners,
-            settings.event_id_max_value,
-            settings.max_nodes,
-        ]),
-        MessagingPattern::PublishSubscribe(settings) => of_messages(settings),
-        MessagingPattern::RequestResponse(settings) => of_requests(settings),
+        MessagingPattern::Event(said) => Settings::Event(settings::numbers_of_events(said)),
+        MessagingPattern::PublishSubscribe(said) => {
+            let numbers = settings::numbers_of_messages(said);
+            Settings::PublishSubscribe(numbers, said.enable_safe_overflow)
+        }
+        MessagingPattern::RequestResponse(said) => {
+            let flags = settings::flags_of_requests(said);
+            Settings::RequestResponse(flags, settings::numbers_of_requests(said))
+        }
     }
-}
-
-/// Those of publish-subscribe.
-fn of_messages(settings: &publish_subscribe::StaticConfig) -> Settings {
-    let numbers = [
-        settings.max_publishers,
-        settings.max_subscribers,
-        settings.subscriber_max_buffer_size,
-        settings.history_size,
-        settings.subscriber_max_borrowed_samples,
-        settings.max_nodes,
-    ];
-    Settings::PublishSubscribe(numbers, settings.enable_safe_overflow)
-}
-
-/// Those of request-response.
-fn of_requests(settings: &request_response::StaticConfig) -> Settings {
-    let flags = [
-        settings.enable_safe_overflow_for_requests,
-        settings.enable_safe_overflow_for_responses,
-        settings.enable_fire_and_forget_requests,
-    ];
-    let numbers = [
-        settings.max_active_requests_per_client,
-        settings.max_loaned_requests,
-        settings.max_borrowed_responses_per_pending_response,
-        settings.max_response_buffer_size,
-        settings.max_servers,
-        settings.max_clients,
-        settings.max_nodes,
-    ];
-    Settings::RequestResponse(flags, numbers)
 }

@@ -1,5 +1,6 @@
 //! The table in its plain form, written from the rules of its steps and accesses alone.
 
+use crate::body::Body;
 use crate::standing::Standing;
 use iceoryx2_access::storage::{
     Existence, FetchError, LockError, MakeSegmentError, OpenSegmentError, PublishError, Release,
@@ -27,64 +28,6 @@ pub struct PlainTable {
 }
 
 impl PlainTable {
-    /// An empty table whose first number is 0, at which nothing waits.
-    pub fn new(alloc: Global) -> PlainTable {
-        PlainTable {
-            alloc,
-            services: BTreeMap::new(alloc),
-            counter: 0,
-            waiting: Vec::new(alloc),
-            skipped: 0,
-        }
-    }
-
-    /// Puts these batches in the place of those that wait.
-    pub fn schedule(&mut self, batches: Vec<Vec<Step>>) {
-        self.waiting = batches;
-    }
-
-    /// How many batches wait.
-    pub fn pending(&self) -> usize {
-        self.waiting.len()
-    }
-
-    /// How many steps of batches were allowed and found no memory. It stops at `u64::MAX`.
-    pub fn skipped(&self) -> u64 {
-        self.skipped
-    }
-
-    /// The next number or ticket.
-    pub fn counter(&self) -> u64 {
-        self.counter
-    }
-
-    /// Whether the node has a tag for the service.
-    pub fn has_tag(&self, node: u64, hash: &ServiceHash) -> bool {
-        match self.services.get(hash) {
-            Some(standing) => standing.has_tag(node),
-            None => false,
-        }
-    }
-
-    /// How many tickets the node has for the service.
-    pub fn tickets(&self, node: u64, hash: &ServiceHash) -> u64 {
-        match self.services.get(hash) {
-            Some(standing) => standing.tickets(node),
-            None => 0,
-        }
-    }
-
-    /// Each service with a row or a segment, in the map's order.
-    pub fn list(&self) -> Result<Vec<Entry>, AllocError> {
-        let mut entries = Vec::new(self.alloc);
-        for (hash, standing) in self.services.iter() {
-            if let Some(entry) = standing.listed(*hash)? {
-                entries.push(entry)?;
-            }
-        }
-        Ok(entries)
-    }
-
     /// Where a participant is with the service.
     fn phase(&self, participant: Participant, hash: &ServiceHash) -> Phase {
         match self.services.get(hash) {
@@ -352,4 +295,60 @@ impl Service for Plain {
     type Storage = PlainTable;
 
     type ServiceNameHasher = Sha1Hasher;
+}
+
+impl Body for Plain {
+    fn new(alloc: Global) -> PlainTable {
+        PlainTable {
+            alloc,
+            services: BTreeMap::new(alloc),
+            counter: 0,
+            waiting: Vec::new(alloc),
+            skipped: 0,
+        }
+    }
+
+    fn schedule(table: &mut PlainTable, batches: Vec<Vec<Step>>) {
+        table.waiting = batches;
+    }
+
+    fn pending(table: &PlainTable) -> usize {
+        table.waiting.len()
+    }
+
+    fn counter(table: &PlainTable) -> u64 {
+        table.counter
+    }
+
+    fn skipped(table: &PlainTable) -> u64 {
+        table.skipped
+    }
+
+    fn list(table: &PlainTable) -> Result<Vec<Entry>, AllocError> {
+        let mut entries = Vec::new(table.alloc);
+        for (hash, standing) in table.services.iter() {
+            if let Some(entry) = standing.listed(*hash)? {
+                entries.push(entry)?;
+            }
+        }
+        Ok(entries)
+    }
+
+    fn has_tag(table: &PlainTable, node: u64, hash: &ServiceHash) -> bool {
+        match table.services.get(hash) {
+            Some(standing) => standing.has_tag(node),
+            None => false,
+        }
+    }
+
+    fn tickets(table: &PlainTable, node: u64, hash: &ServiceHash) -> u64 {
+        match table.services.get(hash) {
+            Some(standing) => standing.tickets(node),
+            None => 0,
+        }
+    }
+
+    fn let_go(table: PlainTable) {
+        let _table = table;
+    }
 }

@@ -2,23 +2,20 @@
 //! plain one by a few lines that are written from the words of its commands.
 
 use crate::body::Body;
-use crate::calls::{Called, MessageBuilder, RequestBuilder, close, messages, requests};
+use crate::calls::close;
 use crate::plain::{Plain, PlainTable};
 use crate::support::push;
 use iceoryx2_attribute::attribute::{AttributeSpecifier, AttributeVerifier};
-use iceoryx2_builder::builder::{Node, event};
-use iceoryx2_commands::command::{
-    Call, Command, EventSetter, How, PublishSubscribeSetter, Refusal, Reply, RequestResponseSetter,
-    SLOTS, Settings,
-};
+use iceoryx2_builder::builder::Node;
+use iceoryx2_commands::command::{Call, Command, How, Reply, SLOTS, Settings};
 use iceoryx2_description::config::Config;
-use iceoryx2_description::time::{ClockFault, Time};
 use iceoryx2_port_factory::port_factory::Registration;
 use iceoryx2_session::session::Session;
 use iceoryx2_table::local::Local;
 use iceoryx2_table::table::Table;
 use std::alloc::Global;
 use std::process::Abort;
+use test_support::calls::{Ask, Called, Calls, Now, messages, requests};
 
 /// A body over which commands are carried out, with places for what they open.
 pub trait Commanded: Body {
@@ -85,122 +82,45 @@ pub struct PlainSession {
     slots: Vec<Option<Kept>>,
 }
 
-/// A call for events, after each setter. A create defines the required pairs.
-fn of_events(
-    builder: event::Builder<Plain>,
-    settings: Vec<EventSetter>,
+/// What a builder's call is answered. A create defines the required pairs.
+fn asked<C: Calls<Plain>>(
+    builder: C,
+    (how, now): (How, Now),
     attributes: AttributeVerifier,
-    (how, now): (How, Result<Time, ClockFault>),
     table: &mut PlainTable,
 ) -> Called {
-    let mut builder = builder;
-    for setting in settings {
-        builder = builder.with(setting);
-    }
     match how {
         How::Create => {
             let specifier = AttributeSpecifier::from(attributes.into_required_attributes());
-            match builder.create_with_attributes(&specifier, table, now) {
-                Ok(factory) => Ok(factory.into_registration()),
-                Err(error) => Err(Refusal::EventCreate(error)),
-            }
+            builder.call(Ask::Create(Some(&specifier)), now, table)
         }
-        How::Open => match builder.open_with_attributes(&attributes, table) {
-            Ok(factory) => Ok(factory.into_registration()),
-            Err(error) => Err(Refusal::EventOpen(error)),
-        },
-        How::OpenOrCreate => {
-            match builder.open_or_create_with_attributes(&attributes, table, now) {
-                Ok(factory) => Ok(factory.into_registration()),
-                Err(error) => Err(Refusal::EventOpenOrCreate(error)),
-            }
-        }
+        How::Open => builder.call(Ask::Open(Some(&attributes)), now, table),
+        How::OpenOrCreate => builder.call(Ask::OpenOrCreate(Some(&attributes)), now, table),
     }
 }
 
-/// A call for publish-subscribe.
-fn of_messages(
-    builder: MessageBuilder<Plain>,
-    settings: Vec<PublishSubscribeSetter>,
-    attributes: AttributeVerifier,
-    how: How,
-    table: &mut PlainTable,
-) -> Called {
-    let mut builder = builder;
-    for setting in settings {
-        builder = builder.with(setting);
-    }
-    match how {
-        How::Create => {
-            let specifier = AttributeSpecifier::from(attributes.into_required_attributes());
-            match builder.create_with_attributes(&specifier, table) {
-                Ok(factory) => Ok(factory.into_registration()),
-                Err(error) => Err(Refusal::PublishSubscribeCreate(error)),
-            }
+/// The builder after each of the setters.
+macro_rules! with_all {
+    ($builder:expr, $settings:expr) => {{
+        let mut builder = $builder;
+        for setting in $settings {
+            builder = builder.with(setting);
         }
-        How::Open => match builder.open_with_attributes(&attributes, table) {
-            Ok(factory) => Ok(factory.into_registration()),
-            Err(error) => Err(Refusal::PublishSubscribeOpen(error)),
-        },
-        How::OpenOrCreate => match builder.open_or_create_with_attributes(&attributes, table) {
-            Ok(factory) => Ok(factory.into_registration()),
-            Err(error) => Err(Refusal::PublishSubscribeOpenOrCreate(error)),
-        },
-    }
-}
-
-/// A call for request-response.
-fn of_requests(
-    builder: RequestBuilder<Plain>,
-    settings: Vec<RequestResponseSetter>,
-    attributes: AttributeVerifier,
-    how: How,
-    table: &mut PlainTable,
-) -> Called {
-    let mut builder = builder;
-    for setting in settings {
-        builder = builder.with(setting);
-    }
-    match how {
-        How::Create => {
-            let specifier = AttributeSpecifier::from(attributes.into_required_attributes());
-            match builder.create_with_attributes(&specifier, table) {
-                Ok(factory) => Ok(factory.into_registration()),
-                Err(error) => Err(Refusal::RequestResponseCreate(error)),
-            }
-        }
-        How::Open => match builder.open_with_attributes(&attributes, table) {
-            Ok(factory) => Ok(factory.into_registration()),
-            Err(error) => Err(Refusal::RequestResponseOpen(error)),
-        },
-        How::OpenOrCreate => match builder.open_or_create_with_attributes(&attributes, table) {
-            Ok(factory) => Ok(factory.into_registration()),
-            Err(error) => Err(Refusal::RequestResponseOpenOrCreate(error)),
-        },
-    }
+        builder
+    }};
 }
 
 /// What a call is answered at a plain table.
 fn called(call: Call, table: &mut PlainTable) -> Called {
-    let Call {
-        how,
-        node,
-        slot: _,
-        name,
-        settings,
-        attributes,
-        now,
-    } = call;
-    let builder = Node::<Plain>::new(node, Config::default()).service_builder(name);
-    match settings {
-        Settings::Event(settings) => {
-            of_events(builder.event(), settings, attributes, (how, now), table)
+    let builder = Node::<Plain>::new(call.node, Config::default()).service_builder(call.name);
+    let (said, attributes) = ((call.how, call.now), call.attributes);
+    match call.settings {
+        Settings::Event(all) => asked(with_all!(builder.event(), all), said, attributes, table),
+        Settings::PublishSubscribe(all) => {
+            asked(with_all!(messages(builder), all), said, attributes, table)
         }
-        Settings::PublishSubscribe(settings) => {
-            of_messages(messages(builder), settings, attributes, how, table)
-        }
-        Settings::RequestResponse(settings) => {
-            of_requests(requests(builder), settings, attributes, how, table)
+        Settings::RequestResponse(all) => {
+            asked(with_all!(requests(builder), all), said, attributes, table)
         }
     }
 }
@@ -255,7 +175,7 @@ impl PlainSession {
 
     /// Lists what there is.
     fn list(&self) -> Reply {
-        match self.table.list() {
+        match Plain::list(&self.table) {
             Ok(entries) => Reply::Listing(entries),
             Err(_) => Reply::OutOfMemory,
         }

@@ -2,7 +2,7 @@
 
 use crate::body::Body;
 use crate::patterns::Pattern;
-use crate::plain::{Plain, PlainTable};
+use crate::plain::Plain;
 use crate::plain_session::Commanded;
 use crate::support::{assert_same, command, push};
 use iceoryx2_commands::command::{Command, How, Reply};
@@ -79,13 +79,13 @@ fn seen_of_session(rt: &impl Abort, alloc: Global) -> Seen {
 
 /// What is seen of the same commands at the plain table.
 fn seen_of_plain(rt: &impl Abort, alloc: Global) -> Seen {
-    let mut session = Plain::over(rt, alloc, PlainTable::new(alloc));
+    let mut session = Plain::over(rt, alloc, Plain::new(alloc));
     let mut replies = Vec::new(alloc);
     for command in commands(rt, alloc) {
         let reply = Plain::apply(rt, &mut session, command);
         push(rt, &mut replies, reply);
     }
-    (replies, Plain::table(&session).counter())
+    (replies, Plain::counter(Plain::table(&session)))
 }
 
 /// The replies before the listing: each service has the number of its place, and the one that is created

@@ -7,7 +7,7 @@ use iceoryx2_attribute::attribute::AttributeVerifier;
 use iceoryx2_builder::builder::Node;
 use iceoryx2_builder::builder::event::Builder;
 use iceoryx2_commands::command::{
-    Call, Command, EventSetter, How, PublishSubscribeSetter, RequestResponseSetter, Settings,
+    Command, EventSetter, PublishSubscribeSetter, RequestResponseSetter, Settings,
 };
 use iceoryx2_description::config::Config;
 use iceoryx2_description::description::ServiceName;
@@ -16,6 +16,7 @@ use iceoryx2_world::listing::Entry;
 use std::alloc::{AllocError, Global};
 use std::fmt::Debug;
 use std::process::Abort;
+use test_support::calls::{self, Place};
 
 /// Ends a test that finds another value than it wants.
 pub fn assert_same<T: Debug + PartialEq + Drop>(rt: &impl Abort, found: T, wanted: T) {
@@ -89,19 +90,12 @@ pub fn for_nodes(rt: &impl Abort, alloc: Global, pattern: Pattern, nodes: u64) -
 pub fn command_with(
     rt: &impl Abort,
     alloc: Global,
-    (how, node, slot): (How, u64, usize),
+    called: Place,
     text: &str,
     (settings, attributes): (Settings, AttributeVerifier),
 ) -> Command {
-    Command::Call(Call {
-        how,
-        node,
-        slot,
-        name: name(rt, alloc, text),
-        settings,
-        attributes,
-        now: Ok(Time::default()),
-    })
+    let name = name(rt, alloc, text);
+    calls::command(called, name, settings, attributes, Ok(Time::default()))
 }
 
 /// Calls so for a pattern's service, with the default settings and no attributes.
@@ -109,7 +103,7 @@ pub fn command(
     rt: &impl Abort,
     alloc: Global,
     pattern: Pattern,
-    called: (How, u64, usize),
+    called: Place,
     text: &str,
 ) -> Command {
     let settings = no_settings(alloc, pattern);

@@ -26,7 +26,7 @@ fn left_of_events<B: Body>(rt: &impl Abort, table: &B::Storage) -> Left {
 /// For how many notifiers a service is that is created for none, how many of ten batches wait then, and how
 /// often the table was asked.
 fn pending_after_create<B: Body>(rt: &impl Abort, alloc: Global) -> (u64, usize, u64) {
-    let waiting = of_events::<B>(rt, alloc, &[(10, 7, &[])]);
+    let waiting = of_events::<B>(rt, alloc, &[(&[10], 7, &[])]);
     let mut table = Faulty::new(waiting, Vec::new(alloc));
     let builder = events::<FaultyService<B>>(rt, alloc)
         .max_notifiers(0)
@@ -65,7 +65,7 @@ fn read_and_looked<B: Body>(
     rt: &impl Abort,
     alloc: Global,
 ) -> (usize, Left, [(Existence, usize, Left); 2]) {
-    let mut table = of_events::<B>(rt, alloc, &[(2, 7, &[Lock])]);
+    let mut table = of_events::<B>(rt, alloc, &[(&[2], 7, &[Lock])]);
     let before = left_of_events::<B>(rt, &table);
     let pending = B::pending(&table);
     let looks = [looked::<B>(rt, &mut table), looked::<B>(rt, &mut table)];
@@ -88,8 +88,8 @@ fn readers_run_no_batch(rt: HostRuntime) {
 
 /// How many batches wait once others take the place of three, and what a look finds then.
 fn replaced<B: Body>(rt: &impl Abort, alloc: Global) -> (usize, (Existence, usize, Left)) {
-    let mut table = of_events::<B>(rt, alloc, &[(1, 7, PUBLISHED), (3, 7, &[])]);
-    let plan: Plan = &[(1, 8, &[Lock]), (2, 8, &[])];
+    let mut table = of_events::<B>(rt, alloc, &[(&[1], 7, PUBLISHED), (&[3], 7, &[])]);
+    let plan: Plan = &[(&[1], 8, &[Lock]), (&[2], 8, &[])];
     schedule::<B>(rt, alloc, Pattern::Event, &mut table, plan);
     let pending = B::pending(&table);
     let look = looked::<B>(rt, &mut table);
@@ -112,7 +112,7 @@ fn made_by_namesake<B: Body>(
     rt: &impl Abort,
     alloc: Global,
 ) -> (Result<(), MakeSegmentError>, Left) {
-    let mut table = of_events::<B>(rt, alloc, &[(1, 7, &[Lock])]);
+    let mut table = of_events::<B>(rt, alloc, &[(&[1], 7, &[Lock])]);
     let answer = table.make_segment(7, &service(Pattern::Event), 0, 36);
     let left = left_of_events::<B>(rt, &table);
     B::let_go(table);
@@ -139,7 +139,7 @@ fn opened_alone<B: Body>(
     Result<u64, OpenSegmentError>,
     Left,
 ) {
-    let mut table = of_events::<B>(rt, alloc, &[(1, 7, &[Lock, Make(5), RemoveDescription])]);
+    let mut table = of_events::<B>(rt, alloc, &[(&[1], 7, &[Lock, Make(5), RemoveDescription])]);
     let look = looked::<B>(rt, &mut table);
     let answer = table.open_segment(1, &service(Pattern::Event), 0);
     let left = left_of_events::<B>(rt, &table);

@@ -8,24 +8,26 @@ use crate::calls::{Call, answer, close};
 use crate::patterns::{self, Pattern, service};
 use crate::plain::Plain;
 use iceoryx2_access::storage::{Existence, Storage};
-use iceoryx2_commands::command::{How, Refusal};
-use iceoryx2_errors::error::EventCreateError;
+use iceoryx2_commands::command::How;
 use iceoryx2_port_factory::port_factory::Registration;
 use iceoryx2_table::local::Local;
 use std::alloc::Global;
 use std::process::Abort;
+use test_support::refusals::{By, Word};
 
 /// That create, for 36 nodes.
 const CREATE: (How, u64) = (How::Create, 36);
 
 /// How a create is refused.
-const HANGS: Answer = Err(Refusal::EventCreate(EventCreateError::HangsInCreation));
+const HANGS: Answer = Err((How::Create, By::Create, Word::HangsInCreation));
 
-const BEING_CREATED: Answer = Err(Refusal::EventCreate(
-    EventCreateError::IsBeingCreatedByAnotherInstance,
+const BEING_CREATED: Answer = Err((
+    How::Create,
+    By::Create,
+    Word::IsBeingCreatedByAnotherInstance,
 ));
 
-const THERE: Answer = Err(Refusal::EventCreate(EventCreateError::AlreadyExists));
+const THERE: Answer = Err((How::Create, By::Create, Word::AlreadyExists));
 
 /// What is left where a peer has published the service.
 const PEERS: Left = (Row::Published(0), Some((0, 36, 1, false)), (false, 0), 1, 0);
@@ -46,20 +48,20 @@ const EVERYTHING: &[Deed] = &[
 const CREATIONS: &[Beside] = &[
     // a segment that was left is removed
     (
-        &[(1, 7, &[Lock, Make(5), RemoveDescription])],
+        &[(&[1], 7, &[Lock, Make(5), RemoveDescription])],
         Ok((1, DEFAULTS)),
         (1, 0, 2, 8),
         (Row::Published(1), Some((1, 36, 1, false)), (true, 1), 2, 0),
     ),
     // a lock that was there, and one that comes first
-    (&[(1, 7, &[Lock])], HANGS, (1, 0, 0, 2), LOCKED),
-    (&[(4, 7, &[Lock])], BEING_CREATED, (1, 0, 0, 5), LOCKED),
+    (&[(&[1], 7, &[Lock])], HANGS, (1, 0, 0, 2), LOCKED),
+    (&[(&[4], 7, &[Lock])], BEING_CREATED, (1, 0, 0, 5), LOCKED),
     // a service that was there, and one that comes first
-    (&[(1, 7, PUBLISHED)], THERE, (1, 0, 0, 2), PEERS),
-    (&[(4, 7, PUBLISHED)], THERE, (1, 0, 0, 5), PEERS),
+    (&[(&[1], 7, PUBLISHED)], THERE, (1, 0, 0, 2), PEERS),
+    (&[(&[4], 7, PUBLISHED)], THERE, (1, 0, 0, 5), PEERS),
     // once the service is locked, peers can do nothing
     (
-        &[(5, 7, EVERYTHING), (6, 7, EVERYTHING)],
+        &[(&[5], 7, EVERYTHING), (&[6], 7, EVERYTHING)],
         Ok((0, DEFAULTS)),
         (1, 0, 1, 6),
         (Row::Published(0), Some((0, 36, 1, false)), (true, 1), 1, 0),
@@ -78,13 +80,7 @@ fn created<B: Body>(
     pattern: Pattern,
     table: &mut B::Storage,
 ) -> Registration {
-    let (how, nodes) = CREATE;
-    let call = Call {
-        pattern,
-        how,
-        nodes,
-    };
-    match answer::<B>(rt, alloc, call, table) {
+    match answer::<B>(rt, alloc, Call::new(pattern, CREATE), table) {
         Ok(registration) => registration,
         Err(_) => panic!(rt; "refused"),
     }
@@ -109,13 +105,13 @@ fn closed<B: Body>(rt: &impl Abort, alloc: Global, pattern: Pattern, plan: Plan)
 /// What a peer does beside a created service, what is left then, and once it is closed.
 const CLOSES: &[(Plan, Left, Left)] = &[
     (
-        &[(1, 7, &[RemoveSegment, RemoveDescription, Lock, Leave])],
+        &[(&[1], 7, &[RemoveSegment, RemoveDescription, Lock, Leave])],
         (Row::Published(0), Some((0, 36, 1, false)), (true, 1), 1, 0),
         (Row::Absent, None, (false, 0), 1, 0),
     ),
     // the peer keeps the service
     (
-        &[(1, 7, &[Read, Join])],
+        &[(&[1], 7, &[Read, Join])],
         (Row::Published(0), Some((0, 36, 2, false)), (true, 1), 1, 0),
         PEERS,
     ),
@@ -135,7 +131,7 @@ fn assert_closes(rt: &impl Abort, alloc: Global, pattern: Pattern) {
 
 #[test]
 fn what_a_node_holds_stands_until_it_is_closed(rt: HostRuntime) {
-    for &pattern in patterns::ALL {
+    for pattern in patterns::ALL {
         assert_closes(&rt, rt.alloc(), pattern);
     }
 }

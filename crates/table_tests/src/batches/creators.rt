@@ -25,7 +25,7 @@ fn creator<B: Body>(rt: &impl Abort, alloc: Global, mut table: B::Storage) -> Op
 }
 
 /// A service is replaced by another before its segment is opened. Neither tells its creator.
-const REPLACEMENT: Plan = &[(1, 7, PUBLISHED), (4, 7, REPLACED)];
+const REPLACEMENT: Plan = &[(&[1], 7, PUBLISHED), (&[4], 7, REPLACED)];
 
 /// Whom an open tells then.
 fn replaced<B: Body>(rt: &impl Abort, alloc: Global) -> Option<Option<u64>> {

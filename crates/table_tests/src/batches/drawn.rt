@@ -294,7 +294,7 @@ fn compared<B: Body>(rt: &impl Abort, alloc: Global, pattern: Pattern) -> Seen {
 
 #[test]
 fn drawn_batches_do_what_the_model_does(rt: HostRuntime) {
-    for &pattern in ALL {
+    for pattern in ALL {
         let seen = [
             compared::<Local>(&rt, rt.alloc(), pattern),
             compared::<Plain>(&rt, rt.alloc(), pattern),

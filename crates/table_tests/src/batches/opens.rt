@@ -2,37 +2,37 @@
 //! goes alike in each pattern.
 
 use self::Deed::*;
-use crate::batches::rows::{Answer, Beside, assert_rows};
+use crate::batches::rows::{Answer, Beside, assert_alike, assert_rows};
 use crate::batches::support::*;
 use crate::patterns::Offer;
-use iceoryx2_commands::command::{How, Refusal};
-use iceoryx2_errors::error::EventOpenError;
+use iceoryx2_commands::command::How;
+use test_support::refusals::{By, Word};
 
 /// That open, by nodes that would create the service for 36 nodes.
 const OPEN: (How, u64) = (How::Open, 36);
 
 /// How an open is refused.
-const HANGS: Answer = Err(Refusal::EventOpen(EventOpenError::HangsInCreation));
+const HANGS: Answer = Err((How::Open, By::Open, Word::HangsInCreation));
 
-const MARKED: Answer = Err(Refusal::EventOpen(EventOpenError::IsMarkedForDestruction));
+const MARKED: Answer = Err((How::Open, By::Open, Word::IsMarkedForDestruction));
 
-const FULL: Answer = Err(Refusal::EventOpen(EventOpenError::ExceedsMaxNumberOfNodes));
+const FULL: Answer = Err((How::Open, By::Open, Word::ExceedsMaxNumberOfNodes));
 
-const CORRUPTED: Answer = Err(Refusal::EventOpen(EventOpenError::ServiceInCorruptedState));
+const CORRUPTED: Answer = Err((How::Open, By::Open, Word::ServiceInCorruptedState));
 
 /// Opens of what a peer has begun to create, has left, and has filled.
 const REFUSED: &[Beside] = &[
-    (&[(1, 7, &[Lock])], HANGS, (1, 0, 0, 2), LOCKED),
+    (&[(&[1], 7, &[Lock])], HANGS, (1, 0, 0, 2), LOCKED),
     // only the lock is allowed
     (
-        &[(1, 7, &[Join, Make(3), Publish(DEFAULTS), Lock, Make(0)])],
+        &[(&[1], 7, &[Join, Make(3), Publish(DEFAULTS), Lock, Make(0)])],
         HANGS,
         (1, 0, 0, 2),
         LOCKED,
     ),
     (
         &[(
-            1,
+            &[1],
             7,
             &[Lock, Make(20), Publish(Offer::DefaultsFor(20)), Leave],
         )],
@@ -42,8 +42,8 @@ const REFUSED: &[Beside] = &[
     ),
     (
         &[
-            (1, 7, &[Lock, Make(2), Publish(FOR_TWO)]),
-            (1, 8, &[Read, Join]),
+            (&[1], 7, &[Lock, Make(2), Publish(FOR_TWO)]),
+            (&[1], 8, &[Read, Join]),
         ],
         FULL,
         (1, 1, 0, 5),
@@ -60,62 +60,48 @@ fn what_peers_hold_is_not_opened(rt: HostRuntime) {
 pub const OTHER: Left = (Row::Published(1), Some((1, 2, 2, false)), (true, 1), 3, 0);
 
 /// Replacements before one access of an open.
-const REPLACEMENTS: &[Beside] = &[
-    (
-        &[(1, 7, PUBLISHED), (1, 7, REPLACED)],
-        Ok((1, FOR_TWO)),
-        (1, 1, 0, 4),
-        OTHER,
-    ),
-    (
-        &[(1, 7, PUBLISHED), (2, 7, REPLACED)],
-        Ok((1, FOR_TWO)),
-        (1, 1, 0, 4),
-        OTHER,
-    ),
-    (
-        &[(1, 7, PUBLISHED), (3, 7, REPLACED)],
-        Ok((1, FOR_TWO)),
-        (3, 2, 0, 11),
-        OTHER,
-    ),
-    (
-        &[(1, 7, PUBLISHED), (4, 7, REPLACED)],
-        Ok((1, FOR_TWO)),
-        (3, 2, 0, 11),
-        OTHER,
-    ),
+const REPLACEMENTS: &[(Plan, Counts)] = &[
+    (&[(&[1], 7, PUBLISHED), (&[1], 7, REPLACED)], (1, 1, 0, 4)),
+    (&[(&[1], 7, PUBLISHED), (&[2], 7, REPLACED)], (1, 1, 0, 4)),
+    (&[(&[1], 7, PUBLISHED), (&[3], 7, REPLACED)], (3, 2, 0, 11)),
+    (&[(&[1], 7, PUBLISHED), (&[4], 7, REPLACED)], (3, 2, 0, 11)),
 ];
 
 #[test]
 fn a_replaced_service_is_opened_as_it_is_then(rt: HostRuntime) {
-    assert_rows(&rt, rt.alloc(), OPEN, REPLACEMENTS);
+    assert_alike(
+        &rt,
+        rt.alloc(),
+        OPEN,
+        (Ok((1, FOR_TWO)), OTHER),
+        REPLACEMENTS,
+    );
 }
 
 /// The first steps of a replacement before the segment is opened, one more in each row.
 const FIRST_STEPS: &[Beside] = &[
     (
-        &[(1, 7, PUBLISHED)],
+        &[(&[1], 7, PUBLISHED)],
         Ok((0, DEFAULTS)),
         (1, 1, 0, 4),
         (Row::Published(0), Some((0, 36, 2, false)), (true, 1), 2, 0),
     ),
     (
-        &[(1, 7, PUBLISHED), (4, 7, &[Leave])],
+        &[(&[1], 7, PUBLISHED), (&[4], 7, &[Leave])],
         MARKED,
         (1, 1, 0, 5),
         (Row::Published(0), Some((0, 36, 0, true)), (false, 0), 1, 0),
     ),
     (
-        &[(1, 7, PUBLISHED), (4, 7, &[Leave, RemoveSegment])],
+        &[(&[1], 7, PUBLISHED), (&[4], 7, &[Leave, RemoveSegment])],
         CORRUPTED,
         (1, 1, 0, 5),
         (Row::Published(0), None, (false, 0), 1, 0),
     ),
     (
         &[
-            (1, 7, PUBLISHED),
-            (4, 7, &[Leave, RemoveSegment, RemoveDescription]),
+            (&[1], 7, PUBLISHED),
+            (&[4], 7, &[Leave, RemoveSegment, RemoveDescription]),
         ],
         CORRUPTED,
         (1, 1, 0, 5),
@@ -123,8 +109,8 @@ const FIRST_STEPS: &[Beside] = &[
     ),
     (
         &[
-            (1, 7, PUBLISHED),
-            (4, 7, &[Leave, RemoveSegment, RemoveDescription, Lock]),
+            (&[1], 7, PUBLISHED),
+            (&[4], 7, &[Leave, RemoveSegment, RemoveDescription, Lock]),
         ],
         CORRUPTED,
         (1, 1, 0, 5),
@@ -132,9 +118,9 @@ const FIRST_STEPS: &[Beside] = &[
     ),
     (
         &[
-            (1, 7, PUBLISHED),
+            (&[1], 7, PUBLISHED),
             (
-                4,
+                &[4],
                 7,
                 &[Leave, RemoveSegment, RemoveDescription, Lock, Make(2)],
             ),
@@ -144,7 +130,7 @@ const FIRST_STEPS: &[Beside] = &[
         (Row::Locked(1), Some((1, 2, 1, false)), (false, 0), 2, 0),
     ),
     (
-        &[(1, 7, PUBLISHED), (4, 7, REPLACED)],
+        &[(&[1], 7, PUBLISHED), (&[4], 7, REPLACED)],
         Ok((1, FOR_TWO)),
         (3, 2, 0, 11),
         OTHER,
@@ -162,13 +148,8 @@ fn each_step_of_a_replacement_has_its_answer(rt: HostRuntime) {
 /// openings. Each replacement spends one number after the first.
 const SIX: &[Beside] = &[(
     &[
-        (1, 7, PUBLISHED),
-        (4, 7, REPLACED),
-        (11, 7, REPLACED),
-        (18, 7, REPLACED),
-        (25, 7, REPLACED),
-        (32, 7, REPLACED),
-        (39, 7, REPLACED),
+        (&[1], 7, PUBLISHED),
+        (&[4, 11, 18, 25, 32, 39], 7, REPLACED),
     ],
     CORRUPTED,
     (12, 6, 0, 42),

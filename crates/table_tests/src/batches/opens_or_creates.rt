@@ -3,30 +3,24 @@
 
 use self::Deed::*;
 use crate::batches::opens::OTHER;
-use crate::batches::rows::{Answer, Beside, assert_rows};
+use crate::batches::rows::{Answer, Beside, assert_alike, assert_rows};
 use crate::batches::support::*;
-use iceoryx2_commands::command::{How, Refusal};
-use iceoryx2_errors::error::{EventCreateError, EventOpenError, EventOpenOrCreateError};
+use iceoryx2_commands::command::How;
+use test_support::refusals::{By, Word};
 
 /// That open or create, for 36 nodes.
 const ROUNDS: (How, u64) = (How::OpenOrCreate, 36);
 
 /// One whose open is refused, or the look of a round.
-pub const HANGS: Answer = Err(Refusal::EventOpenOrCreate(EventOpenOrCreateError::EventOpenError(
-    EventOpenError::HangsInCreation,
-)));
+pub const HANGS: Answer = Err((How::OpenOrCreate, By::Open, Word::HangsInCreation));
 
-pub const CORRUPTED: Answer = Err(Refusal::EventOpenOrCreate(EventOpenOrCreateError::EventOpenError(
-    EventOpenError::ServiceInCorruptedState,
-)));
+pub const CORRUPTED: Answer = Err((How::OpenOrCreate, By::Open, Word::ServiceInCorruptedState));
 
 /// One whose create finds a lock.
-const CREATE_HANGS: Answer = Err(Refusal::EventOpenOrCreate(
-    EventOpenOrCreateError::EventCreateError(EventCreateError::HangsInCreation),
-));
+const CREATE_HANGS: Answer = Err((How::OpenOrCreate, By::Create, Word::HangsInCreation));
 
 /// One that six rounds don't end.
-pub const IN_FLUX: Answer = Err(Refusal::EventOpenOrCreate(EventOpenOrCreateError::SystemInFlux));
+pub const IN_FLUX: Answer = Err((How::OpenOrCreate, By::Rounds, Word::SystemInFlux));
 
 /// What is left where node 1 has opened what a peer has published.
 const BOTH: Left = (Row::Published(0), Some((0, 36, 2, false)), (true, 1), 2, 0);
@@ -34,14 +28,29 @@ const BOTH: Left = (Row::Published(0), Some((0, 36, 2, false)), (true, 1), 2, 0)
 /// A peer's lock and its service, and from which access on they are in the way.
 const IN_THE_WAY: &[Beside] = &[
     // before the look of the first round
-    (&[(1, 7, &[Lock])], HANGS, (1, 0, 0, 2), LOCKED),
-    (&[(1, 7, PUBLISHED)], Ok((0, DEFAULTS)), (2, 1, 0, 6), BOTH),
+    (&[(&[1], 7, &[Lock])], HANGS, (1, 0, 0, 2), LOCKED),
+    (
+        &[(&[1], 7, PUBLISHED)],
+        Ok((0, DEFAULTS)),
+        (2, 1, 0, 6),
+        BOTH,
+    ),
     // before the look of its create
-    (&[(2, 7, &[Lock])], CREATE_HANGS, (2, 0, 0, 3), LOCKED),
-    (&[(2, 7, PUBLISHED)], Ok((0, DEFAULTS)), (4, 1, 0, 9), BOTH),
+    (&[(&[2], 7, &[Lock])], CREATE_HANGS, (2, 0, 0, 3), LOCKED),
+    (
+        &[(&[2], 7, PUBLISHED)],
+        Ok((0, DEFAULTS)),
+        (4, 1, 0, 9),
+        BOTH,
+    ),
     // before its lock
-    (&[(5, 7, &[Lock])], HANGS, (3, 0, 0, 8), LOCKED),
-    (&[(5, 7, PUBLISHED)], Ok((0, DEFAULTS)), (4, 1, 0, 12), BOTH),
+    (&[(&[5], 7, &[Lock])], HANGS, (3, 0, 0, 8), LOCKED),
+    (
+        &[(&[5], 7, PUBLISHED)],
+        Ok((0, DEFAULTS)),
+        (4, 1, 0, 12),
+        BOTH,
+    ),
 ];
 
 #[test]
@@ -51,36 +60,27 @@ fn a_round_that_comes_too_late_is_followed_by_another(rt: HostRuntime) {
 
 /// A service that is replaced between a round's look and the end of its open: the open reads what there is
 /// by then, or reads it once more.
-const REPLACEMENTS: &[Beside] = &[
-    (
-        &[(1, 7, PUBLISHED), (3, 7, REPLACED)],
-        Ok((1, FOR_TWO)),
-        (2, 1, 0, 6),
-        OTHER,
-    ),
-    (
-        &[(1, 7, PUBLISHED), (6, 7, REPLACED)],
-        Ok((1, FOR_TWO)),
-        (4, 2, 0, 13),
-        OTHER,
-    ),
+const REPLACEMENTS: &[(Plan, Counts)] = &[
+    (&[(&[1], 7, PUBLISHED), (&[3], 7, REPLACED)], (2, 1, 0, 6)),
+    (&[(&[1], 7, PUBLISHED), (&[6], 7, REPLACED)], (4, 2, 0, 13)),
 ];
 
 #[test]
 fn what_is_replaced_in_a_round_is_opened(rt: HostRuntime) {
-    assert_rows(&rt, rt.alloc(), ROUNDS, REPLACEMENTS);
+    assert_alike(
+        &rt,
+        rt.alloc(),
+        ROUNDS,
+        (Ok((1, FOR_TWO)), OTHER),
+        REPLACEMENTS,
+    );
 }
 
 /// A replacement before each opening of the first round. Its look is two accesses, and each reading of its
 /// open seven.
 const SIX_IN_ONE_ROUND: Plan = &[
-    (1, 7, PUBLISHED),
-    (6, 7, REPLACED),
-    (13, 7, REPLACED),
-    (20, 7, REPLACED),
-    (27, 7, REPLACED),
-    (34, 7, REPLACED),
-    (41, 7, REPLACED),
+    (&[1], 7, PUBLISHED),
+    (&[6, 13, 20, 27, 34, 41], 7, REPLACED),
 ];
 
 /// The first part of a replacement, which comes before an opening, and the rest of it, which comes before
@@ -97,8 +97,8 @@ const FOLLOWED: &[Beside] = &[
     // then a round's look and the six accesses of a create
     (
         &[
-            (1, 7, PUBLISHED),
-            (3, 7, &[Leave, RemoveSegment, RemoveDescription]),
+            (&[1], 7, PUBLISHED),
+            (&[3], 7, &[Leave, RemoveSegment, RemoveDescription]),
         ],
         Ok((1, DEFAULTS)),
         (4, 0, 1, 10),
@@ -106,7 +106,7 @@ const FOLLOWED: &[Beside] = &[
     ),
     // what is marked stays, and each of six rounds finds it so
     (
-        &[(1, 7, PUBLISHED), (6, 7, &[Leave])],
+        &[(&[1], 7, PUBLISHED), (&[6], 7, &[Leave])],
         IN_FLUX,
         (12, 6, 0, 42),
         (Row::Published(0), Some((0, 36, 0, true)), (false, 0), 1, 0),
@@ -114,19 +114,9 @@ const FOLLOWED: &[Beside] = &[
     // each of six rounds finds no segment, and each next one a new service
     (
         &[
-            (1, 7, PUBLISHED),
-            (6, 7, TAKEN),
-            (7, 7, PUT_BACK),
-            (13, 7, TAKEN),
-            (14, 7, PUT_BACK),
-            (20, 7, TAKEN),
-            (21, 7, PUT_BACK),
-            (27, 7, TAKEN),
-            (28, 7, PUT_BACK),
-            (34, 7, TAKEN),
-            (35, 7, PUT_BACK),
-            (41, 7, TAKEN),
-            (42, 7, PUT_BACK),
+            (&[1], 7, PUBLISHED),
+            (&[6, 13, 20, 27, 34, 41], 7, TAKEN),
+            (&[7, 14, 21, 28, 35, 42], 7, PUT_BACK),
         ],
         IN_FLUX,
         (12, 6, 0, 42),
@@ -150,18 +140,8 @@ fn an_open_that_is_refused_is_followed_by_another_round(rt: HostRuntime) {
 /// A peer that has the lock whenever a create would take it, and gives it back at once.
 const ALWAYS_FIRST: &[Beside] = &[(
     &[
-        (5, 7, &[Lock]),
-        (6, 7, &[RemoveDescription]),
-        (11, 7, &[Lock]),
-        (12, 7, &[RemoveDescription]),
-        (17, 7, &[Lock]),
-        (18, 7, &[RemoveDescription]),
-        (23, 7, &[Lock]),
-        (24, 7, &[RemoveDescription]),
-        (29, 7, &[Lock]),
-        (30, 7, &[RemoveDescription]),
-        (35, 7, &[Lock]),
-        (36, 7, &[RemoveDescription]),
+        (&[5, 11, 17, 23, 29, 35], 7, &[Lock]),
+        (&[6, 12, 18, 24, 30, 36], 7, &[RemoveDescription]),
     ],
     IN_FLUX,
     (12, 0, 0, 36),

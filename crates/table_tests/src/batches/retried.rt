@@ -7,10 +7,10 @@ use crate::batches::rows::{Answer, Beside, assert_row, assert_rows};
 use crate::batches::support::{Counts, Deed, Left, Plan, Row};
 use crate::calls::Call;
 use crate::patterns::{ALL, Offer};
-use iceoryx2_commands::command::{How, Refusal};
-use iceoryx2_errors::error::{EventCreateError, EventOpenOrCreateError};
+use iceoryx2_commands::command::How;
 use std::alloc::Global;
 use std::process::Abort;
+use test_support::refusals::{By, Word};
 
 /// That open or create, for 20 nodes.
 const ROUNDS: (How, u64) = (How::OpenOrCreate, 20);
@@ -36,14 +36,8 @@ fn assert_faulted_of(rt: &impl Abort, alloc: Global, call: Call, rows: &[Faulted
 
 /// Finds it for each pattern.
 fn assert_faulted(rt: &impl Abort, alloc: Global, rows: &[Faulted]) {
-    let (how, nodes) = ROUNDS;
-    for &pattern in ALL {
-        let call = Call {
-            pattern,
-            how,
-            nodes,
-        };
-        assert_faulted_of(rt, alloc, call, rows);
+    for pattern in ALL {
+        assert_faulted_of(rt, alloc, Call::new(pattern, ROUNDS), rows);
     }
 }
 
@@ -52,9 +46,7 @@ const FIRST: Answer = Ok((0, FOR_TWENTY));
 const SECOND: Answer = Ok((1, FOR_TWENTY));
 
 /// Its create fails.
-const CREATE_FAILS: Answer = Err(Refusal::EventOpenOrCreate(
-    EventOpenOrCreateError::EventCreateError(EventCreateError::InternalFailure),
-));
+const CREATE_FAILS: Answer = Err((How::OpenOrCreate, By::Create, Word::InternalFailure));
 
 /// What is left where nothing was locked, and where one number is spent.
 const NEW: Left = (Row::Absent, None, (false, 0), 0, 0);
@@ -104,21 +96,21 @@ fn a_create_that_finds_a_contradiction_is_tried_again(rt: HostRuntime) {
 const OPENS: &[Faulted] = &[
     (
         &[],
-        &[(1, 7, PUBLISHED)],
+        &[(&[1], 7, PUBLISHED)],
         FIRST,
         (2, 1, 0, 6),
         FIRST_OF_BOTH,
     ),
     (
         &[3],
-        &[(1, 7, PUBLISHED)],
+        &[(&[1], 7, PUBLISHED)],
         FIRST,
         (4, 1, 0, 9),
         FIRST_OF_BOTH,
     ),
     (
         &[6, 7],
-        &[(1, 7, PUBLISHED)],
+        &[(&[1], 7, PUBLISHED)],
         FIRST,
         (5, 2, 0, 14),
         FIRST_OF_BOTH,
@@ -143,14 +135,14 @@ const REPLACED: &[Deed] = &[
 /// What the peer leaves, takes away and replaces.
 const PEERS: &[Beside] = &[
     (
-        &[(1, 7, &[Lock])],
+        &[(&[1], 7, &[Lock])],
         HANGS,
         (1, 0, 0, 2),
         (Row::Locked(0), None, (false, 0), 1, 0),
     ),
     // what is marked stays, and each of six rounds finds it so
     (
-        &[(1, 7, LEFT)],
+        &[(&[1], 7, LEFT)],
         IN_FLUX,
         (12, 6, 0, 42),
         (Row::Published(0), Some((0, 20, 0, true)), (false, 0), 1, 0),
@@ -158,8 +150,8 @@ const PEERS: &[Beside] = &[
     // what is gone when it is opened is created in the next round
     (
         &[
-            (1, 7, PUBLISHED),
-            (3, 7, &[Leave, RemoveSegment, RemoveDescription]),
+            (&[1], 7, PUBLISHED),
+            (&[3], 7, &[Leave, RemoveSegment, RemoveDescription]),
         ],
         SECOND,
         (4, 0, 1, 10),
@@ -167,7 +159,7 @@ const PEERS: &[Beside] = &[
     ),
     // what is replaced is opened by the same open
     (
-        &[(1, 7, PUBLISHED), (6, 7, REPLACED)],
+        &[(&[1], 7, PUBLISHED), (&[6], 7, REPLACED)],
         SECOND,
         (4, 2, 0, 13),
         SECOND_OF_BOTH,
@@ -183,43 +175,16 @@ fn what_a_peer_leaves_is_tried_again(rt: HostRuntime) {
 /// readings of seven.
 const ALWAYS: &[Beside] = &[(
     &[
-        (1, 7, PUBLISHED),
-        (6, 7, REPLACED),
-        (13, 7, REPLACED),
-        (20, 7, REPLACED),
-        (27, 7, REPLACED),
-        (34, 7, REPLACED),
-        (41, 7, REPLACED),
-        (50, 7, REPLACED),
-        (57, 7, REPLACED),
-        (64, 7, REPLACED),
-        (71, 7, REPLACED),
-        (78, 7, REPLACED),
-        (85, 7, REPLACED),
-        (94, 7, REPLACED),
-        (101, 7, REPLACED),
-        (108, 7, REPLACED),
-        (115, 7, REPLACED),
-        (122, 7, REPLACED),
-        (129, 7, REPLACED),
-        (138, 7, REPLACED),
-        (145, 7, REPLACED),
-        (152, 7, REPLACED),
-        (159, 7, REPLACED),
-        (166, 7, REPLACED),
-        (173, 7, REPLACED),
-        (182, 7, REPLACED),
-        (189, 7, REPLACED),
-        (196, 7, REPLACED),
-        (203, 7, REPLACED),
-        (210, 7, REPLACED),
-        (217, 7, REPLACED),
-        (226, 7, REPLACED),
-        (233, 7, REPLACED),
-        (240, 7, REPLACED),
-        (247, 7, REPLACED),
-        (254, 7, REPLACED),
-        (261, 7, REPLACED),
+        (&[1], 7, PUBLISHED),
+        (
+            &[
+                6, 13, 20, 27, 34, 41, 50, 57, 64, 71, 78, 85, 94, 101, 108, 115, 122, 129, 138,
+                145, 152, 159, 166, 173, 182, 189, 196, 203, 210, 217, 226, 233, 240, 247, 254,
+                261,
+            ],
+            7,
+            REPLACED,
+        ),
     ],
     IN_FLUX,
     (78, 36, 0, 264),

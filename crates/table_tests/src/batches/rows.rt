@@ -2,26 +2,25 @@
 
 use crate::batches::support::*;
 use crate::body::Body;
-use crate::calls::{Call, Given, answer, given};
+use crate::calls::{Answered, Call, answer, given};
 use crate::patterns::{ALL, Offer, Pattern, settings_of};
 use crate::plain::Plain;
-use crate::refusals::of_pattern;
-use iceoryx2_commands::command::{How, Refusal};
+use iceoryx2_commands::command::How;
 use iceoryx2_script::script::{Faulty, FaultyService};
 use iceoryx2_table::local::Local;
 use iceoryx2_world::listing::Entry;
 use std::alloc::Global;
 use std::process::Abort;
+use test_support::refusals::Said;
 
-/// What a call is answered: the service's number and what was offered of it, or a refusal, by its name in
-/// the pattern of events.
-pub type Answer = Result<(u64, Offer), Refusal>;
+/// What a call is answered: the service's number and what was offered of it, or what a refusal says.
+pub type Answer = Result<(u64, Offer), Said>;
 
 /// What is planned, what a call of node 1 answers, the counts, and what is left.
 pub type Beside = (Plan, Answer, Counts, Left);
 
 /// What a call answers, the counts, what is left, and how many batches wait then.
-type Seen = (Result<Given, Refusal>, Counts, Left, usize);
+type Seen = (Answered, Counts, Left, usize);
 
 /// Makes a call as it is planned, over a table of which these accesses are refused. What is seen of it, and
 /// what the table lists then.
@@ -46,10 +45,10 @@ fn seen<B: Body>(
 }
 
 /// What a row answers, in this pattern.
-fn answer_in(rt: &impl Abort, pattern: Pattern, answer: Answer) -> Result<Given, Refusal> {
+fn answer_in(pattern: Pattern, answer: Answer) -> Answered {
     match answer {
         Ok((number, offer)) => Ok((number, settings_of(pattern, offer))),
-        Err(refusal) => Err(of_pattern(rt, pattern, refusal)),
+        Err(said) => Err((pattern, said)),
     }
 }
 
@@ -70,7 +69,7 @@ pub fn assert_row(
     &(plan, answer, counts, left): &Beside,
 ) {
     let wanted = (
-        answer_in(rt, call.pattern, answer),
+        answer_in(call.pattern, answer),
         counts,
         left,
         waiting(refused, plan, counts),
@@ -90,13 +89,21 @@ fn assert_rows_of(rt: &impl Abort, alloc: Global, call: Call, rows: &[Beside]) {
 }
 
 /// Finds it for calls of each pattern, by which a service is made for so many nodes.
-pub fn assert_rows(rt: &impl Abort, alloc: Global, (how, nodes): (How, u64), rows: &[Beside]) {
-    for &pattern in ALL {
-        let call = Call {
-            pattern,
-            how,
-            nodes,
-        };
-        assert_rows_of(rt, alloc, call, rows);
+pub fn assert_rows(rt: &impl Abort, alloc: Global, made: (How, u64), rows: &[Beside]) {
+    for pattern in ALL {
+        assert_rows_of(rt, alloc, Call::new(pattern, made), rows);
+    }
+}
+
+/// Finds the same answer for each of these plans, by so many accesses, and the same left.
+pub fn assert_alike(
+    rt: &impl Abort,
+    alloc: Global,
+    made: (How, u64),
+    (answer, left): (Answer, Left),
+    plans: &[(Plan, Counts)],
+) {
+    for &(plan, counts) in plans {
+        assert_rows(rt, alloc, made, &[(plan, answer, counts, left)]);
     }
 }

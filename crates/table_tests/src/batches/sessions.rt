@@ -29,7 +29,7 @@ fn listed<B: Commanded>(rt: &impl Abort, commands: &mut B::Commands) -> (Row, Se
 }
 
 /// A service that is replaced before its segment is opened.
-const REPLACEMENT: Plan = &[(1, 7, PUBLISHED), (4, 7, REPLACED)];
+const REPLACEMENT: Plan = &[(&[1], 7, PUBLISHED), (&[4], 7, REPLACED)];
 
 /// A body's table and slots, for which this is planned of a pattern's service.
 fn started<B: Commanded>(
@@ -70,37 +70,20 @@ fn assert_replacement<B: Commanded>(rt: &impl Abort, alloc: Global, pattern: Pat
 
 #[test]
 fn commands_follow_a_replacement(rt: HostRuntime) {
-    for &pattern in ALL {
+    for pattern in ALL {
         assert_replacement::<Local>(&rt, rt.alloc(), pattern);
         assert_replacement::<Plain>(&rt, rt.alloc(), pattern);
     }
 }
 
-/// A peer opens the service, leaves it, and would replace it if it could.
-const JOINED: &[Deed] = &[
-    Deed::Read,
-    Deed::Join,
-    Deed::Leave,
-    Deed::RemoveSegment,
-    Deed::RemoveDescription,
-    Deed::Lock,
-    Deed::Make(2),
-    Deed::Publish(FOR_TWO),
-];
+/// A peer opens the service. Behind it, it leaves it and would replace it if it could.
+const JOINED: &[Deed] = &[Deed::Read, Deed::Join];
 
 /// The same replacement, and a peer that would replace the service again and again once it is open.
 const REPEATED: Plan = &[
-    (1, 7, PUBLISHED),
-    (4, 7, REPLACED),
-    (12, 7, REPLACED),
-    (14, 7, JOINED),
-    (18, 7, JOINED),
-    (21, 7, JOINED),
-    (22, 7, REPLACED),
-    (25, 7, JOINED),
-    (26, 7, JOINED),
-    (27, 7, JOINED),
-    (28, 7, REPLACED),
+    (&[1], 7, PUBLISHED),
+    (&[14, 18, 21, 25, 26, 27], 7, JOINED),
+    (&[4, 12, 14, 18, 21, 22, 25, 26, 27, 28], 7, REPLACED),
 ];
 
 /// What there is for a slot: the row and the segment of its service, and whether the node has its tag and
@@ -224,7 +207,7 @@ fn assert_not_replaced<B: Commanded>(rt: &impl Abort, alloc: Global, pattern: Pa
 
 #[test]
 fn what_each_slot_holds_is_not_replaced(rt: HostRuntime) {
-    for &pattern in ALL {
+    for pattern in ALL {
         assert_not_replaced::<Local>(&rt, rt.alloc(), pattern);
         assert_not_replaced::<Plain>(&rt, rt.alloc(), pattern);
     }

@@ -6,9 +6,11 @@ pub use crate::support::{assert_same, entries, name, push};
 use iceoryx2_description::description::ServiceHash;
 use iceoryx2_script::script::Faulty;
 use iceoryx2_table::table::{Act, Step};
-use iceoryx2_world::listing::{Entry, ListedRow, ListedSegment};
+use iceoryx2_world::listing::Entry;
 use std::alloc::Global;
 use std::process::Abort;
+use test_support::listing;
+pub use test_support::listing::{Row, Segment, row_and_segment_of};
 
 /// The default settings, for 36 nodes.
 pub const DEFAULTS: Offer = Offer::DefaultsFor(36);
@@ -29,8 +31,8 @@ pub enum Deed {
     Leave,
 }
 
-/// Before which access of the table which peer does what. The last row is for the last access.
-pub type Plan = &'static [(usize, u64, &'static [Deed])];
+/// Before which accesses of the table which peer does what.
+pub type Plan = &'static [(&'static [usize], u64, &'static [Deed])];
 
 /// A service that a peer's step is for: its pattern, its hash and its name.
 pub type Subject<'a> = (Pattern, ServiceHash, &'a str);
@@ -79,7 +81,7 @@ pub fn push_steps(
 fn batch(rt: &impl Abort, alloc: Global, pattern: Pattern, plan: Plan, access: usize) -> Vec<Step> {
     let mut steps = Vec::new(alloc);
     for &(before, peer, deeds) in plan {
-        if before == access {
+        if before.contains(&access) {
             push_steps(rt, alloc, subject(pattern), &mut steps, (peer, deeds));
         }
     }
@@ -88,10 +90,14 @@ fn batch(rt: &impl Abort, alloc: Global, pattern: Pattern, plan: Plan, access: u
 
 /// How many batches are planned: as many as there are accesses up to the last one that the plan names.
 pub fn planned_batches(plan: Plan) -> usize {
-    match plan.last() {
-        Some(&(last, _, _)) => last,
-        None => 0,
+    let mut last = 0;
+    for &(before, _, _) in plan {
+        last = match before.last() {
+            Some(&access) if access > last => access,
+            _ => last,
+        };
     }
+    last
 }
 
 /// Plans this of a pattern's service at a table, in the place of what waits.
@@ -135,54 +141,12 @@ pub const REPLACED: &[Deed] = &[
     Deed::Publish(FOR_TWO),
 ];
 
-/// What is written under a service's hash, without the bytes.
-#[derive(Clone, Copy, Debug, PartialEq, Eq)]
-pub enum Row {
-    Absent,
-    Locked(u64),
-    Published(u64),
-}
-
-/// A segment's number, for how many nodes it is, how many are in it, and whether it is marked.
-pub type Segment = Option<(u64, u64, u64, bool)>;
-
-/// What is listed of a row, without the bytes.
-fn row_of(entry: &Entry) -> Row {
-    match entry.row {
-        ListedRow::Absent => Row::Absent,
-        ListedRow::Locked(number) => Row::Locked(number),
-        ListedRow::Published(number, _) => Row::Published(number),
-    }
-}
-
-/// What is listed of a segment.
-fn segment_of(entry: &Entry) -> Segment {
-    let ListedSegment {
-        number,
-        max_nodes,
-        participants,
-        marked,
-    } = entry.segment?;
-    Some((number, max_nodes, participants, marked))
-}
-
 /// The row and the segment of the only service that is listed, or of none.
 pub fn only_one(rt: &impl Abort, entries: &[Entry]) -> (Row, Segment) {
-    match entries {
-        [] => (Row::Absent, None),
-        [entry] => (row_of(entry), segment_of(entry)),
-        _ => panic!(rt; "more than one service"),
+    match listing::only_one(entries) {
+        Some(found) => found,
+        None => panic!(rt; "more than one service"),
     }
-}
-
-/// The row and the segment that are listed under a hash.
-pub fn row_and_segment_of(entries: &[Entry], hash: &ServiceHash) -> (Row, Segment) {
-    for entry in entries {
-        if entry.hash == *hash {
-            return (row_of(entry), segment_of(entry));
-        }
-    }
-    (Row::Absent, None)
 }
 
 /// Whether a node has a tag for a service, and how many tickets.

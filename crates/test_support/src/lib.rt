@@ -1,0 +1,9 @@
+//! What the crates of tests share: settings, what is listed, calls of any pattern, and what their refusals
+//! say. Nothing of it is expected of the layer by itself: the tests say what they want.
+#![tactic(auto)]
+
+pub mod calls;
+pub mod listing;
+pub mod patterns;
+pub mod refusals;
+pub mod settings;
