@@ -7,7 +7,7 @@ use crate::request_response::support::Ask::{Request, RequestHeader, Response, Re
 use crate::storages::scripts::AccessAnswer::*;
 use crate::storages::scripts::{DAMAGED, OTHER_HASH, OTHER_PATTERN, Parts, script};
 use crate::storages::support::{Answer, Call, drive};
-use crate::support::{assert_same, drop_table, name, table_from};
+use crate::support::{assert_same, drop_table, name, table_from, why};
 use crate::types::{I64, SLICE, U32};
 use iceoryx2_access::storage::Existence;
 use iceoryx2_builder::builder::Node;
@@ -18,9 +18,9 @@ use iceoryx2_errors::error::{
 };
 use iceoryx2_script::script::Scripted;
 use iceoryx2_table::local::Local;
-use iceoryx2_types::types::{CustomHeaderMarker, CustomPayloadMarker, Slice};
 use std::alloc::Global;
 use std::process::Abort;
+use test_support::calls::requests;
 
 /// Scripts that find these bytes.
 const FINDS_DAMAGED: Parts = &[&[Exists(Existence::Yes), Fetch(Ok((3, DAMAGED)))]];
@@ -40,21 +40,19 @@ fn assert_rows(rt: &impl Abort, alloc: Global, parts: Parts, rows: Rows) {
     }
 }
 
+/// Calls that are refused by an open for this, and by a create for that.
+macro_rules! refused {
+    ($opened:ident, $created:ident) => {
+        [
+            (Call::Open(1), Answer::OpenRefused(EventOpenError::$opened)),
+            (Call::Create(1), Answer::CreateRefused(EventCreateError::$created)),
+            (Call::OpenOrCreate(1), Answer::OpenRefused(EventOpenError::$opened)),
+        ]
+    };
+}
+
 /// What they answer of a state that contradicts itself.
-const CORRUPTED: Rows = [
-    (
-        Call::Open(1),
-        Answer::OpenRefused(EventOpenError::ServiceInCorruptedState),
-    ),
-    (
-        Call::Create(1),
-        Answer::CreateRefused(EventCreateError::ServiceInCorruptedState),
-    ),
-    (
-        Call::OpenOrCreate(1),
-        Answer::OpenRefused(EventOpenError::ServiceInCorruptedState),
-    ),
-];
+const CORRUPTED: Rows = refused!(ServiceInCorruptedState, ServiceInCorruptedState);
 
 #[test]
 fn damaged_bytes_are_a_corrupted_state_and_not_out_of_memory(rt: HostRuntime) {
@@ -67,20 +65,7 @@ fn a_description_of_another_hash_is_a_corrupted_state_and_not_out_of_memory(rt: 
 }
 
 /// What they answer of another pattern.
-const INCOMPATIBLE: Rows = [
-    (
-        Call::Open(1),
-        Answer::OpenRefused(EventOpenError::IncompatibleMessagingPattern),
-    ),
-    (
-        Call::Create(1),
-        Answer::CreateRefused(EventCreateError::AlreadyExists),
-    ),
-    (
-        Call::OpenOrCreate(1),
-        Answer::OpenRefused(EventOpenError::IncompatibleMessagingPattern),
-    ),
-];
+const INCOMPATIBLE: Rows = refused!(IncompatibleMessagingPattern, AlreadyExists);
 
 #[test]
 fn another_pattern_is_told_as_such_and_not_as_out_of_memory(rt: HostRuntime) {
@@ -99,8 +84,16 @@ fn of_publish_subscribe(
     let mut opened = script(rt, alloc, parts);
     let mut created = script(rt, alloc, parts);
     (
-        subscribe::open::<Scripted>(rt, alloc, &mut opened, 1, &[]).err(),
-        subscribe::create::<Scripted>(rt, alloc, &mut created, 1, &[]).err(),
+        subscribe::opened(
+            subscribe::asking::<Scripted>(rt, alloc, 1, &[]),
+            &mut opened,
+        )
+        .err(),
+        subscribe::created(
+            subscribe::asking::<Scripted>(rt, alloc, 1, &[]),
+            &mut created,
+        )
+        .err(),
     )
 }
 
@@ -111,18 +104,9 @@ fn opened_responses(
     parts: Parts,
 ) -> Option<RequestResponseOpenError> {
     let mut script = script(rt, alloc, parts);
-    let builder = Node::<Scripted>::new(1, Config::default())
-        .service_builder(name(rt, alloc, "oot"))
-        .request_response::<Slice<CustomPayloadMarker>, Slice<CustomPayloadMarker>>()
-        .request_user_header::<CustomHeaderMarker>()
-        .response_user_header::<CustomHeaderMarker>();
-    match builder.open(&mut script) {
-        Ok(factory) => {
-            factory.abandon();
-            None
-        }
-        Err(error) => Some(error),
-    }
+    let node = Node::<Scripted>::new(1, Config::default());
+    let builder = requests(node.service_builder(name(rt, alloc, "oot")));
+    why(builder.open(&mut script))
 }
 
 #[test]
@@ -151,9 +135,18 @@ fn other_messages(
     Option<PublishSubscribeCreateError>,
 ) {
     let mut table = table_from(alloc, 0);
-    let _created = subscribe::create::<Local>(rt, alloc, &mut table, 1, &[Payload(I64)]);
-    let opened = subscribe::open::<Local>(rt, alloc, &mut table, 2, asks).err();
-    let created = subscribe::create::<Local>(rt, alloc, &mut table, 2, asks).err();
+    let _created = subscribe::created(
+        subscribe::asking::<Local>(rt, alloc, 1, &[Payload(I64)]),
+        &mut table,
+    );
+    let opened = subscribe::opened(
+        subscribe::asking::<Local>(rt, alloc, 2, asks),
+        &mut table,
+    ).err();
+    let created = subscribe::created(
+        subscribe::asking::<Local>(rt, alloc, 2, asks),
+        &mut table,
+    ).err();
     drop_table(table);
     (opened, created)
 }
@@ -191,6 +184,9 @@ const OTHER_RESPONSES: &[(respond::Asks, RequestResponseOpenError)] = &[
     ),
 ];
 
+/// What is asked of a create before it.
+const SAME: respond::Asks = &[Request(I64), Response(I64)];
+
 /// Why it is refused, and why a create is that asks the same.
 fn other_requests(
     rt: &impl Abort,
@@ -201,9 +197,14 @@ fn other_requests(
     Option<RequestResponseCreateError>,
 ) {
     let mut table = table_from(alloc, 0);
-    let _created = respond::create(rt, alloc, &mut table, &[Request(I64), Response(I64)]);
-    let opened = respond::open(rt, alloc, &mut table, asks, &[]).err();
-    let created = respond::create(rt, alloc, &mut table, asks).err();
+    let _created = respond::created(respond::asking(rt, alloc, 1, SAME), &mut table);
+    let opened = respond::opened_with(
+        alloc,
+        respond::asking(rt, alloc, 2, asks),
+        &[],
+        &mut table,
+    ).err();
+    let created = respond::created(respond::asking(rt, alloc, 1, asks), &mut table).err();
     drop_table(table);
     (opened, created)
 }
@@ -229,7 +230,11 @@ fn long_history(
     Option<PublishSubscribeOpenOrCreateError>,
 ) {
     let mut table = table_from(alloc, 0);
-    let created = subscribe::create::<Local>(rt, alloc, &mut table, 1, LONG_HISTORY).err();
+    let created = subscribe::created(
+        subscribe::asking::<Local>(rt, alloc, 1, LONG_HISTORY),
+        &mut table,
+    )
+    .err();
     let builder = subscribe::asking::<Local>(rt, alloc, 1, LONG_HISTORY);
     let opened_or_created = match builder.open_or_create(&mut table) {
         Ok(factory) => {

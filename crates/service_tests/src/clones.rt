@@ -3,14 +3,11 @@
 use crate::publish_subscribe::support as subscribe;
 use crate::request_response::support as respond;
 use crate::storages::support::events;
-use crate::support::{DEFAULTS, assert_same, drop_table, table_from};
+use crate::support::{assert_same, defaults, drop_table, table_from};
 use iceoryx2_builder::builder::event::Builder;
 use iceoryx2_description::event::{EventId, StaticConfig};
 use iceoryx2_description::time::Time;
-use iceoryx2_errors::error::{
-    EventCreateError, EventOpenError, PublishSubscribeCreateError, PublishSubscribeOpenError,
-    RequestResponseCreateError, RequestResponseOpenError,
-};
+use iceoryx2_errors::error::{EventCreateError, EventOpenError};
 use iceoryx2_table::local::Local;
 use iceoryx2_table::table::Table;
 use iceoryx2_types::types::TypeVariant;
@@ -71,7 +68,7 @@ fn of_events(
 
 /// What each of them gives.
 fn settings() -> StaticConfig {
-    let mut settings = DEFAULTS;
+    let mut settings = defaults();
     settings.max_nodes = 5;
     settings.notifier_dead_event = Some(EventId::new(3));
     settings
@@ -110,21 +107,22 @@ const SAMPLES: subscribe::Asks = &[
     subscribe::Ask::Alignment(64),
 ];
 
+/// What a builder of a pattern creates, and what its copy opens.
+macro_rules! of_copy {
+    ($rt:ident, $alloc:ident, $pattern:ident, $builder:expr) => {{
+        let builder = $builder;
+        let copy = copied($rt, &builder);
+        let mut table = table_from($alloc, 0);
+        let first = $pattern::created(builder, &mut table);
+        let second = $pattern::opened(copy, &mut table);
+        drop_table(table);
+        (first, second)
+    }};
+}
+
 /// What a builder of publish-subscribe creates, and what its copy opens.
-fn of_samples(
-    rt: &impl Abort,
-    alloc: Global,
-) -> (
-    Result<subscribe::Given, PublishSubscribeCreateError>,
-    Result<subscribe::Given, PublishSubscribeOpenError>,
-) {
-    let builder = subscribe::asking::<Local>(rt, alloc, 1, SAMPLES);
-    let copy = copied(rt, &builder);
-    let mut table = table_from(alloc, 0);
-    let first = subscribe::created(builder, &mut table);
-    let second = subscribe::opened(copy, &mut table);
-    drop_table(table);
-    (first, second)
+fn of_samples(rt: &impl Abort, alloc: Global) -> (subscribe::Created, subscribe::Opened) {
+    of_copy! { rt, alloc, subscribe, subscribe::asking::<Local>(rt, alloc, 1, SAMPLES) }
 }
 
 #[test]
@@ -142,20 +140,8 @@ const RESPONSES: respond::Asks = &[
 ];
 
 /// What a builder of request-response creates, and what its copy opens.
-fn of_responses(
-    rt: &impl Abort,
-    alloc: Global,
-) -> (
-    Result<respond::Given, RequestResponseCreateError>,
-    Result<respond::Given, RequestResponseOpenError>,
-) {
-    let builder = respond::asking(rt, alloc, 1, RESPONSES);
-    let copy = copied(rt, &builder);
-    let mut table = table_from(alloc, 0);
-    let first = respond::created(builder, &mut table);
-    let second = respond::opened(copy, &mut table);
-    drop_table(table);
-    (first, second)
+fn of_responses(rt: &impl Abort, alloc: Global) -> (respond::Created, respond::Opened) {
+    of_copy! { rt, alloc, respond, respond::asking(rt, alloc, 1, RESPONSES) }
 }
 
 #[test]

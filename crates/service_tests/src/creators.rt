@@ -37,24 +37,14 @@ fn each_factory_tells_the_node_that_created_its_service(rt: HostRuntime) {
 /// request-response.
 fn of_messages(rt: &impl Abort, alloc: Global) -> [Option<u64>; 2] {
     let mut table = table_from(alloc, 0);
-    let published = match subscribe::asking::<Local>(rt, alloc, 3, &[]).create(&mut table) {
-        Ok(factory) => {
-            let creator = factory.creator();
-            factory.abandon();
-            creator
-        }
-        Err(error) => panic!(rt; "refused: {error}"),
-    };
-    let responding = match respond::asking(rt, alloc, 3, &[]).create(&mut table) {
-        Ok(factory) => {
-            let creator = factory.creator();
-            factory.abandon();
-            creator
-        }
-        Err(error) => panic!(rt; "refused: {error}"),
-    };
+    let published = subscribe::asking::<Local>(rt, alloc, 3, &[]).create(&mut table);
+    let published = factory(rt, published);
+    let responding = factory(rt, respond::asking(rt, alloc, 3, &[]).create(&mut table));
+    let found = [published.creator(), responding.creator()];
+    published.abandon();
+    responding.abandon();
     drop_table(table);
-    [published, responding]
+    found
 }
 
 #[test]

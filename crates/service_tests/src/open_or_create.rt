@@ -268,7 +268,10 @@ fn with_history(
     let mut table: Table = table_from(alloc, 0);
     match existing {
         Some(asks) => {
-            let _created = subscribe::create::<Local>(rt, alloc, &mut table, 2, asks);
+            let _created = subscribe::created(
+                subscribe::asking::<Local>(rt, alloc, 2, asks),
+                &mut table,
+            );
         }
         None => {}
     }

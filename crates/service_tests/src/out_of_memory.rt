@@ -11,19 +11,16 @@ use iceoryx2_access::storage::{
     Existence, FetchError, LockError, MakeSegmentError, OpenSegmentError, PublishError, Tag,
     TagError,
 };
-use iceoryx2_builder::builder::{self, Node, event, publish_subscribe, request_response};
+use iceoryx2_builder::builder::Node;
 use iceoryx2_commands::command::How;
 use iceoryx2_description::config::Config;
 use iceoryx2_description::time::Time;
-use iceoryx2_errors::error::{
-    EventCreateError, EventOpenError, EventOpenOrCreateError, PublishSubscribeCreateError,
-    PublishSubscribeOpenError, PublishSubscribeOpenOrCreateError, RequestResponseCreateError,
-    RequestResponseOpenError, RequestResponseOpenOrCreateError,
-};
 use iceoryx2_script::script::{Answer, Script, Scripted};
-use iceoryx2_types::types::{CustomHeaderMarker, CustomPayloadMarker, Slice};
 use std::alloc::Global;
 use std::process::Abort;
+use test_support::calls::{self, Called, plainly};
+use test_support::patterns::{ALL, Pattern};
+use test_support::refusals::{By, Word, said};
 
 /// What one access answers. Those that say `NoMemory` found none.
 #[derive(Clone, Copy)]
@@ -83,481 +80,207 @@ fn answer(rt: &impl Abort, alloc: Global, form: &str, letter: Letter) -> Answer 
     }
 }
 
-/// The script of these answers.
-fn script(rt: &impl Abort, alloc: Global, form: &str, letters: &[Letter]) -> Script {
-    let mut answers = Vec::new(alloc);
+/// Puts answers behind others.
+fn push_all(
+    rt: &impl Abort,
+    alloc: Global,
+    form: &str,
+    answers: &mut Vec<Answer>,
+    letters: &[Letter],
+) {
     for letter in letters {
-        push(rt, &mut answers, answer(rt, alloc, form, *letter));
+        push(rt, answers, answer(rt, alloc, form, *letter));
+    }
+}
+
+/// The script of these answers.
+fn script(rt: &impl Abort, alloc: Global, form: &str, parts: Parts) -> Script {
+    let mut answers = Vec::new(alloc);
+    for part in parts {
+        push_all(rt, alloc, form, &mut answers, part);
     }
     Script::new(answers)
 }
 
-/// A pattern's builder with markers in place of types.
-trait Calls {
-    /// A description of its service with the default settings.
-    fn form() -> &'static str;
-
-    /// What its call of node 1 answers.
-    fn call(rt: &impl Abort, alloc: Global, how: How, script: &mut Script) -> Says;
+/// A pattern's service: its name, and its description with the default settings.
+fn service(pattern: Pattern) -> (&'static str, &'static str) {
+    match pattern {
+        Pattern::Event => ("xample", COMPATIBLE),
+        Pattern::PublishSubscribe => ("xample", PUBLISH_SUBSCRIBE.form),
+        Pattern::RequestResponse => ("oot", REQUEST_RESPONSE.form),
+    }
 }
 
-/// Where a builder of node 1 begins.
-fn beginning(rt: &impl Abort, alloc: Global, text: &str) -> builder::Builder<Scripted> {
-    let node = Node::<Scripted>::new(1, Config::default());
-    node.service_builder(name(rt, alloc, text))
-}
-
-/// Events.
-struct Events;
-
-/// What a create of events says.
-fn event_create(builder: event::Builder<Scripted>, script: &mut Script) -> Says {
-    match builder.create(script, Ok(Time::default())) {
-        Ok(factory) => {
-            factory.abandon();
-            Neither
+/// Which error says that there was no memory.
+fn error_of(called: Called) -> Says {
+    let refusal = match called {
+        Ok(registration) => {
+            registration.abandon();
+            return Neither;
         }
-        Err(EventCreateError::OutOfMemory) => Create,
-        Err(_) => Neither,
+        Err(refusal) => refusal,
+    };
+    match said(refusal) {
+        (_, (_, By::Open, Word::OutOfMemory)) => Open,
+        (_, (_, By::Create, Word::OutOfMemory)) => Create,
+        _ => Neither,
     }
 }
 
-/// What an open of events says.
-fn event_open(builder: event::Builder<Scripted>, script: &mut Script) -> Says {
-    match builder.open(script) {
-        Ok(factory) => {
-            factory.abandon();
-            Neither
-        }
-        Err(EventOpenError::OutOfMemory) => Open,
-        Err(_) => Neither,
-    }
-}
+/// Letters in their order, in parts.
+type Parts = &'static [&'static [Letter]];
 
-/// What an open or create of events says.
-fn event_open_or_create(builder: event::Builder<Scripted>, script: &mut Script) -> Says {
-    match builder.open_or_create(script, Ok(Time::default())) {
-        Ok(factory) => {
-            factory.abandon();
-            Neither
-        }
-        Err(EventOpenOrCreateError::EventOpenError(EventOpenError::OutOfMemory)) => Open,
-        Err(EventOpenOrCreateError::EventCreateError(EventCreateError::OutOfMemory)) => Create,
-        Err(_) => Neither,
-    }
-}
+/// What the accesses of a call answer, and how many looks, openings and makings there are.
+type Row = (Parts, Counters);
 
-impl Calls for Events {
-    fn form() -> &'static str {
-        COMPATIBLE
-    }
+/// A look that finds the service, but no memory for what it reads.
+const UNREAD: &[Letter] = &[There, FetchNoMemory];
 
-    fn call(rt: &impl Abort, alloc: Global, how: How, script: &mut Script) -> Says {
-        let builder = beginning(rt, alloc, "xample").event();
-        match how {
-            How::Create => event_create(builder, script),
-            How::Open => event_open(builder, script),
-            How::OpenOrCreate => event_open_or_create(builder, script),
-        }
-    }
-}
+/// What each access of a create behind a look that finds nothing finds no memory for.
+const UNTAGGED: &[Letter] = &[NotThere, NotCounted, TagNoMemory];
 
-/// Publish-subscribe.
-struct Messages;
+const UNLOCKED: &[Letter] = &[NotThere, NotCounted, Tagged, LockNoMemory, TagRemoved];
 
-type Subscribe = publish_subscribe::Builder<
-    Slice<CustomPayloadMarker>,
-    CustomHeaderMarker,
-    Scripted,
->;
+const UNMADE: &[Letter] = &[
+    NotThere,
+    NotCounted,
+    Tagged,
+    Locked,
+    SegmentNoMemory,
+    DescriptionRemoved,
+    TagRemoved,
+];
 
-/// What a create of publish-subscribe says.
-fn message_create(builder: Subscribe, script: &mut Script) -> Says {
-    match builder.create(script) {
-        Ok(factory) => {
-            factory.abandon();
-            Neither
-        }
-        Err(PublishSubscribeCreateError::OutOfMemory) => Create,
-        Err(_) => Neither,
-    }
-}
-
-/// What an open of publish-subscribe says.
-fn message_open(builder: Subscribe, script: &mut Script) -> Says {
-    match builder.open(script) {
-        Ok(factory) => {
-            factory.abandon();
-            Neither
-        }
-        Err(PublishSubscribeOpenError::OutOfMemory) => Open,
-        Err(_) => Neither,
-    }
-}
-
-/// What an open or create of publish-subscribe says.
-fn message_open_or_create(builder: Subscribe, script: &mut Script) -> Says {
-    match builder.open_or_create(script) {
-        Ok(factory) => {
-            factory.abandon();
-            Neither
-        }
-        Err(
-            PublishSubscribeOpenOrCreateError::PublishSubscribeOpenError(
-                PublishSubscribeOpenError::OutOfMemory,
-            ),
-        ) => Open,
-        Err(
-            PublishSubscribeOpenOrCreateError::PublishSubscribeCreateError(
-                PublishSubscribeCreateError::OutOfMemory,
-            ),
-        ) => Create,
-        Err(_) => Neither,
-    }
-}
-
-impl Calls for Messages {
-    fn form() -> &'static str {
-        PUBLISH_SUBSCRIBE.form
-    }
-
-    fn call(rt: &impl Abort, alloc: Global, how: How, script: &mut Script) -> Says {
-        let builder = beginning(rt, alloc, "xample")
-            .publish_subscribe::<Slice<CustomPayloadMarker>>()
-            .user_header::<CustomHeaderMarker>();
-        match how {
-            How::Create => message_create(builder, script),
-            How::Open => message_open(builder, script),
-            How::OpenOrCreate => message_open_or_create(builder, script),
-        }
-    }
-}
-
-/// Request-response.
-struct Requests;
-
-type Respond = request_response::Builder<
-    Slice<CustomPayloadMarker>,
-    CustomHeaderMarker,
-    Slice<CustomPayloadMarker>,
-    CustomHeaderMarker,
-    Scripted,
->;
-
-/// What a create of request-response says.
-fn request_create(builder: Respond, script: &mut Script) -> Says {
-    match builder.create(script) {
-        Ok(factory) => {
-            factory.abandon();
-            Neither
-        }
-        Err(RequestResponseCreateError::OutOfMemory) => Create,
-        Err(_) => Neither,
-    }
-}
-
-/// What an open of request-response says.
-fn request_open(builder: Respond, script: &mut Script) -> Says {
-    match builder.open(script) {
-        Ok(factory) => {
-            factory.abandon();
-            Neither
-        }
-        Err(RequestResponseOpenError::OutOfMemory) => Open,
-        Err(_) => Neither,
-    }
-}
-
-/// What an open or create of request-response says.
-fn request_open_or_create(builder: Respond, script: &mut Script) -> Says {
-    match builder.open_or_create(script) {
-        Ok(factory) => {
-            factory.abandon();
-            Neither
-        }
-        Err(
-            RequestResponseOpenOrCreateError::RequestResponseOpenError(
-                RequestResponseOpenError::OutOfMemory,
-            ),
-        ) => Open,
-        Err(
-            RequestResponseOpenOrCreateError::RequestResponseCreateError(
-                RequestResponseCreateError::OutOfMemory,
-            ),
-        ) => Create,
-        Err(_) => Neither,
-    }
-}
-
-impl Calls for Requests {
-    fn form() -> &'static str {
-        REQUEST_RESPONSE.form
-    }
-
-    fn call(rt: &impl Abort, alloc: Global, how: How, script: &mut Script) -> Says {
-        let builder = beginning(rt, alloc, "oot")
-            .request_response::<Slice<CustomPayloadMarker>, Slice<CustomPayloadMarker>>()
-            .request_user_header::<CustomHeaderMarker>()
-            .response_user_header::<CustomHeaderMarker>();
-        match how {
-            How::Create => request_create(builder, script),
-            How::Open => request_open(builder, script),
-            How::OpenOrCreate => request_open_or_create(builder, script),
-        }
-    }
-}
-
-/// A call, what its accesses answer, which error says so, and how many looks, openings and makings there are.
-type Row = (How, &'static [Letter], Says, Counters);
+const UNPUBLISHED: &[Letter] = &[
+    NotThere,
+    NotCounted,
+    Tagged,
+    Locked,
+    SegmentMade,
+    PublishNoMemory,
+    SegmentRemoved,
+    DescriptionRemoved,
+    TagRemoved,
+];
 
 /// Creates whose accesses find no memory, one after the other.
 const CREATES: &[Row] = &[
-    (How::Create, &[There, FetchNoMemory], Create, (1, 0, 0)),
-    (
-        How::Create,
-        &[NotThere, NotCounted, TagNoMemory],
-        Create,
-        (1, 0, 0),
-    ),
-    (
-        How::Create,
-        &[NotThere, NotCounted, Tagged, LockNoMemory, TagRemoved],
-        Create,
-        (1, 0, 0),
-    ),
+    (&[UNREAD], (1, 0, 0)),
+    (&[UNTAGGED], (1, 0, 0)),
+    (&[UNLOCKED], (1, 0, 0)),
     // a tag that was found is not given back
     (
-        How::Create,
-        &[NotThere, NotCounted, TagFound, LockNoMemory],
-        Create,
+        &[&[NotThere, NotCounted, TagFound, LockNoMemory]],
         (1, 0, 0),
     ),
-    (
-        How::Create,
-        &[
-            NotThere,
-            NotCounted,
-            Tagged,
-            Locked,
-            SegmentNoMemory,
-            DescriptionRemoved,
-            TagRemoved,
-        ],
-        Create,
-        (1, 0, 1),
-    ),
-    (
-        How::Create,
-        &[
-            NotThere,
-            NotCounted,
-            Tagged,
-            Locked,
-            SegmentMade,
-            PublishNoMemory,
-            SegmentRemoved,
-            DescriptionRemoved,
-            TagRemoved,
-        ],
-        Create,
-        (1, 0, 1),
-    ),
+    (&[UNMADE], (1, 0, 1)),
+    (&[UNPUBLISHED], (1, 0, 1)),
 ];
+
+/// Looks of an open or create, and of an open.
+const NOTHING: &[Letter] = &[NotThere];
+
+const SERVICE: &[Letter] = &[There, Fetched];
+
+/// What the accesses of an open behind its look find no memory for, or fail at.
+const NO_TAG: &[Letter] = &[TagNoMemory];
+
+const UNOPENED: &[Letter] = &[Tagged, OpeningNoMemory, TagRemoved];
+
+const FAILED: &[Letter] = &[Tagged, OpeningFailed];
+
+/// What gives the tag back.
+const GIVEN_BACK: &[Letter] = &[TagRemoved];
 
 /// Opens whose accesses find no memory, one after the other.
 const OPENS: &[Row] = &[
-    (How::Open, &[There, FetchNoMemory], Open, (1, 0, 0)),
-    (How::Open, &[There, Fetched, TagNoMemory], Open, (1, 0, 0)),
-    (
-        How::Open,
-        &[There, Fetched, Tagged, OpeningNoMemory, TagRemoved],
-        Open,
-        (1, 1, 0),
-    ),
-    (
-        How::Open,
-        &[There, Fetched, TagFound, OpeningNoMemory],
-        Open,
-        (1, 1, 0),
-    ),
+    (&[UNREAD], (1, 0, 0)),
+    (&[SERVICE, NO_TAG], (1, 0, 0)),
+    (&[SERVICE, UNOPENED], (1, 1, 0)),
+    (&[SERVICE, &[TagFound, OpeningNoMemory]], (1, 1, 0)),
     // the look behind an opening that failed, and that of the next round
-    (
-        How::Open,
-        &[
-            There,
-            Fetched,
-            Tagged,
-            OpeningFailed,
-            There,
-            FetchNoMemory,
-            TagRemoved,
-        ],
-        Open,
-        (2, 1, 0),
-    ),
-    (
-        How::Open,
-        &[
-            There,
-            Fetched,
-            Tagged,
-            OpeningFailed,
-            There,
-            Fetched,
-            TagRemoved,
-            There,
-            FetchNoMemory,
-        ],
-        Open,
-        (3, 1, 0),
-    ),
+    (&[SERVICE, FAILED, UNREAD, GIVEN_BACK], (2, 1, 0)),
+    (&[SERVICE, FAILED, SERVICE, GIVEN_BACK, UNREAD], (3, 1, 0)),
 ];
 
-/// Opens or creates whose accesses find no memory, one after the other.
+/// Opens or creates, the accesses of whose looks and whose opens find no memory, one after the other.
 const OPENS_OR_CREATES: &[Row] = &[
-    // the look of an open or create, and those of its open
-    (How::OpenOrCreate, &[There, FetchNoMemory], Open, (1, 0, 0)),
-    (
-        How::OpenOrCreate,
-        &[There, Fetched, There, FetchNoMemory],
-        Open,
-        (2, 0, 0),
-    ),
-    (
-        How::OpenOrCreate,
-        &[There, Fetched, There, Fetched, TagNoMemory],
-        Open,
-        (2, 0, 0),
-    ),
-    (
-        How::OpenOrCreate,
-        &[
-            There,
-            Fetched,
-            There,
-            Fetched,
-            Tagged,
-            OpeningNoMemory,
-            TagRemoved,
-        ],
-        Open,
-        (2, 1, 0),
-    ),
-    (
-        How::OpenOrCreate,
-        &[
-            There,
-            Fetched,
-            There,
-            Fetched,
-            Tagged,
-            OpeningFailed,
-            There,
-            FetchNoMemory,
-            TagRemoved,
-        ],
-        Open,
-        (3, 1, 0),
-    ),
-    // the look of its create, and what follows it
-    (
-        How::OpenOrCreate,
-        &[NotThere, There, FetchNoMemory],
-        Create,
-        (2, 0, 0),
-    ),
-    (
-        How::OpenOrCreate,
-        &[NotThere, NotThere, NotCounted, TagNoMemory],
-        Create,
-        (2, 0, 0),
-    ),
-    (
-        How::OpenOrCreate,
-        &[
-            NotThere,
-            NotThere,
-            NotCounted,
-            Tagged,
-            LockNoMemory,
-            TagRemoved,
-        ],
-        Create,
-        (2, 0, 0),
-    ),
-    (
-        How::OpenOrCreate,
-        &[
-            NotThere,
-            NotThere,
-            NotCounted,
-            Tagged,
-            Locked,
-            SegmentNoMemory,
-            DescriptionRemoved,
-            TagRemoved,
-        ],
-        Create,
-        (2, 0, 1),
-    ),
-    (
-        How::OpenOrCreate,
-        &[
-            NotThere,
-            NotThere,
-            NotCounted,
-            Tagged,
-            Locked,
-            SegmentMade,
-            PublishNoMemory,
-            SegmentRemoved,
-            DescriptionRemoved,
-            TagRemoved,
-        ],
-        Create,
-        (2, 0, 1),
-    ),
+    (&[UNREAD], (1, 0, 0)),
+    (&[SERVICE, UNREAD], (2, 0, 0)),
+    (&[SERVICE, SERVICE, NO_TAG], (2, 0, 0)),
+    (&[SERVICE, SERVICE, UNOPENED], (2, 1, 0)),
+    (&[SERVICE, SERVICE, FAILED, UNREAD, GIVEN_BACK], (3, 1, 0)),
 ];
 
-/// What a pattern's call says over a script, its counters, and how many answers are left.
-fn said<C: Calls>(
+/// Those of whose creates do.
+const CREATES_IN_ROUNDS: &[Row] = &[
+    (&[NOTHING, UNREAD], (2, 0, 0)),
+    (&[NOTHING, UNTAGGED], (2, 0, 0)),
+    (&[NOTHING, UNLOCKED], (2, 0, 0)),
+    (&[NOTHING, UNMADE], (2, 0, 1)),
+    (&[NOTHING, UNPUBLISHED], (2, 0, 1)),
+];
+
+/// What the call of node 1 by a pattern says over a script, its counters, and how many answers are left.
+fn seen(
     rt: &impl Abort,
     alloc: Global,
+    pattern: Pattern,
     how: How,
-    letters: &[Letter],
+    parts: Parts,
 ) -> (Says, Counters, usize) {
-    let mut script = script(rt, alloc, C::form(), letters);
-    let says = C::call(rt, alloc, how, &mut script);
+    let (text, form) = service(pattern);
+    let mut script = script(rt, alloc, form, parts);
+    let node = Node::<Scripted>::new(1, Config::default());
+    let builder = node.service_builder(name(rt, alloc, text));
+    let now = Ok(Time::default());
+    let called = calls::call::<Scripted>(builder, pattern, plainly(how), now, &mut script);
     let counters = (script.looks(), script.openings(), script.makings());
-    (says, counters, script.left().len())
+    (error_of(called), counters, script.left().len())
 }
 
-/// Makes the calls of one pattern.
-fn assert_rows<C: Calls>(rt: &impl Abort, alloc: Global, rows: &[Row]) {
-    for (row, &(how, letters, says, counters)) in rows.iter().enumerate() {
-        let found = said::<C>(rt, alloc, how, letters);
-        assert_same(rt, (row, found), (row, (says, counters, 0)));
+/// Makes the calls of one pattern, of which this error has to say so.
+fn assert_rows(
+    rt: &impl Abort,
+    alloc: Global,
+    pattern: Pattern,
+    (how, says): (How, Says),
+    rows: &[Row],
+) {
+    for (row, &(parts, counters)) in rows.iter().enumerate() {
+        let found = seen(rt, alloc, pattern, how, parts);
+        assert_same(
+            rt,
+            (pattern, row, found),
+            (pattern, row, (says, counters, 0)),
+        );
     }
 }
 
 /// Makes the calls of all patterns.
-fn assert_all(rt: &impl Abort, alloc: Global, rows: &[Row]) {
-    assert_rows::<Events>(rt, alloc, rows);
-    assert_rows::<Messages>(rt, alloc, rows);
-    assert_rows::<Requests>(rt, alloc, rows);
+fn assert_all(rt: &impl Abort, alloc: Global, asked: (How, Says), rows: &[Row]) {
+    for pattern in ALL {
+        assert_rows(rt, alloc, pattern, asked, rows);
+    }
 }
 
 #[test]
 fn a_create_is_refused_where_an_access_finds_no_memory(rt: HostRuntime) {
-    assert_all(&rt, rt.alloc(), CREATES);
+    assert_all(&rt, rt.alloc(), (How::Create, Create), CREATES);
 }
 
 #[test]
 fn an_open_is_refused_where_an_access_finds_no_memory(rt: HostRuntime) {
-    assert_all(&rt, rt.alloc(), OPENS);
+    assert_all(&rt, rt.alloc(), (How::Open, Open), OPENS);
 }
 
 #[test]
 fn an_open_or_create_is_refused_where_an_access_finds_no_memory(rt: HostRuntime) {
-    assert_all(&rt, rt.alloc(), OPENS_OR_CREATES);
+    assert_all(&rt, rt.alloc(), (How::OpenOrCreate, Open), OPENS_OR_CREATES);
+    assert_all(
+        &rt,
+        rt.alloc(),
+        (How::OpenOrCreate, Create),
+        CREATES_IN_ROUNDS,
+    );
 }

@@ -1,7 +1,9 @@
 //! The paths below `iceoryx2_service` by which a user of the layer names what it has, and short uses of
 //! those that no other test takes.
 
-use crate::support::{DEFAULTS, assert_same, closed, drop_table, name, push, settings};
+use crate::support::{
+    assert_same, closed, defaults, drop_table, granted, name, push, settings, why,
+};
 use iceoryx2_service::attribute::{
     AttributeError, AttributeSet, AttributeSpecifier, AttributeVerifier,
 };
@@ -48,105 +50,70 @@ fn served<S: Service>() {
     hashed::<S::ServiceNameHasher>();
 }
 
+/// What has each of these paths.
+macro_rules! each {
+    ($has:ident: $($path:ty),*) => {
+        $($has::<$path>();)*
+    };
+}
+
 /// Types of messages, attributes and the errors of forms.
 fn of_types() {
-    named::<TypeVariant>();
-    named::<TypeDetail>();
-    named::<TypeDetailError>();
-    named::<Alignment>();
-    named::<MessageTypeDetails>();
-    sent::<Slice<u64>>();
-    sent::<CustomHeaderMarker>();
-    sent::<CustomPayloadMarker>();
-    sent::<CustomKeyMarker>();
-    named::<AttributeSet>();
-    named::<AttributeSpecifier>();
-    named::<AttributeVerifier>();
-    named::<AttributeError>();
-    named::<DecodeError>();
+    each! { named: TypeVariant, TypeDetail, TypeDetailError, Alignment, MessageTypeDetails }
+    each! { sent: Slice<u64>, CustomHeaderMarker, CustomPayloadMarker, CustomKeyMarker }
+    each! { named: AttributeSet, AttributeSpecifier, AttributeVerifier, AttributeError, DecodeError }
 }
 
 /// Descriptions and what they are made of.
 fn of_descriptions() {
-    named::<ServiceName>();
-    named::<ServiceNameError>();
-    named::<ServiceHash>();
-    named::<Duration>();
-    named::<Time>();
-    named::<ClockFault>();
-    named::<Deadline>();
-    named::<EventId>();
-    named::<StaticConfig>();
-    named::<MessagingPattern>();
-    named::<description::event::StaticConfig>();
-    named::<description::publish_subscribe::StaticConfig>();
-    named::<description::request_response::StaticConfig>();
-    named::<Config>();
-    named::<description::Event>();
-    named::<description::PublishSubscribe>();
-    named::<description::RequestResponse>();
+    each! {
+        named:
+        ServiceName, ServiceNameError, ServiceHash, Duration, Time, ClockFault, Deadline, EventId,
+        StaticConfig, MessagingPattern, description::event::StaticConfig,
+        description::publish_subscribe::StaticConfig, description::request_response::StaticConfig,
+        Config, description::Event, description::PublishSubscribe, description::RequestResponse
+    }
 }
 
 /// Storages, services and their answers.
 fn of_storages() {
-    named::<Existence>();
-    named::<FetchError>();
-    named::<Tag>();
-    named::<TagError>();
-    named::<LockError>();
-    named::<MakeSegmentError>();
-    named::<RemoveError>();
-    named::<PublishError>();
-    named::<OpenSegmentError>();
-    named::<Release>();
-    named::<ReleaseError>();
-    stored::<Table>();
-    stored::<Script>();
-    stored::<Faulty<Table>>();
-    served::<Local>();
-    served::<Scripted>();
-    served::<FaultyService<Local>>();
+    each! {
+        named:
+        Existence, FetchError, Tag, TagError, LockError, MakeSegmentError, RemoveError,
+        PublishError, OpenSegmentError, Release, ReleaseError
+    }
+    each! { stored: Table, Script, Faulty<Table> }
+    each! { served: Local, Scripted, FaultyService<Local> }
     hashed::<Sha1Hasher>();
-    named::<Answer>();
-    named::<Step>();
-    named::<Act>();
-    named::<Entry>();
+    each! { named: Answer, Step, Act, Entry }
 }
 
 /// Builders, and why they refuse.
 fn of_builders() {
-    named::<Node<Local>>();
-    named::<Builder<Local>>();
-    named::<BuilderWithServiceType<Local>>();
-    named::<ServiceState>();
-    named::<event::Builder<Local>>();
-    named::<event::EventId>();
-    named::<event::EventOpenError>();
-    named::<event::EventCreateError>();
-    named::<event::EventOpenOrCreateError>();
-    named::<publish_subscribe::Builder<u64, (), Local>>();
-    named::<publish_subscribe::ServiceAvailabilityState>();
-    named::<publish_subscribe::PublishSubscribeOpenError>();
-    named::<publish_subscribe::PublishSubscribeCreateError>();
-    named::<publish_subscribe::PublishSubscribeOpenOrCreateError>();
-    named::<request_response::Builder<u64, (), u64, (), Local>>();
-    named::<request_response::ServiceAvailabilityState>();
-    named::<request_response::RequestResponseOpenError>();
-    named::<request_response::RequestResponseCreateError>();
-    named::<request_response::RequestResponseOpenOrCreateError>();
+    each! {
+        named:
+        Node<Local>, Builder<Local>, BuilderWithServiceType<Local>, ServiceState,
+        event::Builder<Local>, event::EventId, event::EventOpenError, event::EventCreateError,
+        event::EventOpenOrCreateError, publish_subscribe::Builder<u64, (), Local>,
+        publish_subscribe::ServiceAvailabilityState, publish_subscribe::PublishSubscribeOpenError,
+        publish_subscribe::PublishSubscribeCreateError,
+        publish_subscribe::PublishSubscribeOpenOrCreateError,
+        request_response::Builder<u64, (), u64, (), Local>,
+        request_response::ServiceAvailabilityState, request_response::RequestResponseOpenError,
+        request_response::RequestResponseCreateError,
+        request_response::RequestResponseOpenOrCreateError
+    }
 }
 
 /// Factories and sessions.
 fn of_factories() {
-    named::<CloseError<u64>>();
-    named::<port_factory::event::PortFactory<Local>>();
-    named::<port_factory::publish_subscribe::PortFactory<Local, u64, ()>>();
-    named::<port_factory::request_response::PortFactory<Local, u64, (), u64, ()>>();
-    named::<Session>();
-    named::<Command>();
-    named::<Call>();
-    named::<How>();
-    named::<Reply>();
+    each! {
+        named:
+        CloseError<u64>, port_factory::event::PortFactory<Local>,
+        port_factory::publish_subscribe::PortFactory<Local, u64, ()>,
+        port_factory::request_response::PortFactory<Local, u64, (), u64, ()>, Session, Command,
+        Call, How, Reply
+    }
 }
 
 // It fails where a path is gone, since it doesn't compile then.
@@ -192,12 +159,9 @@ fn length_of_form(rt: &impl Abort, alloc: Global) -> usize {
         ServiceHash([17; 20]),
         name(rt, alloc, "a"),
         AttributeSet::new(alloc),
-        MessagingPattern::Event(DEFAULTS),
+        MessagingPattern::Event(defaults()),
     );
-    match bytes::encode(alloc, &description) {
-        Ok(form) => form.len(),
-        Err(_) => panic!(rt; "no memory"),
-    }
+    granted(rt, bytes::encode(alloc, &description)).len()
 }
 
 /// Why no bytes are no form.
@@ -250,10 +214,7 @@ fn configuration() -> Config {
 
 /// The copy of a builder whose pattern is still to be chosen.
 fn copied(rt: &impl Abort, builder: &Builder<Local>) -> Builder<Local> {
-    match builder.clone() {
-        Ok(copy) => copy,
-        Err(_) => panic!(rt; "no memory"),
-    }
+    granted(rt, builder.clone())
 }
 
 /// A builder of node 1 for the service of these tests.
@@ -304,13 +265,7 @@ fn opened_when_gone(rt: &impl Abort, alloc: Global) -> Option<event::EventOpenEr
     let mut script = Script::new(answers);
     let node = Node::<Scripted>::new(1, Config::default());
     let builder = node.service_builder(name(rt, alloc, "xample")).event();
-    match builder.open(&mut script) {
-        Ok(factory) => {
-            factory.abandon();
-            None
-        }
-        Err(error) => Some(error),
-    }
+    why(builder.open(&mut script))
 }
 
 #[test]

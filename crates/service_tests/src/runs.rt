@@ -106,16 +106,23 @@ const CALLS: &[Wanted] = &[
     (How::Create, 1, 0, &[("k", "v")], "i"),
     (How::Create, 2, 1, &[("k", "v")], "k"),
     (How::Open, 2, 64, &[("k", "v")], "k"),
-    (How::Open, 2, 1, &[("k", "w")], "k"),
-    (How::Open, 2, 1, &[("k", "v")], "i"),
-    (How::Open, 2, 1, &[("k", "v")], "k"),
 ];
 
-/// These calls, a listing, and closes of a slot past the last one and of a taken one.
-fn calls(rt: &impl Abort, alloc: Global, wanted: &[Wanted]) -> Vec<Command> {
+/// The pairs and the keys of the calls of node 2 into slot 1 that follow, of which the last one is granted.
+const LAST: [(Pairs, &str); 3] = [
+    (&[("k", "w")], "k"),
+    (&[("k", "v")], "i"),
+    (&[("k", "v")], "k"),
+];
+
+/// These calls and the last ones so, a listing, and closes of a slot past the last one and of a taken one.
+fn calls(rt: &impl Abort, alloc: Global, wanted: &[Wanted], how: How) -> Vec<Command> {
     let mut commands = Vec::new(alloc);
     for &wanted in wanted {
         push(rt, &mut commands, call(rt, alloc, wanted));
+    }
+    for (pairs, key) in LAST {
+        push(rt, &mut commands, call(rt, alloc, (how, 2, 1, pairs, key)));
     }
     push(rt, &mut commands, Command::List);
     push(rt, &mut commands, Command::Close { slot: 64 });
@@ -123,21 +130,27 @@ fn calls(rt: &impl Abort, alloc: Global, wanted: &[Wanted]) -> Vec<Command> {
     commands
 }
 
-#[test]
-fn a_refusal_does_not_stop_a_run(rt: HostRuntime) {
-    let lacking = Refusal::EventOpen(EventOpenError::IncompatibleAttributes);
-    let wanted = [
+/// What they are told where the second and the third call are told this, and the last ones are refused so.
+fn replies_of([second, third]: [Told; 2], lacking: Refusal) -> [Told; 9] {
+    [
         Told::Opened(0, 0),
-        Told::Refused(Refusal::EventCreate(EventCreateError::AlreadyExists)),
-        Told::NoSlot,
+        second,
+        third,
         Told::Refused(lacking),
         Told::Refused(lacking),
         Told::Opened(1, 0),
         Told::Listed(1),
         Told::NoSlot,
         Told::Closed(1),
-    ];
-    let commands = calls(&rt, rt.alloc(), CALLS);
+    ]
+}
+
+#[test]
+fn a_refusal_does_not_stop_a_run(rt: HostRuntime) {
+    let lacking = Refusal::EventOpen(EventOpenError::IncompatibleAttributes);
+    let there = Told::Refused(Refusal::EventCreate(EventCreateError::AlreadyExists));
+    let wanted = replies_of([there, Told::NoSlot], lacking);
+    let commands = calls(&rt, rt.alloc(), CALLS, How::Open);
     assert_same(&rt, are_told(rt.alloc(), commands, &wanted), true);
 }
 
@@ -146,26 +159,13 @@ const ROUNDS: &[Wanted] = &[
     (How::OpenOrCreate, 1, 0, &[("k", "v")], "i"),
     (How::OpenOrCreate, 2, 64, &[("k", "v")], "k"),
     (How::OpenOrCreate, 2, 0, &[("k", "v")], "k"),
-    (How::OpenOrCreate, 2, 1, &[("k", "w")], "k"),
-    (How::OpenOrCreate, 2, 1, &[("k", "v")], "i"),
-    (How::OpenOrCreate, 2, 1, &[("k", "v")], "k"),
 ];
 
 #[test]
 fn a_run_opens_what_it_has_created(rt: HostRuntime) {
     let lacking = EventOpenOrCreateError::EventOpenError(EventOpenError::IncompatibleAttributes);
     let lacking = Refusal::EventOpenOrCreate(lacking);
-    let wanted = [
-        Told::Opened(0, 0),
-        Told::NoSlot,
-        Told::InUse,
-        Told::Refused(lacking),
-        Told::Refused(lacking),
-        Told::Opened(1, 0),
-        Told::Listed(1),
-        Told::NoSlot,
-        Told::Closed(1),
-    ];
-    let commands = calls(&rt, rt.alloc(), ROUNDS);
+    let wanted = replies_of([Told::NoSlot, Told::InUse], lacking);
+    let commands = calls(&rt, rt.alloc(), ROUNDS, How::OpenOrCreate);
     assert_same(&rt, are_told(rt.alloc(), commands, &wanted), true);
 }

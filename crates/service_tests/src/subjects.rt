@@ -12,10 +12,9 @@ pub struct Subject {
 
 /// One of publish-subscribe, with the name `xample`.
 pub const PUBLISH_SUBSCRIBE: Subject = Subject {
-    hash: ServiceHash([
-        0x5f, 0xa2, 0x53, 0xad, 0xf3, 0xbd, 0x93, 0x5e, 0x11, 0xff, 0xb7, 0xe0, 0x27, 0x78, 0x10,
-        0x6a, 0x71, 0x53, 0x3f, 0x98,
-    ]),
+    hash: ServiceHash(
+        *b"\x5f\xa2\x53\xad\xf3\xbd\x93\x5e\x11\xff\xb7\xe0\x27\x78\x10\x6a\x71\x53\x3f\x98",
+    ),
     form: "494f5832015fa253adf3bd935e11ffb7e02778106a71533f98000678616d706c65000002\
            0000000000000002000000000000000800000000000000020000000000000000\
            0000000000000002010000000000000014\
@@ -26,10 +25,9 @@ pub const PUBLISH_SUBSCRIBE: Subject = Subject {
 
 /// One of request-response, with the name `oot`.
 pub const REQUEST_RESPONSE: Subject = Subject {
-    hash: ServiceHash([
-        0xdc, 0x76, 0xe9, 0xf0, 0xc0, 0x00, 0x6e, 0x8f, 0x91, 0x9e, 0x0c, 0x51, 0x5c, 0x66, 0xdb,
-        0xba, 0x39, 0x82, 0xf7, 0x85,
-    ]),
+    hash: ServiceHash(
+        *b"\xdc\x76\xe9\xf0\xc0\x00\x6e\x8f\x91\x9e\x0c\x51\x5c\x66\xdb\xba\x39\x82\xf7\x85",
+    ),
     form: "494f583201dc76e9f0c0006e8f919e0c515c66dbba3982f78500036f6f74000003\
            010101\
            0000000000000004000000000000000200000000000000020000000000000002\

@@ -5,34 +5,30 @@ use iceoryx2_access::storage::{Service, ServiceNameHasher, Sha1Hasher};
 use iceoryx2_attribute::attribute::{AttributeSpecifier, AttributeVerifier};
 use iceoryx2_builder::builder::Node;
 use iceoryx2_builder::builder::event::Builder;
-use iceoryx2_commands::command::{Call, Command, EventSetter, How, Settings};
+use iceoryx2_commands::command::{Command, EventSetter, How, Settings};
 use iceoryx2_description::config::Config;
 use iceoryx2_description::description::{ServiceHash, ServiceName};
 use iceoryx2_description::event::{Deadline, StaticConfig};
 use iceoryx2_description::time::{ClockFault, Duration, Time};
 use iceoryx2_errors::error::{EventCreateError, EventOpenError};
 use iceoryx2_port_factory::port_factory::event::PortFactory;
+use iceoryx2_port_factory::port_factory::factory::{Kind, PortFactory as AnyFactory};
 use iceoryx2_table::local::Local;
 use iceoryx2_table::table::Table;
-use iceoryx2_world::listing::{Entry, ListedRow, ListedSegment};
+use iceoryx2_world::listing::Entry;
 use std::alloc::Global;
-use std::fmt::Debug;
+use std::fmt::{Debug, Display};
 use std::process::Abort;
+pub use test_support::listing::{Row, Segment};
+use test_support::{calls, listing};
 
 /// Pairs of a key and a value.
 pub type Pairs = &'static [(&'static str, &'static str)];
 
 /// What is published by default.
-pub const DEFAULTS: StaticConfig = StaticConfig {
-    max_notifiers: 16,
-    max_listeners: 16,
-    event_id_max_value: 255,
-    max_nodes: 36,
-    notifier_created_event: None,
-    notifier_dropped_event: None,
-    notifier_dead_event: None,
-    deadline: None,
-};
+pub fn defaults() -> StaticConfig {
+    test_support::settings::events(test_support::settings::EVENTS)
+}
 
 /// Ends a test that finds another value than it wants. Only here is a value compared and printed, since
 /// a function that does so takes long to prove.
@@ -55,20 +51,22 @@ pub fn deadline(rt: &impl Abort, value: (u64, u32), creation: (u64, u32)) -> Dea
     }
 }
 
+/// What is answered that isn't refused.
+pub fn granted<T, E: Drop>(rt: &impl Abort, answer: Result<T, E>) -> T {
+    match answer {
+        Ok(given) => given,
+        Err(_) => panic!(rt; "refused"),
+    }
+}
+
 /// A name.
 pub fn name(rt: &impl Abort, alloc: Global, text: &str) -> ServiceName {
-    match ServiceName::new(alloc, text) {
-        Ok(name) => name,
-        Err(_) => panic!(rt; "no name"),
-    }
+    granted(rt, ServiceName::new(alloc, text))
 }
 
 /// Puts something behind the rest.
 pub fn push<T: Drop>(rt: &impl Abort, all: &mut Vec<T>, last: T) {
-    match all.push(last) {
-        Ok(()) => {}
-        Err(_) => panic!(rt; "no memory"),
-    }
+    granted(rt, all.push(last))
 }
 
 /// The builder of a node with this configuration for events of this name.
@@ -120,6 +118,28 @@ pub fn open(
     builder.open(table)
 }
 
+/// Why a call is refused. What it gives otherwise is let go.
+pub fn why<S: Service, K: Kind, E: Drop>(answer: Result<AnyFactory<S, K>, E>) -> Option<E> {
+    match answer {
+        Ok(factory) => {
+            factory.abandon();
+            None
+        }
+        Err(error) => Some(error),
+    }
+}
+
+/// The factory that a call gives.
+pub fn factory<S: Service, K: Kind, E: Display + Drop>(
+    rt: &impl Abort,
+    answer: Result<AnyFactory<S, K>, E>,
+) -> AnyFactory<S, K> {
+    match answer {
+        Ok(factory) => factory,
+        Err(error) => panic!(rt; "refused: {error}"),
+    }
+}
+
 /// A service that is created at this time.
 pub fn created_at(
     rt: &impl Abort,
@@ -127,10 +147,7 @@ pub fn created_at(
     table: &mut Table,
     now: Time,
 ) -> PortFactory<Local> {
-    match create(builder, table, Ok(now)) {
-        Ok(factory) => factory,
-        Err(error) => panic!(rt; "refused: {error}"),
-    }
+    factory(rt, create(builder, table, Ok(now)))
 }
 
 /// A service that is created at time zero.
@@ -140,10 +157,7 @@ pub fn created(rt: &impl Abort, builder: Builder<Local>, table: &mut Table) -> P
 
 /// A service that is opened.
 pub fn opened(rt: &impl Abort, builder: Builder<Local>, table: &mut Table) -> PortFactory<Local> {
-    match open(builder, table) {
-        Ok(factory) => factory,
-        Err(error) => panic!(rt; "refused: {error}"),
-    }
+    factory(rt, open(builder, table))
 }
 
 /// Why a create is refused. Where it isn't, what it gives is let go.
@@ -152,13 +166,7 @@ pub fn create_refusal(
     table: &mut Table,
     now: Result<Time, ClockFault>,
 ) -> Option<EventCreateError> {
-    match create(builder, table, now) {
-        Ok(factory) => {
-            factory.abandon();
-            None
-        }
-        Err(error) => Some(error),
-    }
+    why(create(builder, table, now))
 }
 
 /// Why a service isn't opened. Where it is, it is closed again.
@@ -209,10 +217,8 @@ pub fn created_with(
     specifier: &AttributeSpecifier,
     table: &mut Table,
 ) -> PortFactory<Local> {
-    match builder.create_with_attributes(specifier, table, Ok(Time::default())) {
-        Ok(factory) => factory,
-        Err(error) => panic!(rt; "refused: {error}"),
-    }
+    let now = Ok(Time::default());
+    factory(rt, builder.create_with_attributes(specifier, table, now))
 }
 
 /// Why a service isn't opened with these requirements. Where it is, it is closed again.
@@ -246,10 +252,7 @@ pub fn settings(factory: &PortFactory<Local>) -> StaticConfig {
 
 /// What a table lists.
 pub fn entries(rt: &impl Abort, table: &Table) -> Vec<Entry> {
-    match table.list() {
-        Ok(entries) => entries,
-        Err(_) => panic!(rt; "no memory"),
-    }
+    granted(rt, table.list())
 }
 
 /// How many services a table lists.
@@ -257,49 +260,12 @@ pub fn listed(rt: &impl Abort, table: &Table) -> usize {
     entries(rt, table).len()
 }
 
-/// What is written under a service's hash, without the bytes.
-#[derive(Clone, Copy, Debug, PartialEq, Eq)]
-pub enum Row {
-    Absent,
-    Locked(u64),
-    Published(u64),
-}
-
-/// A segment's number, for how many nodes it is, how many are in it, and whether it is marked.
-pub type Segment = Option<(u64, u64, u64, bool)>;
-
-/// What is listed of a row, without the bytes.
-fn row_of(entry: &Entry) -> Row {
-    match entry.row {
-        ListedRow::Absent => Row::Absent,
-        ListedRow::Locked(number) => Row::Locked(number),
-        ListedRow::Published(number, _) => Row::Published(number),
-    }
-}
-
-/// What is listed of a segment.
-fn segment_of(entry: &Entry) -> Segment {
-    let ListedSegment {
-        number,
-        max_nodes,
-        participants,
-        marked,
-    } = entry.segment?;
-    Some((number, max_nodes, participants, marked))
-}
-
-/// The row and the segment of the only service that is listed, or of none.
-fn only_one(rt: &impl Abort, entries: &[Entry]) -> (Row, Segment) {
-    match entries {
-        [] => (Row::Absent, None),
-        [entry] => (row_of(entry), segment_of(entry)),
-        _ => panic!(rt; "more than one service"),
-    }
-}
-
 /// The row and the segment of a table's only service, or of none.
 pub fn row_and_segment(rt: &impl Abort, table: &Table) -> (Row, Segment) {
-    only_one(rt, entries(rt, table).as_slice())
+    match listing::only_one(entries(rt, table).as_slice()) {
+        Some(found) => found,
+        None => panic!(rt; "more than one service"),
+    }
 }
 
 /// The nodes for which the segment of the only service has room, and those that are in it.
@@ -318,10 +284,8 @@ pub fn held(table: &Table, node: u64, hash: &ServiceHash) -> (bool, u64) {
 /// Settings in a vector.
 fn listed_settings(rt: &impl Abort, alloc: Global, settings: &[EventSetter]) -> Vec<EventSetter> {
     let mut all = Vec::new(alloc);
-    match all.extend_from_slice(settings) {
-        Ok(()) => all,
-        Err(_) => panic!(rt; "no memory"),
-    }
+    granted(rt, all.extend_from_slice(settings));
+    all
 }
 
 /// How, by which node and into which slot events of which name are called for.
@@ -336,13 +300,12 @@ pub fn command(
     attributes: AttributeVerifier,
     now: Result<Time, ClockFault>,
 ) -> Command {
-    Command::Call(Call {
-        how,
-        node,
-        slot,
-        name: name(rt, alloc, text),
-        settings: Settings::Event(listed_settings(rt, alloc, settings)),
+    let settings = Settings::Event(listed_settings(rt, alloc, settings));
+    calls::command(
+        (how, node, slot),
+        name(rt, alloc, text),
+        settings,
         attributes,
         now,
-    })
+    )
 }

@@ -40,590 +40,215 @@ fn assert_text<D: Display>(rt: &impl Abort, alloc: Global, error: &D, parts: &[&
     assert_same(rt, printed(rt, alloc, error).as_str(), wanted.as_str());
 }
 
-/// Why a service of events isn't opened, each with its name.
-const EVENT_OPENS: &[(EventOpenError, &str)] = &[
-    (EventOpenError::DoesNotExist, "DoesNotExist"),
-    (
-        EventOpenError::InsufficientPermissions,
-        "InsufficientPermissions",
-    ),
-    (
-        EventOpenError::ServiceInCorruptedState,
-        "ServiceInCorruptedState",
-    ),
-    (
-        EventOpenError::IncompatibleMessagingPattern,
-        "IncompatibleMessagingPattern",
-    ),
-    (
-        EventOpenError::IncompatibleAttributes,
-        "IncompatibleAttributes",
-    ),
-    (EventOpenError::InternalFailure, "InternalFailure"),
-    (EventOpenError::IncompatibleDeadline, "IncompatibleDeadline"),
-    (
-        EventOpenError::IncompatibleNotifierCreatedEvent,
-        "IncompatibleNotifierCreatedEvent",
-    ),
-    (
-        EventOpenError::IncompatibleNotifierDroppedEvent,
-        "IncompatibleNotifierDroppedEvent",
-    ),
-    (
-        EventOpenError::IncompatibleNotifierDeadEvent,
-        "IncompatibleNotifierDeadEvent",
-    ),
-    (EventOpenError::HangsInCreation, "HangsInCreation"),
-    (
-        EventOpenError::DoesNotSupportRequestedAmountOfNotifiers,
-        "DoesNotSupportRequestedAmountOfNotifiers",
-    ),
-    (
-        EventOpenError::DoesNotSupportRequestedAmountOfListeners,
-        "DoesNotSupportRequestedAmountOfListeners",
-    ),
-    (
-        EventOpenError::DoesNotSupportRequestedMaxEventId,
-        "DoesNotSupportRequestedMaxEventId",
-    ),
-    (
-        EventOpenError::DoesNotSupportRequestedAmountOfNodes,
-        "DoesNotSupportRequestedAmountOfNodes",
-    ),
-    (
-        EventOpenError::ExceedsMaxNumberOfNodes,
-        "ExceedsMaxNumberOfNodes",
-    ),
-    (
-        EventOpenError::IsMarkedForDestruction,
-        "IsMarkedForDestruction",
-    ),
-    (EventOpenError::OutOfMemory, "OutOfMemory"),
-];
+/// Values of an error, each with the value of an open or create that holds it and with its name.
+type Named<E, R> = &'static [(E, R, &'static str)];
 
-/// Why a service of events isn't created, each with its name.
-const EVENT_CREATES: &[(EventCreateError, &str)] = &[
-    (
-        EventCreateError::ServiceInCorruptedState,
-        "ServiceInCorruptedState",
-    ),
-    (EventCreateError::InternalFailure, "InternalFailure"),
-    (
-        EventCreateError::IsBeingCreatedByAnotherInstance,
-        "IsBeingCreatedByAnotherInstance",
-    ),
-    (EventCreateError::AlreadyExists, "AlreadyExists"),
-    (EventCreateError::HangsInCreation, "HangsInCreation"),
-    (
-        EventCreateError::InsufficientPermissions,
-        "InsufficientPermissions",
-    ),
-    (EventCreateError::OutOfMemory, "OutOfMemory"),
-];
-
-/// How many texts they have, by themselves and in an open or create.
-fn event_opens(rt: &impl Abort, alloc: Global) -> usize {
-    for &(error, name) in EVENT_OPENS {
-        assert_text(rt, alloc, &error, &["EventOpenError::", name]);
-        let inner = EventOpenOrCreateError::EventOpenError(error);
-        assert_text(
-            rt,
-            alloc,
-            &inner,
-            &["EventOpenOrCreateError::EventOpenError(", name, ")"],
-        );
-    }
-    EVENT_OPENS.len()
+/// Those of these names.
+macro_rules! named {
+    ($error:ident in $rounds:ident: $($value:ident)*) => {
+        &[$(($error::$value, $rounds::$error($error::$value), stringify!($value))),*]
+    };
 }
 
-/// How many texts they have, by themselves and in an open or create.
-fn event_creates(rt: &impl Abort, alloc: Global) -> usize {
-    for &(error, name) in EVENT_CREATES {
-        assert_text(rt, alloc, &error, &["EventCreateError::", name]);
-        let inner = EventOpenOrCreateError::EventCreateError(error);
-        assert_text(
-            rt,
-            alloc,
-            &inner,
-            &["EventOpenOrCreateError::EventCreateError(", name, ")"],
-        );
+/// Why a service of events isn't opened.
+const EVENT_OPENS: Named<EventOpenError, EventOpenOrCreateError> = named! {
+    EventOpenError in EventOpenOrCreateError:
+    DoesNotExist InsufficientPermissions ServiceInCorruptedState IncompatibleMessagingPattern
+    IncompatibleAttributes InternalFailure IncompatibleDeadline IncompatibleNotifierCreatedEvent
+    IncompatibleNotifierDroppedEvent IncompatibleNotifierDeadEvent HangsInCreation
+    DoesNotSupportRequestedAmountOfNotifiers DoesNotSupportRequestedAmountOfListeners
+    DoesNotSupportRequestedMaxEventId DoesNotSupportRequestedAmountOfNodes ExceedsMaxNumberOfNodes
+    IsMarkedForDestruction OutOfMemory
+};
+
+/// Why one isn't created.
+const EVENT_CREATES: Named<EventCreateError, EventOpenOrCreateError> = named! {
+    EventCreateError in EventOpenOrCreateError:
+    ServiceInCorruptedState InternalFailure IsBeingCreatedByAnotherInstance AlreadyExists
+    HangsInCreation InsufficientPermissions OutOfMemory
+};
+
+/// Why a service of publish-subscribe isn't opened.
+const PUBLISH_SUBSCRIBE_OPENS: Named<PublishSubscribeOpenError, PublishSubscribeOpenOrCreateError> =
+    named! {
+    PublishSubscribeOpenError in PublishSubscribeOpenOrCreateError:
+    DoesNotExist InternalFailure IncompatibleTypes IncompatibleMessagingPattern
+    IncompatibleAttributes DoesNotSupportRequestedMinBufferSize
+    DoesNotSupportRequestedMinHistorySize DoesNotSupportRequestedMinSubscriberBorrowedSamples
+    DoesNotSupportRequestedAmountOfPublishers DoesNotSupportRequestedAmountOfSubscribers
+    DoesNotSupportRequestedAmountOfNodes IncompatibleOverflowBehavior InsufficientPermissions
+    ServiceInCorruptedState HangsInCreation ExceedsMaxNumberOfNodes IsMarkedForDestruction
+    OutOfMemory
+};
+
+/// Why one isn't created.
+const PUBLISH_SUBSCRIBE_CREATES: Named<
+    PublishSubscribeCreateError,
+    PublishSubscribeOpenOrCreateError,
+> = named! {
+    PublishSubscribeCreateError in PublishSubscribeOpenOrCreateError:
+    ServiceInCorruptedState SubscriberBufferMustBeLargerThanHistorySize AlreadyExists
+    InsufficientPermissions InternalFailure IsBeingCreatedByAnotherInstance HangsInCreation
+    OutOfMemory
+};
+
+/// Why a service of request-response isn't opened.
+const REQUEST_RESPONSE_OPENS: Named<RequestResponseOpenError, RequestResponseOpenOrCreateError> =
+    named! {
+    RequestResponseOpenError in RequestResponseOpenOrCreateError:
+    DoesNotExist DoesNotSupportRequestedAmountOfClientRequestLoans
+    DoesNotSupportRequestedAmountOfActiveRequestsPerClient
+    DoesNotSupportRequestedResponseBufferSize DoesNotSupportRequestedAmountOfServers
+    DoesNotSupportRequestedAmountOfClients DoesNotSupportRequestedAmountOfNodes
+    DoesNotSupportRequestedAmountOfBorrowedResponsesPerPendingResponse ExceedsMaxNumberOfNodes
+    HangsInCreation IncompatibleRequestType IncompatibleResponseType IncompatibleAttributes
+    IncompatibleMessagingPattern IncompatibleOverflowBehaviorForRequests
+    IncompatibleOverflowBehaviorForResponses IncompatibleBehaviorForFireAndForgetRequests
+    InsufficientPermissions InternalFailure IsMarkedForDestruction ServiceInCorruptedState
+    OutOfMemory
+};
+
+/// Why one isn't created.
+const REQUEST_RESPONSE_CREATES: Named<
+    RequestResponseCreateError,
+    RequestResponseOpenOrCreateError,
+> = named! {
+    RequestResponseCreateError in RequestResponseOpenOrCreateError:
+    AlreadyExists InternalFailure IsBeingCreatedByAnotherInstance InsufficientPermissions
+    HangsInCreation ServiceInCorruptedState OutOfMemory
+};
+
+/// How many texts these values have, by themselves and in an open or create.
+fn assert_named<E: Copy + Display + Drop, R: Copy + Display + Drop>(
+    rt: &impl Abort,
+    alloc: Global,
+    (rounds, error): (&str, &str),
+    values: &[(E, R, &str)],
+) -> usize {
+    for &(value, inner, name) in values {
+        assert_text(rt, alloc, &value, &[error, "::", name]);
+        assert_text(rt, alloc, &inner, &[rounds, "::", error, "(", name, ")"]);
     }
-    EVENT_CREATES.len()
+    values.len()
+}
+
+/// Ends a test where an error of a pattern's open, of its create or of its open or create has another text,
+/// or there are other numbers of texts.
+macro_rules! assert_errors {
+    ($rt:ident, $rounds:ident: $open:ident $opens:ident, $create:ident $creates:ident, $numbers:expr) => {{
+        let (rounds, alloc) = (stringify!($rounds), $rt.alloc());
+        let opens = assert_named(&$rt, alloc, (rounds, stringify!($open)), $opens);
+        let creates = assert_named(&$rt, alloc, (rounds, stringify!($create)), $creates);
+        assert_same(&$rt, (opens, creates), $numbers);
+        assert_text(&$rt, alloc, &$rounds::SystemInFlux, &[rounds, "::SystemInFlux"]);
+    }};
 }
 
 #[test]
 fn errors_of_event_have_texts(rt: HostRuntime) {
-    let found = (event_opens(&rt, rt.alloc()), event_creates(&rt, rt.alloc()));
-    assert_same(&rt, found, (18, 7));
-    let last = EventOpenOrCreateError::SystemInFlux;
-    assert_text(
-        &rt,
-        rt.alloc(),
-        &last,
-        &["EventOpenOrCreateError::SystemInFlux"],
-    );
-}
-
-/// Why a service of publish-subscribe isn't opened, each with its name.
-const PUBLISH_SUBSCRIBE_OPENS: &[(PublishSubscribeOpenError, &str)] = &[
-    (PublishSubscribeOpenError::DoesNotExist, "DoesNotExist"),
-    (
-        PublishSubscribeOpenError::InternalFailure,
-        "InternalFailure",
-    ),
-    (
-        PublishSubscribeOpenError::IncompatibleTypes,
-        "IncompatibleTypes",
-    ),
-    (
-        PublishSubscribeOpenError::IncompatibleMessagingPattern,
-        "IncompatibleMessagingPattern",
-    ),
-    (
-        PublishSubscribeOpenError::IncompatibleAttributes,
-        "IncompatibleAttributes",
-    ),
-    (
-        PublishSubscribeOpenError::DoesNotSupportRequestedMinBufferSize,
-        "DoesNotSupportRequestedMinBufferSize",
-    ),
-    (
-        PublishSubscribeOpenError::DoesNotSupportRequestedMinHistorySize,
-        "DoesNotSupportRequestedMinHistorySize",
-    ),
-    (
-        PublishSubscribeOpenError::DoesNotSupportRequestedMinSubscriberBorrowedSamples,
-        "DoesNotSupportRequestedMinSubscriberBorrowedSamples",
-    ),
-    (
-        PublishSubscribeOpenError::DoesNotSupportRequestedAmountOfPublishers,
-        "DoesNotSupportRequestedAmountOfPublishers",
-    ),
-    (
-        PublishSubscribeOpenError::DoesNotSupportRequestedAmountOfSubscribers,
-        "DoesNotSupportRequestedAmountOfSubscribers",
-    ),
-    (
-        PublishSubscribeOpenError::DoesNotSupportRequestedAmountOfNodes,
-        "DoesNotSupportRequestedAmountOfNodes",
-    ),
-    (
-        PublishSubscribeOpenError::IncompatibleOverflowBehavior,
-        "IncompatibleOverflowBehavior",
-    ),
-    (
-        PublishSubscribeOpenError::InsufficientPermissions,
-        "InsufficientPermissions",
-    ),
-    (
-        PublishSubscribeOpenError::ServiceInCorruptedState,
-        "ServiceInCorruptedState",
-    ),
-    (
-        PublishSubscribeOpenError::HangsInCreation,
-        "HangsInCreation",
-    ),
-    (
-        PublishSubscribeOpenError::ExceedsMaxNumberOfNodes,
-        "ExceedsMaxNumberOfNodes",
-    ),
-    (
-        PublishSubscribeOpenError::IsMarkedForDestruction,
-        "IsMarkedForDestruction",
-    ),
-    (PublishSubscribeOpenError::OutOfMemory, "OutOfMemory"),
-];
-
-/// Why a service of publish-subscribe isn't created, each with its name.
-const PUBLISH_SUBSCRIBE_CREATES: &[(PublishSubscribeCreateError, &str)] = &[
-    (
-        PublishSubscribeCreateError::ServiceInCorruptedState,
-        "ServiceInCorruptedState",
-    ),
-    (
-        PublishSubscribeCreateError::SubscriberBufferMustBeLargerThanHistorySize,
-        "SubscriberBufferMustBeLargerThanHistorySize",
-    ),
-    (PublishSubscribeCreateError::AlreadyExists, "AlreadyExists"),
-    (
-        PublishSubscribeCreateError::InsufficientPermissions,
-        "InsufficientPermissions",
-    ),
-    (
-        PublishSubscribeCreateError::InternalFailure,
-        "InternalFailure",
-    ),
-    (
-        PublishSubscribeCreateError::IsBeingCreatedByAnotherInstance,
-        "IsBeingCreatedByAnotherInstance",
-    ),
-    (
-        PublishSubscribeCreateError::HangsInCreation,
-        "HangsInCreation",
-    ),
-    (PublishSubscribeCreateError::OutOfMemory, "OutOfMemory"),
-];
-
-/// How many texts they have, by themselves and in an open or create.
-fn publish_subscribe_opens(rt: &impl Abort, alloc: Global) -> usize {
-    for &(error, name) in PUBLISH_SUBSCRIBE_OPENS {
-        assert_text(rt, alloc, &error, &["PublishSubscribeOpenError::", name]);
-        let inner = PublishSubscribeOpenOrCreateError::PublishSubscribeOpenError(error);
-        assert_text(
-            rt,
-            alloc,
-            &inner,
-            &[
-                "PublishSubscribeOpenOrCreateError::PublishSubscribeOpenError(",
-                name,
-                ")",
-            ],
-        );
+    assert_errors! {
+        rt, EventOpenOrCreateError:
+        EventOpenError EVENT_OPENS, EventCreateError EVENT_CREATES, (18, 7)
     }
-    PUBLISH_SUBSCRIBE_OPENS.len()
-}
-
-/// How many texts they have, by themselves and in an open or create.
-fn publish_subscribe_creates(rt: &impl Abort, alloc: Global) -> usize {
-    for &(error, name) in PUBLISH_SUBSCRIBE_CREATES {
-        assert_text(rt, alloc, &error, &["PublishSubscribeCreateError::", name]);
-        let inner = PublishSubscribeOpenOrCreateError::PublishSubscribeCreateError(error);
-        assert_text(
-            rt,
-            alloc,
-            &inner,
-            &[
-                "PublishSubscribeOpenOrCreateError::PublishSubscribeCreateError(",
-                name,
-                ")",
-            ],
-        );
-    }
-    PUBLISH_SUBSCRIBE_CREATES.len()
 }
 
 #[test]
 fn errors_of_publish_subscribe_have_texts(rt: HostRuntime) {
-    let found = (
-        publish_subscribe_opens(&rt, rt.alloc()),
-        publish_subscribe_creates(&rt, rt.alloc()),
-    );
-    assert_same(&rt, found, (18, 8));
-    let last = PublishSubscribeOpenOrCreateError::SystemInFlux;
-    assert_text(
-        &rt,
-        rt.alloc(),
-        &last,
-        &["PublishSubscribeOpenOrCreateError::SystemInFlux"],
-    );
-}
-
-/// Why a service of request-response isn't opened, each with its name.
-const REQUEST_RESPONSE_OPENS: &[(RequestResponseOpenError, &str)] = &[
-    (RequestResponseOpenError::DoesNotExist, "DoesNotExist"),
-    (
-        RequestResponseOpenError::DoesNotSupportRequestedAmountOfClientRequestLoans,
-        "DoesNotSupportRequestedAmountOfClientRequestLoans",
-    ),
-    (
-        RequestResponseOpenError::DoesNotSupportRequestedAmountOfActiveRequestsPerClient,
-        "DoesNotSupportRequestedAmountOfActiveRequestsPerClient",
-    ),
-    (
-        RequestResponseOpenError::DoesNotSupportRequestedResponseBufferSize,
-        "DoesNotSupportRequestedResponseBufferSize",
-    ),
-    (
-        RequestResponseOpenError::DoesNotSupportRequestedAmountOfServers,
-        "DoesNotSupportRequestedAmountOfServers",
-    ),
-    (
-        RequestResponseOpenError::DoesNotSupportRequestedAmountOfClients,
-        "DoesNotSupportRequestedAmountOfClients",
-    ),
-    (
-        RequestResponseOpenError::DoesNotSupportRequestedAmountOfNodes,
-        "DoesNotSupportRequestedAmountOfNodes",
-    ),
-    (
-        RequestResponseOpenError::DoesNotSupportRequestedAmountOfBorrowedResponsesPerPendingResponse,
-        "DoesNotSupportRequestedAmountOfBorrowedResponsesPerPendingResponse",
-    ),
-    (
-        RequestResponseOpenError::ExceedsMaxNumberOfNodes,
-        "ExceedsMaxNumberOfNodes",
-    ),
-    (RequestResponseOpenError::HangsInCreation, "HangsInCreation"),
-    (
-        RequestResponseOpenError::IncompatibleRequestType,
-        "IncompatibleRequestType",
-    ),
-    (
-        RequestResponseOpenError::IncompatibleResponseType,
-        "IncompatibleResponseType",
-    ),
-    (
-        RequestResponseOpenError::IncompatibleAttributes,
-        "IncompatibleAttributes",
-    ),
-    (
-        RequestResponseOpenError::IncompatibleMessagingPattern,
-        "IncompatibleMessagingPattern",
-    ),
-    (
-        RequestResponseOpenError::IncompatibleOverflowBehaviorForRequests,
-        "IncompatibleOverflowBehaviorForRequests",
-    ),
-    (
-        RequestResponseOpenError::IncompatibleOverflowBehaviorForResponses,
-        "IncompatibleOverflowBehaviorForResponses",
-    ),
-    (
-        RequestResponseOpenError::IncompatibleBehaviorForFireAndForgetRequests,
-        "IncompatibleBehaviorForFireAndForgetRequests",
-    ),
-    (
-        RequestResponseOpenError::InsufficientPermissions,
-        "InsufficientPermissions",
-    ),
-    (RequestResponseOpenError::InternalFailure, "InternalFailure"),
-    (
-        RequestResponseOpenError::IsMarkedForDestruction,
-        "IsMarkedForDestruction",
-    ),
-    (
-        RequestResponseOpenError::ServiceInCorruptedState,
-        "ServiceInCorruptedState",
-    ),
-    (RequestResponseOpenError::OutOfMemory, "OutOfMemory"),
-];
-
-/// Why a service of request-response isn't created, each with its name.
-const REQUEST_RESPONSE_CREATES: &[(RequestResponseCreateError, &str)] = &[
-    (RequestResponseCreateError::AlreadyExists, "AlreadyExists"),
-    (
-        RequestResponseCreateError::InternalFailure,
-        "InternalFailure",
-    ),
-    (
-        RequestResponseCreateError::IsBeingCreatedByAnotherInstance,
-        "IsBeingCreatedByAnotherInstance",
-    ),
-    (
-        RequestResponseCreateError::InsufficientPermissions,
-        "InsufficientPermissions",
-    ),
-    (
-        RequestResponseCreateError::HangsInCreation,
-        "HangsInCreation",
-    ),
-    (
-        RequestResponseCreateError::ServiceInCorruptedState,
-        "ServiceInCorruptedState",
-    ),
-    (RequestResponseCreateError::OutOfMemory, "OutOfMemory"),
-];
-
-/// How many texts they have, by themselves and in an open or create.
-fn request_response_opens(rt: &impl Abort, alloc: Global) -> usize {
-    for &(error, name) in REQUEST_RESPONSE_OPENS {
-        assert_text(rt, alloc, &error, &["RequestResponseOpenError::", name]);
-        let inner = RequestResponseOpenOrCreateError::RequestResponseOpenError(error);
-        assert_text(
-            rt,
-            alloc,
-            &inner,
-            &[
-                "RequestResponseOpenOrCreateError::RequestResponseOpenError(",
-                name,
-                ")",
-            ],
-        );
+    assert_errors! {
+        rt, PublishSubscribeOpenOrCreateError:
+        PublishSubscribeOpenError PUBLISH_SUBSCRIBE_OPENS,
+        PublishSubscribeCreateError PUBLISH_SUBSCRIBE_CREATES, (18, 8)
     }
-    REQUEST_RESPONSE_OPENS.len()
-}
-
-/// How many texts they have, by themselves and in an open or create.
-fn request_response_creates(rt: &impl Abort, alloc: Global) -> usize {
-    for &(error, name) in REQUEST_RESPONSE_CREATES {
-        assert_text(rt, alloc, &error, &["RequestResponseCreateError::", name]);
-        let inner = RequestResponseOpenOrCreateError::RequestResponseCreateError(error);
-        assert_text(
-            rt,
-            alloc,
-            &inner,
-            &[
-                "RequestResponseOpenOrCreateError::RequestResponseCreateError(",
-                name,
-                ")",
-            ],
-        );
-    }
-    REQUEST_RESPONSE_CREATES.len()
 }
 
 #[test]
 fn errors_of_request_response_have_texts(rt: HostRuntime) {
-    let found = (
-        request_response_opens(&rt, rt.alloc()),
-        request_response_creates(&rt, rt.alloc()),
-    );
-    assert_same(&rt, found, (22, 7));
-    let last = RequestResponseOpenOrCreateError::SystemInFlux;
-    assert_text(
-        &rt,
-        rt.alloc(),
-        &last,
-        &["RequestResponseOpenOrCreateError::SystemInFlux"],
-    );
+    assert_errors! {
+        rt, RequestResponseOpenOrCreateError:
+        RequestResponseOpenError REQUEST_RESPONSE_OPENS,
+        RequestResponseCreateError REQUEST_RESPONSE_CREATES, (22, 7)
+    }
 }
 
-/// What a look finds of events, and the errors of an open and of a create for it.
-const EVENT_STATES: &[(ServiceState, EventOpenError, EventCreateError)] = &[
-    (
-        ServiceState::IncompatibleMessagingPattern,
-        EventOpenError::IncompatibleMessagingPattern,
-        EventCreateError::AlreadyExists,
-    ),
-    (
-        ServiceState::InsufficientPermissions,
-        EventOpenError::InsufficientPermissions,
-        EventCreateError::InsufficientPermissions,
-    ),
-    (
-        ServiceState::HangsInCreation,
-        EventOpenError::HangsInCreation,
-        EventCreateError::HangsInCreation,
-    ),
-    (
-        ServiceState::Corrupted,
-        EventOpenError::ServiceInCorruptedState,
-        EventCreateError::ServiceInCorruptedState,
-    ),
-    (
-        ServiceState::OutOfMemory,
-        EventOpenError::OutOfMemory,
-        EventCreateError::OutOfMemory,
-    ),
-];
+/// States of a look, and the errors of an open and of a create for each.
+type States<S, O, C> = &'static [(S, O, C)];
+
+/// States with the names of the values of these errors.
+macro_rules! states {
+    ($open:ident, $create:ident: $($state:expr => $opened:ident, $created:ident;)*) => {
+        &[$(($state, $open::$opened, $create::$created)),*]
+    };
+}
+
+/// Ends a test where one of these states is another error of one of the three calls than it wants.
+macro_rules! assert_states {
+    ($rt:ident, $states:ident: $open:ident, $create:ident, $rounds:ident) => {
+        for &(state, opened, created) in $states {
+            let found = ($open::from(state), $create::from(state), $rounds::from(state));
+            assert_same(&$rt, found, (opened, created, $rounds::$open(opened)));
+        }
+    };
+}
+
+/// What a look finds of events.
+const EVENT_STATES: States<ServiceState, EventOpenError, EventCreateError> = states! {
+    EventOpenError, EventCreateError:
+    ServiceState::IncompatibleMessagingPattern => IncompatibleMessagingPattern, AlreadyExists;
+    ServiceState::InsufficientPermissions => InsufficientPermissions, InsufficientPermissions;
+    ServiceState::HangsInCreation => HangsInCreation, HangsInCreation;
+    ServiceState::Corrupted => ServiceInCorruptedState, ServiceInCorruptedState;
+    ServiceState::OutOfMemory => OutOfMemory, OutOfMemory;
+};
 
 #[test]
 fn what_a_look_finds_of_events_has_its_names(rt: HostRuntime) {
-    for &(state, opened, created) in EVENT_STATES {
-        let found = (
-            EventOpenError::from(state),
-            EventCreateError::from(state),
-            EventOpenOrCreateError::from(state),
-        );
-        let either = EventOpenOrCreateError::EventOpenError(opened);
-        assert_same(&rt, found, (opened, created, either));
+    assert_states! {
+        rt, EVENT_STATES: EventOpenError, EventCreateError, EventOpenOrCreateError
     }
 }
 
-/// What a look finds of publish-subscribe, and the errors of an open and of a create for it.
-const PUBLISH_SUBSCRIBE_STATES: &[(
+/// What a look finds of publish-subscribe.
+const PUBLISH_SUBSCRIBE_STATES: States<
     Availability,
     PublishSubscribeOpenError,
     PublishSubscribeCreateError,
-)] = &[
-    (
-        Availability::ServiceState(ServiceState::IncompatibleMessagingPattern),
-        PublishSubscribeOpenError::IncompatibleMessagingPattern,
-        PublishSubscribeCreateError::AlreadyExists,
-    ),
-    (
-        Availability::ServiceState(ServiceState::InsufficientPermissions),
-        PublishSubscribeOpenError::InsufficientPermissions,
-        PublishSubscribeCreateError::InsufficientPermissions,
-    ),
-    (
-        Availability::ServiceState(ServiceState::HangsInCreation),
-        PublishSubscribeOpenError::HangsInCreation,
-        PublishSubscribeCreateError::HangsInCreation,
-    ),
-    (
-        Availability::ServiceState(ServiceState::Corrupted),
-        PublishSubscribeOpenError::ServiceInCorruptedState,
-        PublishSubscribeCreateError::ServiceInCorruptedState,
-    ),
-    (
-        Availability::ServiceState(ServiceState::OutOfMemory),
-        PublishSubscribeOpenError::OutOfMemory,
-        PublishSubscribeCreateError::OutOfMemory,
-    ),
-    (
-        Availability::IncompatibleTypes,
-        PublishSubscribeOpenError::IncompatibleTypes,
-        PublishSubscribeCreateError::AlreadyExists,
-    ),
-];
+> = states! {
+    PublishSubscribeOpenError, PublishSubscribeCreateError:
+    Availability::ServiceState(ServiceState::IncompatibleMessagingPattern) => IncompatibleMessagingPattern, AlreadyExists;
+    Availability::ServiceState(ServiceState::InsufficientPermissions) => InsufficientPermissions, InsufficientPermissions;
+    Availability::ServiceState(ServiceState::HangsInCreation) => HangsInCreation, HangsInCreation;
+    Availability::ServiceState(ServiceState::Corrupted) => ServiceInCorruptedState, ServiceInCorruptedState;
+    Availability::ServiceState(ServiceState::OutOfMemory) => OutOfMemory, OutOfMemory;
+    Availability::IncompatibleTypes => IncompatibleTypes, AlreadyExists;
+};
 
 #[test]
 fn what_a_look_finds_of_publish_subscribe_has_its_names(rt: HostRuntime) {
-    for &(state, opened, created) in PUBLISH_SUBSCRIBE_STATES {
-        let found = (
-            PublishSubscribeOpenError::from(state),
-            PublishSubscribeCreateError::from(state),
-            PublishSubscribeOpenOrCreateError::from(state),
-        );
-        let either = PublishSubscribeOpenOrCreateError::PublishSubscribeOpenError(opened);
-        assert_same(&rt, found, (opened, created, either));
+    assert_states! {
+        rt, PUBLISH_SUBSCRIBE_STATES: PublishSubscribeOpenError, PublishSubscribeCreateError, PublishSubscribeOpenOrCreateError
     }
 }
 
-/// What a look finds of request-response, and the errors of an open and of a create for it.
-const REQUEST_RESPONSE_STATES: &[(
+/// What a look finds of request-response.
+const REQUEST_RESPONSE_STATES: States<
     Readiness,
     RequestResponseOpenError,
     RequestResponseCreateError,
-)] = &[
-    (
-        Readiness::ServiceState(ServiceState::IncompatibleMessagingPattern),
-        RequestResponseOpenError::IncompatibleMessagingPattern,
-        RequestResponseCreateError::AlreadyExists,
-    ),
-    (
-        Readiness::ServiceState(ServiceState::InsufficientPermissions),
-        RequestResponseOpenError::InsufficientPermissions,
-        RequestResponseCreateError::InsufficientPermissions,
-    ),
-    (
-        Readiness::ServiceState(ServiceState::HangsInCreation),
-        RequestResponseOpenError::HangsInCreation,
-        RequestResponseCreateError::HangsInCreation,
-    ),
-    (
-        Readiness::ServiceState(ServiceState::Corrupted),
-        RequestResponseOpenError::ServiceInCorruptedState,
-        RequestResponseCreateError::ServiceInCorruptedState,
-    ),
-    (
-        Readiness::ServiceState(ServiceState::OutOfMemory),
-        RequestResponseOpenError::OutOfMemory,
-        RequestResponseCreateError::OutOfMemory,
-    ),
-    (
-        Readiness::IncompatibleRequestType,
-        RequestResponseOpenError::IncompatibleRequestType,
-        RequestResponseCreateError::AlreadyExists,
-    ),
-    (
-        Readiness::IncompatibleResponseType,
-        RequestResponseOpenError::IncompatibleResponseType,
-        RequestResponseCreateError::AlreadyExists,
-    ),
-];
+> = states! {
+    RequestResponseOpenError, RequestResponseCreateError:
+    Readiness::ServiceState(ServiceState::IncompatibleMessagingPattern) => IncompatibleMessagingPattern, AlreadyExists;
+    Readiness::ServiceState(ServiceState::InsufficientPermissions) => InsufficientPermissions, InsufficientPermissions;
+    Readiness::ServiceState(ServiceState::HangsInCreation) => HangsInCreation, HangsInCreation;
+    Readiness::ServiceState(ServiceState::Corrupted) => ServiceInCorruptedState, ServiceInCorruptedState;
+    Readiness::ServiceState(ServiceState::OutOfMemory) => OutOfMemory, OutOfMemory;
+    Readiness::IncompatibleRequestType => IncompatibleRequestType, AlreadyExists;
+    Readiness::IncompatibleResponseType => IncompatibleResponseType, AlreadyExists;
+};
 
 #[test]
 fn what_a_look_finds_of_request_response_has_its_names(rt: HostRuntime) {
-    for &(state, opened, created) in REQUEST_RESPONSE_STATES {
-        let found = (
-            RequestResponseOpenError::from(state),
-            RequestResponseCreateError::from(state),
-            RequestResponseOpenOrCreateError::from(state),
-        );
-        let either = RequestResponseOpenOrCreateError::RequestResponseOpenError(opened);
-        assert_same(&rt, found, (opened, created, either));
+    assert_states! {
+        rt, REQUEST_RESPONSE_STATES: RequestResponseOpenError, RequestResponseCreateError, RequestResponseOpenOrCreateError
     }
 }
 
@@ -656,8 +281,15 @@ fn errors_of_an_open_and_of_a_create_are_errors_of_an_open_or_create(rt: HostRun
     assert_same(&rt, found, wanted);
 }
 
+/// Ends a test that finds other texts printed for errors than it wants.
+fn assert_texts<D: Display>(rt: &impl Abort, alloc: Global, rows: &[(D, &str)]) {
+    for (error, text) in rows {
+        assert_text(rt, alloc, error, &[*text]);
+    }
+}
+
 /// Why something isn't closed, and what is printed for it. What is handed back here is a number.
-const CLOSES: [(CloseError<u64>, &str); 4] = [
+const CLOSES: &[(CloseError<u64>, &str)] = &[
     (CloseError::NotHere(1), "CloseError::NotHere"),
     (CloseError::TagNotRemoved, "CloseError::TagNotRemoved"),
     (
@@ -672,13 +304,11 @@ const CLOSES: [(CloseError<u64>, &str); 4] = [
 
 #[test]
 fn errors_of_a_close_have_texts(rt: HostRuntime) {
-    for (error, text) in CLOSES {
-        assert_text(&rt, rt.alloc(), &error, &[text]);
-    }
+    assert_texts(&rt, rt.alloc(), CLOSES);
 }
 
 /// Why there are no details of a type, and what is printed for it.
-const DETAILS: [(TypeDetailError, &str); 3] = [
+const DETAILS: &[(TypeDetailError, &str)] = &[
     (
         TypeDetailError::NameLength,
         "a type's name has 1 to 256 bytes",
@@ -692,7 +322,5 @@ const DETAILS: [(TypeDetailError, &str); 3] = [
 
 #[test]
 fn errors_of_details_have_texts(rt: HostRuntime) {
-    for (error, text) in DETAILS {
-        assert_text(&rt, rt.alloc(), &error, &[text]);
-    }
+    assert_texts(&rt, rt.alloc(), DETAILS);
 }

@@ -199,6 +199,31 @@ pub fn alignment(rt: &impl Abort, value: u64) -> Alignment {
     }
 }
 
+/// The setter that an ask means: of a plain value, of an alignment, or of a type.
+macro_rules! setter {
+    (
+        $rt:ident, $alloc:ident, $ask:ident => $setter:ident:
+        ($($plain:ident $sets:ident),*) ($($aligned:ident $aligns:ident),*) ($($typed:ident $types:ident),*)
+    ) => {
+        match $ask {
+            $(Ask::$plain(value) => $setter::$sets(value),)*
+            $(Ask::$aligned(value) => $setter::$aligns(alignment($rt, value)),)*
+            $(Ask::$typed(told) => $setter::$types(detail($rt, $alloc, told)),)*
+        }
+    };
+}
+
+pub(crate) use setter;
+
+/// Rows of what is asked, and of the value of an error that refuses it.
+macro_rules! refused {
+    ($error:ident: $($asks:expr => $value:ident;)*) => {
+        &[$((&$asks, $error::$value)),*]
+    };
+}
+
+pub(crate) use refused;
+
 /// The types of a message with these alignments.
 fn of_i64(rt: &impl Abort, alloc: Global, alignments: [u64; 3]) -> MessageTypeDetails {
     let [header, user_header, payload] = alignments;

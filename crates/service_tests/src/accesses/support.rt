@@ -8,7 +8,6 @@ use iceoryx2_access::storage::{
 };
 use iceoryx2_attribute::attribute::AttributeSet;
 use iceoryx2_description::description::{MessagingPattern, ServiceHash, StaticConfig};
-use iceoryx2_description::{config, event};
 use iceoryx2_table::table::Table;
 use std::alloc::Global;
 use std::process::Abort;
@@ -40,15 +39,15 @@ pub enum Access {
     Publish(u64, u64, ServiceHash, u64),
     OpenSegment(u64, u64),
     /// With the ticket before the number.
-    Release(u64, u64, u64),
+    Leave(u64, u64, u64),
 }
 
 /// An answer; of a fetch the number alone.
 #[derive(Clone, Copy, PartialEq, Eq)]
 pub enum Answer {
-    Exists(Existence),
+    Looked(Existence),
     Fetched(Result<u64, FetchError>),
-    Counts(bool),
+    Counted(bool),
     Tagged(Result<Tag, TagError>),
     Removed(Result<(), RemoveError>),
     Locked(Result<u64, LockError>),
@@ -65,17 +64,7 @@ pub fn description(
     hash: ServiceHash,
     max_nodes: u64,
 ) -> StaticConfig {
-    let defaults = config::Event::default();
-    let settings = event::StaticConfig {
-        max_notifiers: defaults.max_notifiers,
-        max_listeners: defaults.max_listeners,
-        event_id_max_value: defaults.event_id_max_value,
-        max_nodes,
-        notifier_created_event: None,
-        notifier_dropped_event: None,
-        notifier_dead_event: None,
-        deadline: None,
-    };
+    let settings = test_support::settings::events([16, 16, 255, max_nodes]);
     let pattern = MessagingPattern::Event(settings);
     StaticConfig::new(
         hash,
@@ -107,9 +96,9 @@ fn published(
 /// What a table answers, for the service of all accesses.
 fn ask(rt: &impl Abort, storage: &mut Table, alloc: Global, access: Access) -> Answer {
     match access {
-        Access::Exists => Answer::Exists(storage.exists(&SERVICE)),
+        Access::Exists => Answer::Looked(storage.exists(&SERVICE)),
         Access::Fetch(node) => Answer::Fetched(fetched(storage, node)),
-        Access::Counts(node) => Answer::Counts(storage.counts(node, &SERVICE)),
+        Access::Counts(node) => Answer::Counted(storage.counts(node, &SERVICE)),
         Access::MakeTag(node) => Answer::Tagged(storage.make_tag(node, &SERVICE)),
         Access::RemoveTag(node) => Answer::Removed(storage.remove_tag(node, &SERVICE)),
         Access::Lock(node) => Answer::Locked(storage.lock(node, &SERVICE)),
@@ -127,7 +116,7 @@ fn ask(rt: &impl Abort, storage: &mut Table, alloc: Global, access: Access) -> A
         Access::OpenSegment(node, number) => Answer::Opened(storage.open_segment(
             node, &SERVICE, number,
         )),
-        Access::Release(node, ticket, number) => Answer::Released(storage.release(
+        Access::Leave(node, ticket, number) => Answer::Released(storage.release(
             ticket, node, &SERVICE, number,
         )),
     }

@@ -1,5 +1,7 @@
 //! Answers of a table that is driven access by access.
 
+use crate::accesses::support::Access::*;
+use crate::accesses::support::Answer::*;
 use crate::accesses::support::*;
 use iceoryx2_access::storage::{
     Existence, FetchError, LockError, MakeSegmentError, OpenSegmentError, PublishError, Release,
@@ -13,195 +15,135 @@ use std::process::Abort;
 
 /// A node locks a service and publishes it, and others are told so.
 const CREATED: &[(Access, Answer)] = &[
-    (Access::Exists, Answer::Exists(Existence::No)),
+    (Exists, Looked(Existence::No)),
+    (Fetch(1), Fetched(Err(FetchError::DoesNotExist))),
+    (Counts(1), Counted(false)),
     (
-        Access::Fetch(1),
-        Answer::Fetched(Err(FetchError::DoesNotExist)),
+        OpenSegment(1, 0),
+        Opened(Err(OpenSegmentError::DoesNotExist)),
     ),
-    (Access::Counts(1), Answer::Counts(false)),
+    (RemoveSegment(1), Removed(Err(RemoveError::Other))),
+    (RemoveDescription(1), Removed(Err(RemoveError::Other))),
+    (Lock(1), Locked(Ok(0))),
+    (Exists, Looked(Existence::BeingSetUp)),
+    (Lock(2), Locked(Err(LockError::Creation))),
+    (Fetch(2), Fetched(Err(FetchError::NotFinalized))),
+    (MakeSegment(1, 1, 36), Made(Err(MakeSegmentError::Other))),
+    (MakeSegment(1, 0, 0), Made(Err(MakeSegmentError::Other))),
+    (MakeSegment(2, 0, 36), Made(Err(MakeSegmentError::Other))),
     (
-        Access::OpenSegment(1, 0),
-        Answer::Opened(Err(OpenSegmentError::DoesNotExist)),
+        Publish(1, 0, SERVICE, 36),
+        Published(Err(PublishError::Other)),
     ),
+    (MakeSegment(1, 0, 36), Made(Ok(()))),
     (
-        Access::RemoveSegment(1),
-        Answer::Removed(Err(RemoveError::Other)),
-    ),
-    (
-        Access::RemoveDescription(1),
-        Answer::Removed(Err(RemoveError::Other)),
-    ),
-    (Access::Lock(1), Answer::Locked(Ok(0))),
-    (Access::Exists, Answer::Exists(Existence::BeingSetUp)),
-    (Access::Lock(2), Answer::Locked(Err(LockError::Creation))),
-    (
-        Access::Fetch(2),
-        Answer::Fetched(Err(FetchError::NotFinalized)),
-    ),
-    (
-        Access::MakeSegment(1, 1, 36),
-        Answer::Made(Err(MakeSegmentError::Other)),
+        Publish(1, 1, SERVICE, 36),
+        Published(Err(PublishError::Other)),
     ),
     (
-        Access::MakeSegment(1, 0, 0),
-        Answer::Made(Err(MakeSegmentError::Other)),
+        Publish(2, 0, SERVICE, 36),
+        Published(Err(PublishError::Other)),
     ),
     (
-        Access::MakeSegment(2, 0, 36),
-        Answer::Made(Err(MakeSegmentError::Other)),
+        Publish(1, 0, OTHER, 36),
+        Published(Err(PublishError::Other)),
     ),
     (
-        Access::Publish(1, 0, SERVICE, 36),
-        Answer::Published(Err(PublishError::Other)),
+        Publish(1, 0, SERVICE, 35),
+        Published(Err(PublishError::Other)),
     ),
-    (Access::MakeSegment(1, 0, 36), Answer::Made(Ok(()))),
-    (
-        Access::Publish(1, 1, SERVICE, 36),
-        Answer::Published(Err(PublishError::Other)),
-    ),
-    (
-        Access::Publish(2, 0, SERVICE, 36),
-        Answer::Published(Err(PublishError::Other)),
-    ),
-    (
-        Access::Publish(1, 0, OTHER, 36),
-        Answer::Published(Err(PublishError::Other)),
-    ),
-    (
-        Access::Publish(1, 0, SERVICE, 35),
-        Answer::Published(Err(PublishError::Other)),
-    ),
-    (Access::Publish(1, 0, SERVICE, 36), Answer::Published(Ok(0))),
-    (Access::Exists, Answer::Exists(Existence::Yes)),
-    (
-        Access::Lock(2),
-        Answer::Locked(Err(LockError::AlreadyExists)),
-    ),
-    (Access::Fetch(2), Answer::Fetched(Ok(0))),
-    (Access::Counts(1), Answer::Counts(true)),
-    (Access::Counts(2), Answer::Counts(false)),
+    (Publish(1, 0, SERVICE, 36), Published(Ok(0))),
+    (Exists, Looked(Existence::Yes)),
+    (Lock(2), Locked(Err(LockError::AlreadyExists))),
+    (Fetch(2), Fetched(Ok(0))),
+    (Counts(1), Counted(true)),
+    (Counts(2), Counted(false)),
 ];
 
 /// Nodes open a service until it is full, and the last one that leaves removes it.
 const OPENED_AND_REMOVED: &[(Access, Answer)] = &[
-    (Access::MakeTag(1), Answer::Tagged(Ok(Tag::Made))),
-    (Access::MakeTag(1), Answer::Tagged(Ok(Tag::Found))),
-    (Access::Lock(1), Answer::Locked(Ok(0))),
-    (Access::MakeSegment(1, 0, 2), Answer::Made(Ok(()))),
-    (Access::Publish(1, 0, SERVICE, 2), Answer::Published(Ok(0))),
-    (
-        Access::OpenSegment(2, 0),
-        Answer::Opened(Err(OpenSegmentError::Failed)),
-    ),
-    (Access::Fetch(2), Answer::Fetched(Ok(0))),
-    (Access::Fetch(3), Answer::Fetched(Ok(0))),
-    (
-        Access::OpenSegment(2, 1),
-        Answer::Opened(Err(OpenSegmentError::Failed)),
-    ),
-    (Access::OpenSegment(2, 0), Answer::Opened(Ok(1))),
-    (
-        Access::OpenSegment(3, 0),
-        Answer::Opened(Err(OpenSegmentError::Full)),
-    ),
-    (Access::OpenSegment(2, 0), Answer::Opened(Ok(2))),
-    (
-        Access::Release(3, 1, 0),
-        Answer::Released(Err(ReleaseError::NoSuchTicket)),
-    ),
-    (
-        Access::Release(2, 1, 1),
-        Answer::Released(Err(ReleaseError::NoSuchTicket)),
-    ),
-    (
-        Access::Release(2, 1, 0),
-        Answer::Released(Ok(Release::StillCounted)),
-    ),
-    (
-        Access::Release(2, 1, 0),
-        Answer::Released(Err(ReleaseError::NoSuchTicket)),
-    ),
-    (
-        Access::Release(2, 2, 0),
-        Answer::Released(Ok(Release::Left)),
-    ),
-    (
-        Access::Release(1, 0, 0),
-        Answer::Released(Ok(Release::Last)),
-    ),
-    (
-        Access::OpenSegment(3, 0),
-        Answer::Opened(Err(OpenSegmentError::Marked)),
-    ),
-    (Access::RemoveTag(1), Answer::Removed(Ok(()))),
-    (Access::RemoveSegment(1), Answer::Removed(Ok(()))),
-    (Access::RemoveDescription(1), Answer::Removed(Ok(()))),
-    (Access::Exists, Answer::Exists(Existence::No)),
+    (MakeTag(1), Tagged(Ok(Tag::Made))),
+    (MakeTag(1), Tagged(Ok(Tag::Found))),
+    (Lock(1), Locked(Ok(0))),
+    (MakeSegment(1, 0, 2), Made(Ok(()))),
+    (Publish(1, 0, SERVICE, 2), Published(Ok(0))),
+    (OpenSegment(2, 0), Opened(Err(OpenSegmentError::Failed))),
+    (Fetch(2), Fetched(Ok(0))),
+    (Fetch(3), Fetched(Ok(0))),
+    (OpenSegment(2, 1), Opened(Err(OpenSegmentError::Failed))),
+    (OpenSegment(2, 0), Opened(Ok(1))),
+    (OpenSegment(3, 0), Opened(Err(OpenSegmentError::Full))),
+    (OpenSegment(2, 0), Opened(Ok(2))),
+    (Leave(3, 1, 0), Released(Err(ReleaseError::NoSuchTicket))),
+    (Leave(2, 1, 1), Released(Err(ReleaseError::NoSuchTicket))),
+    (Leave(2, 1, 0), Released(Ok(Release::StillCounted))),
+    (Leave(2, 1, 0), Released(Err(ReleaseError::NoSuchTicket))),
+    (Leave(2, 2, 0), Released(Ok(Release::Left))),
+    (Leave(1, 0, 0), Released(Ok(Release::Last))),
+    (OpenSegment(3, 0), Opened(Err(OpenSegmentError::Marked))),
+    (RemoveTag(1), Removed(Ok(()))),
+    (RemoveSegment(1), Removed(Ok(()))),
+    (RemoveDescription(1), Removed(Ok(()))),
+    (Exists, Looked(Existence::No)),
 ];
 
 /// A service takes the last number.
 const LAST_NUMBER: &[(Access, Answer)] = &[
-    (Access::Lock(1), Answer::Locked(Ok(18446744073709551614))),
+    (Lock(1), Locked(Ok(18446744073709551614))),
+    (MakeSegment(1, 18446744073709551614, 36), Made(Ok(()))),
     (
-        Access::MakeSegment(1, 18446744073709551614, 36),
-        Answer::Made(Ok(())),
+        Publish(1, 18446744073709551614, SERVICE, 36),
+        Published(Ok(18446744073709551614)),
     ),
+    (Fetch(2), Fetched(Ok(18446744073709551614))),
     (
-        Access::Publish(1, 18446744073709551614, SERVICE, 36),
-        Answer::Published(Ok(18446744073709551614)),
-    ),
-    (Access::Fetch(2), Answer::Fetched(Ok(18446744073709551614))),
-    (
-        Access::OpenSegment(2, 18446744073709551614),
-        Answer::Opened(Err(OpenSegmentError::OutOfNumbers)),
+        OpenSegment(2, 18446744073709551614),
+        Opened(Err(OpenSegmentError::OutOfNumbers)),
     ),
 ];
 
 /// A lock that left its segment, and the next lock.
 const LEFT_OF_A_LOCK: &[(Access, Answer)] = &[
-    (Access::Lock(1), Answer::Locked(Ok(0))),
-    (Access::MakeSegment(1, 0, 5), Answer::Made(Ok(()))),
-    (Access::RemoveDescription(1), Answer::Removed(Ok(()))),
-    (Access::Lock(2), Answer::Locked(Ok(1))),
+    (Lock(1), Locked(Ok(0))),
+    (MakeSegment(1, 0, 5), Made(Ok(()))),
+    (RemoveDescription(1), Removed(Ok(()))),
+    (Lock(2), Locked(Ok(1))),
     (
-        Access::MakeSegment(2, 1, 36),
-        Answer::Made(Err(MakeSegmentError::AlreadyExists)),
+        MakeSegment(2, 1, 36),
+        Made(Err(MakeSegmentError::AlreadyExists)),
     ),
 ];
 
 /// A lock that left its segment.
 const LEFT_ALONE: &[(Access, Answer)] = &[
-    (Access::Lock(1), Answer::Locked(Ok(0))),
-    (Access::MakeSegment(1, 0, 5), Answer::Made(Ok(()))),
-    (Access::RemoveDescription(1), Answer::Removed(Ok(()))),
+    (Lock(1), Locked(Ok(0))),
+    (MakeSegment(1, 0, 5), Made(Ok(()))),
+    (RemoveDescription(1), Removed(Ok(()))),
 ];
 
 /// No number is left.
-const NO_NUMBER: &[(Access, Answer)] = &[(Access::Lock(1), Answer::Locked(Err(LockError::Other)))];
+const NO_NUMBER: &[(Access, Answer)] = &[(Lock(1), Locked(Err(LockError::Other)))];
 
 /// The creator tags its service and opens it once more.
 const OPENED_TWICE: &[(Access, Answer)] = &[
-    (Access::MakeTag(1), Answer::Tagged(Ok(Tag::Made))),
-    (Access::Lock(1), Answer::Locked(Ok(0))),
-    (Access::MakeSegment(1, 0, 36), Answer::Made(Ok(()))),
-    (Access::Publish(1, 0, SERVICE, 36), Answer::Published(Ok(0))),
-    (Access::OpenSegment(1, 0), Answer::Opened(Ok(1))),
+    (MakeTag(1), Tagged(Ok(Tag::Made))),
+    (Lock(1), Locked(Ok(0))),
+    (MakeSegment(1, 0, 36), Made(Ok(()))),
+    (Publish(1, 0, SERVICE, 36), Published(Ok(0))),
+    (OpenSegment(1, 0), Opened(Ok(1))),
 ];
 
 /// A node reads a service that its creator then removes, and locks it.
 const LOCKED_AFTER_READING: &[(Access, Answer)] = &[
-    (Access::Lock(1), Answer::Locked(Ok(0))),
-    (Access::MakeSegment(1, 0, 36), Answer::Made(Ok(()))),
-    (Access::Publish(1, 0, SERVICE, 36), Answer::Published(Ok(0))),
-    (Access::Fetch(2), Answer::Fetched(Ok(0))),
-    (
-        Access::Release(1, 0, 0),
-        Answer::Released(Ok(Release::Last)),
-    ),
-    (Access::RemoveSegment(1), Answer::Removed(Ok(()))),
-    (Access::RemoveDescription(1), Answer::Removed(Ok(()))),
-    (Access::Lock(2), Answer::Locked(Ok(1))),
-    (Access::Exists, Answer::Exists(Existence::BeingSetUp)),
+    (Lock(1), Locked(Ok(0))),
+    (MakeSegment(1, 0, 36), Made(Ok(()))),
+    (Publish(1, 0, SERVICE, 36), Published(Ok(0))),
+    (Fetch(2), Fetched(Ok(0))),
+    (Leave(1, 0, 0), Released(Ok(Release::Last))),
+    (RemoveSegment(1), Removed(Ok(()))),
+    (RemoveDescription(1), Removed(Ok(()))),
+    (Lock(2), Locked(Ok(1))),
+    (Exists, Looked(Existence::BeingSetUp)),
 ];
 
 /// A service whose hash is greater than the others'.

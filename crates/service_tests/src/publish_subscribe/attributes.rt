@@ -43,13 +43,16 @@ fn refusal(
     asks: &[Ask],
 ) -> Option<PublishSubscribeOpenError> {
     let mut table = table_from(alloc, 0);
-    let _created = create_with::<Local>(rt, alloc, &mut table, (1, CREATED), &[("k", "v")]);
-    let answer = open_with::<Local>(rt, alloc, &mut table, (2, asks), required);
+    let creating = asking::<Local>(rt, alloc, 1, CREATED);
+    let _created = created_with(alloc, creating, &[("k", "v")], &mut table);
+    let answer = opened_with(
+        alloc,
+        asking::<Local>(rt, alloc, 2, asks),
+        required,
+        &mut table,
+    );
     drop_table(table);
-    match answer {
-        Ok(_) => None,
-        Err(error) => Some(error),
-    }
+    answer.err()
 }
 
 #[test]

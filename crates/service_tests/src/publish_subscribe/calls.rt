@@ -13,7 +13,7 @@ use std::process::Abort;
 const IMAGE: Told<'static> = (TypeVariant::FixedSize, "Img", 24, 8);
 
 /// What is asked of a create over a new table, and what it answers.
-const CREATES: &[(Asks, Result<Given, PublishSubscribeCreateError>)] = &[
+const CREATES: &[(Asks, Created)] = &[
     (&[], Ok((0, DEFAULTS, true, 1))),
     // zeros become one in all but the history
     (
@@ -55,13 +55,9 @@ const CREATES: &[(Asks, Result<Given, PublishSubscribeCreateError>)] = &[
 ];
 
 /// What a create over a new table answers.
-fn created(
-    rt: &impl Abort,
-    alloc: Global,
-    asks: &[Ask],
-) -> Result<Given, PublishSubscribeCreateError> {
+fn created_newly(rt: &impl Abort, alloc: Global, asks: &[Ask]) -> Created {
     let mut table = table_from(alloc, 0);
-    let answer = create::<Local>(rt, alloc, &mut table, 1, asks);
+    let answer = created(asking::<Local>(rt, alloc, 1, asks), &mut table);
     drop_table(table);
     answer
 }
@@ -69,7 +65,7 @@ fn created(
 #[test]
 fn a_service_is_created_as_it_is_asked_for(rt: HostRuntime) {
     for &(asks, wanted) in CREATES {
-        let found = created(&rt, rt.alloc(), asks);
+        let found = created_newly(&rt, rt.alloc(), asks);
         assert_same(&rt, (asks, found), (asks, wanted));
     }
 }
@@ -120,7 +116,7 @@ fn an_overridden_payload_keeps_its_variant_its_name_and_its_size(rt: HostRuntime
 }
 
 /// What is asked of a create by node 1 and of an open by node 2, and what the open answers.
-const OPENS: &[(Asks, Asks, Result<Given, PublishSubscribeOpenError>)] = &[
+const OPENS: &[(Asks, Asks, Opened)] = &[
     (
         &[],
         &[
@@ -156,42 +152,6 @@ const OPENS: &[(Asks, Asks, Result<Given, PublishSubscribeOpenError>)] = &[
         &[Payload(I64), Alignment(32)],
         Err(PublishSubscribeOpenError::IncompatibleTypes),
     ),
-    // the first setting that is too small or other is named
-    (
-        &[],
-        &[Buffer(3), Publishers(3)],
-        Err(PublishSubscribeOpenError::DoesNotSupportRequestedAmountOfPublishers),
-    ),
-    (
-        &[],
-        &[Buffer(3), Subscribers(9)],
-        Err(PublishSubscribeOpenError::DoesNotSupportRequestedAmountOfSubscribers),
-    ),
-    (
-        &[],
-        &[History(1), Buffer(3)],
-        Err(PublishSubscribeOpenError::DoesNotSupportRequestedMinBufferSize),
-    ),
-    (
-        &[],
-        &[Borrowed(3), History(1)],
-        Err(PublishSubscribeOpenError::DoesNotSupportRequestedMinHistorySize),
-    ),
-    (
-        &[],
-        &[Overflow(false), Borrowed(3)],
-        Err(PublishSubscribeOpenError::DoesNotSupportRequestedMinSubscriberBorrowedSamples),
-    ),
-    (
-        &[],
-        &[Nodes(21), Overflow(false)],
-        Err(PublishSubscribeOpenError::IncompatibleOverflowBehavior),
-    ),
-    (
-        &[],
-        &[Nodes(21)],
-        Err(PublishSubscribeOpenError::DoesNotSupportRequestedAmountOfNodes),
-    ),
     // no place for a second node
     (
         &[Nodes(1)],
@@ -200,26 +160,44 @@ const OPENS: &[(Asks, Asks, Result<Given, PublishSubscribeOpenError>)] = &[
     ),
 ];
 
+/// What is asked of an open by node 2 where node 1 has created the service with the default settings, and
+/// why it is refused.
+const REFUSED_OPENS: &[(Asks, PublishSubscribeOpenError)] = refused! {
+    PublishSubscribeOpenError:
+    // the first setting that is too small or other is named
+    [Buffer(3), Publishers(3)] => DoesNotSupportRequestedAmountOfPublishers;
+    [Buffer(3), Subscribers(9)] => DoesNotSupportRequestedAmountOfSubscribers;
+    [History(1), Buffer(3)] => DoesNotSupportRequestedMinBufferSize;
+    [Borrowed(3), History(1)] => DoesNotSupportRequestedMinHistorySize;
+    [Overflow(false), Borrowed(3)] => DoesNotSupportRequestedMinSubscriberBorrowedSamples;
+    [Nodes(21), Overflow(false)] => IncompatibleOverflowBehavior;
+    [Nodes(21)] => DoesNotSupportRequestedAmountOfNodes;
+};
+
 /// What an open by node 2 answers where node 1 has created the service.
-fn opened(
-    rt: &impl Abort,
-    alloc: Global,
-    creating: &[Ask],
-    opening: &[Ask],
-) -> Result<Given, PublishSubscribeOpenError> {
+fn opened_beside(rt: &impl Abort, alloc: Global, creating: &[Ask], opening: &[Ask]) -> Opened {
     let mut table = table_from(alloc, 0);
-    let _created = create::<Local>(rt, alloc, &mut table, 1, creating);
-    let answer = open::<Local>(rt, alloc, &mut table, 2, opening);
+    let _created = created(asking::<Local>(rt, alloc, 1, creating), &mut table);
+    let answer = opened(asking::<Local>(rt, alloc, 2, opening), &mut table);
     drop_table(table);
     answer
+}
+
+/// Ends a test where an open is not refused as it is to be.
+fn assert_refused(rt: &impl Abort, alloc: Global) {
+    for &(asks, error) in REFUSED_OPENS {
+        let found = opened_beside(rt, alloc, &[], asks);
+        assert_same(rt, (asks, found), (asks, Err(error)));
+    }
 }
 
 #[test]
 fn a_service_is_opened_where_it_offers_what_is_asked(rt: HostRuntime) {
     for &(creating, opening, wanted) in OPENS {
-        let found = opened(&rt, rt.alloc(), creating, opening);
+        let found = opened_beside(&rt, rt.alloc(), creating, opening);
         assert_same(&rt, (opening, found), (opening, wanted));
     }
+    assert_refused(&rt, rt.alloc());
 }
 
 /// What is asked of a create by node 2 where node 1 has created the service with an `i64`, why it is
@@ -246,15 +224,17 @@ const REFUSED: &[(Asks, PublishSubscribeCreateError, u64)] = &[
 const CREATED: Asks = &[Payload(I64)];
 
 /// What the create by node 2 answers, and how many accesses it makes.
-fn created_again(
-    rt: &impl Abort,
-    alloc: Global,
-    asks: &[Ask],
-) -> (Result<Given, PublishSubscribeCreateError>, u64) {
+fn created_again(rt: &impl Abort, alloc: Global, asks: &[Ask]) -> (Created, u64) {
     let mut faulty = Faulty::new(table_from(alloc, 0), Vec::new(alloc));
-    let _created = create::<FaultyService<Local>>(rt, alloc, &mut faulty, 1, CREATED);
+    let _created = created(
+        asking::<FaultyService<Local>>(rt, alloc, 1, CREATED),
+        &mut faulty,
+    );
     let before = faulty.accesses();
-    let answer = create::<FaultyService<Local>>(rt, alloc, &mut faulty, 2, asks);
+    let answer = created(
+        asking::<FaultyService<Local>>(rt, alloc, 2, asks),
+        &mut faulty,
+    );
     let accesses = faulty.accesses().saturating_sub(before);
     drop_table(faulty.into_inner());
     (answer, accesses)

@@ -37,13 +37,7 @@ fn counters(script: &Script) -> (Counters, usize) {
 }
 
 /// Scripts, what is asked, what an open over them answers, their counters, and how many answers are left.
-const OPENS: &[(
-    Parts,
-    Asks,
-    Result<Given, PublishSubscribeOpenError>,
-    Counters,
-    usize,
-)] = &[
+const OPENS: &[(Parts, Asks, Opened, Counters, usize)] = &[
     // what is for no node meets who asks for none
     (
         &[&[
@@ -82,21 +76,21 @@ const OPENS: &[(
 ];
 
 /// What an open over a script answers, its counters, and how many answers are left.
-fn opened(
+fn opened_over(
     rt: &impl Abort,
     alloc: Global,
     parts: Parts,
     asks: &[Ask],
-) -> (Result<Given, PublishSubscribeOpenError>, (Counters, usize)) {
+) -> (Opened, (Counters, usize)) {
     let mut script = script(rt, alloc, parts);
-    let answer = open::<Scripted>(rt, alloc, &mut script, 1, asks);
+    let answer = opened(asking::<Scripted>(rt, alloc, 1, asks), &mut script);
     (answer, counters(&script))
 }
 
 #[test]
 fn an_open_fits_what_it_reads(rt: HostRuntime) {
     for (row, &(parts, asks, wanted, counters, left)) in OPENS.iter().enumerate() {
-        let found = opened(&rt, rt.alloc(), parts, asks);
+        let found = opened_over(&rt, rt.alloc(), parts, asks);
         assert_same(&rt, (row, found), (row, (wanted, (counters, left))));
     }
 }
@@ -108,23 +102,16 @@ const THERE: &[Parts] = &[
 ];
 
 /// What a create over a script answers, its counters, and how many answers are left.
-fn created(
-    rt: &impl Abort,
-    alloc: Global,
-    parts: Parts,
-) -> (
-    Result<Given, PublishSubscribeCreateError>,
-    (Counters, usize),
-) {
+fn created_over(rt: &impl Abort, alloc: Global, parts: Parts) -> (Created, (Counters, usize)) {
     let mut script = script(rt, alloc, parts);
-    let answer = create::<Scripted>(rt, alloc, &mut script, 1, &[]);
+    let answer = created(asking::<Scripted>(rt, alloc, 1, &[]), &mut script);
     (answer, counters(&script))
 }
 
 #[test]
 fn a_create_finds_what_is_there(rt: HostRuntime) {
     for (row, &parts) in THERE.iter().enumerate() {
-        let found = created(&rt, rt.alloc(), parts);
+        let found = created_over(&rt, rt.alloc(), parts);
         let wanted = Err(PublishSubscribeCreateError::AlreadyExists);
         assert_same(&rt, (row, found), (row, (wanted, ((1, 0, 0), 0))));
     }

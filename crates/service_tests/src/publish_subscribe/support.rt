@@ -2,9 +2,10 @@
 //! alone, in a function without a contract, so that a test sees answers and no contracts.
 
 pub use crate::support::{
-    Pairs, assert_same, drop_table, listed, name, push, specifier, table_from, verifier,
+    Pairs, assert_same, drop_table, factory, listed, name, specifier, table_from, verifier, why,
 };
 pub use crate::types::{I64, SLICE, Told, U32, alignment, consists_of, detail};
+pub(crate) use crate::types::{refused, setter};
 use iceoryx2_access::storage::Service;
 use iceoryx2_builder::builder::Node;
 use iceoryx2_builder::builder::publish_subscribe::{Builder, PublishSubscribeSetter};
@@ -16,6 +17,8 @@ use iceoryx2_table::table::Table;
 use iceoryx2_types::types::{CustomHeaderMarker, CustomPayloadMarker, Slice, ZeroCopySend};
 use std::alloc::Global;
 use std::process::Abort;
+pub use test_support::settings::MESSAGES as DEFAULTS;
+use test_support::settings::numbers_of_messages;
 
 /// What is asked of a builder.
 #[derive(Clone, Copy, Debug, PartialEq, Eq)]
@@ -35,22 +38,17 @@ pub enum Ask {
 /// What is asked of a builder, one after the other.
 pub type Asks = &'static [Ask];
 
-/// The numbers of the default settings, in their order.
-pub const DEFAULTS: [u64; 6] = [2, 8, 2, 0, 2, 20];
-
 /// The setter that an ask means.
 fn setting(rt: &impl Abort, alloc: Global, ask: Ask) -> PublishSubscribeSetter {
-    match ask {
-        Ask::Publishers(value) => PublishSubscribeSetter::MaxPublishers(value),
-        Ask::Subscribers(value) => PublishSubscribeSetter::MaxSubscribers(value),
-        Ask::Buffer(value) => PublishSubscribeSetter::SubscriberMaxBufferSize(value),
-        Ask::History(value) => PublishSubscribeSetter::HistorySize(value),
-        Ask::Borrowed(value) => PublishSubscribeSetter::SubscriberMaxBorrowedSamples(value),
-        Ask::Overflow(value) => PublishSubscribeSetter::EnableSafeOverflow(value),
-        Ask::Nodes(value) => PublishSubscribeSetter::MaxNodes(value),
-        Ask::Alignment(value) => PublishSubscribeSetter::PayloadAlignment(alignment(rt, value)),
-        Ask::Payload(told) => PublishSubscribeSetter::PayloadType(detail(rt, alloc, told)),
-        Ask::UserHeader(told) => PublishSubscribeSetter::UserHeaderType(detail(rt, alloc, told)),
+    setter! {
+        rt, alloc, ask => PublishSubscribeSetter:
+        (
+            Publishers MaxPublishers, Subscribers MaxSubscribers, Buffer SubscriberMaxBufferSize,
+            History HistorySize, Borrowed SubscriberMaxBorrowedSamples, Overflow EnableSafeOverflow,
+            Nodes MaxNodes
+        )
+        (Alignment PayloadAlignment)
+        (Payload PayloadType, UserHeader UserHeaderType)
     }
 }
 
@@ -82,17 +80,15 @@ pub fn asking<S: Service>(rt: &impl Abort, alloc: Global, node: u64, asks: &[Ask
 /// how far its payload is aligned.
 pub type Given = (u64, [u64; 6], bool, u64);
 
+/// What a create and an open answer.
+pub type Created = Result<Given, PublishSubscribeCreateError>;
+
+pub type Opened = Result<Given, PublishSubscribeOpenError>;
+
 /// What a factory tells.
 pub fn told<S: Service, P, U>(factory: &PortFactory<S, P, U>) -> Given {
     let settings = factory.static_config();
-    let numbers = [
-        settings.max_publishers,
-        settings.max_subscribers,
-        settings.subscriber_max_buffer_size,
-        settings.history_size,
-        settings.subscriber_max_borrowed_samples,
-        settings.max_nodes,
-    ];
+    let numbers = numbers_of_messages(settings);
     let alignment = settings.message_type_details.payload().alignment();
     (
         factory.number(),
@@ -109,67 +105,44 @@ pub fn given<S: Service, P, U>(factory: PortFactory<S, P, U>) -> Given {
     given
 }
 
-/// What a create with these attributes answers.
-pub fn create_with<S: Service>(
-    rt: &impl Abort,
-    alloc: Global,
-    storage: &mut S::Storage,
-    (node, asks): (u64, &[Ask]),
-    pairs: Pairs,
-) -> Result<Given, PublishSubscribeCreateError> {
-    let builder = asking::<S>(rt, alloc, node, asks);
-    match builder.create_with_attributes(&specifier(alloc, pairs), storage) {
-        Ok(factory) => Ok(given(factory)),
-        Err(error) => Err(error),
-    }
-}
-
-/// What an open that requires these pairs and keys answers.
-pub fn open_with<S: Service>(
-    rt: &impl Abort,
-    alloc: Global,
-    storage: &mut S::Storage,
-    (node, asks): (u64, &[Ask]),
-    (pairs, keys): (Pairs, &[&str]),
-) -> Result<Given, PublishSubscribeOpenError> {
-    let builder = asking::<S>(rt, alloc, node, asks);
-    match builder.open_with_attributes(&verifier(alloc, pairs, keys), storage) {
-        Ok(factory) => Ok(given(factory)),
-        Err(error) => Err(error),
-    }
+/// What an answer gives.
+macro_rules! given {
+    ($answer:expr) => {
+        match $answer {
+            Ok(factory) => Ok(given(factory)),
+            Err(error) => Err(error),
+        }
+    };
 }
 
 /// What a builder's create answers.
-pub fn created<S: Service>(
-    builder: Unnamed<S>,
-    storage: &mut S::Storage,
-) -> Result<Given, PublishSubscribeCreateError> {
-    match builder.create(storage) {
-        Ok(factory) => Ok(given(factory)),
-        Err(error) => Err(error),
-    }
+pub fn created<S: Service>(builder: Unnamed<S>, storage: &mut S::Storage) -> Created {
+    given!(builder.create(storage))
 }
 
 /// What its open answers.
-pub fn opened<S: Service>(
-    builder: Unnamed<S>,
-    storage: &mut S::Storage,
-) -> Result<Given, PublishSubscribeOpenError> {
-    match builder.open(storage) {
-        Ok(factory) => Ok(given(factory)),
-        Err(error) => Err(error),
-    }
+pub fn opened<S: Service>(builder: Unnamed<S>, storage: &mut S::Storage) -> Opened {
+    given!(builder.open(storage))
 }
 
-/// What a create without attributes answers.
-pub fn create<S: Service>(
-    rt: &impl Abort,
+/// What a builder's create with these attributes answers.
+pub fn created_with<S: Service>(
     alloc: Global,
+    builder: Unnamed<S>,
+    pairs: Pairs,
     storage: &mut S::Storage,
-    node: u64,
-    asks: &[Ask],
-) -> Result<Given, PublishSubscribeCreateError> {
-    created(asking::<S>(rt, alloc, node, asks), storage)
+) -> Created {
+    given!(builder.create_with_attributes(&specifier(alloc, pairs), storage))
+}
+
+/// What its open that requires these pairs and keys answers.
+pub fn opened_with<S: Service>(
+    alloc: Global,
+    builder: Unnamed<S>,
+    (pairs, keys): (Pairs, &[&str]),
+    storage: &mut S::Storage,
+) -> Opened {
+    given!(builder.open_with_attributes(&verifier(alloc, pairs, keys), storage))
 }
 
 /// Whether a create by node 1 gives a service whose messages are made of this.
@@ -180,23 +153,8 @@ pub fn creates(
     asks: &[Ask],
     wanted: [Told; 3],
 ) -> bool {
-    match asking::<Local>(rt, alloc, 1, asks).create(table) {
-        Ok(factory) => {
-            let is_of_them = consists_of(&factory.static_config().message_type_details, wanted);
-            factory.abandon();
-            is_of_them
-        }
-        Err(_) => false,
-    }
-}
-
-/// What an open without requirements of attributes answers.
-pub fn open<S: Service>(
-    rt: &impl Abort,
-    alloc: Global,
-    storage: &mut S::Storage,
-    node: u64,
-    asks: &[Ask],
-) -> Result<Given, PublishSubscribeOpenError> {
-    opened(asking::<S>(rt, alloc, node, asks), storage)
+    let factory = factory(rt, asking::<Local>(rt, alloc, 1, asks).create(table));
+    let is_of_them = consists_of(&factory.static_config().message_type_details, wanted);
+    factory.abandon();
+    is_of_them
 }

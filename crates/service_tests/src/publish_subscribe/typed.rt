@@ -25,10 +25,7 @@ fn created(rt: &impl Abort, alloc: Global, table: &mut Table) -> Registered {
         .payload_alignment(alignment(rt, 16))
         .history_size(1)
         .user_header::<u32>();
-    match builder.create(table) {
-        Ok(factory) => factory,
-        Err(error) => panic!(rt; "refused: {error}"),
-    }
+    factory(rt, builder.create(table))
 }
 
 /// Why node 2 doesn't open it that wants a longer history.
@@ -38,13 +35,7 @@ fn with_history(
     table: &mut Table,
 ) -> Option<PublishSubscribeOpenError> {
     let builder = builder::<i64, Local>(rt, alloc, 2).history_size(2);
-    match builder.user_header::<u32>().open(table) {
-        Ok(factory) => {
-            factory.abandon();
-            None
-        }
-        Err(error) => Some(error),
-    }
+    why(builder.user_header::<u32>().open(table))
 }
 
 /// Why node 2 doesn't open it that wants several values at a time.
@@ -54,13 +45,7 @@ fn with_slice(
     table: &mut Table,
 ) -> Option<PublishSubscribeOpenError> {
     let builder = builder::<Slice<i64>, Local>(rt, alloc, 2);
-    match builder.user_header::<u32>().open(table) {
-        Ok(factory) => {
-            factory.abandon();
-            None
-        }
-        Err(error) => Some(error),
-    }
+    why(builder.user_header::<u32>().open(table))
 }
 
 /// Whether its messages are made of what is wanted.

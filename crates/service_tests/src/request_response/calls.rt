@@ -2,7 +2,7 @@
 
 use crate::request_response::support::Ask::*;
 use crate::request_response::support::*;
-use iceoryx2_errors::error::{RequestResponseCreateError, RequestResponseOpenError};
+use iceoryx2_errors::error::RequestResponseOpenError;
 use iceoryx2_types::types::TypeVariant::{Dynamic, FixedSize};
 use std::alloc::Global;
 use std::process::Abort;
@@ -55,13 +55,9 @@ const CREATES: &[(Asks, Given)] = &[
 ];
 
 /// What a create over a new table answers.
-fn created(
-    rt: &impl Abort,
-    alloc: Global,
-    asks: &[Ask],
-) -> Result<Given, RequestResponseCreateError> {
+fn created_newly(rt: &impl Abort, alloc: Global, asks: &[Ask]) -> Created {
     let mut table = table_from(alloc, 0);
-    let answer = create(rt, alloc, &mut table, asks);
+    let answer = created(asking(rt, alloc, 1, asks), &mut table);
     drop_table(table);
     answer
 }
@@ -69,14 +65,14 @@ fn created(
 #[test]
 fn a_service_of_request_response_is_created_as_it_is_asked_for(rt: HostRuntime) {
     for &(asks, wanted) in CREATES {
-        let found = created(&rt, rt.alloc(), asks);
+        let found = created_newly(&rt, rt.alloc(), asks);
         assert_same(&rt, (asks, found), (asks, Ok(wanted)));
     }
 }
 
 /// What is asked of a create by node 1 and of an open by node 2, which keys that requires, and what it
 /// answers.
-const OPENS: &[(Asks, Asks, &[&str], Result<Given, RequestResponseOpenError>)] = &[
+const OPENS: &[(Asks, Asks, &[&str], Opened)] = &[
     (
         &[],
         &[
@@ -93,69 +89,6 @@ const OPENS: &[(Asks, Asks, &[&str], Result<Given, RequestResponseOpenError>)] =
         ],
         &[],
         Ok((0, [true, true, true], DEFAULTS, [1, 1])),
-    ),
-    // the first setting that is too small or other is named
-    (
-        &[],
-        &[Servers(3), OverflowOfRequests(false)],
-        &[],
-        Err(RequestResponseOpenError::IncompatibleOverflowBehaviorForRequests),
-    ),
-    (
-        &[],
-        &[FireAndForget(false), OverflowOfResponses(false)],
-        &[],
-        Err(RequestResponseOpenError::IncompatibleOverflowBehaviorForResponses),
-    ),
-    (
-        &[],
-        &[Active(5), FireAndForget(false)],
-        &[],
-        Err(RequestResponseOpenError::IncompatibleBehaviorForFireAndForgetRequests),
-    ),
-    (
-        &[],
-        &[Loaned(3), Active(5)],
-        &[],
-        Err(RequestResponseOpenError::DoesNotSupportRequestedAmountOfActiveRequestsPerClient),
-    ),
-    (
-        &[],
-        &[Borrowed(3), Loaned(3)],
-        &[],
-        Err(RequestResponseOpenError::DoesNotSupportRequestedAmountOfClientRequestLoans),
-    ),
-    (
-        &[],
-        &[Buffer(3), Borrowed(3)],
-        &[],
-        Err(
-            RequestResponseOpenError::DoesNotSupportRequestedAmountOfBorrowedResponsesPerPendingResponse,
-        ),
-    ),
-    (
-        &[],
-        &[Servers(3), Buffer(3)],
-        &[],
-        Err(RequestResponseOpenError::DoesNotSupportRequestedResponseBufferSize),
-    ),
-    (
-        &[],
-        &[Clients(9), Servers(3)],
-        &[],
-        Err(RequestResponseOpenError::DoesNotSupportRequestedAmountOfServers),
-    ),
-    (
-        &[],
-        &[Nodes(21), Clients(9)],
-        &[],
-        Err(RequestResponseOpenError::DoesNotSupportRequestedAmountOfClients),
-    ),
-    (
-        &[],
-        &[Nodes(21)],
-        &[],
-        Err(RequestResponseOpenError::DoesNotSupportRequestedAmountOfNodes),
     ),
     // no place for a second node
     (
@@ -198,27 +131,53 @@ const OPENS: &[(Asks, Asks, &[&str], Result<Given, RequestResponseOpenError>)] =
     ),
 ];
 
+/// What is asked of an open by node 2 where node 1 has created the service with the default settings, and
+/// why it is refused.
+const REFUSED_OPENS: &[(Asks, RequestResponseOpenError)] = refused! {
+    RequestResponseOpenError:
+    // the first setting that is too small or other is named
+    [Servers(3), OverflowOfRequests(false)] => IncompatibleOverflowBehaviorForRequests;
+    [FireAndForget(false), OverflowOfResponses(false)] => IncompatibleOverflowBehaviorForResponses;
+    [Active(5), FireAndForget(false)] => IncompatibleBehaviorForFireAndForgetRequests;
+    [Loaned(3), Active(5)] => DoesNotSupportRequestedAmountOfActiveRequestsPerClient;
+    [Borrowed(3), Loaned(3)] => DoesNotSupportRequestedAmountOfClientRequestLoans;
+    [Buffer(3), Borrowed(3)] => DoesNotSupportRequestedAmountOfBorrowedResponsesPerPendingResponse;
+    [Servers(3), Buffer(3)] => DoesNotSupportRequestedResponseBufferSize;
+    [Clients(9), Servers(3)] => DoesNotSupportRequestedAmountOfServers;
+    [Nodes(21), Clients(9)] => DoesNotSupportRequestedAmountOfClients;
+    [Nodes(21)] => DoesNotSupportRequestedAmountOfNodes;
+};
+
 /// What an open by node 2 answers where node 1 has created the service.
-fn opened(
+fn opened_beside(
     rt: &impl Abort,
     alloc: Global,
     creating: &[Ask],
     opening: &[Ask],
     keys: &[&str],
-) -> Result<Given, RequestResponseOpenError> {
+) -> Opened {
     let mut table = table_from(alloc, 0);
-    let _created = create(rt, alloc, &mut table, creating);
-    let answer = open(rt, alloc, &mut table, opening, keys);
+    let _created = created(asking(rt, alloc, 1, creating), &mut table);
+    let answer = opened_with(alloc, asking(rt, alloc, 2, opening), keys, &mut table);
     drop_table(table);
     answer
+}
+
+/// Ends a test where an open is not refused as it is to be.
+fn assert_refused(rt: &impl Abort, alloc: Global) {
+    for &(asks, error) in REFUSED_OPENS {
+        let found = opened_beside(rt, alloc, &[], asks, &[]);
+        assert_same(rt, (asks, found), (asks, Err(error)));
+    }
 }
 
 #[test]
 fn a_service_of_request_response_is_opened_where_it_offers_what_is_asked(rt: HostRuntime) {
     for &(creating, opening, keys, wanted) in OPENS {
-        let found = opened(&rt, rt.alloc(), creating, opening, keys);
+        let found = opened_beside(&rt, rt.alloc(), creating, opening, keys);
         assert_same(&rt, (opening, found), (opening, wanted));
     }
+    assert_refused(&rt, rt.alloc());
 }
 
 /// What is asked of a create, and what its requests and responses are made of.
@@ -264,7 +223,7 @@ const MESSAGES: &[(Asks, Messages)] = &[
 /// Whether a create over a new table gives a service with these messages.
 fn has_messages(rt: &impl Abort, alloc: Global, asks: &[Ask], messages: Messages) -> bool {
     let mut table = table_from(alloc, 0);
-    let answer = creates(rt, alloc, &mut table, asks, messages);
+    let answer = creates(asking(rt, alloc, 1, asks), &mut table, messages);
     drop_table(table);
     answer
 }

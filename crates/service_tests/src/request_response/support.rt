@@ -1,8 +1,9 @@
 //! Calls for one service of request-response, and what they answer. A call of the layer stands here
 //! alone, in a function without a contract, so that a test sees answers and no contracts.
 
-pub use crate::support::{assert_same, drop_table, name, table_from, verifier};
+pub use crate::support::{assert_same, drop_table, factory, name, table_from, verifier, why};
 pub use crate::types::{I64, SLICE, Told, U32, alignment, consists_of, detail};
+pub(crate) use crate::types::{refused, setter};
 use iceoryx2_builder::builder::Node;
 use iceoryx2_builder::builder::request_response::{Builder, RequestResponseSetter as Setting};
 use iceoryx2_description::config::Config;
@@ -14,6 +15,8 @@ use iceoryx2_table::table::Table;
 use iceoryx2_types::types::{CustomHeaderMarker, CustomPayloadMarker, Slice, ZeroCopySend};
 use std::alloc::Global;
 use std::process::Abort;
+pub use test_support::settings::REQUESTS as DEFAULTS;
+use test_support::settings::{flags_of_requests, numbers_of_requests};
 
 /// What is asked of a builder.
 #[derive(Clone, Copy, Debug, PartialEq, Eq)]
@@ -39,28 +42,22 @@ pub enum Ask {
 /// What is asked of a builder, one after the other.
 pub type Asks = &'static [Ask];
 
-/// The numbers of the default settings, in their order.
-pub const DEFAULTS: [u64; 7] = [4, 2, 2, 2, 2, 8, 20];
-
 /// The setter that an ask means.
 fn setting(rt: &impl Abort, alloc: Global, ask: Ask) -> Setting {
-    match ask {
-        Ask::OverflowOfRequests(value) => Setting::EnableSafeOverflowForRequests(value),
-        Ask::OverflowOfResponses(value) => Setting::EnableSafeOverflowForResponses(value),
-        Ask::FireAndForget(value) => Setting::EnableFireAndForgetRequests(value),
-        Ask::Active(value) => Setting::MaxActiveRequestsPerClient(value),
-        Ask::Loaned(value) => Setting::MaxLoanedRequests(value),
-        Ask::Borrowed(value) => Setting::MaxBorrowedResponsesPerPendingResponse(value),
-        Ask::Buffer(value) => Setting::MaxResponseBufferSize(value),
-        Ask::Servers(value) => Setting::MaxServers(value),
-        Ask::Clients(value) => Setting::MaxClients(value),
-        Ask::Nodes(value) => Setting::MaxNodes(value),
-        Ask::RequestAlignment(value) => Setting::RequestPayloadAlignment(alignment(rt, value)),
-        Ask::ResponseAlignment(value) => Setting::ResponsePayloadAlignment(alignment(rt, value)),
-        Ask::Request(told) => Setting::RequestPayloadType(detail(rt, alloc, told)),
-        Ask::RequestHeader(told) => Setting::RequestHeaderType(detail(rt, alloc, told)),
-        Ask::Response(told) => Setting::ResponsePayloadType(detail(rt, alloc, told)),
-        Ask::ResponseHeader(told) => Setting::ResponseHeaderType(detail(rt, alloc, told)),
+    setter! {
+        rt, alloc, ask => Setting:
+        (
+            OverflowOfRequests EnableSafeOverflowForRequests,
+            OverflowOfResponses EnableSafeOverflowForResponses,
+            FireAndForget EnableFireAndForgetRequests, Active MaxActiveRequestsPerClient,
+            Loaned MaxLoanedRequests, Borrowed MaxBorrowedResponsesPerPendingResponse,
+            Buffer MaxResponseBufferSize, Servers MaxServers, Clients MaxClients, Nodes MaxNodes
+        )
+        (RequestAlignment RequestPayloadAlignment, ResponseAlignment ResponsePayloadAlignment)
+        (
+            Request RequestPayloadType, RequestHeader RequestHeaderType,
+            Response ResponsePayloadType, ResponseHeader ResponseHeaderType
+        )
     }
 }
 
@@ -106,27 +103,18 @@ pub fn asking(rt: &impl Abort, alloc: Global, node: u64, asks: &[Ask]) -> Unname
 /// and how far its payloads are aligned.
 pub type Given = (u64, [bool; 3], [u64; 7], [u64; 2]);
 
+/// What a create and an open answer.
+pub type Created = Result<Given, RequestResponseCreateError>;
+
+pub type Opened = Result<Given, RequestResponseOpenError>;
+
 /// What a factory tells.
 fn told<Q, QU, R, RU>(factory: &PortFactory<Local, Q, QU, R, RU>) -> Given {
     let settings = factory.static_config();
-    let flags = [
-        settings.enable_safe_overflow_for_requests,
-        settings.enable_safe_overflow_for_responses,
-        settings.enable_fire_and_forget_requests,
-    ];
-    let numbers = [
-        settings.max_active_requests_per_client,
-        settings.max_loaned_requests,
-        settings.max_borrowed_responses_per_pending_response,
-        settings.max_response_buffer_size,
-        settings.max_servers,
-        settings.max_clients,
-        settings.max_nodes,
-    ];
-    let request = settings.request_message_type_details.payload();
-    let response = settings.response_message_type_details.payload();
-    let alignments = [request.alignment(), response.alignment()];
-    (factory.number(), flags, numbers, alignments)
+    let (flags, numbers) = (flags_of_requests(settings), numbers_of_requests(settings));
+    let request = settings.request_message_type_details.payload().alignment();
+    let response = settings.response_message_type_details.payload().alignment();
+    (factory.number(), flags, numbers, [request, response])
 }
 
 /// Spends a factory without an access, and tells what it gives.
@@ -150,7 +138,7 @@ pub fn are_of(settings: &StaticConfig, messages: Messages) -> bool {
 }
 
 /// What a builder's create answers.
-pub fn created(builder: Unnamed, table: &mut Table) -> Result<Given, RequestResponseCreateError> {
+pub fn created(builder: Unnamed, table: &mut Table) -> Created {
     match builder.create(table) {
         Ok(factory) => Ok(given(factory)),
         Err(error) => Err(error),
@@ -158,32 +146,16 @@ pub fn created(builder: Unnamed, table: &mut Table) -> Result<Given, RequestResp
 }
 
 /// What its open answers.
-pub fn opened(builder: Unnamed, table: &mut Table) -> Result<Given, RequestResponseOpenError> {
+pub fn opened(builder: Unnamed, table: &mut Table) -> Opened {
     match builder.open(table) {
         Ok(factory) => Ok(given(factory)),
         Err(error) => Err(error),
     }
 }
 
-/// What a create without attributes answers.
-pub fn create(
-    rt: &impl Abort,
-    alloc: Global,
-    table: &mut Table,
-    asks: &[Ask],
-) -> Result<Given, RequestResponseCreateError> {
-    created(asking(rt, alloc, 1, asks), table)
-}
-
 /// Whether a create gives a service with these messages.
-pub fn creates(
-    rt: &impl Abort,
-    alloc: Global,
-    table: &mut Table,
-    asks: &[Ask],
-    messages: Messages,
-) -> bool {
-    match asking(rt, alloc, 1, asks).create(table) {
+pub fn creates(builder: Unnamed, table: &mut Table, messages: Messages) -> bool {
+    match builder.create(table) {
         Ok(factory) => {
             let are = are_of(factory.static_config(), messages);
             factory.abandon();
@@ -194,14 +166,7 @@ pub fn creates(
 }
 
 /// What an open that requires these keys answers.
-pub fn open(
-    rt: &impl Abort,
-    alloc: Global,
-    table: &mut Table,
-    asks: &[Ask],
-    keys: &[&str],
-) -> Result<Given, RequestResponseOpenError> {
-    let builder = asking(rt, alloc, 2, asks);
+pub fn opened_with(alloc: Global, builder: Unnamed, keys: &[&str], table: &mut Table) -> Opened {
     match builder.open_with_attributes(&verifier(alloc, &[], keys), table) {
         Ok(factory) => Ok(given(factory)),
         Err(error) => Err(error),

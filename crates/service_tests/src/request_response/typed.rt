@@ -13,40 +13,7 @@ use std::process::Abort;
 
 /// Creates a service of a `u64` and of a number of `u8`.
 fn create_default(rt: &impl Abort, alloc: Global, table: &mut Table) {
-    match builder::<u64, Slice<u8>>(rt, alloc, 1).create(table) {
-        Ok(factory) => factory.abandon(),
-        Err(error) => panic!(rt; "refused: {error}"),
-    }
-}
-
-/// Why node 2 doesn't open it with these payloads.
-fn open_refusal<Q: ZeroCopySend, R: ZeroCopySend>(
-    rt: &impl Abort,
-    alloc: Global,
-    table: &mut Table,
-) -> Option<RequestResponseOpenError> {
-    match builder::<Q, R>(rt, alloc, 2).open(table) {
-        Ok(factory) => {
-            factory.abandon();
-            None
-        }
-        Err(error) => Some(error),
-    }
-}
-
-/// Why node 2 doesn't create it with these payloads.
-fn create_refusal<Q: ZeroCopySend, R: ZeroCopySend>(
-    rt: &impl Abort,
-    alloc: Global,
-    table: &mut Table,
-) -> Option<RequestResponseCreateError> {
-    match builder::<Q, R>(rt, alloc, 2).create(table) {
-        Ok(factory) => {
-            factory.abandon();
-            None
-        }
-        Err(error) => Some(error),
-    }
+    factory(rt, builder::<u64, Slice<u8>>(rt, alloc, 1).create(table)).abandon();
 }
 
 /// Why an open and a create are refused.
@@ -60,8 +27,8 @@ fn refusals<Q: ZeroCopySend, R: ZeroCopySend>(rt: &impl Abort, alloc: Global) ->
     let mut table = table_from(alloc, 0);
     create_default(rt, alloc, &mut table);
     let refusals = (
-        open_refusal::<Q, R>(rt, alloc, &mut table),
-        create_refusal::<Q, R>(rt, alloc, &mut table),
+        why(builder::<Q, R>(rt, alloc, 2).open(&mut table)),
+        why(builder::<Q, R>(rt, alloc, 2).create(&mut table)),
     );
     drop_table(table);
     refusals
@@ -108,10 +75,9 @@ const MESSAGES: Messages = &[
 ];
 
 /// Its hash, as other programs make it.
-const SERVICE: ServiceHash = ServiceHash([
-    0xdc, 0x76, 0xe9, 0xf0, 0xc0, 0x00, 0x6e, 0x8f, 0x91, 0x9e, 0x0c, 0x51, 0x5c, 0x66, 0xdb, 0xba,
-    0x39, 0x82, 0xf7, 0x85,
-]);
+const SERVICE: ServiceHash = ServiceHash(
+    *b"\xdc\x76\xe9\xf0\xc0\x00\x6e\x8f\x91\x9e\x0c\x51\x5c\x66\xdb\xba\x39\x82\xf7\x85",
+);
 
 /// That service, which node 1 creates.
 fn create_told(rt: &impl Abort, alloc: Global, table: &mut Table) -> Told {
@@ -122,10 +88,7 @@ fn create_told(rt: &impl Abort, alloc: Global, table: &mut Table) -> Told {
         .response_payload_alignment(alignment(rt, 16))
         .request_user_header::<u32>()
         .response_user_header::<u64>();
-    match builder.create(table) {
-        Ok(factory) => factory,
-        Err(error) => panic!(rt; "refused: {error}"),
-    }
+    factory(rt, builder.create(table))
 }
 
 /// Whether it has its messages, and its hash.

@@ -13,10 +13,9 @@ use std::alloc::Global;
 use std::process::Abort;
 
 /// The hash of the service of these tests, as other programs make it.
-const HASH: ServiceHash = ServiceHash([
-    0xc3, 0x49, 0x9c, 0x27, 0x29, 0x73, 0x0a, 0x7f, 0x80, 0x7e, 0xfb, 0x86, 0x76, 0xa9, 0x2d, 0xcb,
-    0x6f, 0x8a, 0x3f, 0x8f,
-]);
+const HASH: ServiceHash = ServiceHash(
+    *b"\xc3\x49\x9c\x27\x29\x73\x0a\x7f\x80\x7e\xfb\x86\x76\xa9\x2d\xcb\x6f\x8a\x3f\x8f",
+);
 
 /// Whether a node has a tag, and how many tickets.
 pub type Holding = (bool, u64);
@@ -37,7 +36,7 @@ pub const NEW: Contents = (Absent, None, (NOTHING, NOTHING), 0);
 pub const EMPTY: Contents = (Absent, None, (NOTHING, NOTHING), 1);
 
 /// The first service of a table, of node 1 alone.
-pub const SERVICE_OF_1: Contents = (
+pub const OF_ONE: Contents = (
     Published(0),
     Some((0, 36, 1, false)),
     (REGISTRATION, NOTHING),
@@ -45,7 +44,7 @@ pub const SERVICE_OF_1: Contents = (
 );
 
 /// The first service of a table, of both nodes.
-pub const SERVICE_OF_BOTH: Contents = (
+pub const OF_BOTH: Contents = (
     Published(0),
     Some((0, 36, 2, false)),
     (REGISTRATION, REGISTRATION),
@@ -53,7 +52,7 @@ pub const SERVICE_OF_BOTH: Contents = (
 );
 
 /// The second service of a table, of node 1 alone.
-pub const LATER_SERVICE: Contents = (
+pub const LATER: Contents = (
     Published(1),
     Some((1, 36, 1, false)),
     (REGISTRATION, NOTHING),
@@ -112,51 +111,76 @@ pub fn assert_runs(rt: &impl Abort, alloc: Global, counter: u64, runs: &[Run]) {
 }
 
 /// A create that is refused with a state that contradicts itself.
-const CORRUPTED_STATE: (Call, Answer) = (
+const CREATE_CORRUPTED: (Call, Answer) = (
     Create(1),
     CreateRefused(EventCreateError::ServiceInCorruptedState),
 );
 
 /// A create at which the storage fails.
-const INTERNAL_FAILURE: (Call, Answer) = (
-    Create(1),
-    CreateRefused(EventCreateError::InternalFailure),
-);
+const CREATE_FAILS: (Call, Answer) = (Create(1), CreateRefused(EventCreateError::InternalFailure));
+
+/// An open of node 2 that is refused.
+macro_rules! open_refused {
+    ($error:ident) => {
+        (Open(2), OpenRefused(EventOpenError::$error))
+    };
+}
+
+const OPEN_CORRUPTED: (Call, Answer) = open_refused!(ServiceInCorruptedState);
+
+const OPEN_MARKED: (Call, Answer) = open_refused!(IsMarkedForDestruction);
+
+const OPEN_HANGS: (Call, Answer) = open_refused!(HangsInCreation);
+
+const OPEN_FORBIDDEN: (Call, Answer) = open_refused!(InsufficientPermissions);
+
+const OPEN_FAILS: (Call, Answer) = open_refused!(InternalFailure);
+
+/// One that is granted.
+const OPENED: (Call, Answer) = (Open(2), Granted(0));
+
+/// Creates of node 2 that are refused.
+const CREATE_TOO_LATE: (Call, Answer) = (Create(2), CreateRefused(EventCreateError::AlreadyExists));
+
+const CREATE_HANGS: (Call, Answer) = (Create(2), CreateRefused(EventCreateError::HangsInCreation));
+
+/// What is left of a service that nobody has: its row and its segment.
+macro_rules! left {
+    ($row:expr, $segment:expr) => {
+        ($row, $segment, (NOTHING, NOTHING), 1)
+    };
+}
 
 /// Runs that begin with a create, whose accesses are a look, a count, a tag, a lock, a making and a
 /// publishing.
 const CREATES: &[Run] = &[
-    (&[], &[(Create(1), Granted(0))], (6, 1, 0, 1), SERVICE_OF_1),
-    (&[1], &[CORRUPTED_STATE], (1, 1, 0, 0), NEW),
+    (&[], &[(Create(1), Granted(0))], (6, 1, 0, 1), OF_ONE),
+    (&[1], &[CREATE_CORRUPTED], (1, 1, 0, 0), NEW),
     // a refused count tells of no registration
-    (&[2], &[(Create(1), Granted(0))], (6, 1, 0, 1), SERVICE_OF_1),
-    (&[3], &[INTERNAL_FAILURE], (3, 1, 0, 0), NEW),
-    (&[4], &[INTERNAL_FAILURE], (5, 1, 0, 0), NEW),
-    (&[5], &[INTERNAL_FAILURE], (7, 1, 0, 1), EMPTY),
-    (&[6], &[CORRUPTED_STATE], (9, 1, 0, 1), EMPTY),
+    (&[2], &[(Create(1), Granted(0))], (6, 1, 0, 1), OF_ONE),
+    (&[3], &[CREATE_FAILS], (3, 1, 0, 0), NEW),
+    (&[4], &[CREATE_FAILS], (5, 1, 0, 0), NEW),
+    (&[5], &[CREATE_FAILS], (7, 1, 0, 1), EMPTY),
+    (&[6], &[CREATE_CORRUPTED], (9, 1, 0, 1), EMPTY),
     // the segment isn't removed, and a later create clears it away
     (
         &[6, 7],
-        &[CORRUPTED_STATE],
+        &[CREATE_CORRUPTED],
         (9, 1, 0, 1),
-        (Absent, Some((0, 36, 1, false)), (NOTHING, NOTHING), 1),
+        left!(Absent, Some((0, 36, 1, false))),
     ),
     (
         &[6, 7],
-        &[CORRUPTED_STATE, (Create(1), Granted(1))],
+        &[CREATE_CORRUPTED, (Create(1), Granted(1))],
         (17, 2, 0, 3),
-        LATER_SERVICE,
+        LATER,
     ),
     // the lock isn't removed, and nobody gets past it
     (
         &[6, 8],
-        &[
-            CORRUPTED_STATE,
-            (Open(2), OpenRefused(EventOpenError::HangsInCreation)),
-            (Create(2), CreateRefused(EventCreateError::HangsInCreation)),
-        ],
+        &[CREATE_CORRUPTED, OPEN_HANGS, CREATE_HANGS],
         (13, 3, 0, 1),
-        (Locked(0), None, (NOTHING, NOTHING), 1),
+        left!(Locked(0), None),
     ),
 ];
 
@@ -166,49 +190,41 @@ fn a_create_with_refused_accesses_leaves_what_it_does_not_remove(rt: HostRuntime
 }
 
 /// The create before a close or an open.
-pub const FIRST_CREATE: (Call, Answer) = (Create(1), Granted(0));
+pub const CREATED: (Call, Answer) = (Create(1), Granted(0));
 
 /// Runs that begin with a create and a close, whose accesses are a release and the removals of the tag,
 /// the segment and the description.
 const CLOSES: &[Run] = &[
-    (&[], &[FIRST_CREATE, (Close, Closed)], (10, 1, 0, 1), EMPTY),
+    (&[], &[CREATED, (Close, Closed)], (10, 1, 0, 1), EMPTY),
     (
         &[7],
-        &[FIRST_CREATE, (Close, NotHere), (Close, Closed)],
+        &[CREATED, (Close, NotHere), (Close, Closed)],
         (11, 1, 0, 1),
         EMPTY,
     ),
     // the tag is left, and its node creates the service with it
     (
         &[8],
-        &[FIRST_CREATE, (Close, TagNotRemoved)],
+        &[CREATED, (Close, TagNotRemoved)],
         (10, 1, 0, 1),
         (Absent, None, (TAG, NOTHING), 1),
     ),
     (
         &[8],
-        &[
-            FIRST_CREATE,
-            (Close, TagNotRemoved),
-            (Create(1), Granted(1)),
-        ],
+        &[CREATED, (Close, TagNotRemoved), (Create(1), Granted(1))],
         (16, 2, 0, 2),
-        LATER_SERVICE,
+        LATER,
     ),
     // the segment is left, and a later create clears it away
     (
         &[9],
-        &[FIRST_CREATE, (Close, SegmentNotRemoved)],
+        &[CREATED, (Close, SegmentNotRemoved)],
         (10, 1, 0, 1),
-        (Absent, Some((0, 36, 0, true)), (NOTHING, NOTHING), 1),
+        left!(Absent, Some((0, 36, 0, true))),
     ),
     (
         &[9],
-        &[
-            FIRST_CREATE,
-            (Close, SegmentNotRemoved),
-            (Create(2), Granted(1)),
-        ],
+        &[CREATED, (Close, SegmentNotRemoved), (Create(2), Granted(1))],
         (18, 2, 0, 3),
         (
             Published(1),
@@ -221,31 +237,24 @@ const CLOSES: &[Run] = &[
     (
         &[10],
         &[
-            FIRST_CREATE,
+            CREATED,
             (Close, DescriptionNotRemoved),
-            (
-                Open(2),
-                OpenRefused(EventOpenError::ServiceInCorruptedState),
-            ),
-            (Create(2), CreateRefused(EventCreateError::AlreadyExists)),
+            OPEN_CORRUPTED,
+            CREATE_TOO_LATE,
         ],
         (17, 3, 1, 1),
-        (Published(0), None, (NOTHING, NOTHING), 1),
+        left!(Published(0), None),
     ),
     // the first of two that are left is named
     (
         &[9, 10],
-        &[
-            FIRST_CREATE,
-            (Close, SegmentNotRemoved),
-            (Open(2), OpenRefused(EventOpenError::IsMarkedForDestruction)),
-        ],
+        &[CREATED, (Close, SegmentNotRemoved), OPEN_MARKED],
         (15, 2, 1, 1),
-        (Published(0), Some((0, 36, 0, true)), (NOTHING, NOTHING), 1),
+        left!(Published(0), Some((0, 36, 0, true))),
     ),
     (
         &[8, 10],
-        &[FIRST_CREATE, (Close, TagNotRemoved)],
+        &[CREATED, (Close, TagNotRemoved)],
         (10, 1, 0, 1),
         (Published(0), None, (TAG, NOTHING), 1),
     ),
@@ -259,53 +268,13 @@ fn a_close_with_refused_accesses_names_what_it_leaves(rt: HostRuntime) {
 /// Runs of a create and an open by another node, whose accesses are a look, a fetch, a tag and an
 /// opening.
 const OPENS: &[Run] = &[
-    (
-        &[8],
-        &[
-            FIRST_CREATE,
-            (
-                Open(2),
-                OpenRefused(EventOpenError::InsufficientPermissions),
-            ),
-        ],
-        (8, 2, 0, 1),
-        SERVICE_OF_1,
-    ),
-    (
-        &[9],
-        &[
-            FIRST_CREATE,
-            (Open(2), OpenRefused(EventOpenError::InternalFailure)),
-        ],
-        (9, 2, 0, 1),
-        SERVICE_OF_1,
-    ),
+    (&[8], &[CREATED, OPEN_FORBIDDEN], (8, 2, 0, 1), OF_ONE),
+    (&[9], &[CREATED, OPEN_FAILS], (9, 2, 0, 1), OF_ONE),
     // an opening that fails is tried again, with a tag that is made again or found
-    (
-        &[10],
-        &[FIRST_CREATE, (Open(2), Granted(0))],
-        (17, 4, 2, 1),
-        SERVICE_OF_BOTH,
-    ),
-    (
-        &[10, 13],
-        &[FIRST_CREATE, (Open(2), Granted(0))],
-        (17, 4, 2, 1),
-        SERVICE_OF_BOTH,
-    ),
+    (&[10], &[CREATED, OPENED], (17, 4, 2, 1), OF_BOTH),
+    (&[10, 13], &[CREATED, OPENED], (17, 4, 2, 1), OF_BOTH),
     // but not where the second look fails
-    (
-        &[10, 11],
-        &[
-            FIRST_CREATE,
-            (
-                Open(2),
-                OpenRefused(EventOpenError::ServiceInCorruptedState),
-            ),
-        ],
-        (12, 3, 1, 1),
-        SERVICE_OF_1,
-    ),
+    (&[10, 11], &[CREATED, OPEN_CORRUPTED], (12, 3, 1, 1), OF_ONE),
 ];
 
 #[test]
@@ -316,7 +285,7 @@ fn an_open_with_refused_accesses_leaves_no_tag_of_a_refused_node(rt: HostRuntime
 /// A create where there is no number left.
 const NO_NUMBER: &[Run] = &[(
     &[],
-    &[INTERNAL_FAILURE],
+    &[CREATE_FAILS],
     (5, 1, 0, 0),
     (Absent, None, (NOTHING, NOTHING), u64::MAX),
 )];
@@ -324,10 +293,7 @@ const NO_NUMBER: &[Run] = &[(
 /// A create with the last number, and an open where there is no ticket left.
 const LAST_NUMBER: &[Run] = &[(
     &[],
-    &[
-        (Create(1), Granted(u64::MAX - 1)),
-        (Open(2), OpenRefused(EventOpenError::InternalFailure)),
-    ],
+    &[(Create(1), Granted(u64::MAX - 1)), OPEN_FAILS],
     (11, 2, 1, 1),
     (
         Published(u64::MAX - 1),

@@ -124,14 +124,44 @@ fn counters_of(
     (script.looks(), script.openings(), script.makings())
 }
 
-/// Answers that are left.
-type Left = &'static [AccessAnswer];
+/// Scripts, the counters of a call of each, and the answers that it leaves.
+type Scripts = &'static [(Parts, Counters, &'static [AccessAnswer])];
 
-/// The answers to a create that finds nothing.
+/// Ends a test where a call doesn't answer this over each of these scripts, or not by as many accesses.
+fn assert_scripts(rt: &impl Abort, alloc: Global, asked: (Call, Answer), scripts: Scripts) {
+    for (row, &(parts, counters, left)) in scripts.iter().enumerate() {
+        let found = counters_of(rt, alloc, parts, asked, left);
+        assert_same(rt, (row, found), (row, counters));
+    }
+}
+
+/// The answers to a look that finds nothing, to one that finds the service, and to a create that finds
+/// nothing.
+const NOTHING: &[AccessAnswer] = &[Exists(Existence::No)];
+
+const SERVICE: &[AccessAnswer] = &[Exists(Existence::Yes), Fetch(Ok((3, COMPATIBLE)))];
+
 const NO_SERVICE: &[AccessAnswer] = &[Exists(Existence::No), Counts(false)];
 
+/// Looks that find another description than the service's.
+const BROKEN: &[AccessAnswer] = &[Exists(Existence::Yes), Fetch(Ok((3, DAMAGED)))];
+
+const OTHER: &[AccessAnswer] = &[Exists(Existence::Yes), Fetch(Ok((3, OTHER_HASH)))];
+
+const ANOTHER: &[AccessAnswer] = &[Exists(Existence::Yes), Fetch(Ok((3, OTHER_PATTERN)))];
+
+/// A look and a lock that stands where another answer is asked for.
+const WRONG: &[AccessAnswer] = &[Exists(Existence::No), Lock(1)];
+
+/// A tag and a lock.
+const LOCKED: &[AccessAnswer] = &[MakeTag(Tag::Made), Lock(5)];
+
+const LOCKED_BY_0: &[AccessAnswer] = &[MakeTag(Tag::Made), Lock(0)];
+
+const LOCKED_AGAIN: &[AccessAnswer] = &[MakeTag(Tag::Found), Lock(5)];
+
 /// A segment that is made for a description that isn't published, and what is removed then.
-const FAILED_PUBLISHING: &[AccessAnswer] = &[
+const UNPUBLISHED: &[AccessAnswer] = &[
     MakeSegment(Ok(())),
     Publish(Err(PublishError::Other)),
     RemoveSegment,
@@ -139,365 +169,205 @@ const FAILED_PUBLISHING: &[AccessAnswer] = &[
     RemoveTag,
 ];
 
-/// A segment of another that is in the way, and that is cleared away.
-const CLEARING: &[AccessAnswer] = &[
-    MakeSegment(Err(MakeSegmentError::AlreadyExists)),
-    RemoveSegment,
-];
+/// A segment of another that is in the way.
+const IN_THE_WAY: AccessAnswer = MakeSegment(Err(MakeSegmentError::AlreadyExists));
 
-/// One that stays in the way.
-const IN_THE_WAY: &[AccessAnswer] = &[
-    MakeSegment(Err(MakeSegmentError::AlreadyExists)),
+/// Five that are cleared away, and a sixth that is not.
+const SIX_SEGMENTS: &[AccessAnswer] = &[
+    IN_THE_WAY,
+    RemoveSegment,
+    IN_THE_WAY,
+    RemoveSegment,
+    IN_THE_WAY,
+    RemoveSegment,
+    IN_THE_WAY,
+    RemoveSegment,
+    IN_THE_WAY,
+    RemoveSegment,
+    IN_THE_WAY,
     RemoveDescription,
     RemoveTag,
 ];
 
-/// Scripts, why a create is refused over them, their counters, and the answers that are left
-/// in them.
-const CREATES: &[(Parts, EventCreateError, Counters, Left)] = &[
-    // no answer at all
+/// Why creates are refused over scripts.
+const CREATES: &[(EventCreateError, Scripts)] = &[
     (
-        &[],
         EventCreateError::ServiceInCorruptedState,
-        (1, 0, 0),
-        &[],
-    ),
-    // a tag that the create made is removed, and one that it found is not
-    (
         &[
-            NO_SERVICE,
-            &[MakeTag(Tag::Made), Lock(5)],
-            FAILED_PUBLISHING,
+            // no answer at all
+            (&[], (1, 0, 0), &[]),
+            // a tag that the create made is removed, and one that it found is not
+            (&[NO_SERVICE, LOCKED, UNPUBLISHED], (1, 0, 1), &[]),
+            (
+                &[NO_SERVICE, LOCKED_AGAIN, UNPUBLISHED],
+                (1, 0, 1),
+                &[RemoveTag],
+            ),
+            // five segments are cleared away, and a sixth is not
+            (&[NO_SERVICE, LOCKED_BY_0, SIX_SEGMENTS], (1, 0, 6), &[]),
         ],
-        EventCreateError::ServiceInCorruptedState,
-        (1, 0, 1),
-        &[],
-    ),
-    (
-        &[
-            NO_SERVICE,
-            &[MakeTag(Tag::Found), Lock(5)],
-            FAILED_PUBLISHING,
-        ],
-        EventCreateError::ServiceInCorruptedState,
-        (1, 0, 1),
-        &[RemoveTag],
-    ),
-    // five segments are cleared away, and a sixth is not
-    (
-        &[
-            NO_SERVICE,
-            &[MakeTag(Tag::Made), Lock(0)],
-            CLEARING,
-            CLEARING,
-            CLEARING,
-            CLEARING,
-            CLEARING,
-            IN_THE_WAY,
-        ],
-        EventCreateError::ServiceInCorruptedState,
-        (1, 0, 6),
-        &[],
     ),
     // a service of another pattern is there
     (
-        &[&[Exists(Existence::Yes), Fetch(Ok((3, OTHER_PATTERN)))]],
         EventCreateError::AlreadyExists,
-        (1, 0, 0),
-        &[],
+        &[(&[ANOTHER], (1, 0, 0), &[])],
     ),
     // the tag finds another answer in front
     (
-        &[&[Exists(Existence::No), Lock(1)]],
         EventCreateError::InternalFailure,
-        (1, 0, 0),
-        &[Lock(1)],
+        &[(&[WRONG], (1, 0, 0), &[Lock(1)])],
     ),
 ];
 
 #[test]
 fn creates_are_refused_over_scripts(rt: HostRuntime) {
-    for (row, &(parts, error, counters, left)) in CREATES.iter().enumerate() {
-        let answer = Answer::CreateRefused(error);
-        let found = counters_of(&rt, rt.alloc(), parts, (Call::Create(1), answer), left);
-        assert_same(&rt, (row, found), (row, counters));
+    for &(error, scripts) in CREATES {
+        let asked = (Call::Create(1), Answer::CreateRefused(error));
+        assert_scripts(&rt, rt.alloc(), asked, scripts);
     }
 }
 
 /// A round up to an opening that fails.
-const FAILED_OPENING: &[AccessAnswer] = &[
+const UNOPENED: &[AccessAnswer] = &[
     Exists(Existence::Yes),
     Fetch(Ok((3, COMPATIBLE))),
     MakeTag(Tag::Made),
     OpenSegment(Err(OpenSegmentError::Failed)),
 ];
 
-/// The rest of a round whose service is replaced by another of the same description.
-const REPLACEMENT: &[AccessAnswer] = &[
+/// The rest of a round whose service is gone, or damaged, or replaced by another of the same description.
+const GONE: &[AccessAnswer] = &[Exists(Existence::No), RemoveTag];
+
+const BROKEN_THEN: &[AccessAnswer] = &[Exists(Existence::Yes), Fetch(Ok((3, DAMAGED))), RemoveTag];
+
+const REPLACED: &[AccessAnswer] = &[
     Exists(Existence::Yes),
     Fetch(Ok((4, COMPATIBLE))),
     RemoveTag,
 ];
 
-/// Scripts, why an open is refused over them, their counters, and the answers that are left
-/// in them.
-const OPENS: &[(Parts, EventOpenError, Counters, Left)] = &[
-    // no answer at all
-    (&[], EventOpenError::ServiceInCorruptedState, (1, 0, 0), &[]),
+/// A service that goes before it is read.
+const UNREAD: &[AccessAnswer] = &[Exists(Existence::Yes), Fetch(Err(FetchError::DoesNotExist))];
+
+/// Why opens are refused over scripts.
+const OPENS: &[(EventOpenError, Scripts)] = &[
+    (
+        EventOpenError::ServiceInCorruptedState,
+        &[
+            // no answer at all
+            (&[], (1, 0, 0), &[]),
+            // bytes that are damaged, at the first look and at the second
+            (&[BROKEN], (1, 0, 0), &[]),
+            (&[UNOPENED, BROKEN_THEN], (2, 1, 0), &[]),
+            // the description of another hash
+            (&[OTHER], (1, 0, 0), &[]),
+            // a service that is replaced in each of the six rounds
+            (
+                &[
+                    UNOPENED, REPLACED, UNOPENED, REPLACED, UNOPENED, REPLACED, UNOPENED, REPLACED,
+                    UNOPENED, REPLACED, UNOPENED, REPLACED,
+                ],
+                (12, 6, 0),
+                &[],
+            ),
+        ],
+    ),
     // a service that goes before it is read, and one that goes before it is opened
     (
-        &[&[Exists(Existence::Yes), Fetch(Err(FetchError::DoesNotExist))]],
         EventOpenError::DoesNotExist,
-        (1, 0, 0),
-        &[],
-    ),
-    (
-        &[FAILED_OPENING, &[Exists(Existence::No), RemoveTag]],
-        EventOpenError::DoesNotExist,
-        (2, 1, 0),
-        &[],
-    ),
-    // bytes that are damaged, at the first look and at the second
-    (
-        &[&[Exists(Existence::Yes), Fetch(Ok((3, DAMAGED)))]],
-        EventOpenError::ServiceInCorruptedState,
-        (1, 0, 0),
-        &[],
-    ),
-    (
         &[
-            FAILED_OPENING,
-            &[Exists(Existence::Yes), Fetch(Ok((3, DAMAGED))), RemoveTag],
+            (&[UNREAD], (1, 0, 0), &[]),
+            (&[UNOPENED, GONE], (2, 1, 0), &[]),
         ],
-        EventOpenError::ServiceInCorruptedState,
-        (2, 1, 0),
-        &[],
     ),
-    // the description of another hash, and of another pattern
+    // the description of another pattern
     (
-        &[&[Exists(Existence::Yes), Fetch(Ok((3, OTHER_HASH)))]],
-        EventOpenError::ServiceInCorruptedState,
-        (1, 0, 0),
-        &[],
-    ),
-    (
-        &[&[Exists(Existence::Yes), Fetch(Ok((3, OTHER_PATTERN)))]],
         EventOpenError::IncompatibleMessagingPattern,
-        (1, 0, 0),
-        &[],
-    ),
-    // a service that is replaced in each of the six rounds
-    (
-        &[
-            FAILED_OPENING,
-            REPLACEMENT,
-            FAILED_OPENING,
-            REPLACEMENT,
-            FAILED_OPENING,
-            REPLACEMENT,
-            FAILED_OPENING,
-            REPLACEMENT,
-            FAILED_OPENING,
-            REPLACEMENT,
-            FAILED_OPENING,
-            REPLACEMENT,
-        ],
-        EventOpenError::ServiceInCorruptedState,
-        (12, 6, 0),
-        &[],
+        &[(&[ANOTHER], (1, 0, 0), &[])],
     ),
 ];
 
 #[test]
 fn opens_are_refused_over_scripts(rt: HostRuntime) {
-    for (row, &(parts, error, counters, left)) in OPENS.iter().enumerate() {
-        let answer = Answer::OpenRefused(error);
-        let found = counters_of(&rt, rt.alloc(), parts, (Call::Open(1), answer), left);
-        assert_same(&rt, (row, found), (row, counters));
+    for &(error, scripts) in OPENS {
+        let asked = (Call::Open(1), Answer::OpenRefused(error));
+        assert_scripts(&rt, rt.alloc(), asked, scripts);
     }
 }
 
-/// A round's look that finds nothing, and one that finds the service.
-const NOTHING_THERE: &[AccessAnswer] = &[Exists(Existence::No)];
+/// The rest of a round whose service's segment isn't opened.
+macro_rules! unopened {
+    ($error:ident) => {
+        &[MakeTag(Tag::Made), OpenSegment(Err(OpenSegmentError::$error)), RemoveTag]
+    };
+}
 
-const SERVICE_THERE: &[AccessAnswer] = &[Exists(Existence::Yes), Fetch(Ok((3, COMPATIBLE)))];
+const NO_SEGMENT: &[AccessAnswer] = unopened!(DoesNotExist);
 
-/// A round's look that finds a service of another pattern, by which the call ends.
-const ANOTHER_THERE: &[AccessAnswer] = &[Exists(Existence::Yes), Fetch(Ok((3, OTHER_PATTERN)))];
+const MARKED: &[AccessAnswer] = unopened!(Marked);
 
-/// Scripts, why an open or create is refused over them, their counters, and the answers that are
-/// left in them. A round that is retried is followed by one that finds a service of another pattern.
-const ROUNDS: &[(Parts, Answer, Counters, Left)] = &[
+const FULL: &[AccessAnswer] = unopened!(Full);
+
+/// A node that is registered though there is no service.
+const COUNTED: &[AccessAnswer] = &[Exists(Existence::No), Counts(true)];
+
+/// Why opens or creates are refused over scripts. A round that is retried is followed by one that finds a
+/// service of another pattern.
+const ROUNDS: &[(Answer, Scripts)] = &[
     // the look of a round is not tried again
     (
-        &[],
         Answer::OpenRefused(EventOpenError::ServiceInCorruptedState),
-        (1, 0, 0),
-        &[],
-    ),
-    (
-        &[&[Exists(Existence::Yes), Fetch(Ok((3, DAMAGED)))]],
-        Answer::OpenRefused(EventOpenError::ServiceInCorruptedState),
-        (1, 0, 0),
-        &[],
-    ),
-    (
-        &[&[Exists(Existence::Yes), Fetch(Ok((3, OTHER_HASH)))]],
-        Answer::OpenRefused(EventOpenError::ServiceInCorruptedState),
-        (1, 0, 0),
-        &[],
-    ),
-    (
-        &[&[Exists(Existence::Yes), Fetch(Ok((3, OTHER_PATTERN)))]],
-        Answer::OpenRefused(EventOpenError::IncompatibleMessagingPattern),
-        (1, 0, 0),
-        &[],
-    ),
-    // a create in a round gives back what it made, before the next round
-    (
         &[
-            NOTHING_THERE,
-            NO_SERVICE,
-            &[MakeTag(Tag::Made), Lock(5)],
-            FAILED_PUBLISHING,
-            ANOTHER_THERE,
+            (&[], (1, 0, 0), &[]),
+            (&[BROKEN], (1, 0, 0), &[]),
+            (&[OTHER], (1, 0, 0), &[]),
         ],
-        Answer::OpenRefused(EventOpenError::IncompatibleMessagingPattern),
-        (3, 0, 1),
-        &[],
     ),
     (
+        Answer::OpenRefused(EventOpenError::IncompatibleMessagingPattern),
         &[
-            NOTHING_THERE,
-            NO_SERVICE,
-            &[MakeTag(Tag::Made), Lock(0)],
-            CLEARING,
-            CLEARING,
-            CLEARING,
-            CLEARING,
-            CLEARING,
-            IN_THE_WAY,
-            ANOTHER_THERE,
+            (&[ANOTHER], (1, 0, 0), &[]),
+            // a create in a round gives back what it made, before the next round
+            (
+                &[NOTHING, NO_SERVICE, LOCKED, UNPUBLISHED, ANOTHER],
+                (3, 0, 1),
+                &[],
+            ),
+            (
+                &[NOTHING, NO_SERVICE, LOCKED_BY_0, SIX_SEGMENTS, ANOTHER],
+                (3, 0, 6),
+                &[],
+            ),
+            // one finds what the round's look didn't
+            (&[NOTHING, SERVICE, ANOTHER], (3, 0, 0), &[]),
+            // or a node that is registered though there is no service
+            (&[NOTHING, COUNTED, ANOTHER], (3, 0, 0), &[]),
+            // an open does not find the service any more, at its first look or behind an opening
+            (&[SERVICE, NOTHING, ANOTHER], (3, 0, 0), &[]),
+            (&[SERVICE, UNOPENED, GONE, ANOTHER], (4, 1, 0), &[]),
+            // or finds it damaged
+            (&[SERVICE, UNOPENED, BROKEN_THEN, ANOTHER], (4, 1, 0), &[]),
+            // or without a segment, or marked
+            (&[SERVICE, SERVICE, NO_SEGMENT, ANOTHER], (3, 1, 0), &[]),
+            (&[SERVICE, SERVICE, MARKED, ANOTHER], (3, 1, 0), &[]),
         ],
-        Answer::OpenRefused(EventOpenError::IncompatibleMessagingPattern),
-        (3, 0, 6),
-        &[],
-    ),
-    // one finds what the round's look didn't
-    (
-        &[NOTHING_THERE, SERVICE_THERE, ANOTHER_THERE],
-        Answer::OpenRefused(EventOpenError::IncompatibleMessagingPattern),
-        (3, 0, 0),
-        &[],
-    ),
-    // or a node that is registered though there is no service
-    (
-        &[
-            NOTHING_THERE,
-            &[Exists(Existence::No), Counts(true)],
-            ANOTHER_THERE,
-        ],
-        Answer::OpenRefused(EventOpenError::IncompatibleMessagingPattern),
-        (3, 0, 0),
-        &[],
     ),
     // but what the storage fails at ends the call
     (
-        &[NOTHING_THERE, &[Exists(Existence::No), Lock(1)]],
         Answer::CreateRefused(EventCreateError::InternalFailure),
-        (2, 0, 0),
-        &[Lock(1)],
+        &[(&[NOTHING, WRONG], (2, 0, 0), &[Lock(1)])],
     ),
-    // an open does not find the service any more, at its first look or behind an opening
+    // and a full segment does, and the next answers are left
     (
-        &[SERVICE_THERE, NOTHING_THERE, ANOTHER_THERE],
-        Answer::OpenRefused(EventOpenError::IncompatibleMessagingPattern),
-        (3, 0, 0),
-        &[],
-    ),
-    (
-        &[
-            SERVICE_THERE,
-            FAILED_OPENING,
-            &[Exists(Existence::No), RemoveTag],
-            ANOTHER_THERE,
-        ],
-        Answer::OpenRefused(EventOpenError::IncompatibleMessagingPattern),
-        (4, 1, 0),
-        &[],
-    ),
-    // or finds it damaged
-    (
-        &[
-            SERVICE_THERE,
-            FAILED_OPENING,
-            &[Exists(Existence::Yes), Fetch(Ok((3, DAMAGED))), RemoveTag],
-            ANOTHER_THERE,
-        ],
-        Answer::OpenRefused(EventOpenError::IncompatibleMessagingPattern),
-        (4, 1, 0),
-        &[],
-    ),
-    // or without a segment, or marked
-    (
-        &[
-            SERVICE_THERE,
-            SERVICE_THERE,
-            &[
-                MakeTag(Tag::Made),
-                OpenSegment(Err(OpenSegmentError::DoesNotExist)),
-                RemoveTag,
-            ],
-            ANOTHER_THERE,
-        ],
-        Answer::OpenRefused(EventOpenError::IncompatibleMessagingPattern),
-        (3, 1, 0),
-        &[],
-    ),
-    (
-        &[
-            SERVICE_THERE,
-            SERVICE_THERE,
-            &[
-                MakeTag(Tag::Made),
-                OpenSegment(Err(OpenSegmentError::Marked)),
-                RemoveTag,
-            ],
-            ANOTHER_THERE,
-        ],
-        Answer::OpenRefused(EventOpenError::IncompatibleMessagingPattern),
-        (3, 1, 0),
-        &[],
-    ),
-    // but not full: that ends the call, and the next answers are left
-    (
-        &[
-            SERVICE_THERE,
-            SERVICE_THERE,
-            &[
-                MakeTag(Tag::Made),
-                OpenSegment(Err(OpenSegmentError::Full)),
-                RemoveTag,
-            ],
-            ANOTHER_THERE,
-        ],
         Answer::OpenRefused(EventOpenError::ExceedsMaxNumberOfNodes),
-        (2, 1, 0),
-        ANOTHER_THERE,
+        &[(&[SERVICE, SERVICE, FULL, ANOTHER], (2, 1, 0), ANOTHER)],
     ),
 ];
 
 #[test]
 fn rounds_are_refused_over_scripts(rt: HostRuntime) {
-    for (row, &(parts, answer, counters, left)) in ROUNDS.iter().enumerate() {
-        let found = counters_of(
-            &rt,
-            rt.alloc(),
-            parts,
-            (Call::OpenOrCreate(1), answer),
-            left,
-        );
-        assert_same(&rt, (row, found), (row, counters));
+    for &(answer, scripts) in ROUNDS {
+        assert_scripts(&rt, rt.alloc(), (Call::OpenOrCreate(1), answer), scripts);
     }
 }
 

@@ -65,11 +65,11 @@ fn abandon<S: Service>(held: Option<PortFactory<S>>) {
     }
 }
 
+/// What a call answers, and what it gives.
+type Outcome<S> = (Answer, Option<PortFactory<S>>);
+
 /// What a create at time zero answers and gives.
-fn create<S: Service>(
-    builder: Builder<S>,
-    storage: &mut S::Storage,
-) -> (Answer, Option<PortFactory<S>>) {
+fn create<S: Service>(builder: Builder<S>, storage: &mut S::Storage) -> Outcome<S> {
     match builder.create(storage, Ok(Time::default())) {
         Ok(factory) => (Answer::Granted(factory.number()), Some(factory)),
         Err(error) => (Answer::CreateRefused(error), None),
@@ -77,10 +77,7 @@ fn create<S: Service>(
 }
 
 /// What an open answers and gives.
-pub fn open<S: Service>(
-    builder: Builder<S>,
-    storage: &mut S::Storage,
-) -> (Answer, Option<PortFactory<S>>) {
+pub fn open<S: Service>(builder: Builder<S>, storage: &mut S::Storage) -> Outcome<S> {
     match builder.open(storage) {
         Ok(factory) => (Answer::Granted(factory.number()), Some(factory)),
         Err(error) => (Answer::OpenRefused(error), None),
@@ -97,10 +94,7 @@ fn refused(error: EventOpenOrCreateError) -> Answer {
 }
 
 /// What an open or create at time zero answers and gives.
-fn open_or_create<S: Service>(
-    builder: Builder<S>,
-    storage: &mut S::Storage,
-) -> (Answer, Option<PortFactory<S>>) {
+fn open_or_create<S: Service>(builder: Builder<S>, storage: &mut S::Storage) -> Outcome<S> {
     match builder.open_or_create(storage, Ok(Time::default())) {
         Ok(factory) => (Answer::Granted(factory.number()), Some(factory)),
         Err(error) => (refused(error), None),
@@ -112,7 +106,7 @@ fn close<S: Service>(
     rt: &impl Abort,
     held: Option<PortFactory<S>>,
     storage: &mut S::Storage,
-) -> (Answer, Option<PortFactory<S>>) {
+) -> Outcome<S> {
     let factory = match held {
         Some(factory) => factory,
         None => panic!(rt; "nothing to close"),
@@ -133,7 +127,7 @@ fn carry_out<S: Service>(
     held: Option<PortFactory<S>>,
     storage: &mut S::Storage,
     call: Call,
-) -> (Answer, Option<PortFactory<S>>) {
+) -> Outcome<S> {
     match call {
         Call::Create(node) => {
             abandon(held);
