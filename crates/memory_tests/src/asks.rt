@@ -6,16 +6,13 @@ use iceoryx2_attribute::attribute::{AttributeSpecifier, AttributeVerifier};
 use iceoryx2_builder::builder::{self, Node, event, publish_subscribe, request_response};
 use iceoryx2_description::config::Config;
 use iceoryx2_description::time::Time;
-use iceoryx2_errors::error::{
-    EventCreateError, EventOpenError, EventOpenOrCreateError, PublishSubscribeCreateError,
-    PublishSubscribeOpenError, PublishSubscribeOpenOrCreateError, RequestResponseCreateError,
-    RequestResponseOpenError, RequestResponseOpenOrCreateError,
-};
 use iceoryx2_script::script::{Faulty, FaultyService};
 use iceoryx2_table::local::Local;
 use iceoryx2_table::table::Table;
 use iceoryx2_types::types::ZeroCopySend;
 use std::alloc::Global;
+use test_support::calls::{Ask, Called, Calls};
+use test_support::refusals::{By, Said, Word, said};
 
 /// A table whose accesses are counted, of which chosen ones are refused.
 pub type Counted = Faulty<Table>;
@@ -44,62 +41,76 @@ pub enum Told {
     Other,
 }
 
+/// What a refusal tells.
+pub fn told_by((_, by, word): Said) -> Told {
+    match (by, word) {
+        (By::Open, Word::OutOfMemory) => Told::OpenOutOfMemory,
+        (By::Create, Word::OutOfMemory) => Told::CreateOutOfMemory,
+        (By::Open, Word::IncompatibleAttributes) => Told::IncompatibleAttributes,
+        (By::Open, Word::DoesNotSupportRequestedAmountOfNodes) => Told::TooFewNodes,
+        (By::Open, Word::ExceedsMaxNumberOfNodes) => Told::Full,
+        (By::Open, Word::DoesNotExist) => Told::DoesNotExist,
+        (By::Create, Word::AlreadyExists) => Told::AlreadyExists,
+        (_, Word::ServiceInCorruptedState) => Told::ServiceInCorruptedState,
+        (_, Word::InternalFailure) => Told::InternalFailure,
+        _ => Told::Other,
+    }
+}
+
+/// What a call answers. What it gives is let go, and its ticket stays.
+fn told(called: Called) -> Told {
+    match called {
+        Ok(registration) => {
+            registration.abandon();
+            Told::Granted
+        }
+        Err(refusal) => {
+            let (_, said) = said(refusal);
+            told_by(said)
+        }
+    }
+}
+
 /// A builder of some pattern over a counted table.
-pub trait Asks: Drop {
+pub trait Asks: Calls<Over> {
     /// The builder of a node for a service of this name.
     fn builder(alloc: Global, node: u64, text: &str) -> Result<Self, Wrong>;
 
     /// The same builder for this number of nodes.
     fn for_nodes(self, nodes: u64) -> Self;
+}
 
-    /// What a create answers. What it gives is let go, and its ticket stays.
-    fn create(self, specifier: Option<&AttributeSpecifier>, storage: &mut Counted) -> Told;
+/// What a builder's create answers.
+pub fn create<A: Asks>(
+    builder: A,
+    specifier: Option<&AttributeSpecifier>,
+    storage: &mut Counted,
+) -> Told {
+    told(builder.call(Ask::Create(specifier), Ok(Time::default()), storage))
+}
 
-    /// What an open answers.
-    fn open(self, verifier: Option<&AttributeVerifier>, storage: &mut Counted) -> Told;
+/// What its open answers.
+pub fn open<A: Asks>(
+    builder: A,
+    verifier: Option<&AttributeVerifier>,
+    storage: &mut Counted,
+) -> Told {
+    told(builder.call(Ask::Open(verifier), Ok(Time::default()), storage))
+}
 
-    /// What an open or create answers.
-    fn open_or_create(self, verifier: Option<&AttributeVerifier>, storage: &mut Counted) -> Told;
+/// What its open or create answers.
+pub fn open_or_create<A: Asks>(
+    builder: A,
+    verifier: Option<&AttributeVerifier>,
+    storage: &mut Counted,
+) -> Told {
+    told(builder.call(Ask::OpenOrCreate(verifier), Ok(Time::default()), storage))
 }
 
 /// Where a builder begins.
 fn beginning(alloc: Global, node: u64, text: &str) -> Result<builder::Builder<Over>, Wrong> {
     let node = Node::<Over>::new(node, Config::default());
     Ok(node.service_builder(samples::name(alloc, text)?))
-}
-
-/// What a create of events answers that is refused.
-pub fn of_event_create(error: EventCreateError) -> Told {
-    match error {
-        EventCreateError::OutOfMemory => Told::CreateOutOfMemory,
-        EventCreateError::AlreadyExists => Told::AlreadyExists,
-        EventCreateError::ServiceInCorruptedState => Told::ServiceInCorruptedState,
-        EventCreateError::InternalFailure => Told::InternalFailure,
-        _ => Told::Other,
-    }
-}
-
-/// What an open of events answers that is refused.
-pub fn of_event_open(error: EventOpenError) -> Told {
-    match error {
-        EventOpenError::OutOfMemory => Told::OpenOutOfMemory,
-        EventOpenError::DoesNotExist => Told::DoesNotExist,
-        EventOpenError::IncompatibleAttributes => Told::IncompatibleAttributes,
-        EventOpenError::DoesNotSupportRequestedAmountOfNodes => Told::TooFewNodes,
-        EventOpenError::ExceedsMaxNumberOfNodes => Told::Full,
-        EventOpenError::ServiceInCorruptedState => Told::ServiceInCorruptedState,
-        EventOpenError::InternalFailure => Told::InternalFailure,
-        _ => Told::Other,
-    }
-}
-
-/// What an open or create of events answers that is refused.
-pub fn of_event_open_or_create(error: EventOpenOrCreateError) -> Told {
-    match error {
-        EventOpenOrCreateError::EventOpenError(why) => of_event_open(why),
-        EventOpenOrCreateError::EventCreateError(why) => of_event_create(why),
-        EventOpenOrCreateError::SystemInFlux => Told::Other,
-    }
 }
 
 impl Asks for event::Builder<Over> {
@@ -109,88 +120,6 @@ impl Asks for event::Builder<Over> {
 
     fn for_nodes(self, nodes: u64) -> Self {
         self.max_nodes(nodes)
-    }
-
-    fn create(self, specifier: Option<&AttributeSpecifier>, storage: &mut Counted) -> Told {
-        let now = Ok(Time::default());
-        let answer = match specifier {
-            Some(specifier) => self.create_with_attributes(specifier, storage, now),
-            None => self.create(storage, now),
-        };
-        match answer {
-            Ok(factory) => {
-                factory.abandon();
-                Told::Granted
-            }
-            Err(error) => of_event_create(error),
-        }
-    }
-
-    fn open(self, verifier: Option<&AttributeVerifier>, storage: &mut Counted) -> Told {
-        let answer = match verifier {
-            Some(verifier) => self.open_with_attributes(verifier, storage),
-            None => self.open(storage),
-        };
-        match answer {
-            Ok(factory) => {
-                factory.abandon();
-                Told::Granted
-            }
-            Err(error) => of_event_open(error),
-        }
-    }
-
-    fn open_or_create(self, verifier: Option<&AttributeVerifier>, storage: &mut Counted) -> Told {
-        let now = Ok(Time::default());
-        let answer = match verifier {
-            Some(verifier) => self.open_or_create_with_attributes(verifier, storage, now),
-            None => self.open_or_create(storage, now),
-        };
-        match answer {
-            Ok(factory) => {
-                factory.abandon();
-                Told::Granted
-            }
-            Err(error) => of_event_open_or_create(error),
-        }
-    }
-}
-
-/// What a create of publish-subscribe answers that is refused.
-pub fn of_publish_subscribe_create(error: PublishSubscribeCreateError) -> Told {
-    match error {
-        PublishSubscribeCreateError::OutOfMemory => Told::CreateOutOfMemory,
-        PublishSubscribeCreateError::AlreadyExists => Told::AlreadyExists,
-        PublishSubscribeCreateError::ServiceInCorruptedState => Told::ServiceInCorruptedState,
-        PublishSubscribeCreateError::InternalFailure => Told::InternalFailure,
-        _ => Told::Other,
-    }
-}
-
-/// What an open of publish-subscribe answers that is refused.
-pub fn of_publish_subscribe_open(error: PublishSubscribeOpenError) -> Told {
-    match error {
-        PublishSubscribeOpenError::OutOfMemory => Told::OpenOutOfMemory,
-        PublishSubscribeOpenError::DoesNotExist => Told::DoesNotExist,
-        PublishSubscribeOpenError::IncompatibleAttributes => Told::IncompatibleAttributes,
-        PublishSubscribeOpenError::DoesNotSupportRequestedAmountOfNodes => Told::TooFewNodes,
-        PublishSubscribeOpenError::ExceedsMaxNumberOfNodes => Told::Full,
-        PublishSubscribeOpenError::ServiceInCorruptedState => Told::ServiceInCorruptedState,
-        PublishSubscribeOpenError::InternalFailure => Told::InternalFailure,
-        _ => Told::Other,
-    }
-}
-
-/// What an open or create of publish-subscribe answers that is refused.
-pub fn of_publish_subscribe_open_or_create(error: PublishSubscribeOpenOrCreateError) -> Told {
-    match error {
-        PublishSubscribeOpenOrCreateError::PublishSubscribeOpenError(why) => {
-            of_publish_subscribe_open(why)
-        }
-        PublishSubscribeOpenOrCreateError::PublishSubscribeCreateError(why) => {
-            of_publish_subscribe_create(why)
-        }
-        PublishSubscribeOpenOrCreateError::SystemInFlux => Told::Other,
     }
 }
 
@@ -202,86 +131,6 @@ impl<P: ZeroCopySend, U: ZeroCopySend> Asks for publish_subscribe::Builder<P, U,
 
     fn for_nodes(self, nodes: u64) -> Self {
         self.max_nodes(nodes)
-    }
-
-    fn create(self, specifier: Option<&AttributeSpecifier>, storage: &mut Counted) -> Told {
-        let answer = match specifier {
-            Some(specifier) => self.create_with_attributes(specifier, storage),
-            None => self.create(storage),
-        };
-        match answer {
-            Ok(factory) => {
-                factory.abandon();
-                Told::Granted
-            }
-            Err(error) => of_publish_subscribe_create(error),
-        }
-    }
-
-    fn open(self, verifier: Option<&AttributeVerifier>, storage: &mut Counted) -> Told {
-        let answer = match verifier {
-            Some(verifier) => self.open_with_attributes(verifier, storage),
-            None => self.open(storage),
-        };
-        match answer {
-            Ok(factory) => {
-                factory.abandon();
-                Told::Granted
-            }
-            Err(error) => of_publish_subscribe_open(error),
-        }
-    }
-
-    fn open_or_create(self, verifier: Option<&AttributeVerifier>, storage: &mut Counted) -> Told {
-        let answer = match verifier {
-            Some(verifier) => self.open_or_create_with_attributes(verifier, storage),
-            None => self.open_or_create(storage),
-        };
-        match answer {
-            Ok(factory) => {
-                factory.abandon();
-                Told::Granted
-            }
-            Err(error) => of_publish_subscribe_open_or_create(error),
-        }
-    }
-}
-
-/// What a create of request-response answers that is refused.
-pub fn of_request_response_create(error: RequestResponseCreateError) -> Told {
-    match error {
-        RequestResponseCreateError::OutOfMemory => Told::CreateOutOfMemory,
-        RequestResponseCreateError::AlreadyExists => Told::AlreadyExists,
-        RequestResponseCreateError::ServiceInCorruptedState => Told::ServiceInCorruptedState,
-        RequestResponseCreateError::InternalFailure => Told::InternalFailure,
-        _ => Told::Other,
-    }
-}
-
-/// What an open of request-response answers that is refused.
-pub fn of_request_response_open(error: RequestResponseOpenError) -> Told {
-    match error {
-        RequestResponseOpenError::OutOfMemory => Told::OpenOutOfMemory,
-        RequestResponseOpenError::DoesNotExist => Told::DoesNotExist,
-        RequestResponseOpenError::IncompatibleAttributes => Told::IncompatibleAttributes,
-        RequestResponseOpenError::DoesNotSupportRequestedAmountOfNodes => Told::TooFewNodes,
-        RequestResponseOpenError::ExceedsMaxNumberOfNodes => Told::Full,
-        RequestResponseOpenError::ServiceInCorruptedState => Told::ServiceInCorruptedState,
-        RequestResponseOpenError::InternalFailure => Told::InternalFailure,
-        _ => Told::Other,
-    }
-}
-
-/// What an open or create of request-response answers that is refused.
-pub fn of_request_response_open_or_create(error: RequestResponseOpenOrCreateError) -> Told {
-    match error {
-        RequestResponseOpenOrCreateError::RequestResponseOpenError(why) => {
-            of_request_response_open(why)
-        }
-        RequestResponseOpenOrCreateError::RequestResponseCreateError(why) => {
-            of_request_response_create(why)
-        }
-        RequestResponseOpenOrCreateError::SystemInFlux => Told::Other,
     }
 }
 
@@ -298,47 +147,5 @@ impl<Q: ZeroCopySend, QU: ZeroCopySend, R: ZeroCopySend, RU: ZeroCopySend> Asks
 
     fn for_nodes(self, nodes: u64) -> Self {
         self.max_nodes(nodes)
-    }
-
-    fn create(self, specifier: Option<&AttributeSpecifier>, storage: &mut Counted) -> Told {
-        let answer = match specifier {
-            Some(specifier) => self.create_with_attributes(specifier, storage),
-            None => self.create(storage),
-        };
-        match answer {
-            Ok(factory) => {
-                factory.abandon();
-                Told::Granted
-            }
-            Err(error) => of_request_response_create(error),
-        }
-    }
-
-    fn open(self, verifier: Option<&AttributeVerifier>, storage: &mut Counted) -> Told {
-        let answer = match verifier {
-            Some(verifier) => self.open_with_attributes(verifier, storage),
-            None => self.open(storage),
-        };
-        match answer {
-            Ok(factory) => {
-                factory.abandon();
-                Told::Granted
-            }
-            Err(error) => of_request_response_open(error),
-        }
-    }
-
-    fn open_or_create(self, verifier: Option<&AttributeVerifier>, storage: &mut Counted) -> Told {
-        let answer = match verifier {
-            Some(verifier) => self.open_or_create_with_attributes(verifier, storage),
-            None => self.open_or_create(storage),
-        };
-        match answer {
-            Ok(factory) => {
-                factory.abandon();
-                Told::Granted
-            }
-            Err(error) => of_request_response_open_or_create(error),
-        }
     }
 }

@@ -1,6 +1,6 @@
 //! Calls of builders over a counted table, each of which makes its accesses one by one.
 
-use crate::asks::{Asks, Counted, Over, Told};
+use crate::asks::{Asks, Counted, Over, Told, create, open, open_or_create};
 use crate::refusing::{Refused, Refusing, end, refuse};
 use crate::samples::{self, NAME, OTHERS};
 use crate::seen::{Seen, drop_table, is_as_before, look};
@@ -41,150 +41,49 @@ pub struct Row {
     accesses: u64,
 }
 
-/// A row in columns: what it is called, the call and whether it has attributes, what stands before and which
-/// accesses are refused, the answer, and how many looks, openings and accesses there are.
-pub type Columns = (
-    &'static str,
-    (How, bool),
-    (Standing, &'static [u64]),
-    Told,
-    (u64, u64, u64),
-);
-
-/// The row of these columns.
-pub fn row_of((label, call, before, told, counts): Columns) -> Row {
-    let (how, has_attributes) = call;
-    let (standing, refused) = before;
-    let (looks, openings, accesses) = counts;
-    Row {
-        label,
-        how,
-        has_attributes,
-        standing,
-        refused,
-        told,
-        looks,
-        openings,
-        accesses,
-    }
+/// Rows: what each is called, the call and whether it has attributes, what stands before and which accesses
+/// are refused, the answer, and how many looks, openings and accesses there are.
+macro_rules! rows {
+    ($(
+        $label:literal: $how:ident $has_attributes:literal, $standing:ident $refused:expr =>
+        $told:ident $looks:literal $openings:literal $accesses:literal;
+    )*) => {
+        &[$(Row {
+            label: $label,
+            how: How::$how,
+            has_attributes: $has_attributes,
+            standing: Standing::$standing,
+            refused: &$refused,
+            told: Told::$told,
+            looks: $looks,
+            openings: $openings,
+            accesses: $accesses,
+        }),*]
+    };
 }
 
-const CREATE: (How, bool) = (How::Create, false);
-
-const CREATE_WITH: (How, bool) = (How::Create, true);
-
-const OPEN: (How, bool) = (How::Open, false);
-
-const OPEN_WITH: (How, bool) = (How::Open, true);
-
-const EITHER: (How, bool) = (How::OpenOrCreate, false);
-
-const EITHER_WITH: (How, bool) = (How::OpenOrCreate, true);
-
-const NOTHING: (Standing, &[u64]) = (Standing::Nothing, &[]);
-
-const SERVICE: (Standing, &[u64]) = (Standing::Service, &[]);
-
 /// The calls that are granted with ample memory.
-pub const GRANTED: [Columns; 8] = [
-    ("create", CREATE, NOTHING, Told::Granted, (1, 0, 6)),
-    (
-        "create_with_attributes",
-        CREATE_WITH,
-        NOTHING,
-        Told::Granted,
-        (1, 0, 6),
-    ),
-    ("open", OPEN, SERVICE, Told::Granted, (1, 1, 4)),
-    (
-        "open_with_attributes",
-        OPEN_WITH,
-        SERVICE,
-        Told::Granted,
-        (1, 1, 4),
-    ),
-    (
-        "open_or_create that creates",
-        EITHER,
-        NOTHING,
-        Told::Granted,
-        (2, 0, 7),
-    ),
-    (
-        "open_or_create_with_attributes that creates",
-        EITHER_WITH,
-        NOTHING,
-        Told::Granted,
-        (2, 0, 7),
-    ),
-    (
-        "open_or_create that opens",
-        EITHER,
-        SERVICE,
-        Told::Granted,
-        (2, 1, 6),
-    ),
-    (
-        "open_or_create_with_attributes that opens",
-        EITHER_WITH,
-        SERVICE,
-        Told::Granted,
-        (2, 1, 6),
-    ),
-];
+pub const GRANTED: &[Row] = rows! {
+    "create": Create false, Nothing [] => Granted 1 0 6;
+    "create_with_attributes": Create true, Nothing [] => Granted 1 0 6;
+    "open": Open false, Service [] => Granted 1 1 4;
+    "open_with_attributes": Open true, Service [] => Granted 1 1 4;
+    "open_or_create that creates": OpenOrCreate false, Nothing [] => Granted 2 0 7;
+    "open_or_create_with_attributes that creates": OpenOrCreate true, Nothing [] => Granted 2 0 7;
+    "open_or_create that opens": OpenOrCreate false, Service [] => Granted 2 1 6;
+    "open_or_create_with_attributes that opens": OpenOrCreate true, Service [] => Granted 2 1 6;
+};
 
 /// Calls that go on or are refused with ample memory too, most of which give something back.
-pub const OTHERWISE: [Columns; 7] = [
-    (
-        "create of a service that is there",
-        CREATE,
-        SERVICE,
-        Told::AlreadyExists,
-        (1, 0, 2),
-    ),
-    (
-        "create whose lock is refused",
-        CREATE_WITH,
-        (Standing::Nothing, &[4]),
-        Told::InternalFailure,
-        (1, 0, 5),
-    ),
-    (
-        "open that lacks an attribute",
-        OPEN_WITH,
-        (Standing::Bare, &[]),
-        Told::IncompatibleAttributes,
-        (1, 0, 2),
-    ),
-    (
-        "open of a full service",
-        OPEN,
-        (Standing::Full, &[]),
-        Told::Full,
-        (1, 1, 5),
-    ),
-    (
-        "open whose first opening is refused",
-        OPEN_WITH,
-        (Standing::Service, &[4]),
-        Told::Granted,
-        (3, 2, 11),
-    ),
-    (
-        "open whose second look is refused",
-        OPEN_WITH,
-        (Standing::Service, &[4, 5]),
-        Told::ServiceInCorruptedState,
-        (2, 1, 6),
-    ),
-    (
-        "open_or_create of a full service",
-        EITHER,
-        (Standing::Full, &[]),
-        Told::Full,
-        (2, 1, 7),
-    ),
-];
+pub const OTHERWISE: &[Row] = rows! {
+    "create of a service that is there": Create false, Service [] => AlreadyExists 1 0 2;
+    "create whose lock is refused": Create true, Nothing [4] => InternalFailure 1 0 5;
+    "open that lacks an attribute": Open true, Bare [] => IncompatibleAttributes 1 0 2;
+    "open of a full service": Open false, Full [] => Full 1 1 5;
+    "open whose first opening is refused": Open true, Service [4] => Granted 3 2 11;
+    "open whose second look is refused": Open true, Service [4, 5] => ServiceInCorruptedState 2 1 6;
+    "open_or_create of a full service": OpenOrCreate false, Full [] => Full 2 1 7;
+};
 
 /// What a create and an open are given.
 struct Attributes {
@@ -218,10 +117,15 @@ fn attributes_of(alloc: Global, row: Row) -> Result<Attributes, Wrong> {
 /// Makes the call of a row.
 fn ask<A: Asks>(builder: A, row: Row, attributes: &Attributes, storage: &mut Counted) -> Told {
     match row.how {
-        How::Create => builder.create(attributes.specifier.as_ref(), storage),
-        How::Open => builder.open(attributes.verifier.as_ref(), storage),
-        How::OpenOrCreate => builder.open_or_create(attributes.verifier.as_ref(), storage),
+        How::Create => create(builder, attributes.specifier.as_ref(), storage),
+        How::Open => open(builder, attributes.verifier.as_ref(), storage),
+        How::OpenOrCreate => open_or_create(builder, attributes.verifier.as_ref(), storage),
     }
+}
+
+/// Tells what is wrong where something isn't as it has to be.
+fn expect(is_right: bool, wrong: Wrong) -> Result<(), Wrong> {
+    if is_right { Ok(()) } else { Err(wrong) }
 }
 
 /// A create of node 2 that has to be granted.
@@ -230,11 +134,10 @@ fn create_before<A: Asks>(
     specifier: Option<&AttributeSpecifier>,
     storage: &mut Counted,
 ) -> Result<(), Wrong> {
-    if builder.create(specifier, storage) == Told::Granted {
-        Ok(())
-    } else {
-        Err(Wrong::Preparation)
-    }
+    expect(
+        create(builder, specifier, storage) == Told::Granted,
+        Wrong::Preparation,
+    )
 }
 
 /// Node 2 creates other services.
@@ -310,23 +213,14 @@ fn tally(
     if !is_as_before(before, after, numbers) {
         return Err(Wrong::Changed);
     }
-    Ok(Tally {
-        refused: 1,
-        by_open: u64::from(is_open_error),
-        by_create: u64::from(!is_open_error),
-        numbers,
-    })
+    Ok(Tally::said(is_open_error, numbers))
 }
 
 /// Makes the call once more with ample memory.
 fn ask_again<A: Asks>(alloc: Global, row: Row, storage: &mut Counted) -> Result<(), Wrong> {
     let attributes = attributes_of(alloc, row)?;
     let told = ask(A::builder(alloc, 1, NAME)?, row, &attributes, storage);
-    if told == row.told {
-        Ok(())
-    } else {
-        Err(Wrong::Changed)
-    }
+    expect(told == row.told, Wrong::Changed)
 }
 
 /// One try at a storage that is prepared.

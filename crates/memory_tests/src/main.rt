@@ -16,11 +16,11 @@ mod trial;
 mod unneeded;
 mod values;
 
-use crate::calls::{Columns, Row, row_of};
-use crate::samples::{PATTERNS, Pattern};
+use crate::calls::Row;
+use crate::samples::{PATTERNS, Pattern, label, label_with_types};
 use crate::trial::Mode::{Alone, AndLater};
 use crate::trial::{Mode, Tally, Wrong};
-use crate::values::{Newly, Requiring};
+use crate::values::{Adding, Newly, Requiring};
 use std::alloc::Global;
 use std::io;
 use std::process::ExitCode;
@@ -83,14 +83,13 @@ fn call_with_types(alloc: Global, mode: Mode, pattern: Pattern, row: Row) -> Out
 }
 
 /// The calls of a pattern, each beside other services.
-fn tell_calls(rt: &HostRuntime, pattern: Pattern, rows: &[Columns]) -> io::Result<bool> {
+fn tell_calls(rt: &HostRuntime, pattern: Pattern, rows: &[Row]) -> io::Result<bool> {
     let alloc = rt.alloc();
     let mut is_well = true;
-    for columns in rows {
-        let row = row_of(*columns);
+    for &row in rows {
         let alone = call(alloc, Alone, pattern, row);
         let outcome = sum(alone, call(alloc, AndLater, pattern, row));
-        is_well = tell(rt, pattern.name(), row.label, outcome)? && is_well;
+        is_well = tell(rt, label(pattern), row.label, outcome)? && is_well;
     }
     Ok(is_well)
 }
@@ -99,28 +98,24 @@ fn tell_calls(rt: &HostRuntime, pattern: Pattern, rows: &[Columns]) -> io::Resul
 fn tell_calls_with_types(rt: &HostRuntime, pattern: Pattern) -> io::Result<bool> {
     let alloc = rt.alloc();
     let mut is_well = true;
-    for columns in &calls::GRANTED {
-        let row = row_of(*columns);
+    for &row in calls::GRANTED {
         let alone = call_with_types(alloc, Alone, pattern, row);
         let outcome = sum(alone, call_with_types(alloc, AndLater, pattern, row));
-        is_well = tell(rt, pattern.name_with_types(), row.label, outcome)? && is_well;
+        is_well = tell(rt, label_with_types(pattern), row.label, outcome)? && is_well;
     }
     Ok(is_well)
 }
 
 /// Commands of a session, of which requests are refused.
 fn of_sessions(alloc: Global, mode: Mode) -> [(&'static str, Outcome); 5] {
-    let [event, publish_subscribe, request_response] = PATTERNS;
+    let calls = |pattern| sessions::calls(alloc, mode, pattern);
     [
-        ("calls of event", sessions::calls(alloc, mode, event)),
+        ("calls of event", calls(Pattern::Event)),
         (
             "calls of publish-subscribe",
-            sessions::calls(alloc, mode, publish_subscribe),
+            calls(Pattern::PublishSubscribe),
         ),
-        (
-            "calls of request-response",
-            sessions::calls(alloc, mode, request_response),
-        ),
+        ("calls of request-response", calls(Pattern::RequestResponse)),
         ("list", sessions::listings(alloc, mode)),
         ("run", sessions::run(alloc, mode)),
     ]
@@ -128,49 +123,43 @@ fn of_sessions(alloc: Global, mode: Mode) -> [(&'static str, Outcome); 5] {
 
 /// Attributes, copies, texts and types.
 fn of_values(alloc: Global, mode: Mode) -> [(&'static str, Outcome); 9] {
+    let add = |adding| values::add(alloc, mode, adding);
+    let newly = |newly| values::make_newly(alloc, mode, newly);
     [
-        ("define", values::define(alloc, mode)),
-        ("require", values::require(alloc, mode, Requiring::Pair)),
-        ("require_key", values::require(alloc, mode, Requiring::Key)),
+        ("define", add(Adding::Defined)),
+        ("require", add(Adding::Required(Requiring::Pair))),
+        ("require_key", add(Adding::Required(Requiring::Key))),
         ("clone of builders", values::clone_builders(alloc, mode)),
         ("clone of values", values::clone_values(alloc, mode)),
-        (
-            "ServiceName::new",
-            values::make_newly(alloc, mode, Newly::Name),
-        ),
+        ("ServiceName::new", newly(Newly::Name)),
         ("ServiceHash::to_text", values::hash_text(alloc, mode)),
-        (
-            "TypeDetail::new",
-            values::make_newly(alloc, mode, Newly::Detail),
-        ),
-        (
-            "MessageTypeDetails::from",
-            values::make_newly(alloc, mode, Newly::Messages),
-        ),
+        ("TypeDetail::new", newly(Newly::Detail)),
+        ("MessageTypeDetails::from", newly(Newly::Messages)),
     ]
 }
 
 /// Byte forms of the three patterns.
 fn of_forms(alloc: Global, mode: Mode) -> [(&'static str, Outcome); 6] {
-    let [event, publish_subscribe, request_response] = PATTERNS;
+    let encode = |pattern| values::encode(alloc, mode, pattern);
+    let decode = |pattern| values::decode(alloc, mode, pattern);
     [
-        ("encode of event", values::encode(alloc, mode, event)),
+        ("encode of event", encode(Pattern::Event)),
         (
             "encode of publish-subscribe",
-            values::encode(alloc, mode, publish_subscribe),
+            encode(Pattern::PublishSubscribe),
         ),
         (
             "encode of request-response",
-            values::encode(alloc, mode, request_response),
+            encode(Pattern::RequestResponse),
         ),
-        ("decode of event", values::decode(alloc, mode, event)),
+        ("decode of event", decode(Pattern::Event)),
         (
             "decode of publish-subscribe",
-            values::decode(alloc, mode, publish_subscribe),
+            decode(Pattern::PublishSubscribe),
         ),
         (
             "decode of request-response",
-            values::decode(alloc, mode, request_response),
+            decode(Pattern::RequestResponse),
         ),
     ]
 }
@@ -225,8 +214,8 @@ fn tell_others(rt: &HostRuntime) -> io::Result<bool> {
 fn tell_everything(rt: &HostRuntime) -> io::Result<bool> {
     let mut is_well = true;
     for pattern in PATTERNS {
-        is_well = tell_calls(rt, pattern, &calls::GRANTED)? && is_well;
-        is_well = tell_calls(rt, pattern, &calls::OTHERWISE)? && is_well;
+        is_well = tell_calls(rt, pattern, calls::GRANTED)? && is_well;
+        is_well = tell_calls(rt, pattern, calls::OTHERWISE)? && is_well;
     }
     is_well = tell_calls_with_types(rt, Pattern::PublishSubscribe)? && is_well;
     is_well = tell_calls_with_types(rt, Pattern::RequestResponse)? && is_well;

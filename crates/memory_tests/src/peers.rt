@@ -1,6 +1,6 @@
 //! Steps of peers that find no memory, and those that ask for none.
 
-use crate::asks::{Asks, Counted, Over, Told};
+use crate::asks::{self, Asks, Counted, Over, Told};
 use crate::refusing::{Refused, Refusing, end, is_obeyed, refuse};
 use crate::samples::{self, NAME, Pattern, prepared};
 use crate::seen::drop_table;
@@ -272,7 +272,7 @@ fn open_replaced(
     let builder: Builder<Over> = Asks::builder(alloc, 1, NAME)?;
     let builder = builder.for_nodes(5);
     refuse(alloc, refusing);
-    let told = Asks::open(builder, None, storage);
+    let told = asks::open(builder, None, storage);
     let came = judge(end(alloc), told, storage)?;
     if storage.inner().has_tag(1, &hash) || storage.inner().tickets(1, &hash) != 0 {
         Err(Wrong::Changed)

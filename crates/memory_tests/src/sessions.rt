@@ -1,18 +1,20 @@
 //! Commands of a session.
 
-use crate::asks::{self, Told};
+use crate::asks::{Told, told_by};
 use crate::refusing::{Refused, Refusing, end, is_obeyed, refuse};
 use crate::samples::{self, NAME, OTHERS, Pattern, prepared};
 use crate::seen::{Seen, drop_table, is_as_before, look};
 use crate::trial::{Mode, Tally, Trial, Wrong, each_request, refuse_all, without_memory};
 use iceoryx2_commands::command::{
-    Call, Command, How, PublishSubscribeSetter, Refusal, Reply, RequestResponseSetter, Settings,
+    Command, How, PublishSubscribeSetter, Reply, RequestResponseSetter, Settings,
 };
 use iceoryx2_description::config::Config;
 use iceoryx2_description::time::Time;
 use iceoryx2_session::session::Session;
 use iceoryx2_table::table::Table;
 use std::alloc::Global;
+use test_support::calls::command;
+use test_support::refusals::said;
 
 /// A vector of one thing.
 fn only<T: Drop>(alloc: Global, one: T) -> Result<Vec<T>, Wrong> {
@@ -43,15 +45,16 @@ pub fn call(
     how: How,
     (node, slot, text): (u64, usize, &str),
 ) -> Result<Command, Wrong> {
-    Ok(Command::Call(Call {
-        how,
-        node,
-        slot,
-        name: samples::name(alloc, text)?,
-        settings: settings(alloc, pattern)?,
-        attributes: samples::one_pair(alloc)?,
-        now: Ok(Time::default()),
-    }))
+    let name = samples::name(alloc, text)?;
+    let settings = settings(alloc, pattern)?;
+    let attributes = samples::one_pair(alloc)?;
+    Ok(command(
+        (how, node, slot),
+        name,
+        settings,
+        attributes,
+        Ok(Time::default()),
+    ))
 }
 
 /// A session over a new table.
@@ -64,55 +67,14 @@ pub fn end_session(session: Session) {
     drop_table(session.finish());
 }
 
-/// Which call of which pattern a refusal is of, and what it tells.
-fn refusal_told(refusal: Refusal) -> (Pattern, How, Told) {
-    match refusal {
-        Refusal::EventOpen(error) => (Pattern::Event, How::Open, asks::of_event_open(error)),
-        Refusal::EventCreate(error) => (Pattern::Event, How::Create, asks::of_event_create(error)),
-        Refusal::EventOpenOrCreate(error) => (
-            Pattern::Event,
-            How::OpenOrCreate,
-            asks::of_event_open_or_create(error),
-        ),
-        Refusal::PublishSubscribeOpen(error) => (
-            Pattern::PublishSubscribe,
-            How::Open,
-            asks::of_publish_subscribe_open(error),
-        ),
-        Refusal::PublishSubscribeCreate(error) => (
-            Pattern::PublishSubscribe,
-            How::Create,
-            asks::of_publish_subscribe_create(error),
-        ),
-        Refusal::PublishSubscribeOpenOrCreate(error) => (
-            Pattern::PublishSubscribe,
-            How::OpenOrCreate,
-            asks::of_publish_subscribe_open_or_create(error),
-        ),
-        _ => request_response_told(refusal),
-    }
-}
-
-/// The same of request-response.
-fn request_response_told(refusal: Refusal) -> (Pattern, How, Told) {
-    match refusal {
-        Refusal::RequestResponseOpen(error) => (
-            Pattern::RequestResponse,
-            How::Open,
-            asks::of_request_response_open(error),
-        ),
-        Refusal::RequestResponseCreate(error) => (
-            Pattern::RequestResponse,
-            How::Create,
-            asks::of_request_response_create(error),
-        ),
-        Refusal::RequestResponseOpenOrCreate(error) => (
-            Pattern::RequestResponse,
-            How::OpenOrCreate,
-            asks::of_request_response_open_or_create(error),
-        ),
-        _ => (Pattern::RequestResponse, How::Open, Told::Other),
-    }
+/// What comes of a new session, which is ended then.
+macro_rules! in_session {
+    ($alloc:ident, $session:ident => $came:expr) => {{
+        let mut $session = new_session($alloc);
+        let came = $came;
+        end_session($session);
+        came
+    }};
 }
 
 /// A call of node 1 into slot 0, and whether node 2 has created the service.
@@ -129,11 +91,12 @@ fn is_open_error(wanted: Wanted, reply: &Reply) -> Result<bool, Wrong> {
     let Reply::Refused(refusal) = reply else {
         return Err(Wrong::NotTold);
     };
-    let (pattern, how, told) = refusal_told(*refusal);
+    let (pattern, said) = said(*refusal);
+    let (how, _, _) = said;
     if pattern != wanted.pattern || how != wanted.how {
         return Err(Wrong::NotTold);
     }
-    match told {
+    match told_by(said) {
         Told::OpenOutOfMemory => Ok(true),
         Told::CreateOutOfMemory => Ok(false),
         _ => Err(Wrong::NotTold),
@@ -147,12 +110,7 @@ fn tally(wanted: Wanted, reply: &Reply, before: Seen, after: &Seen) -> Result<Ta
     if numbers > 1 || is_open_error && numbers != 0 || !is_as_before(before, after, numbers) {
         return Err(Wrong::Changed);
     }
-    Ok(Tally {
-        refused: 1,
-        by_open: u64::from(is_open_error),
-        by_create: u64::from(!is_open_error),
-        numbers,
-    })
+    Ok(Tally::said(is_open_error, numbers))
 }
 
 /// Node 2 creates other services.
@@ -228,10 +186,7 @@ fn attempt(
 
 impl Trial for Wanted {
     fn attempt(&mut self, alloc: Global, refusing: Refusing) -> Result<Option<Tally>, Wrong> {
-        let mut session = new_session(alloc);
-        let came = attempt(alloc, *self, refusing, &mut session);
-        end_session(session);
-        came
+        in_session! { alloc, session => attempt(alloc, *self, refusing, &mut session) }
     }
 }
 
@@ -311,10 +266,7 @@ fn list(
 
 impl Trial for Listed {
     fn attempt(&mut self, alloc: Global, refusing: Refusing) -> Result<Option<Tally>, Wrong> {
-        let mut session = new_session(alloc);
-        let came = list(alloc, *self, refusing, &mut session);
-        end_session(session);
-        came
+        in_session! { alloc, session => list(alloc, *self, refusing, &mut session) }
     }
 }
 
@@ -372,10 +324,7 @@ fn run_in(alloc: Global, refusing: Refusing, session: &mut Session) -> Result<Ta
 
 /// A run whose first request is refused, alone or with all later ones, applies nothing.
 pub fn run(alloc: Global, mode: Mode) -> Result<Tally, Wrong> {
-    let mut session = new_session(alloc);
-    let came = run_in(alloc, mode.refusing(1), &mut session);
-    end_session(session);
-    came
+    in_session! { alloc, session => run_in(alloc, mode.refusing(1), &mut session) }
 }
 
 /// Node 1 has the service of each pattern in two slots, and node 2 in one.
@@ -419,10 +368,7 @@ fn close_all(alloc: Global, session: &mut Session) -> Result<Tally, Wrong> {
 
 /// A close of one of a node's factories, of its last one, and of the last one of all nodes, by each pattern.
 pub fn close(alloc: Global) -> Result<Tally, Wrong> {
-    let mut session = new_session(alloc);
-    let came = close_all(alloc, &mut session);
-    end_session(session);
-    came
+    in_session! { alloc, session => close_all(alloc, &mut session) }
 }
 
 /// A session that ends with all these slots taken.

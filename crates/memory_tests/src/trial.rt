@@ -53,6 +53,16 @@ impl Tally {
         numbers: 0,
     };
 
+    /// One refused request that an open error says, or a create error, and that spends so many numbers.
+    pub fn said(by_open: bool, numbers: u64) -> Tally {
+        Tally {
+            refused: 1,
+            by_open: u64::from(by_open),
+            by_create: u64::from(!by_open),
+            numbers,
+        }
+    }
+
     /// Both together.
     pub fn and(self, other: Tally) -> Tally {
         Tally {
@@ -128,8 +138,10 @@ pub trait Making: Drop {
     /// Makes the call.
     fn make(&mut self, alloc: Global) -> Came;
 
-    /// Whether nothing has changed by calls that found no memory.
-    fn is_as_before(&self) -> bool;
+    /// Whether nothing has changed by calls that found no memory. Most change nothing that could be seen.
+    fn is_as_before(&self) -> bool {
+        true
+    }
 }
 
 /// The trial of such a call.

@@ -1,13 +1,13 @@
 //! What asks for no memory, with every request refused.
 
-use crate::asks::{Asks, Counted, Over, Told};
+use crate::asks::{self, Asks, Counted, Over, Told};
 use crate::samples::{self, NAME, Pattern, prepared};
 use crate::seen::drop_table;
 use crate::trial::{Tally, Wrong, refuse_all, without_memory};
 use iceoryx2_builder::builder::{Node, event};
 use iceoryx2_commands::command::{EventSetter, RequestResponseSetter};
 use iceoryx2_description::config::Config;
-use iceoryx2_description::description::ServiceHash;
+use iceoryx2_description::description::{ServiceHash, ServiceName};
 use iceoryx2_description::event::EventId;
 use iceoryx2_description::time::{Duration, Time};
 use iceoryx2_errors::error::{CloseError, EventOpenError, EventOpenOrCreateError};
@@ -16,7 +16,9 @@ use iceoryx2_script::script::Faulty;
 use iceoryx2_table::local::Local;
 use iceoryx2_table::table::Table;
 use iceoryx2_types::types::publish_subscribe::Header;
-use iceoryx2_types::types::{Alignment, CustomHeaderMarker, CustomPayloadMarker, Slice};
+use iceoryx2_types::types::{
+    Alignment, CustomHeaderMarker, CustomPayloadMarker, Slice, TypeDetail,
+};
 use std::alloc::Global;
 
 /// Lets a builder go.
@@ -46,12 +48,18 @@ fn set_events(alloc: Global) -> Result<Tally, Wrong> {
     came
 }
 
-/// The setters of publish-subscribe, with another user header.
-fn set_messages(alloc: Global) -> Result<Tally, Wrong> {
-    let node = Node::<Local>::new(1, Config::default());
+/// A name and two types.
+fn name_and_types(alloc: Global) -> Result<(ServiceName, TypeDetail, TypeDetail), Wrong> {
     let name = samples::name(alloc, NAME)?;
     let payload = samples::detail(alloc)?;
     let user_header = samples::detail(alloc)?;
+    Ok((name, payload, user_header))
+}
+
+/// The setters of publish-subscribe, with another user header.
+fn set_messages(alloc: Global) -> Result<Tally, Wrong> {
+    let node = Node::<Local>::new(1, Config::default());
+    let (name, payload, user_header) = name_and_types(alloc)?;
     let Some(alignment) = Alignment::new(16) else {
         return Err(Wrong::Preparation);
     };
@@ -78,9 +86,7 @@ fn set_messages(alloc: Global) -> Result<Tally, Wrong> {
 /// The setters of request-response, with other user headers.
 fn set_requests(alloc: Global) -> Result<Tally, Wrong> {
     let node = Node::<Local>::new(1, Config::default());
-    let name = samples::name(alloc, NAME)?;
-    let payload = samples::detail(alloc)?;
-    let user_header = samples::detail(alloc)?;
+    let (name, payload, user_header) = name_and_types(alloc)?;
     refuse_all(alloc);
     let builder = node
         .service_builder(name)
@@ -148,7 +154,7 @@ pub fn display(alloc: Global) -> Result<Tally, Wrong> {
 fn open_nothing(alloc: Global, storage: &mut Counted) -> Result<Tally, Wrong> {
     let builder: event::Builder<Over> = Asks::builder(alloc, 1, NAME)?;
     refuse_all(alloc);
-    let told = Asks::open(builder, None, storage);
+    let told = asks::open(builder, None, storage);
     without_memory(alloc, told == Told::DoesNotExist)
 }
 

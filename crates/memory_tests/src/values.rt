@@ -89,58 +89,59 @@ impl Making for Requirement {
 /// Keys in front of, between and behind all others.
 const NEW_KEYS: [&str; 3] = ["A", "dd", "z"];
 
-/// Defines beside as many pairs.
-fn define_beside(alloc: Global, mode: Mode, number: usize) -> Result<Tally, Wrong> {
-    let mut all = Tally::NONE;
-    for key in NEW_KEYS {
-        let before = samples::pairs(alloc, number)?;
-        let specifier = samples::pairs(alloc, number)?;
-        let making = DefinedPair {
-            before,
-            specifier,
-            key,
-        };
-        all = all.and(each_request_of(alloc, mode, making)?);
-    }
-    Ok(all)
+/// What is added: a pair that is defined, or a pair or a key that is required.
+#[derive(Clone, Copy)]
+pub enum Adding {
+    Defined,
+    Required(Requiring),
 }
 
-/// Defines beside none, one and each further number of pairs.
-pub fn define(alloc: Global, mode: Mode) -> Result<Tally, Wrong> {
-    let mut all = Tally::NONE;
-    for number in 0..10usize {
-        all = all.and(define_beside(alloc, mode, number)?);
-    }
-    Ok(all)
-}
-
-/// Requires beside as many pairs and keys.
-fn require_beside(
+/// Adds it with this key beside as many pairs, or pairs and keys.
+fn add_key(
     alloc: Global,
     mode: Mode,
-    requiring: Requiring,
-    number: usize,
+    adding: Adding,
+    (number, key): (usize, &'static str),
 ) -> Result<Tally, Wrong> {
+    match adding {
+        Adding::Defined => {
+            let before = samples::pairs(alloc, number)?;
+            let specifier = samples::pairs(alloc, number)?;
+            let making = DefinedPair {
+                before,
+                specifier,
+                key,
+            };
+            each_request_of(alloc, mode, making)
+        }
+        Adding::Required(requiring) => {
+            let before = samples::requirements(alloc, number)?;
+            let verifier = samples::requirements(alloc, number)?;
+            let making = Requirement {
+                before,
+                verifier,
+                requiring,
+                key,
+            };
+            each_request_of(alloc, mode, making)
+        }
+    }
+}
+
+/// Adds it with each key beside as many.
+fn add_beside(alloc: Global, mode: Mode, adding: Adding, number: usize) -> Result<Tally, Wrong> {
     let mut all = Tally::NONE;
     for key in NEW_KEYS {
-        let before = samples::requirements(alloc, number)?;
-        let verifier = samples::requirements(alloc, number)?;
-        let making = Requirement {
-            before,
-            verifier,
-            requiring,
-            key,
-        };
-        all = all.and(each_request_of(alloc, mode, making)?);
+        all = all.and(add_key(alloc, mode, adding, (number, key))?);
     }
     Ok(all)
 }
 
-/// Requires beside none, one and each further number of pairs and keys.
-pub fn require(alloc: Global, mode: Mode, requiring: Requiring) -> Result<Tally, Wrong> {
+/// Adds it beside none, one and each further number of pairs, or of pairs and keys.
+pub fn add(alloc: Global, mode: Mode, adding: Adding) -> Result<Tally, Wrong> {
     let mut all = Tally::NONE;
     for number in 0..10usize {
-        all = all.and(require_beside(alloc, mode, requiring, number)?);
+        all = all.and(add_beside(alloc, mode, adding, number)?);
     }
     Ok(all)
 }
@@ -157,10 +158,6 @@ impl<T: Clone + Drop> Making for Copied<T> {
             Ok(_) => Came::Done,
             Err(_) => Came::OutOfMemory,
         }
-    }
-
-    fn is_as_before(&self) -> bool {
-        true
     }
 }
 
@@ -266,10 +263,6 @@ impl Making for Newly {
             )),
         }
     }
-
-    fn is_as_before(&self) -> bool {
-        true
-    }
 }
 
 /// Makes it again and again.
@@ -303,10 +296,6 @@ impl Making for Encoding {
             Err(_) => Came::OutOfMemory,
         }
     }
-
-    fn is_as_before(&self) -> bool {
-        true
-    }
 }
 
 /// A byte form that is read.
@@ -329,10 +318,6 @@ impl Making for Decoding {
             Err(DecodeError::OutOfMemory) => Came::OutOfMemory,
             Err(DecodeError::Malformed) => Came::Other,
         }
-    }
-
-    fn is_as_before(&self) -> bool {
-        true
     }
 }
 
