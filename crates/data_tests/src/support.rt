@@ -65,14 +65,19 @@ pub fn copied(rt: &impl Abort, name: &ServiceName) -> ServiceName {
     }
 }
 
-/// Texts, one behind the other.
-pub fn joined(rt: &impl Abort, alloc: Global, parts: &[&str]) -> String {
-    let mut text = String::new(alloc);
+/// Puts texts behind another one.
+pub fn push_all(rt: &impl Abort, text: &mut String, parts: &[&str]) {
     for part in parts {
         if text.push_str(part).is_err() {
             panic!(rt; "no memory")
         }
     }
+}
+
+/// Texts, one behind the other.
+pub fn joined(rt: &impl Abort, alloc: Global, parts: &[&str]) -> String {
+    let mut text = String::new(alloc);
+    push_all(rt, &mut text, parts);
     text
 }
 

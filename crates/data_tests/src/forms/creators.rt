@@ -17,7 +17,7 @@ const CREATORS: [(&str, u64); 4] = [
 ];
 
 /// The service `a` of events with the default settings and without a deadline, created by the node 7.
-fn form_by_seven(rt: &impl Abort, alloc: Global) -> Vec<u8> {
+pub fn form_by_seven(rt: &impl Abort, alloc: Global) -> Vec<u8> {
     bytes_of(rt, alloc, &[BY_SEVEN, HASH, SETTINGS, "00"])
 }
 
@@ -74,7 +74,7 @@ fn fronts_and_longer_lists_with_a_creator_are_malformed(rt: HostRuntime) {
 }
 
 /// What a reader has to make of that form with another byte in that place.
-fn wanted_with_creator(place: usize, byte: u8) -> Reading {
+pub fn wanted_by(place: usize, byte: u8) -> Reading {
     match place {
         5..33 | 39..71 => Form,
         35 if byte < 0x80 => Form,
@@ -82,35 +82,10 @@ fn wanted_with_creator(place: usize, byte: u8) -> Reading {
     }
 }
 
-/// Tries that form with the byte in that place, if another one stands there. It has to be malformed, or
-/// the form of what is read from it, as it is wanted of this place.
-fn tried_with_creator(rt: &impl Abort, alloc: Global, place: usize, byte: u8) -> Tried {
-    match reading_by(rt, alloc, form_by_seven(rt, alloc), place, byte) {
-        Some(found) => {
-            let wanted = wanted_with_creator(place, byte);
-            assert_same(rt, (place, byte, found), (place, byte, wanted));
-            if found == Form { (1, 1) } else { (1, 0) }
-        }
-        None => (0, 0),
-    }
-}
-
-/// Tries it with all bytes in that place.
-fn all_tried_with_creator(rt: &impl Abort, alloc: Global, place: usize) -> Tried {
-    let mut count = (0, 0);
-    for byte in 0..256u32 {
-        count = added(count, tried_with_creator(rt, alloc, place, byte as u8));
-    }
-    count
-}
-
 /// Of 19,125 lists, a reader that was written in another language from the description of the form alone
 /// takes 15,427.
 #[test]
 fn one_changed_byte_gives_malformed_bytes_or_the_form_of_another_creator(rt: HostRuntime) {
-    let mut count = (0, 0);
-    for place in 0..75usize {
-        count = added(count, all_tried_with_creator(&rt, rt.alloc(), place));
-    }
-    assert_same(&rt, count, (19_125, 15_427));
+    let found = tried_everywhere(&rt, rt.alloc(), true, 75);
+    assert_same(&rt, found, (19_125, 15_427));
 }
