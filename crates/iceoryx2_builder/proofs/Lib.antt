@@ -1,8 +1,4 @@
-pub mod EventSetters
-pub mod PublishSubscribeSetters
-pub mod RequestResponseSetters
+pub mod Setters
 pub mod Weaker
-pub mod WeakerEvent
-pub mod WeakerPublishSubscribe
-pub mod WeakerRequestResponse
+pub mod Accepts
 pub mod Adjusting

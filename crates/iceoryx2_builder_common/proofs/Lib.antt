@@ -1,3 +1,4 @@
 pub mod Raised
+pub mod Rows
 pub mod Granted
 pub mod Misfits

@@ -3,5 +3,7 @@
 
 pub mod answer;
 pub mod base;
+pub mod refusals;
 pub mod requested;
+pub mod settings;
 pub mod zeros;

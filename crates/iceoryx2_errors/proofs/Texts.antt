@@ -159,55 +159,20 @@ find_text text (e ∷ es) = if bytes_eq (text_of e) text then Some e else find_t
 abbrev read : List ℕ → Option AnyError
 read text = find_text text all_errors
 
-event_open_is_read : (e : EventOpenError) → read (text_of (EventOpen e)) ≡ Some (EventOpen e)
-event_open_is_read opening.DoesNotExist = refl
-event_open_is_read _ = refl
-
-event_create_is_read : (e : EventCreateError) → read (text_of (EventCreate e)) ≡ Some (EventCreate e)
-event_create_is_read creating.ServiceInCorruptedState = refl
-event_create_is_read _ = refl
-
-publish_subscribe_open_is_read : (e : PublishSubscribeOpenError) → read (text_of (PublishSubscribeOpen e)) ≡ Some (PublishSubscribeOpen e)
-publish_subscribe_open_is_read subscribe_opening.DoesNotExist = refl
-publish_subscribe_open_is_read _ = refl
-
-publish_subscribe_create_is_read : (e : PublishSubscribeCreateError) → read (text_of (PublishSubscribeCreate e)) ≡ Some (PublishSubscribeCreate e)
-publish_subscribe_create_is_read subscribe_creating.ServiceInCorruptedState = refl
-publish_subscribe_create_is_read _ = refl
-
-request_response_open_is_read : (e : RequestResponseOpenError) → read (text_of (RequestResponseOpen e)) ≡ Some (RequestResponseOpen e)
-request_response_open_is_read request_opening.DoesNotExist = refl
-request_response_open_is_read _ = refl
-
-request_response_create_is_read : (e : RequestResponseCreateError) → read (text_of (RequestResponseCreate e)) ≡ Some (RequestResponseCreate e)
-request_response_create_is_read request_creating.AlreadyExists = refl
-request_response_create_is_read _ = refl
-
-event_open_or_create_is_read : (e : EventOpenOrCreateError) → read (text_of (EventOpenOrCreate e)) ≡ Some (EventOpenOrCreate e)
-event_open_or_create_is_read (event_either.EventOpenError opening.DoesNotExist) = refl
-event_open_or_create_is_read (event_either.EventCreateError creating.ServiceInCorruptedState) = refl
-event_open_or_create_is_read _ = refl
-
-publish_subscribe_open_or_create_is_read : (e : PublishSubscribeOpenOrCreateError) → read (text_of (PublishSubscribeOpenOrCreate e)) ≡ Some (PublishSubscribeOpenOrCreate e)
-publish_subscribe_open_or_create_is_read (subscribe_either.PublishSubscribeOpenError subscribe_opening.DoesNotExist) = refl
-publish_subscribe_open_or_create_is_read (subscribe_either.PublishSubscribeCreateError subscribe_creating.ServiceInCorruptedState) = refl
-publish_subscribe_open_or_create_is_read _ = refl
-
-request_response_open_or_create_is_read : (e : RequestResponseOpenOrCreateError) → read (text_of (RequestResponseOpenOrCreate e)) ≡ Some (RequestResponseOpenOrCreate e)
-request_response_open_or_create_is_read (request_either.RequestResponseOpenError request_opening.DoesNotExist) = refl
-request_response_open_or_create_is_read (request_either.RequestResponseCreateError request_creating.AlreadyExists) = refl
-request_response_open_or_create_is_read _ = refl
-
 is_read : (e : AnyError) → read (text_of e) ≡ Some e
-is_read (EventOpen e) = event_open_is_read e
-is_read (EventCreate e) = event_create_is_read e
-is_read (EventOpenOrCreate e) = event_open_or_create_is_read e
-is_read (PublishSubscribeOpen e) = publish_subscribe_open_is_read e
-is_read (PublishSubscribeCreate e) = publish_subscribe_create_is_read e
-is_read (PublishSubscribeOpenOrCreate e) = publish_subscribe_open_or_create_is_read e
-is_read (RequestResponseOpen e) = request_response_open_is_read e
-is_read (RequestResponseCreate e) = request_response_create_is_read e
-is_read (RequestResponseOpenOrCreate e) = request_response_open_or_create_is_read e
+is_read (EventOpen opening.DoesNotExist) = refl
+is_read (EventCreate creating.ServiceInCorruptedState) = refl
+is_read (EventOpenOrCreate (event_either.EventOpenError opening.DoesNotExist)) = refl
+is_read (EventOpenOrCreate (event_either.EventCreateError creating.ServiceInCorruptedState)) = refl
+is_read (PublishSubscribeOpen subscribe_opening.DoesNotExist) = refl
+is_read (PublishSubscribeCreate subscribe_creating.ServiceInCorruptedState) = refl
+is_read (PublishSubscribeOpenOrCreate (subscribe_either.PublishSubscribeOpenError subscribe_opening.DoesNotExist)) = refl
+is_read (PublishSubscribeOpenOrCreate (subscribe_either.PublishSubscribeCreateError subscribe_creating.ServiceInCorruptedState)) = refl
+is_read (RequestResponseOpen request_opening.DoesNotExist) = refl
+is_read (RequestResponseCreate request_creating.AlreadyExists) = refl
+is_read (RequestResponseOpenOrCreate (request_either.RequestResponseOpenError request_opening.DoesNotExist)) = refl
+is_read (RequestResponseOpenOrCreate (request_either.RequestResponseCreateError request_creating.AlreadyExists)) = refl
+is_read _ = refl
 
 -- two with one text are one
 pub text_tells : (one other : AnyError) → text_of one ≡ text_of other → one ≡ other

@@ -1,5 +1,5 @@
 -- The errors of all nine enums, each with its text.
-use Rattle.std.specs.Prelude.{ℕ, List, ◌++◌, codes}
+use Rattle.std.specs.Prelude.{ℕ, Bool, List, ◌++◌, ◌≡◌, ◌↔◌, IsTrue, codes}
 use Rattle.iceoryx2_errors.specs.declared.error.events.EventOpenError.{EventOpenError}
 use Rattle.iceoryx2_errors.specs.declared.error.events.EventCreateError.{EventCreateError}
 use Rattle.iceoryx2_errors.specs.declared.error.events.EventOpenOrCreateError.{EventOpenOrCreateError}
@@ -9,14 +9,10 @@ use Rattle.iceoryx2_errors.specs.declared.error.publish_subscribe.PublishSubscri
 use Rattle.iceoryx2_errors.specs.declared.error.request_response.RequestResponseOpenError.{RequestResponseOpenError}
 use Rattle.iceoryx2_errors.specs.declared.error.request_response.RequestResponseCreateError.{RequestResponseCreateError}
 use Rattle.iceoryx2_errors.specs.declared.error.request_response.RequestResponseOpenOrCreateError.{RequestResponseOpenOrCreateError}
-use Rattle.iceoryx2_errors.specs.Texts.{event_open_error_name}
-use Rattle.iceoryx2_errors.specs.Texts.{event_create_error_name}
-use Rattle.iceoryx2_errors.specs.Texts.{event_open_or_create_error_name}
-use Rattle.iceoryx2_errors.specs.Texts.{publish_subscribe_open_error_name}
-use Rattle.iceoryx2_errors.specs.Texts.{publish_subscribe_create_error_name}
-use Rattle.iceoryx2_errors.specs.Texts.{publish_subscribe_open_or_create_error_name}
-use Rattle.iceoryx2_errors.specs.Texts.{request_response_open_error_name}
-use Rattle.iceoryx2_errors.specs.Texts.{request_response_create_error_name}
+use Rattle.iceoryx2_errors.specs.Texts.{event_open_error_name, event_create_error_name}
+use Rattle.iceoryx2_errors.specs.Texts.{event_open_or_create_error_name, publish_subscribe_open_error_name}
+use Rattle.iceoryx2_errors.specs.Texts.{publish_subscribe_create_error_name, publish_subscribe_open_or_create_error_name}
+use Rattle.iceoryx2_errors.specs.Texts.{request_response_open_error_name, request_response_create_error_name}
 use Rattle.iceoryx2_errors.specs.Texts.{request_response_open_or_create_error_name}
 
 pub data AnyError : Type 0 where
@@ -43,3 +39,7 @@ text_of (RequestResponseOpen e) = codes "RequestResponseOpenError::" ++ request_
 text_of (RequestResponseCreate e) = codes "RequestResponseCreateError::" ++ request_response_create_error_name e
 text_of (RequestResponseOpenOrCreate e) =
     codes "RequestResponseOpenOrCreateError::" ++ request_response_open_or_create_error_name e
+
+-- two values are equal by `==` exactly if they are the same
+abbrev pub IsEquality : {A : Type 0} → (A → A → Bool) → Type 0
+IsEquality {A = A} equal = (a b : A) → IsTrue (equal a b) ↔ (a ≡ b)

@@ -1,13 +1,33 @@
 //! Why calls are refused, and what their texts are.
 
-ghost use Rattle.std.specs.Prelude.{◌≡◌, ◌↔◌, ◌++◌, IsTrue, codes, Some};
-ghost use Rattle.iceoryx2_errors.specs.AnyError.{AnyError, text_of};
+ghost use Rattle.std.specs.Prelude.{◌≡◌, ◌++◌, codes, Some};
+ghost use Rattle.iceoryx2_errors.specs.AnyError.{AnyError, IsEquality, text_of};
 ghost use Rattle.iceoryx2_errors.specs.Texts.{close_error_name};
-ghost use Rattle.iceoryx2_errors.specs.declared.error.publish_subscribe.ServiceAvailabilityState.{ServiceAvailabilityState as PublishSubscribeState};
-ghost use Rattle.iceoryx2_errors.specs.declared.error.request_response.ServiceAvailabilityState.{ServiceAvailabilityState as RequestResponseState};
 
 use std::error::Error;
 use std::fmt;
+
+/// The variant's own name.
+macro_rules! name_of {
+    ($error:expr, $kind:ident: $($variant:ident)*) => {
+        match $error {
+            $($kind::$variant => stringify!($variant),)*
+        }
+    };
+}
+
+/// What a call whose look finds a state says, and what it says of a service of another pattern.
+macro_rules! error_of {
+    ($state:expr, $error:ident, $of_other_pattern:ident) => {
+        match $state {
+            ServiceState::IncompatibleMessagingPattern => $error::$of_other_pattern,
+            ServiceState::InsufficientPermissions => $error::InsufficientPermissions,
+            ServiceState::HangsInCreation => $error::HangsInCreation,
+            ServiceState::Corrupted => $error::ServiceInCorruptedState,
+            ServiceState::OutOfMemory => $error::OutOfMemory,
+        }
+    };
+}
 
 mod events;
 pub mod publish_subscribe;
@@ -29,30 +49,18 @@ pub fn texts_of_errors_differ()
 /// Two errors of one enum, or two states of a look, are equal by `==` exactly if they are the same
 /// variant, with the same value inside.
 pub fn equality_of_errors()
-    ensures event_open { (a b : EventOpenError)
-        → IsTrue (⟦<EventOpenError as PartialEq>⟧.eq a b) ↔ (a ≡ b) }
-    ensures event_create { (a b : EventCreateError)
-        → IsTrue (⟦<EventCreateError as PartialEq>⟧.eq a b) ↔ (a ≡ b) }
-    ensures event_open_or_create { (a b : EventOpenOrCreateError)
-        → IsTrue (⟦<EventOpenOrCreateError as PartialEq>⟧.eq a b) ↔ (a ≡ b) }
-    ensures publish_subscribe_open { (a b : PublishSubscribeOpenError)
-        → IsTrue (⟦<PublishSubscribeOpenError as PartialEq>⟧.eq a b) ↔ (a ≡ b) }
-    ensures publish_subscribe_create { (a b : PublishSubscribeCreateError)
-        → IsTrue (⟦<PublishSubscribeCreateError as PartialEq>⟧.eq a b) ↔ (a ≡ b) }
-    ensures publish_subscribe_open_or_create { (a b : PublishSubscribeOpenOrCreateError)
-        → IsTrue (⟦<PublishSubscribeOpenOrCreateError as PartialEq>⟧.eq a b) ↔ (a ≡ b) }
-    ensures request_response_open { (a b : RequestResponseOpenError)
-        → IsTrue (⟦<RequestResponseOpenError as PartialEq>⟧.eq a b) ↔ (a ≡ b) }
-    ensures request_response_create { (a b : RequestResponseCreateError)
-        → IsTrue (⟦<RequestResponseCreateError as PartialEq>⟧.eq a b) ↔ (a ≡ b) }
-    ensures request_response_open_or_create { (a b : RequestResponseOpenOrCreateError)
-        → IsTrue (⟦<RequestResponseOpenOrCreateError as PartialEq>⟧.eq a b) ↔ (a ≡ b) }
-    ensures state { (a b : ServiceState)
-        → IsTrue (⟦<ServiceState as PartialEq>⟧.eq a b) ↔ (a ≡ b) }
-    ensures publish_subscribe_state { (a b : PublishSubscribeState)
-        → IsTrue (⟦<publish_subscribe::ServiceAvailabilityState as PartialEq>⟧.eq a b) ↔ (a ≡ b) }
-    ensures request_response_state { (a b : RequestResponseState)
-        → IsTrue (⟦<request_response::ServiceAvailabilityState as PartialEq>⟧.eq a b) ↔ (a ≡ b) }
+    ensures event_open { IsEquality ⟦<EventOpenError as PartialEq>⟧.eq }
+    ensures event_create { IsEquality ⟦<EventCreateError as PartialEq>⟧.eq }
+    ensures event_open_or_create { IsEquality ⟦<EventOpenOrCreateError as PartialEq>⟧.eq }
+    ensures publish_subscribe_open { IsEquality ⟦<PublishSubscribeOpenError as PartialEq>⟧.eq }
+    ensures publish_subscribe_create { IsEquality ⟦<PublishSubscribeCreateError as PartialEq>⟧.eq }
+    ensures publish_subscribe_open_or_create { IsEquality ⟦<PublishSubscribeOpenOrCreateError as PartialEq>⟧.eq }
+    ensures request_response_open { IsEquality ⟦<RequestResponseOpenError as PartialEq>⟧.eq }
+    ensures request_response_create { IsEquality ⟦<RequestResponseCreateError as PartialEq>⟧.eq }
+    ensures request_response_open_or_create { IsEquality ⟦<RequestResponseOpenOrCreateError as PartialEq>⟧.eq }
+    ensures state { IsEquality ⟦<ServiceState as PartialEq>⟧.eq }
+    ensures publish_subscribe_state { IsEquality ⟦<publish_subscribe::ServiceAvailabilityState as PartialEq>⟧.eq }
+    ensures request_response_state { IsEquality ⟦<request_response::ServiceAvailabilityState as PartialEq>⟧.eq }
 {}
 
 /// What a look finds wrong, whatever the pattern.

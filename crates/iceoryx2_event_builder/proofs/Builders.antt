@@ -1,5 +1,6 @@
 -- A builder of events is a builder like each other one.
 use Rattle.std.proofs.Common.{◌≡◌, false, refl}
+use Rattle.std.specs.Prelude.{map}
 use Rattle.iceoryx2_attribute.specs.Requirements.{Requirements}
 use Rattle.iceoryx2_description.specs.Description.{Description}
 use Rattle.iceoryx2_description.specs.declared.description.MessagingPattern.{MessagingPattern}
@@ -15,6 +16,7 @@ use Rattle.iceoryx2_event_builder.specs.Event.{event_creating, event_opening, ev
 use Rattle.iceoryx2_event_builder.proofs.Regular.{creating_is_regular, opening_is_regular, event_takes_nodes}
 use Rattle.iceoryx2_event_builder.proofs.OwnSettings.{own_settings}
 use Rattle.iceoryx2_builder_common.specs.Builders.{IsLawfulBuilder}
+use Rattle.iceoryx2_builder_common.specs.Rows.{tested}
 
 pub event_builder : (demand : EventDemand) → IsLawfulBuilder (event_creating demand) (event_opening demand)
 event_builder demand = record {
@@ -32,7 +34,7 @@ Ends error = event_retried.of_open error ≡ false
 settings_end : (demand : EventDemand) (pattern : MessagingPattern) → Errs Ends (setting_clauses demand pattern)
 unfolding at_least number_is span_is
 settings_end demand (existing.Event s) =
-    rows_err Ends (setting_rows demand.settings demand.marks s) (refl, (refl, (refl, (refl, (refl, (refl, (refl, (refl, tt))))))))
+    rows_err Ends (map tested (setting_rows demand.settings demand.marks s)) (refl, (refl, (refl, (refl, (refl, (refl, (refl, (refl, tt))))))))
 settings_end demand (existing.PublishSubscribe s) = tt
 settings_end demand (existing.RequestResponse s) = tt
 

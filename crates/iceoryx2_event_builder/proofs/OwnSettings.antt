@@ -1,13 +1,14 @@
 -- What a builder's adjusted settings publish is accepted by the same builder.
-use Rattle.std.proofs.Common.{◌≡◌, true, List, [], Option, Some, None, Ok, refl}
+use Rattle.std.proofs.Common.{◌≡◌, ℕ, true, List, Option, Some, None, Ok, refl, rules}
+use Rattle.std.specs.Prelude.{Result}
 use Rattle.std.specs.Option.{option_map}
 use Rattle.iceoryx2_description.specs.Span.{Span}
 use Rattle.iceoryx2_description.specs.declared.event.Deadline.{Deadline}
-use Rattle.iceoryx2_pattern.specs.Verdict.{verdict, is_same_span}
+use Rattle.iceoryx2_pattern.specs.Verdict.{verdict, at_least, number_is, span_is, is_same_span}
 use Rattle.iceoryx2_create_and_open.specs.Caller.{Caller}
-use Rattle.iceoryx2_create_and_open.specs.Creates.{description_of, time_of}
-use Rattle.iceoryx2_pattern.proofs.Verdicts.{no_row}
-use Rattle.iceoryx2_pattern.proofs.MetRows.{offers, sends, lasts, then_more, not_less, same_number, same_choice}
+use Rattle.iceoryx2_create_and_open.specs.Creates.{description_of}
+use Rattle.iceoryx2_pattern.proofs.MetRows.{not_less, same_number, same_choice}
+use Rattle.iceoryx2_builder_common.proofs.Rows.{accepted}
 use Rattle.iceoryx2_builder_common.proofs.Raised.{not_below}
 use Rattle.iceoryx2_event_builder.specs.declared.event.demand.EventDemand.{EventDemand}
 use Rattle.iceoryx2_attribute.specs.Attributes.{Pair}
@@ -23,15 +24,8 @@ same_deadline now (Some d) = rw (same_number d.value.seconds) (same_number d.val
 
 meets : (demand : EventDemand) (caller : Caller)
     → verdict ((event_meaning demand).requirement (description_of (event_meaning (event_adjusted demand)) caller)) ≡ Ok tt
-meets demand caller =
-    then_more _ _ (offers _ _ _ _ (not_below demand.settings.max_notifiers))
-    (then_more _ _ (offers _ _ _ _ (not_below demand.settings.max_listeners))
-    (then_more _ _ (offers _ _ _ _ (not_less demand.settings.event_id_max_value))
-    (then_more _ _ (offers _ _ _ _ (not_below demand.settings.max_nodes))
-    (then_more _ _ (sends _ _ _ _ (same_choice demand.settings.notifier_created_event))
-    (then_more _ _ (sends _ _ _ _ (same_choice demand.settings.notifier_dropped_event))
-    (then_more _ _ (sends _ _ _ _ (same_choice demand.settings.notifier_dead_event))
-    (then_more _ [] (lasts _ _ _ _ (same_deadline (time_of caller.now) demand.settings.deadline)) no_row)))))))
+unfolding at_least number_is span_is
+meets demand caller = accepted _ (search (rules, not_below, not_less, same_choice, same_deadline))
 
 pub own_settings : (demand : EventDemand) (given : List Pair) (caller : Caller)
     → AcceptsOwn (event_creating demand given) (event_opening demand no_requirements) caller

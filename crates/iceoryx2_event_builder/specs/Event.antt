@@ -8,28 +8,26 @@ use Rattle.iceoryx2_description.specs.declared.description.MessagingPattern.{Mes
 use Rattle.iceoryx2_description.specs.declared.description.MessagingPattern.TheVariants as existing
 use Rattle.iceoryx2_description.specs.declared.event.StaticConfig.{StaticConfig as Settings}
 use Rattle.iceoryx2_description.specs.declared.event.Deadline.{Deadline}
-use Rattle.iceoryx2_pattern.specs.Verdict.{Clause, SettingRow, at_least, number_is, span_is, marked_clauses}
+use Rattle.iceoryx2_pattern.specs.Verdict.{Clause}
 use Rattle.iceoryx2_pattern.specs.Meaning.{Meaning}
 use Rattle.iceoryx2_pattern.specs.OwnAttributes.{defining, requiring}
-use Rattle.iceoryx2_errors.specs.States.{open_error_of_state, create_error_of_state}
+use Rattle.iceoryx2_errors.specs.States.{open_error_of_state, open_errors_of_events}
+use Rattle.iceoryx2_errors.specs.States.{create_error_of_state, create_errors_of_events}
 use Rattle.iceoryx2_errors.specs.declared.error.ServiceState.{ServiceState}
 use Rattle.iceoryx2_errors.specs.declared.error.ServiceState.TheVariants as state
 use Rattle.iceoryx2_errors.specs.declared.error.events.EventOpenError.{EventOpenError}
 use Rattle.iceoryx2_errors.specs.declared.error.events.EventOpenError.TheVariants as opening
 use Rattle.iceoryx2_errors.specs.declared.error.events.EventCreateError.{EventCreateError}
-use Rattle.iceoryx2_errors.specs.declared.error.events.EventCreateError.TheVariants as creating
 use Rattle.iceoryx2_errors.specs.contracts.error.events.EventOpenErrorPartialEq.TheImpl as same_opening
 use Rattle.iceoryx2_errors.specs.contracts.error.events.EventCreateErrorPartialEq.TheImpl as same_creating
 use Rattle.iceoryx2_errors.specs.declared.error.events.EventOpenOrCreateError.{EventOpenOrCreateError}
 use Rattle.iceoryx2_errors.specs.declared.error.events.EventOpenOrCreateError.TheVariants as either
-use Rattle.iceoryx2_pattern.specs.declared.pattern.OpenRefusal.{OpenRefusal}
-use Rattle.iceoryx2_pattern.specs.declared.pattern.OpenRefusal.TheVariants as open_refusal
-use Rattle.iceoryx2_pattern.specs.declared.pattern.CreateRefusal.{CreateRefusal}
-use Rattle.iceoryx2_pattern.specs.declared.pattern.CreateRefusal.TheVariants as create_refusal
 use Rattle.iceoryx2_open_or_create.specs.Retried.{Retried, retried_by}
 use Rattle.iceoryx2_open_or_create.specs.declared.open_or_create.OpenOrCreateRefusal.{OpenOrCreateRefusal}
 use Rattle.iceoryx2_open_or_create.specs.declared.open_or_create.OpenOrCreateRefusal.TheVariants as refusal
 use Rattle.iceoryx2_builder_common.specs.Zeros.{at_least_one}
+use Rattle.iceoryx2_builder_common.specs.Rows.{Row, AtLeast, SameNumber, SameSpan, row_clauses}
+use Rattle.iceoryx2_builder_common.specs.Refused.{open_error_of_refusal, create_error_of_refusal}
 use Rattle.iceoryx2_event_builder.specs.declared.event.demand.EventDemand.{EventDemand}
 use Rattle.iceoryx2_event_builder.specs.declared.event.demand.Marks.{Marks}
 
@@ -38,28 +36,28 @@ abbrev pub deadline_value : Option Deadline → Option Span
 deadline_value deadline = option_map (λ d. d.value) deadline
 
 -- the settings in order, each with its test and its error
-abbrev pub setting_rows : Settings → Marks → Settings → List (SettingRow EventOpenError)
+abbrev pub setting_rows : Settings → Marks → Settings → List (Row EventOpenError)
 setting_rows required marks existing =
-    at_least marks.max_notifiers existing.max_notifiers required.max_notifiers
+    AtLeast marks.max_notifiers existing.max_notifiers required.max_notifiers
     opening.DoesNotSupportRequestedAmountOfNotifiers ∷
-    at_least marks.max_listeners existing.max_listeners required.max_listeners
+    AtLeast marks.max_listeners existing.max_listeners required.max_listeners
     opening.DoesNotSupportRequestedAmountOfListeners ∷
-    at_least marks.event_id_max_value existing.event_id_max_value required.event_id_max_value
+    AtLeast marks.event_id_max_value existing.event_id_max_value required.event_id_max_value
     opening.DoesNotSupportRequestedMaxEventId ∷
-    at_least marks.max_nodes existing.max_nodes required.max_nodes
+    AtLeast marks.max_nodes existing.max_nodes required.max_nodes
     opening.DoesNotSupportRequestedAmountOfNodes ∷
-    number_is marks.notifier_created_event existing.notifier_created_event required.notifier_created_event
+    SameNumber marks.notifier_created_event existing.notifier_created_event required.notifier_created_event
     opening.IncompatibleNotifierCreatedEvent ∷
-    number_is marks.notifier_dropped_event existing.notifier_dropped_event required.notifier_dropped_event
+    SameNumber marks.notifier_dropped_event existing.notifier_dropped_event required.notifier_dropped_event
     opening.IncompatibleNotifierDroppedEvent ∷
-    number_is marks.notifier_dead_event existing.notifier_dead_event required.notifier_dead_event
+    SameNumber marks.notifier_dead_event existing.notifier_dead_event required.notifier_dead_event
     opening.IncompatibleNotifierDeadEvent ∷
-    span_is marks.deadline (deadline_value existing.deadline) (deadline_value required.deadline)
+    SameSpan marks.deadline (deadline_value existing.deadline) (deadline_value required.deadline)
     opening.IncompatibleDeadline ∷
     []
 
 abbrev pub setting_clauses : EventDemand → MessagingPattern → List (Clause EventOpenError)
-setting_clauses demand (existing.Event settings) = marked_clauses (setting_rows demand.settings demand.marks settings)
+setting_clauses demand (existing.Event settings) = row_clauses (setting_rows demand.settings demand.marks settings)
 setting_clauses demand (existing.PublishSubscribe settings) = []
 setting_clauses demand (existing.RequestResponse settings) = []
 
@@ -68,23 +66,6 @@ abbrev pub misfit_of : MessagingPattern → Option ServiceState
 misfit_of (existing.Event settings) = None
 misfit_of (existing.PublishSubscribe settings) = Some state.IncompatibleMessagingPattern
 misfit_of (existing.RequestResponse settings) = Some state.IncompatibleMessagingPattern
-
-abbrev pub open_error_of_refusal : OpenRefusal → EventOpenError
-open_error_of_refusal open_refusal.DoesNotExist = opening.DoesNotExist
-open_error_of_refusal open_refusal.IncompatibleAttributes = opening.IncompatibleAttributes
-open_error_of_refusal open_refusal.ServiceInCorruptedState = opening.ServiceInCorruptedState
-open_error_of_refusal open_refusal.InternalFailure = opening.InternalFailure
-open_error_of_refusal open_refusal.ExceedsMaxNumberOfNodes = opening.ExceedsMaxNumberOfNodes
-open_error_of_refusal open_refusal.IsMarkedForDestruction = opening.IsMarkedForDestruction
-open_error_of_refusal open_refusal.OutOfMemory = opening.OutOfMemory
-
-abbrev pub create_error_of_refusal : CreateRefusal → EventCreateError
-create_error_of_refusal create_refusal.ServiceInCorruptedState = creating.ServiceInCorruptedState
-create_error_of_refusal create_refusal.InternalFailure = creating.InternalFailure
-create_error_of_refusal create_refusal.IsBeingCreatedByAnotherInstance = creating.IsBeingCreatedByAnotherInstance
-create_error_of_refusal create_refusal.AlreadyExists = creating.AlreadyExists
-create_error_of_refusal create_refusal.InsufficientPermissions = creating.InsufficientPermissions
-create_error_of_refusal create_refusal.OutOfMemory = creating.OutOfMemory
 
 -- zeros become one where a service has to have room for somebody
 abbrev pub event_adjusted : EventDemand → EventDemand
@@ -105,10 +86,10 @@ event_meaning demand = record {
   fault = λ state. state;
   misfit = λ d. misfit_of d.pattern;
   requirement = λ d. setting_clauses demand d.pattern;
-  open_error_of = open_error_of_state;
-  open_refusal = open_error_of_refusal;
-  create_error_of = create_error_of_state;
-  create_refusal = create_error_of_refusal;
+  open_error_of = open_error_of_state open_errors_of_events;
+  open_refusal = open_error_of_refusal open_errors_of_events;
+  create_error_of = create_error_of_state create_errors_of_events;
+  create_refusal = create_error_of_refusal create_errors_of_events;
   history_refusal = None;
   needs_clock = is_some demand.settings.deadline;
   attributes = [];
@@ -126,7 +107,8 @@ event_opening demand required = requiring required (event_meaning demand)
 
 -- after which errors an open or create goes on
 abbrev pub event_retried : Retried EventOpenError EventCreateError
-event_retried = retried_by same_opening.ghosts.eq same_creating.ghosts.eq open_error_of_refusal create_error_of_refusal
+event_retried = retried_by same_opening.ghosts.eq same_creating.ghosts.eq
+    (open_error_of_refusal open_errors_of_events) (create_error_of_refusal create_errors_of_events)
 
 -- what the rounds of an open or create call its error
 abbrev pub event_refusal : EventOpenOrCreateError → OpenOrCreateRefusal EventOpenError EventCreateError

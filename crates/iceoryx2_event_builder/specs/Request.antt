@@ -5,7 +5,9 @@ use Rattle.iceoryx2_description.specs.declared.config.Event.{Event as EventDefau
 use Rattle.iceoryx2_description.specs.declared.event.Deadline.{Deadline}
 use Rattle.iceoryx2_description.specs.Span.{Span, zero_span}
 use Rattle.iceoryx2_event_builder.specs.declared.event.TheConstants.{PREFIX}
+use Rattle.iceoryx2_description.specs.declared.event.StaticConfig.{StaticConfig as Settings}
 use Rattle.iceoryx2_event_builder.specs.declared.event.demand.EventDemand.{EventDemand}
+use Rattle.iceoryx2_event_builder.specs.declared.event.demand.Marks.{Marks}
 use Rattle.iceoryx2_event_builder.specs.declared.event.setting.EventSetter.{EventSetter}
 use Rattle.iceoryx2_event_builder.specs.declared.event.setting.EventSetter.TheVariants as set
 
@@ -51,40 +53,28 @@ fresh_demand defaults = record {
 abbrev pub fresh_builder : ℕ → List ℕ → EventDefaults → EventBuilderState
 fresh_builder node name defaults = record { node = node; name = name; demand = fresh_demand defaults }
 
+-- with other settings and marks
+abbrev pub demanding : EventDemand → (Settings → Settings) → (Marks → Marks) → EventDemand
+demanding d settings marks = record { settings = settings d.settings; marks = marks d.marks }
+
 -- The settings after one setter: its value is set, and the setting is marked.
 abbrev pub demand_with : EventDemand → EventSetter → EventDemand
-demand_with demand (set.MaxNotifiers n) = record {
-  settings = record demand.settings { max_notifiers = n };
-  marks = record demand.marks { max_notifiers = true };
-}
-demand_with demand (set.MaxListeners n) = record {
-  settings = record demand.settings { max_listeners = n };
-  marks = record demand.marks { max_listeners = true };
-}
-demand_with demand (set.EventIdMaxValue n) = record {
-  settings = record demand.settings { event_id_max_value = n };
-  marks = record demand.marks { event_id_max_value = true };
-}
-demand_with demand (set.MaxNodes n) = record {
-  settings = record demand.settings { max_nodes = n };
-  marks = record demand.marks { max_nodes = true };
-}
-demand_with demand (set.NotifierCreatedEvent id) = record {
-  settings = record demand.settings { notifier_created_event = id };
-  marks = record demand.marks { notifier_created_event = true };
-}
-demand_with demand (set.NotifierDroppedEvent id) = record {
-  settings = record demand.settings { notifier_dropped_event = id };
-  marks = record demand.marks { notifier_dropped_event = true };
-}
-demand_with demand (set.NotifierDeadEvent id) = record {
-  settings = record demand.settings { notifier_dead_event = id };
-  marks = record demand.marks { notifier_dead_event = true };
-}
-demand_with demand (set.Deadline value) = record {
-  settings = record demand.settings { deadline = option_map demanded_deadline value };
-  marks = record demand.marks { deadline = true };
-}
+demand_with d (set.MaxNotifiers n) =
+    demanding d (λ s. record s { max_notifiers = n }) (λ m. record m { max_notifiers = true })
+demand_with d (set.MaxListeners n) =
+    demanding d (λ s. record s { max_listeners = n }) (λ m. record m { max_listeners = true })
+demand_with d (set.EventIdMaxValue n) =
+    demanding d (λ s. record s { event_id_max_value = n }) (λ m. record m { event_id_max_value = true })
+demand_with d (set.MaxNodes n) =
+    demanding d (λ s. record s { max_nodes = n }) (λ m. record m { max_nodes = true })
+demand_with d (set.NotifierCreatedEvent id) =
+    demanding d (λ s. record s { notifier_created_event = id }) (λ m. record m { notifier_created_event = true })
+demand_with d (set.NotifierDroppedEvent id) =
+    demanding d (λ s. record s { notifier_dropped_event = id }) (λ m. record m { notifier_dropped_event = true })
+demand_with d (set.NotifierDeadEvent id) =
+    demanding d (λ s. record s { notifier_dead_event = id }) (λ m. record m { notifier_dead_event = true })
+demand_with d (set.Deadline value) =
+    demanding d (λ s. record s { deadline = option_map demanded_deadline value }) (λ m. record m { deadline = true })
 
 -- a builder after one setter
 abbrev pub with_setting : EventBuilderState → EventSetter → EventBuilderState

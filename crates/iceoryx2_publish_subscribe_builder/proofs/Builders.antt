@@ -1,5 +1,6 @@
 -- A builder of publish-subscribe is a builder like each other one.
-use Rattle.std.proofs.Common.{◌≡◌, Bool, false, true, cond, List, [], Some, None, Ok, refl, sym, ap}
+use Rattle.std.proofs.Common.{◌≡◌, Bool, false, true, cond, ℕ, List, Result, Some, None, Ok, refl, sym, ap, rules}
+use Rattle.std.specs.Prelude.{map}
 use Rattle.iceoryx2_types.specs.Types.{Message, compatible}
 use Rattle.iceoryx2_attribute.specs.Attributes.{Pair}
 use Rattle.iceoryx2_attribute.specs.Requirements.{Requirements, no_requirements}
@@ -11,8 +12,8 @@ use Rattle.iceoryx2_errors.specs.declared.error.publish_subscribe.ServiceAvailab
 use Rattle.iceoryx2_errors.specs.declared.error.publish_subscribe.PublishSubscribeCreateError.TheVariants as creating
 use Rattle.iceoryx2_pattern.specs.Regular.{IsRegular}
 use Rattle.iceoryx2_pattern.specs.Verdict.{at_least, flag_is, verdict}
-use Rattle.iceoryx2_pattern.proofs.Verdicts.{no_row}
-use Rattle.iceoryx2_pattern.proofs.MetRows.{offers, keeps, then_more, not_less, same_flag}
+use Rattle.iceoryx2_pattern.proofs.MetRows.{not_less, same_flag}
+use Rattle.iceoryx2_builder_common.proofs.Rows.{accepted}
 use Rattle.iceoryx2_create_and_open.specs.Caller.{Caller}
 use Rattle.iceoryx2_create_and_open.specs.Creates.{description_of}
 use Rattle.iceoryx2_create_and_open.specs.OwnSettings.{AcceptsOwn}
@@ -24,6 +25,7 @@ use Rattle.iceoryx2_errors.specs.declared.error.publish_subscribe.PublishSubscri
 use Rattle.iceoryx2_errors.specs.declared.error.publish_subscribe.PublishSubscribeOpenError.TheVariants as opening
 use Rattle.iceoryx2_errors.specs.declared.error.publish_subscribe.PublishSubscribeCreateError.{PublishSubscribeCreateError}
 use Rattle.iceoryx2_builder_common.specs.Builders.{IsLawfulBuilder}
+use Rattle.iceoryx2_builder_common.specs.Rows.{tested}
 use Rattle.iceoryx2_publish_subscribe_builder.specs.declared.publish_subscribe.demand.PreparedDemand.{PreparedDemand}
 use Rattle.iceoryx2_publish_subscribe_builder.specs.PublishSubscribe.{prepared_adjusted, prepared_meaning, publish_subscribe_retried, setting_clauses, setting_rows}
 use Rattle.iceoryx2_builder_common.proofs.Misfits.{fits_itself, is_told, is_tested}
@@ -54,14 +56,8 @@ opening_is_regular demand message required =
 
 meets : (demand : PublishSubscribeDemand) (message : Message) (caller : Caller)
     → verdict ((publish_subscribe_meaning demand message).requirement (description_of (publish_subscribe_meaning (publish_subscribe_adjusted demand) message) caller)) ≡ Ok tt
-meets demand message caller =
-    then_more _ _ (offers _ _ _ _ (not_below demand.settings.max_publishers))
-    (then_more _ _ (offers _ _ _ _ (not_below demand.settings.max_subscribers))
-    (then_more _ _ (offers _ _ _ _ (not_below demand.settings.subscriber_max_buffer_size))
-    (then_more _ _ (offers _ _ _ _ (not_less demand.settings.history_size))
-    (then_more _ _ (offers _ _ _ _ (not_below demand.settings.subscriber_max_borrowed_samples))
-    (then_more _ _ (keeps _ _ _ _ (same_flag demand.settings.enable_safe_overflow))
-    (then_more _ [] (offers _ _ _ _ (not_below demand.settings.max_nodes)) no_row))))))
+unfolding at_least flag_is
+meets demand message caller = accepted _ (search (rules, not_below, not_less, same_flag))
 
 own_settings : (demand : PublishSubscribeDemand) (message : Message) (given : List Pair) (caller : Caller)
     → AcceptsOwn (publish_subscribe_creating demand message given) (publish_subscribe_opening demand message no_requirements) caller
@@ -88,7 +84,7 @@ settings_end : (demand : PublishSubscribeDemand) (pattern : MessagingPattern) �
 unfolding at_least flag_is
 settings_end demand (existing.Event s) = tt
 settings_end demand (existing.PublishSubscribe s) =
-    rows_err Ends (setting_rows demand.settings demand.marks s) (refl, (refl, (refl, (refl, (refl, (refl, (refl, tt)))))))
+    rows_err Ends (map tested (setting_rows demand.settings demand.marks s)) (refl, (refl, (refl, (refl, (refl, (refl, (refl, tt)))))))
 settings_end demand (existing.RequestResponse s) = tt
 
 requirement_ends : (asked : PreparedDemand) (required : Requirements) (d : Description) → Errs Ends ((requiring required (prepared_meaning asked)).requirement d)

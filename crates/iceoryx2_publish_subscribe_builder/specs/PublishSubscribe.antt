@@ -7,14 +7,11 @@ use Rattle.iceoryx2_description.specs.declared.config.PublishSubscribe.{PublishS
 use Rattle.iceoryx2_description.specs.declared.publish_subscribe.StaticConfig.{StaticConfig as Existing}
 use Rattle.iceoryx2_description.specs.declared.description.MessagingPattern.{MessagingPattern}
 use Rattle.iceoryx2_description.specs.declared.description.MessagingPattern.TheVariants as existing
-use Rattle.iceoryx2_pattern.specs.Verdict.{Clause, SettingRow, at_least, flag_is, marked_clauses}
+use Rattle.iceoryx2_pattern.specs.Verdict.{Clause}
 use Rattle.iceoryx2_pattern.specs.Meaning.{Meaning}
 use Rattle.iceoryx2_pattern.specs.OwnAttributes.{defining, requiring}
-use Rattle.iceoryx2_pattern.specs.declared.pattern.OpenRefusal.{OpenRefusal}
-use Rattle.iceoryx2_pattern.specs.declared.pattern.OpenRefusal.TheVariants as open_refusal
-use Rattle.iceoryx2_pattern.specs.declared.pattern.CreateRefusal.{CreateRefusal}
-use Rattle.iceoryx2_pattern.specs.declared.pattern.CreateRefusal.TheVariants as create_refusal
-use Rattle.iceoryx2_errors.specs.States.{publish_subscribe_open_error_of_state, publish_subscribe_create_error_of_state}
+use Rattle.iceoryx2_errors.specs.States.{publish_subscribe_open_error_of_state, open_errors_of_publish_subscribe}
+use Rattle.iceoryx2_errors.specs.States.{publish_subscribe_create_error_of_state, create_errors_of_publish_subscribe}
 use Rattle.iceoryx2_errors.specs.declared.error.ServiceState.TheVariants as state
 use Rattle.iceoryx2_errors.specs.declared.error.publish_subscribe.ServiceAvailabilityState.{ServiceAvailabilityState}
 use Rattle.iceoryx2_errors.specs.declared.error.publish_subscribe.ServiceAvailabilityState.TheVariants as look
@@ -30,33 +27,35 @@ use Rattle.iceoryx2_open_or_create.specs.Retried.{Retried, retried_by}
 use Rattle.iceoryx2_open_or_create.specs.declared.open_or_create.OpenOrCreateRefusal.{OpenOrCreateRefusal}
 use Rattle.iceoryx2_open_or_create.specs.declared.open_or_create.OpenOrCreateRefusal.TheVariants as refusal
 use Rattle.iceoryx2_builder_common.specs.Zeros.{at_least_one}
+use Rattle.iceoryx2_builder_common.specs.Rows.{Row, AtLeast, SameFlag, row_clauses}
+use Rattle.iceoryx2_builder_common.specs.Refused.{open_error_of_refusal, create_error_of_refusal}
 use Rattle.iceoryx2_publish_subscribe_builder.specs.declared.publish_subscribe.demand.Marks.{Marks}
 use Rattle.iceoryx2_publish_subscribe_builder.specs.declared.publish_subscribe.demand.PublishSubscribeDemand.{PublishSubscribeDemand}
 use Rattle.iceoryx2_publish_subscribe_builder.specs.declared.publish_subscribe.demand.PreparedDemand.{PreparedDemand}
 
 -- the settings in order, each with its test and its error
-abbrev pub setting_rows : Settings → Marks → Existing → List (SettingRow PublishSubscribeOpenError)
+abbrev pub setting_rows : Settings → Marks → Existing → List (Row PublishSubscribeOpenError)
 setting_rows required marks existing =
-    at_least marks.max_publishers existing.max_publishers required.max_publishers
+    AtLeast marks.max_publishers existing.max_publishers required.max_publishers
     opening.DoesNotSupportRequestedAmountOfPublishers ∷
-    at_least marks.max_subscribers existing.max_subscribers required.max_subscribers
+    AtLeast marks.max_subscribers existing.max_subscribers required.max_subscribers
     opening.DoesNotSupportRequestedAmountOfSubscribers ∷
-    at_least marks.subscriber_max_buffer_size existing.subscriber_max_buffer_size required.subscriber_max_buffer_size
+    AtLeast marks.subscriber_max_buffer_size existing.subscriber_max_buffer_size required.subscriber_max_buffer_size
     opening.DoesNotSupportRequestedMinBufferSize ∷
-    at_least marks.history_size existing.history_size required.history_size
+    AtLeast marks.history_size existing.history_size required.history_size
     opening.DoesNotSupportRequestedMinHistorySize ∷
-    at_least marks.subscriber_max_borrowed_samples existing.subscriber_max_borrowed_samples
+    AtLeast marks.subscriber_max_borrowed_samples existing.subscriber_max_borrowed_samples
     required.subscriber_max_borrowed_samples opening.DoesNotSupportRequestedMinSubscriberBorrowedSamples ∷
-    flag_is marks.enable_safe_overflow existing.enable_safe_overflow required.enable_safe_overflow
+    SameFlag marks.enable_safe_overflow existing.enable_safe_overflow required.enable_safe_overflow
     opening.IncompatibleOverflowBehavior ∷
-    at_least marks.max_nodes existing.max_nodes required.max_nodes
+    AtLeast marks.max_nodes existing.max_nodes required.max_nodes
     opening.DoesNotSupportRequestedAmountOfNodes ∷
     []
 
 abbrev pub setting_clauses : PublishSubscribeDemand → MessagingPattern → List (Clause PublishSubscribeOpenError)
 setting_clauses demand (existing.Event settings) = []
 setting_clauses demand (existing.PublishSubscribe settings) =
-    marked_clauses (setting_rows demand.settings demand.marks settings)
+    row_clauses (setting_rows demand.settings demand.marks settings)
 setting_clauses demand (existing.RequestResponse settings) = []
 
 -- another pattern than publish-subscribe, or messages of which its own can't be
@@ -65,23 +64,6 @@ misfit_of message (existing.Event settings) = Some (look.ServiceState state.Inco
 misfit_of message (existing.PublishSubscribe settings) =
     if compatible message settings.message_type_details then None else Some look.IncompatibleTypes
 misfit_of message (existing.RequestResponse settings) = Some (look.ServiceState state.IncompatibleMessagingPattern)
-
-abbrev pub open_error_of_refusal : OpenRefusal → PublishSubscribeOpenError
-open_error_of_refusal open_refusal.DoesNotExist = opening.DoesNotExist
-open_error_of_refusal open_refusal.IncompatibleAttributes = opening.IncompatibleAttributes
-open_error_of_refusal open_refusal.ServiceInCorruptedState = opening.ServiceInCorruptedState
-open_error_of_refusal open_refusal.InternalFailure = opening.InternalFailure
-open_error_of_refusal open_refusal.ExceedsMaxNumberOfNodes = opening.ExceedsMaxNumberOfNodes
-open_error_of_refusal open_refusal.IsMarkedForDestruction = opening.IsMarkedForDestruction
-open_error_of_refusal open_refusal.OutOfMemory = opening.OutOfMemory
-
-abbrev pub create_error_of_refusal : CreateRefusal → PublishSubscribeCreateError
-create_error_of_refusal create_refusal.ServiceInCorruptedState = creating.ServiceInCorruptedState
-create_error_of_refusal create_refusal.InternalFailure = creating.InternalFailure
-create_error_of_refusal create_refusal.IsBeingCreatedByAnotherInstance = creating.IsBeingCreatedByAnotherInstance
-create_error_of_refusal create_refusal.AlreadyExists = creating.AlreadyExists
-create_error_of_refusal create_refusal.InsufficientPermissions = creating.InsufficientPermissions
-create_error_of_refusal create_refusal.OutOfMemory = creating.OutOfMemory
 
 -- zeros become one where a service has to have room for somebody or something; a service may have no history
 abbrev pub publish_subscribe_adjusted : PublishSubscribeDemand → PublishSubscribeDemand
@@ -124,9 +106,9 @@ publish_subscribe_meaning demand message = record {
   misfit = λ d. misfit_of message d.pattern;
   requirement = λ d. setting_clauses demand d.pattern;
   open_error_of = publish_subscribe_open_error_of_state;
-  open_refusal = open_error_of_refusal;
+  open_refusal = open_error_of_refusal open_errors_of_publish_subscribe;
   create_error_of = publish_subscribe_create_error_of_state;
-  create_refusal = create_error_of_refusal;
+  create_refusal = create_error_of_refusal create_errors_of_publish_subscribe;
   history_refusal = history_refusal_of demand.settings;
   needs_clock = false;
   attributes = [];
@@ -155,7 +137,8 @@ prepared_adjusted asked = record asked { demand = publish_subscribe_adjusted ask
 -- after which errors an open or create goes on
 abbrev pub publish_subscribe_retried : Retried PublishSubscribeOpenError PublishSubscribeCreateError
 publish_subscribe_retried =
-    retried_by same_opening.ghosts.eq same_creating.ghosts.eq open_error_of_refusal create_error_of_refusal
+    retried_by same_opening.ghosts.eq same_creating.ghosts.eq
+    (open_error_of_refusal open_errors_of_publish_subscribe) (create_error_of_refusal create_errors_of_publish_subscribe)
 
 -- what the rounds of an open or create call its error
 abbrev pub publish_subscribe_refusal : PublishSubscribeOpenOrCreateError

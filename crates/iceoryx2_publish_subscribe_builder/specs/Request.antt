@@ -41,34 +41,29 @@ abbrev pub fresh_builder : ℕ → List ℕ → Settings → PublishSubscribeBui
 fresh_builder node name defaults =
     record { node = node; name = name; demand = fresh_demand defaults; types = no_types }
 
--- these settings, and these marks
-abbrev pub demanding : PublishSubscribeBuilderState → Settings → Marks → PublishSubscribeBuilderState
-demanding request settings marks = record request { demand = record { settings = settings; marks = marks } }
+-- with other settings and marks
+abbrev pub demanding : PublishSubscribeBuilderState → (Settings → Settings) → (Marks → Marks) → PublishSubscribeBuilderState
+demanding r settings marks =
+    record r { demand = record { settings = settings r.demand.settings; marks = marks r.demand.marks } }
 
 -- The builder after one setter: a setting's value is set, and the setting is marked. The last three are no settings of
 -- the service, and mark nothing.
 abbrev pub with_setting : PublishSubscribeBuilderState → PublishSubscribeSetter → PublishSubscribeBuilderState
-with_setting r (set.MaxPublishers n) = demanding r
-    (record r.demand.settings { max_publishers = n })
-    (record r.demand.marks { max_publishers = true })
-with_setting r (set.MaxSubscribers n) = demanding r
-    (record r.demand.settings { max_subscribers = n })
-    (record r.demand.marks { max_subscribers = true })
-with_setting r (set.SubscriberMaxBufferSize n) = demanding r
-    (record r.demand.settings { subscriber_max_buffer_size = n })
-    (record r.demand.marks { subscriber_max_buffer_size = true })
-with_setting r (set.HistorySize n) = demanding r
-    (record r.demand.settings { history_size = n })
-    (record r.demand.marks { history_size = true })
+with_setting r (set.MaxPublishers n) =
+    demanding r (λ s. record s { max_publishers = n }) (λ m. record m { max_publishers = true })
+with_setting r (set.MaxSubscribers n) =
+    demanding r (λ s. record s { max_subscribers = n }) (λ m. record m { max_subscribers = true })
+with_setting r (set.SubscriberMaxBufferSize n) =
+    demanding r (λ s. record s { subscriber_max_buffer_size = n }) (λ m. record m { subscriber_max_buffer_size = true })
+with_setting r (set.HistorySize n) =
+    demanding r (λ s. record s { history_size = n }) (λ m. record m { history_size = true })
 with_setting r (set.SubscriberMaxBorrowedSamples n) = demanding r
-    (record r.demand.settings { subscriber_max_borrowed_samples = n })
-    (record r.demand.marks { subscriber_max_borrowed_samples = true })
-with_setting r (set.EnableSafeOverflow b) = demanding r
-    (record r.demand.settings { enable_safe_overflow = b })
-    (record r.demand.marks { enable_safe_overflow = true })
-with_setting r (set.MaxNodes n) = demanding r
-    (record r.demand.settings { max_nodes = n })
-    (record r.demand.marks { max_nodes = true })
+    (λ s. record s { subscriber_max_borrowed_samples = n })
+    (λ m. record m { subscriber_max_borrowed_samples = true })
+with_setting r (set.EnableSafeOverflow b) =
+    demanding r (λ s. record s { enable_safe_overflow = b }) (λ m. record m { enable_safe_overflow = true })
+with_setting r (set.MaxNodes n) =
+    demanding r (λ s. record s { max_nodes = n }) (λ m. record m { max_nodes = true })
 with_setting r (set.PayloadAlignment n) = record r { types = record r.types { alignment = Some n } }
 with_setting r (set.PayloadType detail) = record r { types = record r.types { payload = Some detail } }
 with_setting r (set.UserHeaderType detail) = record r { types = record r.types { user_header = Some detail } }

@@ -29,6 +29,7 @@ pub use crate::publish_subscribe::setting::PublishSubscribeSetter;
 use iceoryx2_access::storage::Service;
 use iceoryx2_attribute::attribute::{AttributeSpecifier, AttributeVerifier};
 use iceoryx2_builder_common::answer::hand_out;
+use iceoryx2_builder_common::ask_for;
 use iceoryx2_builder_common::base::BuilderWithServiceType;
 use iceoryx2_builder_common::requested::RequestedTypes;
 use iceoryx2_create_and_open::create::create;
@@ -191,34 +192,19 @@ impl<P: ZeroCopySend, U: ZeroCopySend, S: Service> Builder<P, U, S> {
         ensures { result ≡ with_setting self setting }
     {
         match setting {
-            PublishSubscribeSetter::MaxPublishers(value) => {
-                self.demand.settings.max_publishers = value;
-                self.demand.marks.max_publishers = true;
-            }
-            PublishSubscribeSetter::MaxSubscribers(value) => {
-                self.demand.settings.max_subscribers = value;
-                self.demand.marks.max_subscribers = true;
-            }
-            PublishSubscribeSetter::SubscriberMaxBufferSize(value) => {
-                self.demand.settings.subscriber_max_buffer_size = value;
-                self.demand.marks.subscriber_max_buffer_size = true;
-            }
-            PublishSubscribeSetter::HistorySize(value) => {
-                self.demand.settings.history_size = value;
-                self.demand.marks.history_size = true;
-            }
-            PublishSubscribeSetter::SubscriberMaxBorrowedSamples(value) => {
-                self.demand.settings.subscriber_max_borrowed_samples = value;
-                self.demand.marks.subscriber_max_borrowed_samples = true;
-            }
-            PublishSubscribeSetter::EnableSafeOverflow(value) => {
-                self.demand.settings.enable_safe_overflow = value;
-                self.demand.marks.enable_safe_overflow = true;
-            }
-            PublishSubscribeSetter::MaxNodes(value) => {
-                self.demand.settings.max_nodes = value;
-                self.demand.marks.max_nodes = true;
-            }
+            PublishSubscribeSetter::MaxPublishers(value) =>
+                ask_for!(self.demand; max_publishers = value),
+            PublishSubscribeSetter::MaxSubscribers(value) =>
+                ask_for!(self.demand; max_subscribers = value),
+            PublishSubscribeSetter::SubscriberMaxBufferSize(value) =>
+                ask_for!(self.demand; subscriber_max_buffer_size = value),
+            PublishSubscribeSetter::HistorySize(value) =>
+                ask_for!(self.demand; history_size = value),
+            PublishSubscribeSetter::SubscriberMaxBorrowedSamples(value) =>
+                ask_for!(self.demand; subscriber_max_borrowed_samples = value),
+            PublishSubscribeSetter::EnableSafeOverflow(value) =>
+                ask_for!(self.demand; enable_safe_overflow = value),
+            PublishSubscribeSetter::MaxNodes(value) => ask_for!(self.demand; max_nodes = value),
             PublishSubscribeSetter::PayloadAlignment(value) => self.types.alignment = Some(value),
             PublishSubscribeSetter::PayloadType(value) => self.types.payload = Some(value),
             PublishSubscribeSetter::UserHeaderType(value) => self.types.user_header = Some(value),

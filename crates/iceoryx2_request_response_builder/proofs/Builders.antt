@@ -1,5 +1,6 @@
 -- A builder of request-response is a builder like each other one.
-use Rattle.std.proofs.Common.{◌≡◌, Bool, false, cond, List, [], Some, None, Ok, refl}
+use Rattle.std.proofs.Common.{◌≡◌, Bool, false, cond, ℕ, List, Result, Some, None, Ok, refl, rules}
+use Rattle.std.specs.Prelude.{map}
 use Rattle.iceoryx2_types.specs.Types.{Message, compatible}
 use Rattle.iceoryx2_attribute.specs.Attributes.{Pair}
 use Rattle.iceoryx2_attribute.specs.Requirements.{Requirements, no_requirements}
@@ -11,8 +12,8 @@ use Rattle.iceoryx2_errors.specs.declared.error.request_response.ServiceAvailabi
 use Rattle.iceoryx2_errors.specs.declared.error.request_response.RequestResponseCreateError.TheVariants as creating
 use Rattle.iceoryx2_pattern.specs.Regular.{IsRegular}
 use Rattle.iceoryx2_pattern.specs.Verdict.{at_least, flag_is, verdict}
-use Rattle.iceoryx2_pattern.proofs.Verdicts.{no_row}
-use Rattle.iceoryx2_pattern.proofs.MetRows.{offers, keeps, then_more, same_flag}
+use Rattle.iceoryx2_pattern.proofs.MetRows.{same_flag}
+use Rattle.iceoryx2_builder_common.proofs.Rows.{accepted}
 use Rattle.iceoryx2_create_and_open.specs.Caller.{Caller}
 use Rattle.iceoryx2_create_and_open.specs.Creates.{description_of}
 use Rattle.iceoryx2_create_and_open.specs.OwnSettings.{AcceptsOwn}
@@ -23,6 +24,7 @@ use Rattle.iceoryx2_open_or_create.proofs.Ends.{Errs, attributes_err, both_err, 
 use Rattle.iceoryx2_errors.specs.declared.error.request_response.RequestResponseOpenError.{RequestResponseOpenError}
 use Rattle.iceoryx2_errors.specs.declared.error.request_response.RequestResponseOpenError.TheVariants as opening
 use Rattle.iceoryx2_builder_common.specs.Builders.{IsLawfulBuilder}
+use Rattle.iceoryx2_builder_common.specs.Rows.{tested}
 use Rattle.iceoryx2_request_response_builder.specs.declared.request_response.demand.PreparedDemand.{PreparedDemand}
 use Rattle.iceoryx2_request_response_builder.specs.RequestResponse.{prepared_adjusted, prepared_meaning, request_response_retried, setting_clauses, setting_rows}
 use Rattle.iceoryx2_builder_common.proofs.Misfits.{fits_itself, is_told, is_tested}
@@ -59,17 +61,8 @@ opening_is_regular demand request response required =
 meets : (demand : RequestResponseDemand) (request response : Message) (caller : Caller)
     → verdict ((request_response_meaning demand request response).requirement
     (description_of (request_response_meaning (request_response_adjusted demand) request response) caller)) ≡ Ok tt
-meets demand request response caller =
-    then_more _ _ (keeps _ _ _ _ (same_flag demand.settings.enable_safe_overflow_for_requests))
-    (then_more _ _ (keeps _ _ _ _ (same_flag demand.settings.enable_safe_overflow_for_responses))
-    (then_more _ _ (keeps _ _ _ _ (same_flag demand.settings.enable_fire_and_forget_requests))
-    (then_more _ _ (offers _ _ _ _ (not_below demand.settings.max_active_requests_per_client))
-    (then_more _ _ (offers _ _ _ _ (not_below demand.settings.max_loaned_requests))
-    (then_more _ _ (offers _ _ _ _ (not_below demand.settings.max_borrowed_responses_per_pending_response))
-    (then_more _ _ (offers _ _ _ _ (not_below demand.settings.max_response_buffer_size))
-    (then_more _ _ (offers _ _ _ _ (not_below demand.settings.max_servers))
-    (then_more _ _ (offers _ _ _ _ (not_below demand.settings.max_clients))
-    (then_more _ [] (offers _ _ _ _ (not_below demand.settings.max_nodes)) no_row)))))))))
+unfolding flag_is at_least
+meets demand request response caller = accepted _ (search (rules, not_below, same_flag))
 
 own_settings : (demand : RequestResponseDemand) (request response : Message) (given : List Pair) (caller : Caller)
     → AcceptsOwn (request_response_creating demand request response given) (request_response_opening demand request response no_requirements) caller
@@ -97,7 +90,7 @@ unfolding at_least flag_is
 settings_end demand (existing.Event s) = tt
 settings_end demand (existing.PublishSubscribe s) = tt
 settings_end demand (existing.RequestResponse s) =
-    rows_err Ends (setting_rows demand.settings demand.marks s) (refl, (refl, (refl, (refl, (refl, (refl, (refl, (refl, (refl, (refl, tt))))))))))
+    rows_err Ends (map tested (setting_rows demand.settings demand.marks s)) (refl, (refl, (refl, (refl, (refl, (refl, (refl, (refl, (refl, (refl, tt))))))))))
 
 requirement_ends : (asked : PreparedDemand) (required : Requirements) (d : Description) → Errs Ends ((requiring required (prepared_meaning asked)).requirement d)
 requirement_ends asked required d =

@@ -3,6 +3,7 @@ use Rattle.std.specs.Prelude.{ℕ, List, Some, false, true, codes}
 use Rattle.iceoryx2_types.specs.Types.{Detail, Message, fixed_size}
 use Rattle.iceoryx2_description.specs.declared.config.RequestResponse.{RequestResponse as Settings}
 use Rattle.iceoryx2_builder_common.specs.Requested.{no_types, requested_message}
+use Rattle.iceoryx2_builder_common.specs.declared.requested.RequestedTypes.{RequestedTypes}
 use Rattle.iceoryx2_request_response_builder.specs.declared.request_response.TheConstants.{PREFIX}
 use Rattle.iceoryx2_request_response_builder.specs.declared.request_response.demand.Marks.{Marks}
 use Rattle.iceoryx2_request_response_builder.specs.declared.request_response.demand.PreparedDemand.{PreparedDemand}
@@ -49,55 +50,52 @@ abbrev pub fresh_builder : ℕ → List ℕ → Settings → RequestResponseBuil
 fresh_builder node name defaults =
     record { node = node; name = name; demand = fresh_demand defaults; types = no_message_types }
 
--- these settings, and these marks
-abbrev pub demanding : RequestResponseBuilderState → Settings → Marks → RequestResponseBuilderState
-demanding request settings marks = record request { demand = record { settings = settings; marks = marks } }
+-- with other settings and marks
+abbrev pub demanding : RequestResponseBuilderState → (Settings → Settings) → (Marks → Marks) → RequestResponseBuilderState
+demanding r settings marks =
+    record r { demand = record { settings = settings r.demand.settings; marks = marks r.demand.marks } }
+
+-- with other types of its requests, and of its responses
+abbrev pub of_request : RequestResponseBuilderState → (RequestedTypes → RequestedTypes) → RequestResponseBuilderState
+of_request r types = record r { types = record r.types { request = types r.types.request } }
+
+abbrev pub of_response : RequestResponseBuilderState → (RequestedTypes → RequestedTypes) → RequestResponseBuilderState
+of_response r types = record r { types = record r.types { response = types r.types.response } }
 
 -- The builder after one setter: a setting's value is set, and the setting is marked. The last six are no settings of
 -- the service, and mark nothing.
 abbrev pub with_setting : RequestResponseBuilderState → RequestResponseSetter → RequestResponseBuilderState
 with_setting r (set.EnableSafeOverflowForRequests b) = demanding r
-    (record r.demand.settings { enable_safe_overflow_for_requests = b })
-    (record r.demand.marks { enable_safe_overflow_for_requests = true })
+    (λ s. record s { enable_safe_overflow_for_requests = b })
+    (λ m. record m { enable_safe_overflow_for_requests = true })
 with_setting r (set.EnableSafeOverflowForResponses b) = demanding r
-    (record r.demand.settings { enable_safe_overflow_for_responses = b })
-    (record r.demand.marks { enable_safe_overflow_for_responses = true })
+    (λ s. record s { enable_safe_overflow_for_responses = b })
+    (λ m. record m { enable_safe_overflow_for_responses = true })
 with_setting r (set.EnableFireAndForgetRequests b) = demanding r
-    (record r.demand.settings { enable_fire_and_forget_requests = b })
-    (record r.demand.marks { enable_fire_and_forget_requests = true })
+    (λ s. record s { enable_fire_and_forget_requests = b })
+    (λ m. record m { enable_fire_and_forget_requests = true })
 with_setting r (set.MaxActiveRequestsPerClient n) = demanding r
-    (record r.demand.settings { max_active_requests_per_client = n })
-    (record r.demand.marks { max_active_requests_per_client = true })
-with_setting r (set.MaxLoanedRequests n) = demanding r
-    (record r.demand.settings { max_loaned_requests = n })
-    (record r.demand.marks { max_loaned_requests = true })
+    (λ s. record s { max_active_requests_per_client = n })
+    (λ m. record m { max_active_requests_per_client = true })
+with_setting r (set.MaxLoanedRequests n) =
+    demanding r (λ s. record s { max_loaned_requests = n }) (λ m. record m { max_loaned_requests = true })
 with_setting r (set.MaxBorrowedResponsesPerPendingResponse n) = demanding r
-    (record r.demand.settings { max_borrowed_responses_per_pending_response = n })
-    (record r.demand.marks { max_borrowed_responses_per_pending_response = true })
-with_setting r (set.MaxResponseBufferSize n) = demanding r
-    (record r.demand.settings { max_response_buffer_size = n })
-    (record r.demand.marks { max_response_buffer_size = true })
-with_setting r (set.MaxServers n) = demanding r
-    (record r.demand.settings { max_servers = n })
-    (record r.demand.marks { max_servers = true })
-with_setting r (set.MaxClients n) = demanding r
-    (record r.demand.settings { max_clients = n })
-    (record r.demand.marks { max_clients = true })
-with_setting r (set.MaxNodes n) = demanding r
-    (record r.demand.settings { max_nodes = n })
-    (record r.demand.marks { max_nodes = true })
-with_setting r (set.RequestPayloadAlignment n) =
-    record r { types = record r.types { request = record r.types.request { alignment = Some n } } }
-with_setting r (set.ResponsePayloadAlignment n) =
-    record r { types = record r.types { response = record r.types.response { alignment = Some n } } }
-with_setting r (set.RequestPayloadType detail) =
-    record r { types = record r.types { request = record r.types.request { payload = Some detail } } }
-with_setting r (set.RequestHeaderType detail) =
-    record r { types = record r.types { request = record r.types.request { user_header = Some detail } } }
-with_setting r (set.ResponsePayloadType detail) =
-    record r { types = record r.types { response = record r.types.response { payload = Some detail } } }
-with_setting r (set.ResponseHeaderType detail) =
-    record r { types = record r.types { response = record r.types.response { user_header = Some detail } } }
+    (λ s. record s { max_borrowed_responses_per_pending_response = n })
+    (λ m. record m { max_borrowed_responses_per_pending_response = true })
+with_setting r (set.MaxResponseBufferSize n) =
+    demanding r (λ s. record s { max_response_buffer_size = n }) (λ m. record m { max_response_buffer_size = true })
+with_setting r (set.MaxServers n) =
+    demanding r (λ s. record s { max_servers = n }) (λ m. record m { max_servers = true })
+with_setting r (set.MaxClients n) =
+    demanding r (λ s. record s { max_clients = n }) (λ m. record m { max_clients = true })
+with_setting r (set.MaxNodes n) =
+    demanding r (λ s. record s { max_nodes = n }) (λ m. record m { max_nodes = true })
+with_setting r (set.RequestPayloadAlignment n) = of_request r (λ t. record t { alignment = Some n })
+with_setting r (set.ResponsePayloadAlignment n) = of_response r (λ t. record t { alignment = Some n })
+with_setting r (set.RequestPayloadType detail) = of_request r (λ t. record t { payload = Some detail })
+with_setting r (set.RequestHeaderType detail) = of_request r (λ t. record t { user_header = Some detail })
+with_setting r (set.ResponsePayloadType detail) = of_response r (λ t. record t { payload = Some detail })
+with_setting r (set.ResponseHeaderType detail) = of_response r (λ t. record t { user_header = Some detail })
 
 -- the header of each request, and of each response
 abbrev pub request_header : Detail

@@ -7,21 +7,17 @@ use Rattle.iceoryx2_description.specs.declared.config.RequestResponse.{RequestRe
 use Rattle.iceoryx2_description.specs.declared.request_response.StaticConfig.{StaticConfig as Existing}
 use Rattle.iceoryx2_description.specs.declared.description.MessagingPattern.{MessagingPattern}
 use Rattle.iceoryx2_description.specs.declared.description.MessagingPattern.TheVariants as existing
-use Rattle.iceoryx2_pattern.specs.Verdict.{Clause, SettingRow, at_least, flag_is, marked_clauses}
+use Rattle.iceoryx2_pattern.specs.Verdict.{Clause}
 use Rattle.iceoryx2_pattern.specs.Meaning.{Meaning}
 use Rattle.iceoryx2_pattern.specs.OwnAttributes.{defining, requiring}
-use Rattle.iceoryx2_pattern.specs.declared.pattern.OpenRefusal.{OpenRefusal}
-use Rattle.iceoryx2_pattern.specs.declared.pattern.OpenRefusal.TheVariants as open_refusal
-use Rattle.iceoryx2_pattern.specs.declared.pattern.CreateRefusal.{CreateRefusal}
-use Rattle.iceoryx2_pattern.specs.declared.pattern.CreateRefusal.TheVariants as create_refusal
-use Rattle.iceoryx2_errors.specs.States.{request_response_open_error_of_state, request_response_create_error_of_state}
+use Rattle.iceoryx2_errors.specs.States.{request_response_open_error_of_state, open_errors_of_request_response}
+use Rattle.iceoryx2_errors.specs.States.{request_response_create_error_of_state, create_errors_of_request_response}
 use Rattle.iceoryx2_errors.specs.declared.error.ServiceState.TheVariants as state
 use Rattle.iceoryx2_errors.specs.declared.error.request_response.ServiceAvailabilityState.{ServiceAvailabilityState}
 use Rattle.iceoryx2_errors.specs.declared.error.request_response.ServiceAvailabilityState.TheVariants as look
 use Rattle.iceoryx2_errors.specs.declared.error.request_response.RequestResponseOpenError.{RequestResponseOpenError}
 use Rattle.iceoryx2_errors.specs.declared.error.request_response.RequestResponseOpenError.TheVariants as opening
 use Rattle.iceoryx2_errors.specs.declared.error.request_response.RequestResponseCreateError.{RequestResponseCreateError}
-use Rattle.iceoryx2_errors.specs.declared.error.request_response.RequestResponseCreateError.TheVariants as creating
 use Rattle.iceoryx2_errors.specs.contracts.error.request_response.RequestResponseOpenErrorPartialEq.TheImpl as same_opening
 use Rattle.iceoryx2_errors.specs.contracts.error.request_response.RequestResponseCreateErrorPartialEq.TheImpl as same_creating
 use Rattle.iceoryx2_errors.specs.declared.error.request_response.RequestResponseOpenOrCreateError.{RequestResponseOpenOrCreateError}
@@ -30,33 +26,35 @@ use Rattle.iceoryx2_open_or_create.specs.Retried.{Retried, retried_by}
 use Rattle.iceoryx2_open_or_create.specs.declared.open_or_create.OpenOrCreateRefusal.{OpenOrCreateRefusal}
 use Rattle.iceoryx2_open_or_create.specs.declared.open_or_create.OpenOrCreateRefusal.TheVariants as refusal
 use Rattle.iceoryx2_builder_common.specs.Zeros.{at_least_one}
+use Rattle.iceoryx2_builder_common.specs.Rows.{Row, AtLeast, SameFlag, row_clauses}
+use Rattle.iceoryx2_builder_common.specs.Refused.{open_error_of_refusal, create_error_of_refusal}
 use Rattle.iceoryx2_request_response_builder.specs.declared.request_response.demand.PreparedDemand.{PreparedDemand}
 use Rattle.iceoryx2_request_response_builder.specs.declared.request_response.demand.Marks.{Marks}
 use Rattle.iceoryx2_request_response_builder.specs.declared.request_response.demand.RequestResponseDemand.{RequestResponseDemand}
 
 -- the settings in order, each with its test and its error
-abbrev pub setting_rows : Settings → Marks → Existing → List (SettingRow RequestResponseOpenError)
+abbrev pub setting_rows : Settings → Marks → Existing → List (Row RequestResponseOpenError)
 setting_rows required marks existing =
-    flag_is marks.enable_safe_overflow_for_requests existing.enable_safe_overflow_for_requests
+    SameFlag marks.enable_safe_overflow_for_requests existing.enable_safe_overflow_for_requests
     required.enable_safe_overflow_for_requests opening.IncompatibleOverflowBehaviorForRequests ∷
-    flag_is marks.enable_safe_overflow_for_responses existing.enable_safe_overflow_for_responses
+    SameFlag marks.enable_safe_overflow_for_responses existing.enable_safe_overflow_for_responses
     required.enable_safe_overflow_for_responses opening.IncompatibleOverflowBehaviorForResponses ∷
-    flag_is marks.enable_fire_and_forget_requests existing.enable_fire_and_forget_requests
+    SameFlag marks.enable_fire_and_forget_requests existing.enable_fire_and_forget_requests
     required.enable_fire_and_forget_requests opening.IncompatibleBehaviorForFireAndForgetRequests ∷
-    at_least marks.max_active_requests_per_client existing.max_active_requests_per_client
+    AtLeast marks.max_active_requests_per_client existing.max_active_requests_per_client
     required.max_active_requests_per_client opening.DoesNotSupportRequestedAmountOfActiveRequestsPerClient ∷
-    at_least marks.max_loaned_requests existing.max_loaned_requests required.max_loaned_requests
+    AtLeast marks.max_loaned_requests existing.max_loaned_requests required.max_loaned_requests
     opening.DoesNotSupportRequestedAmountOfClientRequestLoans ∷
-    at_least marks.max_borrowed_responses_per_pending_response existing.max_borrowed_responses_per_pending_response
+    AtLeast marks.max_borrowed_responses_per_pending_response existing.max_borrowed_responses_per_pending_response
     required.max_borrowed_responses_per_pending_response
     opening.DoesNotSupportRequestedAmountOfBorrowedResponsesPerPendingResponse ∷
-    at_least marks.max_response_buffer_size existing.max_response_buffer_size required.max_response_buffer_size
+    AtLeast marks.max_response_buffer_size existing.max_response_buffer_size required.max_response_buffer_size
     opening.DoesNotSupportRequestedResponseBufferSize ∷
-    at_least marks.max_servers existing.max_servers required.max_servers
+    AtLeast marks.max_servers existing.max_servers required.max_servers
     opening.DoesNotSupportRequestedAmountOfServers ∷
-    at_least marks.max_clients existing.max_clients required.max_clients
+    AtLeast marks.max_clients existing.max_clients required.max_clients
     opening.DoesNotSupportRequestedAmountOfClients ∷
-    at_least marks.max_nodes existing.max_nodes required.max_nodes
+    AtLeast marks.max_nodes existing.max_nodes required.max_nodes
     opening.DoesNotSupportRequestedAmountOfNodes ∷
     []
 
@@ -64,7 +62,7 @@ abbrev pub setting_clauses : RequestResponseDemand → MessagingPattern → List
 setting_clauses demand (existing.Event settings) = []
 setting_clauses demand (existing.PublishSubscribe settings) = []
 setting_clauses demand (existing.RequestResponse settings) =
-    marked_clauses (setting_rows demand.settings demand.marks settings)
+    row_clauses (setting_rows demand.settings demand.marks settings)
 
 -- another pattern than request-response, or requests of which its own can't be, or such responses, in this order
 abbrev pub misfit_of : (request response : Message) → MessagingPattern → Option ServiceAvailabilityState
@@ -76,23 +74,6 @@ misfit_of request response (existing.RequestResponse settings) =
     then if compatible response settings.response_message_type_details
     then None else Some look.IncompatibleResponseType
     else Some look.IncompatibleRequestType
-
-abbrev pub open_error_of_refusal : OpenRefusal → RequestResponseOpenError
-open_error_of_refusal open_refusal.DoesNotExist = opening.DoesNotExist
-open_error_of_refusal open_refusal.IncompatibleAttributes = opening.IncompatibleAttributes
-open_error_of_refusal open_refusal.ServiceInCorruptedState = opening.ServiceInCorruptedState
-open_error_of_refusal open_refusal.InternalFailure = opening.InternalFailure
-open_error_of_refusal open_refusal.ExceedsMaxNumberOfNodes = opening.ExceedsMaxNumberOfNodes
-open_error_of_refusal open_refusal.IsMarkedForDestruction = opening.IsMarkedForDestruction
-open_error_of_refusal open_refusal.OutOfMemory = opening.OutOfMemory
-
-abbrev pub create_error_of_refusal : CreateRefusal → RequestResponseCreateError
-create_error_of_refusal create_refusal.ServiceInCorruptedState = creating.ServiceInCorruptedState
-create_error_of_refusal create_refusal.InternalFailure = creating.InternalFailure
-create_error_of_refusal create_refusal.IsBeingCreatedByAnotherInstance = creating.IsBeingCreatedByAnotherInstance
-create_error_of_refusal create_refusal.AlreadyExists = creating.AlreadyExists
-create_error_of_refusal create_refusal.InsufficientPermissions = creating.InsufficientPermissions
-create_error_of_refusal create_refusal.OutOfMemory = creating.OutOfMemory
 
 -- zeros become one: a service has room for somebody and something of each kind
 abbrev pub request_response_adjusted : RequestResponseDemand → RequestResponseDemand
@@ -133,9 +114,9 @@ request_response_meaning demand request response = record {
   misfit = λ d. misfit_of request response d.pattern;
   requirement = λ d. setting_clauses demand d.pattern;
   open_error_of = request_response_open_error_of_state;
-  open_refusal = open_error_of_refusal;
+  open_refusal = open_error_of_refusal open_errors_of_request_response;
   create_error_of = request_response_create_error_of_state;
-  create_refusal = create_error_of_refusal;
+  create_refusal = create_error_of_refusal create_errors_of_request_response;
   history_refusal = None;
   needs_clock = false;
   attributes = [];
@@ -165,7 +146,8 @@ prepared_adjusted asked = record asked { demand = request_response_adjusted aske
 -- after which errors an open or create goes on
 abbrev pub request_response_retried : Retried RequestResponseOpenError RequestResponseCreateError
 request_response_retried =
-    retried_by same_opening.ghosts.eq same_creating.ghosts.eq open_error_of_refusal create_error_of_refusal
+    retried_by same_opening.ghosts.eq same_creating.ghosts.eq
+    (open_error_of_refusal open_errors_of_request_response) (create_error_of_refusal create_errors_of_request_response)
 
 -- what the rounds of an open or create call its error
 abbrev pub request_response_refusal : RequestResponseOpenOrCreateError

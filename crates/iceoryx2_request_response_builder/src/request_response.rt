@@ -32,6 +32,7 @@ use crate::request_response::setting::RequestResponseSetter as Set;
 use iceoryx2_access::storage::Service;
 use iceoryx2_attribute::attribute::{AttributeSpecifier, AttributeVerifier};
 use iceoryx2_builder_common::answer::hand_out;
+use iceoryx2_builder_common::ask_for;
 use iceoryx2_builder_common::base::BuilderWithServiceType;
 use iceoryx2_create_and_open::create::create;
 use iceoryx2_create_and_open::open::open;
@@ -152,64 +153,35 @@ impl<S: Service> Builder<
     pub fn with(self, setting: RequestResponseSetter) -> Self
         ensures { result ≡ with_setting self setting }
     {
-        match setting {
-            Set::EnableSafeOverflowForRequests(value) => {
-                self.enable_safe_overflow_for_requests(value)
-            }
-            Set::EnableSafeOverflowForResponses(value) => {
-                self.enable_safe_overflow_for_responses(value)
-            }
-            Set::EnableFireAndForgetRequests(value) => self.enable_fire_and_forget_requests(value),
-            Set::MaxActiveRequestsPerClient(value) => self.max_active_requests_per_client(value),
-            Set::MaxLoanedRequests(value) => self.max_loaned_requests(value),
-            Set::MaxBorrowedResponsesPerPendingResponse(value) => {
-                self.max_borrowed_responses_per_pending_response(value)
-            }
-            Set::MaxResponseBufferSize(value) => self.max_response_buffer_size(value),
-            Set::MaxServers(value) => self.max_servers(value),
-            Set::MaxClients(value) => self.max_clients(value),
-            Set::MaxNodes(value) => self.max_nodes(value),
-            Set::RequestPayloadAlignment(value) => self.request_payload_alignment(value),
-            Set::ResponsePayloadAlignment(value) => self.response_payload_alignment(value),
-            Set::RequestPayloadType(value) => self.internal_set_request_payload_type_details(value),
-            Set::RequestHeaderType(value) => self.internal_set_request_header_type_details(value),
-            Set::ResponsePayloadType(value) => {
-                self.internal_set_response_payload_type_details(value)
-            }
-            Set::ResponseHeaderType(value) => self.internal_set_response_header_type_details(value),
-        }
+        self.set(setting)
     }
 
     /// The type that stands in place of the marker of a request's payload.
-    pub fn internal_set_request_payload_type_details(mut self, value: TypeDetail) -> Self
+    pub fn internal_set_request_payload_type_details(self, value: TypeDetail) -> Self
         ensures { result ≡ with_setting self (RequestResponseSetter.RequestPayloadType value) }
     {
-        self.types.request.payload = Some(value);
-        self
+        self.set(Set::RequestPayloadType(value))
     }
 
     /// The type that stands in place of the marker of a request's user header.
-    pub fn internal_set_request_header_type_details(mut self, value: TypeDetail) -> Self
+    pub fn internal_set_request_header_type_details(self, value: TypeDetail) -> Self
         ensures { result ≡ with_setting self (RequestResponseSetter.RequestHeaderType value) }
     {
-        self.types.request.user_header = Some(value);
-        self
+        self.set(Set::RequestHeaderType(value))
     }
 
     /// The type that stands in place of the marker of a response's payload.
-    pub fn internal_set_response_payload_type_details(mut self, value: TypeDetail) -> Self
+    pub fn internal_set_response_payload_type_details(self, value: TypeDetail) -> Self
         ensures { result ≡ with_setting self (RequestResponseSetter.ResponsePayloadType value) }
     {
-        self.types.response.payload = Some(value);
-        self
+        self.set(Set::ResponsePayloadType(value))
     }
 
     /// The type that stands in place of the marker of a response's user header.
-    pub fn internal_set_response_header_type_details(mut self, value: TypeDetail) -> Self
+    pub fn internal_set_response_header_type_details(self, value: TypeDetail) -> Self
         ensures { result ≡ with_setting self (RequestResponseSetter.ResponseHeaderType value) }
     {
-        self.types.response.user_header = Some(value);
-        self
+        self.set(Set::ResponseHeaderType(value))
     }
 }
 
@@ -235,119 +207,124 @@ impl<Q: ZeroCopySend, QU: ZeroCopySend, R: ZeroCopySend, RU: ZeroCopySend, S: Se
         }
     }
 
+    /// Carries out one setter, whatever the types are: sets the value, and marks a setting.
+    fn set(mut self, setting: RequestResponseSetter) -> Self
+        ensures { result ≡ with_setting self setting }
+    {
+        match setting {
+            Set::EnableSafeOverflowForRequests(value) =>
+                ask_for!(self.demand; enable_safe_overflow_for_requests = value),
+            Set::EnableSafeOverflowForResponses(value) =>
+                ask_for!(self.demand; enable_safe_overflow_for_responses = value),
+            Set::EnableFireAndForgetRequests(value) =>
+                ask_for!(self.demand; enable_fire_and_forget_requests = value),
+            Set::MaxActiveRequestsPerClient(value) =>
+                ask_for!(self.demand; max_active_requests_per_client = value),
+            Set::MaxLoanedRequests(value) => ask_for!(self.demand; max_loaned_requests = value),
+            Set::MaxBorrowedResponsesPerPendingResponse(value) =>
+                ask_for!(self.demand; max_borrowed_responses_per_pending_response = value),
+            Set::MaxResponseBufferSize(value) =>
+                ask_for!(self.demand; max_response_buffer_size = value),
+            Set::MaxServers(value) => ask_for!(self.demand; max_servers = value),
+            Set::MaxClients(value) => ask_for!(self.demand; max_clients = value),
+            Set::MaxNodes(value) => ask_for!(self.demand; max_nodes = value),
+            Set::RequestPayloadAlignment(value) => self.types.request.alignment = Some(value),
+            Set::ResponsePayloadAlignment(value) => self.types.response.alignment = Some(value),
+            Set::RequestPayloadType(value) => self.types.request.payload = Some(value),
+            Set::RequestHeaderType(value) => self.types.request.user_header = Some(value),
+            Set::ResponsePayloadType(value) => self.types.response.payload = Some(value),
+            Set::ResponseHeaderType(value) => self.types.response.user_header = Some(value),
+        }
+        self
+    }
+
     /// Whether a full buffer's oldest request gives way to a new one. An existing service has to do
     /// the same.
-    pub fn enable_safe_overflow_for_requests(mut self, value: bool) -> Self
+    pub fn enable_safe_overflow_for_requests(self, value: bool) -> Self
         ensures { result ≡ with_setting self (RequestResponseSetter.EnableSafeOverflowForRequests value) }
     {
-        self.demand.settings.enable_safe_overflow_for_requests = value;
-        self.demand.marks.enable_safe_overflow_for_requests = true;
-        self
+        self.set(Set::EnableSafeOverflowForRequests(value))
     }
 
     /// Whether a full buffer's oldest response gives way to a new one. An existing service has to
     /// do the same.
-    pub fn enable_safe_overflow_for_responses(mut self, value: bool) -> Self
+    pub fn enable_safe_overflow_for_responses(self, value: bool) -> Self
         ensures { result ≡ with_setting self (RequestResponseSetter.EnableSafeOverflowForResponses value) }
     {
-        self.demand.settings.enable_safe_overflow_for_responses = value;
-        self.demand.marks.enable_safe_overflow_for_responses = true;
-        self
+        self.set(Set::EnableSafeOverflowForResponses(value))
     }
 
     /// Whether a request may be sent whose responses nobody waits for. An existing service has to
     /// allow the same.
-    pub fn enable_fire_and_forget_requests(mut self, value: bool) -> Self
+    pub fn enable_fire_and_forget_requests(self, value: bool) -> Self
         ensures { result ≡ with_setting self (RequestResponseSetter.EnableFireAndForgetRequests value) }
     {
-        self.demand.settings.enable_fire_and_forget_requests = value;
-        self.demand.marks.enable_fire_and_forget_requests = true;
-        self
+        self.set(Set::EnableFireAndForgetRequests(value))
     }
 
     /// How many requests a client may have under way at one time. Zero is one in a create.
-    pub fn max_active_requests_per_client(mut self, value: u64) -> Self
+    pub fn max_active_requests_per_client(self, value: u64) -> Self
         ensures { result ≡ with_setting self (RequestResponseSetter.MaxActiveRequestsPerClient value) }
     {
-        self.demand.settings.max_active_requests_per_client = value;
-        self.demand.marks.max_active_requests_per_client = true;
-        self
+        self.set(Set::MaxActiveRequestsPerClient(value))
     }
 
     /// How many requests a client may have on loan at one time. Zero is one in a create.
-    pub fn max_loaned_requests(mut self, value: u64) -> Self
+    pub fn max_loaned_requests(self, value: u64) -> Self
         ensures { result ≡ with_setting self (RequestResponseSetter.MaxLoanedRequests value) }
     {
-        self.demand.settings.max_loaned_requests = value;
-        self.demand.marks.max_loaned_requests = true;
-        self
+        self.set(Set::MaxLoanedRequests(value))
     }
 
     /// How many responses may be borrowed at one time from one pending response. Zero is one in a
     /// create.
-    pub fn max_borrowed_responses_per_pending_response(mut self, value: u64) -> Self
+    pub fn max_borrowed_responses_per_pending_response(self, value: u64) -> Self
         ensures { result ≡ with_setting self (RequestResponseSetter.MaxBorrowedResponsesPerPendingResponse value) }
     {
-        self.demand
-            .settings
-            .max_borrowed_responses_per_pending_response = value;
-        self.demand
-            .marks
-            .max_borrowed_responses_per_pending_response = true;
-        self
+        self.set(Set::MaxBorrowedResponsesPerPendingResponse(value))
     }
 
     /// How many responses the buffer of one request has room for. Zero is one in a create.
-    pub fn max_response_buffer_size(mut self, value: u64) -> Self
+    pub fn max_response_buffer_size(self, value: u64) -> Self
         ensures { result ≡ with_setting self (RequestResponseSetter.MaxResponseBufferSize value) }
     {
-        self.demand.settings.max_response_buffer_size = value;
-        self.demand.marks.max_response_buffer_size = true;
-        self
+        self.set(Set::MaxResponseBufferSize(value))
     }
 
     /// For how many servers the service is. Zero is one in a create.
-    pub fn max_servers(mut self, value: u64) -> Self
+    pub fn max_servers(self, value: u64) -> Self
         ensures { result ≡ with_setting self (RequestResponseSetter.MaxServers value) }
     {
-        self.demand.settings.max_servers = value;
-        self.demand.marks.max_servers = true;
-        self
+        self.set(Set::MaxServers(value))
     }
 
     /// For how many clients the service is. Zero is one in a create.
-    pub fn max_clients(mut self, value: u64) -> Self
+    pub fn max_clients(self, value: u64) -> Self
         ensures { result ≡ with_setting self (RequestResponseSetter.MaxClients value) }
     {
-        self.demand.settings.max_clients = value;
-        self.demand.marks.max_clients = true;
-        self
+        self.set(Set::MaxClients(value))
     }
 
     /// For how many nodes the service is. Zero is one in a create.
-    pub fn max_nodes(mut self, value: u64) -> Self
+    pub fn max_nodes(self, value: u64) -> Self
         ensures { result ≡ with_setting self (RequestResponseSetter.MaxNodes value) }
     {
-        self.demand.settings.max_nodes = value;
-        self.demand.marks.max_nodes = true;
-        self
+        self.set(Set::MaxNodes(value))
     }
 
     /// How far a request's payload is aligned at least, in bytes; it stays aligned as far as its
     /// type says. It marks no setting, and the last one that was asked stands.
-    pub fn request_payload_alignment(mut self, value: Alignment) -> Self
+    pub fn request_payload_alignment(self, value: Alignment) -> Self
         ensures { result ≡ with_setting self (RequestResponseSetter.RequestPayloadAlignment value) }
     {
-        self.types.request.alignment = Some(value);
-        self
+        self.set(Set::RequestPayloadAlignment(value))
     }
 
     /// How far a response's payload is aligned at least, in bytes, as for a request's.
-    pub fn response_payload_alignment(mut self, value: Alignment) -> Self
+    pub fn response_payload_alignment(self, value: Alignment) -> Self
         ensures { result ≡ with_setting self (RequestResponseSetter.ResponsePayloadAlignment value) }
     {
-        self.types.response.alignment = Some(value);
-        self
+        self.set(Set::ResponsePayloadAlignment(value))
     }
 
     /// The same builder for messages with other user headers.

@@ -3,7 +3,8 @@
 ghost use Rattle.std.specs.Prelude.{◌≡◌, Some};
 ghost use Rattle.iceoryx2_errors.specs.AnyError.{EventCreate, EventOpen, EventOpenOrCreate, text_of};
 ghost use Rattle.iceoryx2_errors.specs.Texts.{event_create_error_name, event_open_error_name};
-ghost use Rattle.iceoryx2_errors.specs.States.{create_error_of_state, open_error_of_state};
+ghost use Rattle.iceoryx2_errors.specs.States.{create_error_of_state, create_errors_of_events};
+ghost use Rattle.iceoryx2_errors.specs.States.{open_error_of_state, open_errors_of_events};
 ghost use Rattle.iceoryx2_errors.specs.declared.error.events.EventOpenOrCreateError.TheVariants as either;
 
 use super::ServiceState;
@@ -57,30 +58,14 @@ impl EventOpenError {
     pub fn name(&self) -> &'static str
         ensures { result.now ≡ event_open_error_name self.now }
     {
-        match self {
-            EventOpenError::DoesNotExist => "DoesNotExist",
-            EventOpenError::InsufficientPermissions => "InsufficientPermissions",
-            EventOpenError::ServiceInCorruptedState => "ServiceInCorruptedState",
-            EventOpenError::IncompatibleMessagingPattern => "IncompatibleMessagingPattern",
-            EventOpenError::IncompatibleAttributes => "IncompatibleAttributes",
-            EventOpenError::InternalFailure => "InternalFailure",
-            EventOpenError::IncompatibleDeadline => "IncompatibleDeadline",
-            EventOpenError::IncompatibleNotifierCreatedEvent => "IncompatibleNotifierCreatedEvent",
-            EventOpenError::IncompatibleNotifierDroppedEvent => "IncompatibleNotifierDroppedEvent",
-            EventOpenError::IncompatibleNotifierDeadEvent => "IncompatibleNotifierDeadEvent",
-            EventOpenError::HangsInCreation => "HangsInCreation",
-            EventOpenError::DoesNotSupportRequestedAmountOfNotifiers =>
-                "DoesNotSupportRequestedAmountOfNotifiers",
-            EventOpenError::DoesNotSupportRequestedAmountOfListeners =>
-                "DoesNotSupportRequestedAmountOfListeners",
-            EventOpenError::DoesNotSupportRequestedMaxEventId =>
-                "DoesNotSupportRequestedMaxEventId",
-            EventOpenError::DoesNotSupportRequestedAmountOfNodes =>
-                "DoesNotSupportRequestedAmountOfNodes",
-            EventOpenError::ExceedsMaxNumberOfNodes => "ExceedsMaxNumberOfNodes",
-            EventOpenError::IsMarkedForDestruction => "IsMarkedForDestruction",
-            EventOpenError::OutOfMemory => "OutOfMemory",
-        }
+        name_of!(self, EventOpenError:
+            DoesNotExist InsufficientPermissions ServiceInCorruptedState
+            IncompatibleMessagingPattern IncompatibleAttributes InternalFailure
+            IncompatibleDeadline IncompatibleNotifierCreatedEvent IncompatibleNotifierDroppedEvent
+            IncompatibleNotifierDeadEvent HangsInCreation DoesNotSupportRequestedAmountOfNotifiers
+            DoesNotSupportRequestedAmountOfListeners DoesNotSupportRequestedMaxEventId
+            DoesNotSupportRequestedAmountOfNodes ExceedsMaxNumberOfNodes IsMarkedForDestruction
+            OutOfMemory)
     }
 }
 
@@ -96,18 +81,10 @@ impl fmt::Display for EventOpenError {
 impl Error for EventOpenError {}
 
 impl From<ServiceState> for EventOpenError {
-    ghost from_gives = { λ state outcome. outcome ≡ open_error_of_state state };
+    ghost from_gives = { λ state outcome. outcome ≡ open_error_of_state open_errors_of_events state };
 
     fn from(state: ServiceState) -> EventOpenError {
-        match state {
-            ServiceState::IncompatibleMessagingPattern => {
-                EventOpenError::IncompatibleMessagingPattern
-            }
-            ServiceState::InsufficientPermissions => EventOpenError::InsufficientPermissions,
-            ServiceState::HangsInCreation => EventOpenError::HangsInCreation,
-            ServiceState::Corrupted => EventOpenError::ServiceInCorruptedState,
-            ServiceState::OutOfMemory => EventOpenError::OutOfMemory,
-        }
+        error_of!(state, EventOpenError, IncompatibleMessagingPattern)
     }
 }
 
@@ -136,15 +113,9 @@ impl EventCreateError {
     pub fn name(&self) -> &'static str
         ensures { result.now ≡ event_create_error_name self.now }
     {
-        match self {
-            EventCreateError::ServiceInCorruptedState => "ServiceInCorruptedState",
-            EventCreateError::InternalFailure => "InternalFailure",
-            EventCreateError::IsBeingCreatedByAnotherInstance => "IsBeingCreatedByAnotherInstance",
-            EventCreateError::AlreadyExists => "AlreadyExists",
-            EventCreateError::HangsInCreation => "HangsInCreation",
-            EventCreateError::InsufficientPermissions => "InsufficientPermissions",
-            EventCreateError::OutOfMemory => "OutOfMemory",
-        }
+        name_of!(self, EventCreateError:
+            ServiceInCorruptedState InternalFailure IsBeingCreatedByAnotherInstance AlreadyExists
+            HangsInCreation InsufficientPermissions OutOfMemory)
     }
 }
 
@@ -160,16 +131,10 @@ impl fmt::Display for EventCreateError {
 impl Error for EventCreateError {}
 
 impl From<ServiceState> for EventCreateError {
-    ghost from_gives = { λ state outcome. outcome ≡ create_error_of_state state };
+    ghost from_gives = { λ state outcome. outcome ≡ create_error_of_state create_errors_of_events state };
 
     fn from(state: ServiceState) -> EventCreateError {
-        match state {
-            ServiceState::IncompatibleMessagingPattern => EventCreateError::AlreadyExists,
-            ServiceState::InsufficientPermissions => EventCreateError::InsufficientPermissions,
-            ServiceState::HangsInCreation => EventCreateError::HangsInCreation,
-            ServiceState::Corrupted => EventCreateError::ServiceInCorruptedState,
-            ServiceState::OutOfMemory => EventCreateError::OutOfMemory,
-        }
+        error_of!(state, EventCreateError, AlreadyExists)
     }
 }
 
@@ -209,7 +174,8 @@ impl Error for EventOpenOrCreateError {}
 
 /// A look's outcome is an error of the open.
 impl From<ServiceState> for EventOpenOrCreateError {
-    ghost from_gives = { λ state outcome. outcome ≡ either.EventOpenError (open_error_of_state state) };
+    ghost from_gives = { λ state outcome.
+        outcome ≡ either.EventOpenError (open_error_of_state open_errors_of_events state) };
 
     fn from(state: ServiceState) -> EventOpenOrCreateError {
         EventOpenOrCreateError::EventOpenError(EventOpenError::from(state))

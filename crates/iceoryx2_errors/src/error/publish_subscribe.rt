@@ -66,34 +66,15 @@ impl PublishSubscribeOpenError {
     pub fn name(&self) -> &'static str
         ensures { result.now ≡ publish_subscribe_open_error_name self.now }
     {
-        match self {
-            PublishSubscribeOpenError::DoesNotExist => "DoesNotExist",
-            PublishSubscribeOpenError::InternalFailure => "InternalFailure",
-            PublishSubscribeOpenError::IncompatibleTypes => "IncompatibleTypes",
-            PublishSubscribeOpenError::IncompatibleMessagingPattern =>
-                "IncompatibleMessagingPattern",
-            PublishSubscribeOpenError::IncompatibleAttributes => "IncompatibleAttributes",
-            PublishSubscribeOpenError::DoesNotSupportRequestedMinBufferSize =>
-                "DoesNotSupportRequestedMinBufferSize",
-            PublishSubscribeOpenError::DoesNotSupportRequestedMinHistorySize =>
-                "DoesNotSupportRequestedMinHistorySize",
-            PublishSubscribeOpenError::DoesNotSupportRequestedMinSubscriberBorrowedSamples =>
-                "DoesNotSupportRequestedMinSubscriberBorrowedSamples",
-            PublishSubscribeOpenError::DoesNotSupportRequestedAmountOfPublishers =>
-                "DoesNotSupportRequestedAmountOfPublishers",
-            PublishSubscribeOpenError::DoesNotSupportRequestedAmountOfSubscribers =>
-                "DoesNotSupportRequestedAmountOfSubscribers",
-            PublishSubscribeOpenError::DoesNotSupportRequestedAmountOfNodes =>
-                "DoesNotSupportRequestedAmountOfNodes",
-            PublishSubscribeOpenError::IncompatibleOverflowBehavior =>
-                "IncompatibleOverflowBehavior",
-            PublishSubscribeOpenError::InsufficientPermissions => "InsufficientPermissions",
-            PublishSubscribeOpenError::ServiceInCorruptedState => "ServiceInCorruptedState",
-            PublishSubscribeOpenError::HangsInCreation => "HangsInCreation",
-            PublishSubscribeOpenError::ExceedsMaxNumberOfNodes => "ExceedsMaxNumberOfNodes",
-            PublishSubscribeOpenError::IsMarkedForDestruction => "IsMarkedForDestruction",
-            PublishSubscribeOpenError::OutOfMemory => "OutOfMemory",
-        }
+        name_of!(self, PublishSubscribeOpenError:
+            DoesNotExist InternalFailure IncompatibleTypes IncompatibleMessagingPattern
+            IncompatibleAttributes DoesNotSupportRequestedMinBufferSize
+            DoesNotSupportRequestedMinHistorySize
+            DoesNotSupportRequestedMinSubscriberBorrowedSamples
+            DoesNotSupportRequestedAmountOfPublishers DoesNotSupportRequestedAmountOfSubscribers
+            DoesNotSupportRequestedAmountOfNodes IncompatibleOverflowBehavior
+            InsufficientPermissions ServiceInCorruptedState HangsInCreation ExceedsMaxNumberOfNodes
+            IsMarkedForDestruction OutOfMemory)
     }
 }
 
@@ -113,15 +94,11 @@ impl From<ServiceAvailabilityState> for PublishSubscribeOpenError {
 
     fn from(state: ServiceAvailabilityState) -> PublishSubscribeOpenError {
         match state {
-            ServiceAvailabilityState::ServiceState(state) => match state {
-                ServiceState::IncompatibleMessagingPattern =>
-                    PublishSubscribeOpenError::IncompatibleMessagingPattern,
-                ServiceState::InsufficientPermissions =>
-                    PublishSubscribeOpenError::InsufficientPermissions,
-                ServiceState::HangsInCreation => PublishSubscribeOpenError::HangsInCreation,
-                ServiceState::Corrupted => PublishSubscribeOpenError::ServiceInCorruptedState,
-                ServiceState::OutOfMemory => PublishSubscribeOpenError::OutOfMemory,
-            },
+            ServiceAvailabilityState::ServiceState(state) => error_of!(
+                state,
+                PublishSubscribeOpenError,
+                IncompatibleMessagingPattern
+            ),
             ServiceAvailabilityState::IncompatibleTypes =>
                 PublishSubscribeOpenError::IncompatibleTypes,
         }
@@ -155,18 +132,10 @@ impl PublishSubscribeCreateError {
     pub fn name(&self) -> &'static str
         ensures { result.now ≡ publish_subscribe_create_error_name self.now }
     {
-        match self {
-            PublishSubscribeCreateError::ServiceInCorruptedState => "ServiceInCorruptedState",
-            PublishSubscribeCreateError::SubscriberBufferMustBeLargerThanHistorySize =>
-                "SubscriberBufferMustBeLargerThanHistorySize",
-            PublishSubscribeCreateError::AlreadyExists => "AlreadyExists",
-            PublishSubscribeCreateError::InsufficientPermissions => "InsufficientPermissions",
-            PublishSubscribeCreateError::InternalFailure => "InternalFailure",
-            PublishSubscribeCreateError::IsBeingCreatedByAnotherInstance =>
-                "IsBeingCreatedByAnotherInstance",
-            PublishSubscribeCreateError::HangsInCreation => "HangsInCreation",
-            PublishSubscribeCreateError::OutOfMemory => "OutOfMemory",
-        }
+        name_of!(self, PublishSubscribeCreateError:
+            ServiceInCorruptedState SubscriberBufferMustBeLargerThanHistorySize AlreadyExists
+            InsufficientPermissions InternalFailure IsBeingCreatedByAnotherInstance HangsInCreation
+            OutOfMemory)
     }
 }
 
@@ -186,15 +155,11 @@ impl From<ServiceAvailabilityState> for PublishSubscribeCreateError {
 
     fn from(state: ServiceAvailabilityState) -> PublishSubscribeCreateError {
         match state {
-            ServiceAvailabilityState::ServiceState(state) => match state {
-                ServiceState::IncompatibleMessagingPattern =>
-                    PublishSubscribeCreateError::AlreadyExists,
-                ServiceState::InsufficientPermissions =>
-                    PublishSubscribeCreateError::InsufficientPermissions,
-                ServiceState::HangsInCreation => PublishSubscribeCreateError::HangsInCreation,
-                ServiceState::Corrupted => PublishSubscribeCreateError::ServiceInCorruptedState,
-                ServiceState::OutOfMemory => PublishSubscribeCreateError::OutOfMemory,
-            },
+            ServiceAvailabilityState::ServiceState(state) => error_of!(
+                state,
+                PublishSubscribeCreateError,
+                AlreadyExists
+            ),
             ServiceAvailabilityState::IncompatibleTypes =>
                 PublishSubscribeCreateError::AlreadyExists,
         }

@@ -78,41 +78,17 @@ impl RequestResponseOpenError {
     pub fn name(&self) -> &'static str
         ensures { result.now ≡ request_response_open_error_name self.now }
     {
-        match self {
-            RequestResponseOpenError::DoesNotExist => "DoesNotExist",
-            RequestResponseOpenError::DoesNotSupportRequestedAmountOfClientRequestLoans =>
-                "DoesNotSupportRequestedAmountOfClientRequestLoans",
-            RequestResponseOpenError::DoesNotSupportRequestedAmountOfActiveRequestsPerClient =>
-                "DoesNotSupportRequestedAmountOfActiveRequestsPerClient",
-            RequestResponseOpenError::DoesNotSupportRequestedResponseBufferSize =>
-                "DoesNotSupportRequestedResponseBufferSize",
-            RequestResponseOpenError::DoesNotSupportRequestedAmountOfServers =>
-                "DoesNotSupportRequestedAmountOfServers",
-            RequestResponseOpenError::DoesNotSupportRequestedAmountOfClients =>
-                "DoesNotSupportRequestedAmountOfClients",
-            RequestResponseOpenError::DoesNotSupportRequestedAmountOfNodes =>
-                "DoesNotSupportRequestedAmountOfNodes",
-            RequestResponseOpenError::DoesNotSupportRequestedAmountOfBorrowedResponsesPerPendingResponse =>
-                "DoesNotSupportRequestedAmountOfBorrowedResponsesPerPendingResponse",
-            RequestResponseOpenError::ExceedsMaxNumberOfNodes => "ExceedsMaxNumberOfNodes",
-            RequestResponseOpenError::HangsInCreation => "HangsInCreation",
-            RequestResponseOpenError::IncompatibleRequestType => "IncompatibleRequestType",
-            RequestResponseOpenError::IncompatibleResponseType => "IncompatibleResponseType",
-            RequestResponseOpenError::IncompatibleAttributes => "IncompatibleAttributes",
-            RequestResponseOpenError::IncompatibleMessagingPattern =>
-                "IncompatibleMessagingPattern",
-            RequestResponseOpenError::IncompatibleOverflowBehaviorForRequests =>
-                "IncompatibleOverflowBehaviorForRequests",
-            RequestResponseOpenError::IncompatibleOverflowBehaviorForResponses =>
-                "IncompatibleOverflowBehaviorForResponses",
-            RequestResponseOpenError::IncompatibleBehaviorForFireAndForgetRequests =>
-                "IncompatibleBehaviorForFireAndForgetRequests",
-            RequestResponseOpenError::InsufficientPermissions => "InsufficientPermissions",
-            RequestResponseOpenError::InternalFailure => "InternalFailure",
-            RequestResponseOpenError::IsMarkedForDestruction => "IsMarkedForDestruction",
-            RequestResponseOpenError::ServiceInCorruptedState => "ServiceInCorruptedState",
-            RequestResponseOpenError::OutOfMemory => "OutOfMemory",
-        }
+        name_of!(self, RequestResponseOpenError:
+            DoesNotExist DoesNotSupportRequestedAmountOfClientRequestLoans
+            DoesNotSupportRequestedAmountOfActiveRequestsPerClient
+            DoesNotSupportRequestedResponseBufferSize DoesNotSupportRequestedAmountOfServers
+            DoesNotSupportRequestedAmountOfClients DoesNotSupportRequestedAmountOfNodes
+            DoesNotSupportRequestedAmountOfBorrowedResponsesPerPendingResponse
+            ExceedsMaxNumberOfNodes HangsInCreation IncompatibleRequestType
+            IncompatibleResponseType IncompatibleAttributes IncompatibleMessagingPattern
+            IncompatibleOverflowBehaviorForRequests IncompatibleOverflowBehaviorForResponses
+            IncompatibleBehaviorForFireAndForgetRequests InsufficientPermissions InternalFailure
+            IsMarkedForDestruction ServiceInCorruptedState OutOfMemory)
     }
 }
 
@@ -132,15 +108,11 @@ impl From<ServiceAvailabilityState> for RequestResponseOpenError {
 
     fn from(state: ServiceAvailabilityState) -> RequestResponseOpenError {
         match state {
-            ServiceAvailabilityState::ServiceState(state) => match state {
-                ServiceState::IncompatibleMessagingPattern =>
-                    RequestResponseOpenError::IncompatibleMessagingPattern,
-                ServiceState::InsufficientPermissions =>
-                    RequestResponseOpenError::InsufficientPermissions,
-                ServiceState::HangsInCreation => RequestResponseOpenError::HangsInCreation,
-                ServiceState::Corrupted => RequestResponseOpenError::ServiceInCorruptedState,
-                ServiceState::OutOfMemory => RequestResponseOpenError::OutOfMemory,
-            },
+            ServiceAvailabilityState::ServiceState(state) => error_of!(
+                state,
+                RequestResponseOpenError,
+                IncompatibleMessagingPattern
+            ),
             ServiceAvailabilityState::IncompatibleRequestType =>
                 RequestResponseOpenError::IncompatibleRequestType,
             ServiceAvailabilityState::IncompatibleResponseType =>
@@ -174,16 +146,9 @@ impl RequestResponseCreateError {
     pub fn name(&self) -> &'static str
         ensures { result.now ≡ request_response_create_error_name self.now }
     {
-        match self {
-            RequestResponseCreateError::AlreadyExists => "AlreadyExists",
-            RequestResponseCreateError::InternalFailure => "InternalFailure",
-            RequestResponseCreateError::IsBeingCreatedByAnotherInstance =>
-                "IsBeingCreatedByAnotherInstance",
-            RequestResponseCreateError::InsufficientPermissions => "InsufficientPermissions",
-            RequestResponseCreateError::HangsInCreation => "HangsInCreation",
-            RequestResponseCreateError::ServiceInCorruptedState => "ServiceInCorruptedState",
-            RequestResponseCreateError::OutOfMemory => "OutOfMemory",
-        }
+        name_of!(self, RequestResponseCreateError:
+            AlreadyExists InternalFailure IsBeingCreatedByAnotherInstance InsufficientPermissions
+            HangsInCreation ServiceInCorruptedState OutOfMemory)
     }
 }
 
@@ -203,15 +168,11 @@ impl From<ServiceAvailabilityState> for RequestResponseCreateError {
 
     fn from(state: ServiceAvailabilityState) -> RequestResponseCreateError {
         match state {
-            ServiceAvailabilityState::ServiceState(state) => match state {
-                ServiceState::IncompatibleMessagingPattern =>
-                    RequestResponseCreateError::AlreadyExists,
-                ServiceState::InsufficientPermissions =>
-                    RequestResponseCreateError::InsufficientPermissions,
-                ServiceState::HangsInCreation => RequestResponseCreateError::HangsInCreation,
-                ServiceState::Corrupted => RequestResponseCreateError::ServiceInCorruptedState,
-                ServiceState::OutOfMemory => RequestResponseCreateError::OutOfMemory,
-            },
+            ServiceAvailabilityState::ServiceState(state) => error_of!(
+                state,
+                RequestResponseCreateError,
+                AlreadyExists
+            ),
             ServiceAvailabilityState::IncompatibleRequestType =>
                 RequestResponseCreateError::AlreadyExists,
             ServiceAvailabilityState::IncompatibleResponseType =>

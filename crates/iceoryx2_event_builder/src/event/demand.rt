@@ -1,7 +1,8 @@
 //! What a builder of events asks, as the rounds see it.
 
-ghost use Rattle.std.specs.Prelude.{◌≡◌, drop};
-ghost use Rattle.iceoryx2_pattern.specs.Verdict.{verdict, marked_clauses};
+ghost use Rattle.std.specs.Prelude.{◌≡◌, ◌∷◌, []};
+ghost use Rattle.iceoryx2_pattern.specs.Verdict.{verdict, marked_clauses, span_is};
+ghost use Rattle.iceoryx2_builder_common.specs.Rows.{row_clauses};
 ghost use Rattle.std.specs.Option.{option_map};
 ghost use Rattle.iceoryx2_event_builder.specs.Event.{setting_rows, created_deadline, event_refusal};
 ghost use Rattle.iceoryx2_event_builder.specs.Event.{deadline_value as value_of};
@@ -9,6 +10,9 @@ ghost use Rattle.iceoryx2_event_builder.specs.Request.{fresh_demand, demand_with
 
 use crate::event::setting::EventSetter;
 use iceoryx2_builder_common::zeros::raise_zero;
+use iceoryx2_builder_common::{
+    ask_for, create_error_of_refusal, open_error_of_refusal, settings_of, verdict_of_rows,
+};
 use iceoryx2_description::config;
 use iceoryx2_description::description::{MessagingPattern, StaticConfig};
 use iceoryx2_description::event::{self, Deadline};
@@ -23,7 +27,7 @@ use iceoryx2_pattern::verdict::{need_at_least, need_duration, need_event};
 use std::alloc::AllocError;
 
 /// Which settings a builder of events requires.
-#[derive(Clone, Copy, Debug, PartialEq, Eq)]
+#[derive(Clone, Copy, Debug, Default, PartialEq, Eq)]
 pub struct Marks {
     pub max_notifiers: bool,
     pub max_listeners: bool,
@@ -48,26 +52,11 @@ impl EventDemand {
         ensures { result ≡ fresh_demand defaults }
     {
         EventDemand {
-            settings: event::StaticConfig {
-                max_notifiers: defaults.max_notifiers,
-                max_listeners: defaults.max_listeners,
-                event_id_max_value: defaults.event_id_max_value,
-                max_nodes: defaults.max_nodes,
-                notifier_created_event: defaults.notifier_created_event,
-                notifier_dropped_event: defaults.notifier_dropped_event,
-                notifier_dead_event: defaults.notifier_dead_event,
-                deadline: deadline_before_creation(defaults.deadline),
-            },
-            marks: Marks {
-                max_notifiers: false,
-                max_listeners: false,
-                event_id_max_value: false,
-                max_nodes: false,
-                notifier_created_event: false,
-                notifier_dropped_event: false,
-                notifier_dead_event: false,
-                deadline: false,
-            },
+            settings: settings_of!(defaults => event::StaticConfig:
+                max_notifiers max_listeners event_id_max_value max_nodes
+                notifier_created_event notifier_dropped_event notifier_dead_event;
+                deadline: deadline_before_creation(defaults.deadline)),
+            marks: Marks::default(),
         }
     }
 
@@ -76,38 +65,15 @@ impl EventDemand {
         ensures { self.new ≡ demand_with self.old setting }
     {
         match setting {
-            EventSetter::MaxNotifiers(value) => {
-                self.settings.max_notifiers = value;
-                self.marks.max_notifiers = true;
-            }
-            EventSetter::MaxListeners(value) => {
-                self.settings.max_listeners = value;
-                self.marks.max_listeners = true;
-            }
-            EventSetter::EventIdMaxValue(value) => {
-                self.settings.event_id_max_value = value;
-                self.marks.event_id_max_value = true;
-            }
-            EventSetter::MaxNodes(value) => {
-                self.settings.max_nodes = value;
-                self.marks.max_nodes = true;
-            }
-            EventSetter::NotifierCreatedEvent(id) => {
-                self.settings.notifier_created_event = id;
-                self.marks.notifier_created_event = true;
-            }
-            EventSetter::NotifierDroppedEvent(id) => {
-                self.settings.notifier_dropped_event = id;
-                self.marks.notifier_dropped_event = true;
-            }
-            EventSetter::NotifierDeadEvent(id) => {
-                self.settings.notifier_dead_event = id;
-                self.marks.notifier_dead_event = true;
-            }
-            EventSetter::Deadline(value) => {
-                self.settings.deadline = deadline_before_creation(value);
-                self.marks.deadline = true;
-            }
+            EventSetter::MaxNotifiers(value) => ask_for!(self; max_notifiers = value),
+            EventSetter::MaxListeners(value) => ask_for!(self; max_listeners = value),
+            EventSetter::EventIdMaxValue(value) => ask_for!(self; event_id_max_value = value),
+            EventSetter::MaxNodes(value) => ask_for!(self; max_nodes = value),
+            EventSetter::NotifierCreatedEvent(id) => ask_for!(self; notifier_created_event = id),
+            EventSetter::NotifierDroppedEvent(id) => ask_for!(self; notifier_dropped_event = id),
+            EventSetter::NotifierDeadEvent(id) => ask_for!(self; notifier_dead_event = id),
+            EventSetter::Deadline(value) =>
+                ask_for!(self; deadline = deadline_before_creation(value)),
         }
     }
 }
@@ -148,76 +114,40 @@ fn deadline_value(deadline: Option<Deadline>) -> Option<Duration>
     }
 }
 
-/// Whether the existing settings offer what is marked: first the numbers, then the events and the
-/// deadline.
-#[tactic(auto, using(iceoryx2_pattern::proofs::Verdicts::row_decides, iceoryx2_pattern::proofs::Verdicts::no_row))]
+/// Whether a deadline is as long as is asked for, where that is asked for, or none where none is.
+fn need_deadline(
+    is_marked: bool,
+    existing: Option<Deadline>,
+    required: Option<Deadline>,
+    error: EventOpenError,
+) -> Result<(), EventOpenError>
+    ensures { result ≡
+        verdict (marked_clauses (span_is is_marked (value_of existing) (value_of required) error ∷ [])) }
+{
+    need_duration(
+        is_marked,
+        deadline_value(existing),
+        deadline_value(required),
+        error,
+    )
+}
+
+/// Whether the existing settings offer what is marked.
 fn verify_settings(
     demand: &EventDemand,
     existing: &event::StaticConfig,
 ) -> Result<(), EventOpenError>
-    ensures { result ≡ verdict (marked_clauses (setting_rows demand.now.settings demand.now.marks existing.now)) }
+    ensures { result ≡ verdict (row_clauses (setting_rows demand.now.settings demand.now.marks existing.now)) }
 {
-    let marks = &demand.marks;
-    let required = &demand.settings;
-    need_at_least(
-        marks.max_notifiers,
-        existing.max_notifiers,
-        required.max_notifiers,
-        EventOpenError::DoesNotSupportRequestedAmountOfNotifiers,
-    )?;
-    need_at_least(
-        marks.max_listeners,
-        existing.max_listeners,
-        required.max_listeners,
-        EventOpenError::DoesNotSupportRequestedAmountOfListeners,
-    )?;
-    need_at_least(
-        marks.event_id_max_value,
-        existing.event_id_max_value,
-        required.event_id_max_value,
-        EventOpenError::DoesNotSupportRequestedMaxEventId,
-    )?;
-    need_at_least(
-        marks.max_nodes,
-        existing.max_nodes,
-        required.max_nodes,
-        EventOpenError::DoesNotSupportRequestedAmountOfNodes,
-    )?;
-    verify_events(demand, existing)
-}
-
-/// Whether the existing events and deadline are what is marked: the rows after the four numbers.
-#[tactic(auto, using(iceoryx2_pattern::proofs::Verdicts::row_decides, iceoryx2_pattern::proofs::Verdicts::no_row))]
-fn verify_events(demand: &EventDemand, existing: &event::StaticConfig) -> Result<(), EventOpenError>
-    ensures { result ≡
-        verdict (marked_clauses (drop 4 (setting_rows demand.now.settings demand.now.marks existing.now))) }
-{
-    let marks = &demand.marks;
-    let required = &demand.settings;
-    need_event(
-        marks.notifier_created_event,
-        existing.notifier_created_event,
-        required.notifier_created_event,
-        EventOpenError::IncompatibleNotifierCreatedEvent,
-    )?;
-    need_event(
-        marks.notifier_dropped_event,
-        existing.notifier_dropped_event,
-        required.notifier_dropped_event,
-        EventOpenError::IncompatibleNotifierDroppedEvent,
-    )?;
-    need_event(
-        marks.notifier_dead_event,
-        existing.notifier_dead_event,
-        required.notifier_dead_event,
-        EventOpenError::IncompatibleNotifierDeadEvent,
-    )?;
-    need_duration(
-        marks.deadline,
-        deadline_value(existing.deadline),
-        deadline_value(required.deadline),
-        EventOpenError::IncompatibleDeadline,
-    )
+    verdict_of_rows!(demand, existing, EventOpenError;
+        need_at_least max_notifiers DoesNotSupportRequestedAmountOfNotifiers;
+        need_at_least max_listeners DoesNotSupportRequestedAmountOfListeners;
+        need_at_least event_id_max_value DoesNotSupportRequestedMaxEventId;
+        need_at_least max_nodes DoesNotSupportRequestedAmountOfNodes;
+        need_event notifier_created_event IncompatibleNotifierCreatedEvent;
+        need_event notifier_dropped_event IncompatibleNotifierDroppedEvent;
+        need_event notifier_dead_event IncompatibleNotifierDeadEvent;
+        need_deadline deadline IncompatibleDeadline;)
 }
 
 impl Pattern for EventDemand {
@@ -265,15 +195,7 @@ impl Pattern for EventDemand {
     }
 
     fn open_refusal(&self, refusal: OpenRefusal) -> EventOpenError {
-        match refusal {
-            OpenRefusal::DoesNotExist => EventOpenError::DoesNotExist,
-            OpenRefusal::IncompatibleAttributes => EventOpenError::IncompatibleAttributes,
-            OpenRefusal::ServiceInCorruptedState => EventOpenError::ServiceInCorruptedState,
-            OpenRefusal::InternalFailure => EventOpenError::InternalFailure,
-            OpenRefusal::ExceedsMaxNumberOfNodes => EventOpenError::ExceedsMaxNumberOfNodes,
-            OpenRefusal::IsMarkedForDestruction => EventOpenError::IsMarkedForDestruction,
-            OpenRefusal::OutOfMemory => EventOpenError::OutOfMemory,
-        }
+        open_error_of_refusal!(refusal, EventOpenError)
     }
 
     fn create_error_of(&self, fault: ServiceState) -> EventCreateError {
@@ -281,16 +203,7 @@ impl Pattern for EventDemand {
     }
 
     fn create_refusal(&self, refusal: CreateRefusal) -> EventCreateError {
-        match refusal {
-            CreateRefusal::ServiceInCorruptedState => EventCreateError::ServiceInCorruptedState,
-            CreateRefusal::InternalFailure => EventCreateError::InternalFailure,
-            CreateRefusal::IsBeingCreatedByAnotherInstance => {
-                EventCreateError::IsBeingCreatedByAnotherInstance
-            }
-            CreateRefusal::AlreadyExists => EventCreateError::AlreadyExists,
-            CreateRefusal::InsufficientPermissions => EventCreateError::InsufficientPermissions,
-            CreateRefusal::OutOfMemory => EventCreateError::OutOfMemory,
-        }
+        create_error_of_refusal!(refusal, EventCreateError)
     }
 
     fn history_refusal(&self) -> Option<EventCreateError> {

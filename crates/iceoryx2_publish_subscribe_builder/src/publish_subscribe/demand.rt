@@ -1,11 +1,15 @@
 //! What a builder of publish-subscribe asks, as the rounds see it.
 
-ghost use Rattle.std.specs.Prelude.{◌≡◌, drop};
-ghost use Rattle.iceoryx2_pattern.specs.Verdict.{verdict, marked_clauses};
+ghost use Rattle.std.specs.Prelude.{◌≡◌};
+ghost use Rattle.iceoryx2_pattern.specs.Verdict.{verdict};
+ghost use Rattle.iceoryx2_builder_common.specs.Rows.{row_clauses};
 ghost use Rattle.iceoryx2_publish_subscribe_builder.specs.PublishSubscribe.{publish_subscribe_refusal, setting_rows};
 ghost use Rattle.iceoryx2_publish_subscribe_builder.specs.Request.{fresh_demand};
 
 use iceoryx2_builder_common::zeros::raise_zero;
+use iceoryx2_builder_common::{
+    create_error_of_refusal, open_error_of_refusal, settings_of, verdict_of_rows,
+};
 use iceoryx2_description::description::{MessagingPattern, StaticConfig};
 use iceoryx2_description::time::Time;
 use iceoryx2_description::{config, publish_subscribe};
@@ -22,7 +26,7 @@ use iceoryx2_types::types::MessageTypeDetails;
 use std::alloc::AllocError;
 
 /// Which settings a builder of publish-subscribe requires.
-#[derive(Clone, Copy, Debug, PartialEq, Eq)]
+#[derive(Clone, Copy, Debug, Default, PartialEq, Eq)]
 pub struct Marks {
     pub max_publishers: bool,
     pub max_subscribers: bool,
@@ -47,15 +51,7 @@ impl PublishSubscribeDemand {
     {
         PublishSubscribeDemand {
             settings: defaults,
-            marks: Marks {
-                max_publishers: false,
-                max_subscribers: false,
-                subscriber_max_buffer_size: false,
-                history_size: false,
-                subscriber_max_borrowed_samples: false,
-                enable_safe_overflow: false,
-                max_nodes: false,
-            },
+            marks: Marks::default(),
         }
     }
 }
@@ -68,73 +64,21 @@ pub struct PreparedDemand {
     pub message: MessageTypeDetails,
 }
 
-/// Whether the existing settings offer what is marked: first publishers, subscribers, buffer and
-/// history.
-#[tactic(auto, using(iceoryx2_pattern::proofs::Verdicts::row_decides, iceoryx2_pattern::proofs::Verdicts::no_row))]
+/// Whether the existing settings offer what is marked.
 fn verify_settings(
     demand: &PublishSubscribeDemand,
     existing: &publish_subscribe::StaticConfig,
 ) -> Result<(), PublishSubscribeOpenError>
-    ensures { result ≡ verdict (marked_clauses (setting_rows demand.now.settings demand.now.marks existing.now)) }
+    ensures { result ≡ verdict (row_clauses (setting_rows demand.now.settings demand.now.marks existing.now)) }
 {
-    let marks = &demand.marks;
-    let required = &demand.settings;
-    need_at_least(
-        marks.max_publishers,
-        existing.max_publishers,
-        required.max_publishers,
-        PublishSubscribeOpenError::DoesNotSupportRequestedAmountOfPublishers,
-    )?;
-    need_at_least(
-        marks.max_subscribers,
-        existing.max_subscribers,
-        required.max_subscribers,
-        PublishSubscribeOpenError::DoesNotSupportRequestedAmountOfSubscribers,
-    )?;
-    need_at_least(
-        marks.subscriber_max_buffer_size,
-        existing.subscriber_max_buffer_size,
-        required.subscriber_max_buffer_size,
-        PublishSubscribeOpenError::DoesNotSupportRequestedMinBufferSize,
-    )?;
-    need_at_least(
-        marks.history_size,
-        existing.history_size,
-        required.history_size,
-        PublishSubscribeOpenError::DoesNotSupportRequestedMinHistorySize,
-    )?;
-    verify_use(demand, existing)
-}
-
-/// Whether borrowed samples, overflow and nodes are as marked: the rows after the first four.
-#[tactic(auto, using(iceoryx2_pattern::proofs::Verdicts::row_decides, iceoryx2_pattern::proofs::Verdicts::no_row))]
-fn verify_use(
-    demand: &PublishSubscribeDemand,
-    existing: &publish_subscribe::StaticConfig,
-) -> Result<(), PublishSubscribeOpenError>
-    ensures { result ≡
-        verdict (marked_clauses (drop 4 (setting_rows demand.now.settings demand.now.marks existing.now))) }
-{
-    let marks = &demand.marks;
-    let required = &demand.settings;
-    need_at_least(
-        marks.subscriber_max_borrowed_samples,
-        existing.subscriber_max_borrowed_samples,
-        required.subscriber_max_borrowed_samples,
-        PublishSubscribeOpenError::DoesNotSupportRequestedMinSubscriberBorrowedSamples,
-    )?;
-    need_flag(
-        marks.enable_safe_overflow,
-        existing.enable_safe_overflow,
-        required.enable_safe_overflow,
-        PublishSubscribeOpenError::IncompatibleOverflowBehavior,
-    )?;
-    need_at_least(
-        marks.max_nodes,
-        existing.max_nodes,
-        required.max_nodes,
-        PublishSubscribeOpenError::DoesNotSupportRequestedAmountOfNodes,
-    )
+    verdict_of_rows!(demand, existing, PublishSubscribeOpenError;
+        need_at_least max_publishers DoesNotSupportRequestedAmountOfPublishers;
+        need_at_least max_subscribers DoesNotSupportRequestedAmountOfSubscribers;
+        need_at_least subscriber_max_buffer_size DoesNotSupportRequestedMinBufferSize;
+        need_at_least history_size DoesNotSupportRequestedMinHistorySize;
+        need_at_least subscriber_max_borrowed_samples DoesNotSupportRequestedMinSubscriberBorrowedSamples;
+        need_flag enable_safe_overflow IncompatibleOverflowBehavior;
+        need_at_least max_nodes DoesNotSupportRequestedAmountOfNodes;)
 }
 
 impl Pattern for PreparedDemand {
@@ -198,23 +142,7 @@ impl Pattern for PreparedDemand {
     }
 
     fn open_refusal(&self, refusal: OpenRefusal) -> PublishSubscribeOpenError {
-        match refusal {
-            OpenRefusal::DoesNotExist => PublishSubscribeOpenError::DoesNotExist,
-            OpenRefusal::IncompatibleAttributes => {
-                PublishSubscribeOpenError::IncompatibleAttributes
-            }
-            OpenRefusal::ServiceInCorruptedState => {
-                PublishSubscribeOpenError::ServiceInCorruptedState
-            }
-            OpenRefusal::InternalFailure => PublishSubscribeOpenError::InternalFailure,
-            OpenRefusal::ExceedsMaxNumberOfNodes => {
-                PublishSubscribeOpenError::ExceedsMaxNumberOfNodes
-            }
-            OpenRefusal::IsMarkedForDestruction => {
-                PublishSubscribeOpenError::IsMarkedForDestruction
-            }
-            OpenRefusal::OutOfMemory => PublishSubscribeOpenError::OutOfMemory,
-        }
+        open_error_of_refusal!(refusal, PublishSubscribeOpenError)
     }
 
     fn create_error_of(&self, fault: ServiceAvailabilityState) -> PublishSubscribeCreateError {
@@ -222,20 +150,7 @@ impl Pattern for PreparedDemand {
     }
 
     fn create_refusal(&self, refusal: CreateRefusal) -> PublishSubscribeCreateError {
-        match refusal {
-            CreateRefusal::ServiceInCorruptedState => {
-                PublishSubscribeCreateError::ServiceInCorruptedState
-            }
-            CreateRefusal::InternalFailure => PublishSubscribeCreateError::InternalFailure,
-            CreateRefusal::IsBeingCreatedByAnotherInstance => {
-                PublishSubscribeCreateError::IsBeingCreatedByAnotherInstance
-            }
-            CreateRefusal::AlreadyExists => PublishSubscribeCreateError::AlreadyExists,
-            CreateRefusal::InsufficientPermissions => {
-                PublishSubscribeCreateError::InsufficientPermissions
-            }
-            CreateRefusal::OutOfMemory => PublishSubscribeCreateError::OutOfMemory,
-        }
+        create_error_of_refusal!(refusal, PublishSubscribeCreateError)
     }
 
     fn history_refusal(&self) -> Option<PublishSubscribeCreateError> {
@@ -255,17 +170,10 @@ impl Pattern for PreparedDemand {
 
     fn published(&self, now: Time) -> Result<MessagingPattern, AllocError> {
         let _ = now;
-        let settings = &self.demand.settings;
-        Ok(MessagingPattern::PublishSubscribe(publish_subscribe::StaticConfig {
-            max_publishers: settings.max_publishers,
-            max_subscribers: settings.max_subscribers,
-            subscriber_max_buffer_size: settings.subscriber_max_buffer_size,
-            history_size: settings.history_size,
-            subscriber_max_borrowed_samples: settings.subscriber_max_borrowed_samples,
-            enable_safe_overflow: settings.enable_safe_overflow,
-            max_nodes: settings.max_nodes,
-            message_type_details: self.message.clone()?,
-        }))
+        Ok(MessagingPattern::PublishSubscribe(settings_of!(self.demand.settings =>
+            publish_subscribe::StaticConfig: max_publishers max_subscribers
+            subscriber_max_buffer_size history_size subscriber_max_borrowed_samples
+            enable_safe_overflow max_nodes; message_type_details: self.message.clone()?)))
     }
 }
 

@@ -1,11 +1,15 @@
 //! What a builder of request-response asks, as the rounds see it.
 
-ghost use Rattle.std.specs.Prelude.{◌≡◌, drop};
-ghost use Rattle.iceoryx2_pattern.specs.Verdict.{verdict, marked_clauses};
+ghost use Rattle.std.specs.Prelude.{◌≡◌};
+ghost use Rattle.iceoryx2_pattern.specs.Verdict.{verdict};
+ghost use Rattle.iceoryx2_builder_common.specs.Rows.{row_clauses};
 ghost use Rattle.iceoryx2_request_response_builder.specs.Request.{fresh_demand};
 ghost use Rattle.iceoryx2_request_response_builder.specs.RequestResponse.{request_response_refusal, setting_rows};
 
 use iceoryx2_builder_common::zeros::raise_zero;
+use iceoryx2_builder_common::{
+    create_error_of_refusal, open_error_of_refusal, settings_of, verdict_of_rows,
+};
 use iceoryx2_description::description::{MessagingPattern, StaticConfig};
 use iceoryx2_description::time::Time;
 use iceoryx2_description::{config, request_response};
@@ -22,7 +26,7 @@ use iceoryx2_types::types::MessageTypeDetails;
 use std::alloc::AllocError;
 
 /// Which settings a builder of request-response requires.
-#[derive(Clone, Copy, Debug, PartialEq, Eq)]
+#[derive(Clone, Copy, Debug, Default, PartialEq, Eq)]
 pub struct Marks {
     pub enable_safe_overflow_for_requests: bool,
     pub enable_safe_overflow_for_responses: bool,
@@ -50,18 +54,7 @@ impl RequestResponseDemand {
     {
         RequestResponseDemand {
             settings: defaults,
-            marks: Marks {
-                enable_safe_overflow_for_requests: false,
-                enable_safe_overflow_for_responses: false,
-                enable_fire_and_forget_requests: false,
-                max_active_requests_per_client: false,
-                max_loaned_requests: false,
-                max_borrowed_responses_per_pending_response: false,
-                max_response_buffer_size: false,
-                max_servers: false,
-                max_clients: false,
-                max_nodes: false,
-            },
+            marks: Marks::default(),
         }
     }
 }
@@ -75,106 +68,24 @@ pub struct PreparedDemand {
     pub response: MessageTypeDetails,
 }
 
-/// Whether the existing settings offer what is marked: first the three that are on or off.
-#[tactic(auto, using(iceoryx2_pattern::proofs::Verdicts::row_decides, iceoryx2_pattern::proofs::Verdicts::no_row))]
+/// Whether the existing settings offer what is marked.
 fn verify_settings(
     demand: &RequestResponseDemand,
     existing: &request_response::StaticConfig,
 ) -> Result<(), RequestResponseOpenError>
-    ensures { result ≡ verdict (marked_clauses (setting_rows demand.now.settings demand.now.marks existing.now)) }
+    ensures { result ≡ verdict (row_clauses (setting_rows demand.now.settings demand.now.marks existing.now)) }
 {
-    let marks = &demand.marks;
-    let required = &demand.settings;
-    need_flag(
-        marks.enable_safe_overflow_for_requests,
-        existing.enable_safe_overflow_for_requests,
-        required.enable_safe_overflow_for_requests,
-        RequestResponseOpenError::IncompatibleOverflowBehaviorForRequests,
-    )?;
-    need_flag(
-        marks.enable_safe_overflow_for_responses,
-        existing.enable_safe_overflow_for_responses,
-        required.enable_safe_overflow_for_responses,
-        RequestResponseOpenError::IncompatibleOverflowBehaviorForResponses,
-    )?;
-    need_flag(
-        marks.enable_fire_and_forget_requests,
-        existing.enable_fire_and_forget_requests,
-        required.enable_fire_and_forget_requests,
-        RequestResponseOpenError::IncompatibleBehaviorForFireAndForgetRequests,
-    )?;
-    verify_requests(demand, existing)
-}
-
-/// Whether as much is offered to requests and their responses as is marked: the rows after the
-/// first three.
-#[tactic(auto, using(iceoryx2_pattern::proofs::Verdicts::row_decides, iceoryx2_pattern::proofs::Verdicts::no_row))]
-fn verify_requests(
-    demand: &RequestResponseDemand,
-    existing: &request_response::StaticConfig,
-) -> Result<(), RequestResponseOpenError>
-    ensures { result ≡
-        verdict (marked_clauses (drop 3 (setting_rows demand.now.settings demand.now.marks existing.now))) }
-{
-    let marks = &demand.marks;
-    let required = &demand.settings;
-    need_at_least(
-        marks.max_active_requests_per_client,
-        existing.max_active_requests_per_client,
-        required.max_active_requests_per_client,
-        RequestResponseOpenError::DoesNotSupportRequestedAmountOfActiveRequestsPerClient,
-    )?;
-    need_at_least(
-        marks.max_loaned_requests,
-        existing.max_loaned_requests,
-        required.max_loaned_requests,
-        RequestResponseOpenError::DoesNotSupportRequestedAmountOfClientRequestLoans,
-    )?;
-    need_at_least(
-        marks.max_borrowed_responses_per_pending_response,
-        existing.max_borrowed_responses_per_pending_response,
-        required.max_borrowed_responses_per_pending_response,
-        RequestResponseOpenError::DoesNotSupportRequestedAmountOfBorrowedResponsesPerPendingResponse,
-    )?;
-    need_at_least(
-        marks.max_response_buffer_size,
-        existing.max_response_buffer_size,
-        required.max_response_buffer_size,
-        RequestResponseOpenError::DoesNotSupportRequestedResponseBufferSize,
-    )?;
-    verify_users(demand, existing)
-}
-
-/// Whether as many servers, clients and nodes may use it as is marked: the rows after the first
-/// seven.
-#[tactic(auto, using(iceoryx2_pattern::proofs::Verdicts::row_decides, iceoryx2_pattern::proofs::Verdicts::no_row))]
-fn verify_users(
-    demand: &RequestResponseDemand,
-    existing: &request_response::StaticConfig,
-) -> Result<(), RequestResponseOpenError>
-    ensures { result ≡
-        verdict (marked_clauses (drop 7 (setting_rows demand.now.settings demand.now.marks existing.now))) }
-{
-    let marks = &demand.marks;
-    let required = &demand.settings;
-    need_at_least(
-        marks.max_servers,
-        existing.max_servers,
-        required.max_servers,
-        RequestResponseOpenError::DoesNotSupportRequestedAmountOfServers,
-    )?;
-    need_at_least(
-        marks.max_clients,
-        existing.max_clients,
-        required.max_clients,
-        RequestResponseOpenError::DoesNotSupportRequestedAmountOfClients,
-    )?;
-    need_at_least(
-        marks.max_nodes,
-        existing.max_nodes,
-        required.max_nodes,
-        RequestResponseOpenError::DoesNotSupportRequestedAmountOfNodes,
-    )
+    verdict_of_rows!(demand, existing, RequestResponseOpenError;
+        need_flag enable_safe_overflow_for_requests IncompatibleOverflowBehaviorForRequests;
+        need_flag enable_safe_overflow_for_responses IncompatibleOverflowBehaviorForResponses;
+        need_flag enable_fire_and_forget_requests IncompatibleBehaviorForFireAndForgetRequests;
+        need_at_least max_active_requests_per_client DoesNotSupportRequestedAmountOfActiveRequestsPerClient;
+        need_at_least max_loaned_requests DoesNotSupportRequestedAmountOfClientRequestLoans;
+        need_at_least max_borrowed_responses_per_pending_response DoesNotSupportRequestedAmountOfBorrowedResponsesPerPendingResponse;
+        need_at_least max_response_buffer_size DoesNotSupportRequestedResponseBufferSize;
+        need_at_least max_servers DoesNotSupportRequestedAmountOfServers;
+        need_at_least max_clients DoesNotSupportRequestedAmountOfClients;
+        need_at_least max_nodes DoesNotSupportRequestedAmountOfNodes;)
 }
 
 impl Pattern for PreparedDemand {
@@ -243,19 +154,7 @@ impl Pattern for PreparedDemand {
     }
 
     fn open_refusal(&self, refusal: OpenRefusal) -> RequestResponseOpenError {
-        match refusal {
-            OpenRefusal::DoesNotExist => RequestResponseOpenError::DoesNotExist,
-            OpenRefusal::IncompatibleAttributes => RequestResponseOpenError::IncompatibleAttributes,
-            OpenRefusal::ServiceInCorruptedState => {
-                RequestResponseOpenError::ServiceInCorruptedState
-            }
-            OpenRefusal::InternalFailure => RequestResponseOpenError::InternalFailure,
-            OpenRefusal::ExceedsMaxNumberOfNodes => {
-                RequestResponseOpenError::ExceedsMaxNumberOfNodes
-            }
-            OpenRefusal::IsMarkedForDestruction => RequestResponseOpenError::IsMarkedForDestruction,
-            OpenRefusal::OutOfMemory => RequestResponseOpenError::OutOfMemory,
-        }
+        open_error_of_refusal!(refusal, RequestResponseOpenError)
     }
 
     fn create_error_of(&self, fault: ServiceAvailabilityState) -> RequestResponseCreateError {
@@ -263,20 +162,7 @@ impl Pattern for PreparedDemand {
     }
 
     fn create_refusal(&self, refusal: CreateRefusal) -> RequestResponseCreateError {
-        match refusal {
-            CreateRefusal::ServiceInCorruptedState => {
-                RequestResponseCreateError::ServiceInCorruptedState
-            }
-            CreateRefusal::InternalFailure => RequestResponseCreateError::InternalFailure,
-            CreateRefusal::IsBeingCreatedByAnotherInstance => {
-                RequestResponseCreateError::IsBeingCreatedByAnotherInstance
-            }
-            CreateRefusal::AlreadyExists => RequestResponseCreateError::AlreadyExists,
-            CreateRefusal::InsufficientPermissions => {
-                RequestResponseCreateError::InsufficientPermissions
-            }
-            CreateRefusal::OutOfMemory => RequestResponseCreateError::OutOfMemory,
-        }
+        create_error_of_refusal!(refusal, RequestResponseCreateError)
     }
 
     fn history_refusal(&self) -> Option<RequestResponseCreateError> {
@@ -289,21 +175,14 @@ impl Pattern for PreparedDemand {
 
     fn published(&self, now: Time) -> Result<MessagingPattern, AllocError> {
         let _ = now;
-        let settings = &self.demand.settings;
-        Ok(MessagingPattern::RequestResponse(request_response::StaticConfig {
-            enable_safe_overflow_for_requests: settings.enable_safe_overflow_for_requests,
-            enable_safe_overflow_for_responses: settings.enable_safe_overflow_for_responses,
-            enable_fire_and_forget_requests: settings.enable_fire_and_forget_requests,
-            max_active_requests_per_client: settings.max_active_requests_per_client,
-            max_loaned_requests: settings.max_loaned_requests,
-            max_borrowed_responses_per_pending_response: settings.max_borrowed_responses_per_pending_response,
-            max_response_buffer_size: settings.max_response_buffer_size,
-            max_servers: settings.max_servers,
-            max_clients: settings.max_clients,
-            max_nodes: settings.max_nodes,
+        Ok(MessagingPattern::RequestResponse(settings_of!(self.demand.settings =>
+            request_response::StaticConfig: enable_safe_overflow_for_requests
+            enable_safe_overflow_for_responses enable_fire_and_forget_requests
+            max_active_requests_per_client max_loaned_requests
+            max_borrowed_responses_per_pending_response max_response_buffer_size
+            max_servers max_clients max_nodes;
             request_message_type_details: self.request.clone()?,
-            response_message_type_details: self.response.clone()?,
-        }))
+            response_message_type_details: self.response.clone()?)))
     }
 }
 

@@ -26,10 +26,9 @@ impl Clone for RequestedMessages {
 
     /// `AllocError` where there was no memory for the names of types.
     fn clone(&self) -> Result<RequestedMessages, AllocError> {
-        Ok(RequestedMessages {
-            request: self.request.clone()?,
-            response: self.response.clone()?,
-        })
+        let request = self.request.clone()?;
+        let response = self.response.clone()?;
+        Ok(RequestedMessages { request, response })
     }
 }
 

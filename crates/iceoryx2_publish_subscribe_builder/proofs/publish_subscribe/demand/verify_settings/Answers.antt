@@ -1,6 +1,8 @@
-use Rattle.std.proofs.Common.{rules}
-use Rattle.iceoryx2_pattern.proofs.Verdicts.{row_decides, no_row}
+use Rattle.std.specs.Prelude.{map}
+use Rattle.iceoryx2_builder_common.specs.Rows.{tested}
+use Rattle.iceoryx2_builder_common.proofs.Rows.{by_row_is}
+use Rattle.iceoryx2_publish_subscribe_builder.specs.PublishSubscribe.{setting_rows}
 use Rattle.iceoryx2_publish_subscribe_builder.proofs.publish_subscribe.demand.verify_settings.Goals as goal
 
-pub returns-in_err-need_at_least : goal.returns-in_err-need_at_least
-returns-in_err-need_at_least c = search (rules, row_decides, no_row)
+pub returns : goal.returns
+returns c = cc (by_row_is (map tested (setting_rows c.args.demand.now.settings c.args.demand.now.marks c.args.existing.now)))

@@ -1,9 +1,8 @@
-use Rattle.std.proofs.Common.{rules}
-use Rattle.iceoryx2_pattern.proofs.Verdicts.{row_decides, no_row}
+use Rattle.std.specs.Prelude.{map}
+use Rattle.iceoryx2_builder_common.specs.Rows.{tested}
+use Rattle.iceoryx2_builder_common.proofs.Rows.{by_row_is}
+use Rattle.iceoryx2_request_response_builder.specs.RequestResponse.{setting_rows}
 use Rattle.iceoryx2_request_response_builder.proofs.request_response.demand.verify_settings.Goals as goal
 
-pub returns-in_err-need_flag-3 : goal.returns-in_err-need_flag-3
-returns-in_err-need_flag-3 c = search (rules, row_decides, no_row)
-
 pub returns : goal.returns
-returns c = search (rules, row_decides, no_row)
+returns c = cc (by_row_is (map tested (setting_rows c.args.demand.now.settings c.args.demand.now.marks c.args.existing.now)))
