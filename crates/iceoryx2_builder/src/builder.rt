@@ -14,24 +14,16 @@ ghost use Rattle.iceoryx2_event_builder.specs.Event.{event_adjusted, event_creat
 ghost use Rattle.iceoryx2_event_builder.specs.Request.{fresh_builder, with_setting as with_event_setting};
 ghost use Rattle.iceoryx2_event_builder.specs.declared.event.demand.EventDemand.{EventDemand};
 ghost use Rattle.iceoryx2_types.specs.Types.{IsCompatible, Message};
+ghost use Rattle.iceoryx2_publish_subscribe_builder.specs.PublishSubscribe.{publish_subscribe_creating, publish_subscribe_opening, publish_subscribe_retried};
 ghost use Rattle.iceoryx2_publish_subscribe_builder.specs.PublishSubscribe.{publish_subscribe_adjusted as raised_publish_subscribe};
-ghost use Rattle.iceoryx2_publish_subscribe_builder.specs.PublishSubscribe.{publish_subscribe_creating};
-ghost use Rattle.iceoryx2_publish_subscribe_builder.specs.PublishSubscribe.{publish_subscribe_opening};
-ghost use Rattle.iceoryx2_publish_subscribe_builder.specs.PublishSubscribe.{publish_subscribe_retried};
-ghost use Rattle.iceoryx2_publish_subscribe_builder.specs.PublishSubscribe.{prepared_meaning as publish_subscribe_meaning};
-ghost use Rattle.iceoryx2_publish_subscribe_builder.specs.PublishSubscribe.{prepared_adjusted as publish_subscribe_adjusted};
-ghost use Rattle.iceoryx2_publish_subscribe_builder.specs.Request.{fresh_builder as fresh_publish_subscribe};
-ghost use Rattle.iceoryx2_publish_subscribe_builder.specs.Request.{with_setting as with_publish_subscribe_setting};
+ghost use Rattle.iceoryx2_publish_subscribe_builder.specs.PublishSubscribe.{prepared_meaning as publish_subscribe_meaning, prepared_adjusted as publish_subscribe_adjusted};
+ghost use Rattle.iceoryx2_publish_subscribe_builder.specs.Request.{fresh_builder as fresh_publish_subscribe, with_setting as with_publish_subscribe_setting};
 ghost use Rattle.iceoryx2_publish_subscribe_builder.specs.declared.publish_subscribe.demand.PublishSubscribeDemand.{PublishSubscribeDemand};
 ghost use Rattle.iceoryx2_publish_subscribe_builder.specs.declared.publish_subscribe.demand.PreparedDemand.{PreparedDemand as PreparedPublishSubscribe};
-ghost use Rattle.iceoryx2_request_response_builder.specs.Request.{fresh_builder as fresh_request_response};
-ghost use Rattle.iceoryx2_request_response_builder.specs.Request.{with_setting as with_request_response_setting};
+ghost use Rattle.iceoryx2_request_response_builder.specs.Request.{fresh_builder as fresh_request_response, with_setting as with_request_response_setting};
+ghost use Rattle.iceoryx2_request_response_builder.specs.RequestResponse.{request_response_creating, request_response_opening, request_response_retried};
 ghost use Rattle.iceoryx2_request_response_builder.specs.RequestResponse.{request_response_adjusted as raised_request_response};
-ghost use Rattle.iceoryx2_request_response_builder.specs.RequestResponse.{request_response_creating};
-ghost use Rattle.iceoryx2_request_response_builder.specs.RequestResponse.{request_response_opening};
-ghost use Rattle.iceoryx2_request_response_builder.specs.RequestResponse.{request_response_retried};
-ghost use Rattle.iceoryx2_request_response_builder.specs.RequestResponse.{prepared_meaning as request_response_meaning};
-ghost use Rattle.iceoryx2_request_response_builder.specs.RequestResponse.{prepared_adjusted as request_response_adjusted};
+ghost use Rattle.iceoryx2_request_response_builder.specs.RequestResponse.{prepared_meaning as request_response_meaning, prepared_adjusted as request_response_adjusted};
 ghost use Rattle.iceoryx2_request_response_builder.specs.declared.request_response.demand.RequestResponseDemand.{RequestResponseDemand};
 ghost use Rattle.iceoryx2_request_response_builder.specs.declared.request_response.demand.PreparedDemand.{PreparedDemand as PreparedRequestResponse};
 
@@ -104,20 +96,16 @@ impl<S: Service> Node<S> {
         ensures { result ≡ record { node = self.now.id; config = self.now.config; name = name } }
     {
         Builder {
-            node: self.id,
+            base: BuilderWithServiceType::new(self.id, name),
             config: self.config,
-            name,
-            service: PhantomData,
         }
     }
 }
 
 /// A builder whose pattern is still to be chosen.
 pub struct Builder<S: Service> {
-    node: u64,
+    base: BuilderWithServiceType<S>,
     config: Config,
-    name: ServiceName,
-    service: PhantomData<S>,
 }
 
 impl<S: Service> Model for Builder<S> {
@@ -125,17 +113,16 @@ impl<S: Service> Model for Builder<S> {
 
     ghost Value = { BuilderFacts };
 
-    ghost view = { λ builder. record { node = builder.node; config = builder.config; name = builder.name } };
+    ghost view = { λ builder. record {
+      node = builder.base.node;
+      config = builder.config;
+      name = builder.base.name;
+    } };
 }
 
 impl<S: Service> Drop for Builder<S> {
     fn drop(self) {
-        let Builder {
-            node: _,
-            config: _,
-            name: _,
-            service: _,
-        } = self;
+        let Builder { base: _, config: _ } = self;
     }
 }
 
@@ -146,41 +133,20 @@ impl<S: Service> Clone for Builder<S> {
 
     /// `AllocError` where there was no memory for the name.
     fn clone(&self) -> Result<Builder<S>, AllocError> {
-        let Builder {
-            node,
-            config,
-            name,
-            service: _,
-        } = self;
+        let Builder { base, config } = self;
         Ok(Builder {
-            node: *node,
+            base: base.clone()?,
             config: *config,
-            name: name.clone()?,
-            service: PhantomData,
         })
     }
 }
 
 impl<S: Service> Builder<S> {
-    /// What the builder of each pattern begins with: its base, and the node's settings.
-    fn parts(self) -> (BuilderWithServiceType<S>, Config)
-        ensures base { result.0 ≡ record { node = self.node; name = self.name } }
-        ensures config { result.1 ≡ self.config }
-    {
-        let Builder {
-            node,
-            config,
-            name,
-            service: _,
-        } = self;
-        (BuilderWithServiceType::new(node, name), config)
-    }
-
     /// A builder of a service of events, with the node's settings, of which none is required.
     pub fn event(self) -> event::Builder<S>
         ensures { result ≡ fresh_builder self.node self.name self.config.event }
     {
-        let (base, config) = self.parts();
+        let Builder { base, config } = self;
         event::Builder::new(base, config.event)
     }
 
@@ -189,7 +155,7 @@ impl<S: Service> Builder<S> {
     pub fn publish_subscribe<P: ZeroCopySend>(self) -> publish_subscribe::Builder<P, (), S>
         ensures { result ≡ fresh_publish_subscribe self.node self.name self.config.publish_subscribe }
     {
-        let (base, config) = self.parts();
+        let Builder { base, config } = self;
         publish_subscribe::Builder::new(base, config.publish_subscribe)
     }
 
@@ -201,7 +167,7 @@ impl<S: Service> Builder<S> {
     ) -> request_response::Builder<Q, (), R, (), S>
         ensures { result ≡ fresh_request_response self.node self.name self.config.request_response }
     {
-        let (base, config) = self.parts();
+        let Builder { base, config } = self;
         request_response::Builder::new(base, config.request_response)
     }
 }
