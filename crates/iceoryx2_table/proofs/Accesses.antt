@@ -1,5 +1,5 @@
 -- The own parts of accesses, from what was tested and done.
-use Rattle.std.proofs.Common.{◌≡◌, ℕ, ◌+◌, Bool, true, false, Option, Some, None, inl, inr, refl, sym, ap, subst, ◌∙◌}
+use Rattle.std.proofs.Common.{◌≡◌, ℕ, ◌+◌, Bool, true, false, Option, Some, None, refl, sym, ap, subst, ◌∙◌}
 use Rattle.std.specs.Prelude.{Result, Ok, Err, nat_lt, ◌&&◌, ◌==◌, if◌then◌else◌}
 use Rattle.iceoryx2_description.specs.declared.description.ServiceHash.{ServiceHash}
 use Rattle.iceoryx2_description.specs.Description.{Description}
@@ -17,29 +17,13 @@ use Rattle.iceoryx2_world.specs.Acts as act
 use Rattle.iceoryx2_world.specs.Steps.{ServiceView, view_after, to_view, row_for}
 use Rattle.iceoryx2_access.specs.Letter.{Letter, caller_of, service_of}
 use Rattle.iceoryx2_access.specs.declared.storage.OpenSegmentError.{OpenSegmentError}
-use Rattle.iceoryx2_world.specs.Access.{NodeView, Change, nothing, view_becomes_with, with_ticket, opening_of, read_change, publishing_of, has_made, has_lock, make_of, view_becomes, or_refused, IsNodeAnswer, IsOwnPart, IsAnswer, IsSureAnswer, node_view, write}
+use Rattle.iceoryx2_world.specs.Access.{NodeView, Change, view_becomes_with, with_ticket, opening_of, read_change, publishing_of, has_made, has_lock, make_of, view_becomes, or_refused, IsNodeAnswer, IsOwnPart, node_view, write}
 use Rattle.iceoryx2_table.proofs.Views.{both_true}
 use Rattle.iceoryx2_table.specs.Book.{Book, StepsOrStays, step_at, world_with, segment_fits}
 
 -- what was shown of the fields, of the value
 pub part : {a w v : World} (l : Letter) (c : Change) → a ≡ w → IsNodeAnswer (caller_of l) (service_of l) (node_view a (caller_of l) (service_of l)) l c → v ≡ write a (caller_of l) (service_of l) c → IsOwnPart w l v
 part {a} {w} {v} l c e own is = subst (λ (x : World). IsOwnPart x l v) e (record { change = c; own = own; is = is })
-
-module _ {A E : Type 0} where
-  pub gives_refusal : (m e : E) (x : Result (A × Change) E) → x ≡ Err e → IsAnswer m x (Err e) nothing
-  gives_refusal m e x q = subst (λ (y : Result (A × Change) E). IsAnswer m y (Err e) nothing) (sym q) (refl, refl)
-
-  pub gives_done : (m : E) (x : Result (A × Change) E) (a : A) (c : Change) → x ≡ Ok (a, c) → IsAnswer m x (Ok a) c
-  gives_done m x a c q = subst (λ (y : Result (A × Change) E). IsAnswer m y (Ok a) c) (sym q) (inl (refl, refl))
-
-  pub gives_starved : (m : E) (x : Result (A × Change) E) (y : A × Change) → x ≡ Ok y → IsAnswer m x (Err m) nothing
-  gives_starved m x y q = subst (λ (z : Result (A × Change) E). IsAnswer m z (Err m) nothing) (sym q) (inr (refl, refl))
-
-  pub simply_refusal : (e : E) (x : Result (A × Change) E) → x ≡ Err e → IsSureAnswer x (Err e) nothing
-  simply_refusal e x q = subst (λ (y : Result (A × Change) E). IsSureAnswer y (Err e) nothing) (sym q) (refl, refl)
-
-  pub simply_done : (x : Result (A × Change) E) (a : A) (c : Change) → x ≡ Ok (a, c) → IsSureAnswer x (Ok a) c
-  simply_done x a c q = subst (λ (y : Result (A × Change) E). IsSureAnswer y (Ok a) c) (sym q) (refl, refl)
 
 pub record There {A : Type 0} (o : Option A) : Type 0 where
   pub it : A

@@ -35,10 +35,11 @@ use Rattle.iceoryx2_world.specs.Acts as act
 use Rattle.iceoryx2_world.specs.Access.{Change, nothing, view_becomes, view_becomes_with, tag_becomes, with_ticket, has_lock, has_made, is_ticket, node_view, write, or_refused, fetch_of, lock_of, make_of, opening_of, open_refusal, release_of, remove_answer, MakesTag, IsAnswer, IsSureAnswer, IsOwnPart}
 use Rattle.iceoryx2_world.specs.Steps.{ServiceView}
 use Rattle.iceoryx2_world.specs.World.{World, Tickets, phase_of, tag_of}
+use Rattle.iceoryx2_world.proofs.AccessCases.{answered, starved, refused, surely_answered, surely_refused}
 use Rattle.iceoryx2_table.specs.declared.services.Position.{Position}
 use Rattle.iceoryx2_table.specs.Book.{Book, StepsOrStays, Starves, TakesLeave, position_in, segment_fits, step_at, world_with}
 use Rattle.iceoryx2_table.proofs.ServiceViews.{may_join, join_counter}
-use Rattle.iceoryx2_table.proofs.Accesses.{part, gives_refusal, gives_done, gives_starved, simply_refusal, simply_done, no_publish, may_publish, publishes_by, opens_by, make_refused, make_done}
+use Rattle.iceoryx2_table.proofs.Accesses.{part, no_publish, may_publish, publishes_by, opens_by, make_refused, make_done}
 
 -- the services of a world
 abbrev pub services_of : World → Book
@@ -68,17 +69,17 @@ module _ {a w : World} (i : ℕ) (h : ServiceHash) (is : a ≡ w) where
   lock_part r o c there own v = part (letter.Lock i h r) c is (subst (λ (x : Option Row). IsAnswer Locking.OutOfMemory (lock_of i h (node_view a i h).view x) r c) (sym there) own) v
 
   pub lock_starved : {b : Book} → map.get a.rows h ≡ None → Starves (services_of a) (Node i) h act.Lock b → IsOwnPart w (letter.Lock i h (Err Locking.OutOfMemory)) (world_with b a.tags a.tickets)
-  lock_starved absent s = lock_part _ None nothing absent (gives_starved _ _ _ (ap (or_refused Locking.Other a.counter) s.1)) (services_become a s.3)
+  lock_starved absent s = lock_part _ None nothing absent (starved _ (ap (or_refused Locking.Other a.counter) s.1)) (services_become a s.3)
 
   pub lock_forbidden : (b : Book) {done : Bool} → map.get a.rows h ≡ None → done ≡ false → StepsOrStays (services_of a) (Node i) h act.Lock done b → IsOwnPart w (letter.Lock i h (Err Locking.Other)) (world_with b a.tags a.tickets)
   lock_forbidden b absent told step =
       let s = subst (λ (y : Bool). StepsOrStays (services_of a) (Node i) h act.Lock y b) told step in
-      lock_part _ None nothing absent (gives_refusal _ _ _ (ap (or_refused Locking.Other a.counter) s.0)) (services_become a s.1)
+      lock_part _ None nothing absent (refused _ (ap (or_refused Locking.Other a.counter) s.0)) (services_become a s.1)
 
   pub locked : (b : Book) {done : Bool} {n : ℕ} → map.get a.rows h ≡ None → done ≡ true → StepsOrStays (services_of a) (Node i) h act.Lock done b → n ≡ a.counter → IsOwnPart w (letter.Lock i h (Ok n)) (world_with b a.tags a.tickets)
   locked b absent told step e =
       let s = subst (λ (y : Bool). StepsOrStays (services_of a) (Node i) h act.Lock y b) told step in
-      lock_part _ None (view_becomes s.0) absent (gives_done _ _ _ _ (ap (or_refused Locking.Other a.counter) s.1 ∙ ap (λ (u : ℕ). Ok (u, view_becomes s.0)) (sym e))) (services_become a s.2)
+      lock_part _ None (view_becomes s.0) absent (answered _ (ap (or_refused Locking.Other a.counter) s.1 ∙ ap (λ (u : ℕ). Ok (u, view_becomes s.0)) (sym e))) (services_become a s.2)
 
 -- the answers of a removal and of a making that are done or not
 abbrev pub removal : Bool → Result (Unit {0}) RemoveError
@@ -92,8 +93,8 @@ making false = Err Making.AlreadyExists
 -- a removal that was done or forbidden
 module _ {a w : World} (i : ℕ) (h : ServiceHash) (is : a ≡ w) (b : Book) (done : Bool) {told : Bool} (e : told ≡ done) where
   removes : (t : Act) (y : Bool) → StepsOrStays (services_of a) (Node i) h t y b → (c : Change) × IsSureAnswer (remove_answer i h (node_view a i h) t) (removal y) c × (world_with b a.tags a.tickets ≡ write a i h c)
-  removes t true s = (view_becomes s.0, simply_done _ _ _ (ap (or_refused Removing.Other tt) s.1), services_become a s.2)
-  removes t false s = (nothing, simply_refusal _ _ (ap (or_refused Removing.Other tt) s.0), services_become a s.1)
+  removes t true s = (view_becomes s.0, surely_answered (ap (or_refused Removing.Other tt) s.1), services_become a s.2)
+  removes t false s = (nothing, surely_refused (ap (or_refused Removing.Other tt) s.0), services_become a s.1)
 
   steps : (t : Act) → StepsOrStays (services_of a) (Node i) h t told b → StepsOrStays (services_of a) (Node i) h t done b
   steps t s = subst (λ (y : Bool). StepsOrStays (services_of a) (Node i) h t y b) e s
@@ -116,14 +117,14 @@ module _ {a w : World} (i : ℕ) (h : ServiceHash) (is : a ≡ w) (n m : ℕ) {q
   make_barred e = make_part _ nothing false e (refl, refl) (sym is)
 
   pub make_starved : {b : Book} → may ≡ true → Starves (services_of a) (Node i) h (act.Make m) b → IsOwnPart w (letter.MakeSegment i h n m (Err Making.OutOfMemory)) (world_with b a.tags a.tickets)
-  make_starved e s = make_part _ nothing true e (gives_starved _ _ _ (make_done i h m _ _ _ _ s.0 s.1)) (services_become a s.3)
+  make_starved e s = make_part _ nothing true e (starved _ (make_done i h m _ _ _ _ s.0 s.1)) (services_become a s.3)
 
   pub makes : (b : Book) {y : Bool} (done : Bool) → may ≡ true → y ≡ done → StepsOrStays (services_of a) (Node i) h (act.Make m) y b → IsOwnPart w (letter.MakeSegment i h n m (making done)) (world_with b a.tags a.tickets)
   makes b done e told s = by done (subst (λ (x : Bool). StepsOrStays (services_of a) (Node i) h (act.Make m) x b) told s)
     where
       by : (y : Bool) → StepsOrStays (services_of a) (Node i) h (act.Make m) y b → IsOwnPart w (letter.MakeSegment i h n m (making y)) (world_with b a.tags a.tickets)
-      by true s = make_part _ (view_becomes s.0) true e (gives_done _ _ _ _ (make_done i h m _ _ _ _ s.0 s.1)) (services_become a s.2)
-      by false s = make_part _ nothing true e (gives_refusal _ _ _ (make_refused i h n m _ _ _ _ (allowed true e) s.0)) (services_become a s.1)
+      by true s = make_part _ (view_becomes s.0) true e (answered _ (make_done i h m _ _ _ _ s.0 s.1)) (services_become a s.2)
+      by false s = make_part _ nothing true e (refused _ (make_refused i h n m _ _ _ _ (allowed true e) s.0)) (services_become a s.1)
 
 -- a description is published, by whether the node has made a segment under the lock of this number
 module _ {a w : World} (i : ℕ) (h : ServiceHash) (is : a ≡ w) (n : ℕ) (d : Description) {q : Position} (found : q ≡ position_in a.phases (Node i, h)) {made : Bool} (test : made ≡ has_made n q.phase) where
@@ -131,7 +132,7 @@ module _ {a w : World} (i : ℕ) (h : ServiceHash) (is : a ≡ w) (n : ℕ) (d :
   has y e = ap (λ (x : Position). has_made n x.phase) (sym found) ∙ sym test ∙ e
 
   refused_publish : (has_made n (phase_of a (Node i) h) && segment_fits h (map.get a.segments h) d) ≡ false → IsOwnPart w (letter.Publish i h n d (Err Publishing.Other)) w
-  refused_publish e = part (letter.Publish i h n d (Err Publishing.Other)) nothing is (tt, gives_refusal _ _ _ (no_publish i h n d a.tickets _ _ _ _ e)) (sym is)
+  refused_publish e = part (letter.Publish i h n d (Err Publishing.Other)) nothing is (tt, refused _ (no_publish i h n d a.tickets _ _ _ _ e)) (sym is)
 
   pub not_made : made ≡ false → IsOwnPart w (letter.Publish i h n d (Err Publishing.Other)) w
   not_made e = refused_publish (ap (λ x. x && segment_fits h (map.get a.segments h) d) (has false e))
@@ -143,20 +144,20 @@ module _ {a w : World} (i : ℕ) (h : ServiceHash) (is : a ≡ w) (n : ℕ) (d :
   no_ticket e fit same =
       let may = may_publish i h n d a.tickets (map.get a.rows h) a.counter _ _ (λ j. has true e j && fit j) in
       part (letter.Publish i h n d (Err Publishing.OutOfMemory)) nothing is
-      (tt, gives_starved _ _ _ (publishes_by i h n d a.tickets _ _ _ _ _ may.0 may.1.is))
+      (tt, starved _ (publishes_by i h n d a.tickets _ _ _ _ _ may.0 may.1.is))
       (λ j. record a { tickets = same j })
 
   pub publish_starved : {b : Book} {k : Tickets} → made ≡ true → Starves (services_of a) (Node i) h (act.Publish d) b → k ≡ a.tickets → IsOwnPart w (letter.Publish i h n d (Err Publishing.OutOfMemory)) (world_with b a.tags k)
   publish_starved e s same =
       part (letter.Publish i h n d (Err Publishing.OutOfMemory)) nothing is
-      (tt, gives_starved _ _ _ (publishes_by i h n d a.tickets _ _ _ _ _ (has true e) s.1))
+      (tt, starved _ (publishes_by i h n d a.tickets _ _ _ _ _ (has true e) s.1))
       (λ j. world_with (s.3 j) a.tags (same j))
 
   pub published : (b : Book) {done : Bool} {k m : Tickets} {x : Ticket} → made ≡ true → done ≡ true → StepsOrStays (services_of a) (Node i) h (act.Publish d) done b → (◌≡◌ {A = Result Bool AllocError} (Ok done) (Ok true) → IsDescription d) → k ≡ map.insert m n x → x ≡ record { node = i; hash = h; number = n } → m ≡ a.tickets → IsOwnPart w (letter.Publish i h n d (Ok n)) (world_with b a.tags k)
   published b e told step limits kept held same =
       let s = subst (λ (y : Bool). StepsOrStays (services_of a) (Node i) h (act.Publish d) y b) told step in
       part (letter.Publish i h n d (Ok n)) (view_becomes_with s.0 (with_ticket i h a.tickets n n)) is
-      (limits (ap Ok told), gives_done _ _ _ _ (publishes_by i h n d a.tickets _ _ _ _ _ (has true e) s.1))
+      (limits (ap Ok told), answered _ (publishes_by i h n d a.tickets _ _ _ _ _ (has true e) s.1))
       (λ j. world_with (s.2 j) a.tags ((kept ∙ (λ l. map.insert (same l) n (held l))) j))
 
 -- a segment is opened, by what was found against it
@@ -169,20 +170,20 @@ module _ {a w : World} (i : ℕ) (h : ServiceHash) (is : a ≡ w) (n : ℕ) {q :
 
   pub open_refused : (e : OpenSegmentError) → refusal ≡ Some e → IsOwnPart w (letter.OpenSegment i h n (Err e)) w
   open_refused e is_e = part (letter.OpenSegment i h n (Err e)) nothing is
-      (gives_refusal _ _ _ (ap (λ (r : Option OpenSegmentError). opening_of i h n (node_view a i h) r (step_at (services_of a) (Node i) h act.Join)) (against (Some e) is_e)))
+      (refused _ (ap (λ (r : Option OpenSegmentError). opening_of i h n (node_view a i h) r (step_at (services_of a) (Node i) h act.Join)) (against (Some e) is_e)))
       (sym is)
 
   pub open_no_ticket : {k : Tickets} → refusal ≡ None → k ≡ a.tickets → IsOwnPart w (letter.OpenSegment i h n (Err Opening.OutOfMemory)) (record a { tickets = k })
   open_no_ticket e same =
       let may = (may_join (Node i) h n a.counter (map.get a.rows h) _ _ (against None e)).1 in
       part (letter.OpenSegment i h n (Err Opening.OutOfMemory)) nothing is
-      (gives_starved _ _ _ (opens _ _ e may.1))
+      (starved _ (opens _ _ e may.1))
       (λ j. record a { tickets = same j })
 
   pub open_starved : {b : Book} {k : Tickets} → refusal ≡ None → Starves (services_of a) (Node i) h act.Join b → k ≡ a.tickets → IsOwnPart w (letter.OpenSegment i h n (Err Opening.OutOfMemory)) (world_with b a.tags k)
   open_starved e s same =
       part (letter.OpenSegment i h n (Err Opening.OutOfMemory)) nothing is
-      (gives_starved _ _ _ (opens _ _ e s.1))
+      (starved _ (opens _ _ e s.1))
       (λ j. world_with (s.3 j) a.tags (same j))
 
   -- the ticket is the number that is handed out behind the join
@@ -194,7 +195,7 @@ module _ {a w : World} (i : ℕ) (h : ServiceHash) (is : a ≡ w) (n : ℕ) {q :
       let is_u : a.counter ≡ u = sym (ticket ∙ same) in
       let next : b.counter + 1 ≡ u + 1 = ap (λ y. y + 1) (sym ticket) in
       part (letter.OpenSegment i h n (Ok u)) (view_becomes_with (record x { counter = u + 1 }) (with_ticket i h a.tickets u n)) is
-      (gives_done _ _ _ _ (opens _ _ e s.1 ∙ ap (λ y. Ok (y, view_becomes_with (record x { counter = y + 1 }) (with_ticket i h a.tickets y n))) is_u))
+      (answered _ (opens _ _ e s.1 ∙ ap (λ y. Ok (y, view_becomes_with (record x { counter = y + 1 }) (with_ticket i h a.tickets y n))) is_u))
       (λ j. world_with ((counted ∙ (λ l. record (s.2 l) { counter = next l })) j) a.tags ((kept ∙ (λ l. map.insert (still l) u (held l))) j))
 
 -- a ticket is given back, by whether it is one of this node for this service and number
@@ -206,9 +207,9 @@ module _ {a w : World} (i : ℕ) (h : ServiceHash) (is : a ≡ w) (u n : ℕ) {o
   not_held e = release_part _ nothing false e (refl, refl) (sym is)
 
   pub not_released : {b : Book} → held ≡ true → (step_at (services_of a) (Node i) h act.Leave ≡ None) × (b ≡ services_of a) → IsOwnPart w (letter.Release u i h n (Err NoSuchTicket)) (world_with b a.tags a.tickets)
-  not_released e s = release_part _ nothing true e (simply_refusal _ _ (ap (release_of i h u a.tickets) s.0)) (services_become a s.1)
+  not_released e s = release_part _ nothing true e (surely_refused (ap (release_of i h u a.tickets) s.0)) (services_become a s.1)
 
   pub released : {b : Book} {k : Tickets} (r : Released) → held ≡ true → TakesLeave (services_of a) (Node i) h (Some r) b → k ≡ map.remove a.tickets u → IsOwnPart w (letter.Release u i h n (Ok r)) (world_with b a.tags k)
   released r e s gone = release_part _ (view_becomes_with s.0 (map.remove a.tickets u)) true e
-      (simply_done _ _ _ (ap (release_of i h u a.tickets) s.1 ∙ ap (λ x. Ok (x, view_becomes_with s.0 (map.remove a.tickets u))) (sym s.2)))
+      (surely_answered (ap (release_of i h u a.tickets) s.1 ∙ ap (λ x. Ok (x, view_becomes_with s.0 (map.remove a.tickets u))) (sym s.2)))
       (λ j. world_with (s.3 j) a.tags (gone j))

@@ -1,9 +1,8 @@
 -- Changes of a book, map by map.
 use Rattle.std.specs.Prelude.{nat_lt, ◌==◌, if◌then◌else◌}
-use Rattle.std.proofs.lemmas.Bool.Decides.{nat_tests}
 use Rattle.iceoryx2_world.specs.declared.world.Phase.TheVariants as at
 use Rattle.iceoryx2_world.specs.declared.world.Row.{Row}
-use Rattle.std.proofs.Common.{◌≡◌, ℕ, ◌+◌, List, Bool, true, false, arith, Option, Some, None, refl, sym, ap, subst, ◌∙◌}
+use Rattle.std.proofs.Common.{◌≡◌, ℕ, ◌+◌, List, Bool, true, false, Option, Some, None, refl, sym, ap, subst, ◌∙◌}
 use Rattle.std.specs.FinMap as map
 use Rattle.iceoryx2_world.specs.declared.world.Participant.{Participant}
 use Rattle.iceoryx2_description.specs.declared.description.ServiceHash.{ServiceHash}
@@ -19,6 +18,7 @@ use Rattle.iceoryx2_table.specs.Book.{Book, step_at, with_view, StepsTo, Starves
 use Rattle.iceoryx2_access.specs.declared.storage.OpenSegmentError.TheVariants as Opening
 use Rattle.iceoryx2_access.specs.declared.storage.Release.{Release as Released}
 use Rattle.iceoryx2_world.specs.Access.{release_answer, open_refusal}
+use Rattle.iceoryx2_world.proofs.AccessCases.{same_number}
 use Rattle.iceoryx2_world.proofs.agreement.Parts.{not_refused, refused_else}
 
 -- by the phase that was read
@@ -40,9 +40,6 @@ starved {a} {b} {new} p h t s is e room f = subst (λ (x : Book). Starves x p h 
 
 pub left : {a b new : Book} (p : Participant) (h : ServiceHash) (r : Released) (s : ServiceView) → a ≡ b → step_at a p h act.Leave ≡ Some s → r ≡ release_answer s.phase → new ≡ with_view a p h s → TakesLeave b p h (Some r) new
 left {a} {b} {new} p h r s is e l f = subst (λ (x : Book). TakesLeave x p h (Some r) new) is (s, e, l, f)
-
-same_number : (m n : ℕ) → (m == n) ≡ true → m ≡ n
-same_number m n e = grind (arith, nat_tests, e)
 
 failed : (s : Segment) (n : ℕ) → (if s.number == n then if s.marked then Some Opening.Marked else Some Opening.Failed else Some Opening.Failed) ≡ None → ⊥
 failed s n e = let a = not_refused (s.number == n) _ _ e in let b = refused_else s.marked _ _ a.1 in absurd (cc)

@@ -59,19 +59,19 @@ module _ {A : Type 0} (P : A → Change → Type 0) where
   either_case (inr i) granted starved = same_case i starved
 
 module _ {A E : Type 0} where
-  answered : (no_memory : E) {x : Result (A × Change) E} {a : A} {c : Change} → x ≡ Ok (a, c) → IsAnswer no_memory x (Ok a) c
+  pub answered : (no_memory : E) {x : Result (A × Change) E} {a : A} {c : Change} → x ≡ Ok (a, c) → IsAnswer no_memory x (Ok a) c
   answered no_memory {a = a} {c = c} e = subst (λ z. IsAnswer no_memory z (Ok a) c) (sym e) (inl (refl, refl))
 
-  starved : (no_memory : E) {x : Result (A × Change) E} {y : A × Change} → x ≡ Ok y → IsAnswer no_memory x (Err no_memory) nothing
+  pub starved : (no_memory : E) {x : Result (A × Change) E} {y : A × Change} → x ≡ Ok y → IsAnswer no_memory x (Err no_memory) nothing
   starved no_memory e = subst (λ z. IsAnswer no_memory z (Err no_memory) nothing) (sym e) (inr (refl, refl))
 
-  refused : (no_memory : E) {x : Result (A × Change) E} {e : E} → x ≡ Err e → IsAnswer no_memory x (Err e) nothing
+  pub refused : (no_memory : E) {x : Result (A × Change) E} {e : E} → x ≡ Err e → IsAnswer no_memory x (Err e) nothing
   refused no_memory {e = e} is = subst (λ z. IsAnswer no_memory z (Err e) nothing) (sym is) (refl, refl)
 
-  surely_answered : {x : Result (A × Change) E} {a : A} {c : Change} → x ≡ Ok (a, c) → IsSureAnswer x (Ok a) c
+  pub surely_answered : {x : Result (A × Change) E} {a : A} {c : Change} → x ≡ Ok (a, c) → IsSureAnswer x (Ok a) c
   surely_answered {a = a} {c = c} e = subst (λ z. IsSureAnswer z (Ok a) c) (sym e) (refl, refl)
 
-  surely_refused : {x : Result (A × Change) E} {e : E} → x ≡ Err e → IsSureAnswer x (Err e) nothing
+  pub surely_refused : {x : Result (A × Change) E} {e : E} → x ≡ Err e → IsSureAnswer x (Err e) nothing
   surely_refused {e = e} is = subst (λ z. IsSureAnswer z (Err e) nothing) (sym is) (refl, refl)
 
 none_unless : (o : Option ServiceView) → ((y : ServiceView) → o ≡ Some y → ⊥) → o ≡ None
@@ -101,7 +101,7 @@ joins_below (joins number unmarked room) e = absurd (cc)
 joins_below {k = k} (joins_again {k = j} below) e = let is : j ≡ k = cc in grind (arith, below, is)
 
 -- tests, and what they say
-same_number : (m n : ℕ) → (m == n) ≡ true → m ≡ n
+pub same_number : (m n : ℕ) → (m == n) ≡ true → m ≡ n
 same_number m n e = grind (arith, nat_tests)
 
 other_number : (m n : ℕ) → (m == n) ≡ false → m ≢ n
