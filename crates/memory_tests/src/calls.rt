@@ -336,37 +336,48 @@ pub fn of_requests(alloc: Global, mode: Mode, row: Row) -> Result<Tally, Wrong> 
     beside_others::<Requests<u64, Slice<u8>>>(alloc, mode, row)
 }
 
+/// What all of these come to together.
+macro_rules! sum {
+    ($first:expr, $($next:expr),+) => {
+        Ok($first?$(.and($next?))+)
+    };
+}
+
 /// The call of a row by publish-subscribe with this payload, and with no user header, one with a type, and
 /// a marker.
 fn of_payload<P: ZeroCopySend>(alloc: Global, mode: Mode, row: Row) -> Result<Tally, Wrong> {
-    let without = beside::<Messages<P, ()>>(alloc, mode, row, 0)?;
-    let with_type = beside::<Messages<P, u32>>(alloc, mode, row, 0)?;
-    let with_marker = beside::<Messages<P, CustomHeaderMarker>>(alloc, mode, row, 0)?;
-    Ok(without.and(with_type).and(with_marker))
+    sum!(
+        beside::<Messages<P, ()>>(alloc, mode, row, 0),
+        beside::<Messages<P, u32>>(alloc, mode, row, 0),
+        beside::<Messages<P, CustomHeaderMarker>>(alloc, mode, row, 0)
+    )
 }
 
 /// The call of a row by publish-subscribe with one value, a number of values, and a marker, each with
 /// three user headers.
 pub fn of_all_messages(alloc: Global, mode: Mode, row: Row) -> Result<Tally, Wrong> {
-    let fixed = of_payload::<u64>(alloc, mode, row)?;
-    let slice = of_payload::<Slice<u64>>(alloc, mode, row)?;
-    let marker = of_payload::<Slice<CustomPayloadMarker>>(alloc, mode, row)?;
-    Ok(fixed.and(slice).and(marker))
+    sum!(
+        of_payload::<u64>(alloc, mode, row),
+        of_payload::<Slice<u64>>(alloc, mode, row),
+        of_payload::<Slice<CustomPayloadMarker>>(alloc, mode, row)
+    )
 }
 
 /// The call of a row by request-response with these requests and three kinds of responses.
 fn of_request<Q: ZeroCopySend>(alloc: Global, mode: Mode, row: Row) -> Result<Tally, Wrong> {
-    let fixed = beside::<Requests<Q, u8>>(alloc, mode, row, 0)?;
-    let slice = beside::<Requests<Q, Slice<u8>>>(alloc, mode, row, 0)?;
-    let marker = beside::<Requests<Q, Slice<CustomPayloadMarker>>>(alloc, mode, row, 0)?;
-    Ok(fixed.and(slice).and(marker))
+    sum!(
+        beside::<Requests<Q, u8>>(alloc, mode, row, 0),
+        beside::<Requests<Q, Slice<u8>>>(alloc, mode, row, 0),
+        beside::<Requests<Q, Slice<CustomPayloadMarker>>>(alloc, mode, row, 0)
+    )
 }
 
 /// The call of a row by request-response with one value, a number of values, and a marker as requests,
 /// each with three kinds of responses.
 pub fn of_all_requests(alloc: Global, mode: Mode, row: Row) -> Result<Tally, Wrong> {
-    let fixed = of_request::<u64>(alloc, mode, row)?;
-    let slice = of_request::<Slice<u64>>(alloc, mode, row)?;
-    let marker = of_request::<Slice<CustomPayloadMarker>>(alloc, mode, row)?;
-    Ok(fixed.and(slice).and(marker))
+    sum!(
+        of_request::<u64>(alloc, mode, row),
+        of_request::<Slice<u64>>(alloc, mode, row),
+        of_request::<Slice<CustomPayloadMarker>>(alloc, mode, row)
+    )
 }

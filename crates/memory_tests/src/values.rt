@@ -213,16 +213,15 @@ pub enum Newly {
     Messages,
 }
 
+/// What something came to that is made, by whether it is right.
+fn done(is_right: bool) -> Came {
+    if is_right { Came::Done } else { Came::Other }
+}
+
 /// What a name came to.
 fn named(answer: Result<ServiceName, ServiceNameError>) -> Came {
     match answer {
-        Ok(name) => {
-            if name.as_str() == samples::NAME {
-                Came::Done
-            } else {
-                Came::Other
-            }
-        }
+        Ok(name) => done(name.as_str() == samples::NAME),
         Err(ServiceNameError::OutOfMemory) => Came::OutOfMemory,
         Err(_) => Came::Other,
     }
@@ -231,13 +230,7 @@ fn named(answer: Result<ServiceName, ServiceNameError>) -> Came {
 /// What a type came to.
 fn told(answer: Result<TypeDetail, TypeDetailError>) -> Came {
     match answer {
-        Ok(detail) => {
-            if detail.type_name() == "Image" {
-                Came::Done
-            } else {
-                Came::Other
-            }
-        }
+        Ok(detail) => done(detail.type_name() == "Image"),
         Err(TypeDetailError::OutOfMemory) => Came::OutOfMemory,
         Err(_) => Came::Other,
     }
@@ -286,13 +279,7 @@ struct Encoding {
 impl Making for Encoding {
     fn make(&mut self, alloc: Global) -> Came {
         match bytes::encode(alloc, &self.description) {
-            Ok(bytes) => {
-                if bytes == self.wanted {
-                    Came::Done
-                } else {
-                    Came::Other
-                }
-            }
+            Ok(bytes) => done(bytes == self.wanted),
             Err(_) => Came::OutOfMemory,
         }
     }
@@ -308,13 +295,7 @@ struct Decoding {
 impl Making for Decoding {
     fn make(&mut self, alloc: Global) -> Came {
         match bytes::decode(alloc, &self.bytes) {
-            Ok(description) => {
-                if description == self.wanted {
-                    Came::Done
-                } else {
-                    Came::Other
-                }
-            }
+            Ok(description) => done(description == self.wanted),
             Err(DecodeError::OutOfMemory) => Came::OutOfMemory,
             Err(DecodeError::Malformed) => Came::Other,
         }
