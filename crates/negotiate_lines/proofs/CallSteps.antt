@@ -4,7 +4,7 @@ use Rattle.iceoryx2_attribute.specs.Attributes.{Pair}
 use Rattle.iceoryx2_access.specs.Run.{done, next}
 use Rattle.iceoryx2_access.proofs.Run.{Head, head}
 use Rattle.negotiate_lines.specs.declared.call_term.Admitted.{Admitted}
-use Rattle.negotiate_lines.specs.Vocabulary.{Vocabulary, IsUnambiguous}
+use Rattle.negotiate_lines.specs.Vocabulary.{Vocabulary}
 use Rattle.negotiate_lines.specs.CallTerms.{Instruction, setting, now, attribute, required_key, SaysTerm, Arguments, Follows, TakesTerm, TakesTerms}
 use Rattle.negotiate_lines.proofs.OneInstruction.{one_instruction}
 
@@ -21,10 +21,10 @@ one_outcome old (attribute key value) a b left right =
 one_outcome old (required_key key) a b left right =
     left.1 ∙ ap (λ ks. required old old.requirements.pairs ks) (left.0.added ∙ sym right.0.added) ∙ sym right.1
 
-module _ {N S : Type 0} (v : Vocabulary N S) (clear : IsUnambiguous v) (admitted : Admitted) where
+module _ {S : Type 0} (v : Vocabulary S) (admitted : Admitted) where
   one_step : (old : Arguments S) (term : List ℕ) (a b : Arguments S) → TakesTerm v admitted old term a → TakesTerm v admitted old term b → a ≡ b
   one_step old term a b (x, says, follows) (y, others, other) =
-      one_outcome old x a b follows (subst (λ (i : Instruction S). Follows old i b) (one_instruction v clear admitted term y x others says) other)
+      one_outcome old x a b follows (subst (λ (i : Instruction S). Follows old i b) (one_instruction v admitted term y x others says) other)
 
   -- one term more of them is taken, or can't be
   module _ (old : Arguments S) (terms rest : List (List ℕ)) (term : List ℕ) (are : terms ≡ term ∷ rest) where
@@ -46,7 +46,7 @@ module _ {N S : Type 0} (v : Vocabulary N S) (clear : IsUnambiguous v) (admitted
     pub cannot_be_followed : (said : Instruction S) → SaysTerm v admitted term said → ((mid : Arguments S) → Follows old said mid → ⊥) → (new : Arguments S) → TakesTerms v admitted old terms new → ⊥
     cannot_be_followed said says none new run =
         let first = parted new run in
-        none first.mid (subst (λ (i : Instruction S). Follows old i first.mid) (one_instruction v clear admitted term first.first.0 said first.first.1 says) first.first.2)
+        none first.mid (subst (λ (i : Instruction S). Follows old i first.mid) (one_instruction v admitted term first.first.0 said first.first.1 says) first.first.2)
 
   pub all_taken : (old : Arguments S) (terms : List (List ℕ)) → terms ≡ [] → TakesTerms v admitted old terms old
   all_taken old terms none = subst (λ (ws : List (List ℕ)). TakesTerms v admitted old ws old) (sym none) done

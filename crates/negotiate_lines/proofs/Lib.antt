@@ -1,5 +1,9 @@
+pub mod Around
 pub mod CallSteps
 pub mod Numbers
 pub mod OneInstruction
-pub mod TermsOf
+pub mod OneType
+pub mod OneValue
+pub mod Reading
 pub mod Saying
+pub mod TermsOf

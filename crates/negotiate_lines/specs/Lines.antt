@@ -14,13 +14,12 @@ use Rattle.iceoryx2_commands.specs.Commands.{slot_count}
 use Rattle.negotiate_lines.specs.declared.call_term.Admitted.{Admitted}
 use Rattle.negotiate_lines.specs.Terms.{terms_of, IsNumber}
 use Rattle.negotiate_lines.specs.Vocabulary.{Vocabulary}
-use Rattle.negotiate_lines.specs.CallTerms.{no_particulars, TakesTerms}
+use Rattle.negotiate_lines.specs.CallTerms.{no_arguments, TakesTerms}
 use Rattle.negotiate_lines.specs.declared.line.Line.{Line}
 use Rattle.negotiate_lines.specs.declared.line.Line.TheVariants as line
 use Rattle.negotiate_lines.specs.declared.line.NamedCall.{NamedCall}
-use Rattle.negotiate_lines.specs.EventTerms.{event_vocabulary}
-use Rattle.negotiate_lines.specs.PublishSubscribeTerms.{publish_subscribe_vocabulary}
-use Rattle.negotiate_lines.specs.RequestResponseTerms.{request_response_vocabulary}
+use Rattle.negotiate_lines.specs.SettingTerms.{event_vocabulary, publish_subscribe_vocabulary}
+use Rattle.negotiate_lines.specs.SettingTerms.{request_response_vocabulary}
 
 -- ---- the end of a line
 
@@ -47,7 +46,7 @@ admitted_of has_clock how.Open = record { now = false; require_key = true }
 admitted_of has_clock how.OpenOrCreate = record { now = has_clock; require_key = true }
 
 -- The terms are a call in a pattern's vocabulary. Those behind the name make all of it that the first five don't.
-pub record SaysNamedCall {N S : Type 0} (v : Vocabulary N S) (terms : List (List ℕ)) (call : NamedCall S)
+pub record SaysNamedCall {S : Type 0} (v : Vocabulary S) (terms : List (List ℕ)) (call : NamedCall S)
     : Type 0 where
   pub node : List ℕ
   pub slot : List ℕ
@@ -56,25 +55,25 @@ pub record SaysNamedCall {N S : Type 0} (v : Vocabulary N S) (terms : List (List
   pub node_is : IsNumber (2 ^ 64) node call.node
   pub slot_is : IsNumber slot_count slot call.slot
   pub name_is : IsName call.name
-  pub taken : TakesTerms v (admitted_of v.has_clock call.how) no_particulars others call.parts
+  pub taken : TakesTerms v (admitted_of v.has_clock call.how) no_arguments others call.arguments
 
 -- a session's call, with its settings as a pattern has them
-abbrev pub parse_call : {S : Type 0} → Call → List S → NamedCall S
-parse_call call setters = record {
+abbrev pub as_named : {S : Type 0} → Call → List S → NamedCall S
+as_named call setters = record {
   how = call.how;
   node = call.node;
   slot = call.slot;
   name = call.name;
-  parts = record { settings = setters; requirements = call.attributes; now = call.now };
+  arguments = record { settings = setters; requirements = call.attributes; now = call.now };
 }
 
 -- The terms are a builder call, in the vocabulary of the pattern of its settings.
 abbrev pub SaysSettings : Settings → List (List ℕ) → Call → Type 0
-SaysSettings (settings.Event setters) terms call = SaysNamedCall event_vocabulary terms (parse_call call setters.items)
+SaysSettings (settings.Event setters) terms call = SaysNamedCall event_vocabulary terms (as_named call setters.items)
 SaysSettings (settings.PublishSubscribe setters) terms call =
-    SaysNamedCall publish_subscribe_vocabulary terms (parse_call call setters.items)
+    SaysNamedCall publish_subscribe_vocabulary terms (as_named call setters.items)
 SaysSettings (settings.RequestResponse setters) terms call =
-    SaysNamedCall request_response_vocabulary terms (parse_call call setters.items)
+    SaysNamedCall request_response_vocabulary terms (as_named call setters.items)
 
 -- ---- lines
 

@@ -1,8 +1,10 @@
 -- The terms of a line, and the numbers that they write.
 use Rattle.std.specs.Prelude.{ℕ, ◌≡◌, ◌≢◌, ◌<◌, ◌==◌, List, ◌∷◌, ◌++◌, length, filter}
-use Rattle.std.specs.Prelude.{slice_index, not, Option, MatchOption}
+use Rattle.std.specs.Prelude.{slice_index, not, Result, Ok, Err, ⊤}
 use Rattle.std.specs.List.{slice_split}
 use Rattle.std.specs.Str.Parse.{IsNumeral, digits_value}
+use Rattle.negotiate_lines.specs.declared.term.TermError.{TermError}
+use Rattle.negotiate_lines.specs.declared.term.TermError.TheVariants as error
 
 -- the terms of a text: what stands between spaces and is not empty
 abbrev pub terms_of : List ℕ → List (List ℕ)
@@ -19,10 +21,14 @@ pub record IsNumber (limit : ℕ) (term : List ℕ) (n : ℕ) : Type 0 where
   pub value : n ≡ digits_value 10 term
   pub fits : n < limit
 
--- what is found is such, and nothing is found where nothing is such
-abbrev pub Finds : {A : Type 0} → (A → Type 0) → Option A → Type 0
-Finds {A = A} IsSuch found = MatchOption found ((a : A) → IsSuch a → ⊥) IsSuch
+-- What is found is such, and where the text is malformed nothing is such. No memory is asked for.
+abbrev pub Finds : {A : Type 0} → (A → Type 0) → Result A TermError → Type 0
+Finds IsSuch (Ok a) = IsSuch a
+Finds {A = A} IsSuch (Err error.Malformed) = (a : A) → IsSuch a → ⊥
+Finds IsSuch (Err error.OutOfMemory) = ⊥
 
--- the term's number
-abbrev pub IsNumberOf : ℕ → List ℕ → Option ℕ → Type 0
-IsNumberOf limit term = Finds (IsNumber limit term)
+-- The same, where memory may run out.
+abbrev pub Reads : {A : Type 0} → (A → Type 0) → Result A TermError → Type 0
+Reads IsSuch (Ok a) = IsSuch a
+Reads {A = A} IsSuch (Err error.Malformed) = (a : A) → IsSuch a → ⊥
+Reads IsSuch (Err error.OutOfMemory) = ⊤

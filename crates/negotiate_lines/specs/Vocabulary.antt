@@ -1,36 +1,70 @@
--- The terms that a pattern has for itself.
-use Rattle.std.specs.Prelude.{ℕ, ◌≡◌, ◌≢◌, Bool, List, codes}
+-- The terms that a pattern has for itself: a table with a row for each setting.
+use Rattle.std.specs.Prelude.{ℕ, ◌≡◌, Bool, true, not, ◌&&◌, List, [], ◌∷◌, ◌++◌, map, Option, Some, None, MatchOption}
+use Rattle.std.specs.Prelude.{if◌then◌else◌, bytes_eq, codes, IsTrue}
+use Rattle.std.specs.List.{list_any}
+use Rattle.iceoryx2_types.specs.Types.{Detail}
+use Rattle.iceoryx2_description.specs.Span.{Span}
+use Rattle.negotiate_lines.specs.Values.{IsNatural, IsNoneOr, IsSpanTerm, IsTruthTerm, IsAlignmentTerm, IsDetailTerm}
 
--- N are the names of its settings, S the setters of its builder with their values.
-pub record Vocabulary (N S : Type 0) : Type 1 where
+-- What kind of value a setting takes, and which setter is made of it. S are the setters of a pattern's builder.
+pub data Takes (S : Type 0) : Type 0 where
+  number : (ℕ → S) → Takes S
+  truth : (Bool → S) → Takes S
+  event : (Option ℕ → S) → Takes S
+  time : (Option Span → S) → Takes S
+  alignment : (ℕ → S) → Takes S
+  type : (Detail → S) → Takes S
+
+-- the value says what the setter is given
+abbrev pub Gives : {A S : Type 0} → (List ℕ → A → Type 0) → (A → S) → List ℕ → S → Type 0
+Gives {A = A} Says setter value s = (a : A) × Says value a × (s ≡ setter a)
+
+-- the value says the setter that is made of it
+abbrev pub Sets : {S : Type 0} → Takes S → List ℕ → S → Type 0
+Sets (number setter) = Gives IsNatural setter
+Sets (truth setter) = Gives IsTruthTerm setter
+Sets (event setter) = Gives (IsNoneOr IsNatural) setter
+Sets (time setter) = Gives (IsNoneOr IsSpanTerm) setter
+Sets (alignment setter) = Gives IsAlignmentTerm setter
+Sets (type setter) = Gives IsDetailTerm setter
+
+-- a row: the name of a setting, and what it takes
+abbrev pub Row : Type 0 → Type 0
+Row S = List ℕ × Takes S
+
+-- what stands in the first row of this name
+abbrev pub row_of : {A : Type 0} → List (List ℕ × A) → List ℕ → Option A
+row_of [] name = None
+row_of (row ∷ rows) name = if bytes_eq name row.0 then Some row.1 else row_of rows name
+
+-- The value says a setter, by the row of this name.
+abbrev pub SaysSetting : {S : Type 0} → List (Row S) → (name value : List ℕ) → S → Type 0
+SaysSetting rows name value s = MatchOption (row_of rows name) ⊥ (λ takes. Sets takes value s)
+
+-- S are the setters of its builder with their values.
+pub record Vocabulary (S : Type 0) : Type 0 where
   -- the term by which its calls begin
   pub pattern : List ℕ
-  -- the name of each setting
-  pub term : N → List ℕ
-  -- the value says what such a setting is set to
-  pub Says : N → List ℕ → S → Type 0
+  -- its settings
+  pub rows : List (Row S)
   -- whether its creates are told the time
   pub has_clock : Bool
 
--- the value says what such a setting is set to, by its setter
-abbrev pub Sets : {A S : Type 0} → (List ℕ → A → Type 0) → (A → S) → List ℕ → S → Type 0
-Sets {A = A} Says sets value s = (a : A) × Says value a × (s ≡ sets a)
+-- the terms that every pattern has: what the clock tells, a pair that is required, and a key
+pub data CommonTerm : Type 0 where
+  clock_term pair_term key_term : CommonTerm
 
--- ---- the terms that every pattern has
+abbrev pub common_rows : List (List ℕ × CommonTerm)
+common_rows = (codes "now", clock_term) ∷ (codes "attribute", pair_term) ∷ (codes "require_key", key_term) ∷ []
 
-abbrev pub now_term : List ℕ
-now_term = codes "now"
+abbrev pub names_of : {A : Type 0} → List (List ℕ × A) → List (List ℕ)
+names_of rows = map (λ row. row.0) rows
 
-abbrev pub attribute_term : List ℕ
-attribute_term = codes "attribute"
+-- no two of them are the same
+abbrev pub are_apart : List (List ℕ) → Bool
+are_apart [] = true
+are_apart (name ∷ others) = not (list_any (bytes_eq name) others) && are_apart others
 
-abbrev pub require_key_term : List ℕ
-require_key_term = codes "require_key"
-
--- No name is another's, or one that every pattern has, and a value says one thing at most.
-pub record IsUnambiguous {N S : Type 0} (v : Vocabulary N S) : Type 0 where
-  pub names : (n m : N) → v.term n ≡ v.term m → n ≡ m
-  pub not_now : (n : N) → v.term n ≢ now_term
-  pub not_attribute : (n : N) → v.term n ≢ attribute_term
-  pub not_require_key : (n : N) → v.term n ≢ require_key_term
-  pub values : (n : N) (value : List ℕ) (s t : S) → v.Says n value s → v.Says n value t → s ≡ t
+-- No setting has the name of another one, or one that every pattern has.
+abbrev pub IsUnambiguous : {S : Type 0} → Vocabulary S → Type 0
+IsUnambiguous v = IsTrue (are_apart (names_of common_rows ++ names_of v.rows))

@@ -3,10 +3,8 @@
 
 mod arguments;
 mod call_term;
-mod event_terms;
 pub mod line;
-mod publish_subscribe_terms;
-mod request_response_terms;
+mod setting_terms;
 mod term;
 mod type_term;
 mod value;

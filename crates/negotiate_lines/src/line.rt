@@ -1,17 +1,17 @@
 //! What a line says.
 
-ghost use Rattle.std.specs.Prelude.{◌≡◌, ◌≢◌, [], ◌∷◌, IfOk, codes};
+ghost use Rattle.std.specs.Prelude.{◌≡◌, ◌∷◌, IfOk, codes};
+ghost use Rattle.iceoryx2_commands.specs.declared.command.Call.{Call};
+ghost use Rattle.iceoryx2_commands.specs.declared.command.Command.TheVariants as command;
 ghost use Rattle.iceoryx2_commands.specs.Commands.{slot_count};
-ghost use Rattle.negotiate_lines.specs.Terms.{Finds, IsNumberOf, terms_of};
-ghost use Rattle.negotiate_lines.specs.Lines.{AreLine, IsLine, SaysNamedCall};
-ghost use Rattle.negotiate_lines.specs.Lines.{admitted_of, how_term, without_end_of};
+ghost use Rattle.negotiate_lines.specs.Terms.{Finds, IsNumber, Reads, terms_of};
+ghost use Rattle.negotiate_lines.specs.Lines.{AreLine, IsLine, Says, SaysNamedCall};
+ghost use Rattle.negotiate_lines.specs.Lines.{admitted_of, as_named, how_term, without_end_of};
 
 use crate::arguments::{CallArguments, call_arguments};
 use crate::call_term::Admitted;
-use crate::event_terms::EventTerms;
-use crate::publish_subscribe_terms::PublishSubscribeTerms;
-use crate::request_response_terms::RequestResponseTerms;
-use crate::term::{next_term, number, number_below};
+use crate::setting_terms::{EventTerms, PublishSubscribeTerms, RequestResponseTerms};
+use crate::term::{TermError, next_term, number, number_below};
 use crate::vocabulary::HasVocabulary;
 use iceoryx2_commands::command::{Call, Command, How, SLOTS, Settings};
 use iceoryx2_description::description::{ServiceName, ServiceNameError};
@@ -59,78 +59,77 @@ pub fn parse(alloc: Global, line: &[u8]) -> Result<Line, AllocError>
 fn parse_text(alloc: Global, text: &str) -> Result<Line, AllocError>
     ensures { IfOk result (AreLine (terms_of text.now)) }
 {
-    match next_term(text) {
-        None => Ok(Line::Blank),
-        Some((first, others)) => parse_terms(alloc, first, others),
+    let Some((first, others)) = next_term(text) else {
+        return Ok(Line::Blank);
+    };
+    match parse_terms(alloc, first, others) {
+        Ok(command) => Ok(Line::Command(command)),
+        Err(TermError::Malformed) => Ok(Line::NotACommand),
+        Err(TermError::OutOfMemory) => Err(AllocError),
     }
 }
 
 /// What a term and those behind it say.
-fn parse_terms(alloc: Global, first: &str, others: &str) -> Result<Line, AllocError>
-    ensures { IfOk result (AreLine (first.now ∷ terms_of others.now)) }
+fn parse_terms(alloc: Global, first: &str, others: &str) -> Result<Command, TermError>
+    ensures { Reads (Says (first.now ∷ terms_of others.now)) result }
 {
     match first {
-        "list" => Ok(list(others)),
-        "close" => Ok(close(others)),
-        "event" => event(alloc, others),
-        "pubsub" => publish_subscribe(alloc, others),
-        "rr" => request_response(alloc, others),
-        _ => Ok(Line::NotACommand),
+        "list" => list(others),
+        "close" => close(others),
+        "event" => Ok(parse_call::<EventTerms>(alloc, others)?.into_command(Settings::Event)),
+        "pubsub" => {
+            let call = parse_call::<PublishSubscribeTerms>(alloc, others)?;
+            Ok(call.into_command(Settings::PublishSubscribe))
+        }
+        "rr" => {
+            let call = parse_call::<RequestResponseTerms>(alloc, others)?;
+            Ok(call.into_command(Settings::RequestResponse))
+        }
+        _ => Err(TermError::Malformed),
     }
 }
 
 /// What the term `list` says before others.
-fn list(others: &str) -> Line
-    ensures { AreLine (codes "list" ∷ terms_of others.now) result }
+fn list(others: &str) -> Result<Command, TermError>
+    ensures { Finds (Says (codes "list" ∷ terms_of others.now)) result }
 {
     match next_term(others) {
-        None => Line::Command(Command::List),
-        Some(_) => Line::NotACommand,
+        None => Ok(Command::List),
+        Some(_) => Err(TermError::Malformed),
     }
 }
 
 /// What the term `close` says before others.
-fn close(others: &str) -> Line
-    ensures { AreLine (codes "close" ∷ terms_of others.now) result }
+fn close(others: &str) -> Result<Command, TermError>
+    ensures { Finds (Says (codes "close" ∷ terms_of others.now)) result }
 {
     let Some((slot, others)) = next_term(others) else {
-        return Line::NotACommand;
+        return Err(TermError::Malformed);
     };
     match next_term(others) {
-        None => close_of(slot),
-        Some(_) => Line::NotACommand,
-    }
-}
-
-/// What the term `close` says before another one.
-fn close_of(slot: &str) -> Line
-    ensures { AreLine (codes "close" ∷ slot.now ∷ []) result }
-{
-    match slot_number(slot) {
-        Some(slot) => Line::Command(Command::Close { slot }),
-        None => Line::NotACommand,
+        None => Ok(Command::Close {
+            slot: slot_number(slot)?,
+        }),
+        Some(_) => Err(TermError::Malformed),
     }
 }
 
 /// The number of a slot.
 #[tactic(auto, using(crate::proofs::Numbers::numbers))]
-fn slot_number(term: &str) -> Option<usize>
-    ensures { IsNumberOf slot_count term.now result }
+fn slot_number(term: &str) -> Result<usize, TermError>
+    ensures { Finds (IsNumber slot_count term.now) result }
 {
-    match number_below(term, SLOTS as u64) {
-        Some(slot) => Some(slot as usize),
-        None => None,
-    }
+    Ok(number_below(term, SLOTS as u64)? as usize)
 }
 
-fn how_of(term: &str) -> Option<How>
+fn how_of(term: &str) -> Result<How, TermError>
     ensures { Finds (λ how. term.now ≡ how_term how) result }
 {
     match term {
-        "create" => Some(How::Create),
-        "open" => Some(How::Open),
-        "open_or_create" => Some(How::OpenOrCreate),
-        _ => None,
+        "create" => Ok(How::Create),
+        "open" => Ok(How::Open),
+        "open_or_create" => Ok(How::OpenOrCreate),
+        _ => Err(TermError::Malformed),
     }
 }
 
@@ -161,27 +160,47 @@ struct NamedCall<S> {
     node: u64,
     slot: usize,
     name: ServiceName,
-    parts: CallArguments<S>,
+    arguments: CallArguments<S>,
+}
+
+impl<S: Drop> NamedCall<S> {
+    /// The call of a session, whose settings are made of its setters.
+    fn into_command<F: FnOnce(Vec<S>) -> Settings>(self, settings: F) -> Command
+        requires { F.IsAlwaysCallable settings }
+        ensures { (call : Call) × (setters : _) × (result ≡ command.Call call)
+            × F.post settings setters call.settings × (self ≡ as_named call setters.items) }
+    {
+        let (setters, attributes, now) = self.arguments.into_parts();
+        Command::Call(Call {
+            how: self.how,
+            node: self.node,
+            slot: self.slot,
+            name: self.name,
+            settings: settings(setters),
+            attributes,
+            now,
+        })
+    }
 }
 
 /// What a pattern's term says before others.
 fn parse_call<V: HasVocabulary>(
     alloc: Global,
     others: &str,
-) -> Result<Option<NamedCall<V::Setting>>, AllocError>
-    ensures { IfOk result (Finds (SaysNamedCall V.vocabulary (V.vocabulary.pattern ∷ terms_of others.now))) }
+) -> Result<NamedCall<V::Setter>, TermError>
+    ensures { Reads (SaysNamedCall V.vocabulary (V.vocabulary.pattern ∷ terms_of others.now)) result }
 {
     let Some((how, others)) = next_term(others) else {
-        return Ok(None);
+        return Err(TermError::Malformed);
     };
     let Some((node, others)) = next_term(others) else {
-        return Ok(None);
+        return Err(TermError::Malformed);
     };
     let Some((slot, others)) = next_term(others) else {
-        return Ok(None);
+        return Err(TermError::Malformed);
     };
     let Some((name, others)) = next_term(others) else {
-        return Ok(None);
+        return Err(TermError::Malformed);
     };
     build_call::<V>(alloc, how, node, slot, name, others)
 }
@@ -194,90 +213,24 @@ fn build_call<V: HasVocabulary>(
     slot: &str,
     name: &str,
     others: &str,
-) -> Result<Option<NamedCall<V::Setting>>, AllocError>
-    ensures { IfOk result (Finds (SaysNamedCall V.vocabulary
-        (V.vocabulary.pattern ∷ how.now ∷ node.now ∷ slot.now ∷ name.now ∷ terms_of others.now))) }
+) -> Result<NamedCall<V::Setter>, TermError>
+    ensures { Reads (SaysNamedCall V.vocabulary
+        (V.vocabulary.pattern ∷ how.now ∷ node.now ∷ slot.now ∷ name.now ∷ terms_of others.now)) result }
 {
-    let (Some(how), Some(node), Some(slot)) = (how_of(how), number(node), slot_number(slot)) else {
-        return Ok(None);
-    };
+    let how = how_of(how)?;
+    let node = number(node)?;
+    let slot = slot_number(slot)?;
     let name = match ServiceName::new(alloc, name) {
         Ok(name) => name,
-        Err(ServiceNameError::Length) => return Ok(None),
-        Err(ServiceNameError::OutOfMemory) => return Err(AllocError),
+        Err(ServiceNameError::Length) => return Err(TermError::Malformed),
+        Err(ServiceNameError::OutOfMemory) => return Err(TermError::OutOfMemory),
     };
-    match call_arguments::<V>(alloc, admitted::<V>(how), others) {
-        Ok(Some(parts)) => Ok(Some(NamedCall {
-            how,
-            node,
-            slot,
-            name,
-            parts,
-        })),
-        Ok(None) => Ok(None),
-        Err(_) => Err(AllocError),
-    }
-}
-
-/// What the term `event` says before others.
-fn event(alloc: Global, others: &str) -> Result<Line, AllocError>
-    ensures { IfOk result (AreLine (codes "event" ∷ terms_of others.now)) }
-{
-    let call = match parse_call::<EventTerms>(alloc, others) {
-        Ok(Some(call)) => call,
-        Ok(None) => return Ok(Line::NotACommand),
-        Err(_) => return Err(AllocError),
-    };
-    let (settings, attributes, now) = call.parts.into_parts();
-    Ok(Line::Command(Command::Call(Call {
-        how: call.how,
-        node: call.node,
-        slot: call.slot,
-        name: call.name,
-        settings: Settings::Event(settings),
-        attributes,
-        now,
-    })))
-}
-
-/// What the term `pubsub` says before others.
-fn publish_subscribe(alloc: Global, others: &str) -> Result<Line, AllocError>
-    ensures { IfOk result (AreLine (codes "pubsub" ∷ terms_of others.now)) }
-{
-    let call = match parse_call::<PublishSubscribeTerms>(alloc, others) {
-        Ok(Some(call)) => call,
-        Ok(None) => return Ok(Line::NotACommand),
-        Err(_) => return Err(AllocError),
-    };
-    let (settings, attributes, now) = call.parts.into_parts();
-    Ok(Line::Command(Command::Call(Call {
-        how: call.how,
-        node: call.node,
-        slot: call.slot,
-        name: call.name,
-        settings: Settings::PublishSubscribe(settings),
-        attributes,
-        now,
-    })))
-}
-
-/// What the term `rr` says before others.
-fn request_response(alloc: Global, others: &str) -> Result<Line, AllocError>
-    ensures { IfOk result (AreLine (codes "rr" ∷ terms_of others.now)) }
-{
-    let call = match parse_call::<RequestResponseTerms>(alloc, others) {
-        Ok(Some(call)) => call,
-        Ok(None) => return Ok(Line::NotACommand),
-        Err(_) => return Err(AllocError),
-    };
-    let (settings, attributes, now) = call.parts.into_parts();
-    Ok(Line::Command(Command::Call(Call {
-        how: call.how,
-        node: call.node,
-        slot: call.slot,
-        name: call.name,
-        settings: Settings::RequestResponse(settings),
-        attributes,
-        now,
-    })))
+    let arguments = call_arguments::<V>(alloc, admitted::<V>(how), others)?;
+    Ok(NamedCall {
+        how,
+        node,
+        slot,
+        name,
+        arguments,
+    })
 }

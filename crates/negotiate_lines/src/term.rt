@@ -1,7 +1,16 @@
 //! The terms of a text, and the numbers that they write.
 
 ghost use Rattle.std.specs.Prelude.{◌≡◌, ◌<◌, ◌^◌, ℕ, List, [], ◌∷◌, IfSome, MatchOption, length};
-ghost use Rattle.negotiate_lines.specs.Terms.{AreAround, IsNumberOf, terms_of};
+ghost use Rattle.negotiate_lines.specs.Terms.{AreAround, Finds, IsNumber, terms_of};
+
+/// Why nothing is read from a text.
+#[derive(Clone, Copy, Debug, PartialEq, Eq)]
+pub enum TermError {
+    /// It is nothing of this kind.
+    Malformed,
+    /// There is no memory for what it says.
+    OutOfMemory,
+}
 
 /// The first term of a text, and what stands behind it. Terms are separated by one or more spaces.
 pub fn next_term(text: &str) -> Option<(&str, &str)>
@@ -35,23 +44,27 @@ pub fn around(term: &str, separator: char) -> Option<(&str, &str)>
 
 /// One or more decimal digits with a value that fits. Leading zeros are allowed, a sign is not.
 #[tactic(auto, using(crate::proofs::Numbers::numbers))]
-pub fn number(term: &str) -> Option<u64>
-    ensures { IsNumberOf (2 ^ 64) term.now result }
+pub fn number(term: &str) -> Result<u64, TermError>
+    ensures { Finds (IsNumber (2 ^ 64) term.now) result }
 {
     if term.starts_with('+') {
-        None
-    } else {
-        term.parse::<u64>().ok()
+        return Err(TermError::Malformed);
+    }
+    match term.parse::<u64>() {
+        Ok(number) => Ok(number),
+        Err(_) => Err(TermError::Malformed),
     }
 }
 
 /// Such a number, where it is below a limit.
 #[tactic(auto, using(crate::proofs::Numbers::limited_numbers))]
-pub fn number_below(term: &str, limit: u64) -> Option<u64>
-    ensures { IsNumberOf limit term.now result }
+pub fn number_below(term: &str, limit: u64) -> Result<u64, TermError>
+    ensures { Finds (IsNumber limit term.now) result }
 {
-    match number(term) {
-        Some(number) => { if number < limit { Some(number) } else { None } }
-        None => None,
+    let number = number(term)?;
+    if number < limit {
+        Ok(number)
+    } else {
+        Err(TermError::Malformed)
     }
 }

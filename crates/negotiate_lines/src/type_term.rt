@@ -1,28 +1,31 @@
 //! What a value tells of a type.
 
-ghost use Rattle.std.specs.Prelude.{ℕ, List, IfOk, MatchOption};
-ghost use Rattle.negotiate_lines.specs.Terms.{Finds};
+ghost use Rattle.std.specs.Prelude.{ℕ, List, MatchOption};
+ghost use Rattle.negotiate_lines.specs.Terms.{Finds, Reads};
 ghost use Rattle.negotiate_lines.specs.Values.{AreParts, IsAlignmentTerm, IsDetailTerm, IsVariantTerm};
 
-use crate::term::{around, number};
+use crate::term::{TermError, around, number};
 use iceoryx2_types::types::{Alignment, TypeDetail, TypeDetailError, TypeVariant};
-use std::alloc::{AllocError, Global};
+use std::alloc::Global;
 
 /// An alignment: a power of two.
-pub fn alignment(value: &str) -> Option<Alignment>
+pub fn alignment(value: &str) -> Result<Alignment, TermError>
     ensures { Finds (IsAlignmentTerm value.now) result }
 {
-    Alignment::new(number(value)?)
+    match Alignment::new(number(value)?) {
+        Some(alignment) => Ok(alignment),
+        None => Err(TermError::Malformed),
+    }
 }
 
 /// The term `fixed` or `dynamic`.
-fn type_variant(value: &str) -> Option<TypeVariant>
+fn type_variant(value: &str) -> Result<TypeVariant, TermError>
     ensures { Finds (IsVariantTerm value.now) result }
 {
     match value {
-        "fixed" => Some(TypeVariant::FixedSize),
-        "dynamic" => Some(TypeVariant::Dynamic),
-        _ => None,
+        "fixed" => Ok(TypeVariant::FixedSize),
+        "dynamic" => Ok(TypeVariant::Dynamic),
+        _ => Err(TermError::Malformed),
     }
 }
 
@@ -46,27 +49,21 @@ fn parts(value: &str) -> Option<(&str, &str, &str, &str)>
 
 /// What is told of a type: `fixed` or `dynamic`, its name, its size and its alignment in bytes, with
 /// three commas between them. `AllocError` where the copy of the name finds no memory.
-pub fn type_detail(alloc: Global, value: &str) -> Result<Option<TypeDetail>, AllocError>
-    ensures { IfOk result (Finds (IsDetailTerm value.now)) }
+pub fn type_detail(alloc: Global, value: &str) -> Result<TypeDetail, TermError>
+    ensures { Reads (IsDetailTerm value.now) result }
 {
     let Some((variant, name, size, alignment)) = parts(value) else {
-        return Ok(None);
+        return Err(TermError::Malformed);
     };
-    let Some(variant) = type_variant(variant) else {
-        return Ok(None);
-    };
-    let Some(size) = number(size) else {
-        return Ok(None);
-    };
-    let Some(alignment) = number(alignment) else {
-        return Ok(None);
-    };
+    let variant = type_variant(variant)?;
+    let size = number(size)?;
+    let alignment = number(alignment)?;
     match TypeDetail::new(alloc, variant, name, size, alignment) {
-        Ok(detail) => Ok(Some(detail)),
+        Ok(detail) => Ok(detail),
         Err(error) => match error {
-            TypeDetailError::NameLength => Ok(None),
-            TypeDetailError::Alignment => Ok(None),
-            TypeDetailError::OutOfMemory => Err(AllocError),
+            TypeDetailError::NameLength => Err(TermError::Malformed),
+            TypeDetailError::Alignment => Err(TermError::Malformed),
+            TypeDetailError::OutOfMemory => Err(TermError::OutOfMemory),
         },
     }
 }

@@ -28,11 +28,11 @@ refusal_text (refusal.RequestResponseOpen e) = text_of (error.RequestResponseOpe
 refusal_text (refusal.RequestResponseCreate e) = text_of (error.RequestResponseCreate e)
 refusal_text (refusal.RequestResponseOpenOrCreate e) = text_of (error.RequestResponseOpenOrCreate e)
 
--- the word by which a pattern's command lines begin
-abbrev pub pattern_word : MessagingPattern → List ℕ
-pattern_word (pattern.Event s) = codes "event"
-pattern_word (pattern.PublishSubscribe s) = codes "pubsub"
-pattern_word (pattern.RequestResponse s) = codes "rr"
+-- the term by which a pattern's command lines begin
+abbrev pub pattern_term : MessagingPattern → List ℕ
+pattern_term (pattern.Event s) = codes "event"
+pattern_term (pattern.PublishSubscribe s) = codes "pubsub"
+pattern_term (pattern.RequestResponse s) = codes "rr"
 
 -- The entry is a service: its description is published, and its segment stands beside it.
 pub record IsService (e : Entry) : Type 0 where
@@ -46,7 +46,7 @@ pub record IsService (e : Entry) : Type 0 where
 
 -- a service by its pattern, its name and its hash
 abbrev pub who_it_is : List ℕ → Description → List ℕ
-who_it_is hash d = pattern_word d.pattern ++ (codes " " ++ (d.name ++ (codes " " ++ encode_lower hash)))
+who_it_is hash d = pattern_term d.pattern ++ (codes " " ++ (d.name ++ (codes " " ++ encode_lower hash)))
 
 -- its number, and how many nodes it has of how many
 abbrev pub how_many_it_has : ℕ → ListedSegment → List ℕ

@@ -2,7 +2,7 @@
 
 ghost use Rattle.std.specs.Prelude.{◌≡◌, ◌++◌, IfOk, OnOk, string_bytes};
 ghost use Rattle.negotiate_serve.specs.Replies.{GrowsBy, GrowsByEntry, GrowsByService, ListsServices, Tells};
-ghost use Rattle.negotiate_serve.specs.Replies.{how_many_it_has, pattern_word, who_it_is};
+ghost use Rattle.negotiate_serve.specs.Replies.{how_many_it_has, pattern_term, who_it_is};
 
 use iceoryx2_byte_form::bytes::{DecodeError, decode};
 use iceoryx2_commands::command::{Refusal, Reply};
@@ -86,9 +86,9 @@ fn describe_service(
     Ok(true)
 }
 
-/// The word by which a pattern's command lines begin.
-fn word_of(pattern: &MessagingPattern) -> &'static str
-    ensures { result.now ≡ pattern_word pattern.now }
+/// The term by which a pattern's command lines begin.
+fn term_of(pattern: &MessagingPattern) -> &'static str
+    ensures { result.now ≡ pattern_term pattern.now }
 {
     match pattern {
         MessagingPattern::Event(_) => "event",
@@ -106,7 +106,7 @@ fn describe_identity(
     ensures { OnOk result (string_bytes text.new
         ≡ string_bytes text.old ++ who_it_is hash.now.0 description.now) }
 {
-    let pattern = word_of(description.messaging_pattern());
+    let pattern = term_of(description.messaging_pattern());
     let name = description.name();
     let hash = hash.to_text(*text.allocator())?;
     write!(text, "{pattern} {name} {hash}")

@@ -1,4 +1,4 @@
-use Rattle.negotiate_lines.specs.Around.{found_around}
+use Rattle.negotiate_lines.proofs.Around.{found_around}
 use Rattle.negotiate_lines.proofs.term.around.Goals as goal
 
 pub returns : goal.returns

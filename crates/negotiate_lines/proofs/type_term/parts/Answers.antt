@@ -1,4 +1,4 @@
-use Rattle.negotiate_lines.specs.OneType.{no_second_comma, no_third_comma}
+use Rattle.negotiate_lines.proofs.OneType.{no_second_comma, no_third_comma}
 use Rattle.negotiate_lines.proofs.type_term.parts.Goals as goal
 
 pub returns-in_default-around : goal.returns-in_default-around

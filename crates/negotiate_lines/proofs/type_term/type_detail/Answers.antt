@@ -1,18 +1,26 @@
 use Rattle.std.proofs.Common.{refl}
-use Rattle.negotiate_lines.specs.OneType.{no_parts, no_variant, no_size, no_alignment, no_name, not_aligned}
+use Rattle.negotiate_lines.specs.Values.{IsNatural, IsVariantTerm, IsDetailTerm}
+use Rattle.negotiate_lines.proofs.OneType.{no_parts, no_variant, no_size, no_alignment, no_name, not_aligned}
+use Rattle.negotiate_lines.proofs.Reading.{none_found, reads_found}
 use Rattle.negotiate_lines.proofs.type_term.type_detail.Goals as goal
 
 pub returns-in_default : goal.returns-in_default
 returns-in_default c = no_parts _ c.in_default.ensures
 
-pub returns-in_default-type_variant : goal.returns-in_default-type_variant
-returns-in_default-type_variant c = no_variant _ _ _ _ _ c.in-Some.ensures c.in_default-type_variant.ensures
+pub returns-in_err-variant : goal.returns-in_err-variant
+returns-in_err-variant c =
+    reads_found (IsDetailTerm c.args.value.now) _ (none_found (IsVariantTerm c.in-Some.variant.now) (IsDetailTerm c.args.value.now) _ _ c.from_residual.ensures.1 c.in_err-variant.ensures
+    (no_variant _ _ _ _ _ c.in-Some.ensures))
 
-pub returns-in_default-number : goal.returns-in_default-number
-returns-in_default-number c = no_size _ _ _ _ _ c.in-Some.ensures c.in_default-number.ensures
+pub returns-in_err-size : goal.returns-in_err-size
+returns-in_err-size c =
+    reads_found (IsDetailTerm c.args.value.now) _ (none_found (IsNatural c.in-Some.size.now) (IsDetailTerm c.args.value.now) _ _ c.from_residual-in_err-size.ensures.1 c.in_err-size.ensures
+    (no_size _ _ _ _ _ c.in-Some.ensures))
 
-pub returns-in_default-number-2 : goal.returns-in_default-number-2
-returns-in_default-number-2 c = no_alignment _ _ _ _ _ c.in-Some.ensures c.in_default-number-2.ensures
+pub returns-in_err-alignment : goal.returns-in_err-alignment
+returns-in_err-alignment c =
+    reads_found (IsDetailTerm c.args.value.now) _ (none_found (IsNatural c.in-Some.alignment.now) (IsDetailTerm c.args.value.now) _ _ c.from_residual-in_err-alignment.ensures.1 c.in_err-alignment.ensures
+    (no_alignment _ _ _ _ _ c.in-Some.ensures))
 
 pub returns-in-NameLength : goal.returns-in-NameLength
 returns-in-NameLength c =
@@ -22,4 +30,4 @@ returns-in-NameLength c =
 pub returns-in-Alignment : goal.returns-in-Alignment
 returns-in-Alignment c =
     let out = rw c.in-Alignment.is at c.in-Err.ensures.alignment in
-    not_aligned _ _ _ _ _ c.in-Some.ensures _ c.in-Some-number-2.ensures (out.0 refl).1
+    not_aligned _ _ _ _ _ c.in-Some.ensures _ c.in_ok-alignment.ensures (out.0 refl).1

@@ -5,8 +5,8 @@ use Rattle.iceoryx2_types.specs.declared.types.TypeVariant.TheVariants.{FixedSiz
 use Rattle.iceoryx2_types.specs.Types.{Detail, HasNameLength, IsAlignment}
 use Rattle.negotiate_lines.specs.Terms.{AreAround}
 use Rattle.negotiate_lines.specs.Values.{IsNatural, IsAlignmentTerm, IsVariantTerm, AreParts, IsDetailTerm}
-use Rattle.negotiate_lines.specs.Around.{one_cut}
-use Rattle.negotiate_lines.specs.OneValue.{one_natural, false-true}
+use Rattle.negotiate_lines.proofs.Around.{one_cut}
+use Rattle.negotiate_lines.proofs.OneValue.{one_natural, false-true}
 
 pub one_alignment : (value : List ℕ) (n m : ℕ) → IsAlignmentTerm value n → IsAlignmentTerm value m → n ≡ m
 one_alignment value n m left right = one_natural value n m left.0 right.0

@@ -6,8 +6,8 @@ use Rattle.iceoryx2_description.specs.declared.time.ClockFault.{ClockFault}
 use Rattle.iceoryx2_description.specs.Span.{Span}
 use Rattle.negotiate_lines.specs.Terms.{AreAround, IsNumber}
 use Rattle.negotiate_lines.specs.Values.{IsNatural, IsSpanTerm, IsNoneOr, IsClockTerm, IsTruthTerm}
-use Rattle.negotiate_lines.specs.Vocabulary.{Sets}
-use Rattle.negotiate_lines.specs.Around.{one_cut}
+use Rattle.negotiate_lines.specs.Vocabulary.{Gives}
+use Rattle.negotiate_lines.proofs.Around.{one_cut}
 
 -- ---- seconds and nanoseconds
 
@@ -75,9 +75,9 @@ no_natural_none n is = letter_is_no_digit is.numeral.1.0
 
 module _ {A : Type 0} (Says : List ℕ → A → Type 0) (one : (value : List ℕ)
     (a b : A) → Says value a → Says value b → a ≡ b) where
-  pub one_set : {S : Type 0} (sets : A → S) (value : List ℕ) (s t : S) → Sets Says sets value s
-      → Sets Says sets value t → s ≡ t
-  one_set sets value s t (a, says, e) (b, others, f) = e ∙ ap sets (one value a b says others) ∙ sym f
+  pub one_given : {S : Type 0} (sets : A → S) (value : List ℕ) (s t : S) → Gives Says sets value s
+      → Gives Says sets value t → s ≡ t
+  one_given sets value s t (a, says, e) (b, others, f) = e ∙ ap sets (one value a b says others) ∙ sym f
 
   pub one_or_none : ((a : A) → Says (codes "none") a → ⊥) → (value : List ℕ) (a b : Option A)
       → IsNoneOr Says value a → IsNoneOr Says value b → a ≡ b
@@ -85,6 +85,14 @@ module _ {A : Type 0} (Says : List ℕ → A → Type 0) (one : (value : List �
   one_or_none never value None (Some b) left right = absurd (never b (subst (λ (v : List ℕ). Says v b) left right))
   one_or_none never value (Some a) None left right = absurd (never a (subst (λ (v : List ℕ). Says v a) right left))
   one_or_none never value (Some a) (Some b) left right = ap (λ (x : A). Some x) (one value a b left right)
+
+pub one_natural_or_none : (value : List ℕ) (a b : Option ℕ) → IsNoneOr IsNatural value a → IsNoneOr IsNatural value b
+    → a ≡ b
+one_natural_or_none = one_or_none IsNatural one_natural no_natural_none
+
+pub one_span_or_none : (value : List ℕ) (a b : Option Span) → IsNoneOr IsSpanTerm value a → IsNoneOr IsSpanTerm value b
+    → a ≡ b
+one_span_or_none = one_or_none IsSpanTerm one_span no_span_none
 
 pub one_clock : (value : List ℕ) (a b : Result Span ClockFault) → IsClockTerm value a → IsClockTerm value b
     → a ≡ b
