@@ -1,18 +1,8 @@
 //! Lines that are no command, where there is memory for all: none is told as out of memory.
 
-use crate::support::{assert_answers, assert_built};
+use crate::support::*;
 use std::alloc::{AllocError, Global};
 use std::process::Abort;
-
-/// What is printed for a first line that is no command.
-const NO_COMMAND: &str = "line 1: not a command\n";
-
-/// Ends a test that finds one of these lines to be something else than no command.
-fn assert_no_commands(rt: &impl Abort, alloc: Global, lines: &[&str]) {
-    for line in lines {
-        assert_answers(rt, alloc, line, NO_COMMAND, 2);
-    }
-}
 
 /// Lines with an alignment that is no power of two.
 const ALIGNMENTS: &[&str] = &[
@@ -30,7 +20,7 @@ const ALIGNMENTS: &[&str] = &[
 
 #[test]
 fn a_wrong_alignment_is_no_command_and_not_out_of_memory(rt: HostRuntime) {
-    assert_no_commands(&rt, rt.alloc(), ALIGNMENTS);
+    assert_each(&rt, rt.alloc(), ALIGNMENTS, NO_COMMAND, 2);
 }
 
 /// Lines with a type whose three commas, whose variant, or whose numbers are not there.
@@ -48,13 +38,21 @@ const TYPES: &[&str] = &[
 
 #[test]
 fn a_type_of_another_form_is_no_command_and_not_out_of_memory(rt: HostRuntime) {
-    assert_no_commands(&rt, rt.alloc(), TYPES);
+    assert_each(&rt, rt.alloc(), TYPES, NO_COMMAND, 2);
 }
 
 /// A line with these terms, then a text of so many letters, and then these.
 fn around(alloc: Global, before: &str, letters: usize, behind: &str) -> Result<String, AllocError> {
     let text = "n".repeat(alloc, letters)?;
     format!(in alloc; "{before}{text}{behind}")
+}
+
+/// Ends a test that finds a line with such a text between these to be a command.
+fn assert_none_around(rt: &impl Abort, alloc: Global, rows: &[(&str, usize, &str)]) {
+    for (before, letters, behind) in rows {
+        let line = around(alloc, before, *letters, behind);
+        assert_built(rt, alloc, line, NO_COMMAND, 2);
+    }
 }
 
 /// What stands before and behind a text, and how many letters make it too long or too short.
@@ -66,26 +64,20 @@ const TYPE_NAMES: &[(&str, usize, &str)] = &[
 
 #[test]
 fn a_name_of_a_type_past_256_bytes_is_no_command_and_not_out_of_memory(rt: HostRuntime) {
-    for &(before, letters, behind) in TYPE_NAMES {
-        let line = around(rt.alloc(), before, letters, behind);
-        assert_built(&rt, rt.alloc(), line, NO_COMMAND, 2);
-    }
+    assert_none_around(&rt, rt.alloc(), TYPE_NAMES);
 }
 
-/// What stands before a name of a service.
-const CALLS: &[&str] = &[
-    "event create 1 0 ",
-    "event open 1 0 ",
-    "pubsub create 1 0 ",
-    "rr open_or_create 1 0 ",
+/// What stands before a name of a service, and how many letters make it too long.
+const CALLS: &[(&str, usize, &str)] = &[
+    ("event create 1 0 ", 256, ""),
+    ("event open 1 0 ", 256, ""),
+    ("pubsub create 1 0 ", 256, ""),
+    ("rr open_or_create 1 0 ", 256, ""),
 ];
 
 #[test]
 fn a_name_past_255_bytes_is_no_command_and_not_out_of_memory(rt: HostRuntime) {
-    for &before in CALLS {
-        let line = around(rt.alloc(), before, 256, "");
-        assert_built(&rt, rt.alloc(), line, NO_COMMAND, 2);
-    }
+    assert_none_around(&rt, rt.alloc(), CALLS);
 }
 
 /// What stands before and behind a key or a value, and how many letters make it too long or too short.
@@ -99,10 +91,7 @@ const ATTRIBUTES: &[(&str, usize, &str)] = &[
 
 #[test]
 fn a_key_or_a_value_of_another_length_is_no_command_and_not_out_of_memory(rt: HostRuntime) {
-    for &(before, letters, behind) in ATTRIBUTES {
-        let line = around(rt.alloc(), before, letters, behind);
-        assert_built(&rt, rt.alloc(), line, NO_COMMAND, 2);
-    }
+    assert_none_around(&rt, rt.alloc(), ATTRIBUTES);
 }
 
 /// A line with 65 different terms, each this one with a number and then a colon behind it.
@@ -123,7 +112,7 @@ fn a_65th_pair_or_key_is_no_command_and_not_out_of_memory(rt: HostRuntime) {
 }
 
 /// Lines with a term that says nothing, or that doesn't go with the call.
-const WORDS: &[&str] = &[
+const TERMS: &[&str] = &[
     "event create 1 0 a max_nodes",
     "event create 1 0 a max_node=1",
     "event create 1 0 a max_nodes=x",
@@ -139,7 +128,7 @@ const WORDS: &[&str] = &[
 
 #[test]
 fn a_term_that_says_nothing_is_no_command_and_not_out_of_memory(rt: HostRuntime) {
-    assert_no_commands(&rt, rt.alloc(), WORDS);
+    assert_each(&rt, rt.alloc(), TERMS, NO_COMMAND, 2);
 }
 
 /// Lines that end before the name of a service, and whose terms before it say nothing.
@@ -161,5 +150,5 @@ const FRONTS: &[&str] = &[
 
 #[test]
 fn a_line_without_its_terms_is_no_command_and_not_out_of_memory(rt: HostRuntime) {
-    assert_no_commands(&rt, rt.alloc(), FRONTS);
+    assert_each(&rt, rt.alloc(), FRONTS, NO_COMMAND, 2);
 }

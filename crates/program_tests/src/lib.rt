@@ -4,18 +4,14 @@
 #[cfg(test)]
 mod ample_memory;
 #[cfg(test)]
-mod event_terms;
-#[cfg(test)]
 mod faults;
 #[cfg(test)]
 mod lines;
 #[cfg(test)]
-mod publish_subscribe_terms;
-#[cfg(test)]
 mod replies;
 #[cfg(test)]
-mod request_response_terms;
-#[cfg(test)]
 mod scripts;
+#[cfg(test)]
+mod setting_terms;
 #[cfg(test)]
 mod support;

@@ -66,30 +66,24 @@ const BLANKS: &[&str] = &["", "\n", "\r\n", " \n", "   \r\n", "\r"];
 
 #[test]
 fn what_is_no_command_ends_the_program(rt: HostRuntime) {
-    for &line in NO_COMMANDS {
-        assert_answers(&rt, rt.alloc(), line, "line 1: not a command\n", 2);
-    }
+    assert_each(&rt, rt.alloc(), NO_COMMANDS, NO_COMMAND, 2);
 }
 
 #[test]
 fn what_is_no_text_ends_the_program(rt: HostRuntime) {
     for &line in NO_TEXTS {
-        assert_pieces(&rt, rt.alloc(), (line, 1000), "line 1: not a command\n", 2);
+        assert_pieces(&rt, rt.alloc(), (line, 1000), NO_COMMAND, 2);
     }
 }
 
 #[test]
 fn a_command_is_written_in_many_ways(rt: HostRuntime) {
-    for &line in CREATIONS {
-        assert_answers(&rt, rt.alloc(), line, "ok 1 number=0\n", 0);
-    }
+    assert_each(&rt, rt.alloc(), CREATIONS, "ok 1 number=0\n", 0);
 }
 
 #[test]
 fn lines_without_terms_are_skipped(rt: HostRuntime) {
-    for &line in BLANKS {
-        assert_answers(&rt, rt.alloc(), line, "", 0);
-    }
+    assert_each(&rt, rt.alloc(), BLANKS, "", 0);
 }
 
 /// A line that creates a service of a name of so many bytes.
@@ -103,7 +97,7 @@ fn naming(alloc: Global, length: usize) -> Result<String, AllocError> {
 fn names_have_at_most_255_bytes(rt: HostRuntime) {
     let alloc = rt.alloc();
     assert_built(&rt, alloc, naming(alloc, 255), "ok 0 number=0\n", 0);
-    assert_built(&rt, alloc, naming(alloc, 256), "line 1: not a command\n", 2);
+    assert_built(&rt, alloc, naming(alloc, 256), NO_COMMAND, 2);
 }
 
 /// Two lines, one of this text alone and one of a command, with this text around each term.

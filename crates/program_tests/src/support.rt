@@ -124,6 +124,16 @@ pub fn assert_answers(rt: &impl Abort, alloc: Global, input: &str, wanted: &str,
     assert_same(rt, (input, text, found), (input, wanted, status));
 }
 
+/// What is printed for a first line that is no command.
+pub const NO_COMMAND: &str = "line 1: not a command\n";
+
+/// Ends a test that finds one of these inputs not answered by this text, or with another status.
+pub fn assert_each(rt: &impl Abort, alloc: Global, inputs: &[&str], wanted: &str, status: u8) {
+    for input in inputs {
+        assert_answers(rt, alloc, input, wanted, status);
+    }
+}
+
 /// Ends a test whose input can't be built, isn't answered by this text, or doesn't end with this
 /// status.
 pub fn assert_built(
