@@ -135,7 +135,7 @@ const LENGTHS: &[(usize, usize, Answer, Answer)] = &[
     (1, 257, Err(AttributeError::ValueLength), Ok(())),
 ];
 
-/// What is told of texts of so many letters where there is nothing.
+/// What is told of texts of so many characters where there is nothing.
 fn told_of_lengths(rt: &impl Abort, alloc: Global, key: usize, value: usize) -> Told {
     let key = repeated(rt, alloc, "k", key);
     let value = repeated(rt, alloc, "v", value);
@@ -153,7 +153,7 @@ fn the_key_is_tested_before_the_value(rt: HostRuntime) {
 }
 
 /// Keys and values, and what is answered to such a pair and to the key where the key `k` has the values
-/// of 1 to 64 letters `k`, and these are the keys.
+/// of 1 to 64 characters `k`, and these are the keys.
 const FULL: &[(&str, &str, Answer, Answer)] = &[
     ("k", "k", Ok(()), Ok(())),
     ("k", "kk", Ok(()), Ok(())),
@@ -179,7 +179,7 @@ fn add(specifier: &mut AttributeSpecifier, verifier: &mut AttributeVerifier, val
     let _answer = require_key(verifier, value);
 }
 
-/// Adds texts of 1 to 64 letters `k`.
+/// Adds texts of 1 to 64 characters `k`.
 fn fill(
     rt: &impl Abort,
     alloc: Global,

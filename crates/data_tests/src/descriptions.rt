@@ -74,7 +74,7 @@ fn is_name(rt: &impl Abort, alloc: Global, text: &str) -> (bool, bool) {
     }
 }
 
-/// Whether a text of so many letters is a name.
+/// Whether a text of so many characters is a name.
 fn is_name_of(rt: &impl Abort, alloc: Global, length: usize) -> (bool, bool) {
     is_name(rt, alloc, repeated(rt, alloc, "x", length).as_str())
 }

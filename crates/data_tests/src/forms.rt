@@ -349,7 +349,7 @@ fn one_changed_byte_gives_malformed_bytes_or_the_form_of_another_description(rt:
     assert_same(&rt, found, (17_085, 13_387));
 }
 
-/// How many bytes and letters the name has, and what a reader makes of the whole: none, more than there
+/// How many bytes and characters the name has, and what a reader makes of the whole: none, more than there
 /// are, and a name that isn't UTF-8; and with how many pairs of attributes.
 const NAMES: &[(&str, Reading)] = &[
     ("0001610000", Form),
@@ -385,7 +385,7 @@ fn nanoseconds_have_a_limit(rt: HostRuntime) {
     }
 }
 
-/// The form of events with a name of 255 letters `n`, the numbers 1 to 7 as its settings, and a
+/// The form of events with a name of 255 characters `n`, the numbers 1 to 7 as its settings, and a
 /// deadline.
 fn longest_form(rt: &impl Abort, alloc: Global) -> Vec<u8> {
     let letters = repeated(rt, alloc, "6e", 255);
@@ -406,7 +406,7 @@ fn numbered(deadline: Deadline) -> event::StaticConfig {
     }
 }
 
-/// The description of a name of 255 letters `n` and those settings.
+/// The description of a name of 255 characters `n` and those settings.
 fn longest_description(rt: &impl Abort, alloc: Global) -> StaticConfig {
     let text = repeated(rt, alloc, "n", 255);
     description(rt, alloc, &text, numbered(deadline(rt)))

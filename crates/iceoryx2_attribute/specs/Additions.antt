@@ -1,4 +1,4 @@
--- What an addition answers, and what it leaves. Want of memory may only stand in place of an item that is
+-- What an addition answers, and what it leaves. Out of memory may only stand in place of an item that is
 -- put in, for which each test has passed.
 use Rattle.std.specs.Prelude.{ℕ, ◌≡◌, ◌≤◌, ◌↔◌, List, length}
 use Rattle.std.specs.Prelude.{false, IsTrue, OnOk, OnErr, Result, Ok, Err}

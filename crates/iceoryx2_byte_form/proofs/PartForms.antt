@@ -104,14 +104,14 @@ Reads-where {A} test r f P h = record {
   again = λ x rest fits. rw (h.again x rest fits.0, fits.1) refl;
 }
 
--- the same with another word for the form
+-- the same with another name for the form
 pub Reads-form : {A : Type 0} (r : Part A) (f g : A → List ℕ) (P : A → Type 0) → Reads r f P → ((a : A) → f a ≡ g a) → Reads r g P
 Reads-form r f g P h same = record {
   takes = λ bytes x fits e. let t = h.takes bytes x fits e in (subst (λ (y : List ℕ). Takes bytes y x.1) (same x.0) t.0, t.1);
   again = λ x rest fits. ap (λ (y : List ℕ). r (y ++ rest)) (sym (same x)) ∙ h.again x rest fits;
 }
 
--- the same with other words for what fits
+-- the same with other names for what fits
 pub Reads-fits : {A : Type 0} (r : Part A) (f : A → List ℕ) (P Q : A → Type 0) → ((a : A) → P a → Q a) → ((a : A) → Q a → P a) → Reads r f P → Reads r f Q
 Reads-fits r f P Q to from h = record {
   takes = λ bytes x fits e. let t = h.takes bytes x fits e in (t.0, to x.0 t.1);

@@ -47,7 +47,7 @@ pattern (Event s) = EVENT_BYTE ∷ event s
 pattern (PublishSubscribe s) = PUBLISH_SUBSCRIBE_BYTE ∷ publish_subscribe s
 pattern (RequestResponse s) = REQUEST_RESPONSE_BYTE ∷ request_response s
 
--- the letters by which the form is known
+-- the characters by which the form is known
 abbrev pub magic : List ℕ
 magic = codes "IOX2"
 

@@ -13,7 +13,7 @@ pub use crate::parts::reading::DecodeError;
 use iceoryx2_description::description::StaticConfig;
 use std::alloc::{AllocError, Global};
 
-/// The four letters with which each form begins.
+/// The four characters with which each form begins.
 pub const MAGIC: [u8; 4] = *b"IOX2";
 
 /// The version of the form of a description that tells no creator, the byte behind the magic.

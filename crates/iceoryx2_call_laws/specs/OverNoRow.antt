@@ -28,5 +28,5 @@ module _ {F E C : Type 0} (m : Meaning F E C) (caller : Caller) (counter : ℕ) 
     -- the counter's end
     no_number : m.history_refusal ≡ None → stops ≡ false → last_number ≤ counter
         → AnswersOverNoRow (Err (m.create_refusal InternalFailure))
-    -- want of memory, for the types of messages also before the history rule
+    -- out of memory, for the types of messages also before the history rule
     no_memory : AnswersOverNoRow (Err (m.create_refusal OutOfMemory))

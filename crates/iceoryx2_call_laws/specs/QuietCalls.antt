@@ -85,7 +85,7 @@ module _ {F E C : Type 0} (m : Meaning F E C) (q : Quiet) (caller : Caller) wher
         → clock_stops m.needs_clock caller.now ≡ false → HasNumber q
         → Creates (Ok (factory_created q caller.node (description_of m caller)))
         (with_created q caller.node caller.hash (description_of m caller))
-    -- memory may be wanted in place of each answer from the look on; after the lock its number is spent
+    -- memory may run out in place of each answer from the look on; after the lock its number is spent
     no_memory : m.history_refusal ≡ None → Creates (Err (m.create_refusal create_refusal.OutOfMemory)) q
     no_memory_locked : m.history_refusal ≡ None → service_at q caller.hash ≡ None
         → clock_stops m.needs_clock caller.now ≡ false → HasNumber q
@@ -116,7 +116,7 @@ module _ {F E C : Type 0} (m : Meaning F E C) (q : Quiet) (node : ℕ) (hash : S
     opened : (x : QuietService) → service_at q hash ≡ Some x → m.misfit x.description ≡ None
         → verdict (m.requirement x.description) ≡ Ok tt → HasPlace x node → HasNumber q
         → Opens (Ok (factory_opened x)) (with_opened x)
-    -- memory may be wanted in place of each answer where the service is there
+    -- memory may run out in place of each answer where the service is there
     no_memory : (x : QuietService) → service_at q hash ≡ Some x
         → Opens (Err (m.open_refusal open_refusal.OutOfMemory)) q
 

@@ -9,7 +9,7 @@ use Rattle.iceoryx2_create_and_open.specs.Caller.{Caller}
 use Rattle.iceoryx2_call_laws.specs.Quiet.{Quiet}
 use Rattle.iceoryx2_call_laws.specs.QuietCalls.{Creates, Opens}
 
--- Such a call is one of the machine's, or it wants memory in place of whatever that would answer, and nothing changes.
+-- Such a call is one of the machine's, or it is out of memory in place of what that would answer, and nothing changes.
 pub data PreparesFirst {E : Type 0} (no_memory : E) (q : Quiet) (Calls : Result Registered E → Quiet → Type 0)
     : Result Registered E → Quiet → Type 0 where
   unprepared : PreparesFirst no_memory q Calls (Err no_memory) q

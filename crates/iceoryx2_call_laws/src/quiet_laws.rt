@@ -114,7 +114,7 @@ pub fn quiet_calls<D, F: Copy, E: Copy, C: Copy>()
         × (join_count (phase_of v (Node node) hash) ≡ k + 1) }
 
     // While a service stands that fits and that the requirement accepts, and a place and a number
-    // are left, an open is Ok or wants memory.
+    // are left, an open is Ok or out of memory.
     ensures accepted { (m : Meaning F E C) (node : ℕ) (hash : ServiceHash)
         (q p : Quiet) (x : QuietService) (answer : Result Registered E)
         → service_at q hash ≡ Some x → m.misfit x.description ≡ None

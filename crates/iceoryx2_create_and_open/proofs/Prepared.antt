@@ -5,7 +5,7 @@ use Rattle.iceoryx2_access.specs.Registered.{Registered}
 use Rattle.iceoryx2_create_and_open.specs.Prepared.{IsPrepared, unprepared, prepared}
 
 module _ {E : Type 0} {no_memory : E} {IsWord : List Letter → Result Registered E → Type 0} where
-  -- whatever it answers, where it is also so of want of memory without an access
+  -- whatever it answers, where it is also so of an answer out of memory without an access
   pub each_call : (P : List Letter → Result Registered E → Type 0) → P [] (Err no_memory) → ((word : List Letter) (answer : Result Registered E) → IsWord word answer → P word answer) → {word : List Letter} {answer : Result Registered E} → IsPrepared no_memory IsWord word answer → P word answer
   each_call P without_access of_word unprepared = without_access
   each_call P without_access of_word (prepared {word = word} {answer = answer} is) = of_word word answer is

@@ -20,7 +20,7 @@ pub data MayBeThere : Existence → Type 0 where
   yes : MayBeThere existence.Yes
   being_set_up : MayBeThere existence.BeingSetUp
 
--- What a fetch leads to. Reading the bytes may want memory.
+-- What a fetch leads to. Reading the bytes may run out of memory.
 module _ {F E C : Type 0} (m : Meaning F E C) (hash : ServiceHash) where
   pub data LeadsTo : Result (ℕ × List ℕ) FetchError → Outcome F → Type 0 where
     gone : LeadsTo (Err fetch.DoesNotExist) Nothing

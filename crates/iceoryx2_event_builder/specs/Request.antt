@@ -16,7 +16,7 @@ pub record EventBuilderState : Type 0 where
   pub name : List ℕ
   pub demand : EventDemand
 
--- the letter of services of events
+-- the prefix of services of events
 abbrev pub letter_of_events : ℕ
 letter_of_events = PREFIX
 

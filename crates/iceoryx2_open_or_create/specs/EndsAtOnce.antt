@@ -9,13 +9,13 @@ use Rattle.iceoryx2_open_or_create.specs.Retried.{Retried}
 
 -- What a table that nobody else uses refuses isn't tried again.
 pub record EndsAtOnce {F E C : Type 0} (retried : Retried E C) (making opening : Meaning F E C) : Type 0 where
-  -- a requirement that isn't met, no place, no number, want of memory
+  -- a requirement that isn't met, no place, no number, out of memory
   pub not_accepted : (d : Description) (error : E) → verdict (opening.requirement d) ≡ Err error
       → retried.of_open error ≡ false
   pub no_place : retried.of_open (opening.open_refusal open_refusal.ExceedsMaxNumberOfNodes) ≡ false
   pub not_opened : retried.of_open (opening.open_refusal open_refusal.InternalFailure) ≡ false
   pub opened_without_memory : retried.of_open (opening.open_refusal open_refusal.OutOfMemory) ≡ false
-  -- the history rule, a clock fault or no number, want of memory
+  -- the history rule, a clock fault or no number, out of memory
   pub forbidden : (error : C) → making.history_refusal ≡ Some error → retried.of_create error ≡ false
   pub not_created : retried.of_create (making.create_refusal create_refusal.InternalFailure) ≡ false
   pub created_without_memory : retried.of_create (making.create_refusal create_refusal.OutOfMemory) ≡ false

@@ -76,7 +76,7 @@ is_by : {E : Type 0} (c : Clause E) (cs : List (Clause E)) (met : Bool) → c.is
 is_by c cs true e h = subst (λ v. IsVerdict (c ∷ cs) v) (sym (met_step c cs e)) (more c cs (verdict cs) e h)
 is_by c cs false e h = subst (λ v. IsVerdict (c ∷ cs) v) (sym (unmet_step c cs e)) (first_unmet c cs e)
 
--- the verdict is the one that the words say
+-- the verdict is the one that `IsVerdict` tells
 pub verdict_is : {E : Type 0} (clauses : List (Clause E)) → IsVerdict clauses (verdict clauses)
 unfolding verdict
 verdict_is [] = all_of_none

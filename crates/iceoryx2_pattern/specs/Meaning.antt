@@ -23,7 +23,7 @@ pub record Meaning (F E C : Type 0) : Type 0 where
   pub create_refusal : CreateRefusal → C
   -- whether its own settings forbid a create
   pub history_refusal : Option C
-  -- whether a create wants the time, and what it publishes
+  -- whether a create needs the time, and what it publishes
   pub needs_clock : Bool
   pub attributes : List Pair
   pub published : Span → MessagingPattern

@@ -7,7 +7,7 @@ use Rattle.iceoryx2_pattern.specs.declared.pattern.CreateRefusal.TheVariants as 
 use Rattle.iceoryx2_pattern.specs.declared.pattern.OpenRefusal.TheVariants as open_refusal
 use Rattle.iceoryx2_pattern.specs.Meaning.{Meaning}
 
--- Want of memory has one name, wherever a call meets it, and a create says of a service that doesn't
+-- Out of memory has one name, wherever a call meets it, and a create says of a service that doesn't
 -- fit that it exists.
 pub record IsRegular {F E C : Type 0} (m : Meaning F E C) : Type 0 where
   pub create_memory : m.create_error_of (m.fault state.OutOfMemory) ≡ m.create_refusal create_refusal.OutOfMemory

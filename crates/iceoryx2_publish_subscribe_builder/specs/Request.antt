@@ -17,7 +17,7 @@ pub record PublishSubscribeBuilderState : Type 0 where
   pub demand : PublishSubscribeDemand
   pub types : RequestedTypes
 
--- the letter of services of publish-subscribe
+-- the prefix of services of publish-subscribe
 abbrev pub letter_of_publish_subscribe : ℕ
 letter_of_publish_subscribe = PREFIX
 

@@ -19,7 +19,7 @@ pub record RequestResponseBuilderState : Type 0 where
   pub demand : RequestResponseDemand
   pub types : RequestedMessages
 
--- the letter of services of request-response
+-- the prefix of services of request-response
 abbrev pub letter_of_request_response : ℕ
 letter_of_request_response = PREFIX
 

@@ -124,7 +124,7 @@ impl Session {
         ensures owns { Agrees (state_of self.old).table.world → SlotsStand (state_of self.old)
             → OwnsTickets (state_of self.old) → OwnsTickets (state_of self.new) }
 
-        // Over a table that nobody else uses it is one step of the quiet machine.
+        // Over a table that nobody else uses it is one move of the quiet machine.
         ensures quiet { (q : Quiet) → IsQuiet (state_of self.old) q → SlotsStand (state_of self.old)
             → IsMoved (state_of self.old) q command result (state_of self.new) }
 

@@ -82,7 +82,7 @@ Starves b p h a c =
     (s : ServiceView) × (step_at b p h a ≡ Some s)
     × (needs_room a (or_idle (map.get b.phases (p, h))) ≡ true) × (c ≡ b)
 
--- a step that can want memory
+-- a step that may run out of memory
 abbrev pub MayTakeStep : Book → Participant → ServiceHash → Act → Result Bool AllocError → Book → Type 0
 MayTakeStep b p h a (Ok done) c = StepsOrStays b p h a done c
 MayTakeStep b p h a (Err e) c = Starves b p h a c
@@ -126,7 +126,7 @@ TakesDescription x false =
     (p : Participant) (h : ServiceHash) (r : Option Row) (s : Option Segment) (c : ℕ)
     → view_after p h act.RemoveDescription x r s c ≡ None
 
--- the world_with of the services, the tags and the tickets
+-- the world of the services, the tags and the tickets
 abbrev pub world_with : Book → set.FinSet tag_cmp → Tickets → World
 world_with b t k =
     record { rows = b.rows; segments = b.segments; phases = b.phases; tags = t; tickets = k; counter = b.counter }

@@ -1,4 +1,4 @@
--- What an access of a node answers and changes, on the seat of that node at that service: the
+-- What an access of a node answers and changes, on what that node sees of that service: the
 -- tests in their order, and then at most one step.
 use Rattle.std.specs.Prelude.{◌≡◌, ℕ, ◌+◌, Bool, true, false, ◌&&◌, nat_lt, ◌==◌, if◌then◌else◌}
 use Rattle.std.specs.Prelude.{List, Option, Some, None, Result, Ok, Err, ◌⊎◌, OnOk, unwrap_or}
@@ -78,7 +78,7 @@ write w i h c = record (put_view w i h c.view) {
   tickets = unwrap_or c.tickets w.tickets;
 }
 
--- the seat with the change
+-- what it sees after the change
 abbrev pub node_view_after : NodeView → Change → NodeView
 node_view_after s c = record {
   view = unwrap_or c.view s.view;
@@ -98,7 +98,7 @@ tag_becomes b = record { view = None; tag = Some b; tickets = None }
 abbrev pub view_becomes_with : ServiceView → Tickets → Change
 view_becomes_with x k = record { view = Some x; tag = None; tickets = Some k }
 
--- An answer with its change, or want of memory in a success's place, which changes nothing.
+-- An answer with its change, or out of memory in a success's place, which changes nothing.
 abbrev pub IsAnswer : {A E : Type 0} → E → Result (A × Change) E → Result A E → Change → Type 0
 IsAnswer no_memory (Ok x) r c = ((r ≡ Ok x.0) × (c ≡ x.1)) ⊎ ((r ≡ Err no_memory) × (c ≡ nothing))
 IsAnswer no_memory (Err e) r c = (r ≡ Err e) × (c ≡ nothing)
@@ -182,7 +182,7 @@ module _ (i : ℕ) (h : ServiceHash) where
   fetch_of x (Some (row.Locked n)) = Err Fetching.NotFinalized
   fetch_of x (Some (row.Published n b)) = Ok ((n, b), read_change (own_step act.Read x))
 
-  -- want of memory only where the tag wasn't there
+  -- out of memory only where the tag wasn't there
   abbrev pub MakesTag : Bool → Result Tag TagError → Change → Type 0
   MakesTag true r c = (r ≡ Ok Found) × (c ≡ nothing)
   MakesTag false r c = IsAnswer Tagging.OutOfMemory (Ok (Made, tag_becomes true)) r c

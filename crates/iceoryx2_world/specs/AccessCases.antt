@@ -48,7 +48,7 @@ pub record IsUnmarked (o : Option Segment) (n : ℕ) (x : Segment) : Type 0 wher
 abbrev pub MayJoin : ℕ → Segment → Phase → Type 0
 MayJoin n x f = ((f ≡ at.Read n) × (set.len x.participants < x.capacity)) ⊎ ((k : ℕ) × (f ≡ at.Joined n k))
 
--- What an access answers and changes on the seat of its node: one line of the table each. The tests that come
+-- What an access answers and changes of what its node sees: one line of the table each. The tests that come
 -- before a line's own have not decided. Where its tests pass and the step is forbidden all the same, an access
 -- answers its general refusal and changes nothing.
 pub data IsAccessCase (s : NodeView) : Letter → Change → Type 0 where

@@ -96,7 +96,7 @@ view_after p h RemoveDescription (at.Leaving n) r s c = to_view at.Idle None s c
 view_after p h RemoveDescription (at.Cleared n) r s c = to_view at.Idle None s c
 view_after p h _ _ _ _ _ = None
 
--- the world with this at the spot
+-- the world with this view of one participant at one service
 abbrev pub put : World → Participant → ServiceHash → ServiceView → World
 put w p h s = record w {
   rows = set_to w.rows h s.row;

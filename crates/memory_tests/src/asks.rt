@@ -1,4 +1,4 @@
-//! Builders of all patterns, and what their calls are answered, in the same words.
+//! Builders of all patterns, and what their calls are answered, in the same terms.
 
 use crate::samples;
 use crate::trial::Wrong;

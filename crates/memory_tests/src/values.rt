@@ -236,7 +236,7 @@ fn told(answer: Result<TypeDetail, TypeDetailError>) -> Came {
     }
 }
 
-/// What something came to that can only want memory.
+/// What something came to that can only run out of memory.
 fn given<T: Drop>(answer: Result<T, AllocError>) -> Came {
     match answer {
         Ok(_) => Came::Done,

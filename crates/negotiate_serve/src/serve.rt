@@ -15,7 +15,7 @@ pub const DONE: u8 = 0;
 /// The status after a line that is no command.
 pub const NOT_A_COMMAND: u8 = 2;
 
-/// The status after a fault of reading or writing, or want of memory.
+/// The status after a fault of reading or writing, or where memory runs out.
 pub const FAULT: u8 = 3;
 
 /// Answers each line of the input on the output, and gives the status.

@@ -41,7 +41,7 @@ fn a_type_of_another_form_is_no_command_and_not_out_of_memory(rt: HostRuntime) {
     assert_each(&rt, rt.alloc(), TYPES, NO_COMMAND, 2);
 }
 
-/// A line with these terms, then a text of so many letters, and then these.
+/// A line with these terms, then a text of so many characters, and then these.
 fn around(alloc: Global, before: &str, letters: usize, behind: &str) -> Result<String, AllocError> {
     let text = "n".repeat(alloc, letters)?;
     format!(in alloc; "{before}{text}{behind}")
@@ -55,7 +55,7 @@ fn assert_none_around(rt: &impl Abort, alloc: Global, rows: &[(&str, usize, &str
     }
 }
 
-/// What stands before and behind a text, and how many letters make it too long or too short.
+/// What stands before and behind a text, and how many characters make it too long or too short.
 const TYPE_NAMES: &[(&str, usize, &str)] = &[
     ("pubsub create 1 0 a payload=fixed,", 0, ",1,1"),
     ("pubsub create 1 0 a payload=fixed,", 257, ",1,1"),
@@ -80,7 +80,7 @@ fn a_name_past_255_bytes_is_no_command_and_not_out_of_memory(rt: HostRuntime) {
     assert_none_around(&rt, rt.alloc(), CALLS);
 }
 
-/// What stands before and behind a key or a value, and how many letters make it too long or too short.
+/// What stands before and behind a key or a value, and how many characters make it too long or too short.
 const ATTRIBUTES: &[(&str, usize, &str)] = &[
     ("event create 1 0 a attribute=", 0, ":v"),
     ("event create 1 0 a attribute=", 65, ":v"),

@@ -37,7 +37,7 @@ const SCRIPTS: &[(&str, &str, u8)] = &[
         "ok 0 number=0\nok 1 number=0\nok 2 number=0\n",
         0,
     ),
-    // Names differ by the case of their letters.
+    // Names differ by the case of their characters.
     (
         "event create 1 0 a\nevent create 1 1 A\nevent open 2 2 A\n",
         "ok 0 number=0\nok 1 number=1\nok 2 number=1\n",

@@ -14,7 +14,7 @@ use std::alloc::{AllocError, Global};
 use std::collections::BTreeMap;
 
 /// One ordered map from a service's hash to all that stands under it, and a counter. Before each access
-/// the next batch of peers' steps runs. Want of memory is answered as such, and may leave a step half made.
+/// the next batch of peers' steps runs. Out of memory is answered as such, and may leave a step half made.
 ///
 /// It stands for tests alone, which compare what it answers: its step relation says nothing.
 #[derive(Drop)]

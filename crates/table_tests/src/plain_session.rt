@@ -1,5 +1,5 @@
 //! Commands over a table of either body: over the one in sorted vectors by the session itself, and over the
-//! plain one by a few lines that are written from the words of its commands.
+//! plain one by a few lines that are written from the terms of its commands.
 
 use crate::body::Body;
 use crate::calls::close;

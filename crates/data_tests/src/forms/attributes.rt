@@ -30,7 +30,7 @@ const ATTRIBUTES: [(&str, Reading); 12] = [
     ("000100016b0001ff", Malformed),
 ];
 
-/// How many letters a key and a value have, each behind the number in digits, and what a reader makes of a
+/// How many characters a key and a value have, each behind the number in digits, and what a reader makes of a
 /// pair of them.
 type Length = (&'static str, usize, &'static str, usize, Reading);
 
@@ -63,14 +63,14 @@ fn attributes_ascend_and_are_counted(rt: HostRuntime) {
     }
 }
 
-/// The digits of one pair of texts of so many letters.
+/// The digits of one pair of texts of so many characters.
 fn one_pair(rt: &impl Abort, alloc: Global, row: &Length) -> String {
     let key = repeated(rt, alloc, "6b", row.1);
     let value = repeated(rt, alloc, "76", row.3);
     joined(rt, alloc, &["0001", row.0, &key, row.2, &value])
 }
 
-/// What a reader makes of a pair of texts of so many letters.
+/// What a reader makes of a pair of texts of so many characters.
 fn reading_of_one(rt: &impl Abort, alloc: Global, row: &Length) -> Reading {
     reading_with_attributes(rt, alloc, one_pair(rt, alloc, row).as_str())
 }

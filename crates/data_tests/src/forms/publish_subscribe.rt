@@ -65,7 +65,7 @@ const FORMS: [(&str, &str, Reading); 13] = [
     ),
 ];
 
-/// How many letters the payload's name has, behind the number in digits, and what a reader makes of
+/// How many characters the payload's name has, behind the number in digits, and what a reader makes of
 /// the whole.
 const NAME_LENGTHS: [(&str, usize, Reading); 2] = [("0100", 256, Form), ("0101", 257, Malformed)];
 
@@ -144,7 +144,7 @@ fn truth_values_and_types_have_limits(rt: HostRuntime) {
     }
 }
 
-/// What a reader makes of a payload whose name has so many letters.
+/// What a reader makes of a payload whose name has so many characters.
 fn reading_of_named(rt: &impl Abort, alloc: Global, digits: &str, letters: usize) -> Reading {
     let name = repeated(rt, alloc, "6e", letters);
     let numbers = "00000000000000080000000000000008";

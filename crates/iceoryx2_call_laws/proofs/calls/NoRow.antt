@@ -1,4 +1,4 @@
--- A create where its service has no row, whatever segment was left there, at one seat and in the world.
+-- A create where its service has no row, whatever segment was left there, at one node and in the world.
 use Rattle.std.proofs.Common.{◌≡◌, ℕ, zero, suc, ◌+◌, ◌<◌, Bool, true, false, List, ◌∷◌, ◌++◌, Option, Some, None, Result, Ok, Err, ◌⊎◌, inl, inr, refl, sym, ap, subst, ◌∙◌, arith}
 use Rattle.std.specs.Prelude.{nat_lt}
 use mathlib.Core.Bool.{true≢false}

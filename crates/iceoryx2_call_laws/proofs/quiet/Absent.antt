@@ -1,4 +1,4 @@
--- Create where there is no service, at one seat.
+-- Create where there is no service, as one node sees it.
 use Rattle.std.proofs.Common.{◌≡◌, ℕ, zero, suc, ◌+◌, Bool, true, false, cond, List, [], ◌∷◌, ◌++◌, Option, Some, None, Result, Ok, Err, ◌⊎◌, inl, inr, refl, sym, ap, subst, ◌∙◌, arith}
 use Rattle.std.specs.Prelude.{nat_lt, ◌==◌}
 use mathlib.Core.Bool.{true≢false}
@@ -62,7 +62,7 @@ from {step = step} {b = b} {w = w} e r = subst (λ x. Run step x w b) e r
 pub same_number : (n : ℕ) → (n == n) ≡ true
 same_number n = grind (arith, nat_tests)
 
--- a seat by its parts
+-- a view by its parts
 abbrev pub at_node : Phase → Option Row → Option Segment → ℕ → Bool → Tickets → NodeView
 at_node x r s c g k = record { view = record { phase = x; row = r; segment = s; counter = c }; tag = g; tickets = k }
 
@@ -229,7 +229,7 @@ module _ {F E C : Type 0} (m : Meaning F E C) (i : ℕ) (h : ServiceHash) where
     abbrev pub registered : ℕ → Registered
     registered c = record { node = i; number = c; ticket = c; description = d }
 
-    -- What create does at a seat without a service.
+    -- What create does where a node sees no service.
     pub data Founds (c : ℕ) (k : Tickets) : Result Registered C → NodeView → Type 0 where
       forbids : {y : Phase} {error : C} → begins y ≡ true → m.history_refusal ≡ Some error → Founds c k (Err error) (bare y c false k)
       no_time : {y : Phase} → begins y ≡ true → m.history_refusal ≡ None → stops ≡ true → Founds c k (Err (m.create_refusal refusal.InternalFailure)) (bare y c false k)

@@ -99,7 +99,7 @@ module _ {F E C : Type 0} (m : Meaning F E C) (i : ℕ) (h : ServiceHash) where
         joined_times x.number _ (times_counted (opened_by i x) i) (after.phases i) ∙ times,
       )
 
-  -- An open that the requirement accepts, with a place and a number left, is Ok or wants memory.
+  -- An open that the requirement accepts, with a place and a number left, is Ok or out of memory.
   pub accepted : (q p : Quiet) (x : QuietService) (r : Result Registered E) → service_at q h ≡ Some x → m.misfit x.description ≡ None → verdict (m.requirement x.description) ≡ Ok tt → HasPlace x i → HasNumber q → Opens m q i h r p → IfErr r (λ e. e ≡ m.open_refusal refusal.OutOfMemory)
   accepted q p x r there good fits place room (call.absent gone) = let is = sym gone ∙ there in absurd (cc)
   accepted q p x r there good fits place room (call.misfit y is_y bad) = let same : y ≡ x = let is = sym is_y ∙ there in cc in let is = sym good ∙ ap (λ z. m.misfit z.description) (sym same) ∙ bad in absurd (cc)

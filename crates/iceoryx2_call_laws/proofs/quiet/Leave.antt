@@ -1,4 +1,4 @@
--- Close at one seat.
+-- Close, as one node sees it.
 use Rattle.std.proofs.Common.{◌≡◌, ℕ, ◌≤◌, ◌-◌, Bool, true, false, cond, List, [], ◌∷◌, Some, None, Result, Ok, Err, refl, sym, ap, subst, ◌∙◌, arith}
 use Rattle.std.specs.Prelude.{nat_lt, ◌==◌}
 use Rattle.std.proofs.lemmas.Bool.Decides.{nat_tests}
@@ -59,7 +59,7 @@ module _ (i : ℕ) (h : ServiceHash) (n t k : ℕ) (b : List ℕ) (sg : Segment)
   release_at : (a : Result Released ReleaseError) (s : NodeView) → 1 ≤ k → is_ticket i h n (map.get tk t) ≡ true → AtNode i h joins_here (letter.Release t i h n a) s → Leaves a s
   release_at a s some has r = leave_by _ _ _ a r.change s refl refl refl some (rw has at r.own) r.is
 
-  -- What close does at a seat that joined.
+  -- What close does where the node has joined.
   pub data Closed : NodeView → Type 0 where
     counts : nat_lt 1 k ≡ true → Closed counted_less
     goes : nat_lt 1 k ≡ false → nat_lt 1 (set.len sg.participants) ≡ true → Closed (gone_out false)

@@ -1,4 +1,4 @@
--- From one seat back to the whole world and the machine's state.
+-- From what one node sees back to the whole world and the machine's state.
 use Rattle.std.proofs.Common.{◌≡◌, ◌≢◌, ℕ, Bool, true, false, cond, ◌&&◌, Option, ◌⊎◌, inl, inr, refl, sym, ap, subst, ◌∙◌, arith}
 use Rattle.std.specs.Prelude.{◌==◌}
 use mathlib.Core.Bool.{true≢false}

@@ -1,4 +1,4 @@
--- From worlds to the seat of one node at one service.
+-- From worlds to what one node sees of one service.
 use Rattle.std.proofs.Common.{◌≡◌, ℕ, Bool, true, false, cond, not, ◌||◌, ◌&&◌, List, [], ◌∷◌, ◌++◌, Option, Some, None, refl, sym, ap, subst, ◌∙◌}
 use Rattle.std.specs.Prelude.{unwrap_or}
 use Rattle.iceoryx2_world.specs.Sets as set
@@ -17,7 +17,7 @@ use Rattle.iceoryx2_world.specs.Access.{NodeView, Change, node_view, set_tag, wr
 use Rattle.iceoryx2_world.proofs.agreement.Moved.{same, same_self}
 use Rattle.iceoryx2_world.proofs.agreement.Whole.{row_put, segment_put, phase_put, own_hash}
 
--- The letter at one seat.
+-- The letter, as one node sees it.
 pub record AtNode (i : ℕ) (h : ServiceHash) (s : NodeView) (l : Letter) (t : NodeView) : Type 0 where
   pub change : Change
   pub own : IsNodeAnswer i h s l change
@@ -36,7 +36,7 @@ contains-set_tag t k q None = elim (eq_by_cmp tag_cmp q k) as (λ b. set.contain
 contains-set_tag t k q (Some true) = set.contains-insert tag_total t k q ∙ elim (eq_by_cmp tag_cmp q k) as (λ b. (b || set.contains t q) ≡ cond b true (set.contains t q)) [ true ↦ refl | false ↦ refl ]
 contains-set_tag t k q (Some false) = set.contains-remove tag_total t k q ∙ elim (eq_by_cmp tag_cmp q k) as (λ b. (not b && set.contains t q) ≡ cond b false (set.contains t q)) [ true ↦ refl | false ↦ refl ]
 
--- Only one seat changed.
+-- Only what one node sees of one service changed.
 pub record Apart (i : ℕ) (h : ServiceHash) (w v : World) : Type 0 where
   pub rows : (g : ServiceHash) → is_eq (hash_cmp g h) ≡ false → row_of v g ≡ row_of w g
   pub segments : (g : ServiceHash) → is_eq (hash_cmp g h) ≡ false → segment_of v g ≡ segment_of w g
@@ -80,7 +80,7 @@ module _ (w : World) (i : ℕ) (h : ServiceHash) where
         tags = tags_write o;
       }
 
--- What an access of this seat gives there and elsewhere.
+-- What an access of this node gives there and elsewhere.
 pub record Moves (i : ℕ) (h : ServiceHash) (w : World) (l : Letter) (v : World) : Type 0 where
   pub at : AtNode i h (node_view w i h) l (node_view v i h)
   pub apart : Apart i h w v
@@ -97,7 +97,7 @@ move i h w (letter.Exists g a) v e x =
     subst (λ (u : World). Moves i h w (letter.Exists g a) u) (sym same_world) (record { at = record { change = nothing; own = (x.own.0 ∙ ap (λ k. existence (row_of w k)) e, refl); is = refl }; apart = apart_same i h w })
 move i h w l v e x = of_node w v i h l e.0 e.1 x
 
--- every letter is of this seat
+-- every letter is of this node and this service
 pub data AllHere (i : ℕ) (h : ServiceHash) : List Letter → Type 0 where
   none : AllHere i h []
   more : {l : Letter} {word : List Letter} → Here i h l → AllHere i h word → AllHere i h (l ∷ word)
@@ -110,7 +110,7 @@ pub record MovesAll (i : ℕ) (h : ServiceHash) (w : World) (word : List Letter)
   pub at : Run (AtNode i h) (node_view w i h) word (node_view v i h)
   pub apart : Apart i h w v
 
--- A run of accesses of one seat, at that seat.
+-- A run of accesses of one node to one service, as that node sees it.
 pub move_all : (i : ℕ) (h : ServiceHash) {w v : World} {word : List Letter} → AllHere i h word → Run IsOwnPart w word v → MovesAll i h w word v
 move_all i h none (done {s = w}) = record { at = done; apart = apart_same i h w }
 move_all i h (more e es) (next {old = w} {mid = m} {letter = l} x r) =

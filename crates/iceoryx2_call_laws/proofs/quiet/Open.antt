@@ -1,4 +1,4 @@
--- Open at one seat.
+-- Open, as one node sees it.
 use Rattle.std.proofs.Common.{◌≡◌, ℕ, ◌+◌, Bool, true, false, cond, List, ◌∷◌, ◌++◌, Option, Some, None, Result, Ok, Err, ◌⊎◌, inl, inr, refl, sym, ap, subst, ◌∙◌, arith}
 use Rattle.std.specs.Prelude.{nat_lt, is_some}
 use mathlib.Core.Bool.{true≢false}
@@ -75,7 +75,7 @@ module _ (i : ℕ) (h : ServiceHash) (n cap : ℕ) (b : List ℕ) (nodes : set.F
   abbrev pub seg : set.FinSet participant_cmp → Segment
   seg t = record { number = n; capacity = cap; participants = t; marked = false }
 
-  -- the seat, with whether the node has its tag
+  -- what the node sees, with whether it has its tag
   abbrev pub stood : Bool → Phase → NodeView
   stood g x = over i h n b (Some (seg nodes)) c g k x
 
@@ -153,7 +153,7 @@ module _ (i : ℕ) (h : ServiceHash) (n cap : ℕ) (b : List ℕ) (nodes : set.F
     abbrev Looks : Outcome F → NodeView → Type 0
     Looks a t = LooksThere i h n b (Some (seg nodes)) c (is_some o) k m d limits hash form_of x a t
 
-    -- What open does at a seat whose service stands.
+    -- What open does where the node sees a service that stands.
     pub data OpensHere : Result Registered E → NodeView → Type 0 where
       starves : {y : Phase} → CountIs n y o → OpensHere (Err (m.open_refusal refusal.OutOfMemory)) (stood (is_some o) y)
       bad : {y : Phase} {fault : F} → CountIs n y o → m.misfit d ≡ Some fault → OpensHere (Err (m.open_error_of fault)) (stood (is_some o) y)

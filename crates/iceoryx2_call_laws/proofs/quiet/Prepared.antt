@@ -15,7 +15,7 @@ use Rattle.iceoryx2_call_laws.specs.QuietPrepared.{PreparesFirst, unprepared, pr
 use Rattle.iceoryx2_call_laws.proofs.calls.Prepared.{nowhere}
 
 module _ {E : Type 0} {no_memory : E} {q : Quiet} {Calls : Result Registered E → Quiet → Type 0} where
-  -- whatever it answers, where it is also so of want of memory that changes nothing
+  -- whatever it answers, where it is also so of an answer out of memory that changes nothing
   pub each_prepared : (P : Result Registered E → Quiet → Type 0) → P (Err no_memory) q → ((answer : Result Registered E) (p : Quiet) → Calls answer p → P answer p) → {answer : Result Registered E} {p : Quiet} → PreparesFirst no_memory q Calls answer p → P answer p
   each_prepared P unchanged of_call unprepared = unchanged
   each_prepared P unchanged of_call (prepared {answer = answer} {p = p} is) = of_call answer p is

@@ -7,7 +7,7 @@ use std::marker::Model;
 use std::mem;
 
 /// Answers in order, of which the first ones were taken. What was taken leaves an answer without memory
-/// in its place, so taking moves nothing else and wants no memory.
+/// in its place, so taking moves nothing else and takes no memory.
 #[derive(Drop)]
 pub struct Queue {
     answers: Vec<Answer>,

@@ -1,4 +1,4 @@
--- What an allowed step does to locks and join_count.
+-- What an allowed step does to locks and counts.
 use Rattle.std.proofs.Common.{◌≡◌, ℕ, ◌+◌, ◌<◌, ◌≤◌, true, Option, Some, None, ◌⊎◌, inl, inr, refl, arith}
 use Rattle.std.specs.Prelude.{option_map}
 use Rattle.iceoryx2_world.specs.declared.world.Participant.{Participant}

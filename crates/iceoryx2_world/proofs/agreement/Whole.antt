@@ -37,7 +37,7 @@ idle_cond : (b : Bool) (x y : Option Phase) → or_idle (cond b x y) ≡ cond b 
 idle_cond true x y = refl
 idle_cond false x y = refl
 
--- the phases that a spot's put leaves
+-- the phases of a world with a view of one participant put into it
 pub phase_put : (w : World) (p : Participant) (h : ServiceHash) (s : ServiceView) (q : Participant) (g : ServiceHash) → phase_of (put w p h s) q g ≡ cond (same q p && is_eq (hash_cmp g h)) s.phase (phase_of w q g)
 phase_put w p h s q g =
     ap or_idle (get-set_to place_total w.phases (p, h) (unless_idle s.phase) (q, g))
@@ -93,7 +93,7 @@ other_hash w p h s g apart le a =
     let moved_along : ◌≡◌ {A = Type 0} (AgreesAt s.counter g (row_of w g) (segment_of w g) (λ q. phase_of w q g)) (AgreesAt s.counter g (row_of (put w p h s) g) (segment_of (put w p h s) g) (λ q. phase_of (put w p h s) q g)) = λ i. AgreesAt s.counter g (rows i) (segments i) (λ q. phases q i) in
     subst (λ (X : Type 0). X) moved_along (AgreesAt-later _ _ g _ _ _ le a)
 
--- at its own hash the spot stands
+-- at its own hash the view stands
 own_place : (w : World) (p : Participant) (h : ServiceHash) (s : ServiceView) → AgreesAt s.counter h s.row s.segment (moved (λ q. phase_of w q h) p s.phase) → AgreesAt s.counter h (row_of (put w p h s) h) (segment_of (put w p h s) h) (λ q. phase_of (put w p h s) q h)
 unfolding moved
 own_place w p h s a =

@@ -145,7 +145,7 @@ peer_keeps w v id h a ok e old =
       kept.1,
     )
 
--- a node's step that join_count nothing
+-- a node's step that counts nothing
 pub idle_keeps : (w v : World) (id : ℕ) (h : ServiceHash) (a : Act) → IsAct a → ((x y : Phase) → PhaseChange a x y → Idles x y) → world_after w (Node id) h a ≡ Some v → Agrees w → Agrees v × Later w v
 idle_keeps w v id h a ok idle e old =
     let st = allowed_step w v (Node id) h a e in
