@@ -3,13 +3,13 @@ use Rattle.std.proofs.Common.{◌≡◌, ℕ, true, false, cond, refl, ◌∙◌
 use Rattle.std.specs.Prelude.{nat_eq}
 use Rattle.std.proofs.lemmas.Bool.Decides.{nat_tests}
 use Rattle.iceoryx2_builder.specs.Setters.{AreSetters, event_place, publish_subscribe_place, request_response_place}
-use Rattle.iceoryx2_event_builder.specs.Request as event
+use Rattle.iceoryx2_event_builder.specs.Builder as event
 use Rattle.iceoryx2_event_builder.specs.declared.event.setting.EventSetter.{EventSetter}
 use Rattle.iceoryx2_event_builder.specs.declared.event.setting.EventSetter.TheVariants as set_event
-use Rattle.iceoryx2_publish_subscribe_builder.specs.Request as publish_subscribe
+use Rattle.iceoryx2_publish_subscribe_builder.specs.Builder as publish_subscribe
 use Rattle.iceoryx2_publish_subscribe_builder.specs.declared.publish_subscribe.setting.PublishSubscribeSetter.{PublishSubscribeSetter}
 use Rattle.iceoryx2_publish_subscribe_builder.specs.declared.publish_subscribe.setting.PublishSubscribeSetter.TheVariants as publish
-use Rattle.iceoryx2_request_response_builder.specs.Request as request_response
+use Rattle.iceoryx2_request_response_builder.specs.Builder as request_response
 use Rattle.iceoryx2_request_response_builder.specs.declared.request_response.setting.RequestResponseSetter.{RequestResponseSetter}
 use Rattle.iceoryx2_request_response_builder.specs.declared.request_response.setting.RequestResponseSetter.TheVariants as request
 

@@ -1,3 +1,3 @@
-pub mod Request
+pub mod Builder
 pub mod Setters
 pub mod Weaker

@@ -11,16 +11,16 @@ ghost use Rattle.iceoryx2_open_or_create.specs.EndsAtOnce.{EndsAtOnce};
 ghost use Rattle.iceoryx2_pattern.specs.OwnAttributes.{defining, requiring};
 ghost use Rattle.iceoryx2_description.specs.Description.{Description};
 ghost use Rattle.iceoryx2_event_builder.specs.Event.{event_adjusted, event_creating, event_meaning, event_opening, event_retried};
-ghost use Rattle.iceoryx2_event_builder.specs.Request.{fresh_builder, with_setting as with_event_setting};
+ghost use Rattle.iceoryx2_event_builder.specs.Builder.{fresh_builder, with_setting as with_event_setting};
 ghost use Rattle.iceoryx2_event_builder.specs.declared.event.demand.EventDemand.{EventDemand};
 ghost use Rattle.iceoryx2_types.specs.Types.{IsCompatible, Message};
 ghost use Rattle.iceoryx2_publish_subscribe_builder.specs.PublishSubscribe.{publish_subscribe_creating, publish_subscribe_opening, publish_subscribe_retried};
 ghost use Rattle.iceoryx2_publish_subscribe_builder.specs.PublishSubscribe.{publish_subscribe_adjusted as raised_publish_subscribe};
 ghost use Rattle.iceoryx2_publish_subscribe_builder.specs.PublishSubscribe.{prepared_meaning as publish_subscribe_meaning, prepared_adjusted as publish_subscribe_adjusted};
-ghost use Rattle.iceoryx2_publish_subscribe_builder.specs.Request.{fresh_builder as fresh_publish_subscribe, with_setting as with_publish_subscribe_setting};
+ghost use Rattle.iceoryx2_publish_subscribe_builder.specs.Builder.{fresh_builder as fresh_publish_subscribe, with_setting as with_publish_subscribe_setting};
 ghost use Rattle.iceoryx2_publish_subscribe_builder.specs.declared.publish_subscribe.demand.PublishSubscribeDemand.{PublishSubscribeDemand};
 ghost use Rattle.iceoryx2_publish_subscribe_builder.specs.declared.publish_subscribe.demand.PreparedDemand.{PreparedDemand as PreparedPublishSubscribe};
-ghost use Rattle.iceoryx2_request_response_builder.specs.Request.{fresh_builder as fresh_request_response, with_setting as with_request_response_setting};
+ghost use Rattle.iceoryx2_request_response_builder.specs.Builder.{fresh_builder as fresh_request_response, with_setting as with_request_response_setting};
 ghost use Rattle.iceoryx2_request_response_builder.specs.RequestResponse.{request_response_creating, request_response_opening, request_response_retried};
 ghost use Rattle.iceoryx2_request_response_builder.specs.RequestResponse.{request_response_adjusted as raised_request_response};
 ghost use Rattle.iceoryx2_request_response_builder.specs.RequestResponse.{prepared_meaning as request_response_meaning, prepared_adjusted as request_response_adjusted};
@@ -48,7 +48,7 @@ pub struct Node<S: Service> {
 }
 
 impl<S: Service> Model for Node<S> {
-    ghost use Rattle.iceoryx2_builder.specs.Request.{NodeFacts};
+    ghost use Rattle.iceoryx2_builder.specs.Builder.{NodeFacts};
 
     ghost Value = { NodeFacts };
 
@@ -109,7 +109,7 @@ pub struct Builder<S: Service> {
 }
 
 impl<S: Service> Model for Builder<S> {
-    ghost use Rattle.iceoryx2_builder.specs.Request.{BuilderFacts};
+    ghost use Rattle.iceoryx2_builder.specs.Builder.{BuilderFacts};
 
     ghost Value = { BuilderFacts };
 
@@ -179,7 +179,7 @@ impl<S: Service> Builder<S> {
 /// another that asks no more accepts too: each setting that it requires is required by the first as well,
 /// with a number at least as great or with the same value, each required pair and key is one of the first
 /// one's, and its messages are compatible to the first one's.
-pub fn laws()
+pub fn laws_of_asking()
     ensures event_setters { AreSetters with_event_setting event_place }
     ensures publish_subscribe_setters { AreSetters with_publish_subscribe_setting publish_subscribe_place }
     ensures request_response_setters { AreSetters with_request_response_setting request_response_place }

@@ -10,14 +10,14 @@ use Rattle.iceoryx2_errors.specs.declared.error.events.EventCreateError.{EventCr
 use Rattle.iceoryx2_open_or_create.specs.BuilderCalls.{BuilderCall, Way}
 use Rattle.iceoryx2_event_builder.specs.declared.event.demand.EventDemand.{EventDemand}
 use Rattle.iceoryx2_event_builder.specs.Event.{event_adjusted, event_meaning, event_retried}
-use Rattle.iceoryx2_event_builder.specs.Request.{EventBuilderState, letter_of_events}
+use Rattle.iceoryx2_event_builder.specs.Builder.{EventBuilderState, prefix_of_events}
 
 -- Its hash is made by this hasher; a create defines the pairs, and an open requires pairs and keys.
 abbrev pub event_call : (hash_of : ℕ → List ℕ → ServiceHash) → EventBuilderState → Way → Requirements
     → Result Span ClockFault → BuilderCall EventDemand ServiceState EventOpenError EventCreateError
 event_call hash_of b way required now = record {
   way = way;
-  caller = record { node = b.node; hash = hash_of letter_of_events b.name; name = b.name; now = now };
+  caller = record { node = b.node; hash = hash_of prefix_of_events b.name; name = b.name; now = now };
   meaning = event_meaning;
   adjusted = event_adjusted;
   retried = event_retried;

@@ -11,7 +11,7 @@ ghost use Rattle.iceoryx2_builder_common.specs.Builders.{IsLawfulBuilder};
 ghost use Rattle.iceoryx2_event_builder.specs.declared.event.demand.EventDemand.{EventDemand};
 ghost use Rattle.iceoryx2_event_builder.specs.Event.{event_creating, event_opening, event_refusal, event_retried};
 ghost use Rattle.iceoryx2_event_builder.specs.EventCalls.{event_call};
-ghost use Rattle.iceoryx2_event_builder.specs.Request.{fresh_builder, with_setting};
+ghost use Rattle.iceoryx2_event_builder.specs.Builder.{fresh_builder, with_setting};
 
 pub mod demand;
 pub mod setting;
@@ -66,7 +66,7 @@ pub struct Builder<S: Service> {
 }
 
 impl<S: Service> Model for Builder<S> {
-    ghost use Rattle.iceoryx2_event_builder.specs.Request.{EventBuilderState};
+    ghost use Rattle.iceoryx2_event_builder.specs.Builder.{EventBuilderState};
 
     ghost Value = { EventBuilderState };
 

@@ -11,7 +11,7 @@ use Rattle.iceoryx2_open_or_create.specs.BuilderCalls.{BuilderCall, Way}
 use Rattle.iceoryx2_publish_subscribe_builder.specs.declared.publish_subscribe.demand.PreparedDemand.{PreparedDemand}
 use Rattle.iceoryx2_publish_subscribe_builder.specs.PublishSubscribe.{prepared_adjusted, prepared_meaning}
 use Rattle.iceoryx2_publish_subscribe_builder.specs.PublishSubscribe.{publish_subscribe_retried}
-use Rattle.iceoryx2_publish_subscribe_builder.specs.Request.{PublishSubscribeBuilderState, letter_of_publish_subscribe}
+use Rattle.iceoryx2_publish_subscribe_builder.specs.Builder.{PublishSubscribeBuilderState, prefix_of_publish_subscribe}
 
 -- Its hash is made by this hasher, and its messages are of these types; a create defines the pairs, and an open requires
 -- pairs and keys. It doesn't ask the clock: its time is zero.
@@ -22,7 +22,7 @@ publish_subscribe_call hash_of b message way required = record {
   way = way;
   caller = record {
     node = b.node;
-    hash = hash_of letter_of_publish_subscribe b.name;
+    hash = hash_of prefix_of_publish_subscribe b.name;
     name = b.name;
     now = Ok zero_span;
   };

@@ -16,8 +16,8 @@ ghost use Rattle.iceoryx2_publish_subscribe_builder.specs.PublishSubscribe.{prep
 ghost use Rattle.iceoryx2_publish_subscribe_builder.specs.PublishSubscribe.{publish_subscribe_refusal};
 ghost use Rattle.iceoryx2_publish_subscribe_builder.specs.PublishSubscribe.{publish_subscribe_retried};
 ghost use Rattle.iceoryx2_publish_subscribe_builder.specs.PublishSubscribeCalls.{publish_subscribe_call};
-ghost use Rattle.iceoryx2_publish_subscribe_builder.specs.Request.{fresh_builder};
-ghost use Rattle.iceoryx2_publish_subscribe_builder.specs.Request.{message_for, with_setting};
+ghost use Rattle.iceoryx2_publish_subscribe_builder.specs.Builder.{fresh_builder};
+ghost use Rattle.iceoryx2_publish_subscribe_builder.specs.Builder.{message_for, with_setting};
 
 pub mod demand;
 pub mod setting;
@@ -88,7 +88,7 @@ pub struct Builder<P, U, S: Service> {
 }
 
 impl<P, U, S: Service> Model for Builder<P, U, S> {
-    ghost use Rattle.iceoryx2_publish_subscribe_builder.specs.Request.{PublishSubscribeBuilderState};
+    ghost use Rattle.iceoryx2_publish_subscribe_builder.specs.Builder.{PublishSubscribeBuilderState};
 
     ghost Value = { PublishSubscribeBuilderState };
 

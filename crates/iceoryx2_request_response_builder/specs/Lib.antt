@@ -1,3 +1,3 @@
-pub mod Request
+pub mod Builder
 pub mod RequestResponse
 pub mod RequestResponseCalls

@@ -10,8 +10,8 @@ use Rattle.iceoryx2_open_or_create.specs.BuilderCalls.{BuilderCall, Way}
 use Rattle.iceoryx2_request_response_builder.specs.declared.request_response.demand.PreparedDemand.{PreparedDemand}
 use Rattle.iceoryx2_request_response_builder.specs.RequestResponse.{prepared_adjusted, prepared_meaning}
 use Rattle.iceoryx2_request_response_builder.specs.RequestResponse.{request_response_retried}
-use Rattle.iceoryx2_request_response_builder.specs.Request.{RequestResponseBuilderState, Messages, asked_with}
-use Rattle.iceoryx2_request_response_builder.specs.Request.{letter_of_request_response}
+use Rattle.iceoryx2_request_response_builder.specs.Builder.{RequestResponseBuilderState, Messages, asked_with}
+use Rattle.iceoryx2_request_response_builder.specs.Builder.{prefix_of_request_response}
 
 -- Its hash is made by this hasher, and its requests and responses are of these types; a create defines the pairs, and an
 -- open requires pairs and keys. It doesn't ask the clock: its time is zero.
@@ -22,7 +22,7 @@ request_response_call hash_of b messages way required = record {
   way = way;
   caller = record {
     node = b.node;
-    hash = hash_of letter_of_request_response b.name;
+    hash = hash_of prefix_of_request_response b.name;
     name = b.name;
     now = Ok zero_span;
   };

@@ -16,8 +16,8 @@ ghost use Rattle.iceoryx2_request_response_builder.specs.RequestResponse.{prepar
 ghost use Rattle.iceoryx2_request_response_builder.specs.RequestResponse.{request_response_refusal};
 ghost use Rattle.iceoryx2_request_response_builder.specs.RequestResponse.{request_response_retried};
 ghost use Rattle.iceoryx2_request_response_builder.specs.RequestResponseCalls.{request_response_call};
-ghost use Rattle.iceoryx2_request_response_builder.specs.Request.{fresh_builder};
-ghost use Rattle.iceoryx2_request_response_builder.specs.Request.{asked_with, messages_for, with_setting};
+ghost use Rattle.iceoryx2_request_response_builder.specs.Builder.{fresh_builder};
+ghost use Rattle.iceoryx2_request_response_builder.specs.Builder.{asked_with, messages_for, with_setting};
 
 pub mod demand;
 pub mod requested;
@@ -89,7 +89,7 @@ pub struct Builder<Q, QU, R, RU, S: Service> {
 }
 
 impl<Q, QU, R, RU, S: Service> Model for Builder<Q, QU, R, RU, S> {
-    ghost use Rattle.iceoryx2_request_response_builder.specs.Request.{RequestResponseBuilderState};
+    ghost use Rattle.iceoryx2_request_response_builder.specs.Builder.{RequestResponseBuilderState};
 
     ghost Value = { RequestResponseBuilderState };
 

@@ -4,7 +4,9 @@ pub mod event;
 pub mod publish_subscribe;
 pub mod request_response;
 
-pub use iceoryx2_builder::builder::{Builder, Node, laws, laws_of_adjusting, laws_of_calls};
+pub use iceoryx2_builder::builder::{
+    Builder, Node, laws_of_adjusting, laws_of_asking, laws_of_calls,
+};
 pub use iceoryx2_builder_common::base::BuilderWithServiceType;
 pub use iceoryx2_errors::error::{ServiceState, equality_of_errors};
 pub use iceoryx2_types::types::{CustomHeaderMarker, CustomKeyMarker, CustomPayloadMarker};

@@ -1,12 +1,12 @@
 -- What the builder calls of all patterns have in common.
 use Rattle.std.proofs.Common.{ℕ, List, Result}
 use Rattle.iceoryx2_description.specs.declared.config.Config.{Config}
-use Rattle.iceoryx2_event_builder.specs.Request.{EventBuilderState}
-use Rattle.iceoryx2_event_builder.specs.Request as event
-use Rattle.iceoryx2_publish_subscribe_builder.specs.Request.{PublishSubscribeBuilderState}
-use Rattle.iceoryx2_publish_subscribe_builder.specs.Request as publish_subscribe
-use Rattle.iceoryx2_request_response_builder.specs.Request.{RequestResponseBuilderState, asked_with}
-use Rattle.iceoryx2_request_response_builder.specs.Request as request_response
+use Rattle.iceoryx2_event_builder.specs.Builder.{EventBuilderState}
+use Rattle.iceoryx2_event_builder.specs.Builder as event
+use Rattle.iceoryx2_publish_subscribe_builder.specs.Builder.{PublishSubscribeBuilderState}
+use Rattle.iceoryx2_publish_subscribe_builder.specs.Builder as publish_subscribe
+use Rattle.iceoryx2_request_response_builder.specs.Builder.{RequestResponseBuilderState, asked_with}
+use Rattle.iceoryx2_request_response_builder.specs.Builder as request_response
 use Rattle.iceoryx2_attribute.specs.Requirements.{Requirements}
 use Rattle.iceoryx2_description.specs.declared.time.ClockFault.{ClockFault}
 use Rattle.iceoryx2_description.specs.Span.{Span}

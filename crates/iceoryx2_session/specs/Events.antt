@@ -12,7 +12,7 @@ use Rattle.iceoryx2_open_or_create.specs.declared.open_or_create.OpenOrCreateRef
 use Rattle.iceoryx2_open_or_create.specs.declared.open_or_create.OpenOrCreateRefusal.TheVariants as rounds
 use Rattle.iceoryx2_event_builder.specs.declared.event.demand.EventDemand.{EventDemand}
 use Rattle.iceoryx2_event_builder.specs.EventCalls.{event_call}
-use Rattle.iceoryx2_event_builder.specs.Request.{EventBuilderState}
+use Rattle.iceoryx2_event_builder.specs.Builder.{EventBuilderState}
 use Rattle.iceoryx2_commands.specs.declared.command.Refusal.{Refusal}
 use Rattle.iceoryx2_commands.specs.declared.command.Refusal.TheVariants as refusal
 use Rattle.iceoryx2_session.specs.PatternCalls.{PatternCall, hash_for, refusal_by}

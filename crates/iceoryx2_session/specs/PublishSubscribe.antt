@@ -10,7 +10,7 @@ use Rattle.iceoryx2_open_or_create.specs.declared.open_or_create.OpenOrCreateRef
 use Rattle.iceoryx2_open_or_create.specs.declared.open_or_create.OpenOrCreateRefusal.TheVariants as rounds
 use Rattle.iceoryx2_publish_subscribe_builder.specs.declared.publish_subscribe.demand.PreparedDemand.{PreparedDemand}
 use Rattle.iceoryx2_publish_subscribe_builder.specs.PublishSubscribeCalls.{publish_subscribe_call}
-use Rattle.iceoryx2_publish_subscribe_builder.specs.Request.{PublishSubscribeBuilderState, message_for}
+use Rattle.iceoryx2_publish_subscribe_builder.specs.Builder.{PublishSubscribeBuilderState, message_for}
 use Rattle.iceoryx2_commands.specs.declared.command.Refusal.{Refusal}
 use Rattle.iceoryx2_commands.specs.declared.command.Refusal.TheVariants as refusal
 use Rattle.iceoryx2_session.specs.Markers.{payload_marker, user_header_marker}

@@ -9,7 +9,7 @@ use Rattle.iceoryx2_open_or_create.specs.declared.open_or_create.OpenOrCreateRef
 use Rattle.iceoryx2_open_or_create.specs.declared.open_or_create.OpenOrCreateRefusal.TheVariants as rounds
 use Rattle.iceoryx2_request_response_builder.specs.declared.request_response.demand.PreparedDemand.{PreparedDemand}
 use Rattle.iceoryx2_request_response_builder.specs.RequestResponseCalls.{request_response_call}
-use Rattle.iceoryx2_request_response_builder.specs.Request.{RequestResponseBuilderState, Messages, messages_for}
+use Rattle.iceoryx2_request_response_builder.specs.Builder.{RequestResponseBuilderState, Messages, messages_for}
 use Rattle.iceoryx2_commands.specs.declared.command.Refusal.{Refusal}
 use Rattle.iceoryx2_commands.specs.declared.command.Refusal.TheVariants as refusal
 use Rattle.iceoryx2_session.specs.Markers.{payload_marker, user_header_marker}

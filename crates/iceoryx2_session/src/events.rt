@@ -1,7 +1,7 @@
 //! Builder calls for services of events.
 
 ghost use Rattle.std.specs.Prelude.{◌≡◌};
-ghost use Rattle.iceoryx2_event_builder.specs.Request as request;
+ghost use Rattle.iceoryx2_event_builder.specs.Builder as request;
 ghost use Rattle.iceoryx2_session.specs.Events.{event_pattern_call};
 ghost use Rattle.iceoryx2_session.specs.PatternCalls.{way_of};
 ghost use Rattle.iceoryx2_session.specs.Sessions.{Builds};

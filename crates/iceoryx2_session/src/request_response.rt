@@ -1,7 +1,7 @@
 //! Builder calls for services of request-response.
 
 ghost use Rattle.std.specs.Prelude.{◌≡◌};
-ghost use Rattle.iceoryx2_request_response_builder.specs.Request as request;
+ghost use Rattle.iceoryx2_request_response_builder.specs.Builder as request;
 ghost use Rattle.iceoryx2_session.specs.RequestResponse.{request_response_pattern_call};
 ghost use Rattle.iceoryx2_session.specs.PatternCalls.{way_of};
 ghost use Rattle.iceoryx2_session.specs.Sessions.{Builds};

@@ -67,11 +67,11 @@ no_span_fault : (s : Span) → IsSpanTerm (codes "fault") s → ⊥
 unfolding has_comma
 no_span_fault s is = absurd (false-true (comma_of_span (codes "fault") s is))
 
-letter_is_no_digit : digit_value 110 < 10 → ⊥
-letter_is_no_digit h = absurd (omega (arith, h))
+n_is_no_digit : digit_value 110 < 10 → ⊥
+n_is_no_digit h = absurd (omega (arith, h))
 
 pub no_natural_none : (n : ℕ) → IsNatural (codes "none") n → ⊥
-no_natural_none n is = letter_is_no_digit is.numeral.1.0
+no_natural_none n is = n_is_no_digit is.numeral.1.0
 
 module _ {A : Type 0} (Says : List ℕ → A → Type 0) (one : (value : List ℕ)
     (a b : A) → Says value a → Says value b → a ≡ b) where

@@ -136,7 +136,7 @@ fn each_law_has_its_path(_rt: HostRuntime) {
     laws::faults::<Table>();
     laws::quiet_laws();
     bytes::laws_of_forms();
-    builder::laws();
+    builder::laws_of_asking();
     builder::laws_of_calls();
     builder::laws_of_adjusting();
     builder::equality_of_errors();

@@ -6,7 +6,7 @@ ghost use Rattle.iceoryx2_builder_common.specs.Rows.{row_clauses};
 ghost use Rattle.std.specs.Option.{option_map};
 ghost use Rattle.iceoryx2_event_builder.specs.Event.{setting_rows, created_deadline, event_refusal};
 ghost use Rattle.iceoryx2_event_builder.specs.Event.{deadline_value as value_of};
-ghost use Rattle.iceoryx2_event_builder.specs.Request.{fresh_demand, demand_with, demanded_deadline};
+ghost use Rattle.iceoryx2_event_builder.specs.Builder.{fresh_demand, demand_with, demanded_deadline};
 
 use crate::event::setting::EventSetter;
 use iceoryx2_builder_common::zeros::raise_zero;

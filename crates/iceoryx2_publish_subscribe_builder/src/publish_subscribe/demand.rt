@@ -4,7 +4,7 @@ ghost use Rattle.std.specs.Prelude.{◌≡◌};
 ghost use Rattle.iceoryx2_pattern.specs.Verdict.{verdict};
 ghost use Rattle.iceoryx2_builder_common.specs.Rows.{row_clauses};
 ghost use Rattle.iceoryx2_publish_subscribe_builder.specs.PublishSubscribe.{publish_subscribe_refusal, setting_rows};
-ghost use Rattle.iceoryx2_publish_subscribe_builder.specs.Request.{fresh_demand};
+ghost use Rattle.iceoryx2_publish_subscribe_builder.specs.Builder.{fresh_demand};
 
 use iceoryx2_builder_common::zeros::raise_zero;
 use iceoryx2_builder_common::{

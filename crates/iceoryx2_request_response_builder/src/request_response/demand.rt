@@ -3,7 +3,7 @@
 ghost use Rattle.std.specs.Prelude.{◌≡◌};
 ghost use Rattle.iceoryx2_pattern.specs.Verdict.{verdict};
 ghost use Rattle.iceoryx2_builder_common.specs.Rows.{row_clauses};
-ghost use Rattle.iceoryx2_request_response_builder.specs.Request.{fresh_demand};
+ghost use Rattle.iceoryx2_request_response_builder.specs.Builder.{fresh_demand};
 ghost use Rattle.iceoryx2_request_response_builder.specs.RequestResponse.{request_response_refusal, setting_rows};
 
 use iceoryx2_builder_common::zeros::raise_zero;

@@ -1,7 +1,7 @@
 //! What a builder of request-response asks of the types of its requests and responses.
 
 ghost use Rattle.std.specs.Prelude.{◌≡◌, IfOk};
-ghost use Rattle.iceoryx2_request_response_builder.specs.Request.{asked_with, messages_for, no_message_types};
+ghost use Rattle.iceoryx2_request_response_builder.specs.Builder.{asked_with, messages_for, no_message_types};
 
 use crate::request_response::demand::{PreparedDemand, RequestResponseDemand};
 use iceoryx2_builder_common::requested::RequestedTypes;

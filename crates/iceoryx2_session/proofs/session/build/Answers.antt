@@ -5,12 +5,12 @@ use Rattle.iceoryx2_world.specs.Tables.{TableState}
 use Rattle.iceoryx2_commands.specs.declared.command.Call.{Call}
 use Rattle.iceoryx2_commands.specs.declared.command.Refusal.{Refusal}
 use Rattle.iceoryx2_commands.specs.declared.command.Settings.{Settings}
-use Rattle.iceoryx2_event_builder.specs.Request as event
-use Rattle.iceoryx2_event_builder.specs.Request.{EventBuilderState}
-use Rattle.iceoryx2_publish_subscribe_builder.specs.Request as publish_subscribe
-use Rattle.iceoryx2_publish_subscribe_builder.specs.Request.{PublishSubscribeBuilderState}
-use Rattle.iceoryx2_request_response_builder.specs.Request as request_response
-use Rattle.iceoryx2_request_response_builder.specs.Request.{RequestResponseBuilderState}
+use Rattle.iceoryx2_event_builder.specs.Builder as event
+use Rattle.iceoryx2_event_builder.specs.Builder.{EventBuilderState}
+use Rattle.iceoryx2_publish_subscribe_builder.specs.Builder as publish_subscribe
+use Rattle.iceoryx2_publish_subscribe_builder.specs.Builder.{PublishSubscribeBuilderState}
+use Rattle.iceoryx2_request_response_builder.specs.Builder as request_response
+use Rattle.iceoryx2_request_response_builder.specs.Builder.{RequestResponseBuilderState}
 use Rattle.iceoryx2_session.specs.Events.{event_pattern_call}
 use Rattle.iceoryx2_session.specs.PatternCalls.{PatternCall, way_of}
 use Rattle.iceoryx2_session.specs.Patterns.{builder_call, call_by}

@@ -17,8 +17,8 @@ pub record EventBuilderState : Type 0 where
   pub demand : EventDemand
 
 -- the prefix of services of events
-abbrev pub letter_of_events : ℕ
-letter_of_events = PREFIX
+abbrev pub prefix_of_events : ℕ
+prefix_of_events = PREFIX
 
 -- a deadline as a builder asks for it: when the service is created is still to come
 abbrev pub demanded_deadline : Span → Deadline
@@ -78,4 +78,4 @@ demand_with d (set.Deadline value) =
 
 -- a builder after one setter
 abbrev pub with_setting : EventBuilderState → EventSetter → EventBuilderState
-with_setting request setting = record request { demand = demand_with request.demand setting }
+with_setting builder setting = record builder { demand = demand_with builder.demand setting }

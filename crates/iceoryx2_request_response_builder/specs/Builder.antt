@@ -20,8 +20,8 @@ pub record RequestResponseBuilderState : Type 0 where
   pub types : RequestedMessages
 
 -- the prefix of services of request-response
-abbrev pub letter_of_request_response : ℕ
-letter_of_request_response = PREFIX
+abbrev pub prefix_of_request_response : ℕ
+prefix_of_request_response = PREFIX
 
 -- the configured settings with nothing marked
 abbrev pub fresh_demand : Settings → RequestResponseDemand

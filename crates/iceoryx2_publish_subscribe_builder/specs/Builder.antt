@@ -18,8 +18,8 @@ pub record PublishSubscribeBuilderState : Type 0 where
   pub types : RequestedTypes
 
 -- the prefix of services of publish-subscribe
-abbrev pub letter_of_publish_subscribe : ℕ
-letter_of_publish_subscribe = PREFIX
+abbrev pub prefix_of_publish_subscribe : ℕ
+prefix_of_publish_subscribe = PREFIX
 
 -- the configured settings with nothing marked
 abbrev pub fresh_demand : Settings → PublishSubscribeDemand
