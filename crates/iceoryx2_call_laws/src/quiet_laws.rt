@@ -83,9 +83,9 @@ pub fn quiet_laws()
 /// What holds of the calls of each pattern over such a table.
 pub fn quiet_calls<D, F: Copy, E: Copy, C: Copy>()
     // Every call of a steady builder over a world that shows the machine is the machine's, whichever it is. An open or
-    // create is its create where there is no service, and else its open: its first round is its last, where the refusals
-    // of that machine are not tried again. A call that prepares its types first may be out of memory there, and then
-    // changes nothing.
+    // create is its create where there is no service, and else its open: its first round is its last, where the
+    // refusals of that machine are not tried again. A call that prepares its types first may be out of memory there,
+    // and then changes nothing.
     ensures call { (c : BuilderCall D F E C) (w v : World) (q : Quiet) (word : List Letter)
         (answer : Result Registered (ErrorBy E C c.way))
         → IsSteadyBy c c.way → Shows w q → Agrees w → IsWordOf c word answer → Run IsOwnPart w word v

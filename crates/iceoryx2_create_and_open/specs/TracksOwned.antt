@@ -71,7 +71,8 @@ module _ (node : ℕ) (hash : ServiceHash) where
   -- is left where that is refused is remembered. A segment of another is removed right after it was found.
   pub data TracksOwned : OwnedTag → OwnedLock → List Letter → OwnedTag → OwnedLock → Type 0 where
     ends : {t : OwnedTag} {k : OwnedLock} → TracksOwned t k [] t k
-    makes_tag : {is_left : Bool} {t : OwnedTag} {k : OwnedLock} {word : List Letter} → TracksOwned OwnsTag NoLock word t k
+    makes_tag : {is_left : Bool} {t : OwnedTag} {k : OwnedLock} {word : List Letter}
+        → TracksOwned OwnsTag NoLock word t k
         → TracksOwned (OwnsNoTag is_left) NoLock (MakeTag node hash (Ok tag.Made) ∷ word) t k
     locks : {s t : OwnedTag} {k : OwnedLock} {word : List Letter} {number : ℕ}
         → TracksOwned s (Locked number false) word t k
@@ -89,7 +90,8 @@ module _ (node : ℕ) (hash : ServiceHash) where
         (answer : Result (Unit {0}) RemoveError) → TracksOwned s (Locked number (is_err answer)) word t k
         → TracksOwned s (WithSegment number) (RemoveSegment node hash answer ∷ word) t k
     unlocks : {s t : OwnedTag} {k : OwnedLock} {word : List Letter} {number : ℕ} {is_segment_left : Bool}
-        (answer : Result (Unit {0}) RemoveError) → TracksOwned s (GivenBack number (is_err answer) is_segment_left) word t k
+        (answer : Result (Unit {0}) RemoveError)
+        → TracksOwned s (GivenBack number (is_err answer) is_segment_left) word t k
         → TracksOwned s (Locked number is_segment_left) (RemoveDescription node hash answer ∷ word) t k
     removes_tag : {t : OwnedTag} {j k : OwnedLock} {word : List Letter}
         (answer : Result (Unit {0}) RemoveError) → IsUnlocked j → TracksOwned (OwnsNoTag (is_err answer)) j word t k
@@ -115,7 +117,8 @@ module _ (node : ℕ) (hash : ServiceHash) where
     pub is_tag_left : Bool
     pub tracks : TracksOwned no_own_tag NoLock word (OwnsNoTag is_tag_left) NoLock
 
-  -- A granted create: it keeps the service of this number and its tag, which may have been there, and gives nothing back.
+  -- A granted create: it keeps the service of this number and its tag, which may have been there. It gives nothing
+  -- back.
   pub record KeepsAll (word : List Letter) (number : ℕ) : Type 0 where
     pub tag : Tag
     pub tracks : TracksOwned no_own_tag NoLock word (with_tag no_own_tag tag) (HasService number)

@@ -225,7 +225,8 @@ impl<S: Service> Builder<S> {
         storage: &mut S::Storage,
         now: Result<Time, ClockFault>,
     ) -> Result<PortFactory<S>, EventCreateError>
-        ensures { Calls S.Storage.step (event_call S.ServiceNameHasher.hash_of self ToCreate (defines specifier.now) now)
+        ensures { Calls S.Storage.step
+            (event_call S.ServiceNameHasher.hash_of self ToCreate (defines specifier.now) now)
             storage.old result storage.new }
     {
         let Builder { base, mut demand } = self;
@@ -239,7 +240,8 @@ impl<S: Service> Builder<S> {
     /// Opens the service, whatever its attributes: `open_with_attributes` of a verifier that
     /// requires none.
     pub fn open(self, storage: &mut S::Storage) -> Result<PortFactory<S>, EventOpenError>
-        ensures { Calls S.Storage.step (event_call S.ServiceNameHasher.hash_of self ToOpen no_requirements (Ok zero_span))
+        ensures { Calls S.Storage.step
+            (event_call S.ServiceNameHasher.hash_of self ToOpen no_requirements (Ok zero_span))
             storage.old result storage.new }
     {
         let verifier = AttributeVerifier::new(self.base.name().allocator());

@@ -1,7 +1,7 @@
 //! What holds of every word of an open or create, whatever the pattern and the storage.
 //!
-//! It may prepare the types of its messages first. One that doesn't goes along a word of its grammar, which is a word of
-//! such a call too.
+//! It may prepare the types of its messages first. One that doesn't goes along a word of its grammar, which is a word
+//! of such a call too.
 
 ghost use Rattle.std.specs.Prelude.{◌≡◌, List, Result, Ok, Err};
 ghost use Rattle.iceoryx2_access.specs.Registered.{Registered};

@@ -42,7 +42,8 @@ fresh_builder node name defaults =
     record { node = node; name = name; demand = fresh_demand defaults; types = no_types }
 
 -- with other settings and marks
-abbrev pub demanding : PublishSubscribeBuilderState → (Settings → Settings) → (Marks → Marks) → PublishSubscribeBuilderState
+abbrev pub demanding : PublishSubscribeBuilderState → (Settings → Settings) → (Marks → Marks)
+    → PublishSubscribeBuilderState
 demanding r settings marks =
     record r { demand = record { settings = settings r.demand.settings; marks = marks r.demand.marks } }
 

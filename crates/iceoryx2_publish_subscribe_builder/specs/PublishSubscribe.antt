@@ -138,7 +138,8 @@ prepared_adjusted asked = record asked { demand = publish_subscribe_adjusted ask
 abbrev pub publish_subscribe_retried : Retried PublishSubscribeOpenError PublishSubscribeCreateError
 publish_subscribe_retried =
     retried_by same_opening.ghosts.eq same_creating.ghosts.eq
-    (open_error_of_refusal open_errors_of_publish_subscribe) (create_error_of_refusal create_errors_of_publish_subscribe)
+    (open_error_of_refusal open_errors_of_publish_subscribe)
+    (create_error_of_refusal create_errors_of_publish_subscribe)
 
 -- what the rounds of an open or create call its error
 abbrev pub publish_subscribe_refusal : PublishSubscribeOpenOrCreateError

@@ -13,8 +13,8 @@ use Rattle.iceoryx2_publish_subscribe_builder.specs.PublishSubscribe.{prepared_a
 use Rattle.iceoryx2_publish_subscribe_builder.specs.PublishSubscribe.{publish_subscribe_retried}
 use Rattle.iceoryx2_publish_subscribe_builder.specs.Builder.{PublishSubscribeBuilderState, prefix_of_publish_subscribe}
 
--- Its hash is made by this hasher, and its messages are of these types; a create defines the pairs, and an open requires
--- pairs and keys. It doesn't ask the clock: its time is zero.
+-- Its hash is made by this hasher, and its messages are of these types. A create defines the pairs, and an open
+-- requires pairs and keys. It doesn't ask the clock: its time is zero.
 abbrev pub publish_subscribe_call : (hash_of : ℕ → List ℕ → ServiceHash) → PublishSubscribeBuilderState → Message → Way
     → Requirements
     → BuilderCall PreparedDemand ServiceAvailabilityState PublishSubscribeOpenError PublishSubscribeCreateError

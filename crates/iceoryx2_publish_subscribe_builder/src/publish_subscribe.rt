@@ -310,7 +310,8 @@ impl<P: ZeroCopySend, U: ZeroCopySend, S: Service> Builder<P, U, S> {
         storage: &mut S::Storage,
     ) -> Result<PortFactory<S, P, U>, PublishSubscribeCreateError>
         ensures { let message = message_for P.detail U.detail self.types in
-            Calls S.Storage.step (publish_subscribe_call S.ServiceNameHasher.hash_of self message ToCreate no_requirements)
+            Calls S.Storage.step
+            (publish_subscribe_call S.ServiceNameHasher.hash_of self message ToCreate no_requirements)
             storage.old result storage.new }
     {
         let specifier = AttributeSpecifier::new(self.base.name().allocator());
@@ -333,7 +334,8 @@ impl<P: ZeroCopySend, U: ZeroCopySend, S: Service> Builder<P, U, S> {
         storage: &mut S::Storage,
     ) -> Result<PortFactory<S, P, U>, PublishSubscribeCreateError>
         ensures { let message = message_for P.detail U.detail self.types in
-            Calls S.Storage.step (publish_subscribe_call S.ServiceNameHasher.hash_of self message ToCreate (defines specifier.now))
+            Calls S.Storage.step
+            (publish_subscribe_call S.ServiceNameHasher.hash_of self message ToCreate (defines specifier.now))
             storage.old result storage.new }
     {
         let Ok((base, mut asked)) = self.into_prepared() else {
@@ -354,7 +356,8 @@ impl<P: ZeroCopySend, U: ZeroCopySend, S: Service> Builder<P, U, S> {
         storage: &mut S::Storage,
     ) -> Result<PortFactory<S, P, U>, PublishSubscribeOpenError>
         ensures { let message = message_for P.detail U.detail self.types in
-            Calls S.Storage.step (publish_subscribe_call S.ServiceNameHasher.hash_of self message ToOpen no_requirements)
+            Calls S.Storage.step
+            (publish_subscribe_call S.ServiceNameHasher.hash_of self message ToOpen no_requirements)
             storage.old result storage.new }
     {
         let verifier = AttributeVerifier::new(self.base.name().allocator());
@@ -397,7 +400,8 @@ impl<P: ZeroCopySend, U: ZeroCopySend, S: Service> Builder<P, U, S> {
         storage: &mut S::Storage,
     ) -> Result<PortFactory<S, P, U>, PublishSubscribeOpenOrCreateError>
         ensures { let message = message_for P.detail U.detail self.types in
-            Calls S.Storage.step (publish_subscribe_call S.ServiceNameHasher.hash_of self message ToOpenOrCreate no_requirements)
+            Calls S.Storage.step
+            (publish_subscribe_call S.ServiceNameHasher.hash_of self message ToOpenOrCreate no_requirements)
             storage.old (map_err publish_subscribe_refusal result) storage.new }
     {
         let verifier = AttributeVerifier::new(self.base.name().allocator());
@@ -421,7 +425,8 @@ impl<P: ZeroCopySend, U: ZeroCopySend, S: Service> Builder<P, U, S> {
         storage: &mut S::Storage,
     ) -> Result<PortFactory<S, P, U>, PublishSubscribeOpenOrCreateError>
         ensures { let message = message_for P.detail U.detail self.types in
-            Calls S.Storage.step (publish_subscribe_call S.ServiceNameHasher.hash_of self message ToOpenOrCreate verifier.now)
+            Calls S.Storage.step
+            (publish_subscribe_call S.ServiceNameHasher.hash_of self message ToOpenOrCreate verifier.now)
             storage.old (map_err publish_subscribe_refusal result) storage.new }
     {
         let Ok((base, mut asked)) = self.into_prepared() else {

@@ -51,7 +51,8 @@ fresh_builder node name defaults =
     record { node = node; name = name; demand = fresh_demand defaults; types = no_message_types }
 
 -- with other settings and marks
-abbrev pub demanding : RequestResponseBuilderState → (Settings → Settings) → (Marks → Marks) → RequestResponseBuilderState
+abbrev pub demanding : RequestResponseBuilderState → (Settings → Settings) → (Marks → Marks)
+    → RequestResponseBuilderState
 demanding r settings marks =
     record r { demand = record { settings = settings r.demand.settings; marks = marks r.demand.marks } }
 

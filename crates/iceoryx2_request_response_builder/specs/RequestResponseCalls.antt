@@ -13,8 +13,8 @@ use Rattle.iceoryx2_request_response_builder.specs.RequestResponse.{request_resp
 use Rattle.iceoryx2_request_response_builder.specs.Builder.{RequestResponseBuilderState, Messages, asked_with}
 use Rattle.iceoryx2_request_response_builder.specs.Builder.{prefix_of_request_response}
 
--- Its hash is made by this hasher, and its requests and responses are of these types; a create defines the pairs, and an
--- open requires pairs and keys. It doesn't ask the clock: its time is zero.
+-- Its hash is made by this hasher, and its requests and responses are of these types. A create defines the pairs, and
+-- an open requires pairs and keys. It doesn't ask the clock: its time is zero.
 abbrev pub request_response_call : (hash_of : ℕ → List ℕ → ServiceHash) → RequestResponseBuilderState → Messages → Way
     → Requirements
     → BuilderCall PreparedDemand ServiceAvailabilityState RequestResponseOpenError RequestResponseCreateError

@@ -378,7 +378,8 @@ impl<Q: ZeroCopySend, QU: ZeroCopySend, R: ZeroCopySend, RU: ZeroCopySend, S: Se
         storage: &mut S::Storage,
     ) -> Result<PortFactory<S, Q, QU, R, RU>, RequestResponseCreateError>
         ensures { let messages = messages_for Q.detail QU.detail R.detail RU.detail self.types in
-            Calls S.Storage.step (request_response_call S.ServiceNameHasher.hash_of self messages ToCreate no_requirements)
+            Calls S.Storage.step
+            (request_response_call S.ServiceNameHasher.hash_of self messages ToCreate no_requirements)
             storage.old result storage.new }
     {
         let specifier = AttributeSpecifier::new(self.base.name().allocator());
@@ -400,7 +401,8 @@ impl<Q: ZeroCopySend, QU: ZeroCopySend, R: ZeroCopySend, RU: ZeroCopySend, S: Se
         storage: &mut S::Storage,
     ) -> Result<PortFactory<S, Q, QU, R, RU>, RequestResponseCreateError>
         ensures { let messages = messages_for Q.detail QU.detail R.detail RU.detail self.types in
-            Calls S.Storage.step (request_response_call S.ServiceNameHasher.hash_of self messages ToCreate (defines specifier.now))
+            Calls S.Storage.step
+            (request_response_call S.ServiceNameHasher.hash_of self messages ToCreate (defines specifier.now))
             storage.old result storage.new }
     {
         let Ok((base, mut asked)) = self.into_prepared() else {
@@ -421,7 +423,8 @@ impl<Q: ZeroCopySend, QU: ZeroCopySend, R: ZeroCopySend, RU: ZeroCopySend, S: Se
         storage: &mut S::Storage,
     ) -> Result<PortFactory<S, Q, QU, R, RU>, RequestResponseOpenError>
         ensures { let messages = messages_for Q.detail QU.detail R.detail RU.detail self.types in
-            Calls S.Storage.step (request_response_call S.ServiceNameHasher.hash_of self messages ToOpen no_requirements)
+            Calls S.Storage.step
+            (request_response_call S.ServiceNameHasher.hash_of self messages ToOpen no_requirements)
             storage.old result storage.new }
     {
         let verifier = AttributeVerifier::new(self.base.name().allocator());
@@ -465,7 +468,8 @@ impl<Q: ZeroCopySend, QU: ZeroCopySend, R: ZeroCopySend, RU: ZeroCopySend, S: Se
         storage: &mut S::Storage,
     ) -> Result<PortFactory<S, Q, QU, R, RU>, RequestResponseOpenOrCreateError>
         ensures { let messages = messages_for Q.detail QU.detail R.detail RU.detail self.types in
-            Calls S.Storage.step (request_response_call S.ServiceNameHasher.hash_of self messages ToOpenOrCreate no_requirements)
+            Calls S.Storage.step
+            (request_response_call S.ServiceNameHasher.hash_of self messages ToOpenOrCreate no_requirements)
             storage.old (map_err request_response_refusal result) storage.new }
     {
         let verifier = AttributeVerifier::new(self.base.name().allocator());
@@ -489,7 +493,8 @@ impl<Q: ZeroCopySend, QU: ZeroCopySend, R: ZeroCopySend, RU: ZeroCopySend, S: Se
         storage: &mut S::Storage,
     ) -> Result<PortFactory<S, Q, QU, R, RU>, RequestResponseOpenOrCreateError>
         ensures { let messages = messages_for Q.detail QU.detail R.detail RU.detail self.types in
-            Calls S.Storage.step (request_response_call S.ServiceNameHasher.hash_of self messages ToOpenOrCreate verifier.now)
+            Calls S.Storage.step
+            (request_response_call S.ServiceNameHasher.hash_of self messages ToOpenOrCreate verifier.now)
             storage.old (map_err request_response_refusal result) storage.new }
     {
         let Ok((base, mut asked)) = self.into_prepared() else {

@@ -21,8 +21,10 @@ abbrev pub named_message : PublishSubscribeBuilderState → Message
 named_message b = message_for payload_marker user_header_marker b.types
 
 -- how the refusals of the rounds are carried
-abbrev pub publish_subscribe_rounds : OpenOrCreateRefusal PublishSubscribeOpenError PublishSubscribeCreateError → Refusal
-publish_subscribe_rounds (rounds.Open error) = refusal.PublishSubscribeOpenOrCreate (either.PublishSubscribeOpenError error)
+abbrev pub publish_subscribe_rounds
+    : OpenOrCreateRefusal PublishSubscribeOpenError PublishSubscribeCreateError → Refusal
+publish_subscribe_rounds (rounds.Open error) =
+    refusal.PublishSubscribeOpenOrCreate (either.PublishSubscribeOpenError error)
 publish_subscribe_rounds (rounds.Create error) =
     refusal.PublishSubscribeOpenOrCreate (either.PublishSubscribeCreateError error)
 publish_subscribe_rounds rounds.SystemInFlux = refusal.PublishSubscribeOpenOrCreate either.SystemInFlux

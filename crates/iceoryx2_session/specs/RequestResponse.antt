@@ -20,8 +20,10 @@ abbrev pub named_messages : RequestResponseBuilderState → Messages
 named_messages b = messages_for payload_marker user_header_marker payload_marker user_header_marker b.types
 
 -- how the refusals of the rounds are carried
-abbrev pub request_response_rounds : OpenOrCreateRefusal RequestResponseOpenError RequestResponseCreateError → Refusal
-request_response_rounds (rounds.Open error) = refusal.RequestResponseOpenOrCreate (either.RequestResponseOpenError error)
+abbrev pub request_response_rounds
+    : OpenOrCreateRefusal RequestResponseOpenError RequestResponseCreateError → Refusal
+request_response_rounds (rounds.Open error) =
+    refusal.RequestResponseOpenOrCreate (either.RequestResponseOpenError error)
 request_response_rounds (rounds.Create error) =
     refusal.RequestResponseOpenOrCreate (either.RequestResponseCreateError error)
 request_response_rounds rounds.SystemInFlux = refusal.RequestResponseOpenOrCreate either.SystemInFlux
