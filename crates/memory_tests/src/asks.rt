@@ -58,7 +58,7 @@ pub fn told_by((_, by, word): Said) -> Told {
 }
 
 /// What a call answers. What it gives is let go, and its ticket stays.
-fn told(called: Called) -> Told {
+fn told_of(called: Called) -> Told {
     match called {
         Ok(registration) => {
             registration.abandon();
@@ -86,7 +86,7 @@ pub fn create<A: Asks>(
     specifier: Option<&AttributeSpecifier>,
     storage: &mut Counted,
 ) -> Told {
-    told(builder.call(Ask::Create(specifier), Ok(Time::default()), storage))
+    told_of(builder.call(Ask::Create(specifier), Ok(Time::default()), storage))
 }
 
 /// What its open answers.
@@ -95,7 +95,7 @@ pub fn open<A: Asks>(
     verifier: Option<&AttributeVerifier>,
     storage: &mut Counted,
 ) -> Told {
-    told(builder.call(Ask::Open(verifier), Ok(Time::default()), storage))
+    told_of(builder.call(Ask::Open(verifier), Ok(Time::default()), storage))
 }
 
 /// What its open or create answers.
@@ -104,7 +104,7 @@ pub fn open_or_create<A: Asks>(
     verifier: Option<&AttributeVerifier>,
     storage: &mut Counted,
 ) -> Told {
-    told(builder.call(Ask::OpenOrCreate(verifier), Ok(Time::default()), storage))
+    told_of(builder.call(Ask::OpenOrCreate(verifier), Ok(Time::default()), storage))
 }
 
 /// Where a builder begins.
