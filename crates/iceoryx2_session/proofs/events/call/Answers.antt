@@ -1,4 +1,4 @@
-use Rattle.std.proofs.Common.{◌≡◌, Err, Ok, ap, refl, sym}
+use Rattle.std.proofs.Common.{◌≡◌, Err, Ok, ap, refl, rules, sym}
 use Rattle.iceoryx2_session.proofs.events.call.Goals as goal
 use Rattle.iceoryx2_errors.specs.declared.error.events.EventOpenOrCreateError.{EventOpenOrCreateError}
 use Rattle.iceoryx2_errors.specs.declared.error.events.EventOpenOrCreateError.TheVariants as either
@@ -12,21 +12,12 @@ carried (either.EventOpenError error) = refl
 carried (either.EventCreateError error) = refl
 carried either.SystemInFlux = refl
 
+-- A create's answers name no call, so that a body without it is refused on what it answers.
 pub returns-in-Ok : goal.returns-in-Ok
-returns-in-Ok c =
-    rw c.in-Create.is (
-      Ok c.in-Ok.factory,
-      ap Ok c.into_registration.ensures.value,
-      rw (c.with_settings-builder.ensures, c.from-specifier.ensures, c.into_required_attributes.ensures, c.in-Ok.is) at c.create_with_attributes.ensures,
-    )
+returns-in-Ok c = rw c.in-Create.is (Ok c.in-Ok.factory, search rules, search rules)
 
 pub returns-in-Create : goal.returns-in-Create
-returns-in-Create c =
-    rw c.in-Create.is (
-      Err c.in-Err.error,
-      refl,
-      rw (c.with_settings-builder.ensures, c.from-specifier.ensures, c.into_required_attributes.ensures, c.in-Err.is) at c.create_with_attributes.ensures,
-    )
+returns-in-Create c = rw c.in-Create.is (Err c.in-Err.error, refl, search rules)
 
 pub returns-in-Ok-open_with_attributes : goal.returns-in-Ok-open_with_attributes
 returns-in-Ok-open_with_attributes c =
