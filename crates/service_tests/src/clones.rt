@@ -3,7 +3,7 @@
 use crate::publish_subscribe::support as subscribe;
 use crate::request_response::support as respond;
 use crate::storages::support::events;
-use crate::support::{assert_same, defaults, drop_table, table_from};
+use crate::support::{DEFAULTS, assert_same, drop_table, table_from};
 use iceoryx2_builder::builder::event::Builder;
 use iceoryx2_description::event::{EventId, StaticConfig};
 use iceoryx2_description::time::Time;
@@ -68,7 +68,7 @@ fn of_events(
 
 /// What each of them gives.
 fn settings() -> StaticConfig {
-    let mut settings = defaults();
+    let mut settings = DEFAULTS;
     settings.max_nodes = 5;
     settings.notifier_dead_event = Some(EventId::new(3));
     settings

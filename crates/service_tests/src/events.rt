@@ -52,7 +52,7 @@ fn created_for_none(rt: &impl Abort, alloc: Global) -> ((u64, u64, bool, bool), 
 
 #[test]
 fn a_created_service_raises_zero_notifiers_to_one(rt: HostRuntime) {
-    let mut wanted = defaults();
+    let mut wanted = DEFAULTS;
     wanted.max_notifiers = 1;
     assert_same(
         &rt,
@@ -245,7 +245,7 @@ fn created_by_it(rt: &impl Abort, alloc: Global) -> (u64, StaticConfig) {
 
 #[test]
 fn a_node_tells_what_it_was_made_of(rt: HostRuntime) {
-    let mut wanted = defaults();
+    let mut wanted = DEFAULTS;
     wanted.max_nodes = 5;
     wanted.notifier_created_event = Some(EventId::new(9));
     let found = (node_of(3, for_five_nodes()), created_by_it(&rt, rt.alloc()));

@@ -52,7 +52,7 @@ fn longest_name(rt: &impl Abort, alloc: Global) -> String {
 fn a_name_in_several_scripts_is_shared(rt: HostRuntime) {
     let text = "Straße/служба/サービス/שירות/🛰";
     let found = share(&rt, rt.alloc(), Config::default(), text, Time::default());
-    assert_same(&rt, found, (defaults(), true, [true, true]));
+    assert_same(&rt, found, (DEFAULTS, true, [true, true]));
 }
 
 /// A configuration with a deadline of 2 seconds and 5 nanoseconds, and three events.
@@ -69,7 +69,7 @@ fn with_every_option() -> Config {
 fn the_longest_description_is_read_by_another_node(rt: HostRuntime) {
     let deadline = deadline(&rt, (2, 5), (7, 9));
     let now = deadline.creation_time;
-    let mut settings = defaults();
+    let mut settings = DEFAULTS;
     settings.notifier_created_event = Some(EventId::new(u64::MAX));
     settings.notifier_dropped_event = Some(EventId::new(1 << 40));
     settings.notifier_dead_event = Some(EventId::new(7));

@@ -2,7 +2,7 @@
 //! those that no other test takes.
 
 use crate::support::{
-    assert_same, closed, defaults, drop_table, granted, name, push, settings, why,
+    DEFAULTS, assert_same, closed, drop_table, granted, name, push, settings, why,
 };
 use iceoryx2_service::attribute::{
     AttributeError, AttributeSet, AttributeSpecifier, AttributeVerifier,
@@ -159,7 +159,7 @@ fn length_of_form(rt: &impl Abort, alloc: Global) -> usize {
         ServiceHash([17; 20]),
         name(rt, alloc, "a"),
         AttributeSet::new(alloc),
-        MessagingPattern::Event(defaults()),
+        MessagingPattern::Event(DEFAULTS),
     );
     granted(rt, bytes::encode(alloc, &description)).len()
 }

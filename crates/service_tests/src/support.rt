@@ -26,9 +26,16 @@ use test_support::{calls, listing};
 pub type Pairs = &'static [(&'static str, &'static str)];
 
 /// What is published by default.
-pub fn defaults() -> StaticConfig {
-    test_support::settings::events(test_support::settings::EVENTS)
-}
+pub const DEFAULTS: StaticConfig = StaticConfig {
+    max_notifiers: 16,
+    max_listeners: 16,
+    event_id_max_value: 255,
+    max_nodes: 36,
+    notifier_created_event: None,
+    notifier_dropped_event: None,
+    notifier_dead_event: None,
+    deadline: None,
+};
 
 /// Ends a test that finds another value than it wants. Only here is a value compared and printed, since
 /// a function that does so takes long to prove.

@@ -119,11 +119,11 @@ const REQUEST_RESPONSE_CREATES: Named<
 };
 
 /// How many texts these values have, by themselves and in an open or create.
-fn assert_named<E: Copy + Display + Drop, R: Copy + Display + Drop>(
+fn assert_named<'name, E: Copy + Display + Drop, R: Copy + Display + Drop>(
     rt: &impl Abort,
     alloc: Global,
-    (rounds, error): (&str, &str),
-    values: &[(E, R, &str)],
+    (rounds, error): (&'name str, &'name str),
+    values: &[(E, R, &'name str)],
 ) -> usize {
     for &(value, inner, name) in values {
         assert_text(rt, alloc, &value, &[error, "::", name]);
