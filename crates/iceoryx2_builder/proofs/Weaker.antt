@@ -47,7 +47,7 @@ fewer_clauses e f required other ps weaker stronger some settings h =
     ∙ join (fewer_attributes e f required other ps some parts.0) (settings parts.1)
 
 -- what one open takes, another takes that asks no more
-pub accepts_less : {F E C : Type 0} (weaker stronger : Meaning F E C) (some all : Requirements) (d : Description)
+pub accepts_less : {E C : Type 0} (weaker stronger : Meaning E C) (some all : Requirements) (d : Description)
     → AreSomeOf some all → (stronger.misfit d ≡ None → weaker.misfit d ≡ None)
     → (verdict (stronger.requirement d) ≡ Ok tt → verdict (weaker.requirement d) ≡ Ok tt)
     → Accepts (requiring all stronger) d → Accepts (requiring some weaker) d

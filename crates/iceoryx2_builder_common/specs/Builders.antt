@@ -2,17 +2,13 @@
 use Rattle.std.specs.Prelude.{List}
 use Rattle.iceoryx2_attribute.specs.Attributes.{Pair}
 use Rattle.iceoryx2_attribute.specs.Requirements.{Requirements, no_requirements}
-use Rattle.iceoryx2_pattern.specs.Meaning.{Meaning}
-use Rattle.iceoryx2_pattern.specs.Regular.{IsRegular, TakesNodes}
-use Rattle.iceoryx2_create_and_open.specs.Caller.{Caller}
+use Rattle.iceoryx2_pattern.specs.Meaning.{Meaning, TakesNodes}
+use Rattle.iceoryx2_create_and_open.specs.declared.caller.Caller.{Caller}
 use Rattle.iceoryx2_create_and_open.specs.OwnSettings.{AcceptsOwn}
 
--- What a builder's create and open mean, with the attributes that they define and require: they name
--- what every pattern has in the same way, a create publishes for one node or more, and the builder
--- takes what it created, if it requires no attributes.
-pub record IsLawfulBuilder {F E C : Type 0}
-    (creating : List Pair → Meaning F E C) (opening : Requirements → Meaning F E C) : Type 0 where
-  pub creating_is_regular : (given : List Pair) → IsRegular (creating given)
-  pub opening_is_regular : (required : Requirements) → IsRegular (opening required)
+-- What a builder's create and open mean, with the attributes that they define and require: a create publishes for one
+-- node or more, and the builder takes what it created, if it requires no attributes.
+pub record IsLawfulBuilder {E C : Type 0}
+    (creating : List Pair → Meaning E C) (opening : Requirements → Meaning E C) : Type 0 where
   pub takes_nodes : (given : List Pair) → TakesNodes (creating given)
   pub accepts_own : (given : List Pair) (caller : Caller) → AcceptsOwn (creating given) (opening no_requirements) caller

@@ -13,6 +13,9 @@ open_error_of_refusal errors open_refusal.InternalFailure = errors.internal_fail
 open_error_of_refusal errors open_refusal.ExceedsMaxNumberOfNodes = errors.exceeds_max_number_of_nodes
 open_error_of_refusal errors open_refusal.IsMarkedForDestruction = errors.is_marked_for_destruction
 open_error_of_refusal errors open_refusal.OutOfMemory = errors.out_of_memory
+open_error_of_refusal errors open_refusal.HangsInCreation = errors.hangs_in_creation
+open_error_of_refusal errors open_refusal.IncompatibleMessagingPattern = errors.incompatible_messaging_pattern
+open_error_of_refusal errors open_refusal.InsufficientPermissions = errors.insufficient_permissions
 
 abbrev pub create_error_of_refusal : {C : Type 0} → CreateErrors C → CreateRefusal → C
 create_error_of_refusal errors create_refusal.ServiceInCorruptedState = errors.service_in_corrupted_state
@@ -22,3 +25,4 @@ create_error_of_refusal errors create_refusal.IsBeingCreatedByAnotherInstance =
 create_error_of_refusal errors create_refusal.AlreadyExists = errors.already_exists
 create_error_of_refusal errors create_refusal.InsufficientPermissions = errors.insufficient_permissions
 create_error_of_refusal errors create_refusal.OutOfMemory = errors.out_of_memory
+create_error_of_refusal errors create_refusal.HangsInCreation = errors.hangs_in_creation

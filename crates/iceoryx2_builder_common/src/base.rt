@@ -1,9 +1,12 @@
 //! What a builder has once its pattern is chosen.
 
 ghost use Rattle.std.specs.Prelude.{◌≡◌};
+ghost use Rattle.iceoryx2_builder_common.specs.Facts.{caller_of};
 
 use iceoryx2_access::storage::{Service, ServiceNameHasher};
-use iceoryx2_description::description::{ServiceHash, ServiceName};
+use iceoryx2_create_and_open::caller::Caller;
+use iceoryx2_description::description::ServiceName;
+use iceoryx2_description::time::{ClockFault, Time};
 use std::alloc::AllocError;
 use std::marker::{Model, PhantomData};
 
@@ -59,13 +62,6 @@ impl<S: Service> BuilderWithServiceType<S> {
         }
     }
 
-    /// The node that creates or opens the service.
-    pub fn node(&self) -> u64
-        ensures { result ≡ self.now.node }
-    {
-        self.node
-    }
-
     /// The service's name.
     pub fn name(&self) -> &ServiceName
         ensures { result.now ≡ self.now.name }
@@ -73,10 +69,21 @@ impl<S: Service> BuilderWithServiceType<S> {
         &self.name
     }
 
-    /// The hash of the service of this name, of the pattern with this prefix.
-    pub fn hash(&self, prefix: u8) -> ServiceHash
-        ensures { result ≡ S.ServiceNameHasher.hash_of prefix self.now.name }
+    /// The node as the caller for the service of this name, of the pattern with this prefix.
+    pub fn into_caller(self, prefix: u8, clock: Result<Time, ClockFault>) -> Caller
+        ensures { result ≡ caller_of S.ServiceNameHasher.hash_of prefix self clock }
     {
-        S::ServiceNameHasher::hash(prefix, &self.name)
+        let BuilderWithServiceType {
+            node,
+            name,
+            service: _,
+        } = self;
+        let hash = S::ServiceNameHasher::hash(prefix, &name);
+        Caller {
+            node,
+            hash,
+            name,
+            clock,
+        }
     }
 }

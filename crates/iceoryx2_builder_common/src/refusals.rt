@@ -12,6 +12,9 @@ macro_rules! open_error_of_refusal {
             OpenRefusal::ExceedsMaxNumberOfNodes => $error::ExceedsMaxNumberOfNodes,
             OpenRefusal::IsMarkedForDestruction => $error::IsMarkedForDestruction,
             OpenRefusal::OutOfMemory => $error::OutOfMemory,
+            OpenRefusal::HangsInCreation => $error::HangsInCreation,
+            OpenRefusal::IncompatibleMessagingPattern => $error::IncompatibleMessagingPattern,
+            OpenRefusal::InsufficientPermissions => $error::InsufficientPermissions,
         }
     };
 }
@@ -29,6 +32,7 @@ macro_rules! create_error_of_refusal {
             CreateRefusal::AlreadyExists => $error::AlreadyExists,
             CreateRefusal::InsufficientPermissions => $error::InsufficientPermissions,
             CreateRefusal::OutOfMemory => $error::OutOfMemory,
+            CreateRefusal::HangsInCreation => $error::HangsInCreation,
         }
     };
 }

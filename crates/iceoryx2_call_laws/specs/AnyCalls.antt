@@ -8,7 +8,7 @@ use Rattle.iceoryx2_open_or_create.specs.Adjusting.{Accepts, OnlyRaises}
 use Rattle.iceoryx2_open_or_create.specs.BuilderCalls.{BuilderCall, Way, ToCreate, ToOpen, ToOpenOrCreate}
 use Rattle.iceoryx2_open_or_create.specs.BuilderCalls.{creating, opening, limits_of}
 
-module _ {D F E C : Type 0} (c : BuilderCall D F E C) where
+module _ {D E C : Type 0} (c : BuilderCall D E C) where
   -- The description of the call's hash that meets its requirement,
   pub record Meets (d : Description) : Type 0 where
     pub hash : d.hash ≡ c.caller.hash

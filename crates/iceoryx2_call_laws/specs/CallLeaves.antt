@@ -18,7 +18,7 @@ pub record LeavesAtMostTag (node : ℕ) (hash : ServiceHash) (w : World) (word :
   pub leaves : Leaves node hash gives_back.is_tag_left NoLock w v
 
 -- and an open or create so round by round.
-abbrev pub LeavesBy : {D F E C : Type 0} → BuilderCall D F E C → Way → World → List Letter → World → Type 0
+abbrev pub LeavesBy : {D E C : Type 0} → BuilderCall D E C → Way → World → List Letter → World → Type 0
 LeavesBy c ToCreate w word v = LeavesOfCreate c.caller.node c.caller.hash w word v
 LeavesBy c ToOpen w word v = LeavesAtMostTag c.caller.node c.caller.hash w word v
 LeavesBy c ToOpenOrCreate w word v = LeavesByRounds c.caller.node c.caller.hash w v word v

@@ -23,7 +23,7 @@ pub record IsOpen (w : World) (f : Registered) : Type 0 where
   pub among : IsSegmentOf f.description f.number (λ p. phase_of w p f.description.hash) stands.segment.segment
 
 module _ {S : Type 0} (step : S → Letter → S → Type 0) (world : S → World)
-    {D F E C : Type 0} (c : BuilderCall D F E C) where
+    {D E C : Type 0} (c : BuilderCall D E C) where
   -- The factory with which a call from s to t answered Ok.
   pub record IsGiven (s t : S) (r : Registered) : Type 0 where
     -- of the caller and the service that it named
@@ -51,7 +51,7 @@ module _ {S : Type 0} (step : S → Letter → S → Type 0) (world : S → Worl
     pub agrees : Agrees (world t)
 
 module _ {S : Type 0} (step : S → Letter → S → Type 0) (world : S → World)
-    {D F E C : Type 0} (c : BuilderCall D F E C) (f : Registered) where
+    {D E C : Type 0} (c : BuilderCall D E C) (f : Registered) where
   -- The call has answered Ok with this factory, over a world that agreed, and since then no release of its ticket was
   -- granted, whatever else reached the storage.
   pub data IsOpenSince : S → Type 0 where
@@ -60,7 +60,7 @@ module _ {S : Type 0} (step : S → Letter → S → Type 0) (world : S → Worl
     spared : {letter : Letter} {s t : S} → IsOpenSince s → Spares f letter → step s letter t → IsOpenSince t
 
 -- The factory is open, with what the call that gave it asked.
-pub record IsOpenAsAsked {D F E C : Type 0} (c : BuilderCall D F E C) (w : World) (f : Registered) : Type 0 where
+pub record IsOpenAsAsked {D E C : Type 0} (c : BuilderCall D E C) (w : World) (f : Registered) : Type 0 where
   pub is_open : IsOpen w f
   pub node : f.node ≡ c.caller.node
   pub hash : f.description.hash ≡ c.caller.hash

@@ -4,12 +4,12 @@ use Rattle.iceoryx2_access.specs.Registered.{Registered}
 use Rattle.iceoryx2_world.specs.Steps.{last_number}
 use Rattle.iceoryx2_pattern.specs.declared.pattern.CreateRefusal.TheVariants.{InternalFailure, OutOfMemory}
 use Rattle.iceoryx2_pattern.specs.Meaning.{Meaning}
-use Rattle.iceoryx2_create_and_open.specs.Caller.{Caller}
+use Rattle.iceoryx2_create_and_open.specs.declared.caller.Caller.{Caller}
 use Rattle.iceoryx2_create_and_open.specs.Creates.{clock_stops, description_of}
 
-module _ {F E C : Type 0} (m : Meaning F E C) (caller : Caller) (counter : ℕ) where
+module _ {E C : Type 0} (m : Meaning E C) (caller : Caller) (counter : ℕ) where
   abbrev stops : Bool
-  stops = clock_stops m.needs_clock caller.now
+  stops = clock_stops m.needs_clock caller.clock
 
   -- Ok with the next number, or one of four things is in the way.
   pub data AnswersOverNoRow : Result Registered C → Type 0 where

@@ -11,7 +11,7 @@ use Rattle.iceoryx2_pattern.specs.declared.pattern.OpenRefusal.TheVariants as op
 use Rattle.iceoryx2_pattern.specs.Meaning.{Meaning}
 use Rattle.iceoryx2_pattern.specs.Verdict.{verdict}
 use Rattle.iceoryx2_access.specs.Registered.{Registered}
-use Rattle.iceoryx2_create_and_open.specs.Caller.{Caller}
+use Rattle.iceoryx2_create_and_open.specs.declared.caller.Caller.{Caller}
 use Rattle.iceoryx2_create_and_open.specs.Creates.{clock_stops, description_of}
 use Rattle.iceoryx2_call_laws.specs.Quiet.{NodeCounts, QuietService, Quiet, service_at, times_counted}
 
@@ -70,28 +70,28 @@ abbrev pub with_created : Quiet → ℕ → ServiceHash → Description → Quie
 with_created q node hash d = spend (with_service q hash (Some (created_by node d q.counter)))
 
 -- Create.
-module _ {F E C : Type 0} (m : Meaning F E C) (q : Quiet) (caller : Caller) where
+module _ {E C : Type 0} (m : Meaning E C) (q : Quiet) (caller : Caller) where
   pub data Creates : Result Registered C → Quiet → Type 0 where
     forbidden : {error : C} → m.history_refusal ≡ Some error → Creates (Err error) q
     exists : (x : QuietService) → m.history_refusal ≡ None → service_at q caller.hash ≡ Some x
         → Creates (Err (m.create_refusal create_refusal.AlreadyExists)) q
     no_time : m.history_refusal ≡ None → service_at q caller.hash ≡ None
-        → clock_stops m.needs_clock caller.now ≡ true
+        → clock_stops m.needs_clock caller.clock ≡ true
         → Creates (Err (m.create_refusal create_refusal.InternalFailure)) q
     no_number : m.history_refusal ≡ None → service_at q caller.hash ≡ None
-        → clock_stops m.needs_clock caller.now ≡ false → HasNoNumber q
+        → clock_stops m.needs_clock caller.clock ≡ false → HasNoNumber q
         → Creates (Err (m.create_refusal create_refusal.InternalFailure)) q
     created : m.history_refusal ≡ None → service_at q caller.hash ≡ None
-        → clock_stops m.needs_clock caller.now ≡ false → HasNumber q
+        → clock_stops m.needs_clock caller.clock ≡ false → HasNumber q
         → Creates (Ok (factory_created q caller.node (description_of m caller)))
         (with_created q caller.node caller.hash (description_of m caller))
     -- memory may run out in place of each answer from the look on; after the lock its number is spent
     no_memory : m.history_refusal ≡ None → Creates (Err (m.create_refusal create_refusal.OutOfMemory)) q
     no_memory_locked : m.history_refusal ≡ None → service_at q caller.hash ≡ None
-        → clock_stops m.needs_clock caller.now ≡ false → HasNumber q
+        → clock_stops m.needs_clock caller.clock ≡ false → HasNumber q
         → Creates (Err (m.create_refusal create_refusal.OutOfMemory)) (spend q)
 
-module _ {F E C : Type 0} (m : Meaning F E C) (q : Quiet) (node : ℕ) (hash : ServiceHash) where
+module _ {E C : Type 0} (m : Meaning E C) (q : Quiet) (node : ℕ) (hash : ServiceHash) where
   -- this node opens a service: the factory, and the machine after it
   abbrev pub factory_opened : QuietService → Registered
   factory_opened x = record { node = node; number = x.number; ticket = q.counter; description = x.description }
@@ -102,8 +102,8 @@ module _ {F E C : Type 0} (m : Meaning F E C) (q : Quiet) (node : ℕ) (hash : S
   -- Open.
   pub data Opens : Result Registered E → Quiet → Type 0 where
     absent : service_at q hash ≡ None → Opens (Err (m.open_refusal open_refusal.DoesNotExist)) q
-    misfit : {fault : F} (x : QuietService) → service_at q hash ≡ Some x → m.misfit x.description ≡ Some fault
-        → Opens (Err (m.open_error_of fault)) q
+    misfit : {error : E} (x : QuietService) → service_at q hash ≡ Some x → m.misfit x.description ≡ Some error
+        → Opens (Err error) q
     not_accepted : {error : E} (x : QuietService) → service_at q hash ≡ Some x → m.misfit x.description ≡ None
         → verdict (m.requirement x.description) ≡ Err error
         → Opens (Err error) q

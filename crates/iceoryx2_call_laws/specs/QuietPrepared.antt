@@ -5,7 +5,7 @@ use Rattle.iceoryx2_access.specs.Registered.{Registered}
 use Rattle.iceoryx2_pattern.specs.declared.pattern.CreateRefusal.TheVariants as create_refusal
 use Rattle.iceoryx2_pattern.specs.declared.pattern.OpenRefusal.TheVariants as open_refusal
 use Rattle.iceoryx2_pattern.specs.Meaning.{Meaning}
-use Rattle.iceoryx2_create_and_open.specs.Caller.{Caller}
+use Rattle.iceoryx2_create_and_open.specs.declared.caller.Caller.{Caller}
 use Rattle.iceoryx2_call_laws.specs.Quiet.{Quiet}
 use Rattle.iceoryx2_call_laws.specs.QuietCalls.{Creates, Opens}
 
@@ -23,10 +23,10 @@ PreparesFirstIf false no_memory q Calls = Calls
 
 -- A create that may prepare its types first,
 abbrev pub CreatesPrepared
-    : {F E C : Type 0} → Meaning F E C → Quiet → Caller → Result Registered C → Quiet → Type 0
+    : {E C : Type 0} → Meaning E C → Quiet → Caller → Result Registered C → Quiet → Type 0
 CreatesPrepared m q caller = PreparesFirst (m.create_refusal create_refusal.OutOfMemory) q (Creates m q caller)
 
 -- and such an open.
 abbrev pub OpensPrepared
-    : {F E C : Type 0} → Meaning F E C → Quiet → ℕ → ServiceHash → Result Registered E → Quiet → Type 0
+    : {E C : Type 0} → Meaning E C → Quiet → ℕ → ServiceHash → Result Registered E → Quiet → Type 0
 OpensPrepared m q node hash = PreparesFirst (m.open_refusal open_refusal.OutOfMemory) q (Opens m q node hash)

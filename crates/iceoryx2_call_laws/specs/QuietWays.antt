@@ -4,7 +4,7 @@ use Rattle.iceoryx2_description.specs.Description.{max_nodes_of}
 use Rattle.iceoryx2_access.specs.Registered.{Registered}
 use Rattle.iceoryx2_pattern.specs.declared.pattern.OpenRefusal.TheVariants as open_refusal
 use Rattle.iceoryx2_pattern.specs.declared.pattern.CreateRefusal.TheVariants as create_refusal
-use Rattle.iceoryx2_pattern.specs.Regular.{IsRegular, TakesNodes}
+use Rattle.iceoryx2_pattern.specs.Meaning.{TakesNodes}
 use Rattle.iceoryx2_create_and_open.specs.Answers.{map_err}
 use Rattle.iceoryx2_create_and_open.specs.Creates.{time_of}
 use Rattle.iceoryx2_open_or_create.specs.BuilderCalls.{BuilderCall, Way, ToCreate, ToOpen, ToOpenOrCreate, ErrorBy}
@@ -16,7 +16,7 @@ use Rattle.iceoryx2_call_laws.specs.Quiet.{Quiet, QuietService, service_at}
 use Rattle.iceoryx2_call_laws.specs.QuietCalls.{Creates, Opens}
 use Rattle.iceoryx2_call_laws.specs.QuietPrepared.{PreparesFirstIf}
 
-module _ {D F E C : Type 0} (c : BuilderCall D F E C) where
+module _ {D E C : Type 0} (c : BuilderCall D E C) where
   -- Where the service isn't there an open or create is a create, and else an open.
   pub data OpensOrCreates (q : Quiet) : Result Registered (OpenOrCreateRefusal E C) → Quiet → Type 0 where
     creates : {answer : Result Registered C} {p : Quiet} → service_at q c.caller.hash ≡ None
@@ -26,7 +26,7 @@ module _ {D F E C : Type 0} (c : BuilderCall D F E C) where
         → Opens (opening c) q c.caller.node c.caller.hash answer p
         → OpensOrCreates q (map_err refusal.Open answer) p
 
-module _ {D F E C : Type 0} (c : BuilderCall D F E C) where
+module _ {D E C : Type 0} (c : BuilderCall D E C) where
   -- The machine's answers to the call, and the machine after each.
   abbrev pub AnswersBy : (way : Way) → Quiet → Result Registered (ErrorBy E C way) → Quiet → Type 0
   AnswersBy ToCreate q = PreparesFirstIf c.prepares ((creating c).create_refusal create_refusal.OutOfMemory) q
@@ -40,20 +40,13 @@ module _ {D F E C : Type 0} (c : BuilderCall D F E C) where
   abbrev pub Answers : Quiet → Result Registered (ErrorBy E C c.way) → Quiet → Type 0
   Answers = AnswersBy c.way
 
-  -- What has to hold of a builder for that: of one that creates at this time,
-  pub record IsSteadyToCreate : Type 0 where
-    pub regular : IsRegular (creating c)
-    pub takes_nodes : 0 < max_nodes_of ((creating c).published (time_of c.caller.now))
-
-  -- of one that opens or creates,
+  -- What has to hold of a builder for that: of one that opens or creates,
   pub record IsSteady : Type 0 where
-    pub creating_is_regular : IsRegular (creating c)
-    pub opening_is_regular : IsRegular (opening c)
     pub takes_nodes : TakesNodes (creating c)
     pub ends_at_once : EndsAtOnce c.retried (creating c) (opening c)
 
-  -- and of each of the three.
+  -- and of each of the three. A create publishes for one node or more at its time, and an open is steady by itself.
   abbrev pub IsSteadyBy : Way → Type 0
-  IsSteadyBy ToCreate = IsSteadyToCreate
-  IsSteadyBy ToOpen = IsRegular (opening c)
+  IsSteadyBy ToCreate = 0 < max_nodes_of ((creating c).published (time_of c.caller.clock))
+  IsSteadyBy ToOpen = Unit {0}
   IsSteadyBy ToOpenOrCreate = IsSteady

@@ -14,7 +14,7 @@ ghost use Rattle.iceoryx2_access.specs.Registered.{Registered};
 ghost use Rattle.iceoryx2_errors.specs.declared.error.CloseError.{CloseError};
 ghost use Rattle.iceoryx2_errors.specs.declared.error.CloseError.TheVariants.{NotHere};
 ghost use Rattle.iceoryx2_port_factory.specs.Closes.{IsCloseWord};
-ghost use Rattle.iceoryx2_create_and_open.specs.Caller.{Caller};
+ghost use Rattle.iceoryx2_create_and_open.specs.declared.caller.Caller.{Caller};
 ghost use Rattle.iceoryx2_create_and_open.specs.Creates.{time_of};
 ghost use Rattle.iceoryx2_create_and_open.specs.Prepared.{IsCreateCall};
 ghost use Rattle.iceoryx2_pattern.specs.Meaning.{Meaning};
@@ -30,7 +30,7 @@ ghost use Rattle.iceoryx2_call_laws.specs.OverNoRow.{AnswersOverNoRow};
 /// An access that is refused answers its general fault and changes nothing. What `agreement` says of
 /// accesses of which any may be refused is true of it as it stands there: the world agrees after each
 /// access, standing factories stand, and of a refused call only that stays for which a removal was refused.
-pub fn agreement_under_faults<D, F: Copy, E: Copy, C: Copy>()
+pub fn agreement_under_faults<D, E: Copy, C: Copy>()
     // The accesses of a faulty storage with a table inside, whichever are refused and whatever batches
     // wait, are accesses of the table's world of which any may be refused. So what is said of runs over
     // worlds is true of each run over such a storage.
@@ -43,14 +43,14 @@ pub fn agreement_under_faults<D, F: Copy, E: Copy, C: Copy>()
     // service, meets what was asked or holds what was published, and is open until its own ticket is released: it
     // carries the one published description of its hash, its segment is there, and its node is among at most
     // `max_nodes`.
-    ensures every_open_factory_stands { (c : BuilderCall D F E C) (word : List Letter)
+    ensures every_open_factory_stands { (c : BuilderCall D E C) (word : List Letter)
         (answer : Result Registered (ErrorBy E C c.way)) (s t : FaultyState TableState)
         → IsWordOf c word answer → Run (IsInjectedFault IsTableAccess) s word t → Agrees s.inner.world
         → IsAsPromised (IsInjectedFault IsTableAccess) (λ u. u.inner.world) c s word answer t }
 
     // The same by history: at any state that such a table comes to after some call answered Ok with a factory, and
     // before the release of its ticket, this factory is open, with what that call asked.
-    ensures open_until_released { (c : BuilderCall D F E C) (f : Registered) (s : FaultyState TableState)
+    ensures open_until_released { (c : BuilderCall D E C) (f : Registered) (s : FaultyState TableState)
         → IsOpenSince (IsInjectedFault IsTableAccess) (λ u. u.inner.world) c f s
         → IsOpenAsAsked c s.inner.world f }
 
@@ -69,9 +69,9 @@ pub fn agreement_under_faults<D, F: Copy, E: Copy, C: Copy>()
     // Where the service has no row, whatever segment was left there, a create without further refusals
     // and steps of peers is Ok, or one of four things stops it. Adjusted settings publish for one node
     // or more.
-    ensures over_no_row { (m : Meaning F E C) (caller : Caller)
+    ensures over_no_row { (m : Meaning E C) (caller : Caller)
         (word : List Letter) (answer : Result Registered C) (w v : World)
-        → 0 < max_nodes_of (m.published (time_of caller.now)) → Agrees w → row_of w caller.hash ≡ None
+        → 0 < max_nodes_of (m.published (time_of caller.clock)) → Agrees w → row_of w caller.hash ≡ None
         → IsCreateCall m caller word answer → Run IsOwnPart w word v
         → AnswersOverNoRow m caller w.counter answer }
 {}

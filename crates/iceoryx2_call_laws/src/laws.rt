@@ -32,7 +32,7 @@ ghost use Rattle.iceoryx2_call_laws.specs.Tickets.{tickets_after, tickets_after_
 /// their messages first; one that doesn't goes along a word of its grammar, which is a word of such a
 /// call too.
 /// Where nothing else is said, any access may be refused by a fault.
-pub fn agreement<D, F: Copy, E: Copy, C: Copy>()
+pub fn agreement<D, E: Copy, C: Copy>()
     // A table's own accesses, whatever batches wait before them, are accesses of its world after any
     // steps of peers, and so accesses of which any may be refused. So what is said of runs over worlds is
     // true of each run over a table.
@@ -60,24 +60,24 @@ pub fn agreement<D, F: Copy, E: Copy, C: Copy>()
     // factory with which it answered Ok has a new ticket, is of its caller and its service, meets what was
     // asked or holds what was published, and is open until its own ticket is released: it carries the one
     // published description of its hash, its segment is there, and its node is among at most `max_nodes`.
-    ensures every_open_factory_stands { (c : BuilderCall D F E C) (word : List Letter)
+    ensures every_open_factory_stands { (c : BuilderCall D E C) (word : List Letter)
         (answer : Result Registered (ErrorBy E C c.way)) (s t : TableState)
         → IsWordOf c word answer → Run IsTableAccess s word t → Agrees s.world
         → IsAsPromised IsTableAccess (λ u. u.world) c s word answer t }
 
     // So it is over any world that agrees, and whichever accesses are refused by a fault.
-    ensures in_any_world { (c : BuilderCall D F E C) (word : List Letter)
+    ensures in_any_world { (c : BuilderCall D E C) (word : List Letter)
         (answer : Result Registered (ErrorBy E C c.way)) (w v : World)
         → IsWordOf c word answer → Run IsFallibleAccess w word v → Agrees w
         → IsAsPromised IsFallibleAccess (λ u. u) c w word answer v }
 
     // The same by history: at any state that a table comes to after some call answered Ok with a factory, and before
     // the release of its ticket, this factory is open, with what that call asked.
-    ensures open_until_released { (c : BuilderCall D F E C) (f : Registered) (s : TableState)
+    ensures open_until_released { (c : BuilderCall D E C) (f : Registered) (s : TableState)
         → IsOpenSince IsTableAccess (λ u. u.world) c f s → IsOpenAsAsked c s.world f }
 
     // Every call is short over every storage: its word alone tells so.
-    ensures is_short { (c : BuilderCall D F E C) (word : List Letter) (answer : Result Registered (ErrorBy E C c.way))
+    ensures is_short { (c : BuilderCall D E C) (word : List Letter) (answer : Result Registered (ErrorBy E C c.way))
         → IsWordOf c word answer → IsShortBy c.way word }
 
     // Two standing factories of one service carry the same description and number.
@@ -86,25 +86,25 @@ pub fn agreement<D, F: Copy, E: Copy, C: Copy>()
         → (f.number ≡ g.number) × (f.description ≡ g.description) }
 
     // A call that answers Ok adds exactly its factory's ticket, and one that is refused changes no ticket.
-    ensures tickets { (c : BuilderCall D F E C) (word : List Letter)
+    ensures tickets { (c : BuilderCall D E C) (word : List Letter)
         (answer : Result Registered (ErrorBy E C c.way)) (w v : World)
         → IsWordOf c word answer → Run IsFallibleAccess w word v → v.tickets ≡ tickets_after w.tickets answer }
 
     // Without the steps of peers, a refused call changes no published description and no count in any access,
-    ensures refused { (c : BuilderCall D F E C) (word : List Letter) (refusal : ErrorBy E C c.way) (w : World)
+    ensures refused { (c : BuilderCall D E C) (word : List Letter) (refusal : ErrorBy E C c.way) (w : World)
         → IsWordOf c word (Err refusal) → Agrees w → AtEach IsFallibleAccess ActsCalmly w word }
 
     // and a granted one does so in exactly one, its last.
-    ensures granted { (c : BuilderCall D F E C) (word : List Letter) (r : Registered) (w : World)
+    ensures granted { (c : BuilderCall D E C) (word : List Letter) (r : Registered) (w : World)
         → IsWordOf c word (Ok r) → Agrees w → ChangesLast c.caller.node c.caller.hash w word }
 
     // A refused call leaves nothing of its own but that for which a removal was refused.
-    ensures leaves { (c : BuilderCall D F E C) (word : List Letter) (refusal : ErrorBy E C c.way) (w v : World)
+    ensures leaves { (c : BuilderCall D E C) (word : List Letter) (refusal : ErrorBy E C c.way) (w v : World)
         → IsWordOf c word (Err refusal) → Run IsFallibleAccess w word v → Agrees w → LeavesBy c c.way w word v }
 
     // Where nothing is refused by a fault, each of its removals answers Ok, and nothing of its own stays but
     // the phase Read and spent numbers.
-    ensures gives_back { (c : BuilderCall D F E C) (word : List Letter) (refusal : ErrorBy E C c.way) (w v : World)
+    ensures gives_back { (c : BuilderCall D E C) (word : List Letter) (refusal : ErrorBy E C c.way) (w v : World)
         → IsWordOf c word (Err refusal) → Run IsAccess w word v → Agrees w
         → Each IsGranted word × LeavesNothing c.caller.node c.caller.hash word w v }
 

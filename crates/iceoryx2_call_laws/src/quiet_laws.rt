@@ -20,7 +20,7 @@ ghost use Rattle.iceoryx2_errors.specs.declared.error.CloseError.{CloseError};
 ghost use Rattle.iceoryx2_pattern.specs.Meaning.{Meaning};
 ghost use Rattle.iceoryx2_pattern.specs.Verdict.{verdict};
 ghost use Rattle.iceoryx2_access.specs.Registered.{Registered};
-ghost use Rattle.iceoryx2_create_and_open.specs.Caller.{Caller};
+ghost use Rattle.iceoryx2_create_and_open.specs.declared.caller.Caller.{Caller};
 ghost use Rattle.iceoryx2_create_and_open.specs.OwnSettings.{AcceptsOwn};
 ghost use Rattle.iceoryx2_port_factory.specs.Closes.{IsCloseWord};
 ghost use Rattle.iceoryx2_open_or_create.specs.Adjusting.{OnlyRaises};
@@ -81,31 +81,31 @@ pub fn quiet_laws()
 {}
 
 /// What holds of the calls of each pattern over such a table.
-pub fn quiet_calls<D, F: Copy, E: Copy, C: Copy>()
+pub fn quiet_calls<D, E: Copy, C: Copy>()
     // Every call of a steady builder over a world that shows the machine is the machine's, whichever it is. An open or
     // create is its create where there is no service, and else its open: its first round is its last, where the
     // refusals of that machine are not tried again. A call that prepares its types first may be out of memory there,
     // and then changes nothing.
-    ensures call { (c : BuilderCall D F E C) (w v : World) (q : Quiet) (word : List Letter)
+    ensures call { (c : BuilderCall D E C) (w v : World) (q : Quiet) (word : List Letter)
         (answer : Result Registered (ErrorBy E C c.way))
         → IsSteadyBy c c.way → Shows w q → Agrees w → IsWordOf c word answer → Run IsOwnPart w word v
         → IsCall w (Answers c q answer) answer v }
 
     // A refused call changes no description, segment, tag or count.
-    ensures refused { (c : BuilderCall D F E C) (w v : World) (q p : Quiet) (refusal : ErrorBy E C c.way)
+    ensures refused { (c : BuilderCall D E C) (w v : World) (q p : Quiet) (refusal : ErrorBy E C c.way)
         → Shows w q → Shows v p → Answers c q (Err refusal) p → HoldsTheSame w v }
 
     // What follows is said of calls that may prepare their types first; each call of the machine is one of these too.
     // A create and then the close of its factory leave nothing of that service and the rest as it
     // was, and one number is spent.
-    ensures create_and_close { (m : Meaning F E C) (caller : Caller) (w v : World) (q p z : Quiet) (r : Registered)
+    ensures create_and_close { (m : Meaning E C) (caller : Caller) (w v : World) (q p z : Quiet) (r : Registered)
         → Shows w q → Shows v z
         → CreatesPrepared m q caller (Ok r) p → Closes p r.node r.description.hash z
         → HasNothingAt v caller.hash × HoldsTheSame w v × (v.counter ≡ w.counter + 1) }
 
     // A further factory of a node takes no further place: the segment stays as it is, and the
     // node's count rises by one.
-    ensures again { (m : Meaning F E C) (node : ℕ) (hash : ServiceHash)
+    ensures again { (m : Meaning E C) (node : ℕ) (hash : ServiceHash)
         (w v : World) (q p : Quiet) (r : Registered) (x : QuietService) (k : ℕ)
         → Shows w q → Shows v p → service_at q hash ≡ Some x → times_counted x node ≡ Some k
         → OpensPrepared m q node hash (Ok r) p
@@ -115,7 +115,7 @@ pub fn quiet_calls<D, F: Copy, E: Copy, C: Copy>()
 
     // While a service stands that fits and that the requirement accepts, and a place and a number
     // are left, an open is Ok or out of memory.
-    ensures accepted { (m : Meaning F E C) (node : ℕ) (hash : ServiceHash)
+    ensures accepted { (m : Meaning E C) (node : ℕ) (hash : ServiceHash)
         (q p : Quiet) (x : QuietService) (answer : Result Registered E)
         → service_at q hash ≡ Some x → m.misfit x.description ≡ None
         → verdict (m.requirement x.description) ≡ Ok tt → HasPlace x node → HasNumber q
@@ -125,7 +125,7 @@ pub fn quiet_calls<D, F: Copy, E: Copy, C: Copy>()
     // What a call of a builder has given the same builder opens, whichever node calls, if it accepts what it
     // creates and its create only raises minima: while the factory is open, whatever came between, with a place
     // and a number left, the open is Ok or out of memory.
-    ensures own_settings { (c : BuilderCall D F E C) (node : ℕ) (q p : Quiet) (f : Registered) (w : World)
+    ensures own_settings { (c : BuilderCall D E C) (node : ℕ) (q p : Quiet) (f : Registered) (w : World)
         (answer : Result Registered E)
         → AcceptsOwn (creating c) (opening c) c.caller
         → OnlyRaises c.meaning c.adjusted

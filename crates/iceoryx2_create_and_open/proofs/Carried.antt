@@ -10,7 +10,7 @@ use Rattle.iceoryx2_create_and_open.specs.Looks.{fetched, fits}
 use Rattle.iceoryx2_create_and_open.specs.Creates.{IsServiceWord, IsCreating, made, published}
 use Rattle.iceoryx2_create_and_open.specs.Opens.{IsLastRound, ready, opened, IsOpenWord, ended, CarriesAccepted}
 
-module _ {F E C : Type 0} {m : Meaning F E C} {node : ℕ} {hash : ServiceHash} where
+module _ {E C : Type 0} {m : Meaning E C} {node : ℕ} {hash : ServiceHash} where
   service_carries : {d : Description} {tag : Tag} {w : List Letter} {r : Registered} → IsServiceWord m node hash d tag w (Ok r) → (r.node ≡ node) × (r.description ≡ d)
   service_carries (published n t s) = (refl, refl)
 

@@ -106,8 +106,8 @@ module _ (node : ℕ) (hash : ServiceHash) where
     segment_within (not_removed k e small) = within_more _ _ _ _ (omega arith) (omega arith) (omega arith) (omega arith) (within_append (clearings_within k) (within_append (makes number max_nodes _) (removes_segment _)))
     segment_within still_there = within_append (clearings_within CLEARING_LIMIT) (makes number max_nodes _)
 
-module _ {F E C : Type 0} (m : Meaning F E C) (node : ℕ) (hash : ServiceHash) where
-  pub look_within : {w : List Letter} {o : Outcome F} → IsLookWord m node hash w o → Within w 1 0 0 0
+module _ {E C : Type 0} (m : Meaning E C) (node : ℕ) (hash : ServiceHash) where
+  pub look_within : {w : List Letter} {o : Outcome E} → IsLookWord m node hash w o → Within w 1 0 0 0
   look_within absent = record { few_looks = omega arith; few_openings = omega arith; few_makings = omega arith; few_removals = omega arith }
   look_within broken = record { few_looks = omega arith; few_openings = omega arith; few_makings = omega arith; few_removals = omega arith }
   look_within (fetched there read) = record { few_looks = omega arith; few_openings = omega arith; few_makings = omega arith; few_removals = omega arith }

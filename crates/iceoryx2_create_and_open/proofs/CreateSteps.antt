@@ -20,7 +20,7 @@ tagged : (node : ℕ) (hash : ServiceHash) (u : List Letter) (tag : Tag) (v : Li
 tagged node hash u tag v =
     rw (behind u (Counts node hash false) (MakeTag node hash (Ok tag)) v, append_assoc u (Counts node hash false ∷ MakeTag node hash (Ok tag) ∷ []) v) refl
 
-module _ {F E C : Type 0} {m : Meaning F E C} {node : ℕ} {hash : ServiceHash} where
+module _ {E C : Type 0} {m : Meaning E C} {node : ℕ} {hash : ServiceHash} where
   pub not_copied : {u : List Letter} → IsFree m node hash u → IsEntryWord m node hash u (Err (m.create_refusal refusal.OutOfMemory))
   not_copied (free look) = no_copies look
 

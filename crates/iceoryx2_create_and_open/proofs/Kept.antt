@@ -97,8 +97,8 @@ module _ {node : ℕ} {hash : ServiceHash} where
   segment_returns : (tag : Tag) {n : ℕ} {w : List Letter} → GivesBack node hash (OwnSegment ∷ OwnLock ∷ own_tag tag) w → Returns node hash (with_tag no_own_tag tag) (WithSegment n) w
   segment_returns tag (segment_back answer b) = then_returns (removes_segment answer ends) (lock_returns tag b)
 
-module _ {F E C : Type 0} {m : Meaning F E C} {node : ℕ} {hash : ServiceHash} where
-  pub look_keeps : {t : OwnedTag} {k : OwnedLock} {w : List Letter} {o : Outcome F} → IsLookWord m node hash w o → TracksOwned node hash t k w t k
+module _ {E C : Type 0} {m : Meaning E C} {node : ℕ} {hash : ServiceHash} where
+  pub look_keeps : {t : OwnedTag} {k : OwnedLock} {w : List Letter} {o : Outcome E} → IsLookWord m node hash w o → TracksOwned node hash t k w t k
   look_keeps absent = goes_on keeps.looks ends
   look_keeps broken = goes_on keeps.looks ends
   look_keeps (fetched there read) = goes_on keeps.looks (goes_on keeps.fetches ends)
@@ -139,7 +139,7 @@ module _ {F E C : Type 0} {m : Meaning F E C} {node : ℕ} {hash : ServiceHash} 
   ready_kept (ready tag l _) = then_keeps (look_keeps l) (tag_kept tag ends)
 
   -- a second look, and the tag given back
-  looks_again : (tag : Tag) (is_left : Bool) {n : ℕ} {v w : List Letter} {o : Outcome F} {e : OpenSegmentError} → IsLookWord m node hash v o → GivesBack node hash (own_tag tag) w
+  looks_again : (tag : Tag) (is_left : Bool) {n : ℕ} {v w : List Letter} {o : Outcome E} {e : OpenSegmentError} → IsLookWord m node hash v o → GivesBack node hash (own_tag tag) w
       → Untags node hash (with_tag (OwnsNoTag is_left) tag) NoLock NoLock (Letter.OpenSegment node hash n (Err e) ∷ (v ++ w))
   looks_again tag is_left l b = then_untags (goes_on keeps.opens_nothing (look_keeps l)) (tag_returns tag is_left tt b)
 

@@ -7,10 +7,11 @@ use Rattle.iceoryx2_description.specs.Description.{Description}
 use Rattle.iceoryx2_access.specs.Letter.{Letter}
 use Rattle.iceoryx2_byte_form.specs.Form.{IsForm}
 use Rattle.iceoryx2_pattern.specs.Meaning.{Meaning}
+use Rattle.iceoryx2_create_and_open.specs.declared.look.Fault.{Fault}
 use Rattle.iceoryx2_create_and_open.specs.declared.look.Outcome.{Outcome}
 use Rattle.iceoryx2_create_and_open.specs.declared.look.Outcome.TheVariants.{Nothing, Found, Faulty}
 use Rattle.iceoryx2_create_and_open.specs.declared.look.Sight.TheVariants as sight
-use Rattle.iceoryx2_create_and_open.specs.Looks.{MayBeThere, yes, being_set_up, LeadsTo, misfit, fits, IsLookWord, found_unless, sight_of}
+use Rattle.iceoryx2_create_and_open.specs.Looks.{MayBeThere, yes, being_set_up, IsLookWord, sight_of}
 
 pub may_be_there : (there : Existence) → (there ≡ existence.Yes) ⊎ (there ≡ existence.BeingSetUp) → MayBeThere there
 may_be_there there (inl e) = subst MayBeThere (sym e) yes
@@ -31,31 +32,25 @@ other_hashes a b r e h s = other_text a.0 b.0 (is_false (pointwise nat_eq a.0 b.
 pub same_hashes : (a b : ServiceHash) (r : Bool) → r ≡ not (pointwise nat_eq a.0 b.0) → r ≡ false → a ≡ b
 same_hashes a b r e h = let same = same_text a.0 b.0 (is_true (pointwise nat_eq a.0 b.0) (sym e ∙ h)) in λ i. record { 0 = same i }
 
--- a description that is read, whatever is seen in it
-pub read_unless : {F E C : Type 0} {m : Meaning F E C} {hash : ServiceHash} {number : ℕ} {bytes : List ℕ} {d : Description}
-    → IsForm d bytes → d.hash ≡ hash → (fault : Option F) → m.misfit d ≡ fault → LeadsTo m hash (Ok (number, bytes)) (found_unless fault number d)
-read_unless form same (Some fault) is = misfit form same is
-read_unless form same None is = fits form same is
-
 -- some service is found by this word
-pub record Finds {F E C : Type 0} (m : Meaning F E C) (node : ℕ) (hash : ServiceHash) (word : List Letter) : Type 0 where
+pub record Finds {E C : Type 0} (m : Meaning E C) (node : ℕ) (hash : ServiceHash) (word : List Letter) : Type 0 where
   pub number : ℕ
   pub description : Description
   pub look : IsLookWord m node hash word (Found number description)
 
 -- what was seen of an outcome
-module _ {F E C : Type 0} {m : Meaning F E C} {node : ℕ} {hash : ServiceHash} {word : List Letter} where
-  pub sees_none : (outcome : Outcome F) → sight.Absent ≡ sight_of outcome → IsLookWord m node hash word outcome → IsLookWord m node hash word Nothing
+module _ {E C : Type 0} {m : Meaning E C} {node : ℕ} {hash : ServiceHash} {word : List Letter} where
+  pub sees_none : (outcome : Outcome E) → sight.Absent ≡ sight_of outcome → IsLookWord m node hash word outcome → IsLookWord m node hash word Nothing
   sees_none Nothing e look = look
   sees_none (Found n d) e look = cc
   sees_none (Faulty fault) e look = cc
 
-  pub sees_fault : {fault : F} (outcome : Outcome F) → sight.Unclear fault ≡ sight_of outcome → IsLookWord m node hash word outcome → IsLookWord m node hash word (Faulty fault)
+  pub sees_fault : {fault : Fault E} (outcome : Outcome E) → sight.Unclear fault ≡ sight_of outcome → IsLookWord m node hash word outcome → IsLookWord m node hash word (Faulty fault)
   sees_fault Nothing e look = cc
   sees_fault (Found n d) e look = cc
   sees_fault {fault} (Faulty other) e look = let same : fault ≡ other = cc in rw same look
 
-  pub sees_service : (outcome : Outcome F) → sight.Present ≡ sight_of outcome → IsLookWord m node hash word outcome → Finds m node hash word
+  pub sees_service : (outcome : Outcome E) → sight.Present ≡ sight_of outcome → IsLookWord m node hash word outcome → Finds m node hash word
   sees_service Nothing e look = cc
   sees_service (Found n d) e look = record { number = n; description = d; look = look }
   sees_service (Faulty fault) e look = cc

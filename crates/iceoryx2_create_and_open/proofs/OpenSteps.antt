@@ -11,7 +11,7 @@ use Rattle.iceoryx2_pattern.specs.Meaning.{Meaning}
 use Rattle.iceoryx2_pattern.specs.Verdict.{verdict}
 use Rattle.iceoryx2_create_and_open.specs.declared.look.Outcome.TheVariants.{Found}
 use Rattle.iceoryx2_create_and_open.specs.Looks.{IsLookWord}
-use Rattle.iceoryx2_create_and_open.specs.Refusals.{of_opening, of_tag_opening}
+use Rattle.iceoryx2_create_and_open.specs.Refusals.{of_opening, of_tag_opening, open_error_of}
 use Rattle.iceoryx2_create_and_open.specs.Opens.{IsReady, IsLastRound, IsFailedRound, ready, no_tag, not_accepted, not_opened, opened, then_faulty, then_none, failed}
 use Rattle.iceoryx2_create_and_open.specs.OpenParts.{IsSecondLook, second_faulty, second_none, second_found}
 use Rattle.iceoryx2_create_and_open.specs.OpenParts.{IsTaggedOpening, untagged, got, refused, looked, again, IsRestOfRound, round_registration}
@@ -26,24 +26,24 @@ only_failed segment.OutOfNumbers h = cc
 only_failed segment.OutOfMemory h = cc
 
 -- the second look ends the call
-ends_by : {F E C : Type 0} {m : Meaning F E C} {node : ℕ} {hash : ServiceHash} {n : ℕ} {d : Description} {tag : Tag} {u v : List Letter} {asked : Option E} {error : E}
+ends_by : {E C : Type 0} {m : Meaning E C} {node : ℕ} {hash : ServiceHash} {n : ℕ} {d : Description} {tag : Tag} {u v : List Letter} {asked : Option E} {error : E}
     → asked ≡ Some error → IsReady m node hash n d tag u → IsSecondLook m node hash tag asked v → IsLastRound m node hash (u ++ OpenSegment node hash n (Err segment.Failed) ∷ v) (Err error)
-ends_by {m} {error} h r (second_faulty {fault} look back) = let e : m.open_error_of fault ≡ error = cc in rw (← e) (then_faulty r look back)
+ends_by {m} {error} h r (second_faulty {fault} look back) = let e : open_error_of m fault ≡ error = cc in rw (← e) (then_faulty r look back)
 ends_by {m} {error} h r (second_none look back) = let e : m.open_refusal refusal.DoesNotExist ≡ error = cc in rw (← e) (then_none r look back)
 ends_by h r (second_found look back) = cc
 
-pub ends : {F E C : Type 0} {m : Meaning F E C} {node : ℕ} {hash : ServiceHash} {n : ℕ} {d : Description} {tag : Tag} {u v : List Letter} {error : E}
+pub ends : {E C : Type 0} {m : Meaning E C} {node : ℕ} {hash : ServiceHash} {n : ℕ} {d : Description} {tag : Tag} {u v : List Letter} {error : E}
     → IsReady m node hash n d tag u → IsSecondLook m node hash tag (Some error) v → IsLastRound m node hash (u ++ OpenSegment node hash n (Err segment.Failed) ∷ v) (Err error)
 ends r s = ends_by refl r s
 
 -- the second look asks for another round
-goes_on_by : {F E C : Type 0} {m : Meaning F E C} {node : ℕ} {hash : ServiceHash} {n : ℕ} {d : Description} {tag : Tag} {u v : List Letter} {asked : Option E}
+goes_on_by : {E C : Type 0} {m : Meaning E C} {node : ℕ} {hash : ServiceHash} {n : ℕ} {d : Description} {tag : Tag} {u v : List Letter} {asked : Option E}
     → asked ≡ None → IsReady m node hash n d tag u → IsSecondLook m node hash tag asked v → IsFailedRound m node hash (u ++ OpenSegment node hash n (Err segment.Failed) ∷ v)
 goes_on_by h r (second_faulty look back) = cc
 goes_on_by h r (second_none look back) = cc
 goes_on_by h r (second_found look back) = failed r look back
 
-pub goes_on : {F E C : Type 0} {m : Meaning F E C} {node : ℕ} {hash : ServiceHash} {n : ℕ} {d : Description} {tag : Tag} {u v : List Letter}
+pub goes_on : {E C : Type 0} {m : Meaning E C} {node : ℕ} {hash : ServiceHash} {n : ℕ} {d : Description} {tag : Tag} {u v : List Letter}
     → IsReady m node hash n d tag u → IsSecondLook m node hash tag None v → IsFailedRound m node hash (u ++ OpenSegment node hash n (Err segment.Failed) ∷ v)
 goes_on r s = goes_on_by refl r s
 
@@ -53,7 +53,7 @@ goes_on r s = goes_on_by refl r s
 pub behind : (u : List Letter) (tag letter : Letter) (v : List Letter) → (u ++ tag ∷ []) ++ letter ∷ v ≡ u ++ tag ∷ letter ∷ v
 behind u tag letter v = append_assoc u (tag ∷ []) (letter ∷ v)
 
-module _ {F E C : Type 0} {m : Meaning F E C} {node : ℕ} {hash : ServiceHash} {n : ℕ} {d : Description} where
+module _ {E C : Type 0} {m : Meaning E C} {node : ℕ} {hash : ServiceHash} {n : ℕ} {d : Description} where
   pub round_of : {v : List Letter} {answer : Option (Result ℕ E)} → verdict (m.requirement d) ≡ Ok tt → IsTaggedOpening m node hash n answer v
       → IsRestOfRound m node hash n d v (round_registration node n d answer)
   round_of accepted (untagged e) u look = no_tag e look accepted

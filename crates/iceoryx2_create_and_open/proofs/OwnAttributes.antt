@@ -17,12 +17,12 @@ use Rattle.iceoryx2_create_and_open.specs.Creates.{IsCreating, forbidden, not_en
 use Rattle.iceoryx2_create_and_open.specs.OpenParts.{IsSecondLook, second_faulty, second_none, second_found}
 use Rattle.iceoryx2_create_and_open.specs.OpenParts.{IsTaggedOpening, untagged, got, refused, looked, again}
 
-module _ {F E C : Type 0} (m : Meaning F E C) (given : List Pair) (required : Description → List (Clause E)) where
+module _ {E C : Type 0} (m : Meaning E C) (given : List Pair) (required : Description → List (Clause E)) where
   -- the same, with other attributes and another requirement
-  abbrev other : Meaning F E C
+  abbrev other : Meaning E C
   other = record m { attributes = given; requirement = required }
 
-  leads : {hash : ServiceHash} {answer : Result (ℕ × List ℕ) FetchError} {outcome : Outcome F} → LeadsTo m hash answer outcome → LeadsTo other hash answer outcome
+  leads : {hash : ServiceHash} {answer : Result (ℕ × List ℕ) FetchError} {outcome : Outcome E} → LeadsTo m hash answer outcome → LeadsTo other hash answer outcome
   leads gone = gone
   leads not_finalized = not_finalized
   leads not_opened = not_opened
@@ -34,7 +34,7 @@ module _ {F E C : Type 0} (m : Meaning F E C) (given : List Pair) (required : De
   leads (misfit form same is) = misfit form same is
   leads (fits form same is) = fits form same is
 
-  pub looks : {node : ℕ} {hash : ServiceHash} {word : List Letter} {outcome : Outcome F} → IsLookWord m node hash word outcome → IsLookWord other node hash word outcome
+  pub looks : {node : ℕ} {hash : ServiceHash} {word : List Letter} {outcome : Outcome E} → IsLookWord m node hash word outcome → IsLookWord other node hash word outcome
   looks absent = absent
   looks broken = broken
   looks (fetched there answer) = fetched there (leads answer)

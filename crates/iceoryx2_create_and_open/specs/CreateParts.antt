@@ -9,7 +9,7 @@ use Rattle.iceoryx2_pattern.specs.Meaning.{Meaning}
 use Rattle.iceoryx2_create_and_open.specs.Looks.{IsLookWord}
 use Rattle.iceoryx2_create_and_open.specs.Creates.{IsCreating, IsEntryWord}
 
-module _ {F E C : Type 0} (m : Meaning F E C) (node : ℕ) (hash : ServiceHash) where
+module _ {E C : Type 0} (m : Meaning E C) (node : ℕ) (hash : ServiceHash) where
   -- A look finds nothing, and the node isn't counted,
   pub data IsFree : List Letter → Type 0 where
     free : {u : List Letter} → IsLookWord m node hash u Nothing → IsFree (u ++ Counts node hash false ∷ [])

@@ -9,16 +9,17 @@ use Rattle.iceoryx2_access.specs.declared.storage.TagError.{TagError}
 use Rattle.iceoryx2_access.specs.declared.storage.LockError.{LockError}
 use Rattle.iceoryx2_access.specs.declared.storage.PublishError.{PublishError}
 use Rattle.iceoryx2_access.specs.Letter.{Letter, Counts, MakeTag, Lock, Publish}
+use Rattle.iceoryx2_create_and_open.specs.declared.look.Fault.{Fault}
 use Rattle.iceoryx2_create_and_open.specs.declared.look.Outcome.TheVariants.{Nothing, Found, Faulty}
 use Rattle.iceoryx2_create_and_open.specs.declared.create.Created.{Created}
 use Rattle.iceoryx2_pattern.specs.declared.pattern.CreateRefusal.{CreateRefusal}
 use Rattle.iceoryx2_pattern.specs.declared.pattern.CreateRefusal.TheVariants as refusal
 use Rattle.iceoryx2_pattern.specs.Meaning.{Meaning}
 use Rattle.iceoryx2_access.specs.Registered.{Registered}
-use Rattle.iceoryx2_create_and_open.specs.Caller.{Caller}
+use Rattle.iceoryx2_create_and_open.specs.declared.caller.Caller.{Caller}
 use Rattle.iceoryx2_create_and_open.specs.Looks.{IsLookWord}
 use Rattle.iceoryx2_create_and_open.specs.GivesBack.{GivesBack, OwnLock, OwnSegment, own_tag}
-use Rattle.iceoryx2_create_and_open.specs.Refusals.{of_tag, of_lock, of_publish}
+use Rattle.iceoryx2_create_and_open.specs.Refusals.{of_tag, of_lock, of_publish, create_error_of}
 use Rattle.iceoryx2_create_and_open.specs.Segments.{IsSegmentWord}
 
 -- Whether the clock stops a create: one that needs it, and a clock that can't be read.
@@ -33,12 +34,12 @@ time_of (Ok time) = time
 time_of (Err fault) = zero_span
 
 -- what a create of this caller publishes, and carries
-abbrev pub description_of : {F E C : Type 0} → Meaning F E C → Caller → Description
+abbrev pub description_of : {E C : Type 0} → Meaning E C → Caller → Description
 description_of m caller = record {
   hash = caller.hash;
   name = caller.name;
   attributes = m.attributes;
-  pattern = m.published (time_of caller.now);
+  pattern = m.published (time_of caller.clock);
   creator = Some caller.node;
 }
 
@@ -46,11 +47,11 @@ description_of m caller = record {
 abbrev pub factory_of : ℕ → Description → Created → Registered
 factory_of node d created = record { node = node; number = created.number; ticket = created.ticket; description = d }
 
-module _ {F E C : Type 0} (m : Meaning F E C) (node : ℕ) (hash : ServiceHash) where
+module _ {E C : Type 0} (m : Meaning E C) (node : ℕ) (hash : ServiceHash) where
   -- The words up to the tag: nothing is found, the node isn't counted, and it has its tag; or what is in the way.
   pub data IsEntryWord : List Letter → Result Tag C → Type 0 where
-    look_faulty : {u : List Letter} {fault : F} → IsLookWord m node hash u (Faulty fault)
-        → IsEntryWord u (Err (m.create_error_of fault))
+    look_faulty : {u : List Letter} {fault : Fault E} → IsLookWord m node hash u (Faulty fault)
+        → IsEntryWord u (Err (create_error_of m fault))
     look_found : {u : List Letter} {n : ℕ} {d : Description} → IsLookWord m node hash u (Found n d)
         → IsEntryWord u (Err (m.create_refusal refusal.AlreadyExists))
     counted : {u : List Letter} → IsLookWord m node hash u Nothing
@@ -95,6 +96,6 @@ module _ {F E C : Type 0} (m : Meaning F E C) (node : ℕ) (hash : ServiceHash) 
 
 -- The words of create.
 abbrev pub IsCreateWord
-    : {F E C : Type 0} → Meaning F E C → Caller → List Letter → Result Registered C → Type 0
+    : {E C : Type 0} → Meaning E C → Caller → List Letter → Result Registered C → Type 0
 IsCreateWord m caller word answer =
-    IsCreating m caller.node caller.hash (clock_stops m.needs_clock caller.now) (description_of m caller) word answer
+    IsCreating m caller.node caller.hash (clock_stops m.needs_clock caller.clock) (description_of m caller) word answer

@@ -2,7 +2,6 @@ pub mod Looks
 pub mod GivesBack
 pub mod Refusals
 pub mod Segments
-pub mod Caller
 pub mod Creates
 pub mod CreateParts
 pub mod Opens

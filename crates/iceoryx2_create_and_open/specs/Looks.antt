@@ -10,6 +10,8 @@ use Rattle.iceoryx2_access.specs.declared.storage.FetchError.TheVariants as fetc
 use Rattle.iceoryx2_access.specs.Letter.{Letter, Exists, Fetch}
 use Rattle.iceoryx2_pattern.specs.Meaning.{Meaning}
 use Rattle.iceoryx2_errors.specs.declared.error.ServiceState.TheVariants as state
+use Rattle.iceoryx2_create_and_open.specs.declared.look.Fault.{Fault}
+use Rattle.iceoryx2_create_and_open.specs.declared.look.Fault.TheVariants.{State, Misfit}
 use Rattle.iceoryx2_create_and_open.specs.declared.look.Outcome.{Outcome}
 use Rattle.iceoryx2_create_and_open.specs.declared.look.Outcome.TheVariants.{Nothing, Found, Faulty}
 use Rattle.iceoryx2_create_and_open.specs.declared.look.Sight.{Sight}
@@ -21,39 +23,39 @@ pub data MayBeThere : Existence → Type 0 where
   being_set_up : MayBeThere existence.BeingSetUp
 
 -- What a fetch leads to. Reading the bytes may run out of memory.
-module _ {F E C : Type 0} (m : Meaning F E C) (hash : ServiceHash) where
-  pub data LeadsTo : Result (ℕ × List ℕ) FetchError → Outcome F → Type 0 where
+module _ {E C : Type 0} (m : Meaning E C) (hash : ServiceHash) where
+  pub data LeadsTo : Result (ℕ × List ℕ) FetchError → Outcome E → Type 0 where
     gone : LeadsTo (Err fetch.DoesNotExist) Nothing
-    not_finalized : LeadsTo (Err fetch.NotFinalized) (Faulty (m.fault state.HangsInCreation))
-    not_opened : LeadsTo (Err fetch.OpenFault) (Faulty (m.fault state.InsufficientPermissions))
-    not_read : LeadsTo (Err fetch.ReadFault) (Faulty (m.fault state.InsufficientPermissions))
-    not_fetched : LeadsTo (Err fetch.OutOfMemory) (Faulty (m.fault state.OutOfMemory))
-    not_decoded : {n : ℕ} {bytes : List ℕ} → LeadsTo (Ok (n, bytes)) (Faulty (m.fault state.OutOfMemory))
+    not_finalized : LeadsTo (Err fetch.NotFinalized) (Faulty (State state.HangsInCreation))
+    not_opened : LeadsTo (Err fetch.OpenFault) (Faulty (State state.InsufficientPermissions))
+    not_read : LeadsTo (Err fetch.ReadFault) (Faulty (State state.InsufficientPermissions))
+    not_fetched : LeadsTo (Err fetch.OutOfMemory) (Faulty (State state.OutOfMemory))
+    not_decoded : {n : ℕ} {bytes : List ℕ} → LeadsTo (Ok (n, bytes)) (Faulty (State state.OutOfMemory))
     malformed : {n : ℕ} {bytes : List ℕ} → ((d : Description) → IsForm d bytes → ⊥)
-        → LeadsTo (Ok (n, bytes)) (Faulty (m.fault state.Corrupted))
+        → LeadsTo (Ok (n, bytes)) (Faulty (State state.Corrupted))
     other_hash : {n : ℕ} {bytes : List ℕ} {d : Description} → IsForm d bytes → d.hash ≢ hash
-        → LeadsTo (Ok (n, bytes)) (Faulty (m.fault state.Corrupted))
-    misfit : {n : ℕ} {bytes : List ℕ} {d : Description} {fault : F} → IsForm d bytes → d.hash ≡ hash
-        → m.misfit d ≡ Some fault → LeadsTo (Ok (n, bytes)) (Faulty fault)
+        → LeadsTo (Ok (n, bytes)) (Faulty (State state.Corrupted))
+    misfit : {n : ℕ} {bytes : List ℕ} {d : Description} {error : E} → IsForm d bytes → d.hash ≡ hash
+        → m.misfit d ≡ Some error → LeadsTo (Ok (n, bytes)) (Faulty (Misfit error))
     fits : {n : ℕ} {bytes : List ℕ} {d : Description} → IsForm d bytes → d.hash ≡ hash
         → m.misfit d ≡ None → LeadsTo (Ok (n, bytes)) (Found n d)
 
 -- One `exists`, and a `fetch` where something may be there.
-module _ {F E C : Type 0} (m : Meaning F E C) (node : ℕ) (hash : ServiceHash) where
-  pub data IsLookWord : List Letter → Outcome F → Type 0 where
+module _ {E C : Type 0} (m : Meaning E C) (node : ℕ) (hash : ServiceHash) where
+  pub data IsLookWord : List Letter → Outcome E → Type 0 where
     absent : IsLookWord (Exists hash existence.No ∷ []) Nothing
-    broken : IsLookWord (Exists hash existence.Fault ∷ []) (Faulty (m.fault state.Corrupted))
-    fetched : {there : Existence} {answer : Result (ℕ × List ℕ) FetchError} {outcome : Outcome F}
+    broken : IsLookWord (Exists hash existence.Fault ∷ []) (Faulty (State state.Corrupted))
+    fetched : {there : Existence} {answer : Result (ℕ × List ℕ) FetchError} {outcome : Outcome E}
         → MayBeThere there → LeadsTo m hash answer outcome
         → IsLookWord (Exists hash there ∷ Fetch node hash answer ∷ []) outcome
 
 -- A service that was read, unless a fault was seen in it.
-abbrev pub found_unless : {F : Type 0} → Option F → ℕ → Description → Outcome F
+abbrev pub found_unless : {E : Type 0} → Option (Fault E) → ℕ → Description → Outcome E
 found_unless (Some fault) number d = Faulty fault
 found_unless None number d = Found number d
 
 -- What a look finds, without the number and the description.
-abbrev pub sight_of : {F : Type 0} → Outcome F → Sight F
+abbrev pub sight_of : {E : Type 0} → Outcome E → Sight E
 sight_of Nothing = sight.Absent
 sight_of (Found number d) = sight.Present
 sight_of (Faulty fault) = sight.Unclear fault

@@ -8,21 +8,22 @@ use Rattle.iceoryx2_access.specs.declared.storage.OpenSegmentError.{OpenSegmentE
 use Rattle.iceoryx2_access.specs.declared.storage.OpenSegmentError.TheVariants as segment
 use Rattle.iceoryx2_access.specs.Letter.{Letter, MakeTag, OpenSegment}
 use Rattle.iceoryx2_access.specs.Registered.{Registered}
+use Rattle.iceoryx2_create_and_open.specs.declared.look.Fault.{Fault}
 use Rattle.iceoryx2_create_and_open.specs.declared.look.Outcome.TheVariants.{Nothing, Found, Faulty}
 use Rattle.iceoryx2_pattern.specs.declared.pattern.OpenRefusal.{OpenRefusal}
 use Rattle.iceoryx2_pattern.specs.declared.pattern.OpenRefusal.TheVariants as refusal
 use Rattle.iceoryx2_pattern.specs.Meaning.{Meaning}
 use Rattle.iceoryx2_create_and_open.specs.Looks.{IsLookWord}
 use Rattle.iceoryx2_create_and_open.specs.GivesBack.{GivesBack, own_tag}
-use Rattle.iceoryx2_create_and_open.specs.Refusals.{of_tag_opening, of_opening}
+use Rattle.iceoryx2_create_and_open.specs.Refusals.{of_tag_opening, of_opening, open_error_of}
 use Rattle.iceoryx2_create_and_open.specs.Opens.{IsFailedRound, IsLastRound}
 
-module _ {F E C : Type 0} (m : Meaning F E C) (node : ℕ) (hash : ServiceHash) where
+module _ {E C : Type 0} (m : Meaning E C) (node : ℕ) (hash : ServiceHash) where
   -- A second look with the tag given back, which ends the call with an error or asks for another round;
   pub data IsSecondLook (tag : Tag) : Option E → List Letter → Type 0 where
-    second_faulty : {v w : List Letter} {fault : F}
+    second_faulty : {v w : List Letter} {fault : Fault E}
         → IsLookWord m node hash v (Faulty fault) → GivesBack node hash (own_tag tag) w
-        → IsSecondLook tag (Some (m.open_error_of fault)) (v ++ w)
+        → IsSecondLook tag (Some (open_error_of m fault)) (v ++ w)
     second_none : {v w : List Letter} → IsLookWord m node hash v Nothing → GivesBack node hash (own_tag tag) w
         → IsSecondLook tag (Some (m.open_refusal refusal.DoesNotExist)) (v ++ w)
     second_found : {v w : List Letter} {k : ℕ} {e : Description}

@@ -7,6 +7,7 @@ use Rattle.iceoryx2_access.specs.declared.storage.TagError.{TagError}
 use Rattle.iceoryx2_access.specs.declared.storage.OpenSegmentError.{OpenSegmentError}
 use Rattle.iceoryx2_access.specs.declared.storage.OpenSegmentError.TheVariants as segment
 use Rattle.iceoryx2_access.specs.Letter.{Letter, MakeTag, OpenSegment}
+use Rattle.iceoryx2_create_and_open.specs.declared.look.Fault.{Fault}
 use Rattle.iceoryx2_create_and_open.specs.declared.look.Outcome.TheVariants.{Nothing, Found, Faulty}
 use Rattle.iceoryx2_create_and_open.specs.declared.open.TheConstants.{OPEN_RETRIES}
 use Rattle.iceoryx2_pattern.specs.declared.pattern.OpenRefusal.{OpenRefusal}
@@ -16,9 +17,9 @@ use Rattle.iceoryx2_pattern.specs.Verdict.{verdict}
 use Rattle.iceoryx2_access.specs.Registered.{Registered}
 use Rattle.iceoryx2_create_and_open.specs.Looks.{IsLookWord}
 use Rattle.iceoryx2_create_and_open.specs.GivesBack.{GivesBack, own_tag}
-use Rattle.iceoryx2_create_and_open.specs.Refusals.{of_tag_opening, of_opening}
+use Rattle.iceoryx2_create_and_open.specs.Refusals.{of_tag_opening, of_opening, open_error_of}
 
-module _ {F E C : Type 0} (m : Meaning F E C) (node : ℕ) (hash : ServiceHash) where
+module _ {E C : Type 0} (m : Meaning E C) (node : ℕ) (hash : ServiceHash) where
   -- A service is found that meets the requirement, and the node has its tag.
   pub data IsReady (n : ℕ) (d : Description) : Tag → List Letter → Type 0 where
     ready : {u : List Letter} (tag : Tag) → IsLookWord m node hash u (Found n d)
@@ -33,8 +34,8 @@ module _ {F E C : Type 0} (m : Meaning F E C) (node : ℕ) (hash : ServiceHash) 
 
   -- The round that gives the answer.
   pub data IsLastRound : List Letter → Result Registered E → Type 0 where
-    look_faulty : {u : List Letter} {fault : F} → IsLookWord m node hash u (Faulty fault)
-        → IsLastRound u (Err (m.open_error_of fault))
+    look_faulty : {u : List Letter} {fault : Fault E} → IsLookWord m node hash u (Faulty fault)
+        → IsLastRound u (Err (open_error_of m fault))
     look_none : {u : List Letter} → IsLookWord m node hash u Nothing
         → IsLastRound u (Err (m.open_refusal refusal.DoesNotExist))
     not_accepted : {u : List Letter} {n : ℕ} {d : Description} {error : E} → IsLookWord m node hash u (Found n d)
@@ -45,9 +46,9 @@ module _ {F E C : Type 0} (m : Meaning F E C) (node : ℕ) (hash : ServiceHash) 
     not_opened : {u v : List Letter} {n : ℕ} {d : Description} {tag : Tag} (e : OpenSegmentError) {why : OpenRefusal}
         → of_opening e ≡ Some why → IsReady n d tag u → GivesBack node hash (own_tag tag) v
         → IsLastRound (u ++ OpenSegment node hash n (Err e) ∷ v) (Err (m.open_refusal why))
-    then_faulty : {u v w : List Letter} {n : ℕ} {d : Description} {tag : Tag} {fault : F}
+    then_faulty : {u v w : List Letter} {n : ℕ} {d : Description} {tag : Tag} {fault : Fault E}
         → IsReady n d tag u → IsLookWord m node hash v (Faulty fault) → GivesBack node hash (own_tag tag) w
-        → IsLastRound (u ++ OpenSegment node hash n (Err segment.Failed) ∷ (v ++ w)) (Err (m.open_error_of fault))
+        → IsLastRound (u ++ OpenSegment node hash n (Err segment.Failed) ∷ (v ++ w)) (Err (open_error_of m fault))
     then_none : {u v w : List Letter} {n : ℕ} {d : Description} {tag : Tag}
         → IsReady n d tag u → IsLookWord m node hash v Nothing → GivesBack node hash (own_tag tag) w
         → IsLastRound (u ++ OpenSegment node hash n (Err segment.Failed) ∷ (v ++ w))
@@ -70,7 +71,7 @@ module _ {F E C : Type 0} (m : Meaning F E C) (node : ℕ) (hash : ServiceHash) 
         → IsOpenWord u (Err (m.open_refusal refusal.ServiceInCorruptedState))
 
 -- What a granted open carries: its node, and a description of its hash that fits and that its requirement accepts.
-pub record CarriesAccepted {F E C : Type 0} (m : Meaning F E C) (node : ℕ) (hash : ServiceHash) (r : Registered)
+pub record CarriesAccepted {E C : Type 0} (m : Meaning E C) (node : ℕ) (hash : ServiceHash) (r : Registered)
     : Type 0 where
   pub node_is : r.node ≡ node
   pub hash_is : r.description.hash ≡ hash

@@ -2,11 +2,11 @@
 use Rattle.std.specs.Prelude.{◌≡◌, ℕ, None, Ok}
 use Rattle.iceoryx2_pattern.specs.Meaning.{Meaning}
 use Rattle.iceoryx2_pattern.specs.Verdict.{verdict}
-use Rattle.iceoryx2_create_and_open.specs.Caller.{Caller}
+use Rattle.iceoryx2_create_and_open.specs.declared.caller.Caller.{Caller}
 use Rattle.iceoryx2_create_and_open.specs.Creates.{description_of}
 
 -- What a create of the one meaning publishes fits the other one, and its requirement is met, whichever node creates.
-pub record AcceptsOwn {F E C : Type 0} (creating opening : Meaning F E C) (caller : Caller) : Type 0 where
+pub record AcceptsOwn {E C : Type 0} (creating opening : Meaning E C) (caller : Caller) : Type 0 where
   pub fits : (node : ℕ) → opening.misfit (description_of creating (record caller { node = node })) ≡ None
   pub accepted : (node : ℕ)
       → verdict (opening.requirement (description_of creating (record caller { node = node }))) ≡ Ok tt

@@ -6,7 +6,7 @@ use Rattle.iceoryx2_access.specs.Registered.{Registered}
 use Rattle.iceoryx2_pattern.specs.declared.pattern.OpenRefusal.TheVariants as open_refusal
 use Rattle.iceoryx2_pattern.specs.declared.pattern.CreateRefusal.TheVariants as create_refusal
 use Rattle.iceoryx2_pattern.specs.Meaning.{Meaning}
-use Rattle.iceoryx2_create_and_open.specs.Caller.{Caller}
+use Rattle.iceoryx2_create_and_open.specs.declared.caller.Caller.{Caller}
 use Rattle.iceoryx2_create_and_open.specs.Creates.{IsCreateWord}
 use Rattle.iceoryx2_create_and_open.specs.Opens.{IsOpenWord}
 
@@ -19,10 +19,10 @@ pub data IsPrepared {E : Type 0} (no_memory : E) (IsWord : List Letter → Resul
 
 -- The words of a create that may prepare its types first,
 abbrev pub IsCreateCall
-    : {F E C : Type 0} → Meaning F E C → Caller → List Letter → Result Registered C → Type 0
+    : {E C : Type 0} → Meaning E C → Caller → List Letter → Result Registered C → Type 0
 IsCreateCall m caller = IsPrepared (m.create_refusal create_refusal.OutOfMemory) (IsCreateWord m caller)
 
 -- and those of such an open.
 abbrev pub IsOpenCall
-    : {F E C : Type 0} → Meaning F E C → ℕ → ServiceHash → List Letter → Result Registered E → Type 0
+    : {E C : Type 0} → Meaning E C → ℕ → ServiceHash → List Letter → Result Registered E → Type 0
 IsOpenCall m node hash = IsPrepared (m.open_refusal open_refusal.OutOfMemory) (IsOpenWord m node hash)

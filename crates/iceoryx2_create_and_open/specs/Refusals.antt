@@ -1,4 +1,4 @@
--- What an access's refusal makes of a call.
+-- What an access's refusal, and what a look finds wrong, make of a call.
 use Rattle.std.specs.Prelude.{Option, Some, None}
 use Rattle.iceoryx2_access.specs.declared.storage.TagError.{TagError}
 use Rattle.iceoryx2_access.specs.declared.storage.TagError.TheVariants as tag
@@ -12,6 +12,11 @@ use Rattle.iceoryx2_access.specs.declared.storage.PublishError.{PublishError}
 use Rattle.iceoryx2_access.specs.declared.storage.PublishError.TheVariants as publish
 use Rattle.iceoryx2_access.specs.declared.storage.OpenSegmentError.{OpenSegmentError}
 use Rattle.iceoryx2_access.specs.declared.storage.OpenSegmentError.TheVariants as segment
+use Rattle.iceoryx2_errors.specs.declared.error.ServiceState.{ServiceState}
+use Rattle.iceoryx2_errors.specs.declared.error.ServiceState.TheVariants as state
+use Rattle.iceoryx2_create_and_open.specs.declared.look.Fault.{Fault}
+use Rattle.iceoryx2_create_and_open.specs.declared.look.Fault.TheVariants as fault
+use Rattle.iceoryx2_pattern.specs.Meaning.{Meaning}
 use Rattle.iceoryx2_pattern.specs.declared.pattern.OpenRefusal.{OpenRefusal}
 use Rattle.iceoryx2_pattern.specs.declared.pattern.OpenRefusal.TheVariants as open_refusal
 use Rattle.iceoryx2_pattern.specs.declared.pattern.CreateRefusal.{CreateRefusal}
@@ -59,3 +64,28 @@ of_opening segment.Full = Some open_refusal.ExceedsMaxNumberOfNodes
 of_opening segment.Failed = None
 of_opening segment.OutOfNumbers = Some open_refusal.InternalFailure
 of_opening segment.OutOfMemory = Some open_refusal.OutOfMemory
+
+-- of a look
+
+abbrev pub of_state : ServiceState → CreateRefusal
+of_state state.IncompatibleMessagingPattern = create_refusal.AlreadyExists
+of_state state.InsufficientPermissions = create_refusal.InsufficientPermissions
+of_state state.HangsInCreation = create_refusal.HangsInCreation
+of_state state.Corrupted = create_refusal.ServiceInCorruptedState
+of_state state.OutOfMemory = create_refusal.OutOfMemory
+
+abbrev pub of_state_opening : ServiceState → OpenRefusal
+of_state_opening state.IncompatibleMessagingPattern = open_refusal.IncompatibleMessagingPattern
+of_state_opening state.InsufficientPermissions = open_refusal.InsufficientPermissions
+of_state_opening state.HangsInCreation = open_refusal.HangsInCreation
+of_state_opening state.Corrupted = open_refusal.ServiceInCorruptedState
+of_state_opening state.OutOfMemory = open_refusal.OutOfMemory
+
+-- A service that doesn't fit is there, so a create says that it exists.
+abbrev pub create_error_of : {E C : Type 0} → Meaning E C → Fault E → C
+create_error_of m (fault.State s) = m.create_refusal (of_state s)
+create_error_of m (fault.Misfit error) = m.create_refusal create_refusal.AlreadyExists
+
+abbrev pub open_error_of : {E C : Type 0} → Meaning E C → Fault E → E
+open_error_of m (fault.State s) = m.open_refusal (of_state_opening s)
+open_error_of m (fault.Misfit error) = error

@@ -9,7 +9,7 @@ ghost use Rattle.iceoryx2_access.specs.Letter.{Letter};
 ghost use Rattle.iceoryx2_pattern.specs.declared.pattern.CreateRefusal.{CreateRefusal};
 ghost use Rattle.iceoryx2_errors.specs.declared.error.CloseError.TheVariants.{NotHere};
 ghost use Rattle.iceoryx2_port_factory.specs.Closes.{IsCloseWord};
-ghost use Rattle.iceoryx2_create_and_open.specs.Caller.{Caller};
+ghost use Rattle.iceoryx2_create_and_open.specs.declared.caller.Caller.{Caller};
 ghost use Rattle.iceoryx2_create_and_open.specs.Counts.{IsWithin, create_limits, open_limits, segment_limits};
 ghost use Rattle.iceoryx2_create_and_open.specs.Creates.{description_of};
 ghost use Rattle.iceoryx2_create_and_open.specs.TracksOwned.{GivesAllBack, GivesTagBack, KeepsAll, KeepsLastTag};
@@ -21,8 +21,8 @@ ghost use Rattle.iceoryx2_pattern.specs.Meaning.{Meaning};
 
 /// A create looks at most once and opens nothing. It makes a segment in at most six attempts, and
 /// removes one at most six times, the last time to give its own back.
-pub fn create_is_short<F: Copy, E: Copy, C: Copy>()
-    ensures { (m : Meaning F E C) (caller : Caller) (word : List Letter) (answer : Result Registered C)
+pub fn create_is_short<E: Copy, C: Copy>()
+    ensures { (m : Meaning E C) (caller : Caller) (word : List Letter) (answer : Result Registered C)
         → IsCreateCall m caller word answer → IsWithin word create_limits }
 {}
 
@@ -35,8 +35,8 @@ pub fn segment_part_is_short()
 {}
 
 /// An open looks at most twelve times and opens at most six times. It makes and removes no segment.
-pub fn open_is_short<F: Copy, E: Copy, C: Copy>()
-    ensures { (m : Meaning F E C) (node : ℕ) (hash : ServiceHash)
+pub fn open_is_short<E: Copy, C: Copy>()
+    ensures { (m : Meaning E C) (node : ℕ) (hash : ServiceHash)
         (word : List Letter) (answer : Result Registered E)
         → IsOpenCall m node hash word answer → IsWithin word open_limits }
 {}
@@ -44,46 +44,46 @@ pub fn open_is_short<F: Copy, E: Copy, C: Copy>()
 /// A refused create has given back what it made: each tag that wasn't there, its lock and its
 /// segment have had one removal each, the last thing first. It leaves only that for which this
 /// removal was refused.
-pub fn refused_create_gives_back<F: Copy, E: Copy, C: Copy>()
-    ensures { (m : Meaning F E C) (caller : Caller) (word : List Letter) (error : C)
+pub fn refused_create_gives_back<E: Copy, C: Copy>()
+    ensures { (m : Meaning E C) (caller : Caller) (word : List Letter) (error : C)
         → IsCreateCall m caller word (Err error) → GivesAllBack caller.node caller.hash word }
 {}
 
 /// A refused open has given back each tag that it made, and took away none that was there. It
 /// leaves a tag only where the removal of its last one was refused, and locks nothing.
-pub fn refused_open_gives_back<F: Copy, E: Copy, C: Copy>()
-    ensures { (m : Meaning F E C) (node : ℕ) (hash : ServiceHash) (word : List Letter) (error : E)
+pub fn refused_open_gives_back<E: Copy, C: Copy>()
+    ensures { (m : Meaning E C) (node : ℕ) (hash : ServiceHash) (word : List Letter) (error : E)
         → IsOpenCall m node hash word (Err error)
         → GivesTagBack node hash word }
 {}
 
 /// A create that succeeds keeps its segment and its lock, under whose number the description now
 /// stands, and its tag, which may have been there. It has given back nothing of its own.
-pub fn create_keeps_what_it_made<F: Copy, E: Copy, C: Copy>()
-    ensures { (m : Meaning F E C) (caller : Caller) (word : List Letter) (r : Registered)
+pub fn create_keeps_what_it_made<E: Copy, C: Copy>()
+    ensures { (m : Meaning E C) (caller : Caller) (word : List Letter) (r : Registered)
         → IsCreateCall m caller word (Ok r)
         → KeepsAll caller.node caller.hash word r.number }
 {}
 
 /// An open that succeeds keeps the tag of its last round, which may have been there, and has given
 /// back the tags that it made in failed rounds.
-pub fn open_keeps_its_tag<F: Copy, E: Copy, C: Copy>()
-    ensures { (m : Meaning F E C) (node : ℕ) (hash : ServiceHash) (word : List Letter) (r : Registered)
+pub fn open_keeps_its_tag<E: Copy, C: Copy>()
+    ensures { (m : Meaning E C) (node : ℕ) (hash : ServiceHash) (word : List Letter) (r : Registered)
         → IsOpenCall m node hash word (Ok r)
         → KeepsLastTag node hash word r.number }
 {}
 
 /// A create that succeeds carries its node and what it published.
-pub fn granted_create_carries<F: Copy, E: Copy, C: Copy>()
-    ensures { (m : Meaning F E C) (caller : Caller) (word : List Letter) (r : Registered)
+pub fn granted_create_carries<E: Copy, C: Copy>()
+    ensures { (m : Meaning E C) (caller : Caller) (word : List Letter) (r : Registered)
         → IsCreateCall m caller word (Ok r)
         → (r.node ≡ caller.node) × (r.description ≡ description_of m caller) }
 {}
 
 /// An open that succeeds carries its node and a description of the builder's hash that is of the
 /// builder's pattern and message types, and on which the requirement was accepted.
-pub fn granted_open_carries<F: Copy, E: Copy, C: Copy>()
-    ensures { (m : Meaning F E C) (node : ℕ) (hash : ServiceHash) (word : List Letter) (r : Registered)
+pub fn granted_open_carries<E: Copy, C: Copy>()
+    ensures { (m : Meaning E C) (node : ℕ) (hash : ServiceHash) (word : List Letter) (r : Registered)
         → IsOpenCall m node hash word (Ok r)
         → CarriesAccepted m node hash r }
 {}

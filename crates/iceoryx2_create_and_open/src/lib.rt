@@ -2,6 +2,7 @@
 //! such a call.
 #![tactic(auto)]
 
+pub mod caller;
 pub mod create;
 mod give_back;
 pub mod laws;

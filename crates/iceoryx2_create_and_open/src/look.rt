@@ -6,36 +6,48 @@ ghost use Rattle.iceoryx2_access.specs.Letter.{fetch_answer};
 ghost use Rattle.iceoryx2_access.specs.Run.{Joins};
 ghost use Rattle.iceoryx2_create_and_open.specs.Looks as looks;
 ghost use Rattle.iceoryx2_create_and_open.specs.Looks.{IsLookWord, LeadsTo, found_unless, sight_of};
+ghost use Rattle.iceoryx2_create_and_open.specs.Refusals as refusals;
+ghost use Rattle.iceoryx2_create_and_open.specs.Refusals.{of_state, of_state_opening};
 
+use crate::caller::Caller;
 use iceoryx2_access::storage::{Existence, FetchError, Storage};
 use iceoryx2_byte_form::bytes::{DecodeError, decode};
 use iceoryx2_description::description::{ServiceHash, StaticConfig};
 use iceoryx2_errors::error::ServiceState;
-use iceoryx2_pattern::pattern::Pattern;
+use iceoryx2_pattern::pattern::{CreateRefusal, OpenRefusal, Pattern};
 use std::alloc::Global;
+
+/// What a look finds wrong.
+#[derive(Clone, Copy)]
+pub enum Fault<E> {
+    /// What may be wrong whatever the pattern.
+    State(ServiceState),
+    /// The service is of another pattern, or of other message types: the error of an open.
+    Misfit(E),
+}
 
 /// What a look finds.
 #[derive(Drop)]
-pub enum Outcome<F> {
+pub enum Outcome<E> {
     Nothing,
     /// A service of the pattern and the message types, with its number.
     Found(u64, StaticConfig),
-    Faulty(F),
+    Faulty(Fault<E>),
 }
 
 /// What a look finds, for a call that needs no description of it.
-pub enum Sight<F> {
+pub enum Sight<E> {
     /// There is nothing.
     Absent,
     /// There is a service of the pattern and the message types.
     Present,
     /// What a look finds wrong.
-    Unclear(F),
+    Unclear(Fault<E>),
 }
 
-impl<F> Outcome<F> {
+impl<E> Outcome<E> {
     /// Forgets the number and the description of what was found.
-    pub fn sight(self) -> Sight<F>
+    pub fn sight(self) -> Sight<E>
         ensures { result ≡ sight_of self }
     {
         match self {
@@ -46,22 +58,67 @@ impl<F> Outcome<F> {
     }
 }
 
+/// The refusal of an open whose look finds this state.
+fn state_refusal(state: ServiceState) -> OpenRefusal
+    ensures { result ≡ of_state_opening state }
+{
+    match state {
+        ServiceState::IncompatibleMessagingPattern => OpenRefusal::IncompatibleMessagingPattern,
+        ServiceState::InsufficientPermissions => OpenRefusal::InsufficientPermissions,
+        ServiceState::HangsInCreation => OpenRefusal::HangsInCreation,
+        ServiceState::Corrupted => OpenRefusal::ServiceInCorruptedState,
+        ServiceState::OutOfMemory => OpenRefusal::OutOfMemory,
+    }
+}
+
+/// The refusal of a create whose look finds this state.
+fn state_create_refusal(state: ServiceState) -> CreateRefusal
+    ensures { result ≡ of_state state }
+{
+    match state {
+        ServiceState::IncompatibleMessagingPattern => CreateRefusal::AlreadyExists,
+        ServiceState::InsufficientPermissions => CreateRefusal::InsufficientPermissions,
+        ServiceState::HangsInCreation => CreateRefusal::HangsInCreation,
+        ServiceState::Corrupted => CreateRefusal::ServiceInCorruptedState,
+        ServiceState::OutOfMemory => CreateRefusal::OutOfMemory,
+    }
+}
+
+/// The error of an open whose look finds this fault.
+pub fn open_error_of<P: Pattern>(pattern: &P, fault: Fault<P::OpenError>) -> P::OpenError
+    ensures { result ≡ refusals.open_error_of (P.meaning pattern.now) fault }
+{
+    match fault {
+        Fault::State(state) => pattern.open_refusal(state_refusal(state)),
+        Fault::Misfit(error) => error,
+    }
+}
+
+/// The error of a create whose look finds this fault. A service that doesn't fit exists.
+pub fn create_error_of<P: Pattern>(pattern: &P, fault: Fault<P::OpenError>) -> P::CreateError
+    ensures { result ≡ refusals.create_error_of (P.meaning pattern.now) fault }
+{
+    match fault {
+        Fault::State(state) => pattern.create_refusal(state_create_refusal(state)),
+        Fault::Misfit(_) => pattern.create_refusal(CreateRefusal::AlreadyExists),
+    }
+}
+
 /// Asks whether there is a service of this hash, and reads its description.
 pub fn look<P: Pattern, S: Storage>(
     pattern: &P,
-    node: u64,
-    hash: &ServiceHash,
+    caller: &Caller,
     storage: &mut S,
-) -> Outcome<P::Fault>
+) -> Outcome<P::OpenError>
     ensures { Joins S.step storage.old
-        (λ word. IsLookWord (P.meaning pattern.now) node hash.now word result) storage.new }
+        (λ word. IsLookWord (P.meaning pattern.now) caller.now.node caller.now.hash word result) storage.new }
 {
-    match storage.exists(hash) {
+    match storage.exists(&caller.hash) {
         Existence::No => Outcome::Nothing,
-        Existence::Fault => Outcome::Faulty(pattern.fault(ServiceState::Corrupted)),
+        Existence::Fault => Outcome::Faulty(Fault::State(ServiceState::Corrupted)),
         Existence::Yes | Existence::BeingSetUp => {
-            let answer = storage.fetch(node, hash);
-            outcome_of(pattern, hash, answer)
+            let answer = storage.fetch(caller.node, &caller.hash);
+            outcome_of(pattern, &caller.hash, answer)
         }
     }
 }
@@ -71,7 +128,7 @@ fn outcome_of<P: Pattern>(
     pattern: &P,
     hash: &ServiceHash,
     answer: Result<(u64, Vec<u8>), FetchError>,
-) -> Outcome<P::Fault>
+) -> Outcome<P::OpenError>
     ensures { LeadsTo (P.meaning pattern.now) hash.now (fetch_answer answer) result }
 {
     match answer {
@@ -79,12 +136,12 @@ fn outcome_of<P: Pattern>(
         Err(error) => match error {
             FetchError::DoesNotExist => Outcome::Nothing,
             FetchError::NotFinalized => {
-                Outcome::Faulty(pattern.fault(ServiceState::HangsInCreation))
+                Outcome::Faulty(Fault::State(ServiceState::HangsInCreation))
             }
             FetchError::OpenFault | FetchError::ReadFault => {
-                Outcome::Faulty(pattern.fault(ServiceState::InsufficientPermissions))
+                Outcome::Faulty(Fault::State(ServiceState::InsufficientPermissions))
             }
-            FetchError::OutOfMemory => Outcome::Faulty(pattern.fault(ServiceState::OutOfMemory)),
+            FetchError::OutOfMemory => Outcome::Faulty(Fault::State(ServiceState::OutOfMemory)),
         },
     }
 }
@@ -96,7 +153,7 @@ fn read<P: Pattern>(
     number: u64,
     alloc: Global,
     bytes: &[u8],
-) -> Outcome<P::Fault>
+) -> Outcome<P::OpenError>
     ensures { LeadsTo (P.meaning pattern.now) hash.now (Ok (number, bytes.now)) result }
 {
     match decode(alloc, bytes) {
@@ -104,8 +161,8 @@ fn read<P: Pattern>(
             let fault = fault_of(pattern, hash, &description);
             found_unless(fault, number, description)
         }
-        Err(DecodeError::Malformed) => Outcome::Faulty(pattern.fault(ServiceState::Corrupted)),
-        Err(DecodeError::OutOfMemory) => Outcome::Faulty(pattern.fault(ServiceState::OutOfMemory)),
+        Err(DecodeError::Malformed) => Outcome::Faulty(Fault::State(ServiceState::Corrupted)),
+        Err(DecodeError::OutOfMemory) => Outcome::Faulty(Fault::State(ServiceState::OutOfMemory)),
     }
 }
 
@@ -114,18 +171,21 @@ fn fault_of<P: Pattern>(
     pattern: &P,
     hash: &ServiceHash,
     description: &StaticConfig,
-) -> Option<P::Fault>
+) -> Option<Fault<P::OpenError>>
     ensures { (number : ℕ) (bytes : List ℕ) → IsForm description.now bytes
         → LeadsTo (P.meaning pattern.now) hash.now (Ok (number, bytes)) (found_unless result number description.now) }
 {
     if *description.service_hash() != *hash {
-        return Some(pattern.fault(ServiceState::Corrupted));
+        return Some(Fault::State(ServiceState::Corrupted));
     }
-    pattern.misfit(description)
+    match pattern.misfit(description) {
+        Some(error) => Some(Fault::Misfit(error)),
+        None => None,
+    }
 }
 
 /// A service that was read, unless a fault was seen in it.
-fn found_unless<F>(fault: Option<F>, number: u64, description: StaticConfig) -> Outcome<F>
+fn found_unless<E>(fault: Option<Fault<E>>, number: u64, description: StaticConfig) -> Outcome<E>
     ensures { result ≡ looks.found_unless fault number description }
 {
     match fault {

@@ -9,11 +9,12 @@ ghost use Rattle.iceoryx2_create_and_open.specs.OpenParts.{IsTaggedOpening, IsRo
 ghost use Rattle.iceoryx2_create_and_open.specs.OpenParts as parts;
 ghost use Rattle.iceoryx2_create_and_open.specs.Refusals.{of_opening, of_tag_opening};
 
+use crate::caller::Caller;
 use crate::give_back::give_back_tag;
-use crate::look::{Outcome, Sight, look};
+use crate::look::{Outcome, Sight, look, open_error_of};
 use iceoryx2_access::storage::{OpenSegmentError, Storage, Tag, TagError};
 use iceoryx2_attribute::attribute::AttributeVerifier;
-use iceoryx2_description::description::{ServiceHash, StaticConfig};
+use iceoryx2_description::description::StaticConfig;
 use iceoryx2_pattern::pattern::{OpenRefusal, Pattern};
 use iceoryx2_pattern::verdict::need_attributes;
 use iceoryx2_port_factory::port_factory::Registration;
@@ -70,18 +71,17 @@ fn verify<P: Pattern>(
 /// Looks again after a failed opening, and gives the tag back. `None` asks for another round.
 fn look_again<P: Pattern, S: Storage>(
     pattern: &P,
-    node: u64,
-    hash: &ServiceHash,
+    caller: &Caller,
     tag: Tag,
     storage: &mut S,
 ) -> Option<P::OpenError>
     ensures { Joins S.step storage.old
-        (λ word. IsSecondLook (P.meaning pattern.now) node hash.now tag result word) storage.new }
+        (λ word. IsSecondLook (P.meaning pattern.now) caller.now.node caller.now.hash tag result word) storage.new }
 {
-    let seen = look(pattern, node, hash, storage).sight();
-    give_back_tag(node, hash, tag, storage);
+    let seen = look(pattern, caller, storage).sight();
+    give_back_tag(caller, tag, storage);
     match seen {
-        Sight::Unclear(fault) => Some(pattern.open_error_of(fault)),
+        Sight::Unclear(fault) => Some(open_error_of(pattern, fault)),
         Sight::Absent => Some(pattern.open_refusal(OpenRefusal::DoesNotExist)),
         Sight::Present => None,
     }
@@ -91,26 +91,25 @@ fn look_again<P: Pattern, S: Storage>(
 /// for another round.
 fn open_with_tag<P: Pattern, S: Storage>(
     pattern: &P,
-    node: u64,
-    hash: &ServiceHash,
+    caller: &Caller,
     number: u64,
     storage: &mut S,
 ) -> Option<Result<u64, P::OpenError>>
     ensures { Joins S.step storage.old
-        (λ word. IsTaggedOpening (P.meaning pattern.now) node hash.now number result word) storage.new }
+        (λ word. IsTaggedOpening (P.meaning pattern.now) caller.now.node caller.now.hash number result word) storage.new }
 {
-    let tag = match storage.make_tag(node, hash) {
+    let tag = match storage.make_tag(caller.node, &caller.hash) {
         Ok(tag) => tag,
         Err(error) => return Some(Err(pattern.open_refusal(tag_refusal(error)))),
     };
-    match storage.open_segment(node, hash, number) {
+    match storage.open_segment(caller.node, &caller.hash, number) {
         Ok(ticket) => Some(Ok(ticket)),
         Err(error) => match opening_refusal(error) {
             Some(refusal) => {
-                give_back_tag(node, hash, tag, storage);
+                give_back_tag(caller, tag, storage);
                 Some(Err(pattern.open_refusal(refusal)))
             }
-            None => match look_again(pattern, node, hash, tag, storage) {
+            None => match look_again(pattern, caller, tag, storage) {
                 Some(error) => Some(Err(error)),
                 None => None,
             },
@@ -122,19 +121,18 @@ fn open_with_tag<P: Pattern, S: Storage>(
 /// or `None`, which asks for another round.
 fn open_found<P: Pattern, S: Storage>(
     pattern: &P,
-    node: u64,
-    hash: &ServiceHash,
+    caller: &Caller,
     verifier: &AttributeVerifier,
     number: u64,
     existing: &StaticConfig,
     storage: &mut S,
 ) -> Option<Result<u64, P::OpenError>>
     ensures { let meaning = requiring verifier.now (P.meaning pattern.now) in
-        let answer = parts.round_registration node number existing.now result in Joins S.step storage.old
-        (λ word. IsRestOfRound meaning node hash.now number existing.now word answer) storage.new }
+        let answer = parts.round_registration caller.now.node number existing.now result in Joins S.step storage.old
+        (λ word. IsRestOfRound meaning caller.now.node caller.now.hash number existing.now word answer) storage.new }
 {
     match verify(pattern, verifier, existing) {
-        Ok(()) => open_with_tag(pattern, node, hash, number, storage),
+        Ok(()) => open_with_tag(pattern, caller, number, storage),
         Err(error) => Some(Err(error)),
     }
 }
@@ -159,40 +157,38 @@ fn registration_of<E>(
 /// One round. `None` asks for another one.
 fn try_open<P: Pattern, S: Storage>(
     pattern: &P,
-    node: u64,
-    hash: &ServiceHash,
+    caller: &Caller,
     verifier: &AttributeVerifier,
     storage: &mut S,
 ) -> Option<Result<Registration, P::OpenError>>
     ensures { let meaning = requiring verifier.now (P.meaning pattern.now) in
-        Joins S.step storage.old (λ word. IsRound meaning node hash.now word result) storage.new }
+        Joins S.step storage.old (λ word. IsRound meaning caller.now.node caller.now.hash word result) storage.new }
 {
-    match look(pattern, node, hash, storage) {
-        Outcome::Faulty(fault) => Some(Err(pattern.open_error_of(fault))),
+    match look(pattern, caller, storage) {
+        Outcome::Faulty(fault) => Some(Err(open_error_of(pattern, fault))),
         Outcome::Nothing => Some(Err(pattern.open_refusal(OpenRefusal::DoesNotExist))),
         Outcome::Found(number, description) => {
-            let answer = open_found(pattern, node, hash, verifier, number, &description, storage);
-            registration_of(node, number, answer, description)
+            let answer = open_found(pattern, caller, verifier, number, &description, storage);
+            registration_of(caller.node, number, answer, description)
         }
     }
 }
 
-/// Opens the service of this hash, in at most six rounds.
+/// Opens the caller's service, in at most six rounds.
 ///
 /// The attributes are required first, and then the settings as they are. The registration carries the
 /// description that was read and accepted in the round that opened.
 pub fn open<P: Pattern, S: Storage>(
     pattern: &P,
-    node: u64,
-    hash: &ServiceHash,
+    caller: &Caller,
     verifier: &AttributeVerifier,
     storage: &mut S,
 ) -> Result<Registration, P::OpenError>
     ensures { let meaning = requiring verifier.now (P.meaning pattern.now) in
-        Joins S.step storage.old (λ word. IsOpenWord meaning node hash.now word result) storage.new }
+        Joins S.step storage.old (λ word. IsOpenWord meaning caller.now.node caller.now.hash word result) storage.new }
 {
     for _round in 0..OPEN_RETRIES + 1 {
-        match try_open(pattern, node, hash, verifier, storage) {
+        match try_open(pattern, caller, verifier, storage) {
             Some(answer) => return answer,
             None => {}
         }

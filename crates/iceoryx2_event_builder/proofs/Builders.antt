@@ -13,16 +13,14 @@ use Rattle.iceoryx2_open_or_create.specs.EndsAtOnce.{EndsAtOnce}
 use Rattle.iceoryx2_open_or_create.proofs.Ends.{Errs, attributes_err, both_err, rows_err, unmet_ends}
 use Rattle.iceoryx2_event_builder.specs.declared.event.demand.EventDemand.{EventDemand}
 use Rattle.iceoryx2_event_builder.specs.Event.{event_creating, event_opening, event_retried, setting_clauses, setting_rows}
-use Rattle.iceoryx2_event_builder.proofs.Regular.{creating_is_regular, opening_is_regular, event_takes_nodes}
 use Rattle.iceoryx2_event_builder.proofs.OwnSettings.{own_settings}
+use Rattle.iceoryx2_builder_common.proofs.Raised.{raised_above}
 use Rattle.iceoryx2_builder_common.specs.Builders.{IsLawfulBuilder}
 use Rattle.iceoryx2_builder_common.specs.Rows.{tested}
 
 pub event_builder : (demand : EventDemand) → IsLawfulBuilder (event_creating demand) (event_opening demand)
 event_builder demand = record {
-  creating_is_regular = creating_is_regular demand;
-  opening_is_regular = opening_is_regular demand;
-  takes_nodes = event_takes_nodes demand;
+  takes_nodes = λ given now. raised_above demand.settings.max_nodes;
   accepts_own = own_settings demand;
 }
 

@@ -1,4 +1,3 @@
 pub mod OwnSettings
-pub mod Regular
 pub mod Builders
 pub mod Granted

@@ -11,10 +11,7 @@ use Rattle.iceoryx2_description.specs.declared.event.Deadline.{Deadline}
 use Rattle.iceoryx2_pattern.specs.Verdict.{Clause}
 use Rattle.iceoryx2_pattern.specs.Meaning.{Meaning}
 use Rattle.iceoryx2_pattern.specs.OwnAttributes.{defining, requiring}
-use Rattle.iceoryx2_errors.specs.States.{open_error_of_state, open_errors_of_events}
-use Rattle.iceoryx2_errors.specs.States.{create_error_of_state, create_errors_of_events}
-use Rattle.iceoryx2_errors.specs.declared.error.ServiceState.{ServiceState}
-use Rattle.iceoryx2_errors.specs.declared.error.ServiceState.TheVariants as state
+use Rattle.iceoryx2_errors.specs.States.{open_errors_of_events, create_errors_of_events}
 use Rattle.iceoryx2_errors.specs.declared.error.events.EventOpenError.{EventOpenError}
 use Rattle.iceoryx2_errors.specs.declared.error.events.EventOpenError.TheVariants as opening
 use Rattle.iceoryx2_errors.specs.declared.error.events.EventCreateError.{EventCreateError}
@@ -62,10 +59,10 @@ setting_clauses demand (existing.PublishSubscribe settings) = []
 setting_clauses demand (existing.RequestResponse settings) = []
 
 -- another pattern than events
-abbrev pub misfit_of : MessagingPattern → Option ServiceState
+abbrev pub misfit_of : MessagingPattern → Option EventOpenError
 misfit_of (existing.Event settings) = None
-misfit_of (existing.PublishSubscribe settings) = Some state.IncompatibleMessagingPattern
-misfit_of (existing.RequestResponse settings) = Some state.IncompatibleMessagingPattern
+misfit_of (existing.PublishSubscribe settings) = Some opening.IncompatibleMessagingPattern
+misfit_of (existing.RequestResponse settings) = Some opening.IncompatibleMessagingPattern
 
 -- zeros become one where a service has to have room for somebody
 abbrev pub event_adjusted : EventDemand → EventDemand
@@ -81,15 +78,12 @@ event_adjusted demand = record demand {
 abbrev pub created_deadline : Span → Deadline → Deadline
 created_deadline now deadline = record { value = deadline.value; creation_time = now }
 
-abbrev pub event_meaning : EventDemand → Meaning ServiceState EventOpenError EventCreateError
+abbrev pub event_meaning : EventDemand → Meaning EventOpenError EventCreateError
 event_meaning demand = record {
-  fault = λ state. state;
+  open_refusal = open_error_of_refusal open_errors_of_events;
+  create_refusal = create_error_of_refusal create_errors_of_events;
   misfit = λ d. misfit_of d.pattern;
   requirement = λ d. setting_clauses demand d.pattern;
-  open_error_of = open_error_of_state open_errors_of_events;
-  open_refusal = open_error_of_refusal open_errors_of_events;
-  create_error_of = create_error_of_state create_errors_of_events;
-  create_refusal = create_error_of_refusal create_errors_of_events;
   history_refusal = None;
   needs_clock = is_some demand.settings.deadline;
   attributes = [];
@@ -98,11 +92,11 @@ event_meaning demand = record {
 }
 
 -- a create: zeros are raised, and these attributes are defined
-abbrev pub event_creating : EventDemand → List Pair → Meaning ServiceState EventOpenError EventCreateError
+abbrev pub event_creating : EventDemand → List Pair → Meaning EventOpenError EventCreateError
 event_creating demand given = defining given (event_meaning (event_adjusted demand))
 
 -- an open: these attributes are required before the settings
-abbrev pub event_opening : EventDemand → Requirements → Meaning ServiceState EventOpenError EventCreateError
+abbrev pub event_opening : EventDemand → Requirements → Meaning EventOpenError EventCreateError
 event_opening demand required = requiring required (event_meaning demand)
 
 -- after which errors an open or create goes on

@@ -43,7 +43,7 @@ pub fn prefix_is_e()
 
 /// What holds of each builder of events.
 ///
-/// Its meanings are regular, and with its adjusted settings a create publishes for one node or more,
+/// With its adjusted settings a create publishes for one node or more,
 /// and what the same builder opens: it fits it and meets each setting that it requires, whatever
 /// attributes are defined and whatever the clock says.
 pub fn opens_what_it_creates()
@@ -60,6 +60,8 @@ pub fn ends_at_once()
 ///
 /// A setter sets the value with which a service is created, and marks the setting, so that an
 /// existing service has to offer as much to be opened. The last value that is set stands.
+///
+/// An example: `crates/examples/src/events.rt`.
 pub struct Builder<S: Service> {
     base: BuilderWithServiceType<S>,
     demand: EventDemand,
@@ -230,11 +232,8 @@ impl<S: Service> Builder<S> {
             storage.old result storage.new }
     {
         let Builder { base, mut demand } = self;
-        let hash = base.hash(PREFIX);
-        let attributes = specifier.attributes();
-        let node = base.node();
-        let name = base.name();
-        hand_out(create(&mut demand, node, &hash, name, attributes, now, storage))
+        let caller = base.into_caller(PREFIX, now);
+        hand_out(create(&mut demand, &caller, specifier.attributes(), storage))
     }
 
     /// Opens the service, whatever its attributes: `open_with_attributes` of a verifier that
@@ -268,8 +267,8 @@ impl<S: Service> Builder<S> {
             storage.old result storage.new }
     {
         let Builder { base, demand } = self;
-        let hash = base.hash(PREFIX);
-        hand_out(open(&demand, base.node(), &hash, verifier, storage))
+        let caller = base.into_caller(PREFIX, Ok(Time::default()));
+        hand_out(open(&demand, &caller, verifier, storage))
     }
 
     /// Opens the service, or creates it where there is none, whatever its attributes:
@@ -305,10 +304,8 @@ impl<S: Service> Builder<S> {
             storage.old (map_err event_refusal result) storage.new }
     {
         let Builder { base, mut demand } = self;
-        let hash = base.hash(PREFIX);
-        let node = base.node();
-        let name = base.name();
-        match open_or_create(&mut demand, node, &hash, name, verifier, now, storage) {
+        let caller = base.into_caller(PREFIX, now);
+        match open_or_create(&mut demand, &caller, verifier, storage) {
             Ok(registration) => Ok(PortFactory::new(registration)),
             Err(refusal) => Err(open_or_create_error(refusal)),
         }

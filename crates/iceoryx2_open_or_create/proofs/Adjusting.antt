@@ -7,7 +7,7 @@ use Rattle.iceoryx2_open_or_create.specs.BuilderCalls.{BuilderCall, opening, ask
 use Rattle.iceoryx2_open_or_create.specs.Grants.{IsAsked, at_first, after_create, Carries, accepted, published}
 use Rattle.iceoryx2_open_or_create.specs.Adjusting.{Accepts, OnlyRaises, MeetsOrHolds, meets, holds}
 
-module _ {D F E C : Type 0} {c : BuilderCall D F E C} where
+module _ {D E C : Type 0} {c : BuilderCall D E C} where
   -- what a round accepts was accepted by what was asked first
   first_accepts : {asked : D} (d : Description) → OnlyRaises c.meaning c.adjusted → IsAsked c asked → Accepts (opening (asking c asked)) d → Accepts (opening c) d
   first_accepts d raises at_first a = a

@@ -9,7 +9,7 @@ use Rattle.iceoryx2_open_or_create.specs.declared.open_or_create.OpenOrCreateRef
 use Rattle.iceoryx2_open_or_create.specs.OpenOrCreates.{IsRetriedTurn, open_retried, create_retried, IsLastTurn, look_faulty, not_opened, opened, not_created, created, AreRetriedTurns, no_turn, one_more, IsOpenOrCreateWord, ended, in_flux}
 use Rattle.iceoryx2_open_or_create.specs.CallWords.{IsOpenOrCreateCall}
 
-module _ {D F E C : Type 0} {c : BuilderCall D F E C} where
+module _ {D E C : Type 0} {c : BuilderCall D E C} where
   last_within : {w : List Letter} {r : Result Registered (OpenOrCreateRefusal E C)} → IsLastTurn c w r → Within w 13 6 6 6
   last_within (look_faulty l) = within_more _ _ _ _ (omega arith) (omega arith) (omega arith) (omega arith) (look_within _ _ _ l)
   last_within (not_opened l o _) = within_more _ _ _ _ (omega arith) (omega arith) (omega arith) (omega arith) (within_append (look_within _ _ _ l) (open_within _ _ _ o))
@@ -21,7 +21,7 @@ module _ {D F E C : Type 0} {c : BuilderCall D F E C} where
   retried_within (open_retried l o _) = within_more _ _ _ _ (omega arith) (omega arith) (omega arith) (omega arith) (within_append (look_within _ _ _ l) (open_within _ _ _ o))
   retried_within (create_retried l m _) = within_more _ _ _ _ (omega arith) (omega arith) (omega arith) (omega arith) (within_append (look_within _ _ _ l) (create_within _ _ _ m))
 
-module _ {D F E C : Type 0} {c : BuilderCall D F E C} where
+module _ {D E C : Type 0} {c : BuilderCall D E C} where
   turns_within : {asked : D} {k : ℕ} {w : List Letter} → AreRetriedTurns c k w asked → Within w (13 * k) (6 * k) (6 * k) (6 * k)
   turns_within no_turn = none_within
   turns_within (one_more before t) = within_more _ _ _ _ (omega arith) (omega arith) (omega arith) (omega arith) (within_append (turns_within before) (retried_within t))
@@ -31,6 +31,6 @@ module _ {D F E C : Type 0} {c : BuilderCall D F E C} where
   open_or_create_within (ended small before t) = within_more _ _ _ _ (omega arith) (omega arith) (omega arith) (omega arith) (within_append (turns_within before) (last_within t))
   open_or_create_within (in_flux before) = turns_within before
 
-module _ {D F E C : Type 0} (c : BuilderCall D F E C) where
+module _ {D E C : Type 0} (c : BuilderCall D E C) where
   pub open_or_create_call_within : {w : List Letter} {r : Result Registered (OpenOrCreateRefusal E C)} → IsOpenOrCreateCall c w r → Within w 78 36 36 36
   open_or_create_call_within = each_call (λ w r. Within w 78 36 36 36) (within_more _ _ _ _ (omega arith) (omega arith) (omega arith) (omega arith) none_within) (λ w r is. open_or_create_within is)

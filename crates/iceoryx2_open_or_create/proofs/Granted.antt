@@ -12,7 +12,7 @@ use Rattle.iceoryx2_open_or_create.specs.BuilderCalls.{BuilderCall, creating, as
 use Rattle.iceoryx2_open_or_create.specs.OpenOrCreates.{IsRetriedTurn, open_retried, create_retried, IsLastTurn, opened, created, AreRetriedTurns, no_turn, one_more, IsOpenOrCreateWord, ended}
 use Rattle.iceoryx2_open_or_create.specs.Grants.{IsAsked, at_first, after_create, Carries, accepted, published}
 
-module _ {D F E C : Type 0} {c : BuilderCall D F E C} where
+module _ {D E C : Type 0} {c : BuilderCall D E C} where
   is_published : {asked : D} {d : Description} → IsAsked c asked → d ≡ description_of (creating (asking c asked)) c.caller → Carries c d
   is_published is e = subst (Carries c) (sym e) (published is)
 
@@ -39,9 +39,9 @@ module _ {D F E C : Type 0} {c : BuilderCall D F E C} where
   pub carried_of : (is_of : MessagingPattern → Bool) → ((asked : D) (d : Description) → (c.meaning asked).misfit d ≡ None → is_of d.pattern ≡ true)
       → ((asked : D) (now : Span) → is_of ((c.meaning asked).published now) ≡ true) → {d : Description} → Carries c d → is_of d.pattern ≡ true
   carried_of is_of fits publishes (accepted {asked = asked} {d = d} _ _ a) = fits asked d a.fits
-  carried_of is_of fits publishes (published {asked = asked} _) = publishes (c.adjusted asked) (time_of c.caller.now)
+  carried_of is_of fits publishes (published {asked = asked} _) = publishes (c.adjusted asked) (time_of c.caller.clock)
 
-module _ {D F E C : Type 0} (c : BuilderCall D F E C) where
+module _ {D E C : Type 0} (c : BuilderCall D E C) where
   -- what is carried once the types are prepared the call carries
   still_asked : {asked : D} → IsAsked (rounds_of c) asked → IsAsked c asked
   still_asked at_first = at_first

@@ -19,16 +19,16 @@ use Rattle.iceoryx2_open_or_create.specs.Leaves.{GivesBackByRounds, no_round, on
 
 module _ {node : ℕ} {hash : ServiceHash} where
   -- a look makes nothing
-  looked : {F E C : Type 0} {m : Meaning F E C} {u : List Letter} {o : Outcome F} → IsLookWord m node hash u o → GivesAllBack node hash u
+  looked : {E C : Type 0} {m : Meaning E C} {u : List Letter} {o : Outcome E} → IsLookWord m node hash u o → GivesAllBack node hash u
   looked l = record { is_tag_left = _; lock = NoLock; is_unlocked = tt; keeps = look_keeps l }
 
-  then_all : {F E C : Type 0} {m : Meaning F E C} {u v : List Letter} {o : Outcome F} → IsLookWord m node hash u o → GivesAllBack node hash v → GivesAllBack node hash (u ++ v)
+  then_all : {E C : Type 0} {m : Meaning E C} {u v : List Letter} {o : Outcome E} → IsLookWord m node hash u o → GivesAllBack node hash v → GivesAllBack node hash (u ++ v)
   then_all l back = record { is_tag_left = back.is_tag_left; lock = back.lock; is_unlocked = back.is_unlocked; keeps = then_keeps (look_keeps l) back.keeps }
 
-  open_gives_back : {F E C : Type 0} {m : Meaning F E C} {w : List Letter} {error : E} → IsOpenWord m node hash w (Err error) → GivesAllBack node hash w
+  open_gives_back : {E C : Type 0} {m : Meaning E C} {w : List Letter} {error : E} → IsOpenWord m node hash w (Err error) → GivesAllBack node hash w
   open_gives_back is = let kept = refused_open_keeps is in record { is_tag_left = kept.is_tag_left; lock = NoLock; is_unlocked = tt; keeps = kept.tracks }
 
-module _ {D F E C : Type 0} {c : BuilderCall D F E C} where
+module _ {D E C : Type 0} {c : BuilderCall D E C} where
   turn_gives_back : {next : D} {w : List Letter} → IsRetriedTurn c w next → GivesAllBack c.caller.node c.caller.hash w
   turn_gives_back (open_retried l o _) = then_all l (open_gives_back o)
   turn_gives_back (create_retried l m _) = then_all l (refused_create_keeps m)
@@ -42,7 +42,7 @@ module _ {D F E C : Type 0} {c : BuilderCall D F E C} where
   then_ends back (opened l o) = let kept = opened_keeps o in record { before = _; in_the_end = _; is_word = refl; gives_back = back; keeps = record { is_tag_left = kept.is_tag_left; tag = kept.tag; tracks = then_keeps (look_keeps l) kept.tracks } }
   then_ends back (created l m) = let kept = created_keeps m in record { before = _; in_the_end = _; is_word = refl; gives_back = back; keeps = record { is_tag_left = false; tag = kept.tag; tracks = then_keeps (look_keeps l) kept.tracks } }
 
-module _ {D F E C : Type 0} {c : BuilderCall D F E C} where
+module _ {D E C : Type 0} {c : BuilderCall D E C} where
   turns_give_back : {asked : D} {k : ℕ} {w : List Letter} → AreRetriedTurns c k w asked → GivesBackByRounds c.caller.node c.caller.hash w
   turns_give_back no_turn = no_round
   turns_give_back (words.one_more before t) = one_more (turns_give_back before) (turn_gives_back t)
@@ -54,6 +54,6 @@ module _ {D F E C : Type 0} {c : BuilderCall D F E C} where
   pub granted_keeps : {w : List Letter} {r : Registered} → IsOpenOrCreateWord c w (Ok r) → KeepsInTheEnd c.caller.node c.caller.hash w r.number
   granted_keeps (ended small before t) = then_ends (turns_give_back before) t
 
-module _ {D F E C : Type 0} (c : BuilderCall D F E C) where
+module _ {D E C : Type 0} (c : BuilderCall D E C) where
   pub refused_call_gives_back : {w : List Letter} {refusal : OpenOrCreateRefusal E C} → IsOpenOrCreateCall c w (Err refusal) → GivesBackByRounds c.caller.node c.caller.hash w
   refused_call_gives_back = refused_call (GivesBackByRounds c.caller.node c.caller.hash) no_round (λ w refusal is. refused_gives_back is)

@@ -10,20 +10,20 @@ use Rattle.iceoryx2_create_and_open.specs.Creates.{description_of}
 use Rattle.iceoryx2_open_or_create.specs.BuilderCalls.{BuilderCall, creating, opening}
 
 -- what an open takes: the service fits, and meets each of its requirements
-pub record Accepts {F E C : Type 0} (m : Meaning F E C) (d : Description) : Type 0 where
+pub record Accepts {E C : Type 0} (m : Meaning E C) (d : Description) : Type 0 where
   pub fits : m.misfit d ≡ None
   pub meets : verdict (m.requirement d) ≡ Ok tt
 
 -- What is accepted with the adjusted settings is accepted with those that were asked, whatever attributes are
 -- required; and adjusting twice is adjusting once.
-pub record OnlyRaises {D F E C : Type 0} (meaning : D → Meaning F E C) (adjusted : D → D) : Type 0 where
+pub record OnlyRaises {D E C : Type 0} (meaning : D → Meaning E C) (adjusted : D → D) : Type 0 where
   pub accepts : (asked : D) (required : Requirements) (d : Description)
       → Accepts (requiring required (meaning (adjusted asked))) d → Accepts (requiring required (meaning asked)) d
   pub once : (asked : D) → adjusted (adjusted asked) ≡ adjusted asked
 
 -- A description of the call's service that what was asked first accepts, or that a create of this node published that
 -- adjusted that once.
-module _ {D F E C : Type 0} (c : BuilderCall D F E C) where
+module _ {D E C : Type 0} (c : BuilderCall D E C) where
   pub data MeetsOrHolds : Description → Type 0 where
     meets : {d : Description} → d.hash ≡ c.caller.hash → Accepts (opening c) d → MeetsOrHolds d
     holds : MeetsOrHolds (description_of (creating c) c.caller)

@@ -4,7 +4,7 @@ use Rattle.iceoryx2_attribute.specs.Attributes.{Pair}
 use Rattle.iceoryx2_attribute.specs.Requirements.{Requirements}
 use Rattle.iceoryx2_pattern.specs.Meaning.{Meaning}
 use Rattle.iceoryx2_pattern.specs.OwnAttributes.{defining, requiring}
-use Rattle.iceoryx2_create_and_open.specs.Caller.{Caller}
+use Rattle.iceoryx2_create_and_open.specs.declared.caller.Caller.{Caller}
 use Rattle.iceoryx2_create_and_open.specs.Counts.{Limits, create_limits, open_limits}
 use Rattle.iceoryx2_open_or_create.specs.Retried.{Retried}
 use Rattle.iceoryx2_open_or_create.specs.declared.open_or_create.OpenOrCreateRefusal.{OpenOrCreateRefusal}
@@ -21,12 +21,12 @@ ErrorBy E C ToCreate = C
 ErrorBy E C ToOpen = E
 ErrorBy E C ToOpenOrCreate = OpenOrCreateRefusal E C
 
-pub record BuilderCall (D F E C : Type 0) : Type 0 where
+pub record BuilderCall (D E C : Type 0) : Type 0 where
   pub way : Way
   -- who calls, for which service, and when
   pub caller : Caller
   -- what a builder asks has a meaning, and a create adjusts it; some refusals lead to another round
-  pub meaning : D → Meaning F E C
+  pub meaning : D → Meaning E C
   pub adjusted : D → D
   pub retried : Retried E C
   pub asked : D
@@ -39,21 +39,21 @@ pub record BuilderCall (D F E C : Type 0) : Type 0 where
 abbrev pub defines : List Pair → Requirements
 defines given = record { pairs = given; keys = [] }
 
-module _ {D F E C : Type 0} (c : BuilderCall D F E C) where
+module _ {D E C : Type 0} (c : BuilderCall D E C) where
   -- what a create publishes by: zeros are raised, and the pairs defined;
-  abbrev pub creating : Meaning F E C
+  abbrev pub creating : Meaning E C
   creating = defining c.required.pairs (c.meaning (c.adjusted c.asked))
 
   -- what an open requires: the pairs and keys, and then the marked settings;
-  abbrev pub opening : Meaning F E C
+  abbrev pub opening : Meaning E C
   opening = requiring c.required (c.meaning c.asked)
 
   -- the same call where something else is asked,
-  abbrev pub asking : D → BuilderCall D F E C
+  abbrev pub asking : D → BuilderCall D E C
   asking asked = record c { asked = asked }
 
   -- and as what the rounds of an open or create are said by, whose types are prepared
-  abbrev pub rounds_of : BuilderCall D F E C
+  abbrev pub rounds_of : BuilderCall D E C
   rounds_of = record c { way = ToOpenOrCreate; prepares = false }
 
 -- how many looks, openings, makings and removals of a segment an open or create has at most,

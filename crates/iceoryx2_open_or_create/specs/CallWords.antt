@@ -20,7 +20,7 @@ abbrev pub PreparedIf : {E : Type 0} → Bool → E → (List Letter → Result 
 PreparedIf true no_memory IsWord = IsPrepared no_memory IsWord
 PreparedIf false no_memory IsWord = IsWord
 
-module _ {D F E C : Type 0} (c : BuilderCall D F E C) where
+module _ {D E C : Type 0} (c : BuilderCall D E C) where
   -- An open or create prepares its types once, before the first round. Out of memory there, it has an error of an open.
   abbrev pub IsOpenOrCreateCall : List Letter → Result Registered (OpenOrCreateRefusal E C) → Type 0
   IsOpenOrCreateCall = IsPrepared (refusal.Open ((opening c).open_refusal open_refusal.OutOfMemory))
@@ -38,6 +38,6 @@ module _ {D F E C : Type 0} (c : BuilderCall D F E C) where
   IsWordOf = IsWordBy c.way
 
 -- The call leads a storage from one state to another, with this answer: along a word of it.
-abbrev pub Calls : {S D F E C : Type 0} (step : S → Letter → S → Type 0) (c : BuilderCall D F E C)
+abbrev pub Calls : {S D E C : Type 0} (step : S → Letter → S → Type 0) (c : BuilderCall D E C)
     → S → Result Registered (ErrorBy E C c.way) → S → Type 0
 Calls step c old answer new = Joins step old (λ word. IsWordOf c word answer) new

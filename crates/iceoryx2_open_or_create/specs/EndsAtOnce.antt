@@ -8,7 +8,7 @@ use Rattle.iceoryx2_pattern.specs.Verdict.{verdict}
 use Rattle.iceoryx2_open_or_create.specs.Retried.{Retried}
 
 -- What a table that nobody else uses refuses isn't tried again.
-pub record EndsAtOnce {F E C : Type 0} (retried : Retried E C) (making opening : Meaning F E C) : Type 0 where
+pub record EndsAtOnce {E C : Type 0} (retried : Retried E C) (making opening : Meaning E C) : Type 0 where
   -- a requirement that isn't met, no place, no number, out of memory
   pub not_accepted : (d : Description) (error : E) → verdict (opening.requirement d) ≡ Err error
       → retried.of_open error ≡ false

@@ -5,7 +5,7 @@ use Rattle.iceoryx2_create_and_open.specs.Creates.{description_of}
 use Rattle.iceoryx2_open_or_create.specs.Adjusting.{Accepts}
 use Rattle.iceoryx2_open_or_create.specs.BuilderCalls.{BuilderCall, creating, opening, asking}
 
-module _ {D F E C : Type 0} (c : BuilderCall D F E C) where
+module _ {D E C : Type 0} (c : BuilderCall D E C) where
   -- What may be asked in a round: what was asked first, adjusted by each create before.
   pub data IsAsked : D → Type 0 where
     at_first : IsAsked c.asked

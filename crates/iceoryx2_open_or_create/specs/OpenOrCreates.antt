@@ -3,19 +3,21 @@ use Rattle.std.specs.Prelude.{◌≡◌, ◌≤◌, ◌+◌, ℕ, suc, true, fal
 use Rattle.iceoryx2_description.specs.Description.{Description}
 use Rattle.iceoryx2_access.specs.Registered.{Registered}
 use Rattle.iceoryx2_access.specs.Letter.{Letter}
+use Rattle.iceoryx2_create_and_open.specs.declared.look.Fault.{Fault}
 use Rattle.iceoryx2_create_and_open.specs.declared.look.Outcome.{Outcome}
 use Rattle.iceoryx2_create_and_open.specs.declared.look.Outcome.TheVariants.{Nothing, Found, Faulty}
 use Rattle.iceoryx2_create_and_open.specs.Looks.{IsLookWord}
 use Rattle.iceoryx2_create_and_open.specs.Creates.{IsCreateWord}
+use Rattle.iceoryx2_create_and_open.specs.Refusals.{open_error_of}
 use Rattle.iceoryx2_create_and_open.specs.Opens.{IsOpenWord}
 use Rattle.iceoryx2_open_or_create.specs.BuilderCalls.{BuilderCall, creating, opening, asking}
 use Rattle.iceoryx2_open_or_create.specs.declared.open_or_create.TheConstants.{OPEN_OR_CREATE_RETRIES}
 use Rattle.iceoryx2_open_or_create.specs.declared.open_or_create.OpenOrCreateRefusal.{OpenOrCreateRefusal}
 use Rattle.iceoryx2_open_or_create.specs.declared.open_or_create.OpenOrCreateRefusal.TheVariants as refusal
 
-module _ {D F E C : Type 0} (c : BuilderCall D F E C) where
+module _ {D E C : Type 0} (c : BuilderCall D E C) where
   -- A round looks,
-  abbrev pub IsLook : List Letter → Outcome F → Type 0
+  abbrev pub IsLook : List Letter → Outcome E → Type 0
   IsLook word outcome = IsLookWord (c.meaning c.asked) c.caller.node c.caller.hash word outcome
 
   -- and opens with the required attributes,
@@ -37,8 +39,8 @@ module _ {D F E C : Type 0} (c : BuilderCall D F E C) where
 
   -- The round that gives the answer. What its own look finds wrong is never retried.
   pub data IsLastTurn : List Letter → Result Registered (OpenOrCreateRefusal E C) → Type 0 where
-    look_faulty : {u : List Letter} {fault : F} → IsLook u (Faulty fault)
-        → IsLastTurn u (Err (refusal.Open ((c.meaning c.asked).open_error_of fault)))
+    look_faulty : {u : List Letter} {fault : Fault E} → IsLook u (Faulty fault)
+        → IsLastTurn u (Err (refusal.Open (open_error_of (c.meaning c.asked) fault)))
     not_opened : {u v : List Letter} {n : ℕ} {d : Description} {error : E}
         → IsLook u (Found n d) → IsOpening v (Err error)
         → c.retried.of_open error ≡ false → IsLastTurn (u ++ v) (Err (refusal.Open error))
@@ -50,7 +52,7 @@ module _ {D F E C : Type 0} (c : BuilderCall D F E C) where
     created : {u v : List Letter} {r : Registered}
         → IsLook u Nothing → IsMaking v (Ok r) → IsLastTurn (u ++ v) (Ok r)
 
-module _ {D F E C : Type 0} (c : BuilderCall D F E C) where
+module _ {D E C : Type 0} (c : BuilderCall D E C) where
   -- So many rounds that are retried, one after the other, and what is asked after them.
   pub data AreRetriedTurns : ℕ → List Letter → D → Type 0 where
     no_turn : AreRetriedTurns 0 [] c.asked

@@ -1,13 +1,31 @@
--- What one round of the code of open or create is said by.
-use Rattle.std.specs.Prelude.{List, Result, Option, Some, None}
+-- What the code of open or create, and one round of it, are said by.
+use Rattle.std.specs.Prelude.{false, List, Result, Option, Some, None}
 use Rattle.iceoryx2_access.specs.Registered.{Registered}
 use Rattle.iceoryx2_access.specs.Letter.{Letter}
-use Rattle.iceoryx2_open_or_create.specs.BuilderCalls.{BuilderCall}
+use Rattle.iceoryx2_attribute.specs.Requirements.{Requirements}
+use Rattle.iceoryx2_pattern.specs.Meaning.{Meaning}
+use Rattle.iceoryx2_create_and_open.specs.declared.caller.Caller.{Caller}
+use Rattle.iceoryx2_open_or_create.specs.Retried.{Retried}
+use Rattle.iceoryx2_open_or_create.specs.BuilderCalls.{BuilderCall, ToOpenOrCreate}
 use Rattle.iceoryx2_open_or_create.specs.OpenOrCreates.{IsLastTurn, IsRetriedTurn}
 use Rattle.iceoryx2_open_or_create.specs.declared.open_or_create.OpenOrCreateRefusal.{OpenOrCreateRefusal}
 
--- It may ask for another one.
-abbrev pub IsTurn : {D F E C : Type 0} → BuilderCall D F E C → List Letter
+-- the call of this caller, of a pattern of such meanings that asks this
+abbrev pub called_by : {D E C : Type 0} → (D → Meaning E C) → (D → D) → Retried E C → D → Requirements → Caller
+    → BuilderCall D E C
+called_by meaning adjusted retried asked required caller = record {
+  way = ToOpenOrCreate;
+  caller = caller;
+  meaning = meaning;
+  adjusted = adjusted;
+  retried = retried;
+  asked = asked;
+  required = required;
+  prepares = false;
+}
+
+-- A round may ask for another one.
+abbrev pub IsTurn : {D E C : Type 0} → BuilderCall D E C → List Letter
     → Option (Result Registered (OpenOrCreateRefusal E C)) → D → Type 0
 IsTurn c word None next = IsRetriedTurn c word next
 IsTurn c word (Some answer) next = IsLastTurn c word answer

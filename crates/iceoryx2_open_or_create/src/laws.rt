@@ -16,8 +16,8 @@ ghost use Rattle.iceoryx2_open_or_create.specs.declared.open_or_create.OpenOrCre
 
 /// An open or create looks at most 78 times and opens at most 36 times. It makes a segment in at most
 /// 36 attempts, and removes one at most 36 times.
-pub fn open_or_create_is_short<D, F: Copy, E: Copy, C: Copy>()
-    ensures { (c : BuilderCall D F E C) (word : List Letter)
+pub fn open_or_create_is_short<D, E: Copy, C: Copy>()
+    ensures { (c : BuilderCall D E C) (word : List Letter)
         (answer : Result Registered (OpenOrCreateRefusal E C))
         → IsOpenOrCreateCall c word answer
         → IsWithin word open_or_create_limits }
@@ -25,8 +25,8 @@ pub fn open_or_create_is_short<D, F: Copy, E: Copy, C: Copy>()
 
 /// A refused open or create has given back what it made, round by round. Each round leaves only that
 /// for which a removal was refused.
-pub fn refused_open_or_create_gives_back<D, F: Copy, E: Copy, C: Copy>()
-    ensures { (c : BuilderCall D F E C) (word : List Letter)
+pub fn refused_open_or_create_gives_back<D, E: Copy, C: Copy>()
+    ensures { (c : BuilderCall D E C) (word : List Letter)
         (refusal : OpenOrCreateRefusal E C)
         → IsOpenOrCreateCall c word (Err refusal)
         → GivesBackByRounds c.caller.node c.caller.hash word }
@@ -34,8 +34,8 @@ pub fn refused_open_or_create_gives_back<D, F: Copy, E: Copy, C: Copy>()
 
 /// An open or create that succeeds keeps what its last round made, and each round before has given
 /// back what it made.
-pub fn open_or_create_keeps_what_it_made<D, F: Copy, E: Copy, C: Copy>()
-    ensures { (c : BuilderCall D F E C) (word : List Letter) (r : Registered)
+pub fn open_or_create_keeps_what_it_made<D, E: Copy, C: Copy>()
+    ensures { (c : BuilderCall D E C) (word : List Letter) (r : Registered)
         → IsOpenOrCreateCall c word (Ok r)
         → KeepsInTheEnd c.caller.node c.caller.hash word r.number }
 {}
@@ -43,16 +43,16 @@ pub fn open_or_create_keeps_what_it_made<D, F: Copy, E: Copy, C: Copy>()
 /// An open or create that succeeds carries its node, and a description that its last round accepted,
 /// or published with zeros raised. What that round asks is what was asked first, adjusted by each
 /// create before.
-pub fn granted_open_or_create_carries<D, F: Copy, E: Copy, C: Copy>()
-    ensures { (c : BuilderCall D F E C) (word : List Letter) (r : Registered)
+pub fn granted_open_or_create_carries<D, E: Copy, C: Copy>()
+    ensures { (c : BuilderCall D E C) (word : List Letter) (r : Registered)
         → IsOpenOrCreateCall c word (Ok r)
         → (r.node ≡ c.caller.node) × Carries c r.description }
 {}
 
 /// Where a create only raises minima, what an open or create carries that succeeds meets what was
 /// asked first, whatever its rounds adjusted, or was published with that adjusted once.
-pub fn granted_open_or_create_meets_or_holds<D, F: Copy, E: Copy, C: Copy>()
-    ensures { (c : BuilderCall D F E C) (word : List Letter) (r : Registered)
+pub fn granted_open_or_create_meets_or_holds<D, E: Copy, C: Copy>()
+    ensures { (c : BuilderCall D E C) (word : List Letter) (r : Registered)
         → OnlyRaises c.meaning c.adjusted → IsOpenOrCreateCall c word (Ok r)
         → MeetsOrHolds c r.description }
 {}

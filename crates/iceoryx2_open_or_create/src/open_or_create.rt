@@ -1,20 +1,17 @@
 //! How a service is opened, or created where there is none.
 
-ghost use Rattle.std.specs.Prelude.{◌≡◌, false};
+ghost use Rattle.std.specs.Prelude.{◌≡◌};
 ghost use Rattle.iceoryx2_access.specs.Run.{Joins};
-ghost use Rattle.iceoryx2_create_and_open.specs.Caller.{Caller};
-ghost use Rattle.iceoryx2_open_or_create.specs.BuilderCalls.{BuilderCall, ToOpenOrCreate};
 ghost use Rattle.iceoryx2_open_or_create.specs.OpenOrCreates.{IsOpenOrCreateWord};
-ghost use Rattle.iceoryx2_open_or_create.specs.TurnParts.{IsTurn};
+ghost use Rattle.iceoryx2_open_or_create.specs.TurnParts.{IsTurn, called_by};
 
 use crate::retries::{Retries, retries_create, retries_open};
 use iceoryx2_access::storage::Storage;
 use iceoryx2_attribute::attribute::AttributeVerifier;
+use iceoryx2_create_and_open::caller::Caller;
 use iceoryx2_create_and_open::create::create;
-use iceoryx2_create_and_open::look::{Sight, look};
+use iceoryx2_create_and_open::look::{Sight, look, open_error_of};
 use iceoryx2_create_and_open::open::open;
-use iceoryx2_description::description::{ServiceHash, ServiceName};
-use iceoryx2_description::time::{ClockFault, Time};
 use iceoryx2_port_factory::port_factory::Registration;
 
 /// How often an open or create goes on after a round that is retried.
@@ -36,45 +33,22 @@ pub enum OpenOrCreateRefusal<E, C> {
     SystemInFlux,
 }
 
-/// What the clock says, once more.
-fn same_time(now: &Result<Time, ClockFault>) -> Result<Time, ClockFault>
-    ensures { result ≡ now.now }
-{
-    match now {
-        Ok(time) => Ok(*time),
-        Err(fault) => Err(*fault),
-    }
-}
-
 /// One round. `None` asks for another one.
 fn take_turn<P: Retries, S: Storage>(
     pattern: &mut P,
-    node: u64,
-    hash: &ServiceHash,
-    name: &ServiceName,
+    caller: &Caller,
     verifier: &AttributeVerifier,
-    now: Result<Time, ClockFault>,
     storage: &mut S,
 ) -> Option<Result<Registration, OpenOrCreateRefusal<P::OpenError, P::CreateError>>>
-    ensures { let caller : Caller = record { node = node; hash = hash.now; name = name.now; now = now } in
-        let call : BuilderCall P P.Fault P.OpenError P.CreateError = record {
-          way = ToOpenOrCreate;
-          caller = caller;
-          meaning = P.meaning;
-          adjusted = P.adjusted;
-          retried = P.retried;
-          asked = pattern.old;
-          required = verifier.now;
-          prepares = false;
-        } in
+    ensures { let call = called_by P.meaning P.adjusted P.retried pattern.old verifier.now caller.now in
         Joins S.step storage.old (λ word. IsTurn call word result pattern.new) storage.new }
 {
-    match look(pattern, node, hash, storage).sight() {
+    match look(pattern, caller, storage).sight() {
         Sight::Unclear(fault) => {
-            let error = pattern.open_error_of(fault);
+            let error = open_error_of(pattern, fault);
             return Some(Err(OpenOrCreateRefusal::Open(error)));
         }
-        Sight::Present => match open(pattern, node, hash, verifier, storage) {
+        Sight::Present => match open(pattern, caller, verifier, storage) {
             Ok(registration) => return Some(Ok(registration)),
             Err(error) => {
                 if retries_open(pattern, error) {
@@ -86,7 +60,7 @@ fn take_turn<P: Retries, S: Storage>(
         Sight::Absent => {}
     }
     let attributes = verifier.required_attributes();
-    match create(pattern, node, hash, name, attributes, now, storage) {
+    match create(pattern, caller, attributes, storage) {
         Ok(registration) => return Some(Ok(registration)),
         Err(error) => {
             if retries_create(pattern, error) {
@@ -97,8 +71,7 @@ fn take_turn<P: Retries, S: Storage>(
     }
 }
 
-/// Opens the service of this hash, or creates it under this name where there is none, in at most six
-/// rounds.
+/// Opens the caller's service, or creates it where there is none, in at most six rounds.
 ///
 /// A round looks first. What that look finds wrong is answered at once. A service that is found is
 /// opened, if it has the required pairs and keys and meets the pattern's requirement; where there is
@@ -107,29 +80,15 @@ fn take_turn<P: Retries, S: Storage>(
 /// a create raises stay raised in the rounds after it. Each round gives back what it made.
 pub fn open_or_create<P: Retries, S: Storage>(
     pattern: &mut P,
-    node: u64,
-    hash: &ServiceHash,
-    name: &ServiceName,
+    caller: &Caller,
     verifier: &AttributeVerifier,
-    now: Result<Time, ClockFault>,
     storage: &mut S,
 ) -> Result<Registration, OpenOrCreateRefusal<P::OpenError, P::CreateError>>
-    ensures { let caller : Caller = record { node = node; hash = hash.now; name = name.now; now = now } in
-        let call : BuilderCall P P.Fault P.OpenError P.CreateError = record {
-          way = ToOpenOrCreate;
-          caller = caller;
-          meaning = P.meaning;
-          adjusted = P.adjusted;
-          retried = P.retried;
-          asked = pattern.old;
-          required = verifier.now;
-          prepares = false;
-        } in
+    ensures { let call = called_by P.meaning P.adjusted P.retried pattern.old verifier.now caller.now in
         Joins S.step storage.old (λ word. IsOpenOrCreateWord call word result) storage.new }
 {
     for _round in 0..OPEN_OR_CREATE_RETRIES + 1 {
-        let again = same_time(&now);
-        match take_turn(pattern, node, hash, name, verifier, again, storage) {
+        match take_turn(pattern, caller, verifier, storage) {
             Some(answer) => return answer,
             None => {}
         }

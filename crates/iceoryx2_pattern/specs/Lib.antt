@@ -1,4 +1,3 @@
 pub mod Verdict
 pub mod Meaning
 pub mod OwnAttributes
-pub mod Regular

@@ -18,11 +18,11 @@ attribute_clauses error required existing =
     map (pair_clause error existing) required.pairs ++ map (key_clause error existing) required.keys
 
 -- a call whose create publishes these attributes
-abbrev pub defining : {F E C : Type 0} → List Pair → Meaning F E C → Meaning F E C
+abbrev pub defining : {E C : Type 0} → List Pair → Meaning E C → Meaning E C
 defining given m = record m { attributes = given }
 
 -- a call whose open requires these first, before its pattern's own requirement
-abbrev pub requiring : {F E C : Type 0} → Requirements → Meaning F E C → Meaning F E C
+abbrev pub requiring : {E C : Type 0} → Requirements → Meaning E C → Meaning E C
 requiring required m = record m {
   requirement = λ d.
       attribute_clauses (m.open_refusal IncompatibleAttributes) required d.attributes ++ m.requirement d;

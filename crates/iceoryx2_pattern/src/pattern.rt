@@ -6,40 +6,40 @@ ghost use Rattle.iceoryx2_pattern.specs.Verdict.{verdict};
 
 use iceoryx2_description::description::{MessagingPattern, StaticConfig};
 use iceoryx2_description::time::Time;
-use iceoryx2_errors::error::ServiceState;
 use std::alloc::AllocError;
 
-/// The refusals of an open that every pattern has, beside the faults of a look and the
-/// requirement.
+/// The refusals of an open that every pattern has, beside those of a service that doesn't fit or meets its
+/// requirement not.
 #[derive(Clone, Copy, Debug, PartialEq, Eq)]
 pub enum OpenRefusal {
     DoesNotExist,
-    IncompatibleAttributes,
-    ServiceInCorruptedState,
-    InternalFailure,
     ExceedsMaxNumberOfNodes,
+    HangsInCreation,
+    IncompatibleAttributes,
+    IncompatibleMessagingPattern,
+    InsufficientPermissions,
+    InternalFailure,
     IsMarkedForDestruction,
     OutOfMemory,
+    ServiceInCorruptedState,
 }
 
-/// The refusals of a create that every pattern has, beside the faults of a look.
+/// The refusals of a create that every pattern has.
 #[derive(Clone, Copy, Debug, PartialEq, Eq)]
 pub enum CreateRefusal {
-    ServiceInCorruptedState,
+    AlreadyExists,
+    HangsInCreation,
+    InsufficientPermissions,
     InternalFailure,
     IsBeingCreatedByAnotherInstance,
-    AlreadyExists,
-    InsufficientPermissions,
     OutOfMemory,
+    ServiceInCorruptedState,
 }
 
 /// What a pattern's builder asks of a service, and how its calls name what goes wrong.
 ///
 /// It stands for one call: its settings and marks, and the message types that it prepared.
 pub trait Pattern {
-    /// What a look finds wrong.
-    type Fault: Copy;
-
     /// Why an open is refused.
     type OpenError: Copy;
 
@@ -47,7 +47,7 @@ pub trait Pattern {
     type CreateError: Copy;
 
     /// What it asks, and its errors.
-    ghost meaning: { Self → Meaning Self.Fault Self.OpenError Self.CreateError };
+    ghost meaning: { Self → Meaning Self.OpenError Self.CreateError };
 
     /// The same with each zero that a create raises replaced by one.
     ghost adjusted: { Self → Self };
@@ -56,29 +56,17 @@ pub trait Pattern {
     fn adjust(&mut self)
         ensures { self.new ≡ adjusted self.old };
 
-    /// The fault of a state that every pattern has.
-    fn fault(&self, state: ServiceState) -> Self::Fault
-        ensures { result ≡ (meaning self.now).fault state };
-
-    /// Whether a service of the right hash is of another pattern, or of other message types.
-    fn misfit(&self, existing: &StaticConfig) -> Option<Self::Fault>
+    /// Why a service of the right hash isn't opened that is of another pattern, or of other message types.
+    fn misfit(&self, existing: &StaticConfig) -> Option<Self::OpenError>
         ensures { result ≡ (meaning self.now).misfit existing.now };
 
     /// Whether an existing service meets the requirement, clause by clause.
     fn verify(&self, existing: &StaticConfig) -> Result<(), Self::OpenError>
         ensures { result ≡ verdict ((meaning self.now).requirement existing.now) };
 
-    /// The error of an open whose look found a fault.
-    fn open_error_of(&self, fault: Self::Fault) -> Self::OpenError
-        ensures { result ≡ (meaning self.now).open_error_of fault };
-
     /// The error of a refused open.
     fn open_refusal(&self, refusal: OpenRefusal) -> Self::OpenError
         ensures { result ≡ (meaning self.now).open_refusal refusal };
-
-    /// The error of a create whose look found a fault.
-    fn create_error_of(&self, fault: Self::Fault) -> Self::CreateError
-        ensures { result ≡ (meaning self.now).create_error_of fault };
 
     /// The error of a refused create.
     fn create_refusal(&self, refusal: CreateRefusal) -> Self::CreateError

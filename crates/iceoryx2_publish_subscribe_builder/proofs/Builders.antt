@@ -6,15 +6,11 @@ use Rattle.iceoryx2_attribute.specs.Attributes.{Pair}
 use Rattle.iceoryx2_attribute.specs.Requirements.{Requirements, no_requirements}
 use Rattle.iceoryx2_description.specs.declared.description.MessagingPattern.{MessagingPattern}
 use Rattle.iceoryx2_description.specs.declared.description.MessagingPattern.TheVariants as existing
-use Rattle.iceoryx2_errors.specs.States.{publish_subscribe_create_error_of_state}
-use Rattle.iceoryx2_errors.specs.declared.error.publish_subscribe.ServiceAvailabilityState.{ServiceAvailabilityState}
-use Rattle.iceoryx2_errors.specs.declared.error.publish_subscribe.ServiceAvailabilityState.TheVariants as look
 use Rattle.iceoryx2_errors.specs.declared.error.publish_subscribe.PublishSubscribeCreateError.TheVariants as creating
-use Rattle.iceoryx2_pattern.specs.Regular.{IsRegular}
 use Rattle.iceoryx2_pattern.specs.Verdict.{at_least, flag_is, verdict}
 use Rattle.iceoryx2_pattern.proofs.MetRows.{not_less, same_flag}
 use Rattle.iceoryx2_builder_common.proofs.Rows.{accepted}
-use Rattle.iceoryx2_create_and_open.specs.Caller.{Caller}
+use Rattle.iceoryx2_create_and_open.specs.declared.caller.Caller.{Caller}
 use Rattle.iceoryx2_create_and_open.specs.Creates.{description_of}
 use Rattle.iceoryx2_create_and_open.specs.OwnSettings.{AcceptsOwn}
 use Rattle.iceoryx2_description.specs.Description.{Description}
@@ -28,29 +24,10 @@ use Rattle.iceoryx2_builder_common.specs.Builders.{IsLawfulBuilder}
 use Rattle.iceoryx2_builder_common.specs.Rows.{tested}
 use Rattle.iceoryx2_publish_subscribe_builder.specs.declared.publish_subscribe.demand.PreparedDemand.{PreparedDemand}
 use Rattle.iceoryx2_publish_subscribe_builder.specs.PublishSubscribe.{prepared_adjusted, prepared_meaning, publish_subscribe_retried, setting_clauses, setting_rows}
-use Rattle.iceoryx2_builder_common.proofs.Misfits.{fits_itself, is_told, is_tested}
+use Rattle.iceoryx2_builder_common.proofs.Misfits.{fits_itself}
 use Rattle.iceoryx2_builder_common.proofs.Raised.{not_below, raised_above}
 use Rattle.iceoryx2_publish_subscribe_builder.specs.declared.publish_subscribe.demand.PublishSubscribeDemand.{PublishSubscribeDemand}
 use Rattle.iceoryx2_publish_subscribe_builder.specs.PublishSubscribe.{publish_subscribe_meaning, publish_subscribe_adjusted, publish_subscribe_creating, publish_subscribe_opening, misfit_of}
-
--- ---- its meanings are regular
-
-abbrev IsExisting : ServiceAvailabilityState → Type 0
-IsExisting fault = publish_subscribe_create_error_of_state fault ≡ creating.AlreadyExists
-
-misfit_exists : (message : Message) (pattern : MessagingPattern) (fault : ServiceAvailabilityState) → misfit_of message pattern ≡ Some fault → IsExisting fault
-misfit_exists message (existing.Event s) fault e = is_told IsExisting _ fault e refl
-misfit_exists message (existing.PublishSubscribe s) fault e =
-    is_tested IsExisting (compatible message s.message_type_details) None look.IncompatibleTypes fault e refl (λ none. absurd (cc))
-misfit_exists message (existing.RequestResponse s) fault e = is_told IsExisting _ fault e refl
-
-creating_is_regular : (demand : PublishSubscribeDemand) (message : Message) (given : List Pair) → IsRegular (publish_subscribe_creating demand message given)
-creating_is_regular demand message given =
-    record { create_memory = refl; open_memory = refl; misfit = λ d fault e. misfit_exists message d.pattern fault e }
-
-opening_is_regular : (demand : PublishSubscribeDemand) (message : Message) (required : Requirements) → IsRegular (publish_subscribe_opening demand message required)
-opening_is_regular demand message required =
-    record { create_memory = refl; open_memory = refl; misfit = λ d fault e. misfit_exists message d.pattern fault e }
 
 -- ---- it takes what it created
 
@@ -62,15 +39,13 @@ meets demand message caller = accepted _ (search (rules, not_below, not_less, sa
 own_settings : (demand : PublishSubscribeDemand) (message : Message) (given : List Pair) (caller : Caller)
     → AcceptsOwn (publish_subscribe_creating demand message given) (publish_subscribe_opening demand message no_requirements) caller
 own_settings demand message given caller = record {
-  fits = λ node. ap (λ b. cond b None (Some look.IncompatibleTypes)) (fits_itself message);
+  fits = λ node. ap (λ b. cond b None (Some opening.IncompatibleTypes)) (fits_itself message);
   accepted = λ node. meets demand message (record caller { node = node });
 }
 
 pub publish_subscribe_builder : (demand : PublishSubscribeDemand) (message : Message)
     → IsLawfulBuilder (publish_subscribe_creating demand message) (publish_subscribe_opening demand message)
 publish_subscribe_builder demand message = record {
-  creating_is_regular = creating_is_regular demand message;
-  opening_is_regular = opening_is_regular demand message;
   takes_nodes = λ given now. raised_above demand.settings.max_nodes;
   accepts_own = own_settings demand message;
 }

@@ -10,11 +10,7 @@ use Rattle.iceoryx2_description.specs.declared.description.MessagingPattern.TheV
 use Rattle.iceoryx2_pattern.specs.Verdict.{Clause}
 use Rattle.iceoryx2_pattern.specs.Meaning.{Meaning}
 use Rattle.iceoryx2_pattern.specs.OwnAttributes.{defining, requiring}
-use Rattle.iceoryx2_errors.specs.States.{publish_subscribe_open_error_of_state, open_errors_of_publish_subscribe}
-use Rattle.iceoryx2_errors.specs.States.{publish_subscribe_create_error_of_state, create_errors_of_publish_subscribe}
-use Rattle.iceoryx2_errors.specs.declared.error.ServiceState.TheVariants as state
-use Rattle.iceoryx2_errors.specs.declared.error.publish_subscribe.ServiceAvailabilityState.{ServiceAvailabilityState}
-use Rattle.iceoryx2_errors.specs.declared.error.publish_subscribe.ServiceAvailabilityState.TheVariants as look
+use Rattle.iceoryx2_errors.specs.States.{open_errors_of_publish_subscribe, create_errors_of_publish_subscribe}
 use Rattle.iceoryx2_errors.specs.declared.error.publish_subscribe.PublishSubscribeOpenError.{PublishSubscribeOpenError}
 use Rattle.iceoryx2_errors.specs.declared.error.publish_subscribe.PublishSubscribeOpenError.TheVariants as opening
 use Rattle.iceoryx2_errors.specs.declared.error.publish_subscribe.PublishSubscribeCreateError.{PublishSubscribeCreateError}
@@ -59,11 +55,11 @@ setting_clauses demand (existing.PublishSubscribe settings) =
 setting_clauses demand (existing.RequestResponse settings) = []
 
 -- another pattern than publish-subscribe, or messages of which its own can't be
-abbrev pub misfit_of : Message → MessagingPattern → Option ServiceAvailabilityState
-misfit_of message (existing.Event settings) = Some (look.ServiceState state.IncompatibleMessagingPattern)
+abbrev pub misfit_of : Message → MessagingPattern → Option PublishSubscribeOpenError
+misfit_of message (existing.Event settings) = Some opening.IncompatibleMessagingPattern
 misfit_of message (existing.PublishSubscribe settings) =
-    if compatible message settings.message_type_details then None else Some look.IncompatibleTypes
-misfit_of message (existing.RequestResponse settings) = Some (look.ServiceState state.IncompatibleMessagingPattern)
+    if compatible message settings.message_type_details then None else Some opening.IncompatibleTypes
+misfit_of message (existing.RequestResponse settings) = Some opening.IncompatibleMessagingPattern
 
 -- zeros become one where a service has to have room for somebody or something; a service may have no history
 abbrev pub publish_subscribe_adjusted : PublishSubscribeDemand → PublishSubscribeDemand
@@ -100,15 +96,12 @@ published_with settings message = existing.PublishSubscribe (record {
 })
 
 abbrev pub publish_subscribe_meaning : PublishSubscribeDemand → Message
-    → Meaning ServiceAvailabilityState PublishSubscribeOpenError PublishSubscribeCreateError
+    → Meaning PublishSubscribeOpenError PublishSubscribeCreateError
 publish_subscribe_meaning demand message = record {
-  fault = λ state. look.ServiceState state;
+  open_refusal = open_error_of_refusal open_errors_of_publish_subscribe;
+  create_refusal = create_error_of_refusal create_errors_of_publish_subscribe;
   misfit = λ d. misfit_of message d.pattern;
   requirement = λ d. setting_clauses demand d.pattern;
-  open_error_of = publish_subscribe_open_error_of_state;
-  open_refusal = open_error_of_refusal open_errors_of_publish_subscribe;
-  create_error_of = publish_subscribe_create_error_of_state;
-  create_refusal = create_error_of_refusal create_errors_of_publish_subscribe;
   history_refusal = history_refusal_of demand.settings;
   needs_clock = false;
   attributes = [];
@@ -117,18 +110,18 @@ publish_subscribe_meaning demand message = record {
 
 -- a create: zeros are raised, and these attributes are defined
 abbrev pub publish_subscribe_creating : PublishSubscribeDemand → Message → List Pair
-    → Meaning ServiceAvailabilityState PublishSubscribeOpenError PublishSubscribeCreateError
+    → Meaning PublishSubscribeOpenError PublishSubscribeCreateError
 publish_subscribe_creating demand message given =
     defining given (publish_subscribe_meaning (publish_subscribe_adjusted demand) message)
 
 -- an open: these attributes are required before the settings, and the types by the look
 abbrev pub publish_subscribe_opening : PublishSubscribeDemand → Message → Requirements
-    → Meaning ServiceAvailabilityState PublishSubscribeOpenError PublishSubscribeCreateError
+    → Meaning PublishSubscribeOpenError PublishSubscribeCreateError
 publish_subscribe_opening demand message required = requiring required (publish_subscribe_meaning demand message)
 
 -- what one call asks: its message was prepared once, and no round changes it
 abbrev pub prepared_meaning : PreparedDemand
-    → Meaning ServiceAvailabilityState PublishSubscribeOpenError PublishSubscribeCreateError
+    → Meaning PublishSubscribeOpenError PublishSubscribeCreateError
 prepared_meaning asked = publish_subscribe_meaning asked.demand asked.message
 
 abbrev pub prepared_adjusted : PreparedDemand → PreparedDemand

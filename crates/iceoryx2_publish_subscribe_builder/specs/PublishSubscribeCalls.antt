@@ -4,10 +4,10 @@ use Rattle.iceoryx2_attribute.specs.Requirements.{Requirements}
 use Rattle.iceoryx2_types.specs.Types.{Message}
 use Rattle.iceoryx2_description.specs.declared.description.ServiceHash.{ServiceHash}
 use Rattle.iceoryx2_description.specs.Span.{zero_span}
-use Rattle.iceoryx2_errors.specs.declared.error.publish_subscribe.ServiceAvailabilityState.{ServiceAvailabilityState}
 use Rattle.iceoryx2_errors.specs.declared.error.publish_subscribe.PublishSubscribeOpenError.{PublishSubscribeOpenError}
 use Rattle.iceoryx2_errors.specs.declared.error.publish_subscribe.PublishSubscribeCreateError.{PublishSubscribeCreateError}
 use Rattle.iceoryx2_open_or_create.specs.BuilderCalls.{BuilderCall, Way}
+use Rattle.iceoryx2_builder_common.specs.Facts.{caller_of}
 use Rattle.iceoryx2_publish_subscribe_builder.specs.declared.publish_subscribe.demand.PreparedDemand.{PreparedDemand}
 use Rattle.iceoryx2_publish_subscribe_builder.specs.PublishSubscribe.{prepared_adjusted, prepared_meaning}
 use Rattle.iceoryx2_publish_subscribe_builder.specs.PublishSubscribe.{publish_subscribe_retried}
@@ -17,15 +17,10 @@ use Rattle.iceoryx2_publish_subscribe_builder.specs.Builder.{PublishSubscribeBui
 -- requires pairs and keys. It doesn't ask the clock: its time is zero.
 abbrev pub publish_subscribe_call : (hash_of : ℕ → List ℕ → ServiceHash) → PublishSubscribeBuilderState → Message → Way
     → Requirements
-    → BuilderCall PreparedDemand ServiceAvailabilityState PublishSubscribeOpenError PublishSubscribeCreateError
+    → BuilderCall PreparedDemand PublishSubscribeOpenError PublishSubscribeCreateError
 publish_subscribe_call hash_of b message way required = record {
   way = way;
-  caller = record {
-    node = b.node;
-    hash = hash_of prefix_of_publish_subscribe b.name;
-    name = b.name;
-    now = Ok zero_span;
-  };
+  caller = caller_of hash_of prefix_of_publish_subscribe (record { node = b.node; name = b.name }) (Ok zero_span);
   meaning = prepared_meaning;
   adjusted = prepared_adjusted;
   retried = publish_subscribe_retried;

@@ -3,12 +3,14 @@
 ghost use Rattle.std.specs.Prelude.{◌≡◌, Ok, IfOk};
 ghost use Rattle.iceoryx2_attribute.specs.Requirements.{Requirements, no_requirements};
 ghost use Rattle.iceoryx2_types.specs.Types.{Message};
+ghost use Rattle.iceoryx2_description.specs.Span.{zero_span};
 ghost use Rattle.iceoryx2_pattern.specs.OwnAttributes.{defining, requiring};
 ghost use Rattle.iceoryx2_create_and_open.specs.Answers.{map_err};
 ghost use Rattle.iceoryx2_open_or_create.specs.BuilderCalls.{ToCreate, ToOpen, ToOpenOrCreate, defines};
 ghost use Rattle.iceoryx2_open_or_create.specs.CallWords.{Calls};
 ghost use Rattle.iceoryx2_open_or_create.specs.EndsAtOnce.{EndsAtOnce};
 ghost use Rattle.iceoryx2_builder_common.specs.Builders.{IsLawfulBuilder};
+ghost use Rattle.iceoryx2_builder_common.specs.Facts.{ServiceFacts, caller_of};
 ghost use Rattle.iceoryx2_publish_subscribe_builder.specs.PublishSubscribe.{publish_subscribe_creating};
 ghost use Rattle.iceoryx2_publish_subscribe_builder.specs.PublishSubscribe.{publish_subscribe_opening};
 ghost use Rattle.iceoryx2_publish_subscribe_builder.specs.PublishSubscribe.{prepared_adjusted};
@@ -16,7 +18,7 @@ ghost use Rattle.iceoryx2_publish_subscribe_builder.specs.PublishSubscribe.{prep
 ghost use Rattle.iceoryx2_publish_subscribe_builder.specs.PublishSubscribe.{publish_subscribe_refusal};
 ghost use Rattle.iceoryx2_publish_subscribe_builder.specs.PublishSubscribe.{publish_subscribe_retried};
 ghost use Rattle.iceoryx2_publish_subscribe_builder.specs.PublishSubscribeCalls.{publish_subscribe_call};
-ghost use Rattle.iceoryx2_publish_subscribe_builder.specs.Builder.{fresh_builder};
+ghost use Rattle.iceoryx2_publish_subscribe_builder.specs.Builder.{fresh_builder, prefix_of_publish_subscribe};
 ghost use Rattle.iceoryx2_publish_subscribe_builder.specs.Builder.{message_for, with_setting};
 
 pub mod demand;
@@ -32,6 +34,7 @@ use iceoryx2_builder_common::answer::hand_out;
 use iceoryx2_builder_common::ask_for;
 use iceoryx2_builder_common::base::BuilderWithServiceType;
 use iceoryx2_builder_common::requested::RequestedTypes;
+use iceoryx2_create_and_open::caller::Caller;
 use iceoryx2_create_and_open::create::create;
 use iceoryx2_create_and_open::open::open;
 use iceoryx2_description::config;
@@ -58,7 +61,7 @@ pub fn prefix_is_p()
 
 /// What holds of each builder of publish-subscribe, whatever the types of its messages.
 ///
-/// Its meanings are regular, and with its adjusted settings a create publishes for one node or more,
+/// With its adjusted settings a create publishes for one node or more,
 /// and what the same builder opens: it fits it and meets each setting that it requires, whatever
 /// attributes are defined.
 pub fn opens_what_it_creates()
@@ -79,6 +82,8 @@ pub fn ends_at_once()
 /// that an existing service has to offer as much to be opened. The last value that is set stands.
 /// The types of the messages are no settings: an existing service's have to be those of the
 /// builder, with user header and payload aligned at least as far.
+///
+/// An example: `crates/examples/src/publish_subscribe.rt`.
 pub struct Builder<P, U, S: Service> {
     base: BuilderWithServiceType<S>,
     demand: PublishSubscribeDemand,
@@ -285,11 +290,13 @@ impl<P: ZeroCopySend, U: ZeroCopySend, S: Service> Builder<P, U, S> {
         Builder::from_parts(base, demand, types)
     }
 
-    /// What every builder keeps, and what a call of this one asks, with its types made. `AllocError`
-    /// where there was no memory for their names.
-    fn into_prepared(self) -> Result<(BuilderWithServiceType<S>, PreparedDemand), AllocError>
+    /// Who calls, at the time zero, and what the call asks, with its types made. `AllocError` where there was
+    /// no memory for their names.
+    fn into_prepared(self) -> Result<(Caller, PreparedDemand), AllocError>
         ensures { let message = message_for P.detail U.detail self.types in
-            IfOk result (λ made. (made.0 ≡ record { node = self.node; name = self.name })
+            let base : ServiceFacts = record { node = self.node; name = self.name } in
+            let caller = caller_of S.ServiceNameHasher.hash_of prefix_of_publish_subscribe base (Ok zero_span) in
+            IfOk result (λ made. (made.0 ≡ caller)
             × (made.1 ≡ record { demand = self.demand; message = message })) }
     {
         let Builder {
@@ -300,7 +307,8 @@ impl<P: ZeroCopySend, U: ZeroCopySend, S: Service> Builder<P, U, S> {
             user_header: _,
         } = self;
         let message = types.prepare::<Header, P, U>(base.name().allocator())?;
-        Ok((base, PreparedDemand { demand, message }))
+        let caller = base.into_caller(PREFIX, Ok(Time::default()));
+        Ok((caller, PreparedDemand { demand, message }))
     }
 
     /// Creates the service without attributes: `create_with_attributes` of a specifier that
@@ -338,15 +346,10 @@ impl<P: ZeroCopySend, U: ZeroCopySend, S: Service> Builder<P, U, S> {
             (publish_subscribe_call S.ServiceNameHasher.hash_of self message ToCreate (defines specifier.now))
             storage.old result storage.new }
     {
-        let Ok((base, mut asked)) = self.into_prepared() else {
+        let Ok((caller, mut asked)) = self.into_prepared() else {
             return Err(PublishSubscribeCreateError::OutOfMemory);
         };
-        let hash = base.hash(PREFIX);
-        let attributes = specifier.attributes();
-        let node = base.node();
-        let name = base.name();
-        let now = Ok(Time::default());
-        hand_out(create(&mut asked, node, &hash, name, attributes, now, storage))
+        hand_out(create(&mut asked, &caller, specifier.attributes(), storage))
     }
 
     /// Opens the service, whatever its attributes: `open_with_attributes` of a verifier that
@@ -386,11 +389,10 @@ impl<P: ZeroCopySend, U: ZeroCopySend, S: Service> Builder<P, U, S> {
             Calls S.Storage.step (publish_subscribe_call S.ServiceNameHasher.hash_of self message ToOpen verifier.now)
             storage.old result storage.new }
     {
-        let Ok((base, asked)) = self.into_prepared() else {
+        let Ok((caller, asked)) = self.into_prepared() else {
             return Err(PublishSubscribeOpenError::OutOfMemory);
         };
-        let hash = base.hash(PREFIX);
-        hand_out(open(&asked, base.node(), &hash, verifier, storage))
+        hand_out(open(&asked, &caller, verifier, storage))
     }
 
     /// Opens the service, or creates it where there is none, whatever its attributes:
@@ -429,18 +431,14 @@ impl<P: ZeroCopySend, U: ZeroCopySend, S: Service> Builder<P, U, S> {
             (publish_subscribe_call S.ServiceNameHasher.hash_of self message ToOpenOrCreate verifier.now)
             storage.old (map_err publish_subscribe_refusal result) storage.new }
     {
-        let Ok((base, mut asked)) = self.into_prepared() else {
+        let Ok((caller, mut asked)) = self.into_prepared() else {
             return Err(
                 PublishSubscribeOpenOrCreateError::PublishSubscribeOpenError(
                     PublishSubscribeOpenError::OutOfMemory,
                 ),
             );
         };
-        let hash = base.hash(PREFIX);
-        let node = base.node();
-        let name = base.name();
-        let now = Ok(Time::default());
-        match open_or_create(&mut asked, node, &hash, name, verifier, now, storage) {
+        match open_or_create(&mut asked, &caller, verifier, storage) {
             Ok(registration) => Ok(PortFactory::new(registration)),
             Err(refusal) => Err(open_or_create_error(refusal)),
         }

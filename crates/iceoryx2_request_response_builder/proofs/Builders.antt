@@ -6,15 +6,11 @@ use Rattle.iceoryx2_attribute.specs.Attributes.{Pair}
 use Rattle.iceoryx2_attribute.specs.Requirements.{Requirements, no_requirements}
 use Rattle.iceoryx2_description.specs.declared.description.MessagingPattern.{MessagingPattern}
 use Rattle.iceoryx2_description.specs.declared.description.MessagingPattern.TheVariants as existing
-use Rattle.iceoryx2_errors.specs.States.{request_response_create_error_of_state}
-use Rattle.iceoryx2_errors.specs.declared.error.request_response.ServiceAvailabilityState.{ServiceAvailabilityState}
-use Rattle.iceoryx2_errors.specs.declared.error.request_response.ServiceAvailabilityState.TheVariants as look
 use Rattle.iceoryx2_errors.specs.declared.error.request_response.RequestResponseCreateError.TheVariants as creating
-use Rattle.iceoryx2_pattern.specs.Regular.{IsRegular}
 use Rattle.iceoryx2_pattern.specs.Verdict.{at_least, flag_is, verdict}
 use Rattle.iceoryx2_pattern.proofs.MetRows.{same_flag}
 use Rattle.iceoryx2_builder_common.proofs.Rows.{accepted}
-use Rattle.iceoryx2_create_and_open.specs.Caller.{Caller}
+use Rattle.iceoryx2_create_and_open.specs.declared.caller.Caller.{Caller}
 use Rattle.iceoryx2_create_and_open.specs.Creates.{description_of}
 use Rattle.iceoryx2_create_and_open.specs.OwnSettings.{AcceptsOwn}
 use Rattle.iceoryx2_description.specs.Description.{Description}
@@ -27,34 +23,10 @@ use Rattle.iceoryx2_builder_common.specs.Builders.{IsLawfulBuilder}
 use Rattle.iceoryx2_builder_common.specs.Rows.{tested}
 use Rattle.iceoryx2_request_response_builder.specs.declared.request_response.demand.PreparedDemand.{PreparedDemand}
 use Rattle.iceoryx2_request_response_builder.specs.RequestResponse.{prepared_adjusted, prepared_meaning, request_response_retried, setting_clauses, setting_rows}
-use Rattle.iceoryx2_builder_common.proofs.Misfits.{fits_itself, is_told, is_tested}
+use Rattle.iceoryx2_builder_common.proofs.Misfits.{fits_itself}
 use Rattle.iceoryx2_builder_common.proofs.Raised.{not_below, raised_above}
 use Rattle.iceoryx2_request_response_builder.specs.declared.request_response.demand.RequestResponseDemand.{RequestResponseDemand}
 use Rattle.iceoryx2_request_response_builder.specs.RequestResponse.{request_response_meaning, request_response_adjusted, request_response_creating, request_response_opening, misfit_of}
-
--- ---- its meanings are regular
-
-abbrev IsExisting : ServiceAvailabilityState → Type 0
-IsExisting fault = request_response_create_error_of_state fault ≡ creating.AlreadyExists
-
-responses_exist : (fits : Bool) (fault : ServiceAvailabilityState) → cond fits None (Some look.IncompatibleResponseType) ≡ Some fault → IsExisting fault
-responses_exist fits fault e = is_tested IsExisting fits None look.IncompatibleResponseType fault e refl (λ none. absurd (cc))
-
-misfit_exists : (request response : Message) (pattern : MessagingPattern) (fault : ServiceAvailabilityState)
-    → misfit_of request response pattern ≡ Some fault → IsExisting fault
-misfit_exists request response (existing.Event s) fault e = is_told IsExisting _ fault e refl
-misfit_exists request response (existing.PublishSubscribe s) fault e = is_told IsExisting _ fault e refl
-misfit_exists request response (existing.RequestResponse s) fault e =
-    is_tested IsExisting (compatible request s.request_message_type_details) _ look.IncompatibleRequestType fault e refl
-    (responses_exist (compatible response s.response_message_type_details) fault)
-
-creating_is_regular : (demand : RequestResponseDemand) (request response : Message) (given : List Pair) → IsRegular (request_response_creating demand request response given)
-creating_is_regular demand request response given =
-    record { create_memory = refl; open_memory = refl; misfit = λ d fault e. misfit_exists request response d.pattern fault e }
-
-opening_is_regular : (demand : RequestResponseDemand) (request response : Message) (required : Requirements) → IsRegular (request_response_opening demand request response required)
-opening_is_regular demand request response required =
-    record { create_memory = refl; open_memory = refl; misfit = λ d fault e. misfit_exists request response d.pattern fault e }
 
 -- ---- it takes what it created
 
@@ -74,8 +46,6 @@ own_settings demand request response given caller = record {
 pub request_response_builder : (demand : RequestResponseDemand) (request response : Message)
     → IsLawfulBuilder (request_response_creating demand request response) (request_response_opening demand request response)
 request_response_builder demand request response = record {
-  creating_is_regular = creating_is_regular demand request response;
-  opening_is_regular = opening_is_regular demand request response;
   takes_nodes = λ given now. raised_above demand.settings.max_nodes;
   accepts_own = own_settings demand request response;
 }

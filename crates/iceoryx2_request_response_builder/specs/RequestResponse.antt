@@ -10,11 +10,7 @@ use Rattle.iceoryx2_description.specs.declared.description.MessagingPattern.TheV
 use Rattle.iceoryx2_pattern.specs.Verdict.{Clause}
 use Rattle.iceoryx2_pattern.specs.Meaning.{Meaning}
 use Rattle.iceoryx2_pattern.specs.OwnAttributes.{defining, requiring}
-use Rattle.iceoryx2_errors.specs.States.{request_response_open_error_of_state, open_errors_of_request_response}
-use Rattle.iceoryx2_errors.specs.States.{request_response_create_error_of_state, create_errors_of_request_response}
-use Rattle.iceoryx2_errors.specs.declared.error.ServiceState.TheVariants as state
-use Rattle.iceoryx2_errors.specs.declared.error.request_response.ServiceAvailabilityState.{ServiceAvailabilityState}
-use Rattle.iceoryx2_errors.specs.declared.error.request_response.ServiceAvailabilityState.TheVariants as look
+use Rattle.iceoryx2_errors.specs.States.{open_errors_of_request_response, create_errors_of_request_response}
 use Rattle.iceoryx2_errors.specs.declared.error.request_response.RequestResponseOpenError.{RequestResponseOpenError}
 use Rattle.iceoryx2_errors.specs.declared.error.request_response.RequestResponseOpenError.TheVariants as opening
 use Rattle.iceoryx2_errors.specs.declared.error.request_response.RequestResponseCreateError.{RequestResponseCreateError}
@@ -65,15 +61,15 @@ setting_clauses demand (existing.RequestResponse settings) =
     row_clauses (setting_rows demand.settings demand.marks settings)
 
 -- another pattern than request-response, or requests of which its own can't be, or such responses, in this order
-abbrev pub misfit_of : (request response : Message) → MessagingPattern → Option ServiceAvailabilityState
-misfit_of request response (existing.Event settings) = Some (look.ServiceState state.IncompatibleMessagingPattern)
+abbrev pub misfit_of : (request response : Message) → MessagingPattern → Option RequestResponseOpenError
+misfit_of request response (existing.Event settings) = Some opening.IncompatibleMessagingPattern
 misfit_of request response (existing.PublishSubscribe settings) =
-    Some (look.ServiceState state.IncompatibleMessagingPattern)
+    Some opening.IncompatibleMessagingPattern
 misfit_of request response (existing.RequestResponse settings) =
     if compatible request settings.request_message_type_details
     then if compatible response settings.response_message_type_details
-    then None else Some look.IncompatibleResponseType
-    else Some look.IncompatibleRequestType
+    then None else Some opening.IncompatibleResponseType
+    else Some opening.IncompatibleRequestType
 
 -- zeros become one: a service has room for somebody and something of each kind
 abbrev pub request_response_adjusted : RequestResponseDemand → RequestResponseDemand
@@ -108,15 +104,12 @@ published_with settings request response = existing.RequestResponse (record {
 })
 
 abbrev pub request_response_meaning : RequestResponseDemand → (request response : Message)
-    → Meaning ServiceAvailabilityState RequestResponseOpenError RequestResponseCreateError
+    → Meaning RequestResponseOpenError RequestResponseCreateError
 request_response_meaning demand request response = record {
-  fault = λ state. look.ServiceState state;
+  open_refusal = open_error_of_refusal open_errors_of_request_response;
+  create_refusal = create_error_of_refusal create_errors_of_request_response;
   misfit = λ d. misfit_of request response d.pattern;
   requirement = λ d. setting_clauses demand d.pattern;
-  open_error_of = request_response_open_error_of_state;
-  open_refusal = open_error_of_refusal open_errors_of_request_response;
-  create_error_of = request_response_create_error_of_state;
-  create_refusal = create_error_of_refusal create_errors_of_request_response;
   history_refusal = None;
   needs_clock = false;
   attributes = [];
@@ -125,19 +118,19 @@ request_response_meaning demand request response = record {
 
 -- a create: zeros are raised, and these attributes are defined
 abbrev pub request_response_creating : RequestResponseDemand → (request response : Message) → List Pair
-    → Meaning ServiceAvailabilityState RequestResponseOpenError RequestResponseCreateError
+    → Meaning RequestResponseOpenError RequestResponseCreateError
 request_response_creating demand request response given =
     defining given (request_response_meaning (request_response_adjusted demand) request response)
 
 -- an open: these attributes are required before the settings, and the types by the look
 abbrev pub request_response_opening : RequestResponseDemand → (request response : Message) → Requirements
-    → Meaning ServiceAvailabilityState RequestResponseOpenError RequestResponseCreateError
+    → Meaning RequestResponseOpenError RequestResponseCreateError
 request_response_opening demand request response required =
     requiring required (request_response_meaning demand request response)
 
 -- what one call asks: its messages were prepared once, and no round changes them
 abbrev pub prepared_meaning : PreparedDemand
-    → Meaning ServiceAvailabilityState RequestResponseOpenError RequestResponseCreateError
+    → Meaning RequestResponseOpenError RequestResponseCreateError
 prepared_meaning asked = request_response_meaning asked.demand asked.request asked.response
 
 abbrev pub prepared_adjusted : PreparedDemand → PreparedDemand

@@ -3,10 +3,10 @@ use Rattle.std.specs.Prelude.{ℕ, List, Ok, true}
 use Rattle.iceoryx2_attribute.specs.Requirements.{Requirements}
 use Rattle.iceoryx2_description.specs.declared.description.ServiceHash.{ServiceHash}
 use Rattle.iceoryx2_description.specs.Span.{zero_span}
-use Rattle.iceoryx2_errors.specs.declared.error.request_response.ServiceAvailabilityState.{ServiceAvailabilityState}
 use Rattle.iceoryx2_errors.specs.declared.error.request_response.RequestResponseOpenError.{RequestResponseOpenError}
 use Rattle.iceoryx2_errors.specs.declared.error.request_response.RequestResponseCreateError.{RequestResponseCreateError}
 use Rattle.iceoryx2_open_or_create.specs.BuilderCalls.{BuilderCall, Way}
+use Rattle.iceoryx2_builder_common.specs.Facts.{caller_of}
 use Rattle.iceoryx2_request_response_builder.specs.declared.request_response.demand.PreparedDemand.{PreparedDemand}
 use Rattle.iceoryx2_request_response_builder.specs.RequestResponse.{prepared_adjusted, prepared_meaning}
 use Rattle.iceoryx2_request_response_builder.specs.RequestResponse.{request_response_retried}
@@ -17,15 +17,10 @@ use Rattle.iceoryx2_request_response_builder.specs.Builder.{prefix_of_request_re
 -- an open requires pairs and keys. It doesn't ask the clock: its time is zero.
 abbrev pub request_response_call : (hash_of : ℕ → List ℕ → ServiceHash) → RequestResponseBuilderState → Messages → Way
     → Requirements
-    → BuilderCall PreparedDemand ServiceAvailabilityState RequestResponseOpenError RequestResponseCreateError
+    → BuilderCall PreparedDemand RequestResponseOpenError RequestResponseCreateError
 request_response_call hash_of b messages way required = record {
   way = way;
-  caller = record {
-    node = b.node;
-    hash = hash_of prefix_of_request_response b.name;
-    name = b.name;
-    now = Ok zero_span;
-  };
+  caller = caller_of hash_of prefix_of_request_response (record { node = b.node; name = b.name }) (Ok zero_span);
   meaning = prepared_meaning;
   adjusted = prepared_adjusted;
   retried = request_response_retried;

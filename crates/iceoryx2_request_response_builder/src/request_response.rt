@@ -3,12 +3,14 @@
 ghost use Rattle.std.specs.Prelude.{◌≡◌, Ok, IfOk};
 ghost use Rattle.iceoryx2_attribute.specs.Requirements.{Requirements, no_requirements};
 ghost use Rattle.iceoryx2_types.specs.Types.{Message};
+ghost use Rattle.iceoryx2_description.specs.Span.{zero_span};
 ghost use Rattle.iceoryx2_pattern.specs.OwnAttributes.{defining, requiring};
 ghost use Rattle.iceoryx2_create_and_open.specs.Answers.{map_err};
 ghost use Rattle.iceoryx2_open_or_create.specs.BuilderCalls.{ToCreate, ToOpen, ToOpenOrCreate, defines};
 ghost use Rattle.iceoryx2_open_or_create.specs.CallWords.{Calls};
 ghost use Rattle.iceoryx2_open_or_create.specs.EndsAtOnce.{EndsAtOnce};
 ghost use Rattle.iceoryx2_builder_common.specs.Builders.{IsLawfulBuilder};
+ghost use Rattle.iceoryx2_builder_common.specs.Facts.{ServiceFacts, caller_of};
 ghost use Rattle.iceoryx2_request_response_builder.specs.RequestResponse.{request_response_creating};
 ghost use Rattle.iceoryx2_request_response_builder.specs.RequestResponse.{request_response_opening};
 ghost use Rattle.iceoryx2_request_response_builder.specs.RequestResponse.{prepared_adjusted};
@@ -16,7 +18,7 @@ ghost use Rattle.iceoryx2_request_response_builder.specs.RequestResponse.{prepar
 ghost use Rattle.iceoryx2_request_response_builder.specs.RequestResponse.{request_response_refusal};
 ghost use Rattle.iceoryx2_request_response_builder.specs.RequestResponse.{request_response_retried};
 ghost use Rattle.iceoryx2_request_response_builder.specs.RequestResponseCalls.{request_response_call};
-ghost use Rattle.iceoryx2_request_response_builder.specs.Builder.{fresh_builder};
+ghost use Rattle.iceoryx2_request_response_builder.specs.Builder.{fresh_builder, prefix_of_request_response};
 ghost use Rattle.iceoryx2_request_response_builder.specs.Builder.{asked_with, messages_for, with_setting};
 
 pub mod demand;
@@ -34,6 +36,7 @@ use iceoryx2_attribute::attribute::{AttributeSpecifier, AttributeVerifier};
 use iceoryx2_builder_common::answer::hand_out;
 use iceoryx2_builder_common::ask_for;
 use iceoryx2_builder_common::base::BuilderWithServiceType;
+use iceoryx2_create_and_open::caller::Caller;
 use iceoryx2_create_and_open::create::create;
 use iceoryx2_create_and_open::open::open;
 use iceoryx2_description::config;
@@ -59,7 +62,7 @@ pub fn prefix_is_r()
 
 /// What holds of each builder of request-response, whatever the types of its messages.
 ///
-/// Its meanings are regular, and with its adjusted settings a create publishes for one node or more,
+/// With its adjusted settings a create publishes for one node or more,
 /// and what the same builder opens: it fits it and meets each setting that it requires, whatever
 /// attributes are defined.
 pub fn opens_what_it_creates()
@@ -81,6 +84,8 @@ pub fn ends_at_once()
 /// that an existing service has to offer as much to be opened. The last value that is set stands.
 /// The types of the messages are no settings: an existing service's have to be those of the
 /// builder, with user headers and payloads aligned at least as far.
+///
+/// An example: `crates/examples/src/request_response.rt`.
 pub struct Builder<Q, QU, R, RU, S: Service> {
     base: BuilderWithServiceType<S>,
     demand: RequestResponseDemand,
@@ -354,11 +359,13 @@ impl<Q: ZeroCopySend, QU: ZeroCopySend, R: ZeroCopySend, RU: ZeroCopySend, S: Se
         self.with_headers()
     }
 
-    /// What every builder keeps, and what a call of this one asks, with its types made. `AllocError`
-    /// where there was no memory for their names.
-    fn into_prepared(self) -> Result<(BuilderWithServiceType<S>, PreparedDemand), AllocError>
+    /// Who calls, at the time zero, and what the call asks, with its types made. `AllocError` where there was
+    /// no memory for their names.
+    fn into_prepared(self) -> Result<(Caller, PreparedDemand), AllocError>
         ensures { let messages = messages_for Q.detail QU.detail R.detail RU.detail self.types in
-            IfOk result (λ made. (made.0 ≡ record { node = self.node; name = self.name })
+            let base : ServiceFacts = record { node = self.node; name = self.name } in
+            let caller = caller_of S.ServiceNameHasher.hash_of prefix_of_request_response base (Ok zero_span) in
+            IfOk result (λ made. (made.0 ≡ caller)
             × (made.1 ≡ asked_with self.demand messages)) }
     {
         let Builder {
@@ -368,7 +375,7 @@ impl<Q: ZeroCopySend, QU: ZeroCopySend, R: ZeroCopySend, RU: ZeroCopySend, S: Se
             kind: _,
         } = self;
         let asked = types.prepare::<Q, QU, R, RU>(demand, base.name().allocator())?;
-        Ok((base, asked))
+        Ok((base.into_caller(PREFIX, Ok(Time::default())), asked))
     }
 
     /// Creates the service without attributes: `create_with_attributes` of a specifier that
@@ -405,15 +412,10 @@ impl<Q: ZeroCopySend, QU: ZeroCopySend, R: ZeroCopySend, RU: ZeroCopySend, S: Se
             (request_response_call S.ServiceNameHasher.hash_of self messages ToCreate (defines specifier.now))
             storage.old result storage.new }
     {
-        let Ok((base, mut asked)) = self.into_prepared() else {
+        let Ok((caller, mut asked)) = self.into_prepared() else {
             return Err(RequestResponseCreateError::OutOfMemory);
         };
-        let hash = base.hash(PREFIX);
-        let attributes = specifier.attributes();
-        let node = base.node();
-        let name = base.name();
-        let now = Ok(Time::default());
-        hand_out(create(&mut asked, node, &hash, name, attributes, now, storage))
+        hand_out(create(&mut asked, &caller, specifier.attributes(), storage))
     }
 
     /// Opens the service, whatever its attributes: `open_with_attributes` of a verifier that
@@ -454,11 +456,10 @@ impl<Q: ZeroCopySend, QU: ZeroCopySend, R: ZeroCopySend, RU: ZeroCopySend, S: Se
             Calls S.Storage.step (request_response_call S.ServiceNameHasher.hash_of self messages ToOpen verifier.now)
             storage.old result storage.new }
     {
-        let Ok((base, asked)) = self.into_prepared() else {
+        let Ok((caller, asked)) = self.into_prepared() else {
             return Err(RequestResponseOpenError::OutOfMemory);
         };
-        let hash = base.hash(PREFIX);
-        hand_out(open(&asked, base.node(), &hash, verifier, storage))
+        hand_out(open(&asked, &caller, verifier, storage))
     }
 
     /// Opens the service, or creates it where there is none, whatever its attributes:
@@ -497,16 +498,12 @@ impl<Q: ZeroCopySend, QU: ZeroCopySend, R: ZeroCopySend, RU: ZeroCopySend, S: Se
             (request_response_call S.ServiceNameHasher.hash_of self messages ToOpenOrCreate verifier.now)
             storage.old (map_err request_response_refusal result) storage.new }
     {
-        let Ok((base, mut asked)) = self.into_prepared() else {
+        let Ok((caller, mut asked)) = self.into_prepared() else {
             return Err(RequestResponseOpenOrCreateError::RequestResponseOpenError(
                 RequestResponseOpenError::OutOfMemory,
             ));
         };
-        let hash = base.hash(PREFIX);
-        let node = base.node();
-        let name = base.name();
-        let now = Ok(Time::default());
-        match open_or_create(&mut asked, node, &hash, name, verifier, now, storage) {
+        match open_or_create(&mut asked, &caller, verifier, storage) {
             Ok(registration) => Ok(PortFactory::new(registration)),
             Err(refusal) => Err(open_or_create_error(refusal)),
         }

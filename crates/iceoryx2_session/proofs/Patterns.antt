@@ -10,7 +10,7 @@ use Rattle.iceoryx2_request_response_builder.specs.Builder as request_response
 use Rattle.iceoryx2_attribute.specs.Requirements.{Requirements}
 use Rattle.iceoryx2_description.specs.declared.time.ClockFault.{ClockFault}
 use Rattle.iceoryx2_description.specs.Span.{Span}
-use Rattle.iceoryx2_pattern.specs.Regular.{IsRegular, TakesNodes}
+use Rattle.iceoryx2_pattern.specs.Meaning.{TakesNodes}
 use Rattle.iceoryx2_create_and_open.specs.Creates.{time_of}
 use Rattle.iceoryx2_open_or_create.specs.BuilderCalls.{BuilderCall, Way, ToCreate, ToOpen, ToOpenOrCreate, creating, opening}
 use Rattle.iceoryx2_open_or_create.specs.EndsAtOnce.{EndsAtOnce}
@@ -29,28 +29,28 @@ use Rattle.iceoryx2_commands.specs.declared.command.Call.{Call}
 use Rattle.iceoryx2_session.specs.Patterns.{call_by, builder_call}
 
 -- of each of a builder's calls, whichever it is
-steady_of : {D F E C : Type 0} (c : BuilderCall D F E C) → IsRegular (creating c) → IsRegular (opening c) → TakesNodes (creating c) → EndsAtOnce c.retried (creating c) (opening c)
+steady_of : {D E C : Type 0} (c : BuilderCall D E C) → TakesNodes (creating c) → EndsAtOnce c.retried (creating c) (opening c)
     → (way : Way) → IsSteadyBy c way
-steady_of c making opens room ends ToCreate = record { regular = making; takes_nodes = room (time_of c.caller.now) }
-steady_of c making opens room ends ToOpen = opens
-steady_of c making opens room ends ToOpenOrCreate = record { creating_is_regular = making; opening_is_regular = opens; takes_nodes = room; ends_at_once = ends }
+steady_of c room ends ToCreate = room (time_of c.caller.clock)
+steady_of c room ends ToOpen = tt
+steady_of c room ends ToOpenOrCreate = record { takes_nodes = room; ends_at_once = ends }
 
 event_call_is_steady : (b : EventBuilderState) (way : Way) (attributes : Requirements) (now : Result Span ClockFault) → IsSteadyBy (event_pattern_call b way attributes now).call way
 event_call_is_steady b way attributes now =
     let l = event_builder b.demand in
-    steady_of (event_pattern_call b way attributes now).call (l.creating_is_regular attributes.pairs) (l.opening_is_regular attributes) (l.takes_nodes attributes.pairs)
+    steady_of (event_pattern_call b way attributes now).call (l.takes_nodes attributes.pairs)
     (event_ends_at_once b.demand attributes) way
 
 publish_subscribe_call_is_steady : (b : PublishSubscribeBuilderState) (way : Way) (attributes : Requirements) → IsSteadyBy (publish_subscribe_pattern_call b way attributes).call way
 publish_subscribe_call_is_steady b way attributes =
     let l = publish_subscribe_builder b.demand (named_message b) in
-    steady_of (publish_subscribe_pattern_call b way attributes).call (l.creating_is_regular attributes.pairs) (l.opening_is_regular attributes) (l.takes_nodes attributes.pairs)
+    steady_of (publish_subscribe_pattern_call b way attributes).call (l.takes_nodes attributes.pairs)
     (publish_subscribe_ends_at_once (record { demand = b.demand; message = named_message b }) attributes) way
 
 request_response_call_is_steady : (b : RequestResponseBuilderState) (way : Way) (attributes : Requirements) → IsSteadyBy (request_response_pattern_call b way attributes).call way
 request_response_call_is_steady b way attributes =
     let l = request_response_builder b.demand (named_messages b).request (named_messages b).response in
-    steady_of (request_response_pattern_call b way attributes).call (l.creating_is_regular attributes.pairs) (l.opening_is_regular attributes) (l.takes_nodes attributes.pairs)
+    steady_of (request_response_pattern_call b way attributes).call (l.takes_nodes attributes.pairs)
     (request_response_ends_at_once (asked_with b.demand (named_messages b)) attributes) way
 
 -- one row a pattern

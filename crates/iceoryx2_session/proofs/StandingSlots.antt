@@ -75,7 +75,7 @@ carried_tickets w v carry (Ok f) e = e
 carried_tickets w v carry (Err x) e = e
 
 -- a factory that is given stands
-given_stands : {D F E C X : Type 0} (c : BuilderCall D F E C) (way : Way) (w v : World) (a : Result Registered X) → IfOk a (Given c way w v) → IfOk a (λ f. Stands v f × (w.counter ≤ f.ticket))
+given_stands : {D E C X : Type 0} (c : BuilderCall D E C) (way : Way) (w v : World) (a : Result Registered X) → IfOk a (Given c way w v) → IfOk a (λ f. Stands v f × (w.counter ≤ f.ticket))
 given_stands c way w v (Ok f) given = (given.stands, given.ticket)
 given_stands c way w v (Err e) given = tt
 

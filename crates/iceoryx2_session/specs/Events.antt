@@ -3,7 +3,6 @@ use Rattle.std.specs.Prelude.{Result}
 use Rattle.iceoryx2_attribute.specs.Requirements.{Requirements}
 use Rattle.iceoryx2_description.specs.declared.time.ClockFault.{ClockFault}
 use Rattle.iceoryx2_description.specs.Span.{Span}
-use Rattle.iceoryx2_errors.specs.declared.error.ServiceState.{ServiceState}
 use Rattle.iceoryx2_errors.specs.declared.error.events.EventOpenError.{EventOpenError}
 use Rattle.iceoryx2_errors.specs.declared.error.events.EventCreateError.{EventCreateError}
 use Rattle.iceoryx2_errors.specs.declared.error.events.EventOpenOrCreateError.TheVariants as either
@@ -26,7 +25,6 @@ event_rounds rounds.SystemInFlux = refusal.EventOpenOrCreate either.SystemInFlux
 abbrev pub event_pattern_call : EventBuilderState → Way → Requirements → Result Span ClockFault → PatternCall
 event_pattern_call b way attributes now = record {
   asks = EventDemand;
-  fault = ServiceState;
   open_error = EventOpenError;
   create_error = EventCreateError;
   call = event_call hash_for b way attributes now;

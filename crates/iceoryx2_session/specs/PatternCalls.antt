@@ -10,10 +10,9 @@ use Rattle.iceoryx2_commands.specs.declared.command.Refusal.{Refusal}
 
 pub record PatternCall : Type 1 where
   pub asks : Type 0
-  pub fault : Type 0
   pub open_error : Type 0
   pub create_error : Type 0
-  pub call : BuilderCall asks fault open_error create_error
+  pub call : BuilderCall asks open_error create_error
   pub refusal_of : ErrorBy open_error create_error call.way → Refusal
 
 -- which call a command asks for

@@ -1,7 +1,6 @@
 -- Builder calls for services of publish-subscribe.
 use Rattle.iceoryx2_types.specs.Types.{Message}
 use Rattle.iceoryx2_attribute.specs.Requirements.{Requirements}
-use Rattle.iceoryx2_errors.specs.declared.error.publish_subscribe.ServiceAvailabilityState.{ServiceAvailabilityState}
 use Rattle.iceoryx2_errors.specs.declared.error.publish_subscribe.PublishSubscribeOpenError.{PublishSubscribeOpenError}
 use Rattle.iceoryx2_errors.specs.declared.error.publish_subscribe.PublishSubscribeCreateError.{PublishSubscribeCreateError}
 use Rattle.iceoryx2_errors.specs.declared.error.publish_subscribe.PublishSubscribeOpenOrCreateError.TheVariants as either
@@ -32,7 +31,6 @@ publish_subscribe_rounds rounds.SystemInFlux = refusal.PublishSubscribeOpenOrCre
 abbrev pub publish_subscribe_pattern_call : PublishSubscribeBuilderState → Way → Requirements → PatternCall
 publish_subscribe_pattern_call b way attributes = record {
   asks = PreparedDemand;
-  fault = ServiceAvailabilityState;
   open_error = PublishSubscribeOpenError;
   create_error = PublishSubscribeCreateError;
   call = publish_subscribe_call hash_for b (named_message b) way attributes;

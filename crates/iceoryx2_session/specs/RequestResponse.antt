@@ -1,6 +1,5 @@
 -- Builder calls for services of request-response.
 use Rattle.iceoryx2_attribute.specs.Requirements.{Requirements}
-use Rattle.iceoryx2_errors.specs.declared.error.request_response.ServiceAvailabilityState.{ServiceAvailabilityState}
 use Rattle.iceoryx2_errors.specs.declared.error.request_response.RequestResponseOpenError.{RequestResponseOpenError}
 use Rattle.iceoryx2_errors.specs.declared.error.request_response.RequestResponseCreateError.{RequestResponseCreateError}
 use Rattle.iceoryx2_errors.specs.declared.error.request_response.RequestResponseOpenOrCreateError.TheVariants as either
@@ -31,7 +30,6 @@ request_response_rounds rounds.SystemInFlux = refusal.RequestResponseOpenOrCreat
 abbrev pub request_response_pattern_call : RequestResponseBuilderState → Way → Requirements → PatternCall
 request_response_pattern_call b way attributes = record {
   asks = PreparedDemand;
-  fault = ServiceAvailabilityState;
   open_error = RequestResponseOpenError;
   create_error = RequestResponseCreateError;
   call = request_response_call hash_for b (named_messages b) way attributes;

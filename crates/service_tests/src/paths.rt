@@ -144,13 +144,8 @@ fn each_law_has_its_path(_rt: HostRuntime) {
     types::equality_of_types();
     types::details_of_types();
     types::details_of_slices::<u64>();
-    session::agreement::<(), ServiceState, event::EventOpenError, event::EventCreateError>();
-    session::agreement_under_faults::<
-        (),
-        ServiceState,
-        event::EventOpenError,
-        event::EventCreateError,
-    >();
+    session::agreement::<(), event::EventOpenError, event::EventCreateError>();
+    session::agreement_under_faults::<(), event::EventOpenError, event::EventCreateError>();
 }
 
 /// How long the form of events is with the default settings, and a name of one byte.

@@ -35,7 +35,7 @@ may_prepare : {E : Type 0} (b : Bool) {no_memory : E} {IsWord : List Letter → 
 may_prepare true is = is
 may_prepare false is = prepared is
 
-module _ {D F E C : Type 0} (c : BuilderCall D F E C) where
+module _ {D E C : Type 0} (c : BuilderCall D E C) where
   pub each_word : (P : (way : Way) → List Letter → Result Registered (ErrorBy E C way) → Type 0)
       → ((word : List Letter) (answer : Result Registered C) → IsCreateCall (creating c) c.caller word answer → P ToCreate word answer)
       → ((word : List Letter) (answer : Result Registered E) → IsOpenCall (opening c) c.caller.node c.caller.hash word answer → P ToOpen word answer)

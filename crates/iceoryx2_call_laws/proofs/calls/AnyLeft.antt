@@ -27,7 +27,7 @@ use Rattle.iceoryx2_call_laws.proofs.calls.Turns.{granted_open_or_create_changes
 use Rattle.iceoryx2_call_laws.proofs.calls.Rounds.{leaves_by_rounds, rounds_give_back}
 use Rattle.iceoryx2_call_laws.proofs.calls.Attempts.{attempt_tickets, refused_attempt_calm}
 
-module _ {D F E C : Type 0} (c : BuilderCall D F E C) where
+module _ {D E C : Type 0} (c : BuilderCall D E C) where
   -- of the three ways in turn, where the fact speaks of the word of a refused call, or of a granted one, alone
   module _ (P : Way → List Letter → Type 0) where
     refused_of : {X : Type 0} (way : Way) (word : List Letter) (own : Result Registered X) (Is : List Letter → Result Registered X → Type 0) → ((e : X) → Is word (Err e) → P way word) → Is word own → IfErr own (λ e. P way word)

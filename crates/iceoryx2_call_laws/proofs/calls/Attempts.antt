@@ -16,7 +16,7 @@ use Rattle.iceoryx2_call_laws.proofs.calls.Prepared.{nowhere}
 use Rattle.iceoryx2_call_laws.proofs.calls.Turns.{open_or_create_letters, open_or_create_tickets, refused_open_or_create_calm}
 use Rattle.iceoryx2_call_laws.proofs.calls.Words.{IsNoRelease}
 
-module _ {D F E C : Type 0} (c : BuilderCall D F E C) where
+module _ {D E C : Type 0} (c : BuilderCall D E C) where
   pub attempt_letters : {word : List Letter} {answer : Result Registered (OpenOrCreateRefusal E C)} → IsOpenOrCreateCall c word answer → Each IsNoRelease word
   attempt_letters = each_call (λ word answer. Each IsNoRelease word) tt (λ word answer is. open_or_create_letters is)
 

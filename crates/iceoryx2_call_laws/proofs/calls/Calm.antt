@@ -73,8 +73,8 @@ module _ {node : ℕ} {hash : ServiceHash} where
   making_tame {number} {max_nodes} (not_removed k e _) = tame_both (clearings_tame number max_nodes k) (goes tt (goes tt ends))
   making_tame {number} {max_nodes} still_there = tame_both (clearings_tame number max_nodes CLEARING_LIMIT) (goes tt ends)
 
-module _ {F E C : Type 0} {m : Meaning F E C} {node : ℕ} {hash : ServiceHash} where
-  pub look_tame : {b : Bool} {w : List Letter} {o : Outcome F} → IsLookWord m node hash w o → Tame node hash b w b
+module _ {E C : Type 0} {m : Meaning E C} {node : ℕ} {hash : ServiceHash} where
+  pub look_tame : {b : Bool} {w : List Letter} {o : Outcome E} → IsLookWord m node hash w o → Tame node hash b w b
   look_tame absent = goes tt ends
   look_tame broken = goes tt ends
   look_tame (fetched there read) = goes tt (goes tt ends)

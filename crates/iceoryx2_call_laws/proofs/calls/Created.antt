@@ -16,7 +16,7 @@ use Rattle.iceoryx2_pattern.specs.Meaning.{Meaning}
 use Rattle.iceoryx2_access.specs.Registered.{Registered}
 use Rattle.iceoryx2_create_and_open.specs.Creates.{IsServiceWord, IsCreating, made, published}
 
-module _ {F E C : Type 0} {m : Meaning F E C} {node : ℕ} {hash : ServiceHash} where
+module _ {E C : Type 0} {m : Meaning E C} {node : ℕ} {hash : ServiceHash} where
   service_stands : {d : Description} {tag : Tag} {word : List Letter} {r : Registered} {w v : World} → IsServiceWord m node hash d tag word (Ok r) → Run IsFallibleAccess w word v → Agrees w → Stands v r × (r.node ≡ node) × (r.description ≡ d) × (w.counter ≤ r.ticket)
   service_stands {d} {w = w} {v = v} (published {v = y} n t segment) run old = let new = created_stands w v node hash n d t y run old in (new.0, refl, refl, new.2)
 

@@ -41,7 +41,7 @@ module _ {S : Type 0} (step : S → Letter → S → Type 0) (world : S → Worl
   along P s [] p = p
   along P s (l ∷ word) p = (p.0, λ u a. along P u word (p.1 (world u) (of_world s u l a)))
 
-  module _ {D F E C : Type 0} (c : BuilderCall D F E C) where
+  module _ {D E C : Type 0} (c : BuilderCall D E C) where
     gives : (s t : S) (answer : Result Registered (ErrorBy E C c.way)) → Agrees (world s) → Agrees (world t) → IfOk answer (Given c c.way (world s) (world t)) → IfOk answer (IsGiven step world c s t)
     gives s t (Err e) old new g = tt
     gives s t (Ok r) old new g = record {
@@ -65,7 +65,7 @@ module _ {S : Type 0} (step : S → Letter → S → Type 0) (world : S → Worl
         }
 
 -- Every open factory stands.
-module _ {S : Type 0} (step : S → Letter → S → Type 0) (world : S → World) (of_world : (s t : S) (l : Letter) → step s l t → IsFallibleAccess (world s) l (world t)) {D F E C : Type 0} (c : BuilderCall D F E C) where
+module _ {S : Type 0} (step : S → Letter → S → Type 0) (world : S → World) (of_world : (s t : S) (l : Letter) → step s l t → IsFallibleAccess (world s) l (world t)) {D E C : Type 0} (c : BuilderCall D E C) where
   record StillOpen (f : Registered) (s : S) : Type 0 where
     pub agrees : Agrees (world s)
     pub stands : Stands (world s) f

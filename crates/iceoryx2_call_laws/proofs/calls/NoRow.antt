@@ -95,7 +95,7 @@ module _ (i : ℕ) (h : ServiceHash) where
   any_part n m c k None positive is r = segment_part i h n m c k positive is r
   any_part n m c k (Some y) positive is r = left_part n m c k y positive is r
 
-module _ {F E C : Type 0} (m : Meaning F E C) (i : ℕ) (h : ServiceHash) (name : List ℕ) (now : Result Span ClockFault) (x : Phase) (s : Option Segment) (c : ℕ) (k : Tickets) (b : begins x ≡ true) where
+module _ {E C : Type 0} (m : Meaning E C) (i : ℕ) (h : ServiceHash) (name : List ℕ) (now : Result Span ClockFault) (x : Phase) (s : Option Segment) (c : ℕ) (k : Tickets) (b : begins x ≡ true) where
   abbrev d : Description
   d = description_of m (called i h name now)
 
@@ -189,7 +189,7 @@ module _ {F E C : Type 0} (m : Meaning F E C) (i : ℕ) (h : ServiceHash) (name 
         let p = split u _ r in
         serving fits runs is (from (entry_made (entry g e p.first)) p.second)
 
-module _ {F E C : Type 0} (m : Meaning F E C) (i : ℕ) (h : ServiceHash) (name : List ℕ) (now : Result Span ClockFault) where
+module _ {E C : Type 0} (m : Meaning E C) (i : ℕ) (h : ServiceHash) (name : List ℕ) (now : Result Span ClockFault) where
   -- In the world.
   pub create_over_no_row : {word : List Letter} {answer : Result Registered C} {w v : World} → 0 < max_nodes_of (m.published (time_of now)) → Agrees w → row_of w h ≡ None → IsCreateWord m (called i h name now) word answer → Run IsOwnPart w word v → AnswersOverNoRow m (called i h name now) w.counter answer
   create_over_no_row {w = w} room old gone is run =

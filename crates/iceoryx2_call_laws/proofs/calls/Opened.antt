@@ -18,7 +18,7 @@ use Rattle.iceoryx2_create_and_open.specs.Looks.{fetched, fits}
 use Rattle.iceoryx2_create_and_open.specs.Opens.{ready, IsLastRound, opened, IsOpenWord, ended}
 
 -- the factory of an open over these worlds
-pub record IsOpened {F E C : Type 0} (m : Meaning F E C) (node : ℕ) (hash : ServiceHash) (r : Registered) (w v : World) : Type 0 where
+pub record IsOpened {E C : Type 0} (m : Meaning E C) (node : ℕ) (hash : ServiceHash) (r : Registered) (w v : World) : Type 0 where
   pub stands : Stands v r
   pub node_is : r.node ≡ node
   pub hash_is : r.description.hash ≡ hash
@@ -26,7 +26,7 @@ pub record IsOpened {F E C : Type 0} (m : Meaning F E C) (node : ℕ) (hash : Se
   pub accepted : verdict (m.requirement r.description) ≡ Ok tt
   pub new_ticket : w.counter ≤ r.ticket
 
-module _ {F E C : Type 0} {m : Meaning F E C} {node : ℕ} {hash : ServiceHash} where
+module _ {E C : Type 0} {m : Meaning E C} {node : ℕ} {hash : ServiceHash} where
   round_stands : {word : List Letter} {r : Registered} {w v : World} → IsLastRound m node hash word (Ok r) → Run IsFallibleAccess w word v → Agrees w → IsOpened m node hash r w v
   round_stands {w = w} {v = v} (opened {n = n} {d = d} t (ready tag (fetched {there} may (fits {bytes = b} form same misfit)) accepted)) run old =
       let first = head run in

@@ -29,7 +29,7 @@ use Rattle.iceoryx2_call_laws.proofs.calls.Words.{IsNoRelease, create_letters, o
 pub nowhere : {step : World → Letter → World → Type 0} {w v : World} → Run step w [] v → v ≡ w
 nowhere done = refl
 
-module _ {F E C : Type 0} {m : Meaning F E C} {node : ℕ} {hash : ServiceHash} where
+module _ {E C : Type 0} {m : Meaning E C} {node : ℕ} {hash : ServiceHash} where
   module _ {stops : Bool} {d : Description} where
     pub create_call_letters : {word : List Letter} {answer : Result Registered C} → IsPrepared (m.create_refusal OutOfMemory) (IsCreating m node hash stops d) word answer → Each IsNoRelease word
     create_call_letters = each_call (λ word answer. Each IsNoRelease word) tt (λ word answer is. create_letters is)

@@ -115,7 +115,7 @@ of_factory : (k : Tickets) (i : ℕ) (h : ServiceHash) (n : ℕ) (d : Descriptio
     → map.insert k t (mine i h n) ≡ map.insert k t (ticket_for (record { node = i; number = n; ticket = t; description = d }))
 of_factory k i h n d t same = λ j. map.insert k t (record { node = i; hash = sym same j; number = n })
 
-module _ {F E C : Type 0} {m : Meaning F E C} {node : ℕ} {hash : ServiceHash} where
+module _ {E C : Type 0} {m : Meaning E C} {node : ℕ} {hash : ServiceHash} where
   service_tickets : {d : Description} {tag : Tag} {word : List Letter} {r : Registered} {w v : World} → d.hash ≡ hash
       → IsServiceWord m node hash d tag word (Ok r) → Run IsFallibleAccess w word v → v.tickets ≡ map.insert w.tickets r.ticket (ticket_for r)
   service_tickets {d} {w = w} {v = v} same (published {v = y} n t segment) run =

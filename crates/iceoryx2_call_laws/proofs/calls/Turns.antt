@@ -24,7 +24,7 @@ use Rattle.iceoryx2_call_laws.proofs.calls.Opened.{open_stands}
 use Rattle.iceoryx2_call_laws.proofs.calls.Tickets.{tame_tickets, create_tickets, open_tickets}
 
 -- of one round
-module _ {D F E C : Type 0} {c : BuilderCall D F E C} where
+module _ {D E C : Type 0} {c : BuilderCall D E C} where
   retried_letters : {next : D} {w : List Letter} → IsRetriedTurn c w next → Each IsNoRelease w
   retried_letters (open_retried {u} l o _) = each_append IsNoRelease u _ (look_letters l) (open_letters o)
   retried_letters (create_retried {u} l m _) = each_append IsNoRelease u _ (look_letters l) (create_letters m)
@@ -70,7 +70,7 @@ module _ {D F E C : Type 0} {c : BuilderCall D F E C} where
       create_tickets (Ok r) refl m parts.second ∙ ap (λ k. map.insert k r.ticket (ticket_for r)) (tame_tickets {b = false} (look_tame l) parts.first)
 
 -- and of all
-module _ {D F E C : Type 0} {c : BuilderCall D F E C} where
+module _ {D E C : Type 0} {c : BuilderCall D E C} where
   turns_letters : {asked : D} {k : ℕ} {w : List Letter} → AreRetriedTurns c k w asked → Each IsNoRelease w
   turns_letters no_turn = tt
   turns_letters (one_more {u} before t) = each_append IsNoRelease u _ (turns_letters before) (retried_letters t)

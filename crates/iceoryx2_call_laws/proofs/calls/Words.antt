@@ -86,8 +86,8 @@ module _ {node : ℕ} {hash : ServiceHash} where
   segment_letters {number} {max_nodes} (not_removed k e _) = each_append IsNoRelease (clearings node hash number max_nodes k) _ (clearings_letters node hash number max_nodes k) (tt, (tt, tt))
   segment_letters {number} {max_nodes} still_there = each_append IsNoRelease (clearings node hash number max_nodes CLEARING_LIMIT) (letter.MakeSegment node hash number max_nodes (Err make.AlreadyExists) ∷ []) (clearings_letters node hash number max_nodes CLEARING_LIMIT) (tt, tt)
 
-module _ {F E C : Type 0} {m : Meaning F E C} {node : ℕ} {hash : ServiceHash} where
-  pub look_letters : {w : List Letter} {o : Outcome F} → IsLookWord m node hash w o → Each IsNoRelease w
+module _ {E C : Type 0} {m : Meaning E C} {node : ℕ} {hash : ServiceHash} where
+  pub look_letters : {w : List Letter} {o : Outcome E} → IsLookWord m node hash w o → Each IsNoRelease w
   look_letters absent = (tt, tt)
   look_letters broken = (tt, tt)
   look_letters (fetched there read) = (tt, (tt, tt))

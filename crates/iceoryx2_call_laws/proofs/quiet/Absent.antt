@@ -181,14 +181,14 @@ module _ (i : ℕ) (h : ServiceHash) where
   own_segment_back : {tag : Tag} {w : List Letter} → tag ≡ Made → GivesBack i h (OwnSegment ∷ OwnLock ∷ own_tag tag) w → GivesBack i h (OwnSegment ∷ OwnLock ∷ OwnTag ∷ []) w
   own_segment_back {w = w} e g = subst (λ z. GivesBack i h (OwnSegment ∷ OwnLock ∷ own_tag z) w) e g
 
-module _ {F E C : Type 0} (m : Meaning F E C) (i : ℕ) (h : ServiceHash) where
-  pub look_over : (x : Phase) (s : Option Segment) (c : ℕ) (g : Bool) (k : Tickets) {o : Outcome F} {w : List Letter} {t : NodeView} → IsLookWord m i h w o → Run (AtNode i h) (over x s c g k) w t → (o ≡ outcome.Nothing) × (t ≡ over x s c g k)
+module _ {E C : Type 0} (m : Meaning E C) (i : ℕ) (h : ServiceHash) where
+  pub look_over : (x : Phase) (s : Option Segment) (c : ℕ) (g : Bool) (k : Tickets) {o : Outcome E} {w : List Letter} {t : NodeView} → IsLookWord m i h w o → Run (AtNode i h) (over x s c g k) w t → (o ≡ outcome.Nothing) × (t ≡ over x s c g k)
   look_over x s c g k look.absent r = let l = last r in (refl, l.is ∙ ap (node_view_after _) l.own.1)
   look_over x s c g k look.broken r = let l = last r in absurd (grind (arith, l.own.0))
   look_over x s c g k (look.fetched look.yes leads) r = let l = (head r).first in absurd (grind (arith, l.own.0))
   look_over x s c g k (look.fetched look.being_set_up leads) r = let l = (head r).first in absurd (grind (arith, l.own.0))
 
-  pub look_bare : (x : Phase) (c : ℕ) (g : Bool) (k : Tickets) {o : Outcome F} {w : List Letter} {t : NodeView} → IsLookWord m i h w o → Run (AtNode i h) (bare x c g k) w t → (o ≡ outcome.Nothing) × (t ≡ bare x c g k)
+  pub look_bare : (x : Phase) (c : ℕ) (g : Bool) (k : Tickets) {o : Outcome E} {w : List Letter} {t : NodeView} → IsLookWord m i h w o → Run (AtNode i h) (bare x c g k) w t → (o ≡ outcome.Nothing) × (t ≡ bare x c g k)
   look_bare x c g k l r = look_over x None c g k l r
 
   pub data Enters (x : Phase) (c : ℕ) (k : Tickets) : Result Tag C → NodeView → Type 0 where

@@ -30,7 +30,7 @@ use Rattle.iceoryx2_call_laws.proofs.quiet.Same.{same_segment, joined_times, hol
 use Rattle.iceoryx2_call_laws.proofs.quiet.Calls.{with_service_has}
 use Rattle.iceoryx2_call_laws.proofs.quiet.Prepared.{refused_prepared}
 
-module _ {F E C : Type 0} (m : Meaning F E C) (i : ℕ) (h : ServiceHash) where
+module _ {E C : Type 0} (m : Meaning E C) (i : ℕ) (h : ServiceHash) where
   -- a refused call keeps the services
   pub create_refused : (name : List ℕ) (now : Result Span ClockFault) (q p : Quiet) (e : C) → Creates m q (called i h name now) (Err e) p → p.services ≡ q.services
   create_refused name now q p e (call.forbidden bad) = refl
@@ -71,7 +71,7 @@ close_of_new q i h d z gone (closed x k there counted) =
     let none : closed_by i k x ≡ None = (λ j. closed_by i (one j) (same j)) ∙ closed_again i d q.counter in
     (refl, ap (λ o. (with_service (spend (with_service q h (Some y))) h o).services) none ∙ put_and_taken q h y gone)
 
-module _ {F E C : Type 0} (m : Meaning F E C) (i : ℕ) (h : ServiceHash) where
+module _ {E C : Type 0} (m : Meaning E C) (i : ℕ) (h : ServiceHash) where
   -- A create and then the close of its factory leave nothing of the service, and one number is spent.
   pub create_and_close : (name : List ℕ) (now : Result Span ClockFault) (w v : World) (q p z : Quiet) (r : Registered) → Shows w q → Shows v z → Creates m q (called i h name now) (Ok r) p → Closes p r.node r.description.hash z → HasNothingAt v h × HoldsTheSame w v × (v.counter ≡ w.counter + 1)
   create_and_close name now w v q p z r s t (call.created fits gone runs room) c =

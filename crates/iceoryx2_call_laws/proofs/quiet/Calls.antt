@@ -27,7 +27,6 @@ use Rattle.iceoryx2_call_laws.proofs.calls.Callers.{called}
 use Rattle.iceoryx2_create_and_open.specs.Creates.{IsCreateWord, time_of, description_of}
 use Rattle.iceoryx2_create_and_open.specs.Opens.{IsOpenWord}
 use Rattle.iceoryx2_call_laws.specs.Quiet.{QuietService, Quiet, ShowsService, Shows, no_service, service_at}
-use Rattle.iceoryx2_pattern.specs.Regular.{IsRegular}
 use Rattle.iceoryx2_call_laws.specs.QuietCalls.{Creates, Opens, created_by, opened_by, with_service, spend}
 use Rattle.iceoryx2_call_laws.specs.QuietCalls as call
 use Rattle.iceoryx2_call_laws.specs.QuietLaws.{IsCall, IsClose}
@@ -76,7 +75,7 @@ is_call {E = E} {w = w} {v = v} (Ok r) made gives run old =
 pub with_service_has : (q : Quiet) (h : ServiceHash) (x : QuietService) → service_at (spend (with_service q h (Some x))) h ≡ Some x
 with_service_has q h x = map.get-insert hash_total q.services h x h ∙ ap (λ b. cond b (Some x) (service_at q h)) (own_hash h)
 
-module _ {F E C : Type 0} (m : Meaning F E C) (q : Quiet) (i : ℕ) (h : ServiceHash) (w : World) (s : Shows w q) where
+module _ {E C : Type 0} (m : Meaning E C) (q : Quiet) (i : ℕ) (h : ServiceHash) (w : World) (s : Shows w q) where
   create_gives : (name : List ℕ) (now : Result Span ClockFault) (r : Result Registered C) (p : Quiet) → Creates m q (called i h name now) r p → IfOk r (λ x. GivesIn w p x)
   create_gives name now r p (call.created fits gone runs room) = record { service = created_by i (description_of m (called i h name now)) q.counter; there = with_service_has q h (created_by i (description_of m (called i h name now)) q.counter); number = refl; description = refl; ticket = sym s.counter }
   create_gives name now r p (call.forbidden bad) = tt
@@ -108,26 +107,26 @@ empty_shows c = record {
   });
 }
 
-module _ {F E C : Type 0} (m : Meaning F E C) (i : ℕ) (h : ServiceHash) where
+module _ {E C : Type 0} (m : Meaning E C) (i : ℕ) (h : ServiceHash) where
   -- A create over a world that shows q is the machine's.
-  pub create_follows : (name : List ℕ) (now : Result Span ClockFault) (w v : World) (q : Quiet) (word : List Letter) (r : Result Registered C) → IsRegular m → 0 < max_nodes_of (m.published (time_of now)) → Shows w q → Agrees w
+  pub create_follows : (name : List ℕ) (now : Result Span ClockFault) (w v : World) (q : Quiet) (word : List Letter) (r : Result Registered C) → 0 < max_nodes_of (m.published (time_of now)) → Shows w q → Agrees w
       → IsCreateWord m (called i h name now) word r → Run IsOwnPart w word v → IsCall w (Creates m q (called i h name now) r) r v
-  create_follows name now w v q word r regular room s old is_word run =
+  create_follows name now w v q word r room s old is_word run =
       let all = move_all i h (create_here is_word) run in
       let positive : nat_lt 0 (max_nodes_of (m.published (time_of now))) ≡ true = grind (arith, nat_tests, room) in
       let made : Made (Creates m q (called i h name now) r) (tickets_after w.tickets r) v = elim (service_at q h) as (λ o. service_at q h ≡ o → Made (Creates m q (called i h name now) r) (tickets_after w.tickets r) v) [
         | None ↦ λ e. create_absent m i h name now w v q all.apart s e r word positive is_word all.at
-        | Some x ↦ λ e. create_there m regular i h w v q all.apart s x e name now r word is_word all.at
+        | Some x ↦ λ e. create_there m i h w v q all.apart s x e name now r word is_word all.at
       ] refl in
       is_call r made (create_gives m q i h w s name now r made.state made.call) run old
 
   -- So is an open.
-  pub open_follows : (w v : World) (q : Quiet) (word : List Letter) (r : Result Registered E) → IsRegular m → Shows w q → Agrees w → IsOpenWord m i h word r → Run IsOwnPart w word v → IsCall w (Opens m q i h r) r v
-  open_follows w v q word r regular s old is_word run =
+  pub open_follows : (w v : World) (q : Quiet) (word : List Letter) (r : Result Registered E) → Shows w q → Agrees w → IsOpenWord m i h word r → Run IsOwnPart w word v → IsCall w (Opens m q i h r) r v
+  open_follows w v q word r s old is_word run =
       let all = move_all i h (open_here is_word) run in
       let made : Made (Opens m q i h r) (tickets_after w.tickets r) v = elim (service_at q h) as (λ o. service_at q h ≡ o → Made (Opens m q i h r) (tickets_after w.tickets r) v) [
         | None ↦ λ e. open_absent m i h w v q all.apart s e r word is_word all.at
-        | Some x ↦ λ e. open_there m regular i h w v q all.apart s old x e r word is_word all.at
+        | Some x ↦ λ e. open_there m i h w v q all.apart s old x e r word is_word all.at
       ] refl in
       is_call r made (open_gives m q i h w s r made.state made.call) run old
 

@@ -89,7 +89,7 @@ module _ (i : ℕ) (h : ServiceHash) (w v : World) (q : Quiet) (a : Apart i h w 
       ]
       members n d (Peer j) = contains_alone (Node i) (Peer j) ∙ not_same (Peer j) (Node i) (no_node j i)
 
-module _ {F E C : Type 0} (m : Meaning F E C) (i : ℕ) (h : ServiceHash) (name : List ℕ) (now : Result Span ClockFault) (w v : World) (q : Quiet) (a : Apart i h w v) (s : Shows w q) (gone : service_at q h ≡ None) where
+module _ {E C : Type 0} (m : Meaning E C) (i : ℕ) (h : ServiceHash) (name : List ℕ) (now : Result Span ClockFault) (w v : World) (q : Quiet) (a : Apart i h w v) (s : Shows w q) (gone : service_at q h ≡ None) where
   abbrev d : Description
   d = description_of m (called i h name now)
 

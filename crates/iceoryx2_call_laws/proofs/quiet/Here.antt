@@ -41,8 +41,8 @@ segment_here {i} {h} {n} {m} (segment.not_made j e _ _) = all_both (clearings_he
 segment_here {i} {h} {n} {m} (segment.not_removed j e _) = all_both (clearings_here i h n m j) (more (refl, refl) (more (refl, refl) none))
 segment_here {i} {h} {n} {m} segment.still_there = all_both (clearings_here i h n m CLEARING_LIMIT) (more (refl, refl) none)
 
-module _ {F E C : Type 0} {m : Meaning F E C} {i : ℕ} {h : ServiceHash} where
-  pub look_here : {o : Outcome F} {w : List Letter} → IsLookWord m i h w o → AllHere i h w
+module _ {E C : Type 0} {m : Meaning E C} {i : ℕ} {h : ServiceHash} where
+  pub look_here : {o : Outcome E} {w : List Letter} → IsLookWord m i h w o → AllHere i h w
   look_here look.absent = more refl none
   look_here look.broken = more refl none
   look_here (look.fetched there leads) = more refl (more (refl, refl) none)

@@ -56,13 +56,13 @@ pub rest_shows : {w v : World} {q : Quiet} → Rests w q v → Shows v q
 rest_shows {v = v} rest = subst (λ p. Shows v p) rest.call rest.shows
 
 -- A look that may find a service that is there.
-pub record FindsIt {F E C : Type 0} (m : Meaning F E C) (w : World) (q : Quiet) (v : World) (x : QuietService) : Type 0 where
+pub record FindsIt {E C : Type 0} (m : Meaning E C) (w : World) (q : Quiet) (v : World) (x : QuietService) : Type 0 where
   pub rest : Rests w q v
   pub fits : m.misfit x.description ≡ None
 
-module _ {F E C : Type 0} (m : Meaning F E C) (i : ℕ) (h : ServiceHash) {w v : World} {q : Quiet} (s : Shows w q) (old : Agrees w) where
+module _ {E C : Type 0} (m : Meaning E C) (i : ℕ) (h : ServiceHash) {w v : World} {q : Quiet} (s : Shows w q) (old : Agrees w) where
   -- where there is no service it finds nothing
-  pub look_rests_absent : {o : Outcome F} {word : List Letter} → service_at q h ≡ None → IsLookWord m i h word o → Run IsOwnPart w word v → (o ≡ outcome.Nothing) × Rests w q v
+  pub look_rests_absent : {o : Outcome E} {word : List Letter} → service_at q h ≡ None → IsLookWord m i h word o → Run IsOwnPart w word v → (o ≡ outcome.Nothing) × Rests w q v
   look_rests_absent gone l run =
       let all = move_all i h (look_here l) run in
       let at = look_bare m i h (phase_of w (Node i) h) q.counter false w.tickets l (from (begin_absent i h w v q all.apart s gone) all.at) in

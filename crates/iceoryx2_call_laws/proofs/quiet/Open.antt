@@ -25,6 +25,7 @@ use Rattle.iceoryx2_access.specs.Letter as letter
 use Rattle.iceoryx2_access.specs.Run.{Run}
 use Rattle.iceoryx2_world.specs.Access.{NodeView, Change, node_view_after, opening_of, IsAnswer}
 use Rattle.iceoryx2_access.proofs.Run.{head, split, last}
+use Rattle.iceoryx2_create_and_open.specs.declared.look.Fault.{Fault}
 use Rattle.iceoryx2_create_and_open.specs.declared.look.Outcome.{Outcome}
 use Rattle.iceoryx2_create_and_open.specs.declared.look.Outcome.TheVariants as outcome
 use Rattle.iceoryx2_pattern.specs.declared.pattern.OpenRefusal.{OpenRefusal}
@@ -32,20 +33,19 @@ use Rattle.iceoryx2_pattern.specs.declared.pattern.OpenRefusal.TheVariants as re
 use Rattle.iceoryx2_pattern.specs.Meaning.{Meaning}
 use Rattle.iceoryx2_pattern.specs.Verdict.{verdict}
 use Rattle.iceoryx2_access.specs.Registered.{Registered}
-use Rattle.iceoryx2_create_and_open.specs.Refusals.{of_tag_opening, of_opening}
+use Rattle.iceoryx2_create_and_open.specs.Refusals.{of_tag_opening, of_opening, open_error_of}
 use Rattle.iceoryx2_create_and_open.specs.Looks.{IsLookWord}
 use Rattle.iceoryx2_create_and_open.specs.GivesBack.{GivesBack, own_tag}
 use Rattle.iceoryx2_create_and_open.specs.GivesBack as back
 use Rattle.iceoryx2_create_and_open.specs.Opens.{IsReady, IsFailedRound, IsLastRound, AreFailedRounds, IsOpenWord}
 use Rattle.iceoryx2_create_and_open.specs.Opens as word
 use Rattle.iceoryx2_call_laws.specs.Quiet.{CountIs}
-use Rattle.iceoryx2_pattern.specs.Regular.{IsRegular}
 use Rattle.iceoryx2_call_laws.proofs.quiet.NodeViews.{AtNode}
 use Rattle.iceoryx2_call_laws.proofs.quiet.Absent.{at_node, bare, into, ended, from, same_number, look_bare}
 use Rattle.iceoryx2_call_laws.proofs.quiet.There.{over, Fetched, reads, keeps, LooksThere, finds, misfits, forgets, starved, look_there, still_counts}
 
 -- Where there is no service, the first look ends the call.
-module _ {F E C : Type 0} (m : Meaning F E C) (i : ℕ) (h : ServiceHash) (x : Phase) (c : ℕ) (k : Tickets) where
+module _ {E C : Type 0} (m : Meaning E C) (i : ℕ) (h : ServiceHash) (x : Phase) (c : ℕ) (k : Tickets) where
   never_ready : {n : ℕ} {d : Description} {tag : Tag} {u : List Letter} {t : NodeView} → IsReady m i h n d tag u → Run (AtNode i h) (bare x c false k) u t → ⊥
   never_ready (word.ready {u = u} tag l fits) r = let y = look_bare m i h x c false k l (split u _ r).first in absurd (cc)
 
@@ -146,23 +146,23 @@ module _ (i : ℕ) (h : ServiceHash) (n cap : ℕ) (b : List ℕ) (nodes : set.F
   after_fetch g (Some j) count (reads e) = absurd (cc)
   after_fetch g (Some j) count (keeps e) = ap (stood g) count.0
 
-  module _ {F E C : Type 0} (m : Meaning F E C) (regular : IsRegular m) (d : Description) (limits : IsDescription d) (hash : d.hash ≡ h) (form_of : b ≡ form.description d) (o : Option ℕ) (x : Phase) (count : CountIs n x o) (low : IsLow o) where
+  module _ {E C : Type 0} (m : Meaning E C) (d : Description) (limits : IsDescription d) (hash : d.hash ≡ h) (form_of : b ≡ form.description d) (o : Option ℕ) (x : Phase) (count : CountIs n x o) (low : IsLow o) where
     abbrev start : NodeView
     start = stood (is_some o) x
 
-    abbrev Looks : Outcome F → NodeView → Type 0
+    abbrev Looks : Outcome E → NodeView → Type 0
     Looks a t = LooksThere i h n b (Some (seg nodes)) c (is_some o) k m d limits hash form_of x a t
 
     -- What open does where the node sees a service that stands.
     pub data OpensHere : Result Registered E → NodeView → Type 0 where
       starves : {y : Phase} → CountIs n y o → OpensHere (Err (m.open_refusal refusal.OutOfMemory)) (stood (is_some o) y)
-      bad : {y : Phase} {fault : F} → CountIs n y o → m.misfit d ≡ Some fault → OpensHere (Err (m.open_error_of fault)) (stood (is_some o) y)
+      bad : {y : Phase} {error : E} → CountIs n y o → m.misfit d ≡ Some error → OpensHere (Err error) (stood (is_some o) y)
       unfit : {y : Phase} {error : E} → CountIs n y o → m.misfit d ≡ None → verdict (m.requirement d) ≡ Err error → OpensHere (Err error) (stood (is_some o) y)
       no_place : {y : Phase} → CountIs n y o → m.misfit d ≡ None → verdict (m.requirement d) ≡ Ok tt → o ≡ None → nat_lt (set.len nodes) cap ≡ false → OpensHere (Err (m.open_refusal refusal.ExceedsMaxNumberOfNodes)) (stood (is_some o) y)
       no_number : {y : Phase} → CountIs n y o → m.misfit d ≡ None → verdict (m.requirement d) ≡ Ok tt → Place o → nat_lt c last_number ≡ false → OpensHere (Err (m.open_refusal refusal.InternalFailure)) (stood (is_some o) y)
       opens : m.misfit d ≡ None → verdict (m.requirement d) ≡ Ok tt → Place o → nat_lt c last_number ≡ true → OpensHere (Ok (record { node = i; number = n; ticket = c; description = d })) (joined_view o)
 
-    looked : {a : Outcome F} {u : List Letter} {t : NodeView} → IsLookWord m i h u a → Run (AtNode i h) start u t → Looks a t
+    looked : {a : Outcome E} {u : List Letter} {t : NodeView} → IsLookWord m i h u a → Run (AtNode i h) start u t → Looks a t
     looked l r = look_there i h n b (Some (seg nodes)) c (is_some o) k m d limits hash form_of x l r
 
     record Reads (n1 : ℕ) (d1 : Description) (t : NodeView) : Type 0 where
@@ -174,10 +174,10 @@ module _ (i : ℕ) (h : ServiceHash) (n cap : ℕ) (b : List ℕ) (nodes : set.F
     found : {n1 : ℕ} {d1 : Description} {t : NodeView} → Looks (outcome.Found n1 d1) t → Reads n1 d1 t
     found (finds p good) = record { number = refl; description = refl; good = good; is = after_fetch (is_some o) o count p }
 
-    faulty : {fault : F} {t : NodeView} → Looks (outcome.Faulty fault) t → OpensHere (Err (m.open_error_of fault)) t
+    faulty : {fault : Fault E} {t : NodeView} → Looks (outcome.Faulty fault) t → OpensHere (Err (open_error_of m fault)) t
     faulty (misfits p e) = bad (still_counts o p count) e
-    faulty {t = t} (forgets p) = subst (λ e. OpensHere (Err e) t) (sym regular.open_memory) (starves (still_counts o p count))
-    faulty {t = t} starved = subst (λ e. OpensHere (Err e) t) (sym regular.open_memory) (starves count)
+    faulty (forgets p) = starves (still_counts o p count)
+    faulty starved = starves count
 
     record Readied (n1 : ℕ) (d1 : Description) (tag1 : Tag) (t : NodeView) : Type 0 where
       number : n1 ≡ n

@@ -26,7 +26,6 @@ use Rattle.iceoryx2_pattern.specs.Meaning.{Meaning}
 use Rattle.iceoryx2_access.specs.Registered.{Registered}
 use Rattle.iceoryx2_create_and_open.specs.Opens.{IsOpenWord}
 use Rattle.iceoryx2_call_laws.specs.Quiet.{NodeCounts, QuietService, Quiet, IsThere, Shows, CountIs, service_at, times_counted, is_counted}
-use Rattle.iceoryx2_pattern.specs.Regular.{IsRegular}
 use Rattle.iceoryx2_call_laws.specs.QuietCalls.{Opens, HasPlace, more_counts, opened_by, with_service, spend}
 use Rattle.iceoryx2_call_laws.specs.QuietCalls as call
 use Rattle.iceoryx2_call_laws.specs.Tickets.{tickets_after}
@@ -38,7 +37,7 @@ use Rattle.iceoryx2_call_laws.proofs.quiet.Create.{Made, was_absent, begin_absen
 use Rattle.iceoryx2_call_laws.proofs.quiet.There.{was_there, stays_there}
 use Rattle.iceoryx2_call_laws.proofs.quiet.Open.{opening_absent, stood, joined_view, Place, OpensHere, starves, bad, unfit, no_place, no_number, opens, opening_there}
 
-module _ {F E C : Type 0} (m : Meaning F E C) (i : ℕ) (h : ServiceHash) (w v : World) (q : Quiet) (a : Apart i h w v) (s : Shows w q) (gone : service_at q h ≡ None) where
+module _ {E C : Type 0} (m : Meaning E C) (i : ℕ) (h : ServiceHash) (w v : World) (q : Quiet) (a : Apart i h w v) (s : Shows w q) (gone : service_at q h ≡ None) where
   pub open_absent : (r : Result Registered E) (word : List Letter) → IsOpenWord m i h word r → Run (AtNode i h) (node_view w i h) word (node_view v i h) → Made (Opens m q i h r) (tickets_after w.tickets r) v
   open_absent r word is_word run =
       let e = opening_absent m i h (phase_of w (Node i) h) q.counter w.tickets is_word (from (begin_absent i h w v q a s gone) run) in
@@ -114,7 +113,7 @@ module _ (i : ℕ) (h : ServiceHash) (w v : World) (q : Quiet) (a : Apart i h w 
       (λ z other. refl)
       is
 
-module _ {F E C : Type 0} (m : Meaning F E C) (regular : IsRegular m) (i : ℕ) (h : ServiceHash) (w v : World) (q : Quiet) (a : Apart i h w v) (s : Shows w q) (old : Agrees w) (x : QuietService) (is_there : service_at q h ≡ Some x) where
+module _ {E C : Type 0} (m : Meaning E C) (i : ℕ) (h : ServiceHash) (w v : World) (q : Quiet) (a : Apart i h w v) (s : Shows w q) (old : Agrees w) (x : QuietService) (is_there : service_at q h ≡ Some x) where
   abbrev before : IsThere h x (row_of w h) (segment_of w h) (λ j. phase_of w (Node j) h) (λ j. tag_of w j h)
   before = was_there i h w v q a s x is_there
 
@@ -152,7 +151,7 @@ module _ {F E C : Type 0} (m : Meaning F E C) (regular : IsRegular m) (i : ℕ) 
   joined_tickets None = refl
   joined_tickets (Some j) = refl
 
-  made : (r : Result Registered E) (u : NodeView) → OpensHere i h x.number (max_nodes_of x.description.pattern) (form.description x.description) before.nodes q.counter w.tickets m regular x.description before.limits before.hash refl (times_counted x i) (phase_of w (Node i) h) (before.phases i) low r u → node_view v i h ≡ u → MadeHere r
+  made : (r : Result Registered E) (u : NodeView) → OpensHere i h x.number (max_nodes_of x.description.pattern) (form.description x.description) before.nodes q.counter w.tickets m x.description before.limits before.hash refl (times_counted x i) (phase_of w (Node i) h) (before.phases i) low r u → node_view v i h ≡ u → MadeHere r
   made r u (starves count) is = kept r _ (call.no_memory x is_there) refl count is
   made r u (bad count e) is = kept r _ (call.misfit x is_there e) refl count is
   made r u (unfit count good e) is = kept r _ (call.not_accepted x is_there good e) refl count is
@@ -168,4 +167,4 @@ module _ {F E C : Type 0} (m : Meaning F E C) (regular : IsRegular m) (i : ℕ) 
       }
 
   pub open_there : (r : Result Registered E) (word : List Letter) → IsOpenWord m i h word r → Run (AtNode i h) (node_view w i h) word (node_view v i h) → MadeHere r
-  open_there r word is_word run = made r _ (opening_there i h x.number (max_nodes_of x.description.pattern) (form.description x.description) before.nodes q.counter w.tickets m regular x.description before.limits before.hash refl (times_counted x i) (phase_of w (Node i) h) (before.phases i) low is_word (from begin run)) refl
+  open_there r word is_word run = made r _ (opening_there i h x.number (max_nodes_of x.description.pattern) (form.description x.description) before.nodes q.counter w.tickets m x.description before.limits before.hash refl (times_counted x i) (phase_of w (Node i) h) (before.phases i) low is_word (from begin run)) refl

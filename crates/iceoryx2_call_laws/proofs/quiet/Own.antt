@@ -16,7 +16,7 @@ use Rattle.iceoryx2_call_laws.specs.QuietCalls.{Opens, HasPlace, HasNumber}
 use Rattle.iceoryx2_call_laws.proofs.quiet.After.{accepted}
 use Rattle.iceoryx2_call_laws.proofs.quiet.Tickets.{service_of}
 
-module _ {D F E C : Type 0} (c : BuilderCall D F E C) (own : AcceptsOwn (creating c) (opening c) c.caller) (raises : OnlyRaises c.meaning c.adjusted) where
+module _ {D E C : Type 0} (c : BuilderCall D E C) (own : AcceptsOwn (creating c) (opening c) c.caller) (raises : OnlyRaises c.meaning c.adjusted) where
   -- what it publishes it accepts
   holds_accepted : (d : Description) → Holds c d → Accepts (opening c) d
   holds_accepted d is = record {

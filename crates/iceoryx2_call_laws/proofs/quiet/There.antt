@@ -21,17 +21,19 @@ use Rattle.iceoryx2_world.specs.Access.{NodeView, node_view, node_view_after}
 use Rattle.iceoryx2_access.proofs.Run.{head, split, last}
 use Rattle.iceoryx2_errors.specs.declared.error.ServiceState.TheVariants as state
 use Rattle.iceoryx2_call_laws.proofs.calls.Callers.{called}
+use Rattle.iceoryx2_create_and_open.specs.declared.look.Fault.{Fault}
+use Rattle.iceoryx2_create_and_open.specs.declared.look.Fault.TheVariants as at_fault
 use Rattle.iceoryx2_create_and_open.specs.declared.look.Outcome.{Outcome}
 use Rattle.iceoryx2_create_and_open.specs.declared.look.Outcome.TheVariants as outcome
 use Rattle.iceoryx2_pattern.specs.declared.pattern.CreateRefusal.TheVariants as refusal
 use Rattle.iceoryx2_pattern.specs.Meaning.{Meaning}
 use Rattle.iceoryx2_access.specs.Registered.{Registered}
 use Rattle.iceoryx2_create_and_open.specs.Looks.{LeadsTo, IsLookWord}
+use Rattle.iceoryx2_create_and_open.specs.Refusals.{create_error_of}
 use Rattle.iceoryx2_create_and_open.specs.Looks as look
 use Rattle.iceoryx2_create_and_open.specs.Creates.{IsEntryWord, IsCreateWord}
 use Rattle.iceoryx2_create_and_open.specs.Creates as create
 use Rattle.iceoryx2_call_laws.specs.Quiet.{QuietService, Quiet, IsThere, ShowsService, Shows, CountIs, service_at, times_counted}
-use Rattle.iceoryx2_pattern.specs.Regular.{IsRegular}
 use Rattle.iceoryx2_call_laws.specs.QuietCalls.{Creates}
 use Rattle.iceoryx2_call_laws.specs.QuietCalls as call
 use Rattle.iceoryx2_call_laws.specs.Tickets.{tickets_after}
@@ -68,17 +70,17 @@ module _ (i : ℕ) (h : ServiceHash) (n : ℕ) (b : List ℕ) (sg : Option Segme
   fetch_there x a t r = elim (r.own) [ inl y ↦ fetches_as y.0 (r.is ∙ ap (node_view_after _) y.1) (keeps refl) | inr y ↦ starves_as y.0 (r.is ∙ ap (node_view_after _) y.1) ]
 
   -- What a look finds: the service of this description.
-  module _ {F E C : Type 0} (m : Meaning F E C) (d : Description) (limits : IsDescription d) (hash : d.hash ≡ h) (form_of : b ≡ form.description d) where
-    pub data LooksThere (x : Phase) : Outcome F → NodeView → Type 0 where
+  module _ {E C : Type 0} (m : Meaning E C) (d : Description) (limits : IsDescription d) (hash : d.hash ≡ h) (form_of : b ≡ form.description d) where
+    pub data LooksThere (x : Phase) : Outcome E → NodeView → Type 0 where
       finds : {y : Phase} → Fetched n x y → m.misfit d ≡ None → LooksThere x (outcome.Found n d) (over y)
-      misfits : {y : Phase} {fault : F} → Fetched n x y → m.misfit d ≡ Some fault → LooksThere x (outcome.Faulty fault) (over y)
-      forgets : {y : Phase} → Fetched n x y → LooksThere x (outcome.Faulty (m.fault state.OutOfMemory)) (over y)
-      starved : LooksThere x (outcome.Faulty (m.fault state.OutOfMemory)) (over x)
+      misfits : {y : Phase} {error : E} → Fetched n x y → m.misfit d ≡ Some error → LooksThere x (outcome.Faulty (at_fault.Misfit error)) (over y)
+      forgets : {y : Phase} → Fetched n x y → LooksThere x (outcome.Faulty (at_fault.State state.OutOfMemory)) (over y)
+      starved : LooksThere x (outcome.Faulty (at_fault.State state.OutOfMemory)) (over x)
 
     is_it : {n1 : ℕ} {b1 : List ℕ} {d1 : Description} → ◌≡◌ {A = Result (ℕ × List ℕ) FetchError} (Ok (n1, b1)) (Ok (n, b)) → form.IsForm d1 b1 → d1 ≡ d
     is_it {d1 = d1} e f = one_description b d1 d (f.0, sym (same_pair e).1 ∙ f.1) (limits, form_of)
 
-    leads_there : {x y : Phase} {a : Result (ℕ × List ℕ) FetchError} {o : Outcome F} → Fetched n x y → LeadsTo m h a o → a ≡ Ok (n, b) → LooksThere x o (over y)
+    leads_there : {x y : Phase} {a : Result (ℕ × List ℕ) FetchError} {o : Outcome E} → Fetched n x y → LeadsTo m h a o → a ≡ Ok (n, b) → LooksThere x o (over y)
     leads_there p look.gone e = absurd (cc)
     leads_there p look.not_finalized e = absurd (cc)
     leads_there p look.not_opened e = absurd (cc)
@@ -93,7 +95,7 @@ module _ (i : ℕ) (h : ServiceHash) (n : ℕ) (b : List ℕ) (sg : Option Segme
         let is = is_it e f in
         subst (λ z. LooksThere x (outcome.Found z d1) (over y)) (sym number) (subst (λ z. LooksThere x (outcome.Found n z) (over y)) (sym is) (finds p (ap m.misfit (sym is) ∙ good)))
 
-    leads_not : {x : Phase} {a : Result (ℕ × List ℕ) FetchError} {o : Outcome F} → LeadsTo m h a o → a ≡ Err Fetching.OutOfMemory → LooksThere x o (over x)
+    leads_not : {x : Phase} {a : Result (ℕ × List ℕ) FetchError} {o : Outcome E} → LeadsTo m h a o → a ≡ Err Fetching.OutOfMemory → LooksThere x o (over x)
     leads_not look.gone e = absurd (cc)
     leads_not look.not_finalized e = absurd (cc)
     leads_not look.not_opened e = absurd (cc)
@@ -105,11 +107,11 @@ module _ (i : ℕ) (h : ServiceHash) (n : ℕ) (b : List ℕ) (sg : Option Segme
     leads_not (look.misfit f same bad) e = absurd (cc)
     leads_not (look.fits f same good) e = absurd (cc)
 
-    leads : {x : Phase} {a : Result (ℕ × List ℕ) FetchError} {o : Outcome F} {t : NodeView} → Fetches x a t → LeadsTo m h a o → LooksThere x o t
+    leads : {x : Phase} {a : Result (ℕ × List ℕ) FetchError} {o : Outcome E} {t : NodeView} → Fetches x a t → LeadsTo m h a o → LooksThere x o t
     leads (fetches p) l = leads_there p l refl
     leads starves l = leads_not l refl
 
-    pub look_there : (x : Phase) {o : Outcome F} {w : List Letter} {t : NodeView} → IsLookWord m i h w o → Run (AtNode i h) (over x) w t → LooksThere x o t
+    pub look_there : (x : Phase) {o : Outcome E} {w : List Letter} {t : NodeView} → IsLookWord m i h w o → Run (AtNode i h) (over x) w t → LooksThere x o t
     look_there x look.absent r = absurd (grind (arith, (last r).own.0))
     look_there x look.broken r = absurd (grind (arith, (last r).own.0))
     look_there x (look.fetched may l) r =
@@ -151,14 +153,14 @@ still_counts None (keeps e) count = count
 still_counts (Some k) (reads e) count = absurd (cc)
 still_counts (Some k) (keeps e) count = count
 
-module _ {F E C : Type 0} (m : Meaning F E C) (regular : IsRegular m) (i : ℕ) (h : ServiceHash) (w v : World) (q : Quiet) (a : Apart i h w v) (s : Shows w q) (x : QuietService) (is_there : service_at q h ≡ Some x) where
+module _ {E C : Type 0} (m : Meaning E C) (i : ℕ) (h : ServiceHash) (w v : World) (q : Quiet) (a : Apart i h w v) (s : Shows w q) (x : QuietService) (is_there : service_at q h ≡ Some x) where
   abbrev was : IsThere h x (row_of w h) (segment_of w h) (λ j. phase_of w (Node j) h) (λ j. tag_of w j h)
   was = was_there i h w v q a s x is_there
 
-  abbrev Looks : Outcome F → NodeView → Type 0
+  abbrev Looks : Outcome E → NodeView → Type 0
   Looks o t = LooksThere i h x.number (form.description x.description) (segment_of w h) w.counter (tag_of w i h) w.tickets m x.description was.limits was.hash refl (phase_of w (Node i) h) o t
 
-  looked : {o : Outcome F} {word : List Letter} {t : NodeView} → IsLookWord m i h word o → Run (AtNode i h) (node_view w i h) word t → Looks o t
+  looked : {o : Outcome E} {word : List Letter} {t : NodeView} → IsLookWord m i h word o → Run (AtNode i h) (node_view w i h) word t → Looks o t
   looked l r = look_there i h x.number (form.description x.description) (segment_of w h) w.counter (tag_of w i h) w.tickets m x.description was.limits was.hash refl (phase_of w (Node i) h) l (from (begin_there i h w v q a s x is_there) r)
 
   never : {word : List Letter} (rest : List Letter) {t : NodeView} → IsLookWord m i h word outcome.Nothing → Run (AtNode i h) (node_view w i h) (word ++ rest) t → ⊥
@@ -174,10 +176,10 @@ module _ {F E C : Type 0} (m : Meaning F E C) (regular : IsRegular m) (i : ℕ) 
     kept : (r : Result Registered C) (y : Phase) → Creates m q (called i h name now) r q → tickets_after w.tickets r ≡ w.tickets → CountIs x.number y (times_counted x i) → node_view v i h ≡ over_here i h w v q a s x is_there y → MadeHere r
     kept r y call no_ticket count is = record { state = q; call = call; shows = stays_there i h w v q a s x is_there y count is; tickets = ap (λ (z : NodeView). z.tickets) is ∙ sym no_ticket }
 
-    faulty : {fault : F} {t : NodeView} → m.history_refusal ≡ None → Looks (outcome.Faulty fault) t → node_view v i h ≡ t → MadeHere (Err (m.create_error_of fault))
-    faulty fits (misfits p bad) is = subst (λ e. MadeHere (Err e)) (sym (regular.misfit _ _ bad)) (kept _ _ (call.exists x fits is_there) refl (still_counts _ p (was.phases i)) is)
-    faulty fits (forgets p) is = subst (λ e. MadeHere (Err e)) (sym regular.create_memory) (kept _ _ (call.no_memory fits) refl (still_counts _ p (was.phases i)) is)
-    faulty fits starved is = subst (λ e. MadeHere (Err e)) (sym regular.create_memory) (kept _ _ (call.no_memory fits) refl (was.phases i) is)
+    faulty : {fault : Fault E} {t : NodeView} → m.history_refusal ≡ None → Looks (outcome.Faulty fault) t → node_view v i h ≡ t → MadeHere (Err (create_error_of m fault))
+    faulty fits (misfits p bad) is = kept _ _ (call.exists x fits is_there) refl (still_counts _ p (was.phases i)) is
+    faulty fits (forgets p) is = kept _ _ (call.no_memory fits) refl (still_counts _ p (was.phases i)) is
+    faulty fits starved is = kept _ _ (call.no_memory fits) refl (was.phases i) is
 
     found : {n : ℕ} {d : Description} {t : NodeView} → m.history_refusal ≡ None → Looks (outcome.Found n d) t → node_view v i h ≡ t → MadeHere (Err (m.create_refusal refusal.AlreadyExists))
     found fits (finds p good) is = kept _ _ (call.exists x fits is_there) refl (still_counts _ p (was.phases i)) is

@@ -11,9 +11,11 @@ use Rattle.iceoryx2_world.specs.Access.{IsOwnPart}
 use Rattle.iceoryx2_world.specs.Across.{Agrees}
 use Rattle.iceoryx2_create_and_open.specs.Answers.{map_err}
 use Rattle.iceoryx2_create_and_open.specs.Creates.{time_of}
+use Rattle.iceoryx2_create_and_open.specs.declared.look.Fault.{Fault}
 use Rattle.iceoryx2_create_and_open.specs.declared.look.Outcome.{Outcome}
 use Rattle.iceoryx2_create_and_open.specs.declared.look.Outcome.TheVariants as outcome
 use Rattle.iceoryx2_create_and_open.specs.Looks.{IsLookWord}
+use Rattle.iceoryx2_create_and_open.specs.Refusals.{open_error_of}
 use Rattle.iceoryx2_create_and_open.specs.Opens as opens
 use Rattle.iceoryx2_create_and_open.proofs.OwnAttributes.{looks}
 use Rattle.iceoryx2_open_or_create.specs.declared.open_or_create.OpenOrCreateRefusal.{OpenOrCreateRefusal}
@@ -34,7 +36,7 @@ use Rattle.iceoryx2_call_laws.proofs.quiet.Prepared.{prepared_follows, refused_p
 use Rattle.iceoryx2_call_laws.proofs.quiet.Same.{holds_the_same}
 use Rattle.iceoryx2_call_laws.proofs.quiet.Looked.{after_rest, rest_shows, look_rests_absent, look_rests_there, never_nothing}
 
-module _ {D F E C : Type 0} (a : BuilderCall D F E C) (steady : IsSteady a) (q : Quiet) where
+module _ {D E C : Type 0} (a : BuilderCall D E C) (steady : IsSteady a) (q : Quiet) where
   abbrev IsIt : World → Result Registered (OpenOrCreateRefusal E C) → World → Type 0
   IsIt w answer v = IsCall w (OpensOrCreates a q answer) answer v
 
@@ -61,10 +63,10 @@ module _ {D F E C : Type 0} (a : BuilderCall D F E C) (steady : IsSteady a) (q :
   -- ---- the part after the look of a round
 
   made_after : {word : List Letter} {w v : World} (answer : Result Registered C) → Shows w q → Agrees w → IsMaking a word answer → Run IsOwnPart w word v → IsCall w (Creates (creating a) q a.caller answer) answer v
-  made_after {word} {w} {v} answer s old is run = create_follows (creating a) a.caller.node a.caller.hash a.caller.name a.caller.now w v q word answer steady.creating_is_regular (steady.takes_nodes (time_of a.caller.now)) s old is run
+  made_after {word} {w} {v} answer s old is run = create_follows (creating a) a.caller.node a.caller.hash a.caller.name a.caller.clock w v q word answer (steady.takes_nodes (time_of a.caller.clock)) s old is run
 
   opened_after : {word : List Letter} {w v : World} (answer : Result Registered E) → Shows w q → Agrees w → IsOpening a word answer → Run IsOwnPart w word v → IsCall w (Opens (opening a) q a.caller.node a.caller.hash answer) answer v
-  opened_after {word} {w} {v} answer s old is run = open_follows (opening a) a.caller.node a.caller.hash w v q word answer steady.opening_is_regular s old is run
+  opened_after {word} {w} {v} answer s old is run = open_follows (opening a) a.caller.node a.caller.hash w v q word answer s old is run
 
   created_call : {w v : World} (answer : Result Registered C) → service_at q a.caller.hash ≡ None → IsCall w (Creates (creating a) q a.caller answer) answer v → IsIt w (map_err refusal.Create answer) v
   created_call (Ok r) gone c = record { state = c.state; call = attempt.creates gone c.call; shows = c.shows; agrees = c.agrees; tickets = c.tickets; given = c.given; kept = c.kept }
@@ -77,7 +79,7 @@ module _ {D F E C : Type 0} (a : BuilderCall D F E C) (steady : IsSteady a) (q :
   -- ---- one round
 
   -- what the look of a round finds wrong an open finds wrong
-  faulty_open : {fault : F} {word : List Letter} → IsLookWord (a.meaning a.asked) a.caller.node a.caller.hash word (outcome.Faulty fault) → IsOpening a word (Err ((a.meaning a.asked).open_error_of fault))
+  faulty_open : {fault : Fault E} {word : List Letter} → IsLookWord (a.meaning a.asked) a.caller.node a.caller.hash word (outcome.Faulty fault) → IsOpening a word (Err (open_error_of (a.meaning a.asked) fault))
   faulty_open l = opens.ended (omega arith) opens.no_round (opens.look_faulty (looks (a.meaning a.asked) (opening a).attributes (opening a).requirement l))
 
   module _ {w v : World} (s : Shows w q) (old : Agrees w) where
@@ -97,7 +99,7 @@ module _ {D F E C : Type 0} (a : BuilderCall D F E C) (steady : IsSteady a) (q :
         (f.fits, after_rest (λ p. Opens (opening a) p a.caller.node a.caller.hash answer) answer s f.rest (opened_after answer (rest_shows f.rest) f.rest.agrees o parts.second))
 
     -- a look finds nothing where there is no service, and something where there is one
-    not_gone : (x y : List Letter) {o : Outcome F} → (o ≡ outcome.Nothing → ⊥) → service_at q a.caller.hash ≡ None → IsLookWord (a.meaning a.asked) a.caller.node a.caller.hash x o → Run IsOwnPart w (x ++ y) v → ⊥
+    not_gone : (x y : List Letter) {o : Outcome E} → (o ≡ outcome.Nothing → ⊥) → service_at q a.caller.hash ≡ None → IsLookWord (a.meaning a.asked) a.caller.node a.caller.hash x o → Run IsOwnPart w (x ++ y) v → ⊥
     not_gone x y other gone l run = other (look_rests_absent (a.meaning a.asked) a.caller.node a.caller.hash s old gone l (split x y run).first).0
 
     not_there : (x y : List Letter) (z : QuietService) → service_at q a.caller.hash ≡ Some z → IsLookWord (a.meaning a.asked) a.caller.node a.caller.hash x outcome.Nothing → Run IsOwnPart w (x ++ y) v → ⊥
@@ -114,9 +116,9 @@ module _ {D F E C : Type 0} (a : BuilderCall D F E C) (steady : IsSteady a) (q :
     ] refl
 
     last_is : {word : List Letter} {answer : Result Registered (OpenOrCreateRefusal E C)} → IsLastTurn a word answer → Run IsOwnPart w word v → IsIt w answer v
-    last_is {word} (look_faulty {fault} l) run = elim (service_at q a.caller.hash) as (λ z. service_at q a.caller.hash ≡ z → IsIt w (Err (refusal.Open ((a.meaning a.asked).open_error_of fault))) v) [
+    last_is {word} (look_faulty {fault} l) run = elim (service_at q a.caller.hash) as (λ z. service_at q a.caller.hash ≡ z → IsIt w (Err (refusal.Open (open_error_of (a.meaning a.asked) fault))) v) [
       | None ↦ λ gone. let none = (look_rests_absent (a.meaning a.asked) a.caller.node a.caller.hash s old gone l run).0 in absurd (cc)
-      | Some z ↦ λ there. opened_call (Err ((a.meaning a.asked).open_error_of fault)) z there (opened_after (Err ((a.meaning a.asked).open_error_of fault)) s old (faulty_open l) run)
+      | Some z ↦ λ there. opened_call (Err (open_error_of (a.meaning a.asked) fault)) z there (opened_after (Err (open_error_of (a.meaning a.asked) fault)) s old (faulty_open l) run)
     ] refl
     last_is (not_opened {u = x} {v = y} {error = error} l o ends) run = elim (service_at q a.caller.hash) as (λ z. service_at q a.caller.hash ≡ z → IsIt w (Err (refusal.Open error)) v) [
       | None ↦ λ gone. absurd (not_gone x y (λ e. cc) gone l run)
@@ -162,11 +164,11 @@ carried_error : {G R : Type 0} (carry : G → R) (answer : Result Registered G) 
 carried_error carry (Ok r) error is = absurd (cc)
 carried_error carry (Err e) error is = (e, refl)
 
-module _ {D F E C : Type 0} (a : BuilderCall D F E C) (q : Quiet) where
+module _ {D E C : Type 0} (a : BuilderCall D E C) (q : Quiet) where
   keeps_services : {answer : Result Registered (OpenOrCreateRefusal E C)} {p : Quiet} (error : OpenOrCreateRefusal E C) → answer ≡ Err error → OpensOrCreates a q answer p → p.services ≡ q.services
   keeps_services {p = p} error is (attempt.creates {answer = answer} gone c) =
       let e = carried_error refusal.Create answer error is in
-      create_refused (creating a) a.caller.node a.caller.hash a.caller.name a.caller.now q p e.0 (subst (λ z. Creates (creating a) q a.caller z p) e.1 c)
+      create_refused (creating a) a.caller.node a.caller.hash a.caller.name a.caller.clock q p e.0 (subst (λ z. Creates (creating a) q a.caller z p) e.1 c)
   keeps_services {p = p} error is (attempt.opens {answer = answer} x there o) =
       let e = carried_error refusal.Open answer error is in
       open_refused (opening a) a.caller.node a.caller.hash q p e.0 (subst (λ z. Opens (opening a) q a.caller.node a.caller.hash z p) e.1 o)
@@ -184,23 +186,23 @@ module _ {E : Type 0} (no_memory : E) (q : Quiet) (Calls : Result Registered E �
   refused_if true p error each c = refused_prepared (λ p. p.services ≡ q.services) refl each c
   refused_if false p error each c = each error p c
 
-steady_prepared : {D F E C : Type 0} (a : BuilderCall D F E C) → IsSteady a → IsSteady (rounds_of a)
-steady_prepared a s = record { creating_is_regular = s.creating_is_regular; opening_is_regular = s.opening_is_regular; takes_nodes = s.takes_nodes; ends_at_once = s.ends_at_once }
+steady_prepared : {D E C : Type 0} (a : BuilderCall D E C) → IsSteady a → IsSteady (rounds_of a)
+steady_prepared a s = record { takes_nodes = s.takes_nodes; ends_at_once = s.ends_at_once }
 
 -- Every call is the machine's, and a refused one keeps its services.
-module _ {D F E C : Type 0} (a : BuilderCall D F E C) (q : Quiet) where
+module _ {D E C : Type 0} (a : BuilderCall D E C) (q : Quiet) where
   follows_by : (way : Way) {word : List Letter} {answer : Result Registered (ErrorBy E C way)} {w v : World} → IsSteadyBy a way → Shows w q → Agrees w → IsWordBy a way word answer → Run IsOwnPart w word v → IsCall w (AnswersBy a way q answer) answer v
   follows_by ToCreate {w = w} {v = v} steady s old = prepared_if _ q _ a.prepares _ s old
-      (λ word answer is run. create_follows (creating a) a.caller.node a.caller.hash a.caller.name a.caller.now w v q word answer steady.regular steady.takes_nodes s old is run)
+      (λ word answer is run. create_follows (creating a) a.caller.node a.caller.hash a.caller.name a.caller.clock w v q word answer steady s old is run)
   follows_by ToOpen {w = w} {v = v} steady s old = prepared_if _ q _ a.prepares _ s old
-      (λ word answer is run. open_follows (opening a) a.caller.node a.caller.hash w v q word answer steady s old is run)
+      (λ word answer is run. open_follows (opening a) a.caller.node a.caller.hash w v q word answer s old is run)
   follows_by ToOpenOrCreate steady s old = prepared_if _ q _ a.prepares _ s old (λ word answer is run. attempt_follows (rounds_of a) (steady_prepared a steady) q s old is run)
 
   pub call_follows : {word : List Letter} {answer : Result Registered (ErrorBy E C a.way)} {w v : World} → IsSteadyBy a a.way → Shows w q → Agrees w → IsWordOf a word answer → Run IsOwnPart w word v → IsCall w (Answers a q answer) answer v
   call_follows steady s old is run = follows_by a.way steady s old is run
 
   services_by : (way : Way) (p : Quiet) (error : ErrorBy E C way) → AnswersBy a way q (Err error) p → p.services ≡ q.services
-  services_by ToCreate p error c = refused_if _ q _ a.prepares p error (λ e p is. create_refused (creating a) a.caller.node a.caller.hash a.caller.name a.caller.now q p e is) c
+  services_by ToCreate p error c = refused_if _ q _ a.prepares p error (λ e p is. create_refused (creating a) a.caller.node a.caller.hash a.caller.name a.caller.clock q p e is) c
   services_by ToOpen p error c = refused_if _ q _ a.prepares p error (λ e p is. open_refused (opening a) a.caller.node a.caller.hash q p e is) c
   services_by ToOpenOrCreate p error c = refused_if _ q _ a.prepares p error (λ e p is. keeps_services (rounds_of a) q e refl is) c
 

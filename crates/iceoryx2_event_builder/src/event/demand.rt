@@ -153,8 +153,6 @@ fn verify_settings(
 impl Pattern for EventDemand {
     ghost use Rattle.iceoryx2_event_builder.specs.Event.{event_meaning, event_adjusted};
 
-    type Fault = ServiceState;
-
     type OpenError = EventOpenError;
 
     type CreateError = EventCreateError;
@@ -169,15 +167,11 @@ impl Pattern for EventDemand {
         self.settings.max_nodes = raise_zero(self.settings.max_nodes);
     }
 
-    fn fault(&self, state: ServiceState) -> ServiceState {
-        state
-    }
-
-    fn misfit(&self, existing: &StaticConfig) -> Option<ServiceState> {
+    fn misfit(&self, existing: &StaticConfig) -> Option<EventOpenError> {
         match existing.messaging_pattern() {
             MessagingPattern::Event(_) => None,
             MessagingPattern::PublishSubscribe(_) | MessagingPattern::RequestResponse(_) => {
-                Some(ServiceState::IncompatibleMessagingPattern)
+                Some(EventOpenError::from(ServiceState::IncompatibleMessagingPattern))
             }
         }
     }
@@ -190,16 +184,8 @@ impl Pattern for EventDemand {
         }
     }
 
-    fn open_error_of(&self, fault: ServiceState) -> EventOpenError {
-        EventOpenError::from(fault)
-    }
-
     fn open_refusal(&self, refusal: OpenRefusal) -> EventOpenError {
         open_error_of_refusal!(refusal, EventOpenError)
-    }
-
-    fn create_error_of(&self, fault: ServiceState) -> EventCreateError {
-        EventCreateError::from(fault)
     }
 
     fn create_refusal(&self, refusal: CreateRefusal) -> EventCreateError {

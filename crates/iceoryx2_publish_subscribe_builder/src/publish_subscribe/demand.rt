@@ -84,8 +84,6 @@ fn verify_settings(
 impl Pattern for PreparedDemand {
     ghost use Rattle.iceoryx2_publish_subscribe_builder.specs.PublishSubscribe.{prepared_adjusted, prepared_meaning};
 
-    type Fault = ServiceAvailabilityState;
-
     type OpenError = PublishSubscribeOpenError;
 
     type CreateError = PublishSubscribeCreateError;
@@ -105,11 +103,7 @@ impl Pattern for PreparedDemand {
         settings.max_nodes = raise_zero(settings.max_nodes);
     }
 
-    fn fault(&self, state: ServiceState) -> ServiceAvailabilityState {
-        ServiceAvailabilityState::ServiceState(state)
-    }
-
-    fn misfit(&self, existing: &StaticConfig) -> Option<ServiceAvailabilityState> {
+    fn misfit(&self, existing: &StaticConfig) -> Option<PublishSubscribeOpenError> {
         match existing.messaging_pattern() {
             MessagingPattern::PublishSubscribe(settings) => {
                 if self
@@ -118,13 +112,15 @@ impl Pattern for PreparedDemand {
                 {
                     None
                 } else {
-                    Some(ServiceAvailabilityState::IncompatibleTypes)
+                    Some(PublishSubscribeOpenError::from(
+                        ServiceAvailabilityState::IncompatibleTypes,
+                    ))
                 }
             }
             MessagingPattern::Event(_) | MessagingPattern::RequestResponse(_) => {
-                Some(ServiceAvailabilityState::ServiceState(
+                Some(PublishSubscribeOpenError::from(ServiceAvailabilityState::ServiceState(
                     ServiceState::IncompatibleMessagingPattern,
-                ))
+                )))
             }
         }
     }
@@ -137,16 +133,8 @@ impl Pattern for PreparedDemand {
         }
     }
 
-    fn open_error_of(&self, fault: ServiceAvailabilityState) -> PublishSubscribeOpenError {
-        PublishSubscribeOpenError::from(fault)
-    }
-
     fn open_refusal(&self, refusal: OpenRefusal) -> PublishSubscribeOpenError {
         open_error_of_refusal!(refusal, PublishSubscribeOpenError)
-    }
-
-    fn create_error_of(&self, fault: ServiceAvailabilityState) -> PublishSubscribeCreateError {
-        PublishSubscribeCreateError::from(fault)
     }
 
     fn create_refusal(&self, refusal: CreateRefusal) -> PublishSubscribeCreateError {

@@ -91,8 +91,6 @@ fn verify_settings(
 impl Pattern for PreparedDemand {
     ghost use Rattle.iceoryx2_request_response_builder.specs.RequestResponse.{prepared_adjusted, prepared_meaning};
 
-    type Fault = ServiceAvailabilityState;
-
     type OpenError = RequestResponseOpenError;
 
     type CreateError = RequestResponseCreateError;
@@ -116,27 +114,27 @@ impl Pattern for PreparedDemand {
         settings.max_nodes = raise_zero(settings.max_nodes);
     }
 
-    fn fault(&self, state: ServiceState) -> ServiceAvailabilityState {
-        ServiceAvailabilityState::ServiceState(state)
-    }
-
-    fn misfit(&self, existing: &StaticConfig) -> Option<ServiceAvailabilityState> {
+    fn misfit(&self, existing: &StaticConfig) -> Option<RequestResponseOpenError> {
         match existing.messaging_pattern() {
             MessagingPattern::RequestResponse(settings) => {
                 let request = &settings.request_message_type_details;
                 let response = &settings.response_message_type_details;
                 if !self.request.is_compatible_to(request) {
-                    Some(ServiceAvailabilityState::IncompatibleRequestType)
+                    Some(RequestResponseOpenError::from(
+                        ServiceAvailabilityState::IncompatibleRequestType,
+                    ))
                 } else if !self.response.is_compatible_to(response) {
-                    Some(ServiceAvailabilityState::IncompatibleResponseType)
+                    Some(RequestResponseOpenError::from(
+                        ServiceAvailabilityState::IncompatibleResponseType,
+                    ))
                 } else {
                     None
                 }
             }
             MessagingPattern::Event(_) | MessagingPattern::PublishSubscribe(_) => {
-                Some(ServiceAvailabilityState::ServiceState(
+                Some(RequestResponseOpenError::from(ServiceAvailabilityState::ServiceState(
                     ServiceState::IncompatibleMessagingPattern,
-                ))
+                )))
             }
         }
     }
@@ -149,16 +147,8 @@ impl Pattern for PreparedDemand {
         }
     }
 
-    fn open_error_of(&self, fault: ServiceAvailabilityState) -> RequestResponseOpenError {
-        RequestResponseOpenError::from(fault)
-    }
-
     fn open_refusal(&self, refusal: OpenRefusal) -> RequestResponseOpenError {
         open_error_of_refusal!(refusal, RequestResponseOpenError)
-    }
-
-    fn create_error_of(&self, fault: ServiceAvailabilityState) -> RequestResponseCreateError {
-        RequestResponseCreateError::from(fault)
     }
 
     fn create_refusal(&self, refusal: CreateRefusal) -> RequestResponseCreateError {

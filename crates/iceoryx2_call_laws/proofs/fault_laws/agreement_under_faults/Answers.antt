@@ -18,7 +18,7 @@ pub returns-clause-close_leaves : goal.returns-clause-close_leaves
 returns-clause-close_leaves g c = λ r word answer w v is here run old. close_leaves is here run old
 
 pub returns-clause-over_no_row : goal.returns-clause-over_no_row
-returns-clause-over_no_row g c = λ m caller word answer w v room old gone is run. create_call_over_no_row caller.name caller.now room old gone is run
+returns-clause-over_no_row g c = λ m caller word answer w v room old gone is run. create_call_over_no_row caller.name caller.clock room old gone is run
 
 pub returns-clause-every_open_factory_stands : goal.returns-clause-every_open_factory_stands
 returns-clause-every_open_factory_stands g c = λ call word answer s t is run old. as_promised (IsInjectedFault IsTableAccess) (λ u. u.inner.world) of_faulty_table call word answer is run old

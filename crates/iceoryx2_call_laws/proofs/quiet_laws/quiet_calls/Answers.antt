@@ -15,7 +15,7 @@ pub returns-clause-refused : goal.returns-clause-refused
 returns-clause-refused g c = λ call w v q p refusal s t answers. refused_call call q refusal s t answers
 
 pub returns-clause-create_and_close : goal.returns-clause-create_and_close
-returns-clause-create_and_close g c = λ m caller w v q p z r s t call close. create_and_close m caller.node caller.hash caller.name caller.now w v q p z r s t (granted_prepared call) close
+returns-clause-create_and_close g c = λ m caller w v q p z r s t call close. create_and_close m caller.node caller.hash caller.name caller.clock w v q p z r s t (granted_prepared call) close
 
 pub returns-clause-again : goal.returns-clause-again
 returns-clause-again g c = λ m node hash w v q p r x k s t there counted call. opened_again m node hash w v q p r x k s t there counted (granted_prepared call)

@@ -8,7 +8,7 @@ pub returns-in-No : goal.returns-in-No
 returns-in-No g c = joins absent (one c.in-No.ensures)
 
 pub returns-in-Fault : goal.returns-in-Fault
-returns-in-Fault g c = rw c.fault.ensures (joins broken (one c.in-Fault.ensures))
+returns-in-Fault g c = joins broken (one c.in-Fault.ensures)
 
 pub returns-in-Yes : goal.returns-in-Yes
 returns-in-Yes g c = joins (fetched (may_be_there c.exists.result c.in-Yes.is) c.outcome_of.ensures) (next c.exists.ensures (one c.fetch-answer.ensures))

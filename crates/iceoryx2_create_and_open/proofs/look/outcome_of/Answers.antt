@@ -6,13 +6,13 @@ pub returns-in-DoesNotExist : goal.returns-in-DoesNotExist
 returns-in-DoesNotExist g c = rw (c.in-Err.is, c.in-DoesNotExist.is) gone
 
 pub returns-in-NotFinalized : goal.returns-in-NotFinalized
-returns-in-NotFinalized g c = rw (c.fault.ensures, c.in-Err.is, c.in-NotFinalized.is) not_finalized
+returns-in-NotFinalized g c = rw (c.in-Err.is, c.in-NotFinalized.is) not_finalized
 
 pub returns-in-OpenFault : goal.returns-in-OpenFault
-returns-in-OpenFault g c = rw (c.fault-in-OpenFault.ensures, c.in-Err.is) (elim c.in-OpenFault.is [
+returns-in-OpenFault g c = rw c.in-Err.is (elim c.in-OpenFault.is [
   | inl e ↦ rw e not_opened
   | inr e ↦ rw e not_read
 ])
 
 pub returns-in-OutOfMemory : goal.returns-in-OutOfMemory
-returns-in-OutOfMemory g c = rw (c.fault-in-OutOfMemory.ensures, c.in-Err.is, c.in-OutOfMemory.is) not_fetched
+returns-in-OutOfMemory g c = rw (c.in-Err.is, c.in-OutOfMemory.is) not_fetched

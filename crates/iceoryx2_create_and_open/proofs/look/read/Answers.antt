@@ -5,7 +5,7 @@ pub returns-in-Ok : goal.returns-in-Ok
 returns-in-Ok g c = rw c.found_unless.ensures (c.fault_of-fault.ensures c.args.number c.args.bytes.now c.in-Ok.ensures.found)
 
 pub returns-in-Err-Malformed : goal.returns-in-Err-Malformed
-returns-in-Err-Malformed g c = rw c.fault.ensures (malformed (λ d form. let why = c.in-Err-Malformed.ensures.only d form in let said = c.in-Err-Malformed.field-0-is in cc))
+returns-in-Err-Malformed g c = malformed (λ d form. let why = c.in-Err-Malformed.ensures.only d form in let said = c.in-Err-Malformed.field-0-is in cc)
 
 pub returns-in-Err-OutOfMemory : goal.returns-in-Err-OutOfMemory
-returns-in-Err-OutOfMemory g c = rw c.fault-in-Err-OutOfMemory.ensures not_decoded
+returns-in-Err-OutOfMemory g c = not_decoded

@@ -5,4 +5,4 @@ use Rattle.iceoryx2_create_and_open.proofs.open.open.Given as goal
 
 abbrev pub invariant-loop-round : goal.invariant-loop-round
 invariant-loop-round g l =
-    Joins g.S.Storage.step l.fn.storage (AreFailedRounds (requiring l.verifier (g.P.Pattern.meaning l.pattern)) l.node l.hash l._round) l.storage
+    Joins g.S.Storage.step l.fn.storage (AreFailedRounds (requiring l.verifier (g.P.Pattern.meaning l.pattern)) l.caller.node l.caller.hash l._round) l.storage

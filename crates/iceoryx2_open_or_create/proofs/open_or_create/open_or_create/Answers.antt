@@ -9,10 +9,10 @@ pub loop-round-init : goal.loop-round-init
 loop-round-init g c = joins no_turn done
 
 pub loop-round-preserved : goal.loop-round-preserved
-loop-round-preserved g c = let before = c.loop-round.invariant in let last = rw c.same_time-again.ensures at c.in-None.ensures in rw add-one (joins (one_more before.is_word last.is_word) (both before.run last.run))
+loop-round-preserved g c = let before = c.loop-round.invariant in let last = c.in-None.ensures in rw add-one (joins (one_more before.is_word last.is_word) (both before.run last.run))
 
 pub returns-in-Some : goal.returns-in-Some
-returns-in-Some g c = let before = c.loop-round.invariant in let last = rw c.same_time-again.ensures at c.in-Some.ensures in joins (ended (omega arith) before.is_word last.is_word) (both before.run last.run)
+returns-in-Some g c = let before = c.loop-round.invariant in let last = c.in-Some.ensures in joins (ended (omega arith) before.is_word last.is_word) (both before.run last.run)
 
 pub returns : goal.returns
 returns g c = let before = c.loop-round.invariant in let all : c.loop-round._round ≡ OPEN_OR_CREATE_RETRIES + 1 = omega arith in joins (in_flux (rw all at before.is_word)) before.run

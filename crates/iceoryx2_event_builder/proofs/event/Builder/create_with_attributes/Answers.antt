@@ -8,5 +8,5 @@ hand_out-requires g c = created_of is_events _ _ c.create.ensures.word refl
 
 pub returns : goal.returns
 returns g c =
-    let made = rw (c.attributes-attributes.ensures.value, c.hash-hash.ensures, c.node-node.ensures, c.name-name.ensures) at c.create.ensures.word in
+    let made = rw (c.attributes.ensures.value, c.into_caller-caller.ensures) at c.create.ensures.word in
     rw (← c.self.view_is, c.hand_out.ensures) made

@@ -8,5 +8,5 @@ hand_out-requires g c = opened_of is_events _ c.open.ensures (λ d. what_fits d.
 
 pub returns : goal.returns
 returns g c =
-    let answer = rw (c.hash-hash.ensures, c.node.ensures) at c.open.ensures in
+    let answer = rw c.into_caller-caller.ensures at c.open.ensures in
     rw (← c.self.view_is, c.hand_out.ensures) answer

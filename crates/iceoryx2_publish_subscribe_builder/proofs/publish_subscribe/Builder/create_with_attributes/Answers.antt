@@ -8,9 +8,9 @@ pub returns-in_default : goal.returns-in_default
 returns-in_default g c = without_types
 
 pub hand_out-requires : goal.hand_out-requires
-hand_out-requires g c = created_of is_publish_subscribe (record { node = _; hash = _; name = _; now = Ok zero_span }) _ c.create.ensures.word refl
+hand_out-requires g c = created_of is_publish_subscribe c.in-Ok.caller _ c.create.ensures.word refl
 
 pub returns : goal.returns
 returns g c =
-    let made = rw (c.in-Ok.ensures.1, c.attributes-attributes.ensures.value, c.hash-hash.ensures, c.node-node.ensures, c.name-name.ensures, c.in-Ok.ensures.0) at c.create.ensures.word in
+    let made = rw (c.in-Ok.ensures.1, c.attributes.ensures.value, c.in-Ok.ensures.0) at c.create.ensures.word in
     rw (c.hand_out.ensures) (with_types made)

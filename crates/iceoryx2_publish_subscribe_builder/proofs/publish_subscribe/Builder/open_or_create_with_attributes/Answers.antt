@@ -13,10 +13,10 @@ new-requires g c = carried_of is_publish_subscribe (λ asked d. what_fits asked.
 
 pub returns-in-Ok-open_or_create : goal.returns-in-Ok-open_or_create
 returns-in-Ok-open_or_create g c =
-    let granted = rw (c.in-Ok.ensures.1, c.hash-hash.ensures, c.node-node.ensures, c.name-name.ensures, c.default.ensures, c.in-Ok.ensures.0) at c.in-Ok-open_or_create.ensures in
+    let granted = rw (c.in-Ok.ensures.1, c.in-Ok.ensures.0) at c.in-Ok-open_or_create.ensures in
     rw (c.new.ensures) (with_types granted)
 
 pub returns : goal.returns
 returns g c =
-    let refused = rw (c.in-Ok.ensures.1, c.hash-hash.ensures, c.node-node.ensures, c.name-name.ensures, c.default.ensures, c.in-Ok.ensures.0) at c.in-Err.ensures in
+    let refused = rw (c.in-Ok.ensures.1, c.in-Ok.ensures.0) at c.in-Err.ensures in
     rw (c.open_or_create_error.ensures) (with_types refused)

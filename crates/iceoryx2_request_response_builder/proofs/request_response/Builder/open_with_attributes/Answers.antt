@@ -11,5 +11,5 @@ hand_out-requires g c = opened_of is_request_response _ c.open.ensures (λ d. wh
 
 pub returns : goal.returns
 returns g c =
-    let answer = rw (c.in-Ok.ensures.1, c.hash-hash.ensures, c.node.ensures, c.in-Ok.ensures.0) at c.open.ensures in
+    let answer = rw (c.in-Ok.ensures.1, c.in-Ok.ensures.0) at c.open.ensures in
     rw (c.hand_out.ensures) (with_types answer)

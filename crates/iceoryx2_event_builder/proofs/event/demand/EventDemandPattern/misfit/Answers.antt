@@ -3,6 +3,3 @@ use Rattle.iceoryx2_event_builder.proofs.event.demand.EventDemandPattern.misfit.
 
 pub returns-in-PublishSubscribe : goal.returns-in-PublishSubscribe
 returns-in-PublishSubscribe c = search rules
-
-pub returns-in-PublishSubscribe-2 : goal.returns-in-PublishSubscribe-2
-returns-in-PublishSubscribe-2 c = search rules

@@ -1,0 +1,28 @@
+//! Who calls, for which service, and when.
+
+use iceoryx2_description::description::{ServiceHash, ServiceName};
+use iceoryx2_description::time::{ClockFault, Time};
+
+/// Who creates or opens a service, which one, and when.
+pub struct Caller {
+    /// The node.
+    pub node: u64,
+    /// The hash of the service's name behind its pattern's prefix.
+    pub hash: ServiceHash,
+    /// The service's name, under which a create publishes it.
+    pub name: ServiceName,
+    /// What the clock answers. Only a create asks for it, of a pattern that publishes when it was created.
+    pub clock: Result<Time, ClockFault>,
+}
+
+// Written out, so that a proof of what lets one go doesn't take its fields apart.
+impl Drop for Caller {
+    fn drop(self) {
+        let Caller {
+            node: _,
+            hash: _,
+            name: _,
+            clock: _,
+        } = self;
+    }
+}
