@@ -39,23 +39,6 @@ pub fn call(
         Builds (event_pattern_call b (way_of how) attributes now) table.old result table.new }
 {
     let builder = with_settings(builder, settings);
-    match how {
-        How::Create => {
-            let specifier = AttributeSpecifier::from(attributes.into_required_attributes());
-            match builder.create_with_attributes(&specifier, table, now) {
-                Ok(factory) => Ok(factory.into_registration()),
-                Err(error) => Err(Refusal::EventCreate(error)),
-            }
-        }
-        How::Open => match builder.open_with_attributes(&attributes, table) {
-            Ok(factory) => Ok(factory.into_registration()),
-            Err(error) => Err(Refusal::EventOpen(error)),
-        },
-        How::OpenOrCreate => {
-            match builder.open_or_create_with_attributes(&attributes, table, now) {
-                Ok(factory) => Ok(factory.into_registration()),
-                Err(error) => Err(Refusal::EventOpenOrCreate(error)),
-            }
-        }
-    }
+    builder_call!(how, builder, attributes, table, now;
+        EventCreate EventOpen EventOpenOrCreate)
 }

@@ -1,6 +1,34 @@
 //! A session of commands over a table.
 #![tactic(auto)]
 
+/// The call of a builder that a command asks for, with the names of the refusals that carry its errors.
+///
+/// A create defines the required pairs. What else a create is told stands behind the table.
+macro_rules! builder_call {
+    ($how:expr, $builder:expr, $attributes:expr, $table:expr $(, $now:expr)?;
+        $create:ident $open:ident $open_or_create:ident) => {
+        match $how {
+            How::Create => {
+                let specifier = AttributeSpecifier::from($attributes.into_required_attributes());
+                match $builder.create_with_attributes(&specifier, $table $(, $now)?) {
+                    Ok(factory) => Ok(factory.into_registration()),
+                    Err(error) => Err(Refusal::$create(error)),
+                }
+            }
+            How::Open => match $builder.open_with_attributes(&$attributes, $table) {
+                Ok(factory) => Ok(factory.into_registration()),
+                Err(error) => Err(Refusal::$open(error)),
+            },
+            How::OpenOrCreate => {
+                match $builder.open_or_create_with_attributes(&$attributes, $table $(, $now)?) {
+                    Ok(factory) => Ok(factory.into_registration()),
+                    Err(error) => Err(Refusal::$open_or_create(error)),
+                }
+            }
+        }
+    };
+}
+
 mod closing;
 mod events;
 mod publish_subscribe;

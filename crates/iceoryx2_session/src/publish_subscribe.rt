@@ -42,23 +42,6 @@ pub fn call(
         Builds (publish_subscribe_pattern_call b (way_of how) attributes) table.old result table.new }
 {
     let builder = with_settings(builder, settings);
-    match how {
-        How::Create => {
-            let specifier = AttributeSpecifier::from(attributes.into_required_attributes());
-            match builder.create_with_attributes(&specifier, table) {
-                Ok(factory) => Ok(factory.into_registration()),
-                Err(error) => Err(Refusal::PublishSubscribeCreate(error)),
-            }
-        }
-        How::Open => match builder.open_with_attributes(&attributes, table) {
-            Ok(factory) => Ok(factory.into_registration()),
-            Err(error) => Err(Refusal::PublishSubscribeOpen(error)),
-        },
-        How::OpenOrCreate => {
-            match builder.open_or_create_with_attributes(&attributes, table) {
-                Ok(factory) => Ok(factory.into_registration()),
-                Err(error) => Err(Refusal::PublishSubscribeOpenOrCreate(error)),
-            }
-        }
-    }
+    builder_call!(how, builder, attributes, table;
+        PublishSubscribeCreate PublishSubscribeOpen PublishSubscribeOpenOrCreate)
 }

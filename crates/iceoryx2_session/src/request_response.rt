@@ -48,23 +48,6 @@ pub fn call(
         Builds (request_response_pattern_call b (way_of how) attributes) table.old result table.new }
 {
     let builder = with_settings(builder, settings);
-    match how {
-        How::Create => {
-            let specifier = AttributeSpecifier::from(attributes.into_required_attributes());
-            match builder.create_with_attributes(&specifier, table) {
-                Ok(factory) => Ok(factory.into_registration()),
-                Err(error) => Err(Refusal::RequestResponseCreate(error)),
-            }
-        }
-        How::Open => match builder.open_with_attributes(&attributes, table) {
-            Ok(factory) => Ok(factory.into_registration()),
-            Err(error) => Err(Refusal::RequestResponseOpen(error)),
-        },
-        How::OpenOrCreate => {
-            match builder.open_or_create_with_attributes(&attributes, table) {
-                Ok(factory) => Ok(factory.into_registration()),
-                Err(error) => Err(Refusal::RequestResponseOpenOrCreate(error)),
-            }
-        }
-    }
+    builder_call!(how, builder, attributes, table;
+        RequestResponseCreate RequestResponseOpen RequestResponseOpenOrCreate)
 }
