@@ -1,16 +1,13 @@
 use Rattle.std.proofs.Common.{◌≡◌, ap, rules}
-use Rattle.std.specs.Prelude.{Bool, ◌&&◌, bytes_eq, nat_eq}
+use Rattle.std.specs.Prelude.{Bool, ◌&&◌}
 use Rattle.std.specs.Bool.{Decides}
 use Rattle.std.proofs.lemmas.Bool.Decides.{Decides-and}
-use denote.Enum.Bare.{sameb}
-use Rattle.iceoryx2_types.specs.contracts.types.TypeVariant.{the_type}
-use Rattle.iceoryx2_types.specs.Types.{Detail, Message}
+use Rattle.iceoryx2_types.specs.Types.{Detail, Message, same_detail}
 
 -- ---- the derived comparisons, which go by the fields in order
 
 abbrev equal : Detail → Detail → Bool
-equal d e = sameb the_type d.variant e.variant
-    && (bytes_eq d.name e.name && (nat_eq d.size e.size && nat_eq d.alignment e.alignment))
+equal = same_detail
 
 abbrev equal_messages : Message → Message → Bool
 equal_messages a b = equal a.header b.header

@@ -77,25 +77,26 @@ impl Clone for TypeName {
     }
 }
 
-/// What is told of a type: whether a message holds one value or a number of them, and the name, the
-/// size and the alignment of one.
-#[derive(Debug, PartialEq, Eq)]
-pub struct TypeDetail {
+// What is told of a type, field by field.
+#[derive(Debug, Drop)]
+struct Fields {
     variant: TypeVariant,
     type_name: TypeName,
     size: u64,
     alignment: Alignment,
 }
 
+/// What is told of a type: whether a message holds one value or a number of them, and the name, the
+/// size and the alignment of one. It is kept in memory of its own, so that what holds it stays small.
+#[derive(Debug)]
+pub struct TypeDetail {
+    fields: Box<Fields>,
+}
+
 // Written out, so that a proof of what lets one go doesn't take its fields apart.
 impl Drop for TypeDetail {
     fn drop(self) {
-        let TypeDetail {
-            variant: _,
-            type_name: _,
-            size: _,
-            alignment: _,
-        } = self;
+        let TypeDetail { fields: _ } = self;
     }
 }
 
@@ -104,16 +105,11 @@ impl Model for TypeDetail {
 
     ghost Value = { Detail };
 
-    ghost view = { λ d. detail_of d.variant d.type_name d.size d.alignment };
+    ghost view = { λ d. detail_of d.fields.value.variant d.fields.value.type_name d.fields.value.size
+        d.fields.value.alignment };
 
-    ghost invariant = { λ d. IsDetail (detail_of d.variant d.type_name d.size d.alignment) };
-
-    ghost inverse = { λ d. record {
-      variant = d.variant;
-      type_name = d.name;
-      size = d.size;
-      alignment = d.alignment;
-    } };
+    ghost invariant = { λ d. IsDetail (detail_of d.fields.value.variant d.fields.value.type_name d.fields.value.size
+        d.fields.value.alignment) };
 }
 
 impl TypeDetail {
@@ -145,7 +141,10 @@ impl TypeDetail {
             return Err(TypeDetailError::OutOfMemory);
         };
         let type_name = TypeName::from_text(text);
-        Ok(TypeDetail::from_parts(variant, type_name, size, alignment))
+        match TypeDetail::from_parts(alloc, variant, type_name, size, alignment) {
+            Ok(detail) => Ok(detail),
+            Err(_) => Err(TypeDetailError::OutOfMemory),
+        }
     }
 
     /// The details that a type says of itself, of one value or a number of them.
@@ -159,27 +158,32 @@ impl TypeDetail {
         let text = String::from_str(alloc, T::type_name())?;
         let alignment = Alignment::of_type::<T>();
         let type_name = TypeName::from_text(text);
-        Ok(TypeDetail::from_parts(variant, type_name, T::size(), alignment))
+        TypeDetail::from_parts(alloc, variant, type_name, T::size(), alignment)
     }
 
     /// The details of parts that are within their limits.
     fn from_parts(
+        alloc: Global,
         variant: TypeVariant,
         type_name: TypeName,
         size: u64,
         alignment: Alignment,
-    ) -> TypeDetail
-        ensures value { result ≡ detail_of variant type_name size alignment }
-        ensures limits { IsDetail result }
+    ) -> Result<TypeDetail, AllocError>
+        ensures value { IfOk result (λ made. made ≡ detail_of variant type_name size alignment) }
+        ensures limits { IfOk result (λ made. IsDetail made) }
     {
         let _name = type_name.as_str();
         let _bytes = alignment.value();
-        TypeDetail {
-            variant,
-            type_name,
-            size,
-            alignment,
-        }
+        let fields = Box::new(
+            alloc,
+            Fields {
+                variant,
+                type_name,
+                size,
+                alignment,
+            },
+        )?;
+        Ok(TypeDetail { fields })
     }
 
     /// Whether a message holds one value or a number of them.
@@ -187,7 +191,7 @@ impl TypeDetail {
         ensures value { result ≡ self.now.variant }
         ensures limits { IsDetail self.now }
     {
-        self.variant
+        self.fields.variant
     }
 
     /// The name, of 1 to 256 bytes.
@@ -195,7 +199,7 @@ impl TypeDetail {
         ensures value { result.now ≡ self.now.name }
         ensures limits { IsDetail self.now }
     {
-        self.type_name.as_str()
+        self.fields.type_name.as_str()
     }
 
     /// The size of one value in bytes.
@@ -204,7 +208,7 @@ impl TypeDetail {
         ensures below { result < 2 ^ 64 }
         ensures limits { IsDetail self.now }
     {
-        self.size
+        self.fields.size
     }
 
     /// The alignment in bytes, a power of two.
@@ -213,7 +217,7 @@ impl TypeDetail {
         ensures below { result < 2 ^ 64 }
         ensures limits { IsDetail self.now }
     {
-        self.alignment.value()
+        self.fields.alignment.value()
     }
 
     /// The same type, aligned at least as far as is asked.
@@ -228,13 +232,9 @@ impl TypeDetail {
         if asked.value() <= own {
             return self;
         }
-        let TypeDetail {
-            variant,
-            type_name,
-            size,
-            alignment: _,
-        } = self;
-        TypeDetail::from_parts(variant, type_name, size, asked)
+        let TypeDetail { mut fields } = self;
+        fields.alignment = asked;
+        TypeDetail { fields }
     }
 
     /// Whether they are the same in all fields.
@@ -260,17 +260,40 @@ impl TypeDetail {
     }
 }
 
+impl PartialEq for TypeDetail {
+    ghost use Rattle.std.proofs.Common.{rules};
+    ghost use Rattle.std.specs.Cmp.Rules.{comparing};
+    ghost use Rattle.iceoryx2_types.specs.Types.{same_detail};
+
+    ghost eq = { same_detail };
+
+    ghost laws = { Prim.search (comparing, rules) };
+
+    fn eq(&self, other: &TypeDetail) -> bool {
+        self.is_same(other)
+    }
+}
+
+impl Eq for TypeDetail {
+    ghost use Rattle.std.proofs.Common.{rules};
+    ghost use Rattle.std.specs.Cmp.Rules.{comparing};
+
+    ghost laws = { Prim.search (comparing, rules) };
+}
+
 impl Clone for TypeDetail {
     ghost use Rattle.std.specs.Prelude.{◌≡◌};
 
     ghost is_clone = { λ detail copy. copy ≡ detail };
 
     fn clone(&self) -> Result<TypeDetail, AllocError> {
-        Ok(TypeDetail {
-            variant: self.variant,
-            type_name: self.type_name.clone()?,
-            size: self.size,
-            alignment: self.alignment,
-        })
+        let fields = &self.fields;
+        TypeDetail::from_parts(
+            *Box::allocator(fields),
+            fields.variant,
+            fields.type_name.clone()?,
+            fields.size,
+            fields.alignment,
+        )
     }
 }
