@@ -1,12 +1,17 @@
 -- What stands already is set to no effect, and what a test says of a value.
-use Rattle.std.proofs.Common.{◌≡◌, Bool, true, false, cond, Option, Some, None, refl, sym, ap, ◌∙◌}
+use Rattle.std.proofs.Common.{◌≡◌, Bool, true, false, cond, Option, Some, None, ℕ, List, refl, sym, ap, subst, ◌∙◌}
 use Rattle.std.specs.Prelude.{is_some, is_err, ◌&&◌, Result, Ok, Err, OnErr}
 use Rattle.std.specs.FinMap as map
 use Rattle.std.specs.FinMap.{same_map, IsAntisymmetric}
 use Rattle.std.specs.Ordering.{eq_by_cmp}
 use Rattle.std.specs.declared.cmp.Ordering.{Ordering}
 use Rattle.std.specs.Cmp.{IsTotalOrder, Equal-is}
+use Rattle.iceoryx2_world.specs.declared.world.Row.{Row}
+use Rattle.iceoryx2_world.specs.declared.world.Row.TheVariants as row
 use Rattle.iceoryx2_world.specs.World.{set_to}
+use Rattle.iceoryx2_table.specs.Book.{Tells, Holds}
+use Rattle.iceoryx2_table.specs.declared.rows.RowState.{RowState}
+use Rattle.iceoryx2_table.specs.declared.rows.RowState.TheVariants as state
 use Rattle.iceoryx2_world.proofs.agreement.Whole.{get-set_to}
 
 module _ {K X : Type 0} {R : K → K → Ordering} (o : IsTotalOrder R) (exact : IsAntisymmetric R) where
@@ -30,3 +35,13 @@ when_err (Err x) e p = p
 pub both_true : (a b : Bool) → (a && b) ≡ true → (a ≡ true) × (b ≡ true)
 both_true true b e = (refl, e)
 both_true false b e = absurd (cc)
+
+-- what a row tells, where the answer is known
+pub told : (r : Row) {s t : RowState} → Tells r s → s ≡ t → Tells r t
+told r tells is = subst (λ x. Tells r x) is tells
+
+-- a published row is its number with its bytes
+pub written : (r : Row) {s : RowState} {n : ℕ} {bytes : List ℕ} → Tells r s → Holds r bytes → s ≡ state.Published n → r ≡ row.Published n bytes
+written r {n = n} {bytes = bytes} tells holds is =
+    let t : Tells r (state.Published n) = told r tells is in
+    t.1 ∙ ap (row.Published n) (sym (subst (λ x. Holds x bytes) t.1 holds))

@@ -1,5 +1,5 @@
 -- What stands for the services, and how a step of one participant changes it.
-use Rattle.std.specs.Prelude.{◌≡◌, refl, ℕ, Bool, true, false, Option, Some, None, Result, Ok, Err}
+use Rattle.std.specs.Prelude.{◌≡◌, refl, ℕ, List, Bool, true, false, Option, Some, None, Result, Ok, Err}
 use Rattle.std.specs.Option.{option_map}
 use Rattle.std.specs.FinMap as map
 use Rattle.sorted_map.specs.Places.{place_in}
@@ -12,6 +12,8 @@ use Rattle.iceoryx2_world.specs.declared.world.Phase.{Phase}
 use Rattle.iceoryx2_world.specs.declared.world.Phase.TheVariants as at
 use Rattle.iceoryx2_world.specs.declared.world.Row.{Row}
 use Rattle.iceoryx2_world.specs.declared.world.Row.TheVariants as row
+use Rattle.iceoryx2_table.specs.declared.rows.RowState.{RowState}
+use Rattle.iceoryx2_table.specs.declared.rows.RowState.TheVariants as state
 use Rattle.iceoryx2_table.specs.declared.services.Position.{Position}
 use Rattle.iceoryx2_access.specs.declared.storage.Release.{Release as Released}
 use Rattle.iceoryx2_world.specs.Sets as set
@@ -44,6 +46,21 @@ coded_book = code_by BookParts
     (λ w. (w.rows, (w.segments, (w.phases, w.counter))))
     (λ p. record { rows = p.0; segments = p.1.0; phases = p.1.1.0; counter = p.1.1.1 })
     (λ _. refl)
+
+-- the row that is kept as these parts
+abbrev pub row_with : Bool → ℕ → List ℕ → Row
+row_with true n b = row.Published n b
+row_with false n b = row.Locked n
+
+-- what a row tells without its bytes
+abbrev pub Tells : Row → RowState → Type 0
+Tells r (state.Locked n) = r ≡ row.Locked n
+Tells r (state.Published n) = (b : List ℕ) × (r ≡ row.Published n b)
+
+-- the bytes of a row, where it is published
+abbrev pub Holds : Row → List ℕ → Type 0
+Holds (row.Published n b) bytes = bytes ≡ b
+Holds (row.Locked n) bytes = Unit {0}
 
 -- where the phase stands, or would stand, and the phase
 abbrev pub position_in : map.FinMap place_cmp Phase → Participant × ServiceHash → Position

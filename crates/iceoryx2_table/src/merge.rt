@@ -5,23 +5,26 @@ ghost use Rattle.std.specs.Option.{option_copied};
 ghost use Rattle.iceoryx2_table.specs.Merge.{merge, Advances};
 ghost use Rattle.iceoryx2_world.specs.Listing.{entry_of, listed_row as listed_row_of};
 
+use crate::rows::{RowState, StoredRow};
 use crate::segments::StoredSegment;
 use iceoryx2_description::description::ServiceHash;
 use iceoryx2_world::listing::{Entry, ListedRow};
-use iceoryx2_world::world::{Bytes, Row};
+use iceoryx2_world::world::Bytes;
 use std::alloc::{AllocError, Global};
 use std::cmp::Ordering;
 
 // The row as it is listed.
-fn listed_row(row: Option<&Row>) -> Result<ListedRow, AllocError>
+fn listed_row(row: Option<&StoredRow>) -> Result<ListedRow, AllocError>
     ensures { IfOk result (λ listed. listed ≡ listed_row_of (option_copied row.entry)) }
 {
-    match row {
-        None => Ok(ListedRow::Absent),
-        Some(Row::Locked(number)) => Ok(ListedRow::Locked(*number)),
-        Some(Row::Published(number, bytes)) => {
-            let bytes = bytes.copy()?;
-            Ok(ListedRow::Published(*number, Bytes::from_vec(bytes)))
+    let Some(row) = row else {
+        return Ok(ListedRow::Absent);
+    };
+    match row.state() {
+        RowState::Locked(number) => Ok(ListedRow::Locked(number)),
+        RowState::Published(number) => {
+            let bytes = row.bytes().copy()?;
+            Ok(ListedRow::Published(number, Bytes::from_vec(bytes)))
         }
     }
 }
@@ -30,7 +33,7 @@ fn listed_row(row: Option<&Row>) -> Result<ListedRow, AllocError>
 fn push(
     entries: &mut Vec<Entry>,
     hash: &ServiceHash,
-    row: Option<&Row>,
+    row: Option<&StoredRow>,
     segment: Option<&StoredSegment>,
 ) -> Result<(), AllocError>
     ensures { OnOk result (entries.new.items
@@ -53,7 +56,7 @@ fn push(
 // Adds the next entry, and tells how many rows and segments are listed then.
 fn push_next(
     entries: &mut Vec<Entry>,
-    rows: &[(ServiceHash, Row)],
+    rows: &[(ServiceHash, StoredRow)],
     segments: &[(ServiceHash, StoredSegment)],
     row: usize,
     segment: usize,
@@ -94,7 +97,7 @@ fn push_next(
 /// The rows and the segments, each hash once, in ascending order.
 pub fn merge_entries(
     alloc: Global,
-    rows: &[(ServiceHash, Row)],
+    rows: &[(ServiceHash, StoredRow)],
     segments: &[(ServiceHash, StoredSegment)],
 ) -> Result<Vec<Entry>, AllocError>
     ensures { IfOk result (λ entries. entries.items ≡ merge rows.now segments.now) }

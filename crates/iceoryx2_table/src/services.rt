@@ -16,12 +16,13 @@ ghost use Rattle.iceoryx2_table.specs.Book.{TakesLeave, MayTakeStep, TakesDescri
 ghost use Rattle.iceoryx2_table.specs.Book.{position_in, published_number, segment_fits};
 
 use crate::merge::merge_entries;
+use crate::rows::StoredRow;
 use crate::segments::StoredSegment;
 use iceoryx2_access::storage::{OpenSegmentError, Release};
 use iceoryx2_byte_form::bytes::encode;
 use iceoryx2_description::description::{ServiceHash, StaticConfig};
 use iceoryx2_world::listing::Entry;
-use iceoryx2_world::world::{Bytes, Participant, Phase, Row};
+use iceoryx2_world::world::{Participant, Phase};
 use sorted_map::{Place, SortedVec};
 use std::alloc::{AllocError, Global};
 use std::marker::Model;
@@ -29,7 +30,7 @@ use std::marker::Model;
 /// The rows, the segments, the phases and the counter.
 #[derive(Drop)]
 pub struct Services {
-    rows: SortedVec<ServiceHash, Row>,
+    rows: SortedVec<ServiceHash, StoredRow>,
     segments: SortedVec<ServiceHash, StoredSegment>,
     phases: SortedVec<(Participant, ServiceHash), Phase>,
     counter: u64,
@@ -180,7 +181,7 @@ impl Services {
     }
 
     /// The row at its place.
-    pub fn row_at(&self, hash: &ServiceHash, place: Place) -> Option<&Row>
+    pub fn row_at(&self, hash: &ServiceHash, place: Place) -> Option<&StoredRow>
         requires { place ≡ place_in self.now.rows hash.now }
         ensures { option_copied result ≡ map.get self.now.rows hash.now }
     {
@@ -188,7 +189,7 @@ impl Services {
     }
 
     /// What is written under the hash.
-    pub fn row(&self, hash: &ServiceHash) -> Option<&Row>
+    pub fn row(&self, hash: &ServiceHash) -> Option<&StoredRow>
         ensures { option_copied result ≡ map.get self.now.rows hash.now }
     {
         self.rows.get(hash)
@@ -284,7 +285,8 @@ impl Services {
         if self.phases.reserve_at(&key, position.place).is_err() {
             return Err(AllocError);
         }
-        self.rows.insert_at(*hash, row, Row::Locked(number));
+        let locked = StoredRow::locked(self.rows.allocator(), number);
+        self.rows.insert_at(*hash, row, locked);
         self.phases
             .insert_at(key, position.place, Phase::Locked(number));
         self.counter = number + 1;
@@ -377,7 +379,7 @@ impl Services {
             return Err(AllocError);
         }
         self.rows
-            .insert_at(*hash, row, Row::Published(number, Bytes::from_vec(bytes)));
+            .insert_at(*hash, row, StoredRow::published(number, bytes));
         let key = (participant, *hash);
         set_phase(
             &mut self.phases,

@@ -7,10 +7,11 @@ ghost use Rattle.iceoryx2_world.specs.Acts.{IsAct};
 ghost use Rattle.iceoryx2_world.specs.Batches.{act_of};
 ghost use Rattle.iceoryx2_table.specs.Book.{MayTakeStep};
 
+use crate::rows::RowState;
 use crate::services::Services;
 use iceoryx2_description::description::{ServiceHash, StaticConfig};
 use iceoryx2_world::batches::Act;
-use iceoryx2_world::world::{Participant, Row};
+use iceoryx2_world::world::Participant;
 use std::alloc::AllocError;
 
 /// Each answers true where the step was allowed and has had its effect, and false where it is
@@ -57,10 +58,9 @@ impl Services {
         let Some(row) = self.row(hash) else {
             return Ok(false);
         };
-        let Row::Published(number, _) = row else {
+        let RowState::Published(number) = row.state() else {
             return Ok(false);
         };
-        let number = *number;
         self.read(participant, hash, number)
     }
 

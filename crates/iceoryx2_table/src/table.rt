@@ -102,9 +102,21 @@ impl Table {
         self.skipped
     }
 
-    // Runs the next batch, if one waits.
-    #[tactic(auto, using(iceoryx2_world::proofs::Waiting::no_batch))]
+    // Runs the next batch, if one waits. Where none waits this is one comparison.
+    #[tactic(auto, using(iceoryx2_world::proofs::Waiting::no_batch, std::proofs::lemmas::List::nil_from_length))]
     fn run_batch(&mut self)
+        ensures { IsBatchRun self.old self.new }
+    {
+        if !self.waiting.is_empty() {
+            self.run_next();
+        }
+    }
+
+    // Takes the next batch, if one waits, and carries it out. It stays a function of its own, so that the comparison
+    // before it is made in place at each access.
+    #[inline(never)]
+    #[tactic(auto, using(iceoryx2_world::proofs::Waiting::no_batch))]
+    fn run_next(&mut self)
         ensures { IsBatchRun self.old self.new }
     {
         if let Some(batch) = self.waiting.pop() {

@@ -9,6 +9,7 @@ ghost use Rattle.iceoryx2_access.specs.Letter as letter;
 ghost use Rattle.iceoryx2_access.specs.Letter.{fetch_answer};
 ghost use Rattle.iceoryx2_world.specs.Access.{IsOwnPart, has_lock, has_made as has_made_spec, is_ticket};
 
+use crate::rows::RowState;
 use crate::services::Services;
 use iceoryx2_access::storage::{
     Existence, FetchError, LockError, MakeSegmentError, OpenSegmentError, PublishError, Release,
@@ -17,7 +18,7 @@ use iceoryx2_access::storage::{
 use iceoryx2_description::description::{ServiceHash, StaticConfig};
 use iceoryx2_world::batches::Step;
 use iceoryx2_world::listing::Entry;
-use iceoryx2_world::world::{Participant, Phase, Row, Ticket};
+use iceoryx2_world::world::{Participant, Phase, Ticket};
 use sorted_map::SortedVec;
 use std::alloc::{AllocError, Global};
 use std::marker::Model;
@@ -170,8 +171,10 @@ impl StoredWorld {
     {
         match self.services.row(hash) {
             None => Existence::No,
-            Some(Row::Locked(_)) => Existence::BeingSetUp,
-            Some(Row::Published(_, _)) => Existence::Yes,
+            Some(row) => match row.state() {
+                RowState::Locked(_) => Existence::BeingSetUp,
+                RowState::Published(_) => Existence::Yes,
+            },
         }
     }
 
@@ -181,11 +184,10 @@ impl StoredWorld {
         let Some(row) = self.services.row(hash) else {
             return Err(FetchError::DoesNotExist);
         };
-        let Row::Published(number, bytes) = row else {
+        let RowState::Published(number) = row.state() else {
             return Err(FetchError::NotFinalized);
         };
-        let number = *number;
-        let Ok(copy) = bytes.copy() else {
+        let Ok(copy) = row.bytes().copy() else {
             return Err(FetchError::OutOfMemory);
         };
         let Ok(_) = self.services.read(Participant::Node(node), hash, number) else {
@@ -229,10 +231,11 @@ impl StoredWorld {
         ensures { IsOwnPart self.old (letter.Lock node hash.now result) self.new }
     {
         let row = self.services.row_place(hash);
-        match self.services.row_at(hash, row) {
-            Some(Row::Locked(_)) => return Err(LockError::Creation),
-            Some(Row::Published(_, _)) => return Err(LockError::AlreadyExists),
-            None => {}
+        if let Some(standing) = self.services.row_at(hash, row) {
+            match standing.state() {
+                RowState::Locked(_) => return Err(LockError::Creation),
+                RowState::Published(_) => return Err(LockError::AlreadyExists),
+            }
         }
         let number = self.services.counter();
         let Ok(locked) = self.services.lock(Participant::Node(node), hash, row) else {

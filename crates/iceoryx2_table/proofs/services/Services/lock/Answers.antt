@@ -1,4 +1,7 @@
-use Rattle.std.proofs.Common.{refl, sym, ◌∙◌}
+use Rattle.std.proofs.Common.{refl, sym, ap, ◌∙◌}
+use Rattle.std.specs.FinMap as map
+use Rattle.sorted_map.specs.Sorted.{map_of}
+use Rattle.iceoryx2_world.specs.Orders.{hash_cmp}
 use Rattle.iceoryx2_table.proofs.Changes.{lock_starves, locks}
 use Rattle.iceoryx2_table.proofs.services.Services.lock.Goals as goal
 
@@ -11,4 +14,5 @@ returns-then-is_err-2 c = lock_starves c.args.participant c.args.hash.now c.self
 pub returns : goal.returns
 returns c =
     locks c.args.participant c.args.hash.now c.self.view_is c.position_of-position.ensures (sym c.begins.ensures ∙ c.if-not-begins.false) c.requires.absent c.if-number-ge18446744073709551615.false
-    c.insert_at.ensures.effect c.reserve_at.ensures.same c.insert_at-2.ensures.effect c.reserve_at-2.ensures.same
+    (c.insert_at.ensures.effect ∙ ap (λ r. map.insert (map_of hash_cmp c.reserve_at.new.self) c.args.hash.now r) c.locked-locked.ensures)
+    c.reserve_at.ensures.same c.insert_at-2.ensures.effect c.reserve_at-2.ensures.same

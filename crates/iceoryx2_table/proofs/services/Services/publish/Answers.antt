@@ -12,4 +12,4 @@ returns-then-is_err-clause-effect c = publish_starves_room c.args.participant c.
 pub returns-clause-effect : goal.returns-clause-effect
 returns-clause-effect c =
     publishes c.args.participant c.args.hash.now c.args.description.now c.in-Made.number c.self.view_is c.requires.position c.in-Made.is c.requires.fits
-    c.insert_at.ensures.effect c.reserve_at.ensures.same (ap (row.Published c.in-Made.number) (c.from_vec.ensures ∙ c.in-Ok.ensures.1)) c.set_phase.ensures
+    c.insert_at.ensures.effect c.reserve_at.ensures.same (c.published.ensures ∙ ap (row.Published c.in-Made.number) c.in-Ok.ensures.1) c.set_phase.ensures

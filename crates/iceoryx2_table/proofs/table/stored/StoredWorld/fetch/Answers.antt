@@ -6,22 +6,23 @@ use Rattle.iceoryx2_world.specs.Access.{nothing, read_change}
 use Rattle.iceoryx2_table.specs.Book.{step_at}
 use Rattle.iceoryx2_table.proofs.Accesses.{read_or_not}
 use Rattle.iceoryx2_table.proofs.OwnParts.{fetch_part, fetch_unread}
+use Rattle.iceoryx2_table.proofs.Views.{told, written}
 use Rattle.iceoryx2_table.proofs.table.stored.StoredWorld.fetch.Goals as goal
 
 pub returns-in_default : goal.returns-in_default
 returns-in_default c = fetch_part c.args.node c.args.hash.now c.self.view_is _ _ nothing (sym c.in_default.ensures) (refl, refl) (sym c.self.view_is)
 
-pub returns-in_default-row : goal.returns-in_default-row
-returns-in_default-row c = fetch_part c.args.node c.args.hash.now c.self.view_is _ _ nothing (sym c.in-Some.ensures ∙ ap Some c.in_default-row.is) (refl, refl) (sym c.self.view_is)
+pub returns-in_default-state : goal.returns-in_default-state
+returns-in_default-state c = fetch_part c.args.node c.args.hash.now c.self.view_is _ _ nothing (sym c.in-Some.ensures ∙ ap Some (told c.in-Some.row.now c.state.ensures c.in_default-state.is)) (refl, refl) (sym c.self.view_is)
 
 pub returns-in_default-copy : goal.returns-in_default-copy
-returns-in_default-copy c = fetch_part c.args.node c.args.hash.now c.self.view_is _ _ nothing (sym c.in-Some.ensures ∙ ap Some c.in-Published.is) (inr (refl, refl)) (sym c.self.view_is)
+returns-in_default-copy c = fetch_part c.args.node c.args.hash.now c.self.view_is _ _ nothing (sym c.in-Some.ensures ∙ ap Some (told c.in-Some.row.now c.state.ensures c.in-Published.is).1) (inr (refl, refl)) (sym c.self.view_is)
 
 pub returns-in_default-read : goal.returns-in_default-read
-returns-in_default-read c = fetch_unread c.args.node c.args.hash.now c.self.view_is _ _ (sym c.in-Some.ensures ∙ ap Some c.in-Published.is) c.in_default-read.ensures.3
+returns-in_default-read c = fetch_unread c.args.node c.args.hash.now c.self.view_is _ _ (sym c.in-Some.ensures ∙ ap Some (told c.in-Some.row.now c.state.ensures c.in-Published.is).1) c.in_default-read.ensures.3
 
 pub returns : goal.returns
 returns c =
     fetch_part c.args.node c.args.hash.now c.self.view_is _ _ (read_change (step_at c.self.inside.services (Node c.args.node) c.args.hash.now act.Read))
-    (sym c.in-Some.ensures ∙ ap Some (c.in-Published.is ∙ ap (row.Published c.in-Published.number) (sym c.in-Ok.ensures)))
+    (sym c.in-Some.ensures ∙ ap Some (written c.in-Some.row.now c.state.ensures c.bytes.ensures c.in-Published.is ∙ ap (row.Published c.in-Published.number) (sym c.in-Ok.ensures)))
     (inl (refl, refl)) (read_or_not _ _ _ _ _ _ _ c.in-Ok-read.ensures)

@@ -1,0 +1,80 @@
+//! A row as a table keeps it.
+
+ghost use Rattle.std.specs.Prelude.{◌≡◌};
+ghost use Rattle.iceoryx2_world.specs.declared.world.Row.TheVariants as row;
+ghost use Rattle.iceoryx2_table.specs.Book.{Tells, Holds};
+
+use iceoryx2_world::world::Bytes;
+use std::alloc::Global;
+use std::marker::Model;
+
+/// A row as it is kept: a struct, which an insertion beside it moves as a whole.
+#[derive(Drop)]
+pub struct StoredRow {
+    number: u64,
+    // none as long as the service is locked
+    bytes: Bytes,
+    is_published: bool,
+}
+
+impl Model for StoredRow {
+    ghost use Rattle.iceoryx2_world.specs.declared.world.Row.{Row};
+    ghost use Rattle.iceoryx2_world.specs.Codes.{coded_row};
+    ghost use Rattle.iceoryx2_table.specs.Book.{row_with};
+
+    ghost Value = { Row };
+
+    ghost coded = { coded_row };
+
+    ghost view = { λ r. row_with r.is_published r.number r.bytes };
+}
+
+/// What a row tells without its bytes.
+#[derive(Clone, Copy, Debug, PartialEq, Eq)]
+pub enum RowState {
+    /// Somebody is creating the service of this number.
+    Locked(u64),
+    /// The service of this number is published.
+    Published(u64),
+}
+
+impl StoredRow {
+    /// The row of who creates the service of this number. Takes no memory.
+    pub fn locked(alloc: Global, number: u64) -> StoredRow
+        ensures { result ≡ row.Locked number }
+    {
+        StoredRow {
+            number,
+            bytes: Bytes::from_vec(Vec::new(alloc)),
+            is_published: false,
+        }
+    }
+
+    /// The row of the service of this number with its description's bytes.
+    pub fn published(number: u64, bytes: Vec<u8>) -> StoredRow
+        ensures { result ≡ row.Published number bytes.items }
+    {
+        StoredRow {
+            number,
+            bytes: Bytes::from_vec(bytes),
+            is_published: true,
+        }
+    }
+
+    /// Whose row it is, and whether it is published.
+    pub fn state(&self) -> RowState
+        ensures { Tells self.now result }
+    {
+        if self.is_published {
+            return RowState::Published(self.number);
+        }
+        RowState::Locked(self.number)
+    }
+
+    /// The description's bytes, where it is published.
+    pub fn bytes(&self) -> &Bytes
+        ensures { Holds self.now result.now }
+    {
+        &self.bytes
+    }
+}
