@@ -9,5 +9,5 @@ pub use iceoryx2_call_laws::{fault_laws, quiet_laws};
 pub use iceoryx2_commands::command;
 pub use iceoryx2_data::{attribute, bytes, description};
 pub use iceoryx2_rounds::port_factory;
-pub use iceoryx2_storage::{script, storage, table};
+pub use iceoryx2_storage::{script, storage, table, traced};
 pub use iceoryx2_types::types;

@@ -42,4 +42,6 @@ mod support;
 #[cfg(test)]
 mod texts;
 #[cfg(test)]
+mod traced;
+#[cfg(test)]
 mod types;

@@ -25,6 +25,7 @@ use iceoryx2_service::storage::{
     ReleaseError, RemoveError, Service, ServiceNameHasher, Sha1Hasher, Storage, Tag, TagError,
 };
 use iceoryx2_service::table::{Act, Entry, Local, Step, Table};
+use iceoryx2_service::traced::{self, Fetched, Traced, TracedService};
 use iceoryx2_service::types::{
     self, Alignment, MessageTypeDetails, Slice, TypeDetail, TypeDetailError, TypeVariant,
     ZeroCopySend,
@@ -82,10 +83,10 @@ fn of_storages() {
         Existence, FetchError, Tag, TagError, LockError, MakeSegmentError, RemoveError,
         PublishError, OpenSegmentError, Release, ReleaseError
     }
-    each! { stored: Table, Script, Faulty<Table> }
-    each! { served: Local, Scripted, FaultyService<Local> }
+    each! { stored: Table, Script, Faulty<Table>, Traced<Table> }
+    each! { served: Local, Scripted, FaultyService<Local>, TracedService<Local> }
     hashed::<Sha1Hasher>();
-    each! { named: Answer, Step, Act, Entry }
+    each! { named: Answer, Step, Act, Entry, traced::Entry, Fetched }
 }
 
 /// Builders, and why they refuse.
@@ -134,6 +135,7 @@ fn each_law_has_its_path(_rt: HostRuntime) {
     laws::batches();
     laws::scripts();
     laws::faults::<Table>();
+    laws::traces::<Table>();
     laws::quiet_laws();
     bytes::laws_of_forms();
     builder::laws_of_asking();

@@ -4,18 +4,12 @@ use self::Row::*;
 use crate::storages::support::Answer::*;
 use crate::storages::support::Call::*;
 use crate::storages::support::*;
-use iceoryx2_description::description::ServiceHash;
 use iceoryx2_errors::error::{EventCreateError, EventOpenError};
 use iceoryx2_script::script::{Faulty, FaultyService};
 use iceoryx2_table::local::Local;
 use iceoryx2_table::table::Table;
 use std::alloc::Global;
 use std::process::Abort;
-
-/// The hash of the service of these tests, as other programs make it.
-const HASH: ServiceHash = ServiceHash(
-    *b"\xc3\x49\x9c\x27\x29\x73\x0a\x7f\x80\x7e\xfb\x86\x76\xa9\x2d\xcb\x6f\x8a\x3f\x8f",
-);
 
 /// Whether a node has a tag, and how many tickets.
 pub type Holding = (bool, u64);

@@ -7,6 +7,7 @@ pub use crate::support::{
 use iceoryx2_access::storage::Service;
 use iceoryx2_builder::builder::event::Builder;
 use iceoryx2_description::config::Config;
+use iceoryx2_description::description::ServiceHash;
 use iceoryx2_description::time::Time;
 use iceoryx2_errors::error::{
     CloseError, EventCreateError, EventOpenError, EventOpenOrCreateError,
@@ -14,6 +15,11 @@ use iceoryx2_errors::error::{
 use iceoryx2_port_factory::port_factory::event::PortFactory;
 use std::alloc::Global;
 use std::process::Abort;
+
+/// The hash of the service of all these tests, as other programs make it.
+pub const HASH: ServiceHash = ServiceHash(
+    *b"\xc3\x49\x9c\x27\x29\x73\x0a\x7f\x80\x7e\xfb\x86\x76\xa9\x2d\xcb\x6f\x8a\x3f\x8f",
+);
 
 /// A call of a node for the service of all these tests, with the default settings.
 #[derive(Clone, Copy)]

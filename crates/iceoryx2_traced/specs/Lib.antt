@@ -1,0 +1,4 @@
+pub mod Entries
+pub mod Texts
+pub mod Trace
+pub mod Lends

@@ -1,0 +1,31 @@
+-- A storage that keeps the latest accesses of another.
+use Rattle.std.specs.Prelude.{◌≡◌, ℕ, ◌-◌, List, [], ◌∷◌, ◌++◌, length, drop}
+use Rattle.iceoryx2_access.specs.Counts.{one_more}
+use Rattle.iceoryx2_access.specs.Letter.{Letter}
+use Rattle.iceoryx2_traced.specs.Entries.{entry_of}
+use Rattle.iceoryx2_traced.specs.declared.traced.entry.Entry.{Entry}
+
+-- the entries that are kept, oldest first, how many there is room for, and how many accesses there were
+pub record TraceState : Type 0 where
+  pub entries : List Entry
+  pub room : ℕ
+  pub total : ℕ
+
+-- the storage inside, with them
+pub record TracedState (S : Type 0) : Type 0 where
+  pub inner : S
+  pub entries : List Entry
+  pub room : ℕ
+  pub total : ℕ
+
+-- the last so many of a list, or all where there are no more
+abbrev pub latest : {A : Type 0} → ℕ → List A → List A
+latest room xs = drop (length xs - room) xs
+
+-- An access of the storage inside, of which the entry is kept behind the others.
+pub record IsTracedAccess {S : Type 0} (step : S → Letter → S → Type 0) (old : TracedState S) (l : Letter)
+    (new : TracedState S) : Type 0 where
+  pub inside : step old.inner l new.inner
+  pub entries : new.entries ≡ latest old.room (old.entries ++ entry_of l ∷ [])
+  pub room : new.room ≡ old.room
+  pub total : new.total ≡ one_more old.total
