@@ -1,174 +1,197 @@
 //! Measures the proved layer beside the same layer in plain Rust, on the same commands in one run.
 //!
-//! The arguments are the numbers of standing services, 1,000, 10,000 and 30,000 if there are none.
-//! Each scenario is run in turn by each program, several times, and the least time of each part is
-//! taken. The answers have to be the same.
+//! `time` times all cases that need no standing services by all programs, and prints the least time
+//! of several runs; `beside NUMBER` does so with those beside so many of them. `sections PROGRAM
+//! [NUMBER ..]` runs all once by one program, and prints for each reading of the clock what was done
+//! since the one before. `peak PROGRAM NUMBER` prints how much more memory the process had with so
+//! many standing services. The answers have to be the same.
 
+mod cases;
 mod maps;
 mod measured;
 mod plain;
 mod scenarios;
+mod texts;
 
+use crate::cases::{Case, Part, Scale, cases, services};
 use crate::maps::{SortedVecs, Trees};
-use crate::scenarios::{Names, Replies, Times, script, used_time};
+use crate::scenarios::{Names, Replies, Steps, Times};
 use std::process::ExitCode;
 
-/// How many of the standing services node 0 opens and closes.
-const SAMPLE: usize = 1_000;
-
-/// How many services are created and closed beside those that stand.
-const PAIRS: usize = 1_000;
-
-/// How many times a script of lines makes a service.
-const ROUNDS: usize = 5_000;
-
 /// A program that is measured.
-struct Program {
+pub struct Program {
     name: &'static str,
     services: fn(&Names) -> (Times, u64),
+    standing: fn(&[u8]) -> u64,
+    commands: fn(&[u8], &Steps, &mut [u64]) -> u64,
     lines: fn(&[u8], usize) -> Replies,
+    decode: fn(&[u8], u64) -> (u64, u64),
+    encode: fn(&[u8], u64) -> (u64, Vec<u8>),
 }
 
 const PROGRAMS: [Program; 3] = [
     Program {
         name: "proved",
         services: measured::services,
+        standing: measured::standing,
+        commands: measured::commands,
         lines: measured::lines,
+        decode: measured::decode,
+        encode: measured::encode,
     },
     Program {
-        name: "ordered map",
+        name: "map",
         services: scenarios::services::<Trees>,
+        standing: scenarios::standing::<Trees>,
+        commands: scenarios::commands::<Trees>,
         lines: scenarios::lines::<Trees>,
+        decode: scenarios::decode,
+        encode: scenarios::encode,
     },
     Program {
-        name: "sorted vectors",
+        name: "vectors",
         services: scenarios::services::<SortedVecs>,
+        standing: scenarios::standing::<SortedVecs>,
+        commands: scenarios::commands::<SortedVecs>,
         lines: scenarios::lines::<SortedVecs>,
+        decode: scenarios::decode,
+        encode: scenarios::encode,
     },
 ];
 
-fn least(one: Times, other: Times) -> Times {
-    Times {
-        stand: one.stand.min(other.stand),
-        later_node: one.later_node.min(other.later_node),
-        earlier_node: one.earlier_node.min(other.earlier_node),
-        pairs: one.pairs.min(other.pairs),
-        list: one.list.min(other.list),
-    }
-}
-
-/// One row of what is printed: a part, and its times by each program.
-struct Row {
-    part: &'static str,
-    /// How often the part was done in that time.
-    count: usize,
-    times: [u64; 3],
-}
-
-impl Row {
-    /// Prints the time of one, by each program, and the first one's ratios to the others.
-    fn print(&self, standing: usize) {
-        if self.count == 0 {
-            return;
-        }
-        let Row { part, count, times } = self;
-        let [proved, tree, sorted] = times.map(|time| time as f64 / *count as f64);
-        let (to_tree, to_sorted) = (proved / tree, proved / sorted);
-        println!(
-            "| {part} | {standing} | {proved:.2} | {tree:.2} | {sorted:.2} | {to_tree:.2} | {to_sorted:.2} |"
-        );
-    }
-}
-
-/// How often a scenario is run by each program.
+/// How often a case is run by each program, beside so many standing services.
 fn repeats(standing: usize) -> usize {
     match standing {
-        0..5_000 => 15,
-        5_000..50_000 => 5,
-        _ => 2,
+        0..5_000 => 9,
+        5_000..20_000 => 3,
+        _ => 1,
     }
 }
 
-/// Measures the services' scenario, or says who answered otherwise.
-fn measure_services(standing: usize) -> Result<[Row; 5], String> {
-    let names = Names::new(standing, SAMPLE, PAIRS);
-    let mut best = [None; 3];
+/// Times a case, or says who answered otherwise.
+fn time(case: &Case) -> Result<(), String> {
+    let mut least = vec![vec![u64::MAX; case.parts.len()]; PROGRAMS.len()];
     let mut expected = None;
-    for _ in 0..repeats(standing) {
-        for (program, best) in PROGRAMS.iter().zip(&mut best) {
-            let (times, sum) = (program.services)(&names);
+    let standing = case.parts.iter().map(|part| part.standing).max();
+    for _ in 0..repeats(standing.unwrap_or(0)) {
+        for (program, least) in PROGRAMS.iter().zip(&mut least) {
+            let (times, sum) = (case.run)(program);
             if *expected.get_or_insert(sum) != sum {
-                return Err(format!("{}: other answers", program.name));
+                let parts: Vec<&str> = case.parts.iter().map(|part| &*part.name).collect();
+                return Err(format!("{}: other answers in {parts:?}", program.name));
             }
-            *best = Some(best.map_or(times, |before| least(before, times)));
-        }
-    }
-    let row = |part, count, time: fn(Times) -> u64| Row {
-        part,
-        count,
-        times: best.map(|times| times.map_or(0, time)),
-    };
-    Ok([
-        row("node 1 creates", standing, |times| times.stand),
-        row("node 2 opens and closes each", standing, |times| {
-            times.later_node
-        }),
-        row("node 0 opens and closes some", names.sampled(), |times| {
-            times.earlier_node
-        }),
-        row("node 2 creates and closes others", PAIRS, |times| {
-            times.pairs
-        }),
-        row("list, one entry", standing, |times| times.list),
-    ])
-}
-
-/// Measures a script of lines, or says who answered otherwise.
-fn measure_lines() -> Result<Row, String> {
-    let input = script(ROUNDS);
-    let mut best = [u64::MAX; 3];
-    let mut expected: Option<Vec<u8>> = None;
-    for _ in 0..repeats(0) {
-        for (program, best) in PROGRAMS.iter().zip(&mut best) {
-            let begin = used_time();
-            let replies = (program.lines)(&input, 2 * input.len());
-            *best = (*best).min(used_time() - begin);
-            let expected = expected.get_or_insert_with(|| replies.text.clone());
-            if *expected != replies.text {
-                return Err(format!("{}: other replies", program.name));
+            for (least, time) in least.iter_mut().zip(times) {
+                *least = time.min(*least);
             }
         }
     }
-    Ok(Row {
-        part: "one line",
-        count: 6 * ROUNDS,
-        times: best,
-    })
-}
-
-fn measure(sizes: &[usize]) -> Result<(), String> {
-    println!("Microseconds of processor time for one, the least of several runs.\n");
-    println!(
-        "| part | standing | proved | ordered map | sorted vectors | proved / ordered map | proved / sorted vectors |"
-    );
-    println!("|---|---|---|---|---|---|---|");
-    measure_lines()?.print(0);
-    for &standing in [0].iter().chain(sizes) {
-        for row in measure_services(standing)? {
-            row.print(standing);
+    for (index, part) in case.parts.iter().enumerate() {
+        let Part {
+            name,
+            standing,
+            unit,
+            count,
+        } = part;
+        for (program, least) in PROGRAMS.iter().zip(&least) {
+            let (program, time) = (program.name, least[index]);
+            println!("{name},{standing},{unit},{program},{count},{time}");
         }
     }
     Ok(())
 }
 
+/// How often things are done where they are timed.
+const TIMED: Scale = Scale {
+    rounds: 100,
+    lines: 5_000,
+    texts: 60,
+    forms: 20_000,
+    sample: 1_000,
+};
+
+/// How often things are done where instructions are counted.
+const COUNTED: Scale = Scale {
+    rounds: 3,
+    lines: 310,
+    texts: 14,
+    forms: 100,
+    sample: 200,
+};
+
+fn time_all(cases: Vec<Case>) -> Result<(), String> {
+    println!("case,standing,unit,program,count,nanoseconds");
+    cases.iter().try_for_each(time)
+}
+
+/// Runs each case once, and prints what was done before each reading of the clock.
+fn print_sections(program: &Program, numbers: &[usize]) {
+    let beside = numbers.iter().map(|number| services(*number, &COUNTED));
+    for case in cases(&COUNTED).into_iter().chain(beside) {
+        let _ = (case.run)(program);
+        let times_done = |index| {
+            let of_part = case.sections.iter().filter(|part| **part == Some(index));
+            of_part.count().max(1)
+        };
+        for section in &case.sections {
+            match section {
+                None => println!("-"),
+                Some(index) => {
+                    let part = &case.parts[*index];
+                    let count = part.count as f64 / times_done(*index) as f64;
+                    println!("{},{},{},{count}", part.name, part.standing, part.unit);
+                }
+            }
+        }
+    }
+}
+
+/// The most memory that this process had, in bytes.
+fn peak() -> Result<u64, String> {
+    let status = std::fs::read_to_string("/proc/self/status").map_err(|error| error.to_string())?;
+    let line = status.lines().find_map(|line| line.strip_prefix("VmHWM:"));
+    let number = line.and_then(|line| line.trim().strip_suffix("kB"));
+    let number = number.and_then(|number| number.trim().parse::<u64>().ok());
+    number
+        .map(|number| number * 1024)
+        .ok_or_else(|| "no VmHWM".to_owned())
+}
+
+fn program_of(name: &str) -> Result<&'static Program, String> {
+    let found = PROGRAMS.iter().find(|program| program.name == name);
+    found.ok_or_else(|| format!("no program {name}"))
+}
+
+fn number_of(word: &str) -> Result<usize, String> {
+    word.parse()
+        .map_err(|error| format!("{word} is no number of standing services: {error}"))
+}
+
+fn run(words: &[String]) -> Result<(), String> {
+    match words {
+        [mode] if mode == "time" => time_all(cases(&TIMED)),
+        [mode, number] if mode == "beside" => time_all(vec![services(number_of(number)?, &TIMED)]),
+        [mode, program, numbers @ ..] if mode == "sections" => {
+            let numbers: Result<Vec<_>, _> = numbers.iter().map(|word| number_of(word)).collect();
+            print_sections(program_of(program)?, &numbers?);
+            Ok(())
+        }
+        [mode, program, number] if mode == "peak" => {
+            let number = number_of(number)?;
+            let names = Names::new(number, 0, 0);
+            let before = peak()?;
+            let sum = (program_of(program)?.standing)(&names.standing);
+            println!("{program},{number},{},{sum}", peak()? - before);
+            Ok(())
+        }
+        _ => Err(
+            "time | beside NUMBER | sections PROGRAM [NUMBER ..] | peak PROGRAM NUMBER".to_owned(),
+        ),
+    }
+}
+
 fn main() -> ExitCode {
-    let sizes: Result<Vec<usize>, _> = std::env::args().skip(1).map(|word| word.parse()).collect();
-    let measured = match sizes {
-        Ok(sizes) if sizes.is_empty() => measure(&[1_000, 10_000, 30_000]),
-        Ok(sizes) => measure(&sizes),
-        Err(error) => Err(format!("the arguments are numbers of services: {error}")),
-    };
-    match measured {
+    let words: Vec<String> = std::env::args().skip(1).collect();
+    match run(&words) {
         Ok(()) => ExitCode::SUCCESS,
         Err(error) => {
             eprintln!("{error}");

@@ -1,8 +1,8 @@
 //! The static library of the proved layer.
 
-use crate::scenarios::{Names, Replies, Times};
+use crate::scenarios::{Names, Replies, Steps, Times};
 
-// In measured.rattle a slice crosses as a pointer and then a length, and a `Global` as nothing.
+// In the library a slice crosses as a pointer and then a length, and a `Global` as nothing.
 unsafe extern "C" {
     fn measured_services(
         standing: *const u8,
@@ -14,19 +14,44 @@ unsafe extern "C" {
         times: *mut Times,
     ) -> u64;
 
+    fn measured_standing(standing: *const u8, standing_len: usize) -> u64;
+
+    fn measured_commands(
+        text: *const u8,
+        text_len: usize,
+        steps: *const u8,
+        steps_len: usize,
+        form: *const u8,
+        form_len: usize,
+        times: *mut u64,
+        times_len: usize,
+    ) -> u64;
+
     fn measured_lines(
         input: *const u8,
         input_len: usize,
         output: *mut u8,
         output_len: usize,
     ) -> usize;
+
+    fn measured_decode(form: *const u8, form_len: usize, count: u64, sum: *mut u64) -> u64;
+
+    fn measured_encode(
+        form: *const u8,
+        form_len: usize,
+        count: u64,
+        output: *mut u8,
+        output_len: usize,
+    ) -> u64;
 }
+
+// In each of these the declaration fits the export, each pointer goes with the length of its slice,
+// what is written to is nobody else's during the call, and the export has no `requires`.
 
 /// The services' scenario by the proved layer: the times of its parts, and a sum of the answers.
 pub fn services(names: &Names) -> (Times, u64) {
     let mut times = Times::default();
-    // SAFETY: the declaration fits the export, each pointer goes with the length of its slice, and
-    // nothing else refers to `times` during the call. The export has no `requires`.
+    // SAFETY: as above.
     let sum = unsafe {
         measured_services(
             names.standing.as_ptr(),
@@ -41,12 +66,59 @@ pub fn services(names: &Names) -> (Times, u64) {
     (times, sum)
 }
 
+/// Lets a service stand for each name, and gives a sum of the answers.
+pub fn standing(names: &[u8]) -> u64 {
+    // SAFETY: as above.
+    unsafe { measured_standing(names.as_ptr(), names.len()) }
+}
+
+/// Carries out chunks of commands, adds their times, and gives a sum of the replies.
+pub fn commands(text: &[u8], steps: &Steps, times: &mut [u64]) -> u64 {
+    // SAFETY: as above.
+    unsafe {
+        measured_commands(
+            text.as_ptr(),
+            text.len(),
+            steps.records.as_ptr(),
+            steps.records.len(),
+            steps.form.as_ptr(),
+            steps.form.len(),
+            times.as_mut_ptr(),
+            times.len(),
+        )
+    }
+}
+
 /// The replies of the proved program to lines.
 pub fn lines(input: &[u8], room: usize) -> Replies {
     let mut text = vec![0; room];
-    // SAFETY: as above, and `text` is nobody else's.
+    // SAFETY: as above.
     let used =
         unsafe { measured_lines(input.as_ptr(), input.len(), text.as_mut_ptr(), text.len()) };
     text.truncate(used);
     Replies { text }
+}
+
+/// Reads a form so many times: the time, and a sum of what was read.
+pub fn decode(form: &[u8], count: u64) -> (u64, u64) {
+    let mut sum = 0;
+    // SAFETY: as above.
+    let time = unsafe { measured_decode(form.as_ptr(), form.len(), count, &mut sum) };
+    (time, sum)
+}
+
+/// Writes what a form says so many times: the time, and the last form.
+pub fn encode(form: &[u8], count: u64) -> (u64, Vec<u8>) {
+    let mut output = vec![0; form.len()];
+    // SAFETY: as above.
+    let time = unsafe {
+        measured_encode(
+            form.as_ptr(),
+            form.len(),
+            count,
+            output.as_mut_ptr(),
+            output.len(),
+        )
+    };
+    (time, output)
 }

@@ -1,17 +1,25 @@
-//! What is measured, and the same work by plain Rust.
+//! The scenarios, by plain Rust. `measured` has the same by the proved layer.
 
 use crate::maps::Maps;
-use crate::plain::data::{EventConfig, ServiceName};
-use crate::plain::lines::serve;
-use crate::plain::rounds::{EventDemand, create};
-use crate::plain::session::{Call, Command, How, Reply, Session};
-use crate::plain::table::Table;
+use crate::plain::attribute::{AttributeSet, AttributeVerifier};
+use crate::plain::byte_form::{decode as decode_form, encode as encode_form};
+use crate::plain::description::{Config, EventConfig, ServiceHash, ServiceName};
+use crate::plain::lines::{Line, describe, parse, serve};
+use crate::plain::patterns::event::EventDemand;
+use crate::plain::rounds::create;
+use crate::plain::services::{Entry, ListedRow};
+use crate::plain::session::{Call, Command, How, Reply, Session, Settings};
+use crate::plain::table::{Act, Step, Table};
+use std::io;
 use std::time::Duration;
 
 /// How many bytes each name has.
 pub const NAME_LENGTH: usize = 24;
 
-/// The times of the parts of the services' scenario, in microseconds of processor time.
+/// How many bytes tell a step.
+const STEP_LENGTH: usize = 24;
+
+/// The times of the parts of the services' scenario, in nanoseconds of processor time.
 #[repr(C)]
 #[derive(Clone, Copy, Debug, Default)]
 pub struct Times {
@@ -32,13 +40,38 @@ pub struct Replies {
     pub text: Vec<u8>,
 }
 
-unsafe extern "C" {
-    safe fn clock() -> i64;
+/// Steps of peers that wait at a table.
+#[derive(Default)]
+pub struct Steps {
+    /// Each is 24 bytes: what is done, the peer's number, for how many nodes, whether it is the last
+    /// one of its batch, and the hash.
+    pub records: Vec<u8>,
+    /// The byte form of what they publish.
+    pub form: Vec<u8>,
 }
 
-/// The processor time that was used so far, in microseconds.
+#[repr(C)]
+#[derive(Default)]
+struct Timespec {
+    seconds: i64,
+    nanoseconds: i64,
+}
+
+unsafe extern "C" {
+    fn clock_gettime(clock: i32, time: *mut Timespec) -> i32;
+}
+
+/// The clock of the process's processor time.
+const PROCESSOR_TIME: i32 = 2;
+
+/// The processor time that was used so far, in nanoseconds.
 pub fn used_time() -> u64 {
-    u64::try_from(clock()).unwrap_or(0)
+    let mut time = Timespec::default();
+    // SAFETY: the struct is the one of the C library, and nobody else's.
+    if unsafe { clock_gettime(PROCESSOR_TIME, &mut time) } != 0 {
+        return 0;
+    }
+    time.seconds.unsigned_abs() * 1_000_000_000 + time.nanoseconds.unsigned_abs()
 }
 
 /// The names of services, each of `NAME_LENGTH` bytes.
@@ -51,8 +84,11 @@ pub struct Names {
 
 fn names(kind: &str, count: usize) -> Vec<u8> {
     let width = NAME_LENGTH - 1 - kind.len();
-    let texts = (0..count).map(|index| format!("{kind}/{index:0width$}"));
-    texts.collect::<String>().into_bytes()
+    let mut texts = Vec::with_capacity(count * NAME_LENGTH);
+    for index in 0..count {
+        texts.extend_from_slice(format!("{kind}/{index:0width$}").as_bytes());
+    }
+    texts
 }
 
 impl Names {
@@ -73,34 +109,49 @@ impl Names {
     }
 }
 
-/// A script of six lines a round: a service is created, opened by a second node, and closed by
-/// both, with a refused create and a refused open in between. There are 31 names and 62 slots.
-pub fn script(rounds: usize) -> Vec<u8> {
-    let mut text = String::new();
-    for round in 0..rounds {
-        let name = round % 31;
-        let (first, second) = (2 * name, 2 * name + 1);
-        text.push_str(&format!("event create 1 {first} lines/{name}\n"));
-        text.push_str(&format!("event open 2 {second} lines/{name}\n"));
-        text.push_str(&format!("event create 3 63 lines/{name}\n"));
-        text.push_str(&format!("event open 3 63 missing/{name}\n"));
-        text.push_str(&format!("close {second}\nclose {first}\n"));
-    }
-    text.into_bytes()
-}
-
 fn add_answer(sum: u64, answer: u64) -> u64 {
     sum.wrapping_mul(31).wrapping_add(answer)
+}
+
+fn add_bytes(sum: u64, bytes: &[u8]) -> u64 {
+    bytes
+        .iter()
+        .fold(sum, |sum, byte| add_answer(sum, u64::from(*byte)))
+}
+
+fn add_entry(sum: u64, entry: &Entry) -> u64 {
+    let sum = add_bytes(sum, &entry.hash.0);
+    let sum = match &entry.row {
+        ListedRow::Absent => add_answer(sum, 1),
+        ListedRow::Locked(number) => add_answer(add_answer(sum, 2), *number),
+        ListedRow::Published(number, form) => {
+            add_bytes(add_answer(add_answer(sum, 3), *number), form)
+        }
+    };
+    match &entry.segment {
+        None => add_answer(sum, 1),
+        Some(segment) => {
+            let sum = add_answer(add_answer(sum, segment.number), segment.max_nodes);
+            let sum = add_answer(sum, segment.participants);
+            add_answer(sum, u64::from(segment.marked))
+        }
+    }
+}
+
+fn add_listing(sum: u64, entries: &[Entry]) -> u64 {
+    entries.iter().fold(sum, add_entry)
 }
 
 fn answer_of(reply: Reply) -> u64 {
     match reply {
         Reply::Opened { number, .. } => number.wrapping_add(10),
-        Reply::RefusedOpen(_) | Reply::RefusedCreate(_) => 1,
+        Reply::Refused(_) => 1,
         Reply::Closed { .. } => 2,
         Reply::SlotInUse => 3,
         Reply::SlotEmpty => 4,
         Reply::NoSuchSlot => 5,
+        Reply::Listing(entries) => entries.len() as u64,
+        Reply::OutOfMemory => 6,
     }
 }
 
@@ -108,17 +159,19 @@ fn name_of(bytes: &[u8]) -> Option<ServiceName> {
     ServiceName::new(std::str::from_utf8(bytes).ok()?).ok()
 }
 
-/// Creates a standing service for each name.
-fn stand_all<M: Maps>(table: &mut Table<M>, names: &[u8]) -> u64 {
-    let mut sum = 0;
-    for name in names.chunks(NAME_LENGTH).filter_map(name_of) {
-        let answer = match create(EventDemand::default(), 1, &name, Duration::ZERO, table) {
-            Ok(factory) => factory.number.wrapping_add(10),
-            Err(_) => 1,
-        };
-        sum = add_answer(sum, answer);
+/// Creates the service as node 1, and lets it stand for good.
+fn stand<M: Maps>(table: &mut Table<M>, name: ServiceName) -> u64 {
+    let asked = EventDemand::new(EventConfig::default());
+    let now = Ok(Duration::ZERO);
+    match create(asked, 1, name, AttributeSet::default(), now, table) {
+        Ok(registration) => registration.number.wrapping_add(10),
+        Err(_) => 1,
     }
-    sum
+}
+
+fn stand_all<M: Maps>(table: &mut Table<M>, names: &[u8]) -> u64 {
+    let names = names.chunks(NAME_LENGTH).filter_map(name_of);
+    names.fold(0, |sum, name| add_answer(sum, stand(table, name)))
 }
 
 /// Creates or opens the service of each name in slot 0, and closes it.
@@ -136,8 +189,9 @@ fn call_and_close<M: Maps>(
             node,
             slot: 0,
             name,
-            settings: Vec::new(),
-            now: Duration::ZERO,
+            settings: Settings::Event(Vec::new()),
+            attributes: AttributeVerifier::default(),
+            now: Ok(Duration::ZERO),
         };
         sum = add_answer(sum, answer_of(session.apply(Command::Call(call))));
         sum = add_answer(sum, answer_of(session.apply(Command::Close { slot: 0 })));
@@ -145,25 +199,22 @@ fn call_and_close<M: Maps>(
     sum
 }
 
-/// The services' scenario by the plain layer: the times of its parts, and a sum of the answers.
+/// The services' scenario: the times of its parts, and a sum of the answers and of the listing.
 pub fn services<M: Maps>(names: &Names) -> (Times, u64) {
     let mut table = Table::<M>::new();
     let begin = used_time();
     let sum = stand_all(&mut table, &names.standing);
     let stood = used_time();
-    let mut session = Session::new(EventConfig::default(), table);
+    let mut session = Session::new(Config::default(), table);
     let sum = call_and_close(&mut session, How::Open, 2, &names.standing, sum);
     let later = used_time();
     let sum = call_and_close(&mut session, How::Open, 0, &names.sample, sum);
     let earlier = used_time();
     let sum = call_and_close(&mut session, How::Create, 2, &names.others, sum);
     let paired = used_time();
-    let listed = session
-        .table()
-        .list()
-        .map_or(0, |entries| entries.len() as u64);
-    let sum = add_answer(sum, listed);
+    let listing = session.table().list();
     let ended = used_time();
+    let sum = listing.map_or(sum, |entries| add_listing(sum, &entries));
     let _ = session.finish();
     let times = Times {
         stand: stood - begin,
@@ -175,9 +226,143 @@ pub fn services<M: Maps>(names: &Names) -> (Times, u64) {
     (times, sum)
 }
 
+/// Lets a service stand for each name, and gives a sum of the answers.
+pub fn standing<M: Maps>(names: &[u8]) -> u64 {
+    stand_all(&mut Table::<M>::new(), names)
+}
+
+fn act_of(act: u8, max_nodes: u8, form: &[u8]) -> Option<Act> {
+    match act {
+        0 => Some(Act::Read),
+        1 => Some(Act::Lock),
+        2 => Some(Act::RemoveSegment),
+        3 => Some(Act::RemoveDescription),
+        4 => Some(Act::Make {
+            max_nodes: u64::from(max_nodes),
+        }),
+        5 => decode_form(form).ok().map(Act::Publish),
+        6 => Some(Act::Join),
+        7 => Some(Act::Leave),
+        _ => None,
+    }
+}
+
+fn batches_of(steps: &Steps) -> Vec<Vec<Step>> {
+    let mut batches = Vec::new();
+    let mut batch = Vec::new();
+    for record in steps.records.chunks(STEP_LENGTH) {
+        let [act, peer, max_nodes, last, hash @ ..] = record else {
+            continue;
+        };
+        let Ok(hash) = <[u8; 20]>::try_from(hash) else {
+            continue;
+        };
+        if let Some(act) = act_of(*act, *max_nodes, &steps.form) {
+            batch.push(Step {
+                peer: u64::from(*peer),
+                hash: ServiceHash(hash),
+                act,
+            });
+            if *last == 1 {
+                batches.push(std::mem::take(&mut batch));
+            }
+        }
+    }
+    batches
+}
+
+fn run_chunk<M: Maps>(
+    session: &mut Session<M>,
+    commands: Vec<Command>,
+    time: &mut u64,
+    sum: u64,
+) -> io::Result<u64> {
+    let begin = used_time();
+    let replies = session.run(commands);
+    *time += used_time() - begin;
+    let mut sum = sum;
+    let mut text = String::new();
+    for reply in replies.map_err(|_| io::ErrorKind::OutOfMemory)? {
+        text.clear();
+        describe(&reply, 0, &mut text)?;
+        sum = add_bytes(sum, text.as_bytes());
+    }
+    Ok(sum)
+}
+
+fn run_all<M: Maps>(session: &mut Session<M>, text: &[u8], times: &mut [u64]) -> io::Result<u64> {
+    let mut sum = 0;
+    let mut chunk = 0;
+    let mut commands = Vec::new();
+    for line in text
+        .strip_suffix(b"\n")
+        .unwrap_or(text)
+        .split(|byte| *byte == b'\n')
+    {
+        match parse(line)? {
+            Line::Command(command) => commands.push(command),
+            Line::NotACommand => sum = add_answer(sum, 7),
+            Line::Blank => {
+                let ready = std::mem::take(&mut commands);
+                let turn = chunk % times.len();
+                sum = run_chunk(session, ready, &mut times[turn], sum)?;
+                chunk += 1;
+            }
+        }
+    }
+    Ok(sum)
+}
+
+/// Carries out chunks of commands, adds their times, and gives a sum of the replies and of what is
+/// listed then. A blank line ends a chunk.
+pub fn commands<M: Maps>(text: &[u8], steps: &Steps, times: &mut [u64]) -> u64 {
+    let mut table = Table::<M>::new();
+    table.schedule(batches_of(steps));
+    let mut session = Session::new(Config::default(), table);
+    let sum = run_all(&mut session, text, times).unwrap_or(0);
+    let sum = match session.table().list() {
+        Ok(entries) => add_listing(add_answer(sum, session.table().skipped()), &entries),
+        Err(_) => 0,
+    };
+    let _ = session.finish();
+    sum
+}
+
 /// The replies of the plain program to lines.
 pub fn lines<M: Maps>(input: &[u8], room: usize) -> Replies {
     let mut text = Vec::with_capacity(room);
     serve::<M>(input, &mut text);
     Replies { text }
+}
+
+/// Reads a form so many times: the time, and a sum of what was read.
+pub fn decode(form: &[u8], count: u64) -> (u64, u64) {
+    let mut sum = 0;
+    let begin = used_time();
+    for _ in 0..count {
+        match decode_form(form) {
+            Ok(description) => sum = add_answer(sum, description.max_nodes()),
+            Err(_) => return (0, sum),
+        }
+    }
+    (used_time() - begin, sum)
+}
+
+/// Writes what a form says so many times: the time, and the last form.
+pub fn encode(form: &[u8], count: u64) -> (u64, Vec<u8>) {
+    let mut output = vec![0; form.len()];
+    let Ok(description) = decode_form(form) else {
+        return (0, output);
+    };
+    let begin = used_time();
+    for _ in 0..count {
+        match encode_form(&description) {
+            Ok(bytes) => {
+                let length = bytes.len().min(output.len());
+                output[..length].copy_from_slice(&bytes[..length]);
+            }
+            Err(_) => return (0, output),
+        }
+    }
+    (used_time() - begin, output)
 }

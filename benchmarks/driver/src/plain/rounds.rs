@@ -1,297 +1,328 @@
 //! How a service is created, opened and closed.
 
-use super::data::{DecodeError, EventConfig, MessagingPattern, ServiceHash, ServiceName};
-use super::data::{StaticConfig, decode};
-use super::table::{Existence, FetchError, LockError, MakeSegmentError, OpenSegmentError};
-use super::table::{PublishError, Release, Table, Tag};
+use super::attribute::{AttributeSet, AttributeVerifier};
+use super::byte_form::{DecodeError, decode};
+use super::description::{ServiceHash, ServiceName, StaticConfig};
+use super::errors::{CreateRefusal, OpenOrCreateError, OpenRefusal, ServiceState};
+use super::patterns::Pattern;
+use super::services::{
+    Existence, FetchError, LockError, MakeSegmentError, OpenSegmentError, PublishError, Release,
+};
+use super::table::{Table, Tag};
 use crate::maps::Maps;
 use std::time::Duration;
 
-/// The prefix that stands before a name in the hash of a service of events.
-const PREFIX: u8 = b'e';
+/// How often an open, a making of a segment, and an open or create try.
+const TRIES: u32 = 6;
 
-/// Why a look finds no service that can be used.
+/// A clock that could not be read.
 #[derive(Clone, Copy, Debug, PartialEq, Eq)]
-enum ServiceState {
-    HangsInCreation,
-    Corrupted,
-    OutOfMemory,
-}
-
-#[derive(Clone, Copy, Debug, PartialEq, Eq)]
-pub enum EventOpenError {
-    DoesNotExist,
-    ServiceInCorruptedState,
-    InternalFailure,
-    HangsInCreation,
-    DoesNotSupportRequestedAmountOfNotifiers,
-    DoesNotSupportRequestedAmountOfListeners,
-    DoesNotSupportRequestedMaxEventId,
-    DoesNotSupportRequestedAmountOfNodes,
-    ExceedsMaxNumberOfNodes,
-    IsMarkedForDestruction,
-    OutOfMemory,
-}
-
-#[derive(Clone, Copy, Debug, PartialEq, Eq)]
-pub enum EventCreateError {
-    ServiceInCorruptedState,
-    InternalFailure,
-    IsBeingCreatedByAnotherInstance,
-    AlreadyExists,
-    HangsInCreation,
-    OutOfMemory,
-}
-
-impl From<ServiceState> for EventOpenError {
-    fn from(state: ServiceState) -> EventOpenError {
-        match state {
-            ServiceState::HangsInCreation => EventOpenError::HangsInCreation,
-            ServiceState::Corrupted => EventOpenError::ServiceInCorruptedState,
-            ServiceState::OutOfMemory => EventOpenError::OutOfMemory,
-        }
-    }
-}
-
-impl From<ServiceState> for EventCreateError {
-    fn from(state: ServiceState) -> EventCreateError {
-        match state {
-            ServiceState::HangsInCreation => EventCreateError::HangsInCreation,
-            ServiceState::Corrupted => EventCreateError::ServiceInCorruptedState,
-            ServiceState::OutOfMemory => EventCreateError::OutOfMemory,
-        }
-    }
-}
-
-/// Which settings are required.
-#[derive(Clone, Copy, Debug, Default)]
-pub struct Marks {
-    pub max_notifiers: bool,
-    pub max_listeners: bool,
-    pub event_id_max_value: bool,
-    pub max_nodes: bool,
-}
-
-/// What a builder of events asks of a service.
-#[derive(Clone, Copy, Debug, Default)]
-pub struct EventDemand {
-    pub settings: EventConfig,
-    pub marks: Marks,
-}
-
-impl EventDemand {
-    fn verify(&self, existing: &StaticConfig) -> Result<(), EventOpenError> {
-        let MessagingPattern::Event(offered) = &existing.pattern;
-        let wanted = &self.settings;
-        if self.marks.max_notifiers && offered.max_notifiers < wanted.max_notifiers {
-            return Err(EventOpenError::DoesNotSupportRequestedAmountOfNotifiers);
-        }
-        if self.marks.max_listeners && offered.max_listeners < wanted.max_listeners {
-            return Err(EventOpenError::DoesNotSupportRequestedAmountOfListeners);
-        }
-        if self.marks.event_id_max_value && offered.event_id_max_value < wanted.event_id_max_value {
-            return Err(EventOpenError::DoesNotSupportRequestedMaxEventId);
-        }
-        if self.marks.max_nodes && offered.max_nodes < wanted.max_nodes {
-            return Err(EventOpenError::DoesNotSupportRequestedAmountOfNodes);
-        }
-        Ok(())
-    }
-
-    fn published(mut self, now: Duration) -> MessagingPattern {
-        let settings = &mut self.settings;
-        settings.max_notifiers = settings.max_notifiers.max(1);
-        settings.max_listeners = settings.max_listeners.max(1);
-        settings.max_nodes = settings.max_nodes.max(1);
-        if let Some(deadline) = &mut settings.deadline {
-            deadline.creation_time = now;
-        }
-        MessagingPattern::Event(*settings)
-    }
-}
+pub struct ClockFault;
 
 /// A node's registration at a service.
 #[derive(Debug)]
-pub struct PortFactory {
+pub struct Registration {
     pub node: u64,
     pub number: u64,
     pub ticket: u64,
     pub description: StaticConfig,
 }
 
-/// Asks whether there is a service of this hash, and reads its description.
-fn look<M: Maps>(
+/// Asks whether there is a service of this hash, reads its description, and asks whether it is one
+/// of the pattern and of the types.
+fn look<P: Pattern, M: Maps>(
+    asked: &P,
     node: u64,
     hash: &ServiceHash,
     table: &mut Table<M>,
-) -> Result<Option<(u64, StaticConfig)>, ServiceState> {
+) -> Result<Option<(u64, StaticConfig)>, P::Fault> {
     if table.exists(hash) == Existence::No {
         return Ok(None);
     }
     let (number, bytes) = match table.fetch(node, hash) {
         Ok(fetched) => fetched,
         Err(FetchError::DoesNotExist) => return Ok(None),
-        Err(FetchError::NotFinalized) => return Err(ServiceState::HangsInCreation),
-        Err(FetchError::OutOfMemory) => return Err(ServiceState::OutOfMemory),
+        Err(FetchError::NotFinalized) => return Err(ServiceState::HangsInCreation.into()),
+        Err(FetchError::OutOfMemory) => return Err(ServiceState::OutOfMemory.into()),
     };
     let description = decode(&bytes).map_err(|error| match error {
         DecodeError::Malformed => ServiceState::Corrupted,
         DecodeError::OutOfMemory => ServiceState::OutOfMemory,
     })?;
     if description.hash != *hash {
-        return Err(ServiceState::Corrupted);
+        return Err(ServiceState::Corrupted.into());
     }
-    Ok(Some((number, description)))
+    match asked.misfit(&description.pattern) {
+        Some(fault) => Err(fault),
+        None => Ok(Some((number, description))),
+    }
 }
 
 fn give_back_tag<M: Maps>(node: u64, hash: &ServiceHash, tag: Tag, table: &mut Table<M>) {
     if tag == Tag::Made {
-        let _ = table.remove_tag(node, hash);
+        table.remove_tag(node, hash);
     }
 }
 
-/// Creates the service of this name.
-pub fn create<M: Maps>(
-    asked: EventDemand,
+/// Creates the service of this name, with these attributes.
+pub fn create<P: Pattern, M: Maps>(
+    mut asked: P,
     node: u64,
-    name: &ServiceName,
-    now: Duration,
+    name: ServiceName,
+    attributes: AttributeSet,
+    now: Result<Duration, ClockFault>,
     table: &mut Table<M>,
-) -> Result<PortFactory, EventCreateError> {
-    let hash = ServiceHash::of(PREFIX, name);
-    if look(node, &hash, table)?.is_some() {
-        return Err(EventCreateError::AlreadyExists);
-    }
-    if table.counts(node, &hash) {
-        return Err(EventCreateError::ServiceInCorruptedState);
-    }
-    let copy = name
-        .try_clone()
-        .map_err(|_| EventCreateError::OutOfMemory)?;
-    let description = StaticConfig {
-        hash,
-        name: copy,
-        pattern: asked.published(now),
-    };
-    let tag = table.make_tag(node, &hash);
-    let tag = tag.map_err(|_| EventCreateError::OutOfMemory)?;
-    let made = make_service(node, description, table);
-    if made.is_err() {
-        give_back_tag(node, &hash, tag, table);
-    }
-    made
+) -> Result<Registration, P::CreateError> {
+    let hash = ServiceHash::of(P::PREFIX, &name);
+    asked.adjust();
+    create_adjusted(asked, node, hash, name, attributes, now, table)
 }
 
-/// Locks the hash, makes the segment, and publishes the description.
-fn make_service<M: Maps>(
+fn create_adjusted<P: Pattern, M: Maps>(
+    asked: P,
     node: u64,
-    description: StaticConfig,
+    hash: ServiceHash,
+    name: ServiceName,
+    attributes: AttributeSet,
+    now: Result<Duration, ClockFault>,
     table: &mut Table<M>,
-) -> Result<PortFactory, EventCreateError> {
-    let hash = description.hash;
-    let number = table.lock(node, &hash).map_err(|error| match error {
-        LockError::AlreadyExists => EventCreateError::AlreadyExists,
-        LockError::Creation => EventCreateError::IsBeingCreatedByAnotherInstance,
-        LockError::Other => EventCreateError::InternalFailure,
-        LockError::OutOfMemory => EventCreateError::OutOfMemory,
-    })?;
-    if let Err(error) = make_segment(node, &hash, number, description.max_nodes(), table) {
-        let _ = table.remove_description(node, &hash);
+) -> Result<Registration, P::CreateError> {
+    if let Some(error) = asked.settings_refusal() {
         return Err(error);
     }
-    match table.publish(node, &hash, number, &description) {
-        Ok(ticket) => Ok(PortFactory {
+    if look(&asked, node, &hash, table)?.is_some() {
+        return Err(CreateRefusal::AlreadyExists.into());
+    }
+    if table.counts(node, &hash) {
+        return Err(CreateRefusal::ServiceInCorruptedState.into());
+    }
+    let clock_stops = asked.needs_clock() && now.is_err();
+    let description = StaticConfig {
+        hash,
+        name,
+        attributes,
+        pattern: asked.into_published(now.unwrap_or_default()),
+        creator: Some(node),
+    };
+    let tag = table.make_tag(node, &hash);
+    let tag = tag.map_err(|_| CreateRefusal::OutOfMemory)?;
+    let made = if clock_stops {
+        Err(CreateRefusal::InternalFailure)
+    } else {
+        make_service(node, &description, table)
+    };
+    match made {
+        Ok((number, ticket)) => Ok(Registration {
             node,
             number,
             ticket,
             description,
         }),
+        Err(refusal) => {
+            give_back_tag(node, &hash, tag, table);
+            Err(refusal.into())
+        }
+    }
+}
+
+/// Locks the hash, makes the segment, and publishes the description: the service's number, and the
+/// node's ticket.
+fn make_service<M: Maps>(
+    node: u64,
+    description: &StaticConfig,
+    table: &mut Table<M>,
+) -> Result<(u64, u64), CreateRefusal> {
+    let hash = &description.hash;
+    let number = table.lock(node, hash).map_err(|error| match error {
+        LockError::AlreadyExists => CreateRefusal::AlreadyExists,
+        LockError::Creation => CreateRefusal::IsBeingCreatedByAnotherInstance,
+        LockError::Other => CreateRefusal::InternalFailure,
+        LockError::OutOfMemory => CreateRefusal::OutOfMemory,
+    })?;
+    if let Err(refusal) = make_segment(node, hash, number, description.max_nodes(), table) {
+        let _ = table.remove_description(node, hash);
+        return Err(refusal);
+    }
+    match table.publish(node, hash, number, description) {
+        Ok(ticket) => Ok((number, ticket)),
         Err(error) => {
-            let _ = table.remove_segment(node, &hash);
-            let _ = table.remove_description(node, &hash);
+            let _ = table.remove_segment(node, hash);
+            let _ = table.remove_description(node, hash);
             Err(match error {
-                PublishError::Other => EventCreateError::ServiceInCorruptedState,
-                PublishError::OutOfMemory => EventCreateError::OutOfMemory,
+                PublishError::Other => CreateRefusal::ServiceInCorruptedState,
+                PublishError::OutOfMemory => CreateRefusal::OutOfMemory,
             })
         }
     }
 }
 
-/// Makes the segment in up to six attempts, and removes in between what was left of another.
+/// Makes the segment, and removes between two attempts what was left of another.
 fn make_segment<M: Maps>(
     node: u64,
     hash: &ServiceHash,
     number: u64,
     max_nodes: u64,
     table: &mut Table<M>,
-) -> Result<(), EventCreateError> {
-    for attempt in 0..6 {
+) -> Result<(), CreateRefusal> {
+    for attempt in 1..=TRIES {
         match table.make_segment(node, hash, number, max_nodes) {
             Ok(()) => return Ok(()),
             Err(MakeSegmentError::AlreadyExists) => {}
-            Err(MakeSegmentError::Other) => return Err(EventCreateError::InternalFailure),
-            Err(MakeSegmentError::OutOfMemory) => return Err(EventCreateError::OutOfMemory),
+            Err(MakeSegmentError::Other) => return Err(CreateRefusal::InternalFailure),
+            Err(MakeSegmentError::OutOfMemory) => return Err(CreateRefusal::OutOfMemory),
         }
-        if attempt < 5 && table.remove_segment(node, hash).is_err() {
-            return Err(EventCreateError::InternalFailure);
+        if attempt < TRIES && table.remove_segment(node, hash).is_err() {
+            return Err(CreateRefusal::InternalFailure);
         }
     }
-    Err(EventCreateError::ServiceInCorruptedState)
+    Err(CreateRefusal::ServiceInCorruptedState)
 }
 
 /// Opens the service of this name, in at most six rounds.
-pub fn open<M: Maps>(
-    asked: &EventDemand,
+pub fn open<P: Pattern, M: Maps>(
+    asked: &P,
     node: u64,
     name: &ServiceName,
+    verifier: &AttributeVerifier,
     table: &mut Table<M>,
-) -> Result<PortFactory, EventOpenError> {
-    let hash = ServiceHash::of(PREFIX, name);
-    for _round in 0..6 {
-        if let Some(factory) = try_open(asked, node, &hash, table)? {
-            return Ok(factory);
+) -> Result<Registration, P::OpenError> {
+    open_hash(
+        asked,
+        node,
+        &ServiceHash::of(P::PREFIX, name),
+        verifier,
+        table,
+    )
+}
+
+fn open_hash<P: Pattern, M: Maps>(
+    asked: &P,
+    node: u64,
+    hash: &ServiceHash,
+    verifier: &AttributeVerifier,
+    table: &mut Table<M>,
+) -> Result<Registration, P::OpenError> {
+    for _round in 0..TRIES {
+        if let Some(registration) = try_open(asked, node, hash, verifier, table)? {
+            return Ok(registration);
         }
     }
-    Err(EventOpenError::ServiceInCorruptedState)
+    Err(OpenRefusal::ServiceInCorruptedState.into())
 }
 
 /// One round. `None` asks for another one.
-fn try_open<M: Maps>(
-    asked: &EventDemand,
+fn try_open<P: Pattern, M: Maps>(
+    asked: &P,
     node: u64,
     hash: &ServiceHash,
+    verifier: &AttributeVerifier,
     table: &mut Table<M>,
-) -> Result<Option<PortFactory>, EventOpenError> {
-    let found = look(node, hash, table)?;
-    let (number, description) = found.ok_or(EventOpenError::DoesNotExist)?;
-    asked.verify(&description)?;
+) -> Result<Option<Registration>, P::OpenError> {
+    let found = look(asked, node, hash, table)?;
+    let (number, description) = found.ok_or(OpenRefusal::DoesNotExist)?;
+    if !verifier.is_met_by(&description.attributes) {
+        return Err(OpenRefusal::IncompatibleAttributes.into());
+    }
+    asked.verify(&description.pattern)?;
     let tag = table.make_tag(node, hash);
-    let tag = tag.map_err(|_| EventOpenError::OutOfMemory)?;
+    let tag = tag.map_err(|_| OpenRefusal::OutOfMemory)?;
     let refusal = match table.open_segment(node, hash, number) {
         Ok(ticket) => {
-            return Ok(Some(PortFactory {
+            return Ok(Some(Registration {
                 node,
                 number,
                 ticket,
                 description,
             }));
         }
-        Err(OpenSegmentError::DoesNotExist) => EventOpenError::ServiceInCorruptedState,
-        Err(OpenSegmentError::Marked) => EventOpenError::IsMarkedForDestruction,
-        Err(OpenSegmentError::Full) => EventOpenError::ExceedsMaxNumberOfNodes,
-        Err(OpenSegmentError::OutOfNumbers) => EventOpenError::InternalFailure,
-        Err(OpenSegmentError::OutOfMemory) => EventOpenError::OutOfMemory,
+        Err(OpenSegmentError::DoesNotExist) => OpenRefusal::ServiceInCorruptedState,
+        Err(OpenSegmentError::Marked) => OpenRefusal::IsMarkedForDestruction,
+        Err(OpenSegmentError::Full) => OpenRefusal::ExceedsMaxNumberOfNodes,
+        Err(OpenSegmentError::OutOfNumbers) => OpenRefusal::InternalFailure,
+        Err(OpenSegmentError::OutOfMemory) => OpenRefusal::OutOfMemory,
         Err(OpenSegmentError::Failed) => {
-            let seen = look(node, hash, table);
+            let seen = look(asked, node, hash, table);
             give_back_tag(node, hash, tag, table);
             return match seen? {
-                None => Err(EventOpenError::DoesNotExist),
+                None => Err(OpenRefusal::DoesNotExist.into()),
                 Some(_) => Ok(None),
             };
         }
     };
     give_back_tag(node, hash, tag, table);
-    Err(refusal)
+    Err(refusal.into())
+}
+
+fn retries_open<P: Pattern>(error: P::OpenError) -> bool {
+    [
+        OpenRefusal::DoesNotExist,
+        OpenRefusal::ServiceInCorruptedState,
+        OpenRefusal::IsMarkedForDestruction,
+    ]
+    .into_iter()
+    .any(|refusal| error == refusal.into())
+}
+
+fn retries_create<P: Pattern>(error: P::CreateError) -> bool {
+    [
+        CreateRefusal::AlreadyExists,
+        CreateRefusal::IsBeingCreatedByAnotherInstance,
+        CreateRefusal::ServiceInCorruptedState,
+    ]
+    .into_iter()
+    .any(|refusal| error == refusal.into())
+}
+
+type Answer<P> = OpenOrCreateError<<P as Pattern>::OpenError, <P as Pattern>::CreateError>;
+
+/// Opens the service of this name, or creates it with the required pairs where there is none, in at
+/// most six rounds.
+pub fn open_or_create<P: Pattern, M: Maps>(
+    mut asked: P,
+    node: u64,
+    name: ServiceName,
+    verifier: &AttributeVerifier,
+    now: Result<Duration, ClockFault>,
+    table: &mut Table<M>,
+) -> Result<Registration, Answer<P>> {
+    let hash = ServiceHash::of(P::PREFIX, &name);
+    for _round in 0..TRIES {
+        match look(&asked, node, &hash, table) {
+            Err(fault) => return Err(OpenOrCreateError::Open(fault.into())),
+            Ok(Some(_)) => match open_hash(&asked, node, &hash, verifier, table) {
+                Ok(registration) => return Ok(registration),
+                Err(error) if retries_open::<P>(error) => {}
+                Err(error) => return Err(OpenOrCreateError::Open(error)),
+            },
+            Ok(None) => {
+                asked.adjust();
+                match create_copy(&asked, node, hash, &name, verifier, now, table) {
+                    Ok(registration) => return Ok(registration),
+                    Err(error) if retries_create::<P>(error) => {}
+                    Err(error) => return Err(OpenOrCreateError::Create(error)),
+                }
+            }
+        }
+    }
+    Err(OpenOrCreateError::SystemInFlux)
+}
+
+/// Creates the service of copies, since there may be another round.
+fn create_copy<P: Pattern, M: Maps>(
+    asked: &P,
+    node: u64,
+    hash: ServiceHash,
+    name: &ServiceName,
+    verifier: &AttributeVerifier,
+    now: Result<Duration, ClockFault>,
+    table: &mut Table<M>,
+) -> Result<Registration, P::CreateError> {
+    let out_of_memory = |_| CreateRefusal::OutOfMemory;
+    let asked = asked.try_clone().map_err(out_of_memory)?;
+    let name = name.try_clone().map_err(out_of_memory)?;
+    let attributes = verifier.required_attributes().try_clone();
+    let attributes = attributes.map_err(out_of_memory)?;
+    create_adjusted(asked, node, hash, name, attributes, now, table)
 }
 
 /// Why something isn't closed, or not wholly.
@@ -299,32 +330,29 @@ fn try_open<M: Maps>(
 pub enum CloseError {
     /// The ticket isn't at this table, and here is what was to be closed.
     #[allow(dead_code)]
-    NotHere(PortFactory),
-    TagNotRemoved,
+    NotHere(Box<Registration>),
     SegmentNotRemoved,
     DescriptionNotRemoved,
 }
 
-impl PortFactory {
+impl Registration {
     /// Gives the ticket back. The last node removes the service.
-    #[allow(clippy::result_large_err)]
     pub fn close<M: Maps>(self, table: &mut Table<M>) -> Result<(), CloseError> {
         let hash = self.description.hash;
         let node = self.node;
         let Ok(left) = table.release(self.ticket, node, &hash, self.number) else {
-            return Err(CloseError::NotHere(self));
+            return Err(CloseError::NotHere(Box::new(self)));
         };
         drop(self);
         if left == Release::StillCounted {
             return Ok(());
         }
-        let tag = table.remove_tag(node, &hash);
+        table.remove_tag(node, &hash);
         if left == Release::Left {
-            return tag.map_err(|_| CloseError::TagNotRemoved);
+            return Ok(());
         }
         let segment = table.remove_segment(node, &hash);
         let description = table.remove_description(node, &hash);
-        tag.map_err(|_| CloseError::TagNotRemoved)?;
         segment.map_err(|_| CloseError::SegmentNotRemoved)?;
         description.map_err(|_| CloseError::DescriptionNotRemoved)
     }

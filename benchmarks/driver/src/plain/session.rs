@@ -1,9 +1,20 @@
 //! Commands over a table, with places for what they open.
 
-use super::data::{EventConfig, ServiceName};
-use super::rounds::{EventCreateError, EventDemand, EventOpenError, PortFactory, create, open};
+use super::attribute::AttributeVerifier;
+use super::description::{Config, ServiceName};
+use super::errors::{
+    EventCreateError, EventOpenError, OpenOrCreateError, PublishSubscribeCreateError,
+    PublishSubscribeOpenError, RequestResponseCreateError, RequestResponseOpenError,
+};
+use super::patterns::Pattern;
+use super::patterns::event::{EventDemand, EventSetter};
+use super::patterns::publish_subscribe::{PublishSubscribeBuilder, PublishSubscribeSetter};
+use super::patterns::request_response::{RequestResponseBuilder, RequestResponseSetter};
+use super::rounds::{ClockFault, Registration, create, open, open_or_create};
+use super::services::Entry;
 use super::table::Table;
 use crate::maps::Maps;
+use std::collections::TryReserveError;
 use std::time::Duration;
 
 /// How many slots a session has.
@@ -13,79 +24,169 @@ pub const SLOTS: usize = 64;
 pub enum How {
     Create,
     Open,
+    OpenOrCreate,
 }
 
-/// One setter of the builder of events.
-#[derive(Clone, Copy, Debug, PartialEq, Eq)]
-#[allow(dead_code)]
-pub enum EventSetting {
-    MaxNotifiers(u64),
-    MaxListeners(u64),
-    EventIdMaxValue(u64),
-    MaxNodes(u64),
+/// The setters of one pattern's builder, in order.
+#[derive(Debug)]
+pub enum Settings {
+    Event(Vec<EventSetter>),
+    PublishSubscribe(Vec<PublishSubscribeSetter>),
+    RequestResponse(Vec<RequestResponseSetter>),
 }
 
-/// A builder call of a node, whose factory goes into a slot.
+/// A builder call of a node, whose registration goes into a slot.
 #[derive(Debug)]
 pub struct Call {
     pub how: How,
     pub node: u64,
     pub slot: usize,
     pub name: ServiceName,
-    pub settings: Vec<EventSetting>,
-    pub now: Duration,
+    pub settings: Settings,
+    pub attributes: AttributeVerifier,
+    pub now: Result<Duration, ClockFault>,
 }
 
 #[derive(Debug)]
 pub enum Command {
     Call(Call),
     Close { slot: usize },
+    List,
+}
+
+/// Why a call was refused.
+#[derive(Clone, Copy, Debug, PartialEq, Eq)]
+pub enum CallError<O, C> {
+    Open(O),
+    Create(C),
+    OpenOrCreate(OpenOrCreateError<O, C>),
 }
 
 #[derive(Clone, Copy, Debug, PartialEq, Eq)]
+pub enum Refusal {
+    Event(CallError<EventOpenError, EventCreateError>),
+    PublishSubscribe(CallError<PublishSubscribeOpenError, PublishSubscribeCreateError>),
+    RequestResponse(CallError<RequestResponseOpenError, RequestResponseCreateError>),
+}
+
+#[derive(Debug)]
 pub enum Reply {
     Opened { slot: usize, number: u64 },
-    RefusedOpen(EventOpenError),
-    RefusedCreate(EventCreateError),
+    Refused(Refusal),
     Closed { slot: usize },
     SlotInUse,
     SlotEmpty,
     NoSuchSlot,
+    Listing(Vec<Entry>),
+    OutOfMemory,
 }
 
-/// A table, and slots for the factories that commands open over it.
+/// A table, and slots for what commands open over it.
 pub struct Session<M: Maps> {
-    config: EventConfig,
+    config: Config,
     table: Table<M>,
-    slots: [Option<PortFactory>; SLOTS],
+    slots: [Option<Registration>; SLOTS],
 }
 
-fn with_settings(mut asked: EventDemand, settings: &[EventSetting]) -> EventDemand {
-    for setting in settings {
-        match *setting {
-            EventSetting::MaxNotifiers(value) => {
-                asked.settings.max_notifiers = value;
-                asked.marks.max_notifiers = true;
+/// A call but for what its pattern asks.
+struct Caller {
+    how: How,
+    node: u64,
+    name: ServiceName,
+    attributes: AttributeVerifier,
+    now: Result<Duration, ClockFault>,
+}
+
+impl Caller {
+    /// A create defines the required pairs.
+    fn call<P: Pattern, M: Maps>(
+        self,
+        asked: P,
+        table: &mut Table<M>,
+    ) -> Result<Registration, CallError<P::OpenError, P::CreateError>> {
+        let Caller {
+            how,
+            node,
+            name,
+            attributes,
+            now,
+        } = self;
+        match how {
+            How::Create => {
+                let attributes = attributes.into_required_attributes();
+                create(asked, node, name, attributes, now, table).map_err(CallError::Create)
             }
-            EventSetting::MaxListeners(value) => {
-                asked.settings.max_listeners = value;
-                asked.marks.max_listeners = true;
-            }
-            EventSetting::EventIdMaxValue(value) => {
-                asked.settings.event_id_max_value = value;
-                asked.marks.event_id_max_value = true;
-            }
-            EventSetting::MaxNodes(value) => {
-                asked.settings.max_nodes = value;
-                asked.marks.max_nodes = true;
-            }
+            How::Open => open(&asked, node, &name, &attributes, table).map_err(CallError::Open),
+            How::OpenOrCreate => open_or_create(asked, node, name, &attributes, now, table)
+                .map_err(CallError::OpenOrCreate),
         }
     }
-    asked
+
+    /// The refusal of a call that found no memory for its types.
+    fn out_of_memory<O, C>(&self, open: O, create: C) -> CallError<O, C> {
+        match self.how {
+            How::Create => CallError::Create(create),
+            How::Open => CallError::Open(open),
+            How::OpenOrCreate => CallError::OpenOrCreate(OpenOrCreateError::Open(open)),
+        }
+    }
+}
+
+fn call_event<M: Maps>(
+    config: &Config,
+    setters: Vec<EventSetter>,
+    caller: Caller,
+    table: &mut Table<M>,
+) -> Result<Registration, Refusal> {
+    let mut asked = EventDemand::new(config.event);
+    for setter in setters {
+        asked.set(setter);
+    }
+    caller.call(asked, table).map_err(Refusal::Event)
+}
+
+fn call_publish_subscribe<M: Maps>(
+    config: &Config,
+    setters: Vec<PublishSubscribeSetter>,
+    caller: Caller,
+    table: &mut Table<M>,
+) -> Result<Registration, Refusal> {
+    let mut builder = PublishSubscribeBuilder::new(config.publish_subscribe);
+    for setter in setters {
+        builder.set(setter);
+    }
+    match builder.prepare() {
+        Ok(asked) => caller.call(asked, table),
+        Err(_) => Err(caller.out_of_memory(
+            PublishSubscribeOpenError::OutOfMemory,
+            PublishSubscribeCreateError::OutOfMemory,
+        )),
+    }
+    .map_err(Refusal::PublishSubscribe)
+}
+
+fn call_request_response<M: Maps>(
+    config: &Config,
+    setters: Vec<RequestResponseSetter>,
+    caller: Caller,
+    table: &mut Table<M>,
+) -> Result<Registration, Refusal> {
+    let mut builder = RequestResponseBuilder::new(config.request_response);
+    for setter in setters {
+        builder.set(setter);
+    }
+    match builder.prepare() {
+        Ok(asked) => caller.call(asked, table),
+        Err(_) => Err(caller.out_of_memory(
+            RequestResponseOpenError::OutOfMemory,
+            RequestResponseCreateError::OutOfMemory,
+        )),
+    }
+    .map_err(Refusal::RequestResponse)
 }
 
 impl<M: Maps> Session<M> {
-    pub fn new(config: EventConfig, table: Table<M>) -> Session<M> {
+    pub fn new(config: Config, table: Table<M>) -> Session<M> {
         Session {
             config,
             table,
@@ -98,37 +199,55 @@ impl<M: Maps> Session<M> {
         match command {
             Command::Call(call) => self.call(call),
             Command::Close { slot } => self.close(slot),
+            Command::List => match self.table.list() {
+                Ok(entries) => Reply::Listing(entries),
+                Err(_) => Reply::OutOfMemory,
+            },
         }
     }
 
+    /// Carries out commands in order, where there is room for all replies.
+    pub fn run(&mut self, commands: Vec<Command>) -> Result<Vec<Reply>, TryReserveError> {
+        let mut replies = Vec::new();
+        replies.try_reserve_exact(commands.len())?;
+        for command in commands {
+            replies.push(self.apply(command));
+        }
+        Ok(replies)
+    }
+
     fn call(&mut self, call: Call) -> Reply {
-        let Some(place) = self.slots.get_mut(call.slot) else {
+        let slot = call.slot;
+        let Some(place) = self.slots.get_mut(slot) else {
             return Reply::NoSuchSlot;
         };
         if place.is_some() {
             return Reply::SlotInUse;
         }
-        let asked = EventDemand {
-            settings: self.config,
-            ..EventDemand::default()
+        let caller = Caller {
+            how: call.how,
+            node: call.node,
+            name: call.name,
+            attributes: call.attributes,
+            now: call.now,
         };
-        let asked = with_settings(asked, &call.settings);
-        let table = &mut self.table;
-        let factory = match call.how {
-            How::Create => match create(asked, call.node, &call.name, call.now, table) {
-                Ok(factory) => factory,
-                Err(error) => return Reply::RefusedCreate(error),
-            },
-            How::Open => match open(&asked, call.node, &call.name, table) {
-                Ok(factory) => factory,
-                Err(error) => return Reply::RefusedOpen(error),
-            },
+        let (config, table) = (&self.config, &mut self.table);
+        let answer = match call.settings {
+            Settings::Event(setters) => call_event(config, setters, caller, table),
+            Settings::PublishSubscribe(setters) => {
+                call_publish_subscribe(config, setters, caller, table)
+            }
+            Settings::RequestResponse(setters) => {
+                call_request_response(config, setters, caller, table)
+            }
         };
-        let number = factory.number;
-        *place = Some(factory);
-        Reply::Opened {
-            slot: call.slot,
-            number,
+        match answer {
+            Ok(registration) => {
+                let number = registration.number;
+                *place = Some(registration);
+                Reply::Opened { slot, number }
+            }
+            Err(refusal) => Reply::Refused(refusal),
         }
     }
 
@@ -136,8 +255,8 @@ impl<M: Maps> Session<M> {
         match self.slots.get_mut(slot).map(Option::take) {
             None => Reply::NoSuchSlot,
             Some(None) => Reply::SlotEmpty,
-            Some(Some(factory)) => {
-                let _ = factory.close(&mut self.table);
+            Some(Some(registration)) => {
+                let _ = registration.close(&mut self.table);
                 Reply::Closed { slot }
             }
         }
@@ -147,7 +266,7 @@ impl<M: Maps> Session<M> {
         &self.table
     }
 
-    /// Closes the factories of all slots, in ascending order, and gives the table back.
+    /// Closes what all slots hold, in ascending order, and gives the table back.
     pub fn finish(mut self) -> Table<M> {
         for slot in 0..SLOTS {
             self.close(slot);

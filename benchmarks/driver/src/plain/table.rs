@@ -1,22 +1,13 @@
 //! A storage within one process.
 
-use super::data::{ServiceHash, StaticConfig, encode};
+use super::copy_bytes;
+use super::description::{ServiceHash, StaticConfig};
+use super::services::{
+    Entry, Existence, FetchError, LockError, MakeSegmentError, NotAllowed, OpenSegmentError,
+    Participant, Phase, PublishError, Release, Services,
+};
 use crate::maps::{Entry as Found, Maps, OccupiedEntry, OrderedMap, VacantEntry};
 use std::collections::TryReserveError;
-
-#[derive(Clone, Copy, Debug, PartialEq, Eq)]
-pub enum Existence {
-    No,
-    Yes,
-    BeingSetUp,
-}
-
-#[derive(Clone, Copy, Debug, PartialEq, Eq)]
-pub enum FetchError {
-    DoesNotExist,
-    NotFinalized,
-    OutOfMemory,
-}
 
 #[derive(Clone, Copy, Debug, PartialEq, Eq)]
 pub enum Tag {
@@ -25,81 +16,7 @@ pub enum Tag {
 }
 
 #[derive(Clone, Copy, Debug, PartialEq, Eq)]
-pub enum RemoveError {
-    Other,
-}
-
-#[derive(Clone, Copy, Debug, PartialEq, Eq)]
-pub enum LockError {
-    AlreadyExists,
-    Creation,
-    Other,
-    OutOfMemory,
-}
-
-#[derive(Clone, Copy, Debug, PartialEq, Eq)]
-pub enum MakeSegmentError {
-    AlreadyExists,
-    Other,
-    OutOfMemory,
-}
-
-#[derive(Clone, Copy, Debug, PartialEq, Eq)]
-pub enum PublishError {
-    Other,
-    OutOfMemory,
-}
-
-#[derive(Clone, Copy, Debug, PartialEq, Eq)]
-pub enum OpenSegmentError {
-    DoesNotExist,
-    Marked,
-    Full,
-    Failed,
-    OutOfNumbers,
-    OutOfMemory,
-}
-
-#[derive(Clone, Copy, Debug, PartialEq, Eq)]
-pub enum Release {
-    StillCounted,
-    Left,
-    Last,
-}
-
-#[derive(Clone, Copy, Debug, PartialEq, Eq)]
 pub struct NoSuchTicket;
-
-/// Who acts.
-#[derive(Clone, Copy, Debug, PartialEq, Eq, PartialOrd, Ord)]
-pub enum Participant {
-    Node(u64),
-    #[allow(dead_code)]
-    Peer(u64),
-}
-
-/// Where a participant is with a service; who is not stored is idle.
-#[derive(Clone, Copy, Debug, PartialEq, Eq)]
-pub enum Phase {
-    Read(u64),
-    Locked(u64),
-    Made(u64),
-    Joined(u64, u64),
-    Leaving(u64),
-    Cleared(u64),
-}
-
-enum Row {
-    Locked(u64),
-    Published(u64, Vec<u8>),
-}
-
-struct Segment<M: Maps> {
-    number: u64,
-    capacity: u64,
-    participants: M::Map<Participant, ()>,
-    marked: bool,
-}
 
 #[derive(Clone, Copy, Debug, PartialEq, Eq)]
 struct Ticket {
@@ -108,161 +25,136 @@ struct Ticket {
     number: u64,
 }
 
-/// What is written under a hash, as it is listed.
+/// What a participant may do at a service.
 #[derive(Debug)]
-#[allow(dead_code)]
-pub enum ListedRow {
-    Absent,
-    Locked(u64),
-    Published(u64, Vec<u8>),
+pub enum Act {
+    Read,
+    Lock,
+    RemoveSegment,
+    RemoveDescription,
+    Make { max_nodes: u64 },
+    Publish(StaticConfig),
+    Join,
+    Leave,
 }
 
-/// A segment, as it is listed.
+/// A step of a peer at a service.
 #[derive(Debug)]
-#[allow(dead_code)]
-pub struct ListedSegment {
-    number: u64,
-    max_nodes: u64,
-    participants: u64,
-    marked: bool,
+pub struct Step {
+    pub peer: u64,
+    pub hash: ServiceHash,
+    pub act: Act,
 }
 
-/// What there is of one service.
-#[derive(Debug)]
-#[allow(dead_code)]
-pub struct Entry {
-    hash: ServiceHash,
-    row: ListedRow,
-    segment: Option<ListedSegment>,
-}
-
-/// What stands for each service, where each participant is with it, the nodes' tags and tickets,
-/// and a counter for numbers.
+/// The services, the nodes' tags and tickets, and batches of peers' steps, of which the next one is
+/// carried out before each access.
 pub struct Table<M: Maps> {
-    rows: M::Map<ServiceHash, Row>,
-    segments: M::Map<ServiceHash, Segment<M>>,
-    phases: M::Map<(Participant, ServiceHash), Phase>,
+    services: Services<M>,
     tags: M::Map<(u64, ServiceHash), ()>,
     tickets: M::Map<u64, Ticket>,
-    counter: u64,
-}
-
-fn copy_bytes(bytes: &[u8]) -> Result<Vec<u8>, TryReserveError> {
-    let mut copy = Vec::new();
-    copy.try_reserve_exact(bytes.len())?;
-    copy.extend_from_slice(bytes);
-    Ok(copy)
-}
-
-impl<M: Maps> Segment<M> {
-    /// How often who is in this phase is registered at the number, or why it can't be once more.
-    fn join_count(&self, number: u64, phase: Option<&Phase>) -> Result<u64, OpenSegmentError> {
-        if self.number != number {
-            return Err(OpenSegmentError::Failed);
-        }
-        if self.marked {
-            return Err(OpenSegmentError::Marked);
-        }
-        match phase {
-            Some(Phase::Read(read)) if *read == number => {
-                if self.participants.len() as u64 >= self.capacity {
-                    return Err(OpenSegmentError::Full);
-                }
-                Ok(0)
-            }
-            Some(Phase::Joined(joined, count)) if *joined == number => Ok(*count),
-            _ => Err(OpenSegmentError::Failed),
-        }
-    }
-
-    fn listed(&self) -> ListedSegment {
-        ListedSegment {
-            number: self.number,
-            max_nodes: self.capacity,
-            participants: self.participants.len() as u64,
-            marked: self.marked,
-        }
-    }
-}
-
-fn listed_row(row: &Row) -> Result<ListedRow, TryReserveError> {
-    match row {
-        Row::Locked(number) => Ok(ListedRow::Locked(*number)),
-        Row::Published(number, bytes) => Ok(ListedRow::Published(*number, copy_bytes(bytes)?)),
-    }
+    waiting: Vec<Vec<Step>>,
+    skipped: u64,
 }
 
 impl<M: Maps> Table<M> {
     pub fn new() -> Table<M> {
         Table {
-            rows: Default::default(),
-            segments: Default::default(),
-            phases: Default::default(),
+            services: Services::new(),
             tags: Default::default(),
             tickets: Default::default(),
-            counter: 0,
+            waiting: Vec::new(),
+            skipped: 0,
         }
     }
 
-    /// Each service with a row or a segment, in the order of the hashes.
-    pub fn list(&self) -> Result<Vec<Entry>, TryReserveError> {
-        let mut entries = Vec::new();
-        let mut rows = self.rows.iter().peekable();
-        let mut segments = self.segments.iter().peekable();
-        while let Some(hash) = match (rows.peek(), segments.peek()) {
-            (Some((row, _)), Some((segment, _))) => Some(**row.min(segment)),
-            (Some((hash, _)), None) | (None, Some((hash, _))) => Some(**hash),
-            (None, None) => None,
-        } {
-            let row = match rows.next_if(|(key, _)| **key == hash) {
-                Some((_, row)) => listed_row(row)?,
-                None => ListedRow::Absent,
-            };
-            let segment = segments.next_if(|(key, _)| **key == hash);
-            let segment = segment.map(|(_, segment)| segment.listed());
-            entries.try_reserve(1)?;
-            entries.push(Entry { hash, row, segment });
+    /// Puts these batches in the place of those that wait, the first of them to run next.
+    pub fn schedule(&mut self, mut batches: Vec<Vec<Step>>) {
+        batches.reverse();
+        self.waiting = batches;
+    }
+
+    /// How many steps of batches were allowed and found no memory.
+    pub fn skipped(&self) -> u64 {
+        self.skipped
+    }
+
+    fn run_batch(&mut self) {
+        if let Some(batch) = self.waiting.pop() {
+            for step in &batch {
+                let lacked_memory = self.take(step);
+                self.skipped = self.skipped.saturating_add(u64::from(lacked_memory));
+            }
         }
-        Ok(entries)
+    }
+
+    /// Carries out a step, where it is allowed. True where it was and found no memory.
+    fn take(&mut self, step: &Step) -> bool {
+        let Step { peer, hash, act } = step;
+        let peer = Participant::Peer(*peer);
+        let services = &mut self.services;
+        // A peer's step names no number: it is that of its phase.
+        match (act, services.phase(peer, hash)) {
+            (Act::Read, _) => match services.published(hash) {
+                Ok((number, _)) => services.read(peer, hash, number).is_err(),
+                Err(_) => false,
+            },
+            (Act::Lock, _) => services.lock(peer, hash) == Err(LockError::OutOfMemory),
+            (Act::RemoveSegment, _) => {
+                let _ = services.remove_segment(peer, hash);
+                false
+            }
+            (Act::RemoveDescription, _) => {
+                let _ = services.remove_description(peer, hash);
+                false
+            }
+            (Act::Make { max_nodes }, Some(Phase::Locked(number))) => {
+                let made = services.make_segment(peer, hash, number, *max_nodes);
+                made == Err(MakeSegmentError::OutOfMemory)
+            }
+            (Act::Publish(description), Some(Phase::Made(number))) => {
+                let published = services.publish(peer, hash, number, description, || Ok(()));
+                published == Err(PublishError::OutOfMemory)
+            }
+            (Act::Join, Some(Phase::Read(number) | Phase::Joined(number, _))) => {
+                let joined = services.join(peer, hash, number, || Ok(()));
+                joined == Err(OpenSegmentError::OutOfMemory)
+            }
+            (Act::Leave, _) => {
+                let _ = services.leave(peer, hash);
+                false
+            }
+            (Act::Make { .. } | Act::Publish(_) | Act::Join, _) => false,
+        }
+    }
+
+    pub fn list(&self) -> Result<Vec<Entry>, TryReserveError> {
+        self.services.list()
     }
 
     pub fn exists(&mut self, hash: &ServiceHash) -> Existence {
-        match self.rows.get(hash) {
-            None => Existence::No,
-            Some(Row::Locked(_)) => Existence::BeingSetUp,
-            Some(Row::Published(_, _)) => Existence::Yes,
-        }
+        self.run_batch();
+        self.services.exists(hash)
     }
 
     /// The service's number and its description's bytes.
     pub fn fetch(&mut self, node: u64, hash: &ServiceHash) -> Result<(u64, Vec<u8>), FetchError> {
-        let (number, bytes) = match self.rows.get(hash) {
-            None => return Err(FetchError::DoesNotExist),
-            Some(Row::Locked(_)) => return Err(FetchError::NotFinalized),
-            Some(Row::Published(number, bytes)) => (*number, bytes),
-        };
+        self.run_batch();
+        let (number, bytes) = self.services.published(hash)?;
         let copy = copy_bytes(bytes).map_err(|_| FetchError::OutOfMemory)?;
-        match self.phases.entry((Participant::Node(node), *hash)) {
-            Found::Occupied(mut phase) => {
-                if let Phase::Read(read) = phase.get_mut() {
-                    *read = number;
-                }
-            }
-            Found::Vacant(mut phase) => {
-                phase.reserve().map_err(|_| FetchError::OutOfMemory)?;
-                phase.insert(Phase::Read(number));
-            }
-        }
+        let read = self.services.read(Participant::Node(node), hash, number);
+        read.map_err(|_| FetchError::OutOfMemory)?;
         Ok((number, copy))
     }
 
     /// Whether the node is registered at the service already.
     pub fn counts(&mut self, node: u64, hash: &ServiceHash) -> bool {
-        let phase = self.phases.get(&(Participant::Node(node), *hash));
+        self.run_batch();
+        let phase = self.services.phase(Participant::Node(node), hash);
         matches!(phase, Some(Phase::Joined(_, _)))
     }
 
     pub fn make_tag(&mut self, node: u64, hash: &ServiceHash) -> Result<Tag, TryReserveError> {
+        self.run_batch();
         match self.tags.entry((node, *hash)) {
             Found::Occupied(_) => Ok(Tag::Found),
             Found::Vacant(mut tag) => {
@@ -273,38 +165,15 @@ impl<M: Maps> Table<M> {
         }
     }
 
-    pub fn remove_tag(&mut self, node: u64, hash: &ServiceHash) -> Result<(), RemoveError> {
+    pub fn remove_tag(&mut self, node: u64, hash: &ServiceHash) {
+        self.run_batch();
         self.tags.remove(&(node, *hash));
-        Ok(())
     }
 
     /// Locks the hash for a new service, and gives that service's number.
     pub fn lock(&mut self, node: u64, hash: &ServiceHash) -> Result<u64, LockError> {
-        let mut row = match self.rows.entry(*hash) {
-            Found::Occupied(row) => {
-                return Err(match row.get() {
-                    Row::Locked(_) => LockError::Creation,
-                    Row::Published(_, _) => LockError::AlreadyExists,
-                });
-            }
-            Found::Vacant(row) => row,
-        };
-        let number = self.counter;
-        let next = number.checked_add(1).ok_or(LockError::Other)?;
-        row.reserve().map_err(|_| LockError::OutOfMemory)?;
-        match self.phases.entry((Participant::Node(node), *hash)) {
-            Found::Occupied(mut phase) => match phase.get() {
-                Phase::Read(_) => phase.set(Phase::Locked(number)),
-                _ => return Err(LockError::Other),
-            },
-            Found::Vacant(mut phase) => {
-                phase.reserve().map_err(|_| LockError::OutOfMemory)?;
-                phase.insert(Phase::Locked(number));
-            }
-        }
-        row.insert(Row::Locked(number));
-        self.counter = next;
-        Ok(number)
+        self.run_batch();
+        self.services.lock(Participant::Node(node), hash)
     }
 
     /// Makes the locked service's segment, with the node in it.
@@ -313,54 +182,22 @@ impl<M: Maps> Table<M> {
         node: u64,
         hash: &ServiceHash,
         number: u64,
-        capacity: u64,
+        max_nodes: u64,
     ) -> Result<(), MakeSegmentError> {
-        let participant = Participant::Node(node);
-        let phase = self.phases.get_mut(&(participant, *hash));
-        let Some(phase) = phase.filter(|phase| **phase == Phase::Locked(number)) else {
-            return Err(MakeSegmentError::Other);
-        };
-        if capacity == 0 {
-            return Err(MakeSegmentError::Other);
-        }
-        let Found::Vacant(mut place) = self.segments.entry(*hash) else {
-            return Err(MakeSegmentError::AlreadyExists);
-        };
-        let mut participants = M::Map::default();
-        let joined = participants.insert(participant, ());
-        joined.map_err(|_| MakeSegmentError::OutOfMemory)?;
-        place.reserve().map_err(|_| MakeSegmentError::OutOfMemory)?;
-        place.insert(Segment {
-            number,
-            capacity,
-            participants,
-            marked: false,
-        });
-        *phase = Phase::Made(number);
-        Ok(())
+        self.run_batch();
+        let node = Participant::Node(node);
+        self.services.make_segment(node, hash, number, max_nodes)
     }
 
-    pub fn remove_segment(&mut self, node: u64, hash: &ServiceHash) -> Result<(), RemoveError> {
-        let phase = self.phases.get_mut(&(Participant::Node(node), *hash));
-        let phase = phase.ok_or(RemoveError::Other)?;
-        *phase = match *phase {
-            Phase::Locked(number) | Phase::Made(number) => Phase::Locked(number),
-            Phase::Leaving(number) => Phase::Cleared(number),
-            _ => return Err(RemoveError::Other),
-        };
-        self.segments.remove(hash);
-        Ok(())
+    pub fn remove_segment(&mut self, node: u64, hash: &ServiceHash) -> Result<(), NotAllowed> {
+        self.run_batch();
+        self.services.remove_segment(Participant::Node(node), hash)
     }
 
-    pub fn remove_description(&mut self, node: u64, hash: &ServiceHash) -> Result<(), RemoveError> {
-        let phase = self.phases.entry((Participant::Node(node), *hash));
-        let phase = phase.occupied().ok_or(RemoveError::Other)?;
-        if let Phase::Read(_) | Phase::Joined(_, _) = phase.get() {
-            return Err(RemoveError::Other);
-        }
-        phase.remove();
-        self.rows.remove(hash);
-        Ok(())
+    pub fn remove_description(&mut self, node: u64, hash: &ServiceHash) -> Result<(), NotAllowed> {
+        self.run_batch();
+        self.services
+            .remove_description(Participant::Node(node), hash)
     }
 
     /// Puts the description in the lock's place, and gives a ticket for the node.
@@ -371,25 +208,13 @@ impl<M: Maps> Table<M> {
         number: u64,
         description: &StaticConfig,
     ) -> Result<u64, PublishError> {
-        let phase = self.phases.get_mut(&(Participant::Node(node), *hash));
-        let Some(phase) = phase.filter(|phase| **phase == Phase::Made(number)) else {
-            return Err(PublishError::Other);
-        };
-        let segment = self.segments.get(hash).ok_or(PublishError::Other)?;
-        if description.hash != *hash || description.max_nodes() != segment.capacity {
-            return Err(PublishError::Other);
-        }
-        let bytes = encode(description).map_err(|_| PublishError::OutOfMemory)?;
-        let ticket = Ticket {
-            node,
-            hash: *hash,
-            number,
-        };
-        let kept = self.tickets.insert(number, ticket);
-        kept.map_err(|_| PublishError::OutOfMemory)?;
-        let written = self.rows.insert(*hash, Row::Published(number, bytes));
-        written.map_err(|_| PublishError::OutOfMemory)?;
-        *phase = Phase::Joined(number, 1);
+        self.run_batch();
+        let tickets = &mut self.tickets;
+        let participant = Participant::Node(node);
+        self.services
+            .publish(participant, hash, number, description, || tickets.reserve())?;
+        self.keep_ticket(number, node, hash, number)
+            .map_err(|_| PublishError::OutOfMemory)?;
         Ok(number)
     }
 
@@ -400,35 +225,33 @@ impl<M: Maps> Table<M> {
         hash: &ServiceHash,
         number: u64,
     ) -> Result<u64, OpenSegmentError> {
-        let participant = Participant::Node(node);
-        let segment = self
-            .segments
-            .get_mut(hash)
-            .ok_or(OpenSegmentError::DoesNotExist)?;
-        let phase = self.phases.get_mut(&(participant, *hash));
-        let count = segment.join_count(number, phase.as_deref())?;
-        let phase = phase.ok_or(OpenSegmentError::Failed)?;
-        if self.counter == u64::MAX {
-            return Err(OpenSegmentError::OutOfNumbers);
-        }
-        let next = count.checked_add(1).ok_or(OpenSegmentError::Failed)?;
-        self.tickets
-            .reserve()
+        self.run_batch();
+        let tickets = &mut self.tickets;
+        let has_numbers = self.services.counter() < u64::MAX;
+        self.services
+            .join(Participant::Node(node), hash, number, || {
+                if !has_numbers {
+                    return Err(OpenSegmentError::OutOfNumbers);
+                }
+                let reserved = tickets.reserve();
+                reserved.map_err(|_| OpenSegmentError::OutOfMemory)
+            })?;
+        let ticket = self.services.next_number();
+        self.keep_ticket(ticket, node, hash, number)
             .map_err(|_| OpenSegmentError::OutOfMemory)?;
-        if count == 0 {
-            let joined = segment.participants.insert(participant, ());
-            joined.map_err(|_| OpenSegmentError::OutOfMemory)?;
-        }
-        let ticket = Ticket {
-            node,
-            hash: *hash,
-            number,
-        };
-        let kept = self.tickets.insert(self.counter, ticket);
-        kept.map_err(|_| OpenSegmentError::OutOfMemory)?;
-        *phase = Phase::Joined(number, next);
-        self.counter += 1;
-        Ok(self.counter - 1)
+        Ok(ticket)
+    }
+
+    /// Keeps a ticket for which there is room.
+    fn keep_ticket(
+        &mut self,
+        ticket: u64,
+        node: u64,
+        hash: &ServiceHash,
+        number: u64,
+    ) -> Result<(), TryReserveError> {
+        let hash = *hash;
+        self.tickets.insert(ticket, Ticket { node, hash, number })
     }
 
     /// Spends the ticket.
@@ -439,6 +262,7 @@ impl<M: Maps> Table<M> {
         hash: &ServiceHash,
         number: u64,
     ) -> Result<Release, NoSuchTicket> {
+        self.run_batch();
         let wanted = Ticket {
             node,
             hash: *hash,
@@ -448,27 +272,9 @@ impl<M: Maps> Table<M> {
         if *ticket.get() != wanted {
             return Err(NoSuchTicket);
         }
-        let participant = Participant::Node(node);
-        let phase = self.phases.entry((participant, *hash));
-        let mut phase = phase.occupied().ok_or(NoSuchTicket)?;
-        let Phase::Joined(_, count) = phase.get_mut() else {
-            return Err(NoSuchTicket);
-        };
-        if *count > 1 {
-            *count -= 1;
-            ticket.remove();
-            return Ok(Release::StillCounted);
-        }
-        let segment = self.segments.get_mut(hash).ok_or(NoSuchTicket)?;
+        let left = self.services.leave(Participant::Node(node), hash);
+        let left = left.map_err(|NotAllowed| NoSuchTicket)?;
         ticket.remove();
-        if segment.participants.len() > 1 {
-            segment.participants.remove(&participant);
-            phase.remove();
-            return Ok(Release::Left);
-        }
-        segment.participants.clear();
-        segment.marked = true;
-        phase.set(Phase::Leaving(number));
-        Ok(Release::Last)
+        Ok(left)
     }
 }
