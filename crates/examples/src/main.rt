@@ -1,0 +1,38 @@
+//! Examples that run: what nodes ask of a service, what they agree on, and what is refused.
+//!
+//! Each module but `node`, `pose` and `route` is an example. All of them share one table, the storage in which
+//! their services stand.
+#![tactic(auto)]
+
+mod buffers;
+mod events;
+mod node;
+mod open_or_create;
+mod pose;
+mod publish_subscribe;
+mod request_response;
+mod route;
+
+use anyhow::Result;
+use iceoryx2_service::table::Table;
+
+/// Runs one example after the other.
+fn run(rt: &HostRuntime, table: &mut Table) -> Result<()> {
+    println!(rt; "events: create a service, open it, ask for more than it has")?;
+    events::run(rt, table)?;
+    println!(rt; "publish_subscribe: a payload type of one's own, and attributes")?;
+    publish_subscribe::run(rt, table)?;
+    println!(rt; "request_response: several values in a request, one in a response")?;
+    request_response::run(rt, table)?;
+    println!(rt; "open_or_create: the first call creates, the second opens")?;
+    open_or_create::run(rt, table)?;
+    println!(rt; "buffers: a subscriber makes room for what was agreed")?;
+    buffers::run(rt, table)?;
+    println!(rt; "services that are left: {}", table.list()?.len())?;
+    Ok(())
+}
+
+fn main(rt: HostRuntime) -> Result<()> {
+    let mut table = Table::new(rt.alloc());
+    run(&rt, &mut table)
+}

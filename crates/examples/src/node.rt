@@ -1,0 +1,43 @@
+//! What each node of these examples does: it begins a builder, and closes what it opened.
+
+use anyhow::{Result, bail};
+use iceoryx2_service::builder::{Builder, Node};
+use iceoryx2_service::description::{Config, ServiceName};
+use iceoryx2_service::port_factory::CloseError;
+use iceoryx2_service::port_factory::factory::{Kind, PortFactory};
+use iceoryx2_service::table::{Local, Table};
+use std::alloc::Global;
+
+/// The builder of this node for the service of this name. It starts from the default settings.
+pub fn service_builder(alloc: Global, node: u64, name: &str) -> Result<Builder<Local>> {
+    let name = ServiceName::new(alloc, name)?;
+    Ok(Node::<Local>::new(node, Config::default()).service_builder(name))
+}
+
+/// Closes a factory of any pattern. One whose ticket isn't this table's comes back, and has to be spent too.
+pub fn close<K: Kind>(factory: PortFactory<Local, K>, table: &mut Table) -> Result<()> {
+    match factory.close(table) {
+        Ok(()) => Ok(()),
+        Err(CloseError::NotHere(factory)) => {
+            factory.abandon();
+            bail!("it was opened at another table")
+        }
+        Err(CloseError::TagNotRemoved) => bail!("the node's tag is left"),
+        Err(CloseError::SegmentNotRemoved) => bail!("the service's segment is left"),
+        Err(CloseError::DescriptionNotRemoved) => bail!("the service's description is left"),
+    }
+}
+
+/// Why a call is refused. A factory that it gives in place of an error is closed.
+pub fn refusal<K: Kind, E: Drop>(
+    answer: Result<PortFactory<Local, K>, E>,
+    table: &mut Table,
+) -> Result<E> {
+    match answer {
+        Ok(factory) => {
+            close(factory, table)?;
+            bail!("the call wasn't refused")
+        }
+        Err(error) => Ok(error),
+    }
+}

@@ -1,0 +1,46 @@
+//! A payload type of the examples' own: it says its name, and its size and alignment in bytes.
+
+ghost use Rattle.std.specs.Prelude.{codes, refl};
+ghost use Rattle.std.proofs.Common.{lit≤};
+ghost use Rattle.iceoryx2_types.specs.Alignments.{eight};
+ghost use Rattle.iceoryx2_types.specs.Types.{fixed_size};
+
+use iceoryx2_service::types::{TypeVariant, ZeroCopySend};
+
+/// Where a robot stands: two numbers of millimetres, and an angle in thousandths of a degree.
+#[derive(Clone, Copy)]
+pub struct Pose {
+    pub x: i64,
+    pub y: i64,
+    pub angle: i64,
+}
+
+impl ZeroCopySend for Pose {
+    // What it says of itself. The methods are proved to say the same.
+    ghost detail = { fixed_size (codes "Pose") 24 8 };
+
+    // Its name has 1 to 256 bytes.
+    ghost has_name_length = { (lit≤ tt, lit≤ tt) };
+
+    // Its alignment is a power of two.
+    ghost is_aligned = { eight };
+
+    // Its size is three times its alignment.
+    ghost fills_its_place = { (3, refl) };
+
+    fn variant() -> TypeVariant {
+        TypeVariant::FixedSize
+    }
+
+    fn type_name() -> &'static str {
+        "Pose"
+    }
+
+    fn size() -> u64 {
+        24
+    }
+
+    fn alignment() -> u64 {
+        8
+    }
+}

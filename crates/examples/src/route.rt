@@ -1,0 +1,41 @@
+//! Another payload type of the examples' own.
+
+ghost use Rattle.std.specs.Prelude.{codes, refl};
+ghost use Rattle.std.proofs.Common.{lit≤};
+ghost use Rattle.iceoryx2_types.specs.Alignments.{eight};
+ghost use Rattle.iceoryx2_types.specs.Types.{fixed_size};
+
+use iceoryx2_service::types::{TypeVariant, ZeroCopySend};
+
+/// How long a route is, in millimetres, and how many nanoseconds it takes.
+#[derive(Clone, Copy)]
+pub struct Route {
+    pub length: u64,
+    pub nanoseconds: u64,
+}
+
+impl ZeroCopySend for Route {
+    ghost detail = { fixed_size (codes "Route") 16 8 };
+
+    ghost has_name_length = { (lit≤ tt, lit≤ tt) };
+
+    ghost is_aligned = { eight };
+
+    ghost fills_its_place = { (2, refl) };
+
+    fn variant() -> TypeVariant {
+        TypeVariant::FixedSize
+    }
+
+    fn type_name() -> &'static str {
+        "Route"
+    }
+
+    fn size() -> u64 {
+        16
+    }
+
+    fn alignment() -> u64 {
+        8
+    }
+}
