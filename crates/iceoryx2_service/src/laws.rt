@@ -1,8 +1,9 @@
-//! The laws of calls over a table, and of the worlds, batches, scripts, faults and traces below them.
+//! The laws of calls and sessions over a table, and of the worlds, batches, scripts, faults and traces below them.
 
 pub use iceoryx2_call_laws::fault_laws::agreement_under_faults;
 pub use iceoryx2_call_laws::laws::agreement;
 pub use iceoryx2_call_laws::quiet_laws::{quiet_calls, quiet_laws};
 pub use iceoryx2_script::laws::{faults, scripts};
+pub use iceoryx2_session::laws::sessions;
 pub use iceoryx2_traced::laws::traces;
 pub use iceoryx2_world::laws::{accesses, agreement_of_worlds, batches};

@@ -1,4 +1,5 @@
-//! Sessions of commands, what they are told, what they answer, and the laws of their calls over a table.
+//! Sessions of commands, over which storages they are, what they are told, what they answer, and the laws of
+//! their calls over a table.
 
 pub use iceoryx2_call_laws::fault_laws::agreement_under_faults;
 pub use iceoryx2_call_laws::laws::agreement;
@@ -7,3 +8,4 @@ pub use iceoryx2_commands::command::{
     SLOTS, Settings,
 };
 pub use iceoryx2_session::session::Session;
+pub use iceoryx2_session::table_storage::TableStorage;

@@ -3,6 +3,7 @@ pub mod SlotLists
 pub mod Patterns
 pub mod TakenSetters
 pub mod Commands
+pub mod Shown
 pub mod StandingSlots
 pub mod OwnedTickets
 pub mod QuietSessions

@@ -6,6 +6,7 @@ use Rattle.iceoryx2_description.specs.declared.config.Config.{Config}
 use Rattle.iceoryx2_world.specs.declared.listing.Entry.{Entry}
 use Rattle.iceoryx2_world.specs.Listing.{Lists}
 use Rattle.iceoryx2_world.specs.Tables.{TableState, IsTableAccess}
+use Rattle.iceoryx2_access.specs.Letter.{Letter}
 use Rattle.iceoryx2_access.specs.Run.{Run, Joins}
 use Rattle.iceoryx2_errors.specs.declared.error.CloseError.{CloseError}
 use Rattle.iceoryx2_access.specs.Registered.{Registered}
@@ -24,34 +25,91 @@ use Rattle.iceoryx2_session.specs.Patterns.{builder_call}
 use Rattle.iceoryx2_commands.specs.Commands.{slot_count}
 use Rattle.iceoryx2_session.specs.Slots.{FreeAt, HoldsAt, TakenAt}
 
--- What a session has.
-pub record SessionState : Type 0 where
+-- What a session has, over a storage that is seen as an S.
+pub record SessionOver (S : Type 0) : Type 0 where
   pub config : Config
-  pub table : TableState
+  pub table : S
   pub slots : List (Option Registered)
 
--- A builder call leads the table from one state to another along a word of it, and the answer carries its error.
-abbrev pub Builds : PatternCall → TableState → Result Registered Refusal → TableState → Type 0
-Builds b s answer t =
+-- What a session has, over a table.
+abbrev pub SessionState : Type 0
+SessionState = SessionOver TableState
+
+-- What a session has, over the table that its storage shows.
+abbrev pub shown_session : {S : Type 0} → (S → TableState) → SessionOver S → SessionState
+shown_session shown s = record { config = s.config; table = shown s.table; slots = s.slots }
+
+-- ---- by the steps of any storage
+
+-- A builder call leads the storage from one state to another along a word of it, and the answer carries its error.
+abbrev pub BuildsBy : {S : Type 0} (step : S → Letter → S → Type 0)
+    → PatternCall → S → Result Registered Refusal → S → Type 0
+BuildsBy step b s answer t =
     (own : Result Registered (ErrorBy b.open_error b.create_error b.call.way))
-    × (answer ≡ map_err b.refusal_of own) × Calls IsTableAccess b.call s own t
+    × (answer ≡ map_err b.refusal_of own) × Calls step b.call s own t
 
 -- A factory is closed along a word of close, whatever it answers.
-abbrev pub ClosesFactory : TableState → Registered → TableState → Type 0
-ClosesFactory s f t =
-    (answer : Result (Unit {0}) (CloseError Registered)) × Joins IsTableAccess s (λ word. IsCloseWord f word answer) t
+abbrev pub ClosesFactoryBy : {S : Type 0} (step : S → Letter → S → Type 0) → S → Registered → S → Type 0
+ClosesFactoryBy step s f t =
+    (answer : Result (Unit {0}) (CloseError Registered)) × Joins step s (λ word. IsCloseWord f word answer) t
 
 -- what a slot holds is closed, if it holds something
-abbrev pub ClosesPlace : TableState → Option Registered → TableState → Type 0
-ClosesPlace s None t = t ≡ s
-ClosesPlace s (Some f) t = ClosesFactory s f t
+abbrev pub ClosesPlaceBy : {S : Type 0} (step : S → Letter → S → Type 0)
+    → S → Option Registered → S → Type 0
+ClosesPlaceBy step s None t = t ≡ s
+ClosesPlaceBy step s (Some f) t = ClosesFactoryBy step s f t
 
-abbrev pub ClosesSlot : TableState → List (Option Registered) → ℕ → TableState → Type 0
-ClosesSlot s slots k t = (o : Option Registered) × (slice_get slots k ≡ Some o) × ClosesPlace s o t
+abbrev pub ClosesSlotBy : {S : Type 0} (step : S → Letter → S → Type 0)
+    → S → List (Option Registered) → ℕ → S → Type 0
+ClosesSlotBy step s slots k t =
+    (o : Option Registered) × (slice_get slots k ≡ Some o) × ClosesPlaceBy step s o t
 
 -- Slot after slot is closed, in ascending order.
+abbrev pub ClosesSlotsBy : {S : Type 0} (step : S → Letter → S → Type 0)
+    → S → List (Option Registered) → S → Type 0
+ClosesSlotsBy step s slots t = Run (ClosesPlaceBy step) s slots t
+
+-- A command leads from one state to another, with this reply. The slot is tested before any access,
+-- and the other slots keep what they hold.
+pub data GoesBy {S : Type 0} (step : S → Letter → S → Type 0) (shown : S → TableState) (old : SessionOver S)
+    : Command → Reply → SessionOver S → Type 0 where
+  call_past : {call : Call} → slot_count ≤ call.slot
+      → GoesBy step shown old (command.Call call) reply.NoSuchSlot old
+  call_taken : {call : Call} → TakenAt old.slots call.slot
+      → GoesBy step shown old (command.Call call) reply.SlotInUse old
+  called : {call : Call} (f : Registered) {t : S} → FreeAt old.slots call.slot
+      → BuildsBy step (builder_call old.config call) old.table (Ok f) t
+      → GoesBy step shown old (command.Call call) (reply.Opened call.slot f.number)
+      (record old { table = t; slots = slice_set old.slots call.slot (Some f) })
+  refused : {call : Call} {e : Refusal} {t : S} → FreeAt old.slots call.slot
+      → BuildsBy step (builder_call old.config call) old.table (Err e) t
+      → GoesBy step shown old (command.Call call) (reply.Refused e) (record old { table = t })
+  close_past : {slot : ℕ} → slot_count ≤ slot → GoesBy step shown old (command.Close slot) reply.NoSuchSlot old
+  close_empty : {slot : ℕ} → FreeAt old.slots slot
+      → GoesBy step shown old (command.Close slot) reply.SlotEmpty old
+  closed : {slot : ℕ} (f : Registered) {t : S} → HoldsAt old.slots slot f → ClosesFactoryBy step old.table f t
+      → GoesBy step shown old (command.Close slot) (reply.Closed slot)
+      (record old { table = t; slots = slice_set old.slots slot None })
+  listed : {entries : Vec Entry Global} → Lists (shown old.table).world entries.items
+      → GoesBy step shown old command.List (reply.Listing entries) old
+  not_listed : GoesBy step shown old command.List reply.OutOfMemory old
+
+-- ---- over a table
+
+abbrev pub Builds : PatternCall → TableState → Result Registered Refusal → TableState → Type 0
+Builds = BuildsBy IsTableAccess
+
+abbrev pub ClosesFactory : TableState → Registered → TableState → Type 0
+ClosesFactory = ClosesFactoryBy IsTableAccess
+
+abbrev pub ClosesPlace : TableState → Option Registered → TableState → Type 0
+ClosesPlace = ClosesPlaceBy IsTableAccess
+
+abbrev pub ClosesSlot : TableState → List (Option Registered) → ℕ → TableState → Type 0
+ClosesSlot = ClosesSlotBy IsTableAccess
+
 abbrev pub ClosesSlots : TableState → List (Option Registered) → TableState → Type 0
-ClosesSlots s slots t = Run ClosesPlace s slots t
+ClosesSlots = ClosesSlotsBy IsTableAccess
 
 -- what a slot holds is closed, and that is Ok
 abbrev pub IsClosedPlace : TableState → Option Registered → TableState → Type 0
@@ -62,23 +120,5 @@ IsClosedPlace s (Some f) t = Joins IsTableAccess s (λ word. IsCloseWord f word 
 abbrev pub AreClosed : TableState → List (Option Registered) → TableState → Type 0
 AreClosed s slots t = Run IsClosedPlace s slots t
 
--- A command leads from one state to another, with this reply. The slot is tested before any access,
--- and the other slots keep what they hold.
-pub data Goes (old : SessionState) : Command → Reply → SessionState → Type 0 where
-  call_past : {call : Call} → slot_count ≤ call.slot → Goes old (command.Call call) reply.NoSuchSlot old
-  call_taken : {call : Call} → TakenAt old.slots call.slot → Goes old (command.Call call) reply.SlotInUse old
-  called : {call : Call} (f : Registered) {t : TableState} → FreeAt old.slots call.slot
-      → Builds (builder_call old.config call) old.table (Ok f) t
-      → Goes old (command.Call call) (reply.Opened call.slot f.number)
-      (record old { table = t; slots = slice_set old.slots call.slot (Some f) })
-  refused : {call : Call} {e : Refusal} {t : TableState} → FreeAt old.slots call.slot
-      → Builds (builder_call old.config call) old.table (Err e) t
-      → Goes old (command.Call call) (reply.Refused e) (record old { table = t })
-  close_past : {slot : ℕ} → slot_count ≤ slot → Goes old (command.Close slot) reply.NoSuchSlot old
-  close_empty : {slot : ℕ} → FreeAt old.slots slot → Goes old (command.Close slot) reply.SlotEmpty old
-  closed : {slot : ℕ} (f : Registered) {t : TableState} → HoldsAt old.slots slot f → ClosesFactory old.table f t
-      → Goes old (command.Close slot) (reply.Closed slot)
-      (record old { table = t; slots = slice_set old.slots slot None })
-  listed : {entries : Vec Entry Global} → Lists old.table.world entries.items
-      → Goes old command.List (reply.Listing entries) old
-  not_listed : Goes old command.List reply.OutOfMemory old
+abbrev pub Goes : SessionState → Command → Reply → SessionState → Type 0
+Goes = GoesBy IsTableAccess (λ table. table)

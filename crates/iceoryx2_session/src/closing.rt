@@ -1,15 +1,15 @@
 //! How a session closes what it has open, whatever the pattern.
 
-ghost use Rattle.iceoryx2_session.specs.Sessions.{ClosesFactory};
+ghost use Rattle.iceoryx2_session.specs.Sessions.{ClosesFactoryBy};
 
+use iceoryx2_access::storage::Storage;
 use iceoryx2_port_factory::port_factory::{CloseError, Registration};
-use iceoryx2_table::table::Table;
 
-/// Closes it. What isn't at this table is let go.
-pub fn close(registration: Registration, table: &mut Table)
-    ensures { ClosesFactory table.old registration table.new }
+/// Closes it. What isn't at this storage is let go.
+pub fn close<S: Storage>(registration: Registration, storage: &mut S)
+    ensures { ClosesFactoryBy S.step storage.old registration storage.new }
 {
-    match registration.close(table) {
+    match registration.close(storage) {
         Ok(()) => {}
         Err(error) => match error {
             CloseError::NotHere(registration) => registration.abandon(),

@@ -1,32 +1,32 @@
-//! Commands over a table, with places for what they open.
+//! Commands over a storage that shows a table, with places for what they open.
 
 ghost use Rattle.std.specs.Prelude.{◌≡◌, ◌<◌, ℕ, IfOk, OnErr, replicate, slice_set, None, []};
 ghost use Rattle.iceoryx2_session.specs.Patterns.{builder_call};
-ghost use Rattle.iceoryx2_session.specs.Sessions.{Builds, ClosesSlot};
+ghost use Rattle.iceoryx2_session.specs.Sessions.{BuildsBy, ClosesSlotBy};
 ghost use Rattle.iceoryx2_commands.specs.Commands.{slot_count};
 
 use crate::slots::Slots;
+use crate::table_storage::{StandsIn, TableStorage};
 use crate::{closing, events, publish_subscribe, request_response};
+use iceoryx2_access::storage::Storage;
 use iceoryx2_builder::builder::Node;
 use iceoryx2_commands::command::{Call, Command, Refusal, Reply, SLOTS, Settings};
 use iceoryx2_description::config::Config;
 use iceoryx2_port_factory::port_factory::Registration;
-use iceoryx2_table::local::Local;
-use iceoryx2_table::table::Table;
 use iceoryx2_types::types::{CustomHeaderMarker, CustomPayloadMarker, Slice};
 use std::alloc::AllocError;
 
-/// A table, and 64 slots for the factories that commands open over it. It has to be spent by
-/// `finish`.
-pub struct Session {
+/// A storage that shows a table, and 64 slots for the factories that commands open over it. It has to be
+/// spent by `finish`.
+pub struct Session<S> {
     config: Config,
-    table: Table,
+    storage: S,
     slots: Slots,
 }
 
 /// The builder call of a command.
-fn build(config: Config, call: Call, table: &mut Table) -> Result<Registration, Refusal>
-    ensures { Builds (builder_call config call) table.old result table.new }
+fn build<S: Storage>(config: Config, call: Call, storage: &mut S) -> Result<Registration, Refusal>
+    ensures { BuildsBy S.step (builder_call config call) storage.old result storage.new }
 {
     let Call {
         how,
@@ -37,45 +37,46 @@ fn build(config: Config, call: Call, table: &mut Table) -> Result<Registration, 
         attributes,
         now,
     } = call;
-    let builder = Node::<Local>::new(node, config).service_builder(name);
+    let builder = Node::<StandsIn<S>>::new(node, config).service_builder(name);
     match settings {
         Settings::Event(settings) => {
-            events::call(builder.event(), settings, attributes, how, now, table)
+            events::call(builder.event(), settings, attributes, how, now, storage)
         }
         Settings::PublishSubscribe(settings) => {
             let builder = builder
                 .publish_subscribe::<Slice<CustomPayloadMarker>>()
                 .user_header::<CustomHeaderMarker>();
-            publish_subscribe::call(builder, settings, attributes, how, table)
+            publish_subscribe::call(builder, settings, attributes, how, storage)
         }
         Settings::RequestResponse(settings) => {
             let builder = builder
                 .request_response::<Slice<CustomPayloadMarker>, Slice<CustomPayloadMarker>>()
                 .request_user_header::<CustomHeaderMarker>()
                 .response_user_header::<CustomHeaderMarker>();
-            request_response::call(builder, settings, attributes, how, table)
+            request_response::call(builder, settings, attributes, how, storage)
         }
     }
 }
 
 /// Closes what the slot holds, if it holds something. It is free then.
-fn close_slot(slots: &mut Slots, slot: usize, table: &mut Table)
+fn close_slot<S: Storage>(slots: &mut Slots, slot: usize, storage: &mut S)
     requires { slot < slot_count }
     ensures after { slots.new ≡ slice_set slots.old slot None }
-    ensures closed { ClosesSlot table.old slots.old slot table.new }
+    ensures closed { ClosesSlotBy S.step storage.old slots.old slot storage.new }
 {
     match slots.take(slot) {
-        Some(registration) => return closing::close(registration, table),
+        Some(registration) => return closing::close(registration, storage),
         None => return,
     }
 }
 
-impl Session {
+impl<S: TableStorage> Session<S> {
     ghost use Rattle.iceoryx2_description.specs.declared.description.ServiceHash.{ServiceHash};
     ghost use Rattle.iceoryx2_world.specs.Across.{Agrees};
     ghost use Rattle.iceoryx2_world.specs.World.{empty_world, ticket_of};
-    ghost use Rattle.iceoryx2_session.specs.SessionStates.{state_of};
-    ghost use Rattle.iceoryx2_session.specs.Sessions.{AreClosed, ClosesSlots, Goes};
+    ghost use Rattle.iceoryx2_session.specs.SessionStates.{own_state, state_of};
+    ghost use Rattle.iceoryx2_session.specs.Sessions.{AreClosed, ClosesSlots, ClosesSlotsBy, Goes, GoesBy};
+    ghost use Rattle.iceoryx2_session.specs.CommandWords.{GoesAlong};
     ghost use Rattle.iceoryx2_session.specs.CommandLists.{CarriesOut};
     ghost use Rattle.iceoryx2_session.specs.StandingSlots.{ClosesTaken, GoesStanding, OwnsTickets, SlotsStand};
     ghost use Rattle.iceoryx2_call_laws.specs.Quiet.{Quiet, no_service};
@@ -87,50 +88,57 @@ impl Session {
     ghost use Rattle.iceoryx2_commands.specs.declared.command.Command.TheVariants as command;
 
     /// A session whose nodes have this configuration. All its slots are free.
-    pub fn new(config: Config, table: Table) -> Session
-        ensures state { state_of result
-            ≡ record { config = config; table = table; slots = replicate slot_count None } }
+    pub fn new(config: Config, storage: S) -> Session<S>
+        ensures state { own_state result
+            ≡ record { config = config; table = storage; slots = replicate slot_count None } }
 
         // So each factory of a slot stands, whatever the table.
-        ensures stands { SlotsStand (state_of result) }
+        ensures stands { SlotsStand (state_of S.shown result) }
 
         // Over a new table it is quiet: the table shows the machine that has no service yet.
-        ensures fresh { (n : ℕ) → table.world ≡ empty_world n → table.waiting ≡ []
-            → IsQuiet (state_of result) (no_service n) × OwnsTickets (state_of result) }
+        ensures fresh { (n : ℕ) → (S.shown storage).world ≡ empty_world n → (S.shown storage).waiting ≡ []
+            → IsQuiet (state_of S.shown result) (no_service n) × OwnsTickets (state_of S.shown result) }
     {
         Session {
             config,
-            table,
+            storage,
             slots: Slots::new(),
         }
     }
 
     /// Carries out one command. The slot is tested before anything is called.
     pub fn apply(&mut self, command: Command) -> Reply
-        // Over any table it is the builder call or the close that it names, along a word of it.
-        ensures goes { Goes (state_of self.old) command result (state_of self.new) }
+        // Over any storage it is the builder call or the close that it names, along a word of it,
+        ensures own { GoesBy S.step S.shown (own_state self.old) command result (own_state self.new) }
+
+        // so the storage's accesses are those of the command's word, and without a call or a close there are none,
+        ensures along { GoesAlong S.step (own_state self.old) command result (own_state self.new) }
+
+        // and so it is over the table that the storage shows.
+        ensures goes { Goes (state_of S.shown self.old) command result (state_of S.shown self.new) }
 
         // Over any table whose world agrees, the world agrees afterwards, and the factories of all
         // slots stand, each with a ticket of its own. The close of a slot that holds one is Ok.
-        ensures stands { Agrees (state_of self.old).table.world → SlotsStand (state_of self.old)
-            → Agrees (state_of self.new).table.world × SlotsStand (state_of self.new)
-            × ClosesTaken (state_of self.old) command (state_of self.new) }
+        ensures stands { Agrees (state_of S.shown self.old).table.world → SlotsStand (state_of S.shown self.old)
+            → Agrees (state_of S.shown self.new).table.world × SlotsStand (state_of S.shown self.new)
+            × ClosesTaken (state_of S.shown self.old) command (state_of S.shown self.new) }
 
         // The call of a free slot is as every call is: within fixed counts, and over a table whose world
         // agrees its factory is as it was asked, and stays open; and those that were open are open throughout.
-        ensures promised { CallsAsPromised (state_of self.old) command (state_of self.new) }
+        ensures promised { CallsAsPromised (state_of S.shown self.old) command (state_of S.shown self.new) }
 
         // There the table's tickets stay those of the slots.
-        ensures owns { Agrees (state_of self.old).table.world → SlotsStand (state_of self.old)
-            → OwnsTickets (state_of self.old) → OwnsTickets (state_of self.new) }
+        ensures owns { Agrees (state_of S.shown self.old).table.world → SlotsStand (state_of S.shown self.old)
+            → OwnsTickets (state_of S.shown self.old) → OwnsTickets (state_of S.shown self.new) }
 
         // Over a table that nobody else uses it is one move of the quiet machine.
-        ensures quiet { (q : Quiet) → IsQuiet (state_of self.old) q → SlotsStand (state_of self.old)
-            → IsMoved (state_of self.old) q command result (state_of self.new) }
+        ensures quiet { (q : Quiet) → IsQuiet (state_of S.shown self.old) q → SlotsStand (state_of S.shown self.old)
+            → IsMoved (state_of S.shown self.old) q command result (state_of S.shown self.new) }
 
         // There nothing changes where the reply tells of no factory that was opened or closed.
-        ensures unchanged { (q : Quiet) → IsQuiet (state_of self.old) q → SlotsStand (state_of self.old)
-            → TellsNoChange result → IsUnchanged (state_of self.old) (state_of self.new) }
+        ensures unchanged { (q : Quiet) → IsQuiet (state_of S.shown self.old) q
+            → SlotsStand (state_of S.shown self.old)
+            → TellsNoChange result → IsUnchanged (state_of S.shown self.old) (state_of S.shown self.new) }
     {
         match command {
             Command::Call(call) => self.call(call),
@@ -143,36 +151,42 @@ impl Session {
     /// all replies is asked for first.
     pub fn run(&mut self, commands: Vec<Command>) -> Result<Vec<Reply>, AllocError>
         // Where there is no room, nothing is carried out.
-        ensures refused { OnErr result (state_of self.new ≡ state_of self.old) }
+        ensures refused { OnErr result (own_state self.new ≡ own_state self.old) }
 
-        // Over any table each command goes as it does by itself, from the state that the one before it left.
+        // Over any storage each command goes as it does by itself, from the state that the one before it left,
+        ensures own { IfOk result (λ replies. CarriesOut (GoesBy S.step S.shown)
+            (own_state self.old) commands.items replies.items (own_state self.new)) }
+
+        // and so it is over the table that the storage shows.
         ensures goes { IfOk result (λ replies.
-            CarriesOut Goes (state_of self.old) commands.items replies.items (state_of self.new)) }
+            CarriesOut Goes (state_of S.shown self.old) commands.items replies.items (state_of S.shown self.new)) }
 
         // Over any table whose world agrees, the world agrees afterwards, and the factories of all
         // slots stand, each with a ticket of its own,
-        ensures stands { Agrees (state_of self.old).table.world → SlotsStand (state_of self.old)
-            → Agrees (state_of self.new).table.world × SlotsStand (state_of self.new) }
+        ensures stands { Agrees (state_of S.shown self.old).table.world → SlotsStand (state_of S.shown self.old)
+            → Agrees (state_of S.shown self.new).table.world × SlotsStand (state_of S.shown self.new) }
 
         // and so it is after each of the commands.
-        ensures between { Agrees (state_of self.old).table.world → SlotsStand (state_of self.old)
+        ensures between { Agrees (state_of S.shown self.old).table.world → SlotsStand (state_of S.shown self.old)
             → IfOk result (λ replies.
-            CarriesOut GoesStanding (state_of self.old) commands.items replies.items (state_of self.new)) }
+            CarriesOut GoesStanding (state_of S.shown self.old) commands.items replies.items
+            (state_of S.shown self.new)) }
 
         // There the table's tickets stay those of the slots.
-        ensures owns { Agrees (state_of self.old).table.world → SlotsStand (state_of self.old)
-            → OwnsTickets (state_of self.old) → OwnsTickets (state_of self.new) }
+        ensures owns { Agrees (state_of S.shown self.old).table.world → SlotsStand (state_of S.shown self.old)
+            → OwnsTickets (state_of S.shown self.old) → OwnsTickets (state_of S.shown self.new) }
 
         // Over a table that nobody else uses each command moves the session and the quiet machine together, and
         // one whose reply tells of no factory that was opened or closed changes nothing, wherever in the run it is.
-        ensures quiet { (q : Quiet) → IsQuiet (state_of self.old) q → SlotsStand (state_of self.old)
+        ensures quiet { (q : Quiet) → IsQuiet (state_of S.shown self.old) q → SlotsStand (state_of S.shown self.old)
             → IfOk result (λ replies.
-            AreMoved (state_of self.old) q commands.items replies.items (state_of self.new)) }
+            AreMoved (state_of S.shown self.old) q commands.items replies.items (state_of S.shown self.new)) }
 
         // There nothing changes where no reply tells of a factory that was opened or closed.
-        ensures unchanged { (q : Quiet) → IsQuiet (state_of self.old) q → SlotsStand (state_of self.old)
+        ensures unchanged { (q : Quiet) → IsQuiet (state_of S.shown self.old) q
+            → SlotsStand (state_of S.shown self.old)
             → IfOk result (λ replies.
-            Each TellsNoChange replies.items → IsUnchanged (state_of self.old) (state_of self.new)) }
+            Each TellsNoChange replies.items → IsUnchanged (state_of S.shown self.old) (state_of S.shown self.new)) }
     {
         let mut replies = Vec::with_capacity(*commands.allocator(), commands.len())?;
         for command in commands {
@@ -182,7 +196,7 @@ impl Session {
     }
 
     fn call(&mut self, call: Call) -> Reply
-        ensures { Goes (state_of self.old) (command.Call call) result (state_of self.new) }
+        ensures { GoesBy S.step S.shown (own_state self.old) (command.Call call) result (own_state self.new) }
     {
         let slot = call.slot;
         if slot >= SLOTS {
@@ -191,7 +205,7 @@ impl Session {
         if self.slots.is_taken(slot) {
             return Reply::SlotInUse;
         }
-        match build(self.config, call, &mut self.table) {
+        match build(self.config, call, &mut self.storage) {
             Ok(registration) => {
                 let number = registration.number();
                 self.slots.put(slot, registration);
@@ -202,14 +216,14 @@ impl Session {
     }
 
     fn close(&mut self, slot: usize) -> Reply
-        ensures { Goes (state_of self.old) (command.Close slot) result (state_of self.new) }
+        ensures { GoesBy S.step S.shown (own_state self.old) (command.Close slot) result (own_state self.new) }
     {
         if slot >= SLOTS {
             return Reply::NoSuchSlot;
         }
         match self.slots.take(slot) {
             Some(registration) => {
-                closing::close(registration, &mut self.table);
+                closing::close(registration, &mut self.storage);
                 Reply::Closed { slot }
             }
             None => Reply::SlotEmpty,
@@ -217,51 +231,57 @@ impl Session {
     }
 
     fn list(&self) -> Reply
-        ensures { Goes (state_of self.now) command.List result (state_of self.now) }
+        ensures { GoesBy S.step S.shown (own_state self.now) command.List result (own_state self.now) }
     {
-        match self.table.list() {
+        match self.storage.list() {
             Ok(entries) => Reply::Listing(entries),
             Err(_) => Reply::OutOfMemory,
         }
     }
 
-    /// The table, for its readers.
-    pub fn table(&self) -> &Table
-        ensures { result.now ≡ (state_of self.now).table }
+    /// The storage, for its readers.
+    pub fn storage(&self) -> &S
+        ensures { result.now ≡ (own_state self.now).table }
     {
-        &self.table
+        &self.storage
     }
 
-    /// Closes the factories of all slots, in ascending order, and gives the table back.
-    pub fn finish(self) -> Table
-        // Over any table each is closed along a word of close.
-        ensures closes { ClosesSlots (state_of self).table (state_of self).slots result }
+    /// Closes the factories of all slots, in ascending order, and gives the storage back.
+    pub fn finish(self) -> S
+        // Over any storage each is closed along a word of close,
+        ensures own { ClosesSlotsBy S.step (own_state self).table (own_state self).slots result }
+
+        // and so it is over the table that the storage shows.
+        ensures closes { ClosesSlots (state_of S.shown self).table (state_of S.shown self).slots (S.shown result) }
 
         // Over any table whose world agrees each of these closes is Ok, so no factory comes back.
-        ensures stands { Agrees (state_of self).table.world → SlotsStand (state_of self)
-            → Agrees result.world × AreClosed (state_of self).table (state_of self).slots result }
+        ensures stands { Agrees (state_of S.shown self).table.world → SlotsStand (state_of S.shown self)
+            → Agrees (S.shown result).world
+            × AreClosed (state_of S.shown self).table (state_of S.shown self).slots (S.shown result) }
 
         // There, where the table's tickets are those of the slots, no ticket is left.
-        ensures no_tickets { Agrees (state_of self).table.world → SlotsStand (state_of self)
-            → OwnsTickets (state_of self) → (ticket : ℕ) → ticket_of result.world ticket ≡ None }
+        ensures no_tickets { Agrees (state_of S.shown self).table.world → SlotsStand (state_of S.shown self)
+            → OwnsTickets (state_of S.shown self)
+            → (ticket : ℕ) → ticket_of (S.shown result).world ticket ≡ None }
 
         // Over a table that nobody else uses each is the machine's close.
-        ensures quiet { (q : Quiet) → IsQuiet (state_of self) q → SlotsStand (state_of self)
-            → IsFinished q (state_of self).slots result }
+        ensures quiet { (q : Quiet) → IsQuiet (state_of S.shown self) q → SlotsStand (state_of S.shown self)
+            → IsFinished q (state_of S.shown self).slots (S.shown result) }
 
         // There nothing of any service is left, where the table's tickets are those of the slots.
-        ensures empty { (q : Quiet) → IsQuiet (state_of self) q → SlotsStand (state_of self)
-            → OwnsTickets (state_of self) → (hash : ServiceHash) → HasNothingAt result.world hash }
+        ensures empty { (q : Quiet) → IsQuiet (state_of S.shown self) q → SlotsStand (state_of S.shown self)
+            → OwnsTickets (state_of S.shown self)
+            → (hash : ServiceHash) → HasNothingAt (S.shown result).world hash }
     {
         let Session {
             config: _,
-            mut table,
+            mut storage,
             mut slots,
         } = self;
         for slot in 0..SLOTS {
-            close_slot(&mut slots, slot, &mut table);
+            close_slot(&mut slots, slot, &mut storage);
         }
         slots.destroy();
-        table
+        storage
     }
 }

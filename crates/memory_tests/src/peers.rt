@@ -107,7 +107,11 @@ const REPLACEMENT: [Deed; 6] = [
 ];
 
 /// An event create of node 1 in a session over a table at which a batch waits.
-fn create_in(alloc: Global, refusing: Refusing, session: &mut Session) -> Result<Tally, Wrong> {
+fn create_in(
+    alloc: Global,
+    refusing: Refusing,
+    session: &mut Session<Table>,
+) -> Result<Tally, Wrong> {
     let called = (1, 0, NAME);
     let command = crate::sessions::call(alloc, Pattern::Event, How::Create, called)?;
     refuse(alloc, refusing);
@@ -121,7 +125,7 @@ fn create_in(alloc: Global, refusing: Refusing, session: &mut Session) -> Result
             }
         }
         Refused::One => {
-            if session.table().skipped() != 1 || session.table().pending() != 0 {
+            if session.storage().skipped() != 1 || session.storage().pending() != 0 {
                 Err(Wrong::Changed)
             } else if reply == (Reply::Opened { slot: 0, number: 0 }) {
                 Ok(Tally::ONE)

@@ -58,12 +58,12 @@ pub fn call(
 }
 
 /// A session over a new table.
-pub fn new_session(alloc: Global) -> Session {
+pub fn new_session(alloc: Global) -> Session<Table> {
     Session::new(Config::default(), Table::new(alloc))
 }
 
 /// Ends a session.
-pub fn end_session(session: Session) {
+pub fn end_session(session: Session<Table>) {
     drop_table(session.finish());
 }
 
@@ -118,7 +118,7 @@ fn create_others(
     alloc: Global,
     pattern: Pattern,
     others: usize,
-    session: &mut Session,
+    session: &mut Session<Table>,
 ) -> Result<(), Wrong> {
     let mut slot = 2usize;
     for text in OTHERS.iter().take(others) {
@@ -141,16 +141,16 @@ fn attempt_in(
     alloc: Global,
     wanted: Wanted,
     refusing: Refusing,
-    session: &mut Session,
+    session: &mut Session<Table>,
 ) -> Result<Option<Tally>, Wrong> {
     let called = (1, 0, NAME);
     let command = call(alloc, wanted.pattern, wanted.how, called)?;
     let again = call(alloc, wanted.pattern, wanted.how, called)?;
-    let before = look(alloc, session.table())?;
+    let before = look(alloc, session.storage())?;
     refuse(alloc, refusing);
     let reply = session.apply(command);
     let refused = end(alloc);
-    let after = look(alloc, session.table())?;
+    let after = look(alloc, session.storage())?;
     let came = match refused {
         Refused::None => {
             return if is_opened(&reply) {
@@ -175,7 +175,7 @@ fn attempt(
     alloc: Global,
     wanted: Wanted,
     refusing: Refusing,
-    session: &mut Session,
+    session: &mut Session<Table>,
 ) -> Result<Option<Tally>, Wrong> {
     create_others(alloc, wanted.pattern, wanted.others, session)?;
     if wanted.is_there {
@@ -234,13 +234,13 @@ struct Listed {
 fn list_in(
     alloc: Global,
     refusing: Refusing,
-    session: &mut Session,
+    session: &mut Session<Table>,
 ) -> Result<Option<Tally>, Wrong> {
-    let before = look(alloc, session.table())?;
+    let before = look(alloc, session.storage())?;
     refuse(alloc, refusing);
     let reply = session.apply(Command::List);
     let refused = end(alloc);
-    let after = look(alloc, session.table())?;
+    let after = look(alloc, session.storage())?;
     if !is_as_before(before, &after, 0) {
         return Err(Wrong::Changed);
     }
@@ -258,7 +258,7 @@ fn list(
     alloc: Global,
     listed: Listed,
     refusing: Refusing,
-    session: &mut Session,
+    session: &mut Session<Table>,
 ) -> Result<Option<Tally>, Wrong> {
     create_others(alloc, listed.pattern, listed.others, session)?;
     list_in(alloc, refusing, session)
@@ -292,13 +292,13 @@ fn commands(alloc: Global) -> Result<Vec<Command>, Wrong> {
 }
 
 /// A run whose first request is refused.
-fn run_in(alloc: Global, refusing: Refusing, session: &mut Session) -> Result<Tally, Wrong> {
+fn run_in(alloc: Global, refusing: Refusing, session: &mut Session<Table>) -> Result<Tally, Wrong> {
     let commands = commands(alloc)?;
-    let before = look(alloc, session.table())?;
+    let before = look(alloc, session.storage())?;
     refuse(alloc, refusing);
     let replies = session.run(commands);
     let refused = end(alloc);
-    let after = look(alloc, session.table())?;
+    let after = look(alloc, session.storage())?;
     match refused {
         Refused::None => {
             if replies.is_err() || after.counter != 2 {
@@ -328,7 +328,7 @@ pub fn run(alloc: Global, mode: Mode) -> Result<Tally, Wrong> {
 }
 
 /// Node 1 has the service of each pattern in two slots, and node 2 in one.
-fn open_all(alloc: Global, session: &mut Session) -> Result<(), Wrong> {
+fn open_all(alloc: Global, session: &mut Session<Table>) -> Result<(), Wrong> {
     for (pattern, created, opened, opened_by_2) in [
         (Pattern::Event, 0usize, 1usize, 2usize),
         (Pattern::PublishSubscribe, 3, 4, 5),
@@ -350,7 +350,7 @@ fn is_empty(table: &Table) -> bool {
 }
 
 /// Closes the slots one by one.
-fn close_all(alloc: Global, session: &mut Session) -> Result<Tally, Wrong> {
+fn close_all(alloc: Global, session: &mut Session<Table>) -> Result<Tally, Wrong> {
     open_all(alloc, session)?;
     let mut all = Tally::NONE;
     for slot in 0..9usize {
@@ -359,7 +359,7 @@ fn close_all(alloc: Global, session: &mut Session) -> Result<Tally, Wrong> {
         let is_closed = reply == (Reply::Closed { slot });
         all = all.and(without_memory(alloc, is_closed)?);
     }
-    if is_empty(session.table()) {
+    if is_empty(session.storage()) {
         Ok(all)
     } else {
         Err(Wrong::Changed)
@@ -389,7 +389,7 @@ pub fn begin(alloc: Global) -> Result<Tally, Wrong> {
     let empty = Table::new(alloc);
     let table = Table::starting_at(alloc, 7);
     let session = Session::new(Config::default(), table);
-    let is_wanted = session.table().counter() == 7;
+    let is_wanted = session.storage().counter() == 7;
     let came = without_memory(alloc, is_wanted);
     drop_table(empty);
     end_session(session);

@@ -49,7 +49,7 @@ fn answer_lines<R: Read + Drop, W: Write>(
     alloc: Global,
     input: R,
     output: &mut W,
-    session: &mut Session,
+    session: &mut Session<Table>,
 ) -> io::Result<u8> {
     let mut reader = BufReader::new(alloc, input)?;
     let mut bytes = Vec::new(alloc);
@@ -75,7 +75,7 @@ fn answer_line(
     alloc: Global,
     number: u64,
     bytes: &[u8],
-    session: &mut Session,
+    session: &mut Session<Table>,
     text: &mut String,
 ) -> Result<bool, AllocError> {
     match line::parse(alloc, line::without_end(bytes))? {

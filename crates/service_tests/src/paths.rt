@@ -19,7 +19,7 @@ use iceoryx2_service::description::{
 use iceoryx2_service::laws;
 use iceoryx2_service::port_factory::{self, CloseError};
 use iceoryx2_service::script::{Answer, Faulty, FaultyService, Script, Scripted};
-use iceoryx2_service::session::{self, Call, Command, How, Reply, Session};
+use iceoryx2_service::session::{self, Call, Command, How, Reply, Session, TableStorage};
 use iceoryx2_service::storage::{
     Existence, FetchError, LockError, MakeSegmentError, OpenSegmentError, PublishError, Release,
     ReleaseError, RemoveError, Service, ServiceNameHasher, Sha1Hasher, Storage, Tag, TagError,
@@ -41,6 +41,9 @@ fn sent<T: ZeroCopySend>() {}
 
 /// A storage.
 fn stored<S: Storage>() {}
+
+/// A storage that shows a table.
+fn shown<S: TableStorage>() {}
 
 /// A hasher.
 fn hashed<H: ServiceNameHasher>() {}
@@ -84,6 +87,7 @@ fn of_storages() {
         PublishError, OpenSegmentError, Release, ReleaseError
     }
     each! { stored: Table, Script, Faulty<Table>, Traced<Table> }
+    each! { shown: Table, Traced<Table> }
     each! { served: Local, Scripted, FaultyService<Local>, TracedService<Local> }
     hashed::<Sha1Hasher>();
     each! { named: Answer, Step, Act, Entry, traced::Entry, Fetched }
@@ -112,7 +116,7 @@ fn of_factories() {
         named:
         CloseError<u64>, port_factory::event::PortFactory<Local>,
         port_factory::publish_subscribe::PortFactory<Local, u64, ()>,
-        port_factory::request_response::PortFactory<Local, u64, (), u64, ()>, Session, Command,
+        port_factory::request_response::PortFactory<Local, u64, (), u64, ()>, Session<Table>, Command,
         Call, How, Reply
     }
 }
@@ -136,6 +140,7 @@ fn each_law_has_its_path(_rt: HostRuntime) {
     laws::scripts();
     laws::faults::<Table>();
     laws::traces::<Table>();
+    laws::sessions::<Traced<Table>>();
     laws::quiet_laws();
     bytes::laws_of_forms();
     builder::laws_of_asking();

@@ -7,34 +7,36 @@ use iceoryx2_description::config::Config;
 use iceoryx2_description::time::{ClockFault, Duration, Time};
 use iceoryx2_errors::error::{EventCreateError, EventOpenError};
 use iceoryx2_session::session::Session;
+use iceoryx2_session::table_storage::TableStorage;
 use iceoryx2_table::table::Table;
+use iceoryx2_traced::traced::Traced;
 use std::alloc::Global;
 use std::process::Abort;
 
 /// A session over a new table.
-fn started(alloc: Global, config: Config) -> Session {
+fn started(alloc: Global, config: Config) -> Session<Table> {
     Session::new(config, table_from(alloc, 0))
 }
 
 /// The table of a session, which has no factory any more.
-fn finished(session: Session) -> Table {
+fn finished(session: Session<Table>) -> Table {
     session.finish()
 }
 
 /// Carries out one command. What its contract says of the table is not wanted here.
-fn apply(session: &mut Session, command: Command) -> Reply {
+fn apply<S: TableStorage>(session: &mut Session<S>, command: Command) -> Reply {
     session.apply(command)
 }
 
-fn close(session: &mut Session, slot: usize) -> Reply {
+fn close<S: TableStorage>(session: &mut Session<S>, slot: usize) -> Reply {
     apply(session, Command::Close { slot })
 }
 
 /// Calls with these settings at time zero.
-fn call(
+fn call<S: TableStorage>(
     rt: &impl Abort,
     alloc: Global,
-    session: &mut Session,
+    session: &mut Session<S>,
     called: Called,
     settings: &[EventSetter],
 ) -> Reply {
@@ -133,7 +135,7 @@ const SETTINGS: [EventSetter; 5] = [
 fn answers_of_settings(rt: &impl Abort, alloc: Global) -> ([Reply; 3], u64) {
     let mut session = started(alloc, Config::default());
     let made = call(rt, alloc, &mut session, (How::Create, 1, 0, "a"), &SETTINGS);
-    let (max_nodes, _) = node_views(rt, session.table());
+    let (max_nodes, _) = node_views(rt, session.storage());
     let refused = call(rt, alloc, &mut session, (How::Create, 1, 1, "a"), &[]);
     let missing = call(rt, alloc, &mut session, (How::Open, 1, 1, "b"), &[]);
     drop_table(finished(session));
@@ -186,4 +188,76 @@ fn each_refusal_has_its_own_name(rt: HostRuntime) {
         Reply::Refused(Refusal::EventOpen(EventOpenError::ExceedsMaxNumberOfNodes)),
     ];
     assert_same(&rt, refusals(&rt, rt.alloc()), wanted);
+}
+
+/// A create, an open into a slot that is taken, one into a free slot, a list and a close, in that order.
+fn command_at(rt: &impl Abort, alloc: Global, index: u8) -> Command {
+    let called = match index {
+        0 => (How::Create, 1, 0, "a"),
+        1 => (How::Open, 2, 0, "a"),
+        2 => (How::Open, 2, 1, "a"),
+        3 => return Command::List,
+        _ => return Command::Close { slot: 1 },
+    };
+    let attributes = AttributeVerifier::new(alloc);
+    command(rt, alloc, called, &[], attributes, Ok(Time::default()))
+}
+
+/// What a session answers to them.
+fn answers_over<S: TableStorage>(
+    rt: &impl Abort,
+    alloc: Global,
+    session: &mut Session<S>,
+) -> Vec<Reply> {
+    let mut answers = Vec::new(alloc);
+    for index in 0..5u8 {
+        let command = command_at(rt, alloc, index);
+        push(rt, &mut answers, apply(session, command));
+    }
+    answers
+}
+
+/// A session over a new table that is traced.
+fn traced(rt: &impl Abort, alloc: Global) -> Session<Traced<Table>> {
+    match Traced::new(alloc, table_from(alloc, 0), 64) {
+        Ok(storage) => Session::new(Config::default(), storage),
+        Err(_) => panic!(rt; "no memory"),
+    }
+}
+
+/// Those answers over a table, and over one that is traced.
+fn answers_over_both(rt: &impl Abort, alloc: Global) -> (Vec<Reply>, Vec<Reply>) {
+    let mut session = started(alloc, Config::default());
+    let answers = answers_over(rt, alloc, &mut session);
+    drop_table(finished(session));
+    let mut session = traced(rt, alloc);
+    let same = answers_over(rt, alloc, &mut session);
+    drop_table(session.finish().into_inner());
+    (answers, same)
+}
+
+#[test]
+fn over_a_traced_table_a_session_answers_as_over_a_table(rt: HostRuntime) {
+    let (answers, same) = answers_over_both(&rt, rt.alloc());
+    assert_same(&rt, same, answers);
+}
+
+/// How many accesses there were after each of those commands, and after the end.
+fn accesses_of_commands(rt: &impl Abort, alloc: Global) -> Vec<u64> {
+    let mut session = traced(rt, alloc);
+    let mut counts = Vec::new(alloc);
+    for index in 0..5u8 {
+        let _answer = apply(&mut session, command_at(rt, alloc, index));
+        push(rt, &mut counts, session.storage().total());
+    }
+    let storage = session.finish();
+    push(rt, &mut counts, storage.total());
+    drop_table(storage.into_inner());
+    counts
+}
+
+#[test]
+fn a_session_makes_the_accesses_of_its_calls_alone(rt: HostRuntime) {
+    let counts = accesses_of_commands(&rt, rt.alloc());
+    assert_same(&rt, counts.as_slice(), &[6, 6, 10, 10, 12, 16]);
 }

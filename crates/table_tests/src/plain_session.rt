@@ -36,21 +36,21 @@ pub trait Commanded: Body {
 }
 
 impl Commanded for Local {
-    type Commands = Session;
+    type Commands = Session<Table>;
 
-    fn over(_rt: &impl Abort, _alloc: Global, table: Table) -> Session {
+    fn over(_rt: &impl Abort, _alloc: Global, table: Table) -> Session<Table> {
         Session::new(Config::default(), table)
     }
 
-    fn apply(_rt: &impl Abort, commands: &mut Session, command: Command) -> Reply {
+    fn apply(_rt: &impl Abort, commands: &mut Session<Table>, command: Command) -> Reply {
         commands.apply(command)
     }
 
-    fn table(commands: &Session) -> &Table {
-        commands.table()
+    fn table(commands: &Session<Table>) -> &Table {
+        commands.storage()
     }
 
-    fn finish(_rt: &impl Abort, commands: Session) -> Table {
+    fn finish(_rt: &impl Abort, commands: Session<Table>) -> Table {
         commands.finish()
     }
 }

@@ -63,7 +63,7 @@ type Seen = (Vec<Reply>, u64);
 fn run(alloc: Global, commands: Vec<Command>) -> (Result<Vec<Reply>, AllocError>, u64) {
     let mut session = Session::new(Config::default(), Local::new(alloc));
     let replies = session.run(commands);
-    let counter = session.table().counter();
+    let counter = session.storage().counter();
     Local::let_go(session.finish());
     (replies, counter)
 }

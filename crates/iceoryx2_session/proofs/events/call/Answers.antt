@@ -14,13 +14,13 @@ carried either.SystemInFlux = refl
 
 -- A create's answers name no call, so that a body without it is refused on what it answers.
 pub returns-in-Ok : goal.returns-in-Ok
-returns-in-Ok c = rw c.in-Create.is (Ok c.in-Ok.factory, search rules, search rules)
+returns-in-Ok g c = rw c.in-Create.is (Ok c.in-Ok.factory, search rules, search rules)
 
 pub returns-in-Create : goal.returns-in-Create
-returns-in-Create c = rw c.in-Create.is (Err c.in-Err.error, refl, search rules)
+returns-in-Create g c = rw c.in-Create.is (Err c.in-Err.error, refl, search rules)
 
 pub returns-in-Ok-open_with_attributes : goal.returns-in-Ok-open_with_attributes
-returns-in-Ok-open_with_attributes c =
+returns-in-Ok-open_with_attributes g c =
     rw c.in-Open.is (
       Ok c.in-Ok-open_with_attributes.factory,
       ap Ok c.into_registration-in-Ok-open_with_attributes.ensures.value,
@@ -28,7 +28,7 @@ returns-in-Ok-open_with_attributes c =
     )
 
 pub returns-in-Open : goal.returns-in-Open
-returns-in-Open c =
+returns-in-Open g c =
     rw c.in-Open.is (
       Err c.in-Err-open_with_attributes.error,
       refl,
@@ -36,7 +36,7 @@ returns-in-Open c =
     )
 
 pub returns-in-Ok-open_or_create_with_attributes : goal.returns-in-Ok-open_or_create_with_attributes
-returns-in-Ok-open_or_create_with_attributes c =
+returns-in-Ok-open_or_create_with_attributes g c =
     rw c.in-OpenOrCreate.is (
       Ok c.in-Ok-open_or_create_with_attributes.factory,
       ap Ok c.into_registration-in-Ok-open_or_create_with_attributes.ensures.value,
@@ -44,7 +44,7 @@ returns-in-Ok-open_or_create_with_attributes c =
     )
 
 pub returns : goal.returns
-returns c =
+returns g c =
     rw c.in-OpenOrCreate.is (
       Err (event_refusal c.in-Err-open_or_create_with_attributes.error),
       ap Err (sym (carried c.in-Err-open_or_create_with_attributes.error)),

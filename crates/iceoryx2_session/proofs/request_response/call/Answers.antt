@@ -13,7 +13,7 @@ carried (either.RequestResponseCreateError error) = refl
 carried either.SystemInFlux = refl
 
 pub returns-in-Ok : goal.returns-in-Ok
-returns-in-Ok c =
+returns-in-Ok g c =
     rw c.in-Create.is (
       Ok c.in-Ok.factory,
       ap Ok c.into_registration.ensures.value,
@@ -21,7 +21,7 @@ returns-in-Ok c =
     )
 
 pub returns-in-Create : goal.returns-in-Create
-returns-in-Create c =
+returns-in-Create g c =
     rw c.in-Create.is (
       Err c.in-Err.error,
       refl,
@@ -29,7 +29,7 @@ returns-in-Create c =
     )
 
 pub returns-in-Ok-open_with_attributes : goal.returns-in-Ok-open_with_attributes
-returns-in-Ok-open_with_attributes c =
+returns-in-Ok-open_with_attributes g c =
     rw c.in-Open.is (
       Ok c.in-Ok-open_with_attributes.factory,
       ap Ok c.into_registration-in-Ok-open_with_attributes.ensures.value,
@@ -37,7 +37,7 @@ returns-in-Ok-open_with_attributes c =
     )
 
 pub returns-in-Open : goal.returns-in-Open
-returns-in-Open c =
+returns-in-Open g c =
     rw c.in-Open.is (
       Err c.in-Err-open_with_attributes.error,
       refl,
@@ -45,7 +45,7 @@ returns-in-Open c =
     )
 
 pub returns-in-Ok-open_or_create_with_attributes : goal.returns-in-Ok-open_or_create_with_attributes
-returns-in-Ok-open_or_create_with_attributes c =
+returns-in-Ok-open_or_create_with_attributes g c =
     rw c.in-OpenOrCreate.is (
       Ok c.in-Ok-open_or_create_with_attributes.factory,
       ap Ok c.into_registration-in-Ok-open_or_create_with_attributes.ensures.value,
@@ -53,7 +53,7 @@ returns-in-Ok-open_or_create_with_attributes c =
     )
 
 pub returns : goal.returns
-returns c =
+returns g c =
     rw c.in-OpenOrCreate.is (
       Err (request_response_refusal c.in-Err-open_or_create_with_attributes.error),
       ap Err (sym (carried c.in-Err-open_or_create_with_attributes.error)),

@@ -1,18 +1,20 @@
 use Rattle.std.proofs.Common.{arith}
 use Rattle.iceoryx2_session.specs.Sessions as goes
-use Rattle.iceoryx2_session.specs.SessionStates.{state_of}
+use Rattle.iceoryx2_session.specs.SessionStates.{own_state}
 use Rattle.iceoryx2_session.proofs.Places.{when_true, when_false}
 use Rattle.iceoryx2_session.proofs.Commands.{calling}
 use Rattle.iceoryx2_session.proofs.session.Session.call.Goals as goal
 
 pub returns-then-slot-ge-SLOTS : goal.returns-then-slot-ge-SLOTS
-returns-then-slot-ge-SLOTS c = goes.call_past (omega arith)
+returns-then-slot-ge-SLOTS g c = goes.call_past (omega arith)
 
 pub returns-then-is_taken : goal.returns-then-is_taken
-returns-then-is_taken c = goes.call_taken (when_true _ c.is_taken.result c.is_taken.ensures c.if-is_taken.true)
+returns-then-is_taken g c = goes.call_taken (when_true _ c.is_taken.result c.is_taken.ensures c.if-is_taken.true)
 
 pub returns-in-Ok : goal.returns-in-Ok
-returns-in-Ok c = calling (state_of c.args.self.now) c.args.call c.in-Ok.registration c.number-number.result c.build.new.table c.put.new.self (when_false _ c.is_taken.result c.is_taken.ensures c.if-is_taken.false) c.in-Ok.ensures c.number-number.ensures c.put.ensures.after
+returns-in-Ok g c =
+    calling g.S.Storage.step g.S.TableStorage.shown (own_state c.args.self.now) c.args.call c.in-Ok.registration c.number-number.result c.build.new.storage c.put.new.self
+    (when_false _ c.is_taken.result c.is_taken.ensures c.if-is_taken.false) c.in-Ok.ensures c.number-number.ensures c.put.ensures.after
 
 pub returns-in-Err : goal.returns-in-Err
-returns-in-Err c = goes.refused (when_false _ c.is_taken.result c.is_taken.ensures c.if-is_taken.false) c.in-Err.ensures
+returns-in-Err g c = goes.refused (when_false _ c.is_taken.result c.is_taken.ensures c.if-is_taken.false) c.in-Err.ensures

@@ -3,7 +3,7 @@ use Rattle.iceoryx2_session.proofs.QuietSessions.{is_fresh}
 use Rattle.iceoryx2_session.proofs.session.Session.new.Goals as goal
 
 pub returns-clause-stands : goal.returns-clause-stands
-returns-clause-stands c = none_stand _ c.new.ensures
+returns-clause-stands g c = none_stand _ c.new.ensures
 
 pub returns-clause-fresh : goal.returns-clause-fresh
-returns-clause-fresh c = λ n e waiting. is_fresh _ n e waiting
+returns-clause-fresh g c = λ n e waiting. is_fresh _ n e waiting

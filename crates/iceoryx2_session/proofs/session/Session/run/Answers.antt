@@ -2,10 +2,10 @@ use Rattle.std.proofs.Common.{◌≡◌, ℕ, List, [], ◌∷◌, ◌++◌, len
 use Rattle.std.specs.Vec.Iter.{into_iter_items}
 use Rattle.iceoryx2_commands.specs.declared.command.Command.{Command}
 use Rattle.iceoryx2_commands.specs.declared.command.Reply.{Reply}
-use Rattle.iceoryx2_session.specs.Sessions.{SessionState, Goes}
-use Rattle.iceoryx2_session.specs.SessionStates.{state_of}
+use Rattle.iceoryx2_session.specs.SessionStates.{own_state}
 use Rattle.iceoryx2_session.specs.CommandLists.{CarriesOut, none}
 use Rattle.iceoryx2_session.proofs.CommandLists.{one_more, all_stand, stand_between, all_moved, all_own, all_unchanged}
+use Rattle.iceoryx2_session.proofs.Shown.{all_shown}
 use Rattle.iceoryx2_session.proofs.session.Session.run.Goals as goal
 
 nothing_left : {X : Type 0} (l : List X) → length l ≡ 0 → l ≡ []
@@ -13,13 +13,13 @@ nothing_left [] h = refl
 nothing_left (x ∷ xs) h = absurd (omega arith)
 
 -- what was carried out of commands of which none is left is all of them
-whole : (old new : SessionState) (commands yielded left : List Command) (replies : List Reply) → CarriesOut Goes old yielded replies new
-    → yielded ++ left ≡ commands → left ≡ [] → CarriesOut Goes old commands replies new
-whole old new commands yielded left replies run in_order empty =
-    subst (λ (l : List Command). CarriesOut Goes old l replies new) (sym (append-nil yielded) ∙ ap (λ (l : List Command). yielded ++ l) (sym empty) ∙ in_order) run
+whole : {S : Type 0} (step : S → Command → Reply → S → Type 0) (old new : S) (commands yielded left : List Command) (replies : List Reply)
+    → CarriesOut step old yielded replies new → yielded ++ left ≡ commands → left ≡ [] → CarriesOut step old commands replies new
+whole step old new commands yielded left replies run in_order empty =
+    subst (λ (l : List Command). CarriesOut step old l replies new) (sym (append-nil yielded) ∙ ap (λ (l : List Command). yielded ++ l) (sym empty) ∙ in_order) run
 
 pub loop-command-init : goal.loop-command-init
-loop-command-init c =
+loop-command-init g c =
     let taken = c.into_iter-command-iterator.ensures.into_iter_gives in
     let long = ap (λ (l : List Command). length l) taken.0 in
     let items = c.args.commands.ok in
@@ -34,7 +34,7 @@ loop-command-init c =
     }
 
 pub loop-command-preserved : goal.loop-command-preserved
-loop-command-preserved c =
+loop-command-preserved g c =
     let at = c.loop-command in
     let x = c.in-Some.command in
     let steps : into_iter_items at.command-iterator ≡ x ∷ into_iter_items c.next.new.self = c.in-Some.ensures.steps.0 in
@@ -45,34 +45,37 @@ loop-command-preserved c =
     let longer = c.push_reserved.ensures.len in
     let capacity = c.push_reserved.ensures.capacity in
     record {
-      so_far = rw c.push_reserved.ensures.items (one_more at.invariant.so_far c.apply.ensures.goes);
+      so_far = rw c.push_reserved.ensures.items (one_more at.invariant.so_far c.apply.ensures.own);
       in_order = append_assoc at.yielded (x ∷ []) _ ∙ rw (← steps) at.invariant.in_order;
       left = omega (arith, fewer, shorter, left);
       room = omega (arith, fewer, room, longer, capacity);
     }
 
-carried_out : (old new : SessionState) (commands yielded left : List Command) (replies : List Reply) (n : ℕ) → CarriesOut Goes old yielded replies new
-    → yielded ++ left ≡ commands → n ≡ length left → n ≡ 0 → CarriesOut Goes old commands replies new
-carried_out old new commands yielded left replies n run in_order long end =
-    whole old new commands yielded left replies run in_order (nothing_left left (sym long ∙ end))
+carried_out : {S : Type 0} (step : S → Command → Reply → S → Type 0) (old new : S) (commands yielded left : List Command) (replies : List Reply) (n : ℕ)
+    → CarriesOut step old yielded replies new → yielded ++ left ≡ commands → n ≡ length left → n ≡ 0 → CarriesOut step old commands replies new
+carried_out step old new commands yielded left replies n run in_order long end =
+    whole step old new commands yielded left replies run in_order (nothing_left left (sym long ∙ end))
 
-pub returns-clause-goes : goal.returns-clause-goes
-returns-clause-goes c =
+pub returns-clause-own : goal.returns-clause-own
+returns-clause-own g c =
     let at = c.loop-command in
-    carried_out (state_of c.args.self.now) (state_of at.self) c.args.commands.items at.yielded (into_iter_items at.command-iterator) at.replies.items _
+    carried_out _ (own_state c.args.self.now) (own_state at.self) c.args.commands.items at.yielded (into_iter_items at.command-iterator) at.replies.items _
     at.invariant.so_far (at.invariant.in_order ∙ c.into_iter-command-iterator.ensures.into_iter_gives.0) at.invariant.left c.in-None.ensures.steps.0
 
+pub returns-clause-goes : goal.returns-clause-goes
+returns-clause-goes g c = all_shown g.S.Storage.step g.S.TableStorage.shown g.met.S.TableStorage.accesses (returns-clause-own g c)
+
 pub returns-clause-stands : goal.returns-clause-stands
-returns-clause-stands c = λ agrees old. all_stand c.loop-command.invariant.so_far agrees old
+returns-clause-stands g c = λ agrees old. all_stand (returns-clause-goes g c) agrees old
 
 pub returns-clause-between : goal.returns-clause-between
-returns-clause-between c = λ agrees old. stand_between (returns-clause-goes c) agrees old
+returns-clause-between g c = λ agrees old. stand_between (returns-clause-goes g c) agrees old
 
 pub returns-clause-quiet : goal.returns-clause-quiet
-returns-clause-quiet c = λ q quiet old. all_moved q quiet old (returns-clause-goes c)
+returns-clause-quiet g c = λ q quiet old. all_moved q quiet old (returns-clause-goes g c)
 
 pub returns-clause-owns : goal.returns-clause-owns
-returns-clause-owns c = λ agrees old owned. all_own c.loop-command.invariant.so_far agrees old owned
+returns-clause-owns g c = λ agrees old owned. all_own (returns-clause-goes g c) agrees old owned
 
 pub returns-clause-unchanged : goal.returns-clause-unchanged
-returns-clause-unchanged c = λ q quiet old still. all_unchanged q quiet old c.loop-command.invariant.so_far still
+returns-clause-unchanged g c = λ q quiet old still. all_unchanged q quiet old (returns-clause-goes g c) still

@@ -1,0 +1,45 @@
+-- The accesses of a command, as a storage goes along them by its own steps.
+use Rattle.std.specs.Prelude.{◌≡◌, List, [], Option, Result, Ok, Err}
+use Rattle.iceoryx2_access.specs.Letter.{Letter}
+use Rattle.iceoryx2_access.specs.Registered.{Registered}
+use Rattle.iceoryx2_access.specs.Run.{Run}
+use Rattle.iceoryx2_create_and_open.specs.Answers.{map_err}
+use Rattle.iceoryx2_description.specs.declared.config.Config.{Config}
+use Rattle.iceoryx2_errors.specs.declared.error.CloseError.{CloseError}
+use Rattle.iceoryx2_open_or_create.specs.BuilderCalls.{ErrorBy}
+use Rattle.iceoryx2_open_or_create.specs.CallWords.{IsWordOf}
+use Rattle.iceoryx2_port_factory.specs.Closes.{IsCloseWord}
+use Rattle.iceoryx2_commands.specs.declared.command.Command.{Command}
+use Rattle.iceoryx2_commands.specs.declared.command.Command.TheVariants as command
+use Rattle.iceoryx2_commands.specs.declared.command.Refusal.{Refusal}
+use Rattle.iceoryx2_commands.specs.declared.command.Reply.{Reply}
+use Rattle.iceoryx2_commands.specs.declared.command.Reply.TheVariants as reply
+use Rattle.iceoryx2_session.specs.PatternCalls.{PatternCall}
+use Rattle.iceoryx2_session.specs.Patterns.{builder_call}
+use Rattle.iceoryx2_session.specs.Sessions.{SessionOver}
+use Rattle.iceoryx2_session.specs.Slots.{HoldsAt}
+
+-- a word of this builder call, whose answer is carried by that one
+abbrev pub IsBuilderWord : PatternCall → Result Registered Refusal → List Letter → Type 0
+IsBuilderWord b answer word =
+    (own : Result Registered (ErrorBy b.open_error b.create_error b.call.way))
+    × (answer ≡ map_err b.refusal_of own) × IsWordOf b.call word own
+
+-- The word of a command with its reply: that of the builder call, that of the close of what the slot holds, and
+-- with any other reply no access.
+abbrev pub IsCommandWord : Config → List (Option Registered) → Command → Reply → List Letter → Type 0
+IsCommandWord config slots (command.Call call) (reply.Opened slot number) word =
+    (f : Registered) × (number ≡ f.number) × IsBuilderWord (builder_call config call) (Ok f) word
+IsCommandWord config slots (command.Call call) (reply.Refused e) word =
+    IsBuilderWord (builder_call config call) (Err e) word
+IsCommandWord config slots (command.Close slot) (reply.Closed same) word =
+    (f : Registered) × HoldsAt slots slot f
+    × ((answer : Result (Unit {0}) (CloseError Registered)) × IsCloseWord f word answer)
+IsCommandWord config slots c a word = word ≡ []
+
+-- A command went along its word: by these steps the storage came from what it was to what it is.
+pub record GoesAlong {S : Type 0} (step : S → Letter → S → Type 0) (old : SessionOver S) (c : Command) (a : Reply)
+    (new : SessionOver S) : Type 0 where
+  pub word : List Letter
+  pub is_word : IsCommandWord old.config old.slots c a word
+  pub run : Run step old.table word new.table
