@@ -12,10 +12,6 @@ use Rattle.iceoryx2_open_or_create.specs.Adjusting.{OnlyRaises}
 use Rattle.iceoryx2_open_or_create.specs.BuilderCalls.{Way}
 use Rattle.iceoryx2_call_laws.proofs.calls.Headline.{as_promised, of_table}
 use Rattle.iceoryx2_builder.proofs.Adjusting.{events_only_raise, publish_subscribe_only_raises, request_response_only_raises}
-use Rattle.iceoryx2_event_builder.specs.Builder as event
-use Rattle.iceoryx2_publish_subscribe_builder.specs.Builder as publish_subscribe
-use Rattle.iceoryx2_request_response_builder.specs.Builder as request_response
-use Rattle.iceoryx2_commands.specs.declared.command.How.TheVariants as how
 use Rattle.iceoryx2_commands.specs.declared.command.Settings.{Settings}
 use Rattle.iceoryx2_commands.specs.declared.command.Settings.TheVariants as settings
 use Rattle.iceoryx2_commands.specs.declared.command.Call.{Call}

@@ -8,14 +8,11 @@ use Rattle.iceoryx2_world.specs.Across.{Agrees}
 use Rattle.iceoryx2_world.specs.Tables.{TableState}
 use Rattle.iceoryx2_world.proofs.Waiting.{idle_run}
 use Rattle.iceoryx2_world.proofs.agreement.Empty.{empty_agrees}
-use Rattle.iceoryx2_pattern.specs.declared.pattern.CreateRefusal.TheVariants as create_refusal
-use Rattle.iceoryx2_pattern.specs.declared.pattern.OpenRefusal.TheVariants as open_refusal
 use Rattle.iceoryx2_access.specs.Registered.{Registered}
 use Rattle.iceoryx2_call_laws.specs.Quiet.{Quiet, Shows, no_service}
 use Rattle.iceoryx2_call_laws.specs.QuietLaws.{HoldsTheSame}
 use Rattle.iceoryx2_call_laws.proofs.quiet.Listing.{lists_the_machine}
 use Rattle.iceoryx2_call_laws.proofs.quiet.Calls.{close_follows, empty_shows}
-use Rattle.iceoryx2_commands.specs.declared.command.How.TheVariants as how
 use Rattle.iceoryx2_commands.specs.declared.command.Command.{Command}
 use Rattle.iceoryx2_commands.specs.declared.command.Refusal.{Refusal}
 use Rattle.iceoryx2_commands.specs.declared.command.Reply.{Reply}
@@ -28,7 +25,6 @@ use Rattle.iceoryx2_session.specs.QuietSessions.{IsQuiet, AnswersCall, IsMoved, 
 use Rattle.iceoryx2_session.specs.QuietSessions as moves
 use Rattle.iceoryx2_call_laws.specs.QuietWays.{Answers, IsSteadyBy}
 use Rattle.iceoryx2_call_laws.proofs.quiet.Ways.{call_follows, refused_call}
-use Rattle.iceoryx2_open_or_create.specs.declared.open_or_create.OpenOrCreateRefusal.TheVariants as either
 use Rattle.iceoryx2_create_and_open.specs.Answers.{map_err}
 use Rattle.iceoryx2_session.proofs.Patterns.{call_is_steady}
 

@@ -17,7 +17,6 @@ use Rattle.iceoryx2_call_laws.specs.Tickets.{tickets_after}
 use Rattle.iceoryx2_call_laws.proofs.calls.Words.{agrees_throughout, stands_throughout, all_spared, close_spares}
 use Rattle.iceoryx2_call_laws.proofs.calls.Closed.{close_ok}
 use Rattle.iceoryx2_port_factory.specs.Closes.{IsCloseWord}
-use Rattle.iceoryx2_commands.specs.declared.command.How.TheVariants as how
 use Rattle.iceoryx2_commands.specs.declared.command.Command.{Command}
 use Rattle.iceoryx2_commands.specs.declared.command.Refusal.{Refusal}
 use Rattle.iceoryx2_commands.specs.declared.command.Reply.{Reply}

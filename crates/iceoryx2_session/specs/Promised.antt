@@ -9,7 +9,6 @@ use Rattle.iceoryx2_open_or_create.specs.Adjusting.{OnlyRaises}
 use Rattle.iceoryx2_open_or_create.specs.BuilderCalls.{ErrorBy}
 use Rattle.iceoryx2_open_or_create.specs.CallWords.{IsWordOf}
 use Rattle.iceoryx2_call_laws.specs.Headline.{IsAsPromised}
-use Rattle.iceoryx2_commands.specs.declared.command.How.TheVariants as how
 use Rattle.iceoryx2_commands.specs.declared.command.Command.{Command}
 use Rattle.iceoryx2_commands.specs.declared.command.Command.TheVariants as command
 use Rattle.iceoryx2_commands.specs.declared.command.Refusal.{Refusal}
