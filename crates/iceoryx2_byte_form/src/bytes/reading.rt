@@ -2,10 +2,11 @@
 
 ghost use Rattle.std.specs.Prelude.{◌≡◌, ◌<◌, ◌≤◌, None, length, OnOk};
 ghost use Rattle.iceoryx2_attribute.specs.Attributes.{AreAttributes};
-ghost use Rattle.iceoryx2_byte_form.specs.PartReading.{IsReadBy, bytes_at, text_at};
+ghost use Rattle.iceoryx2_description.specs.declared.description.MessagingPattern.TheVariants as pattern;
+ghost use Rattle.iceoryx2_byte_form.specs.PartReading.{IsReadBy, as_at, bytes_at, text_at};
 ghost use Rattle.iceoryx2_byte_form.specs.Reading.{pairs_at, more_at, attributes_at};
 ghost use Rattle.iceoryx2_byte_form.specs.Reading.{event_at, publish_subscribe_at, messages_at, request_response_at, pattern_at};
-ghost use Rattle.iceoryx2_byte_form.specs.Reading.{versioned_at, description_at, all_of};
+ghost use Rattle.iceoryx2_byte_form.specs.Reading.{versioned_at, all_of};
 
 use super::{
     DecodeError, EVENT_BYTE, MAGIC, PUBLISH_SUBSCRIBE_BYTE, REQUEST_RESPONSE_BYTE,
@@ -26,9 +27,12 @@ use iceoryx2_description::{event, publish_subscribe, request_response};
 use iceoryx2_types::types::MessageTypeDetails;
 use std::alloc::Global;
 
+// A function that is called pays at its entry for each value that it may hold. So the patterns are read by
+// functions that stay their own.
+#[inline(never)]
 #[tactic(auto, unfolding(crate::specs::Reading::event_at))]
-fn event_of(bytes: &[u8]) -> Result<(event::StaticConfig, &[u8]), DecodeError>
-    ensures { IsReadBy (λ x. (x.0, x.1.now)) result (event_at bytes.now) }
+fn event_of(bytes: &[u8]) -> Result<(MessagingPattern, &[u8]), DecodeError>
+    ensures { IsReadBy (λ x. (x.0, x.1.now)) result (as_at pattern.Event event_at bytes.now) }
 {
     let (max_notifiers, rest) = u64_at(bytes)?;
     let (max_listeners, rest) = u64_at(rest)?;
@@ -51,7 +55,7 @@ fn event_of(bytes: &[u8]) -> Result<(event::StaticConfig, &[u8]), DecodeError>
         Ok(found) => found,
     };
     Ok((
-        event::StaticConfig {
+        MessagingPattern::Event(event::StaticConfig {
             max_notifiers,
             max_listeners,
             event_id_max_value,
@@ -60,17 +64,18 @@ fn event_of(bytes: &[u8]) -> Result<(event::StaticConfig, &[u8]), DecodeError>
             notifier_dropped_event,
             notifier_dead_event,
             deadline,
-        },
+        }),
         rest,
     ))
 }
 
+#[inline(never)]
 #[tactic(auto, unfolding(crate::specs::Reading::publish_subscribe_at))]
 fn publish_subscribe_of(
     alloc: Global,
     bytes: &[u8],
-) -> Result<(publish_subscribe::StaticConfig, &[u8]), DecodeError>
-    ensures { IsReadBy (λ x. (x.0, x.1.now)) result (publish_subscribe_at bytes.now) }
+) -> Result<(MessagingPattern, &[u8]), DecodeError>
+    ensures { IsReadBy (λ x. (x.0, x.1.now)) result (as_at pattern.PublishSubscribe publish_subscribe_at bytes.now) }
 {
     let (max_publishers, rest) = u64_at(bytes)?;
     let (max_subscribers, rest) = u64_at(rest)?;
@@ -81,7 +86,7 @@ fn publish_subscribe_of(
     let (max_nodes, rest) = u64_at(rest)?;
     let (message_type_details, rest) = message_of(alloc, rest)?;
     Ok((
-        publish_subscribe::StaticConfig {
+        MessagingPattern::PublishSubscribe(publish_subscribe::StaticConfig {
             max_publishers,
             max_subscribers,
             subscriber_max_buffer_size,
@@ -90,7 +95,7 @@ fn publish_subscribe_of(
             enable_safe_overflow,
             max_nodes,
             message_type_details,
-        },
+        }),
         rest,
     ))
 }
@@ -110,12 +115,13 @@ fn messages_of(
     }
 }
 
+#[inline(never)]
 #[tactic(auto, unfolding(crate::specs::Reading::request_response_at))]
 fn request_response_of(
     alloc: Global,
     bytes: &[u8],
-) -> Result<(request_response::StaticConfig, &[u8]), DecodeError>
-    ensures { IsReadBy (λ x. (x.0, x.1.now)) result (request_response_at bytes.now) }
+) -> Result<(MessagingPattern, &[u8]), DecodeError>
+    ensures { IsReadBy (λ x. (x.0, x.1.now)) result (as_at pattern.RequestResponse request_response_at bytes.now) }
 {
     let (enable_safe_overflow_for_requests, rest) = truth_of(bytes)?;
     let (enable_safe_overflow_for_responses, rest) = truth_of(rest)?;
@@ -130,7 +136,7 @@ fn request_response_of(
     let (messages, rest) = messages_of(alloc, rest)?;
     let (request_message_type_details, response_message_type_details) = messages;
     Ok((
-        request_response::StaticConfig {
+        MessagingPattern::RequestResponse(request_response::StaticConfig {
             enable_safe_overflow_for_requests,
             enable_safe_overflow_for_responses,
             enable_fire_and_forget_requests,
@@ -143,7 +149,7 @@ fn request_response_of(
             max_nodes,
             request_message_type_details,
             response_message_type_details,
-        },
+        }),
         rest,
     ))
 }
@@ -154,18 +160,9 @@ fn pattern_of(alloc: Global, bytes: &[u8]) -> Result<(MessagingPattern, &[u8]), 
 {
     match bytes {
         [] => Err(DecodeError::Malformed),
-        [EVENT_BYTE, rest @ ..] => match event_of(rest) {
-            Err(error) => Err(error),
-            Ok((settings, rest)) => Ok((MessagingPattern::Event(settings), rest)),
-        },
-        [PUBLISH_SUBSCRIBE_BYTE, rest @ ..] => match publish_subscribe_of(alloc, rest) {
-            Err(error) => Err(error),
-            Ok((settings, rest)) => Ok((MessagingPattern::PublishSubscribe(settings), rest)),
-        },
-        [REQUEST_RESPONSE_BYTE, rest @ ..] => match request_response_of(alloc, rest) {
-            Err(error) => Err(error),
-            Ok((settings, rest)) => Ok((MessagingPattern::RequestResponse(settings), rest)),
-        },
+        [EVENT_BYTE, rest @ ..] => event_of(rest),
+        [PUBLISH_SUBSCRIBE_BYTE, rest @ ..] => publish_subscribe_of(alloc, rest),
+        [REQUEST_RESPONSE_BYTE, rest @ ..] => request_response_of(alloc, rest),
         [_, ..] => Err(DecodeError::Malformed),
     }
 }
@@ -248,20 +245,10 @@ fn versioned_of(bytes: &[u8]) -> Result<(Option<u64>, &[u8]), DecodeError>
     }
 }
 
-/// A description that tells no creator yet, with the one that was read.
-fn created_by(description: StaticConfig, creator: Option<u64>) -> StaticConfig
-    requires { description.creator ≡ None }
-    ensures { result ≡ record description { creator = creator } }
-{
-    match creator {
-        None => description,
-        Some(creator) => description.with_creator(creator),
-    }
-}
-
-#[tactic(auto, unfolding(crate::specs::Reading::description_at))]
-fn description_of(alloc: Global, bytes: &[u8]) -> Result<(StaticConfig, &[u8]), DecodeError>
-    ensures { IsReadBy (λ x. (x.0, x.1.now)) result (description_at bytes.now) }
+/// The description that all of the bytes are.
+#[tactic(auto, unfolding(crate::specs::Reading::description_at, crate::specs::Reading::all_of))]
+pub fn all(alloc: Global, bytes: &[u8]) -> Result<StaticConfig, DecodeError>
+    ensures { IsReadBy (λ d. d) result (all_of bytes.now) }
 {
     let rest = literal_of(&MAGIC, bytes)?;
     let (creator, rest) = versioned_of(rest)?;
@@ -269,23 +256,12 @@ fn description_of(alloc: Global, bytes: &[u8]) -> Result<(StaticConfig, &[u8]), 
     let (name, rest) = name_of(alloc, rest)?;
     let (attributes, rest) = attributes_of(alloc, rest)?;
     let (pattern, rest) = pattern_of(alloc, rest)?;
-    let description = StaticConfig::new(hash, name, attributes, pattern);
-    Ok((created_by(description, creator), rest))
-}
-
-/// The description that all of the bytes are.
-#[tactic(auto, unfolding(crate::specs::Reading::all_of))]
-pub fn all(alloc: Global, bytes: &[u8]) -> Result<StaticConfig, DecodeError>
-    ensures { IsReadBy (λ d. d) result (all_of bytes.now) }
-{
-    match description_of(alloc, bytes) {
-        Err(error) => Err(error),
-        Ok((description, rest)) => {
-            if rest.is_empty() {
-                Ok(description)
-            } else {
-                Err(DecodeError::Malformed)
-            }
-        }
+    if !rest.is_empty() {
+        return Err(DecodeError::Malformed);
     }
+    let description = StaticConfig::new(hash, name, attributes, pattern);
+    let Some(creator) = creator else {
+        return Ok(description);
+    };
+    Ok(description.with_creator(creator))
 }
