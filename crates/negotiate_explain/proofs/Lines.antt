@@ -1,0 +1,12 @@
+-- The lines of entries, one after the other.
+use Rattle.std.proofs.Common.{◌≡◌, ℕ, ◌+◌, ◌<◌, ◌≤◌, List, [], ◌++◌, length, drop, get_or, ap}
+use Rattle.std.proofs.lemmas.List.{drop_more, drop_all}
+use Rattle.iceoryx2_traced.specs.declared.traced.entry.Entry.{Entry}
+use Rattle.negotiate_explain.specs.Accesses.{entry_line, entry_lines}
+
+-- the next one, and those behind it
+pub next_line : (entries : List Entry) (i : ℕ) (e : Entry) → i < length entries → entry_lines (drop i entries) ≡ entry_line (get_or entries i e) ++ entry_lines (drop (i + 1) entries)
+next_line entries i e within = ap entry_lines (drop_more entries i e within)
+
+pub no_line : (entries : List Entry) (i : ℕ) → length entries ≤ i → entry_lines (drop i entries) ≡ []
+no_line entries i ends = ap entry_lines (drop_all i entries ends)

@@ -1,0 +1,9 @@
+pub mod Accesses
+pub mod Attributes
+pub mod Comparisons
+pub mod Offers
+pub mod Refusals
+pub mod Rows
+pub mod Settings
+pub mod Standing
+pub mod Values
