@@ -1,7 +1,8 @@
 //! The program `negotiate`: commands by line, over a table of its own.
 #![tactic(auto)]
 
-use negotiate_serve::serve;
+use negotiate_serve::ending::{Fault, NOT_A_COMMAND, status};
+use negotiate_serve::serve::{serve, tell_fault};
 use std::process::ExitCode;
 use std::{env, io};
 
@@ -17,12 +18,16 @@ fn has_arguments(rt: &HostRuntime) -> io::Result<bool> {
 /// Ends with status 0, with 2 at a line that is no command and where there are arguments, and with
 /// 3 where reading or writing fails or memory runs out outside a service call.
 fn main(rt: HostRuntime) -> ExitCode {
+    let mut output = io::writer(&rt);
     match has_arguments(&rt) {
-        Ok(false) => ExitCode::from(serve::serve(rt.alloc(), rt.reader(), io::writer(&rt))),
+        Ok(false) => ExitCode::from(status(serve(rt.alloc(), rt.reader(), &mut output))),
         Ok(true) => {
             let _ = eprintln!(rt; "usage: negotiate < LINES");
-            ExitCode::from(serve::NOT_A_COMMAND)
+            ExitCode::from(NOT_A_COMMAND)
         }
-        Err(error) => ExitCode::from(serve::end_by_fault(&error, &mut io::writer(&rt))),
+        Err(error) => {
+            let fault = tell_fault(Fault::of_reading(&error), &mut output);
+            ExitCode::from(status(Err(fault)))
+        }
     }
 }

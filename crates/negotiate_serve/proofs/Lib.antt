@@ -1,1 +1,6 @@
+pub mod Answering
+pub mod InputLines
+pub mod Shown
 pub mod Telling
+pub mod Turns
+pub mod Written

@@ -1,1 +1,6 @@
+pub mod Endings
+pub mod Inputs
+pub mod Outputs
 pub mod Replies
+pub mod Served
+pub mod Transcripts

@@ -1,102 +1,89 @@
-//! Lines in, replies out.
+//! The whole program: an input in, its transcript out.
 
-use crate::reply::describe;
-use iceoryx2_commands::command::Command;
+ghost use Rattle.std.specs.Prelude.{◌≡◌, ℕ, List, Some, OnOk};
+ghost use Rattle.iceoryx2_session.specs.SessionStates.{own_state};
+ghost use Rattle.negotiate_serve.specs.Transcripts.{first_machine};
+ghost use Rattle.negotiate_serve.specs.Served.{HasNothing, SaysFault, Serves, ShowsMachine, ShowsSome};
+
+use crate::answer::answer_lines;
+use crate::ending::{Ending, Fault};
+use crate::output::say;
 use iceoryx2_description::config::Config;
 use iceoryx2_session::session::Session;
 use iceoryx2_table::table::Table;
-use negotiate_lines::line::{self, Line};
-use std::alloc::{AllocError, Global};
-use std::io::{self, BufRead, BufReader, ErrorKind, Read, Write};
+use std::alloc::Global;
+use std::io::{BufRead, BufReader, Read, Write};
 
-/// The status after all lines were answered.
-pub const DONE: u8 = 0;
-
-/// The status after a line that is no command.
-pub const NOT_A_COMMAND: u8 = 2;
-
-/// The status after a fault of reading or writing, or where memory runs out.
-pub const FAULT: u8 = 3;
-
-/// Answers each line of the input on the output, and gives the status.
+/// Answers each line of an input, over a table of its own: it writes the input's transcript and nothing
+/// else, each reply before the next line is read, and tells how it ended. Whatever that is, the factories
+/// that are still open are closed.
 ///
-/// The status is 0 at the end of the input, and 2 after a line that is no command, which is
-/// answered by `line <k>: not a command`, counted from 1. It is 3 where reading or writing fails,
-/// and where memory runs out outside a service call, after `out of memory`. Whatever it is, the
-/// factories that are still open are closed.
-pub fn serve<R: Read + Drop, W: Write + Drop>(alloc: Global, input: R, mut output: W) -> u8 {
-    let mut session = Session::new(Config::default(), Table::new(alloc));
-    let status = match answer_lines(alloc, input, &mut output, &mut session) {
-        Ok(status) => status,
-        Err(error) => end_by_fault(&error, &mut output),
-    };
-    let _table = session.finish();
-    status
-}
-
-/// Writes `out of memory` where that is the fault, and gives the status after a fault, whether it
-/// could be written or not.
-pub fn end_by_fault<W: Write>(error: &io::Error, output: &mut W) -> u8 {
-    if error.kind() == ErrorKind::OutOfMemory {
-        let _ = output.write_all(b"out of memory\n");
-        let _ = output.flush();
-    }
-    FAULT
-}
-
-/// Answers each line by one write, and gives the status where nothing is at fault.
-fn answer_lines<R: Read + Drop, W: Write>(
+/// `Fault` where reading or writing fails, and where memory runs out outside a call, which is told. The
+/// writer has taken a front of a transcript then.
+pub fn serve<R: Read + Drop, W: Write>(
     alloc: Global,
     input: R,
     output: &mut W,
-    session: &mut Session<Table>,
-) -> io::Result<u8> {
-    let mut reader = BufReader::new(alloc, input)?;
-    let mut bytes = Vec::new(alloc);
-    let mut text = String::new(alloc);
-    for number in 1..u64::MAX {
-        bytes.clear();
-        if reader.read_until(b'\n', &mut bytes)? == 0 {
-            break;
+) -> Result<Ending, Fault>
+    ensures { (bytes : List ℕ) → R.remaining input ≡ Some bytes → (unread : List ℕ)
+        × Serves result bytes unread (W.contents output.old) (W.contents output.new) }
+{
+    match BufReader::new(alloc, input) {
+        Ok(mut reader) => {
+            let (ended, _table) = serve_lines(alloc, &mut reader, output);
+            ended
         }
-        text.clear();
-        let goes_on = answer_line(alloc, number, &bytes, session, &mut text)?;
-        output.write_all(text.as_bytes())?;
-        output.flush()?;
-        if !goes_on {
-            return Ok(NOT_A_COMMAND);
-        }
+        Err(error) => Err(tell_fault(Fault::of_reading(&error), output)),
     }
-    Ok(DONE)
 }
 
-/// Writes the answer to one line into the text, and tells whether it was a command, or blank.
-fn answer_line(
+/// Does so for what a reader has left, and gives the table back, in which nothing is left.
+fn serve_lines<R: BufRead, W: Write>(
     alloc: Global,
-    number: u64,
-    bytes: &[u8],
+    reader: &mut R,
+    output: &mut W,
+) -> (Result<Ending, Fault>, Table)
+    ensures serves { (input : List ℕ) → R.remaining reader.old ≡ Some input → (unread : List ℕ)
+        × Serves result.0 input unread (W.contents output.old) (W.contents output.new)
+        × OnOk result.0 (R.remaining reader.new ≡ Some unread) }
+    ensures finished { HasNothing result.1 }
+{
+    let config = Config::default();
+    let table = Table::new(alloc);
+    let mut session = Session::new(config, table);
+    let ended = serve_session(alloc, reader, output, &mut session);
+    (ended, session.finish())
+}
+
+/// Answers each line over a session that begins, and tells a fault.
+fn serve_session<R: BufRead, W: Write>(
+    alloc: Global,
+    reader: &mut R,
+    output: &mut W,
     session: &mut Session<Table>,
-    text: &mut String,
-) -> Result<bool, AllocError> {
-    match line::parse(alloc, line::without_end(bytes))? {
-        Line::Blank => Ok(true),
-        Line::NotACommand => {
-            writeln!(text, "line {number}: not a command")?;
-            Ok(false)
-        }
-        Line::Command(command) => {
-            let slot = slot_of(&command);
-            describe(&session.apply(command), slot, text)?;
-            Ok(true)
-        }
+) -> Result<Ending, Fault>
+    requires { ShowsMachine (own_state session.old) first_machine }
+    ensures serves { (input : List ℕ) → R.remaining reader.old ≡ Some input → (unread : List ℕ)
+        × Serves result input unread (W.contents output.old) (W.contents output.new)
+        × OnOk result (R.remaining reader.new ≡ Some unread) }
+    ensures stands { ShowsSome (own_state session.new) }
+{
+    match answer_lines(alloc, reader, output, session) {
+        Ok(ending) => Ok(ending),
+        Err(fault) => Err(tell_fault(fault, output)),
     }
 }
 
-/// The slot that a command names. A list names none, and no reply to it tells one.
-fn slot_of(command: &Command) -> usize {
-    match command {
-        Command::Call(call) => call.slot,
-        Command::Close { slot } => *slot,
-        Command::List => 0,
+/// Writes `out of memory` where that is the fault. Where it can't be written, writing is the fault.
+pub fn tell_fault<W: Write>(fault: Fault, output: &mut W) -> Fault
+    ensures { SaysFault fault result (W.contents output.old) (W.contents output.new) }
+{
+    match fault {
+        Fault::OutOfMemory => match say(b"out of memory\n", output) {
+            Ok(()) => Fault::OutOfMemory,
+            Err(writing) => writing,
+        },
+        Fault::Reading => Fault::Reading,
+        Fault::Writing => Fault::Writing,
     }
 }

@@ -1,7 +1,8 @@
 //! Readers and writers that fail, and memory that runs out.
 
 use crate::support::{Page, Pieces, assert_same, text_of};
-use negotiate_serve::serve::{end_by_fault, serve};
+use negotiate_serve::ending::{Fault, status};
+use negotiate_serve::serve::{serve, tell_fault};
 use std::alloc::Global;
 use std::io::{self, ErrorKind};
 use std::process::Abort;
@@ -27,8 +28,8 @@ fn read_until_fault(alloc: Global, fault: ErrorKind) -> (Vec<u8>, u8) {
         piece: 4,
         fault: Some(fault),
     };
-    let status = serve(alloc, input, &mut page);
-    (page.text, status)
+    let ended = serve(alloc, input, &mut page);
+    (page.text, status(ended))
 }
 
 #[test]
@@ -51,8 +52,8 @@ fn written(alloc: Global, room: usize, flushes: u64) -> (Vec<u8>, u8) {
         piece: 9,
         fault: None,
     };
-    let status = serve(alloc, input, &mut page);
-    (page.text, status)
+    let ended = serve(alloc, input, &mut page);
+    (page.text, status(ended))
 }
 
 /// How much room there is, and what is printed in it.
@@ -97,8 +98,8 @@ fn a_flush_that_fails_ends_the_program(rt: HostRuntime) {
 fn ended(alloc: Global, fault: ErrorKind, room: usize) -> (Vec<u8>, u8) {
     let mut page = Page::new(alloc);
     page.room = room;
-    let status = end_by_fault(&io::Error::from(fault), &mut page);
-    (page.text, status)
+    let fault = tell_fault(Fault::of_reading(&io::Error::from(fault)), &mut page);
+    (page.text, status(Err(fault)))
 }
 
 #[test]

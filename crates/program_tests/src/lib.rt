@@ -8,6 +8,8 @@ mod faults;
 #[cfg(test)]
 mod lines;
 #[cfg(test)]
+mod order;
+#[cfg(test)]
 mod replies;
 #[cfg(test)]
 mod scripts;

@@ -1,5 +1,6 @@
 //! A reader and a writer that tests hand to the program, and what it answers then.
 
+use negotiate_serve::ending::status;
 use negotiate_serve::serve::serve;
 use std::alloc::{AllocError, Global};
 use std::fmt::Debug;
@@ -81,8 +82,8 @@ pub fn answered(alloc: Global, input: &[u8], piece: usize) -> (Vec<u8>, u8) {
         piece,
         fault: None,
     };
-    let status = serve(alloc, pieces, &mut page);
-    (page.text, status)
+    let ended = serve(alloc, pieces, &mut page);
+    (page.text, status(ended))
 }
 
 /// Printed bytes as a text.

@@ -1,0 +1,25 @@
+-- How the program ends.
+use Rattle.std.specs.Prelude.{ℕ, Result, Ok, Err}
+use Rattle.std.specs.declared.io.ErrorKind.{ErrorKind}
+use Rattle.std.specs.declared.io.ErrorKind.TheVariants as kind
+use Rattle.negotiate_serve.specs.declared.ending.Ending.{Ending}
+use Rattle.negotiate_serve.specs.declared.ending.Ending.TheVariants as ending
+use Rattle.negotiate_serve.specs.declared.ending.Fault.{Fault}
+use Rattle.negotiate_serve.specs.declared.ending.Fault.TheVariants as fault
+
+-- 0 at the end of the input, 2 after a line that is no command, 3 after a fault
+abbrev pub status_of : Result Ending Fault → ℕ
+status_of (Ok ending.InputEnded) = 0
+status_of (Ok ending.NotACommand) = 2
+status_of (Err f) = 3
+
+-- what a read's error is: that memory ran out, or any other
+abbrev pub fault_of_reading : ErrorKind → Fault
+fault_of_reading kind.OutOfMemory = fault.OutOfMemory
+fault_of_reading _ = fault.Reading
+
+-- reading fails, or memory runs out in it
+abbrev pub IsOfReading : Fault → Type 0
+IsOfReading fault.Reading = Unit {0}
+IsOfReading fault.OutOfMemory = Unit {0}
+IsOfReading fault.Writing = ⊥

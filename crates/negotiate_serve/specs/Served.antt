@@ -1,0 +1,125 @@
+-- What the parts of the program do, one line at a time.
+use Rattle.std.specs.Prelude.{◌≡◌, ℕ, Bool, true, false, List, [], ◌∷◌, ◌++◌, Option, Some, None, Result, Ok, Err, OnOk}
+use Rattle.std.specs.Io.KnownBytes.{Appends}
+use Rattle.iceoryx2_description.specs.declared.description.ServiceHash.{ServiceHash}
+use Rattle.iceoryx2_description.specs.Defaults.{default_config}
+use Rattle.iceoryx2_world.specs.World.{ticket_of}
+use Rattle.iceoryx2_world.specs.Tables.{TableState}
+use Rattle.iceoryx2_call_laws.specs.QuietLaws.{HasNothingAt}
+use Rattle.iceoryx2_session.specs.Sessions.{SessionState}
+use Rattle.iceoryx2_session.specs.StandingSlots.{SlotsStand, OwnsTickets}
+use Rattle.iceoryx2_session.specs.QuietSessions.{IsQuiet}
+use Rattle.negotiate_lines.specs.declared.line.Line.TheVariants as line
+use Rattle.negotiate_lines.specs.Lines.{IsLine}
+use Rattle.negotiate_serve.specs.declared.ending.Ending.{Ending}
+use Rattle.negotiate_serve.specs.declared.ending.Fault.{Fault}
+use Rattle.negotiate_serve.specs.declared.ending.Fault.TheVariants as fault
+use Rattle.negotiate_serve.specs.Inputs.{BeginsWith}
+use Rattle.negotiate_serve.specs.Outputs.{IsFrontOf}
+use Rattle.negotiate_serve.specs.Transcripts.{Machine, AnswersLine, IsAnswered, EndsWith, IsTranscript, not_a_command}
+use Rattle.negotiate_serve.specs.Transcripts.{out_of_memory}
+
+-- ---- a session
+
+-- The session shows the machine: nobody else uses its table, which shows the machine's services, and its slots hold what
+-- those of the machine hold. Its factories stand, and each ticket is that of one of them.
+pub record ShowsMachine (s : SessionState) (m : Machine) : Type 0 where
+  pub configured : s.config ≡ default_config
+  pub quiet : IsQuiet s m.services
+  pub slots : s.slots ≡ m.slots
+  pub stand : SlotsStand s
+  pub owns : OwnsTickets s
+
+-- The session shows some machine.
+abbrev pub ShowsSome : SessionState → Type 0
+ShowsSome s = (m : Machine) × ShowsMachine s m
+
+-- Nothing of any service is left in a table, and no ticket.
+pub record HasNothing (t : TableState) : Type 0 where
+  pub services : (hash : ServiceHash) → HasNothingAt t.world hash
+  pub tickets : (ticket : ℕ) → ticket_of t.world ticket ≡ None
+
+-- ---- a line
+
+-- what is said of a line with this number, and whether the program goes on behind it
+abbrev pub IsSaidOf : (goes_on : Bool) → Machine → (number : ℕ) → (bytes said : List ℕ) → Machine → Type 0
+IsSaidOf true m k bytes said n = AnswersLine m bytes said n
+IsSaidOf false m k bytes said n = IsLine bytes line.NotACommand × (said ≡ not_a_command k)
+
+-- The text has grown by what is said of the line, and the session shows the machine after it.
+pub record SaysOfLine (goes_on : Bool) (m : Machine) (number : ℕ) (bytes old new : List ℕ) (s : SessionState)
+    : Type 0 where
+  pub said : List ℕ
+  pub machine : Machine
+  pub is_said : IsSaidOf goes_on m number bytes said machine
+  pub shows : ShowsMachine s machine
+  pub grown : new ≡ old ++ said
+
+-- ---- a turn: a line is read and answered
+
+-- how it ends, before a fault is told
+abbrev pub EndsUntold : Result Ending Fault → Machine → (number : ℕ) → (rest last unread : List ℕ) → Type 0
+EndsUntold (Err fault.OutOfMemory) m k rest last unread = last ≡ []
+EndsUntold ended m k rest last unread = EndsWith ended m k rest last unread
+
+-- The next line is answered.
+pub record GoesOn (m : Machine) (rest said : List ℕ) (left : Option (List ℕ)) (s : SessionState) : Type 0 where
+  pub bytes : List ℕ
+  pub behind : List ℕ
+  pub machine : Machine
+  pub begins : BeginsWith rest (bytes ∷ []) behind
+  pub answered : AnswersLine m bytes said machine
+  pub shows : ShowsMachine s machine
+  pub left_is : left ≡ Some behind
+
+-- It ends so, and what is unread then is left.
+pub record Stops (ended : Result Ending Fault) (m : Machine) (number : ℕ) (rest said : List ℕ)
+    (left : Option (List ℕ)) : Type 0 where
+  pub unread : List ℕ
+  pub ends : EndsUntold ended m number rest said unread
+  pub left_is : OnOk ended (left ≡ Some unread)
+
+-- the next line is answered, or it ends
+abbrev pub AnswersNext : Result (Option Ending) Fault → Machine → (number : ℕ) → (rest said : List ℕ)
+    → (left : Option (List ℕ)) → SessionState → Type 0
+AnswersNext (Ok None) m k rest said left s = GoesOn m rest said left s
+AnswersNext (Ok (Some e)) m k rest said left s = Stops (Ok e) m k rest said left
+AnswersNext (Err f) m k rest said left s = Stops (Err f) m k rest said left
+
+-- The writer has taken what is said in a turn.
+pub record TakesTurn (result : Result (Option Ending) Fault) (m : Machine) (number : ℕ) (rest : List ℕ)
+    (left : Option (List ℕ)) (s : SessionState) (old new : Option (List ℕ)) : Type 0 where
+  pub said : List ℕ
+  pub answers : AnswersNext result m number rest said left s
+  pub written : Appends old new said
+
+-- ---- all lines
+
+-- Lines are answered, and it ends so, with no fault told. The writer has taken what is said, and what is unread is left.
+pub record AnswersAll (ended : Result Ending Fault) (input : List ℕ) (left old new : Option (List ℕ)) : Type 0 where
+  pub said : List ℕ
+  pub unread : List ℕ
+  pub answered : IsAnswered (EndsUntold ended) input said unread
+  pub left_is : OnOk ended (left ≡ Some unread)
+  pub written : Appends old new said
+
+-- A fault is told: that memory ran out is said, and where that can't be written, writing is the fault.
+abbrev pub TellsFault : (before after : Fault) → (said : List ℕ) → Type 0
+TellsFault fault.OutOfMemory fault.OutOfMemory said = said ≡ out_of_memory
+TellsFault fault.OutOfMemory fault.Writing said = IsFrontOf said out_of_memory
+TellsFault fault.OutOfMemory fault.Reading said = ⊥
+TellsFault before after said = (after ≡ before) × (said ≡ [])
+
+-- A fault is told, and the writer has taken what is said of it.
+pub record SaysFault (before after : Fault) (old new : Option (List ℕ)) : Type 0 where
+  pub said : List ℕ
+  pub tells : TellsFault before after said
+  pub written : Appends old new said
+
+-- ---- the program
+
+-- The writer has taken the transcript of an input, and nothing else. This is unread then.
+pub record Serves (ended : Result Ending Fault) (input unread : List ℕ) (old new : Option (List ℕ)) : Type 0 where
+  pub said : List ℕ
+  pub transcript : IsTranscript input ended said unread
+  pub written : Appends old new said

@@ -1,0 +1,101 @@
+-- What the program says of an input. docs/PROGRAM.md tells the same in words.
+use Rattle.std.specs.Prelude.{◌≡◌, ℕ, ◌+◌, List, [], ◌∷◌, ◌++◌, Option, None, Result, Ok, Err}
+use Rattle.std.specs.Prelude.{codes, decimal, length, replicate}
+use Rattle.std.specs.List.{concat}
+use Rattle.iceoryx2_access.specs.Registered.{Registered}
+use Rattle.iceoryx2_description.specs.Defaults.{default_config}
+use Rattle.iceoryx2_call_laws.specs.Quiet.{Quiet, no_service}
+use Rattle.iceoryx2_commands.specs.declared.command.Command.{Command}
+use Rattle.iceoryx2_commands.specs.declared.command.Command.TheVariants as command
+use Rattle.iceoryx2_commands.specs.declared.command.Reply.{Reply}
+use Rattle.iceoryx2_commands.specs.Commands.{slot_count}
+use Rattle.iceoryx2_session.specs.CommandLists.{CarriesOut}
+use Rattle.iceoryx2_session.specs.QuietSessions.{Moves}
+use Rattle.negotiate_lines.specs.declared.line.Line.TheVariants as line
+use Rattle.negotiate_lines.specs.Lines.{IsLine}
+use Rattle.negotiate_serve.specs.declared.ending.Ending.{Ending}
+use Rattle.negotiate_serve.specs.declared.ending.Ending.TheVariants as ending
+use Rattle.negotiate_serve.specs.declared.ending.Fault.{Fault}
+use Rattle.negotiate_serve.specs.declared.ending.Fault.TheVariants as fault
+use Rattle.negotiate_serve.specs.Inputs.{BeginsWith}
+use Rattle.negotiate_serve.specs.Outputs.{IsFrontOf}
+use Rattle.negotiate_serve.specs.Replies.{Tells}
+
+-- ---- what answers
+
+-- A map from hashes to descriptions with a count for each node, and 64 slots with what each holds.
+pub record Machine : Type 0 where
+  pub services : Quiet
+  pub slots : List (Option Registered)
+
+-- It begins with no service, the number 0, and free slots.
+abbrev pub first_machine : Machine
+first_machine = record { services = no_service 0; slots = replicate slot_count None }
+
+-- the slot that a command names. A list names none, and no reply to it tells one.
+abbrev pub slot_named : Command → ℕ
+slot_named (command.Call call) = call.slot
+slot_named (command.Close slot) = slot
+slot_named command.List = 0
+
+-- A line is answered, by nothing where it is blank, and where it is a command by the text of the reply that the machine
+-- gives to it. This leaves the machine in a new state.
+pub data AnswersLine (m : Machine) : (line text : List ℕ) → Machine → Type 0 where
+  blank : {bytes : List ℕ} → IsLine bytes line.Blank → AnswersLine m bytes [] m
+  replied : {bytes text : List ℕ} {c : Command} {r : Reply} {n : Machine} → IsLine bytes (line.Command c)
+      → Moves default_config m.services m.slots c r n.services n.slots → Tells (slot_named c) r text
+      → AnswersLine m bytes text n
+
+-- what is said of the line with this number where it is neither blank nor a command
+abbrev pub not_a_command : ℕ → List ℕ
+not_a_command k = codes "line " ++ decimal k ++ codes ": not a command\n"
+
+-- what is said where memory runs out outside a call
+abbrev pub out_of_memory : List ℕ
+out_of_memory = codes "out of memory\n"
+
+-- ---- how it ends
+
+-- What comes next, behind the answers to lines: that to the next line, which has this number; that it is neither blank
+-- nor a command; or that memory ran out.
+pub data ComesNext (m : Machine) (k : ℕ) (rest : List ℕ) : List ℕ → Type 0 where
+  answer : {bytes text behind : List ℕ} {n : Machine}
+      → BeginsWith rest (bytes ∷ []) behind → AnswersLine m bytes text n → ComesNext m k rest text
+  no_command : {bytes behind : List ℕ}
+      → BeginsWith rest (bytes ∷ []) behind → IsLine bytes line.NotACommand → ComesNext m k rest (not_a_command k)
+  no_memory : ComesNext m k rest out_of_memory
+
+-- The next line, which has this number, is neither blank nor a command. Nothing behind it is read.
+pub record IsNoCommand (k : ℕ) (rest last unread : List ℕ) : Type 0 where
+  pub bytes : List ℕ
+  pub stands : BeginsWith rest (bytes ∷ []) unread
+  pub no_command : IsLine bytes line.NotACommand
+  pub said : last ≡ not_a_command k
+
+-- what is said last, behind the answers to lines, and what is left unread: at the end of the input, at a line that is
+-- neither blank nor a command, where reading failed, where memory ran out, and where the writer failed, which has taken
+-- a front of what comes next
+abbrev pub EndsWith : Result Ending Fault → Machine → (number : ℕ) → (rest last unread : List ℕ) → Type 0
+EndsWith (Ok ending.InputEnded) m k rest last unread = (rest ≡ []) × (last ≡ []) × (unread ≡ [])
+EndsWith (Ok ending.NotACommand) m k rest last unread = IsNoCommand k rest last unread
+EndsWith (Err fault.Reading) m k rest last unread = last ≡ []
+EndsWith (Err fault.OutOfMemory) m k rest last unread = last ≡ out_of_memory
+EndsWith (Err fault.Writing) m k rest last unread = (next : List ℕ) × ComesNext m k rest next × IsFrontOf last next
+
+-- The first lines of an input are answered one after the other, each by its text, and then it ends so. The number of the
+-- line that would be the next is counted from 1.
+pub record IsAnswered (Ends : Machine → ℕ → (rest last unread : List ℕ) → Type 0) (input said unread : List ℕ)
+    : Type 0 where
+  pub lines : List (List ℕ)
+  pub rest : List ℕ
+  pub begins : BeginsWith input lines rest
+  pub texts : List (List ℕ)
+  pub machine : Machine
+  pub answered : CarriesOut AnswersLine first_machine lines texts machine
+  pub last : List ℕ
+  pub ends : Ends machine (length lines + 1) rest last unread
+  pub are : said ≡ concat texts ++ last
+
+-- What the program says of an input, and what it leaves unread, where it ends so.
+abbrev pub IsTranscript : (input : List ℕ) → Result Ending Fault → (said unread : List ℕ) → Type 0
+IsTranscript input ended said unread = IsAnswered (EndsWith ended) input said unread

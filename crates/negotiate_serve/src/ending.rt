@@ -1,0 +1,71 @@
+//! How the program ends, and its status.
+
+ghost use Rattle.std.specs.Prelude.{◌≡◌};
+ghost use Rattle.std.specs.IoError.{error_kind};
+ghost use Rattle.negotiate_serve.specs.Endings.{IsOfReading, fault_of_reading, status_of};
+
+use std::alloc::AllocError;
+use std::io::{self, ErrorKind};
+
+/// The status after all lines were answered.
+pub const DONE: u8 = 0;
+
+/// The status after a line that is no command.
+pub const NOT_A_COMMAND: u8 = 2;
+
+/// The status after a fault of reading or writing, or where memory ran out.
+pub const FAULT: u8 = 3;
+
+/// How the program ends where nothing fails.
+#[derive(Clone, Copy, Debug, PartialEq, Eq)]
+pub enum Ending {
+    /// The input ended, and each of its lines was answered.
+    InputEnded,
+    /// A line is neither blank nor a command.
+    NotACommand,
+}
+
+/// What keeps the program from going on.
+#[derive(Clone, Copy, Debug, PartialEq, Eq)]
+pub enum Fault {
+    /// Reading failed, or there are 2^64 - 2 lines.
+    Reading,
+    /// Writing failed.
+    Writing,
+    /// Memory ran out outside a call.
+    OutOfMemory,
+}
+
+impl Fault {
+    /// The fault of a read that failed. That memory ran out is told apart.
+    pub fn of_reading(error: &io::Error) -> Fault
+        ensures is { result ≡ fault_of_reading (error_kind error.now) }
+        ensures of_reading { IsOfReading result }
+    {
+        match error.kind() {
+            ErrorKind::OutOfMemory => Fault::OutOfMemory,
+            _ => Fault::Reading,
+        }
+    }
+}
+
+impl From<AllocError> for Fault {
+    ghost use Rattle.negotiate_serve.specs.declared.ending.Fault.TheVariants as fault;
+
+    ghost from_gives = { λ _ given. given ≡ fault.OutOfMemory };
+
+    fn from(_error: AllocError) -> Fault {
+        Fault::OutOfMemory
+    }
+}
+
+/// The status with which the program ends.
+pub fn status(ended: Result<Ending, Fault>) -> u8
+    ensures { result ≡ status_of ended }
+{
+    match ended {
+        Ok(Ending::InputEnded) => DONE,
+        Ok(Ending::NotACommand) => NOT_A_COMMAND,
+        Err(_) => FAULT,
+    }
+}

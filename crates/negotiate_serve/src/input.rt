@@ -1,0 +1,29 @@
+//! What the program reads: an input, line by line.
+
+ghost use Rattle.std.specs.Prelude.{◌≡◌, ℕ, List, Some, IfOk, IfErr};
+ghost use Rattle.negotiate_serve.specs.Endings.{IsOfReading};
+ghost use Rattle.negotiate_serve.specs.Inputs.{ReadsLine};
+
+use crate::ending::Fault;
+use negotiate_lines::line::without_end;
+use std::io::BufRead;
+
+/// Reads the next line, without its end, in place of what `line` held, and tells whether there was one.
+///
+/// `Fault` where reading fails, or there is no memory for the line. The reader is not to be used then.
+pub fn next_line<R: BufRead>(reader: &mut R, line: &mut Vec<u8>) -> Result<bool, Fault>
+    ensures read { IfOk result (λ found. (input : List ℕ) → R.remaining reader.old ≡ Some input
+        → ReadsLine input found line.new.items (R.remaining reader.new)) }
+    ensures err { IfErr result IsOfReading }
+{
+    line.clear();
+    match reader.read_until(b'\n', line) {
+        Ok(0) => Ok(false),
+        Ok(_) => {
+            let length = without_end(line).len();
+            line.truncate(length);
+            Ok(true)
+        }
+        Err(error) => Err(Fault::of_reading(&error)),
+    }
+}
