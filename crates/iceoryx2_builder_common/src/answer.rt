@@ -13,8 +13,9 @@ pub fn hand_out<S: Service, K: Kind, E>(
     requires { IfOk answer (λ registration. K.is_of registration.description.pattern ≡ true) }
     ensures { result ≡ answer }
 {
-    match answer {
-        Ok(registration) => Ok(PortFactory::new(registration)),
-        Err(error) => Err(error),
-    }
+    let registration = match answer {
+        Ok(registration) => registration,
+        Err(error) => return Err(error),
+    };
+    Ok(PortFactory::new(registration))
 }

@@ -201,13 +201,12 @@ fn create_adjusted<P: Pattern, S: Storage>(
         None => {}
     }
     let stops = clock_stops(pattern.needs_clock(), &caller.clock);
-    match describe(pattern, caller, attributes) {
-        Ok(description) => {
-            let created = make_tagged(pattern, caller, stops, &description, storage);
-            registration_of(caller.node, created, description)
-        }
-        Err(_) => Err(pattern.create_refusal(CreateRefusal::OutOfMemory)),
-    }
+    let description = match describe(pattern, caller, attributes) {
+        Ok(description) => description,
+        Err(_) => return Err(pattern.create_refusal(CreateRefusal::OutOfMemory)),
+    };
+    let created = make_tagged(pattern, caller, stops, &description, storage);
+    registration_of(caller.node, created, description)
 }
 
 /// Where a created service stands.
@@ -225,13 +224,11 @@ fn registration_of<E>(
 ) -> Result<Registration, E>
     ensures { result ≡ map_ok (factory_of node description) created }
 {
-    match created {
-        Ok(created) => {
-            let Created { number, ticket } = created;
-            Ok(Registration::new(node, number, ticket, description))
-        }
-        Err(error) => Err(error),
-    }
+    let Created { number, ticket } = match created {
+        Ok(created) => created,
+        Err(error) => return Err(error),
+    };
+    Ok(Registration::new(node, number, ticket, description))
 }
 
 /// Makes the tag, and then the service, where the clock doesn't stop it.

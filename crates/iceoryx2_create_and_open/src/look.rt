@@ -4,7 +4,6 @@ ghost use Rattle.std.specs.Prelude.{◌≡◌, ℕ, List, Ok};
 ghost use Rattle.iceoryx2_byte_form.specs.Form.{IsForm};
 ghost use Rattle.iceoryx2_access.specs.Letter.{fetch_answer};
 ghost use Rattle.iceoryx2_access.specs.Run.{Joins};
-ghost use Rattle.iceoryx2_create_and_open.specs.Looks as looks;
 ghost use Rattle.iceoryx2_create_and_open.specs.Looks.{IsLookWord, LeadsTo, found_unless, sight_of};
 ghost use Rattle.iceoryx2_create_and_open.specs.Refusals as refusals;
 ghost use Rattle.iceoryx2_create_and_open.specs.Refusals.{of_state, of_state_opening};
@@ -156,14 +155,20 @@ fn read<P: Pattern>(
 ) -> Outcome<P::OpenError>
     ensures { LeadsTo (P.meaning pattern.now) hash.now (Ok (number, bytes.now)) result }
 {
-    match decode(alloc, bytes) {
-        Ok(description) => {
-            let fault = fault_of(pattern, hash, &description);
-            found_unless(fault, number, description)
+    let description = match decode(alloc, bytes) {
+        Ok(description) => description,
+        Err(DecodeError::Malformed) => return Outcome::Faulty(Fault::State(
+            ServiceState::Corrupted,
+        )),
+        Err(DecodeError::OutOfMemory) => {
+            return Outcome::Faulty(Fault::State(ServiceState::OutOfMemory));
         }
-        Err(DecodeError::Malformed) => Outcome::Faulty(Fault::State(ServiceState::Corrupted)),
-        Err(DecodeError::OutOfMemory) => Outcome::Faulty(Fault::State(ServiceState::OutOfMemory)),
+    };
+    match fault_of(pattern, hash, &description) {
+        Some(fault) => return Outcome::Faulty(fault),
+        None => {}
     }
+    Outcome::Found(number, description)
 }
 
 /// Why a description is none of the service that is looked for. `None`: it is of the hash, and fits the pattern.
@@ -181,15 +186,5 @@ fn fault_of<P: Pattern>(
     match pattern.misfit(description) {
         Some(error) => Some(Fault::Misfit(error)),
         None => None,
-    }
-}
-
-/// A service that was read, unless a fault was seen in it.
-fn found_unless<E>(fault: Option<Fault<E>>, number: u64, description: StaticConfig) -> Outcome<E>
-    ensures { result ≡ looks.found_unless fault number description }
-{
-    match fault {
-        Some(fault) => Outcome::Faulty(fault),
-        None => Outcome::Found(number, description),
     }
 }

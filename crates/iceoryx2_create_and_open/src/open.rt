@@ -147,11 +147,12 @@ fn registration_of<E>(
 ) -> Option<Result<Registration, E>>
     ensures { result ≡ parts.round_registration node number description answer }
 {
-    match answer {
-        Some(Ok(ticket)) => Some(Ok(Registration::new(node, number, ticket, description))),
-        Some(Err(error)) => Some(Err(error)),
-        None => None,
-    }
+    let ticket = match answer {
+        Some(Ok(ticket)) => ticket,
+        Some(Err(error)) => return Some(Err(error)),
+        None => return None,
+    };
+    Some(Ok(Registration::new(node, number, ticket, description)))
 }
 
 /// One round. `None` asks for another one.
@@ -164,14 +165,13 @@ fn try_open<P: Pattern, S: Storage>(
     ensures { let meaning = requiring verifier.now (P.meaning pattern.now) in
         Joins S.step storage.old (λ word. IsRound meaning caller.now.node caller.now.hash word result) storage.new }
 {
-    match look(pattern, caller, storage) {
-        Outcome::Faulty(fault) => Some(Err(open_error_of(pattern, fault))),
-        Outcome::Nothing => Some(Err(pattern.open_refusal(OpenRefusal::DoesNotExist))),
-        Outcome::Found(number, description) => {
-            let answer = open_found(pattern, caller, verifier, number, &description, storage);
-            registration_of(caller.node, number, answer, description)
-        }
-    }
+    let (number, description) = match look(pattern, caller, storage) {
+        Outcome::Faulty(fault) => return Some(Err(open_error_of(pattern, fault))),
+        Outcome::Nothing => return Some(Err(pattern.open_refusal(OpenRefusal::DoesNotExist))),
+        Outcome::Found(number, description) => (number, description),
+    };
+    let answer = open_found(pattern, caller, verifier, number, &description, storage);
+    registration_of(caller.node, number, answer, description)
 }
 
 /// Opens the caller's service, in at most six rounds.

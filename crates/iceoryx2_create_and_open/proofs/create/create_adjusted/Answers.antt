@@ -12,8 +12,8 @@ returns-in-Some g c = joins (forbidden (sym c.in-Some.ensures)) done
 pub returns-in-Some-obstacle : goal.returns-in-Some-obstacle
 returns-in-Some-obstacle g c = let first = c.in-Some-obstacle.ensures in joins (not_entered (sym c.in-None.ensures) (enters _ _ _ first.is_word)) first.run
 
-pub returns-in-Ok : goal.returns-in-Ok
-returns-in-Ok g c =
+pub returns : goal.returns
+returns g c =
     let first = c.in-None-obstacle.ensures in
     let rest = rw (c.in-Ok.ensures, c.clock_stops-stops.ensures, c.needs_clock.ensures) at c.make_tagged-created.ensures in
     rw (c.registration_of.ensures, c.in-Ok.ensures) (joins (creates _ _ _ (rest.is_word _ first.is_word (sym c.in-None.ensures))) (both first.run rest.run))

@@ -1,8 +1,11 @@
 use Rattle.iceoryx2_create_and_open.specs.Looks.{not_decoded, malformed}
 use Rattle.iceoryx2_create_and_open.proofs.look.read.Goals as goal
 
-pub returns-in-Ok : goal.returns-in-Ok
-returns-in-Ok g c = rw c.found_unless.ensures (c.fault_of-fault.ensures c.args.number c.args.bytes.now c.in-Ok.ensures.found)
+pub returns-in-Some : goal.returns-in-Some
+returns-in-Some g c = c.in-Some.ensures c.args.number c.args.bytes.now c.in-Ok.ensures.found
+
+pub returns : goal.returns
+returns g c = c.in-None.ensures c.args.number c.args.bytes.now c.in-Ok.ensures.found
 
 pub returns-in-Err-Malformed : goal.returns-in-Err-Malformed
 returns-in-Err-Malformed g c = malformed (λ d form. let why = c.in-Err-Malformed.ensures.only d form in let said = c.in-Err-Malformed.field-0-is in cc)

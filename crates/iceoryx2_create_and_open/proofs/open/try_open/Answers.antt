@@ -9,8 +9,8 @@ returns-in-Faulty g c = let seen = c.in-Faulty.ensures in rw c.open_error_of.ens
 pub returns-in-Nothing : goal.returns-in-Nothing
 returns-in-Nothing g c = let seen = c.in-Nothing.ensures in rw c.open_refusal.ensures (joins (look_none (looks _ _ _ seen.is_word)) seen.run)
 
-pub returns-in-Found : goal.returns-in-Found
-returns-in-Found g c =
+pub returns : goal.returns
+returns g c =
     let seen = c.in-Found.ensures in
     let more = c.open_found-answer.ensures in
     rw c.registration_of.ensures (joins (more.is_word _ (looks _ _ _ seen.is_word)) (both seen.run more.run))
