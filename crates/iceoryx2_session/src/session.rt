@@ -9,11 +9,12 @@ use crate::slots::Slots;
 use crate::table_storage::{StandsIn, TableStorage};
 use crate::{closing, events, publish_subscribe, request_response};
 use iceoryx2_access::storage::Storage;
-use iceoryx2_builder::builder::Node;
+use iceoryx2_builder::builder::{self, event};
+use iceoryx2_builder_common::base::BuilderWithServiceType;
 use iceoryx2_commands::command::{Call, Command, Refusal, Reply, SLOTS, Settings};
 use iceoryx2_description::config::Config;
 use iceoryx2_port_factory::port_factory::Registration;
-use iceoryx2_types::types::{CustomHeaderMarker, CustomPayloadMarker, Slice};
+use iceoryx2_types::types::CustomHeaderMarker;
 use std::alloc::AllocError;
 
 /// A storage that shows a table, and 64 slots for the factories that commands open over it. It has to be
@@ -24,9 +25,10 @@ pub struct Session<S> {
     slots: Slots,
 }
 
-/// The builder call of a command.
-fn build<S: Storage>(config: Config, call: Call, storage: &mut S) -> Result<Registration, Refusal>
-    ensures { BuildsBy S.step (builder_call config call) storage.old result storage.new }
+/// The builder call of a command. The builder begins with the settings of its own pattern alone, so that those of
+/// the others aren't copied.
+fn build<S: Storage>(config: &Config, call: Call, storage: &mut S) -> Result<Registration, Refusal>
+    ensures { BuildsBy S.step (builder_call config.now call) storage.old result storage.new }
 {
     let Call {
         how,
@@ -37,20 +39,21 @@ fn build<S: Storage>(config: Config, call: Call, storage: &mut S) -> Result<Regi
         attributes,
         now,
     } = call;
-    let builder = Node::<StandsIn<S>>::new(node, config).service_builder(name);
+    let base = BuilderWithServiceType::<StandsIn<S>>::new(node, name);
     match settings {
         Settings::Event(settings) => {
-            events::call(builder.event(), settings, attributes, how, now, storage)
+            let builder = event::Builder::new(base, config.event);
+            events::call(builder, settings, attributes, how, now, storage)
         }
         Settings::PublishSubscribe(settings) => {
-            let builder = builder
-                .publish_subscribe::<Slice<CustomPayloadMarker>>()
-                .user_header::<CustomHeaderMarker>();
+            let builder = builder::publish_subscribe::Builder::new(
+                base,
+                config.publish_subscribe,
+            ).user_header::<CustomHeaderMarker>();
             publish_subscribe::call(builder, settings, attributes, how, storage)
         }
         Settings::RequestResponse(settings) => {
-            let builder = builder
-                .request_response::<Slice<CustomPayloadMarker>, Slice<CustomPayloadMarker>>()
+            let builder = builder::request_response::Builder::new(base, config.request_response)
                 .request_user_header::<CustomHeaderMarker>()
                 .response_user_header::<CustomHeaderMarker>();
             request_response::call(builder, settings, attributes, how, storage)
@@ -205,7 +208,7 @@ impl<S: TableStorage> Session<S> {
         if self.slots.is_taken(slot) {
             return Reply::SlotInUse;
         }
-        match build(self.config, call, &mut self.storage) {
+        match build(&self.config, call, &mut self.storage) {
             Ok(registration) => {
                 let number = registration.number();
                 self.slots.put(slot, registration);

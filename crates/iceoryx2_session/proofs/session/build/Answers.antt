@@ -34,20 +34,20 @@ moved step call_of b d s answer t e built = subst (λ x. BuildsBy step (call_of 
 pub returns-in-Event : goal.returns-in-Event
 returns-in-Event g c =
     let call = c.args.call in
-    let fresh = rw (c.service_builder-builder.ensures, c.new.ensures) at c.event.ensures in
-    chosen g.S.Storage.step c.args.config call _ _ _ _ c.in-Event.is
+    let fresh = rw c.new-base.ensures at c.new-builder.ensures in
+    chosen g.S.Storage.step c.args.config.now call _ _ _ _ c.in-Event.is
     (moved g.S.Storage.step (λ (b : EventBuilderState). event_pattern_call (with_settings event.with_setting b c.in-Event.settings.items) (way_of call.how) call.attributes call.now) _ _ _ _ _ fresh c.call.ensures)
 
 pub returns-in-PublishSubscribe : goal.returns-in-PublishSubscribe
 returns-in-PublishSubscribe g c =
     let call = c.args.call in
-    let fresh = rw (c.publish_subscribe.ensures, c.service_builder-builder.ensures, c.new.ensures) at c.user_header-builder.ensures in
-    chosen g.S.Storage.step c.args.config call _ _ _ _ c.in-PublishSubscribe.is
+    let fresh = rw (c.new.ensures, c.new-base.ensures) at c.user_header-builder.ensures in
+    chosen g.S.Storage.step c.args.config.now call _ _ _ _ c.in-PublishSubscribe.is
     (moved g.S.Storage.step (λ (b : PublishSubscribeBuilderState). publish_subscribe_pattern_call (with_settings publish_subscribe.with_setting b c.in-PublishSubscribe.settings.items) (way_of call.how) call.attributes) _ _ _ _ _ fresh c.call-in-PublishSubscribe.ensures)
 
 pub returns-in-RequestResponse : goal.returns-in-RequestResponse
 returns-in-RequestResponse g c =
     let call = c.args.call in
-    let fresh = rw (c.request_user_header.ensures, c.request_response.ensures, c.service_builder-builder.ensures, c.new.ensures) at c.response_user_header-builder.ensures in
-    chosen g.S.Storage.step c.args.config call _ _ _ _ c.in-RequestResponse.is
+    let fresh = rw (c.request_user_header.ensures, c.new-in-RequestResponse.ensures, c.new-base.ensures) at c.response_user_header-builder.ensures in
+    chosen g.S.Storage.step c.args.config.now call _ _ _ _ c.in-RequestResponse.is
     (moved g.S.Storage.step (λ (b : RequestResponseBuilderState). request_response_pattern_call (with_settings request_response.with_setting b c.in-RequestResponse.settings.items) (way_of call.how) call.attributes) _ _ _ _ _ fresh c.call-in-RequestResponse.ensures)
