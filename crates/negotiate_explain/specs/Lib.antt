@@ -1,6 +1,7 @@
 pub mod Accesses
 pub mod Attributes
 pub mod Comparisons
+pub mod Diagrams
 pub mod Offers
 pub mod Refusals
 pub mod Rows

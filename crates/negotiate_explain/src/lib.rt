@@ -3,6 +3,7 @@
 #![tactic(auto)]
 
 pub mod accesses;
+pub mod diagram;
 pub mod refusals;
 pub mod settings;
 pub mod standing;

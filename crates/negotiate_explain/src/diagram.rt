@@ -1,0 +1,142 @@
+//! A Mermaid sequence diagram of nodes and the storage.
+
+ghost use Rattle.std.specs.Prelude.{◌≡◌, ◌++◌, OnOk, drop, string_bytes};
+ghost use Rattle.std.specs.List.{flat_map};
+ghost use Rattle.negotiate_explain.specs.Diagrams.{answered_line, asked_line, caller_of};
+ghost use Rattle.negotiate_explain.specs.Diagrams.{escaped, message_lines, messages, note_head, note_line};
+
+use iceoryx2_traced::traced::{Entry, Traced};
+use std::alloc::AllocError;
+
+/// What a diagram begins with.
+pub const HEAD: &str = "sequenceDiagram\n    participant storage\n";
+
+/// Writes the latest accesses of a traced storage, so many as a command made, as messages between a node
+/// and the storage. Each is of the node that it names, and `exists`, which names none, of the caller.
+/// `AllocError` where the text finds no memory.
+pub fn draw_accesses<S>(
+    traced: &Traced<S>,
+    made: u64,
+    caller: u64,
+    text: &mut String,
+) -> Result<(), AllocError>
+    ensures { OnOk result (string_bytes text.new
+        ≡ string_bytes text.old ++ messages caller made traced.now.entries) }
+{
+    draw_from(
+        traced.len().saturating_sub(made as usize),
+        traced,
+        caller,
+        text,
+    )
+}
+
+/// Writes the accesses from this entry on.
+#[tactic(auto, using(crate::proofs::Lines::next_messages, crate::proofs::Lines::no_message))]
+fn draw_from<S>(
+    first: usize,
+    traced: &Traced<S>,
+    caller: u64,
+    text: &mut String,
+) -> Result<(), AllocError>
+    ensures { OnOk result (string_bytes text.new
+        ≡ string_bytes text.old ++ flat_map (message_lines caller) (drop first traced.now.entries)) }
+{
+    for index in first..traced.len() {
+        match traced.get(index) {
+            Some(entry) => draw_access(entry, caller, text)?,
+            None => {}
+        }
+    }
+    Ok(())
+}
+
+/// Writes an access and its answer.
+fn draw_access(entry: &Entry, caller: u64, text: &mut String) -> Result<(), AllocError>
+    ensures { OnOk result (string_bytes text.new ≡ string_bytes text.old ++ message_lines caller entry.now) }
+{
+    let node = node_of(entry, caller);
+    draw_asked(node, entry.access(), text)?;
+    draw_answered(node, entry, text)
+}
+
+/// Writes what the node asks.
+#[tactic(auto, unfolding(crate::specs::Diagrams::asked_line))]
+fn draw_asked(node: u64, access: &str, text: &mut String) -> Result<(), AllocError>
+    ensures { OnOk result (string_bytes text.new ≡ string_bytes text.old ++ asked_line node access.now) }
+{
+    writeln!(text, "    node {node}->>storage: {access}")
+}
+
+/// Writes what the storage answers it.
+#[tactic(auto, unfolding(crate::specs::Diagrams::answered_line))]
+fn draw_answered(node: u64, entry: &Entry, text: &mut String) -> Result<(), AllocError>
+    ensures { OnOk result (string_bytes text.new ≡ string_bytes text.old ++ answered_line node entry.now) }
+{
+    writeln!(text, "    storage-->>node {node}: {entry}")
+}
+
+/// The node that an access names, or else the caller.
+fn node_of(entry: &Entry, caller: u64) -> u64
+    ensures { result ≡ caller_of caller entry.now }
+{
+    match entry {
+        Entry::Exists { .. } => caller,
+        Entry::Fetch { node, .. } => *node,
+        Entry::Counts { node, .. } => *node,
+        Entry::MakeTag { node, .. } => *node,
+        Entry::RemoveTag { node, .. } => *node,
+        Entry::Lock { node, .. } => *node,
+        Entry::MakeSegment { node, .. } => *node,
+        Entry::RemoveSegment { node, .. } => *node,
+        Entry::RemoveDescription { node, .. } => *node,
+        Entry::Publish { node, .. } => *node,
+        Entry::OpenSegment { node, .. } => *node,
+        Entry::Release { node, .. } => *node,
+    }
+}
+
+/// Writes a note with this text over the storage. What would end the note or be taken for a mark of
+/// Mermaid's is written as an entity, and a line's end as `<br/>`. `AllocError` where there is no memory.
+pub fn draw_note(text: &[u8], diagram: &mut Vec<u8>) -> Result<(), AllocError>
+    ensures { OnOk result (diagram.new.items ≡ diagram.old.items ++ note_line text.now) }
+{
+    draw_head(diagram)?;
+    draw_text(text, diagram)?;
+    diagram.extend_from_slice(b"\n")
+}
+
+/// Writes what a note begins with.
+#[tactic(auto, unfolding(crate::specs::Diagrams::note_head))]
+fn draw_head(diagram: &mut Vec<u8>) -> Result<(), AllocError>
+    ensures { OnOk result (diagram.new.items ≡ diagram.old.items ++ note_head) }
+{
+    diagram.extend_from_slice(b"    Note over storage: ")
+}
+
+/// Writes the bytes of a note.
+fn draw_text(text: &[u8], diagram: &mut Vec<u8>) -> Result<(), AllocError>
+    ensures { OnOk result (diagram.new.items ≡ diagram.old.items ++ flat_map escaped text.now) }
+{
+    for byte in text {
+        draw_byte(*byte, diagram)?;
+    }
+    Ok(())
+}
+
+/// Writes one byte of a note.
+fn draw_byte(byte: u8, diagram: &mut Vec<u8>) -> Result<(), AllocError>
+    ensures { OnOk result (diagram.new.items ≡ diagram.old.items ++ escaped byte) }
+{
+    match byte {
+        b'\n' => diagram.extend_from_slice(b"<br/>"),
+        b'#' => diagram.extend_from_slice(b"#35;"),
+        b'%' => diagram.extend_from_slice(b"#37;"),
+        b'&' => diagram.extend_from_slice(b"#38;"),
+        b';' => diagram.extend_from_slice(b"#59;"),
+        b'<' => diagram.extend_from_slice(b"#60;"),
+        b'>' => diagram.extend_from_slice(b"#62;"),
+        0..=31 | 127 => diagram.extend_from_slice(b" "),
+        _ => diagram.extend_from_slice(&[byte]),
+    }
+}
