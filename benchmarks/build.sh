@@ -1,4 +1,4 @@
-# Builds the proved layer and the driver: sourced by run.sh and by guard.
+# Builds the proved layer and the driver: sourced by run.sh, by guard and by kit/count.
 set -eu
 
 top=$(cd "$(dirname "${BASH_SOURCE[0]}")/.." && pwd)
@@ -33,28 +33,38 @@ copy_crates() {
             [ ! -e "$crate/$part" ] || cp -a "$crate/$part" "$scratch/crates/$name/"
         done
     done
-    rm -f "$scratch"/crates/measured/src/*
-    for file in "$top"/benchmarks/measured/*.rattle; do
-        cp "$file" "$scratch/crates/measured/src/$(basename "$file" .rattle).rt"
+    copy_library measured "$scratch" "negotiate_serve negotiate_lines $libraries libc"
+}
+
+# Puts a static library beside the crates of a repository: a folder of benchmarks/ whose files end in `.rattle`.
+copy_library() {
+    local name=$1 repository=$2 below=$3
+    mkdir -p "$repository/crates/$name/src"
+    rm -f "$repository/crates/$name/src"/*
+    for file in "$top/benchmarks/$name"/*.rattle; do
+        cp "$file" "$repository/crates/$name/src/$(basename "$file" .rattle).rt"
     done
-    cp "$top/crates.txt" "$scratch/crates.txt"
-    echo "measured staticlib: negotiate_serve negotiate_lines $libraries libc" >>"$scratch/crates.txt"
+    echo "$name staticlib: $below" >>"$repository/crates.txt"
 }
 
 prove_library() {
-    (cd "$scratch/crates/measured" && rt lib) >"$scratch/proof.log" 2>&1 || {
+    local name=$1 repository=$2
+    (cd "$repository/crates/$name" && rt lib) >"$scratch/proof.log" 2>&1 || {
         tail -n 40 "$scratch/proof.log" >&2
         exit 1
     }
 }
 
-# The driver, built for the processors that rt builds for. Its SHA-1 is Debian's package of the crate sha1.
-build_driver() {
+# A program in Rust with its library, built for the processors that rt builds for. Its SHA-1 is Debian's package of
+# the crate sha1.
+build_program() {
+    local sources_of_it=$1 built=$2 library=$3 repository=$4
+    local kit
     kit=$(dirname "$(rt doc)")
-    rm -rf "$scratch/driver/src"
-    mkdir -p "$scratch/driver/.cargo"
-    cp -a "$top/benchmarks/driver/Cargo.toml" "$top/benchmarks/driver/src" "$scratch/driver/"
-    cat >"$scratch/driver/.cargo/config.toml" <<CONFIG
+    rm -rf "$built/src"
+    mkdir -p "$built/.cargo"
+    cp -a "$sources_of_it/Cargo.toml" "$sources_of_it/src" "$built/"
+    cat >"$built/.cargo/config.toml" <<CONFIG
 [source.crates-io]
 replace-with = "debian"
 
@@ -64,22 +74,22 @@ directory = "$sources"
 [build]
 rustflags = [
     "-C", "target-cpu=x86-64-v2",
-    "-L", "native=$scratch/crates/measured/out",
+    "-L", "native=$repository/crates/$library/out",
     "-L", "native=$kit/c",
-    "-l", "static=measured",
+    "-l", "static=$library",
     "-l", "static=libc_c",
     "-l", "static=os_c",
 ]
 CONFIG
-    touch "$scratch/driver/src/main.rs"
-    (cd "$scratch/driver" && cargo build --quiet --release --offline)
+    touch "$built/src/main.rs"
+    (cd "$built" && cargo build --quiet --release --offline)
 }
 
 build() {
     need "$sources/sha1-0.10.*" librust-sha1-dev
     copy_crates
-    prove_library
-    build_driver
+    prove_library measured "$scratch"
+    build_program "$top/benchmarks/driver" "$scratch/driver" measured "$scratch"
 }
 
 # What was measured, and where.
@@ -93,14 +103,16 @@ describe_run() {
 }
 
 # Counts the instructions of each section of a program's run, beside so many standing services. Without
-# `rep movsb`, of which valgrind counts each byte.
+# `rep movsb`, of which valgrind counts each byte. Further options for callgrind stand in `callgrind_options`.
+callgrind_options=()
+
 count_sections() {
     local program=$1 counts=$scratch/counts-$1
     shift
     rm -rf "$counts"
     mkdir -p "$counts"
     GLIBC_TUNABLES=glibc.cpu.x86_rep_movsb_threshold=2000000000 \
-        valgrind --tool=callgrind --compress-strings=no --dump-before='clock_gettime*' \
+        valgrind --tool=callgrind --compress-strings=no "${callgrind_options[@]}" --dump-before='clock_gettime*' \
         --callgrind-out-file="$counts/out" \
         "$driver" sections "$program" "$@" >"$counts/sections" 2>"$counts/log"
 }

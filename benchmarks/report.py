@@ -4,6 +4,7 @@ import csv
 import math
 import re
 import statistics
+import subprocess
 import sys
 from pathlib import Path
 
@@ -281,6 +282,76 @@ def report_instructions(folder):
     table(["part", "program", "all"] + groups, rows)
 
 
+# What is explained: of each part, what the proved layer takes more than the plain one over vectors.
+EXPLAINED = [("event create", 0), ("event open", 0), ("event last close", 0), ("rr create", 0), ("line", 0),
+             ("creates by node 1", 1000), ("open and close by node 2", 1000), ("create and close beside", 1000),
+             ("list", 1000)]
+CAUSES = ["SHA-1", "zeros in place", "copies and zeros", "memory", "comparisons", "the rest"]
+# A create's hash is made in these.
+HASHING = re.compile(r"into_caller|ServiceHash::of")
+
+
+def stores_of_zeros(program):
+    """The addresses of a program's instructions that store zeros, told in the order of its code."""
+    code = subprocess.run(["objdump", "-d", "--no-show-raw-insn", program], capture_output=True, text=True,
+                          check=True).stdout
+    found, zeroed = set(), set()
+    for line in code.splitlines():
+        instruction = re.match(r"\s*([0-9a-f]+):\s+(.*)", line)
+        if line.endswith(">:"):
+            zeroed = set()
+        if not instruction:
+            continue
+        address, text = int(instruction.group(1), 16), instruction.group(2).strip()
+        cleared = re.match(r"v?(?:xorps|pxor)\s+%(xmm\d+),%\1(?:,%\1)?$", text)
+        stored = re.match(r"(?:movaps|movups|movdqa|movdqu)\s+%(xmm\d+),[^%]*\(%r", text)
+        written = re.search(r",%(xmm\d+)$", text)
+        if cleared:
+            zeroed.add(cleared.group(1))
+        elif stored and stored.group(1) in zeroed or re.match(r"mov[qlwb]\s+\$0x0,[^%]*\(%r", text):
+            found.add(address)
+        elif text.startswith("call"):
+            zeroed = set()
+        elif written:
+            zeroed.discard(written.group(1))
+    return found
+
+
+def causes_of(folder, program, zeros):
+    """Of each explained part the instructions of one, by causes."""
+    counts, sums = folder / f"counts-{program}", {}
+    for index, section in enumerate((counts / "sections").read_text().splitlines(), 1):
+        case, standing, _, count = (section.rsplit(",", 3) if section != "-" else ("", "0", "", "0"))
+        if (case, int(standing)) in EXPLAINED:
+            times, costs = sums.setdefault((case, int(standing)), [0, {}])
+            sums[case, int(standing)][0] += float(count)
+            function, is_call = "", False
+            for line in (counts / f"out.{index}").open():
+                number = re.match(r"0x([0-9a-f]+) \d+ (\d+)\s*$", line)
+                if line.startswith("fn="):
+                    function = line[3:].strip()
+                elif number and not is_call:
+                    cause = "SHA-1" if HASHING.search(function) else group_of(function)
+                    cause = "zeros in place" if cause == "the rest" and int(number.group(1), 16) in zeros else cause
+                    costs[cause] = costs.get(cause, 0) + int(number.group(2))
+                is_call = line.startswith("calls=")
+    return {part: {cause: cost / times for cause, cost in costs.items()} for part, (times, costs) in sums.items()}
+
+
+def report_causes(folder, program):
+    zeros = stores_of_zeros(program)
+    proved, vectors = (causes_of(folder, name, zeros) for name in ("proved", "vectors"))
+    rows = []
+    for part in EXPLAINED:
+        if part in proved:
+            more = [proved[part].get(cause, 0) - vectors[part].get(cause, 0) for cause in CAUSES]
+            label = part[0] if not part[1] else f"{part[0]}, {part[1]:,} standing"
+            rows.append([label, f"{sum(proved[part].values()) / sum(vectors[part].values()):.2f}"]
+                        + [f"{number:,.0f}" for number in [sum(more)] + more])
+    print("Instructions for one that are more than in vectors, by causes:\n")
+    table(["part", "to vectors", "more"] + CAUSES, rows)
+
+
 def read_counted(folder):
     """What a run that counted instructions wrote."""
     counted = {}
@@ -342,6 +413,8 @@ def main(words):
             report_times(Path(folder), Path(results), Path(picture))
         case ["instructions", folder]:
             report_instructions(Path(folder))
+        case ["causes", folder, program]:
+            report_causes(Path(folder), program)
         case ["page", folder]:
             report_page(Path(folder))
         case ["guard", folder, stored]:

@@ -2,10 +2,10 @@
 # Measures the proved layer beside plain Rust: benchmarks/README.md.
 source "$(dirname "$0")/build.sh"
 
-count=false
+count=
 case "${1:-}" in
-    --instructions)
-        count=true
+    --instructions | --causes)
+        count=$1
         shift
         ;;
     --page)
@@ -16,7 +16,18 @@ build
 describe_run
 echo
 
-if $count; then
+if [ "$count" = --causes ]; then
+    need valgrind valgrind
+    callgrind_options=(--dump-instr=yes --compress-pos=no)
+    scratch=$scratch/causes
+    for program in proved vectors; do
+        count_sections "$program" 1000
+    done
+    python3 "$top/benchmarks/report.py" causes "$scratch" "$driver"
+    exit
+fi
+
+if [ -n "$count" ]; then
     need valgrind valgrind
     [ $# -gt 0 ] || set -- 1000 10000
     for program in proved map vectors; do
