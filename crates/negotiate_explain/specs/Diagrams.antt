@@ -1,6 +1,8 @@
 -- A Mermaid sequence diagram of nodes and the storage.
-use Rattle.std.specs.Prelude.{ℕ, List, [], ◌∷◌, ◌++◌, codes, decimal, Bool, ◌||◌, nat_eq, nat_lt, if◌then◌else◌}
+use Rattle.std.specs.Prelude.{ℕ, List, [], ◌∷◌, ◌++◌, codes, decimal, ◌||◌, nat_eq, nat_lt, if◌then◌else◌}
 use Rattle.std.specs.List.{flat_map}
+use Rattle.std.specs.Char.{encode_utf8}
+use Rattle.std.specs.Str.{chars}
 use Rattle.iceoryx2_traced.specs.declared.traced.entry.Entry.{Entry}
 use Rattle.iceoryx2_traced.specs.declared.traced.entry.Entry.TheVariants as entry
 use Rattle.iceoryx2_traced.specs.Texts.{access_name, entry_text}
@@ -37,24 +39,24 @@ messages caller made entries = flat_map (message_lines caller) (latest made entr
 
 -- ---- a note
 
--- What is written in place of a byte: of a line's end its tag, and of what has a meaning in Mermaid, which are `#`, `%`,
--- `&`, `;`, `<` and `>`, its number.
+-- What is written in place of a character: of a line's end its tag, and of what has a meaning in Mermaid, which are
+-- `#`, `%`, `&`, `;`, `<` and `>`, its number.
 abbrev pub entities : List (ℕ × List ℕ)
 entities =
     (10, codes "<br/>") ∷ (35, codes "#35;") ∷ (37, codes "#37;") ∷ (38, codes "#38;") ∷ (59, codes "#59;")
     ∷ (60, codes "#60;") ∷ (62, codes "#62;") ∷ []
 
--- by the row of this byte; any other control is a space
+-- by the row of this character; any other control is a space
 abbrev pub written : List (ℕ × List ℕ) → ℕ → List ℕ
-written [] b = if nat_lt b 32 || nat_eq b 127 then codes " " else b ∷ []
-written (row ∷ rows) b = if nat_eq b row.0 then row.1 else written rows b
+written [] c = if nat_lt c 32 || nat_eq c 127 then codes " " else encode_utf8 c
+written (row ∷ rows) c = if nat_eq c row.0 then row.1 else written rows c
 
 abbrev pub escaped : ℕ → List ℕ
-escaped b = written entities b
+escaped c = written entities c
 
 unfoldable pub note_head : List ℕ
 note_head = codes "    Note over storage: "
 
 -- One line.
 abbrev pub note_line : List ℕ → List ℕ
-note_line text = note_head ++ (flat_map escaped text ++ codes "\n")
+note_line text = note_head ++ (flat_map escaped (chars text) ++ codes "\n")

@@ -56,17 +56,20 @@ event_offer_lines error setters required d =
 
 abbrev pub publish_subscribe_open_error : Refusal → Option PublishSubscribeOpenError
 publish_subscribe_open_error (refusal.PublishSubscribeOpen error) = Some error
-publish_subscribe_open_error (refusal.PublishSubscribeOpenOrCreate (sample_either.PublishSubscribeOpenError error)) = Some error
+publish_subscribe_open_error (refusal.PublishSubscribeOpenOrCreate (sample_either.PublishSubscribeOpenError error)) =
+    Some error
 publish_subscribe_open_error other = None
 
-abbrev pub publish_subscribe_required : PublishSubscribeOpenError → List PublishSubscribeSetter → MessagingPattern → List ℕ
+abbrev pub publish_subscribe_required : PublishSubscribeOpenError → List PublishSubscribeSetter → MessagingPattern
+    → List ℕ
 publish_subscribe_required error setters (pattern.Event there) = []
 publish_subscribe_required error setters (pattern.PublishSubscribe there) =
     required_lines publish_subscribe_compared there same_sample.ghosts.eq error setters
 publish_subscribe_required error setters (pattern.RequestResponse there) = []
 
 -- settings and types, or attributes
-abbrev pub publish_subscribe_offer_lines : PublishSubscribeOpenError → List PublishSubscribeSetter → Requirements → Description → List ℕ
+abbrev pub publish_subscribe_offer_lines : PublishSubscribeOpenError → List PublishSubscribeSetter → Requirements
+    → Description → List ℕ
 publish_subscribe_offer_lines error setters required d =
     if same_sample.ghosts.eq error sample_opening.IncompatibleAttributes
     then lacking_lines required d.attributes else publish_subscribe_required error setters d.pattern
@@ -75,7 +78,8 @@ publish_subscribe_offer_lines error setters required d =
 
 abbrev pub request_response_open_error : Refusal → Option RequestResponseOpenError
 request_response_open_error (refusal.RequestResponseOpen error) = Some error
-request_response_open_error (refusal.RequestResponseOpenOrCreate (request_either.RequestResponseOpenError error)) = Some error
+request_response_open_error (refusal.RequestResponseOpenOrCreate (request_either.RequestResponseOpenError error)) =
+    Some error
 request_response_open_error other = None
 
 abbrev pub request_response_required : RequestResponseOpenError → List RequestResponseSetter → MessagingPattern → List ℕ
@@ -85,7 +89,8 @@ request_response_required error setters (pattern.RequestResponse there) =
     required_lines request_response_compared there same_request.ghosts.eq error setters
 
 -- settings and types, or attributes
-abbrev pub request_response_offer_lines : RequestResponseOpenError → List RequestResponseSetter → Requirements → Description → List ℕ
+abbrev pub request_response_offer_lines : RequestResponseOpenError → List RequestResponseSetter → Requirements
+    → Description → List ℕ
 request_response_offer_lines error setters required d =
     if same_request.ghosts.eq error request_opening.IncompatibleAttributes
     then lacking_lines required d.attributes else request_response_required error setters d.pattern

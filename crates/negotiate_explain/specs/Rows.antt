@@ -1,5 +1,5 @@
--- The rows of docs/REFUSALS.md, by the names of their texts: of each error of the nine enums when it comes, and what can be
--- done about it. An error of an open or create that was one of its round has a row of its own.
+-- The rows of docs/REFUSALS.md, by the names of their texts: of each error of the nine enums when it comes, and what
+-- can be done about it. An error of an open or create that was one of its round has a row of its own.
 use Rattle.std.specs.Prelude.{ℕ, List}
 use Rattle.iceoryx2_errors.specs.declared.error.events.EventOpenError.{EventOpenError}
 use Rattle.iceoryx2_errors.specs.declared.error.events.EventOpenError.TheVariants as event_opening
@@ -201,7 +201,8 @@ publish_subscribe_round_create_row subscribe_creating.OutOfMemory =
 
 abbrev pub publish_subscribe_open_or_create_row : PublishSubscribeOpenOrCreateError → Texts
 publish_subscribe_open_or_create_row (subscribe_either.PublishSubscribeOpenError e) = publish_subscribe_round_open_row e
-publish_subscribe_open_or_create_row (subscribe_either.PublishSubscribeCreateError e) = publish_subscribe_round_create_row e
+publish_subscribe_open_or_create_row (subscribe_either.PublishSubscribeCreateError e) =
+    publish_subscribe_round_create_row e
 publish_subscribe_open_or_create_row subscribe_either.SystemInFlux = row when.SIX_ROUNDS what.NAME_THE_CAUSE
 
 -- ---- request-response

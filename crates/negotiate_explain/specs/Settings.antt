@@ -69,7 +69,8 @@ compared_line c =
 -- builder, and X is what there is.
 module _ {S X E : Type 0} (compared : S → X → Compared E) (there : X) where
   abbrev pub is_set_again : S → List S → Bool
-  is_set_again setter later = list_any (λ other. bytes_eq (compared other there).name (compared setter there).name) later
+  is_set_again setter later =
+      list_any (λ other. bytes_eq (compared other there).name (compared setter there).name) later
 
   abbrev pub is_required : (E → E → Bool) → E → S → List S → Bool
   is_required same error setter later = same (compared setter there).error error && not (is_set_again setter later)

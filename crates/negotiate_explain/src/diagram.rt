@@ -2,6 +2,7 @@
 
 ghost use Rattle.std.specs.Prelude.{◌≡◌, ◌++◌, OnOk, drop, string_bytes};
 ghost use Rattle.std.specs.List.{flat_map};
+ghost use Rattle.std.specs.Str.{chars};
 ghost use Rattle.negotiate_explain.specs.Diagrams.{answered_line, asked_line, caller_of};
 ghost use Rattle.negotiate_explain.specs.Diagrams.{escaped, message_lines, messages, note_head, note_line};
 
@@ -98,45 +99,46 @@ fn node_of(entry: &Entry, caller: u64) -> u64
 
 /// Writes a note with this text over the storage. What would end the note or be taken for a mark of
 /// Mermaid's is written as an entity, and a line's end as `<br/>`. `AllocError` where there is no memory.
-pub fn draw_note(text: &[u8], diagram: &mut Vec<u8>) -> Result<(), AllocError>
-    ensures { OnOk result (diagram.new.items ≡ diagram.old.items ++ note_line text.now) }
+pub fn draw_note(text: &str, diagram: &mut String) -> Result<(), AllocError>
+    ensures { OnOk result (string_bytes diagram.new ≡ string_bytes diagram.old ++ note_line text.now) }
 {
     draw_head(diagram)?;
     draw_text(text, diagram)?;
-    diagram.extend_from_slice(b"\n")
+    diagram.push_str("\n")
 }
 
 /// Writes what a note begins with.
 #[tactic(auto, unfolding(crate::specs::Diagrams::note_head))]
-fn draw_head(diagram: &mut Vec<u8>) -> Result<(), AllocError>
-    ensures { OnOk result (diagram.new.items ≡ diagram.old.items ++ note_head) }
+fn draw_head(diagram: &mut String) -> Result<(), AllocError>
+    ensures { OnOk result (string_bytes diagram.new ≡ string_bytes diagram.old ++ note_head) }
 {
-    diagram.extend_from_slice(b"    Note over storage: ")
+    diagram.push_str("    Note over storage: ")
 }
 
-/// Writes the bytes of a note.
-fn draw_text(text: &[u8], diagram: &mut Vec<u8>) -> Result<(), AllocError>
-    ensures { OnOk result (diagram.new.items ≡ diagram.old.items ++ flat_map escaped text.now) }
+/// Writes the characters of a note.
+fn draw_text(text: &str, diagram: &mut String) -> Result<(), AllocError>
+    ensures { OnOk result (string_bytes diagram.new
+        ≡ string_bytes diagram.old ++ flat_map escaped (chars text.now)) }
 {
-    for byte in text {
-        draw_byte(*byte, diagram)?;
+    for character in text.chars() {
+        draw_character(character, diagram)?;
     }
     Ok(())
 }
 
-/// Writes one byte of a note.
-fn draw_byte(byte: u8, diagram: &mut Vec<u8>) -> Result<(), AllocError>
-    ensures { OnOk result (diagram.new.items ≡ diagram.old.items ++ escaped byte) }
+/// Writes one character of a note.
+fn draw_character(character: char, diagram: &mut String) -> Result<(), AllocError>
+    ensures { OnOk result (string_bytes diagram.new ≡ string_bytes diagram.old ++ escaped character) }
 {
-    match byte {
-        b'\n' => diagram.extend_from_slice(b"<br/>"),
-        b'#' => diagram.extend_from_slice(b"#35;"),
-        b'%' => diagram.extend_from_slice(b"#37;"),
-        b'&' => diagram.extend_from_slice(b"#38;"),
-        b';' => diagram.extend_from_slice(b"#59;"),
-        b'<' => diagram.extend_from_slice(b"#60;"),
-        b'>' => diagram.extend_from_slice(b"#62;"),
-        0..=31 | 127 => diagram.extend_from_slice(b" "),
-        _ => diagram.extend_from_slice(&[byte]),
+    match character {
+        '\n' => diagram.push_str("<br/>"),
+        '#' => diagram.push_str("#35;"),
+        '%' => diagram.push_str("#37;"),
+        '&' => diagram.push_str("#38;"),
+        ';' => diagram.push_str("#59;"),
+        '<' => diagram.push_str("#60;"),
+        '>' => diagram.push_str("#62;"),
+        '\0'..='\x1f' | '\x7f' => diagram.push_str(" "),
+        _ => diagram.push(character),
     }
 }

@@ -1,7 +1,11 @@
-use Rattle.std.proofs.Common.{◌≡◌, ◌++◌, take}
+use Rattle.std.proofs.Common.{◌≡◌, ◌++◌, IsUtf8, chars, string_bytes}
+use Rattle.std.specs.Str.Iter.{chars_rest}
 use Rattle.std.specs.List.{flat_map}
 use Rattle.negotiate_explain.specs.Diagrams.{escaped}
 use Rattle.negotiate_explain.proofs.diagram.draw_text.Given as goal
 
-abbrev pub invariant-loop-byte : goal.invariant-loop-byte
-invariant-loop-byte l = l.diagram.items ≡ l.fn.diagram.items ++ flat_map escaped (take l.byte-index l.text)
+abbrev pub invariant-loop-character : goal.invariant-loop-character
+invariant-loop-character l =
+    IsUtf8 (chars_rest l.character-iterator)
+    × (string_bytes l.diagram ++ flat_map escaped (chars (chars_rest l.character-iterator))
+    ≡ string_bytes l.fn.diagram ++ flat_map escaped (chars l.fn.text))
