@@ -1,5 +1,6 @@
 -- A session that shows a machine, and what becomes of it.
-use Rattle.std.proofs.Common.{◌≡◌, ℕ, true, false, List, [], ◌++◌, Option, None, refl, sym, ap, subst, ◌∙◌, append-nil, replicate}
+use Rattle.std.proofs.Common.{◌≡◌, ℕ, true, false, List, [], ◌++◌, Option, None, Result, Ok, Err, OnOk, refl, sym, ap, subst, ◌∙◌, append-nil, replicate}
+use Rattle.std.specs.declared.alloc.AllocError.{AllocError}
 use Rattle.iceoryx2_access.specs.Registered.{Registered}
 use Rattle.iceoryx2_description.specs.declared.config.Config.{Config}
 use Rattle.iceoryx2_description.specs.Defaults.{default_config}
@@ -15,9 +16,14 @@ use Rattle.iceoryx2_session.specs.QuietSessions.{IsQuiet, IsMoved, Moves}
 use Rattle.negotiate_lines.specs.declared.line.Line.{Line}
 use Rattle.negotiate_lines.specs.declared.line.Line.TheVariants as line
 use Rattle.negotiate_lines.specs.Lines.{IsLine}
+use Rattle.iceoryx2_session.specs.declared.session.Session.{Session}
+use Rattle.iceoryx2_session.specs.SessionStates.{own_state}
+use Rattle.negotiate_serve.specs.declared.ending.Ending.{Ending}
+use Rattle.negotiate_serve.specs.declared.ending.Fault.{Fault}
 use Rattle.negotiate_serve.specs.Replies.{GrowsBy, Tells}
-use Rattle.negotiate_serve.specs.Transcripts.{Machine, first_machine, AnswersLine, blank, replied, not_a_command, slot_named}
-use Rattle.negotiate_serve.specs.Served.{ShowsMachine, ShowsSome, SaysOfLine}
+use Rattle.negotiate_serve.specs.Transcripts.{Answering, blank, answered, Machine, first_machine, Replies, not_a_command, slot_named}
+use Rattle.negotiate_serve.proofs.Simulated.{transcript_along}
+use Rattle.negotiate_serve.specs.Served.{SaysAnswer, SaysOfLine, ServesBy, Serves, ShowsMachine, ShowsSome, SessionReplies}
 
 -- what a session shows after a command
 abbrev pub machine_after : {s n : SessionState} {q : Quiet} {c : Command} {r : Reply} → IsMoved s q c r n → Machine
@@ -33,47 +39,53 @@ shows_after s n m c r shows moved stand owns = record {
   owns = owns;
 }
 
-pub answers_command : (s n : SessionState) (m : Machine) (c : Command) (r : Reply) (bytes text : List ℕ) → ShowsMachine s m → (moved : IsMoved s m.services c r n)
-    → IsLine bytes (line.Command c) → Tells (slot_named c) r text → AnswersLine m bytes text (machine_after moved)
-answers_command s n m c r bytes text shows moved is tells =
-    replied is (subst (λ (config : Config). Moves config m.services m.slots c r moved.state n.slots) shows.configured
-    (subst (λ (slots : List (Option Registered)). Moves s.config m.services slots c r moved.state n.slots) shows.slots moved.moves)) tells
+-- the machine moves as the session does
+pub machine_moves : (s n : SessionState) (m : Machine) (c : Command) (r : Reply) → ShowsMachine s m → (moved : IsMoved s m.services c r n)
+    → Moves default_config m.services m.slots c r moved.state n.slots
+machine_moves s n m c r shows moved =
+    subst (λ (config : Config). Moves config m.services m.slots c r moved.state n.slots) shows.configured
+    (subst (λ (slots : List (Option Registered)). Moves s.config m.services slots c r moved.state n.slots) shows.slots moved.moves)
+
+-- ---- a command
+
+module _ (a b : Session TableState) (c : Command) (r : Reply) (quiet : (q : Quiet) → IsQuiet (own_state a) q → SlotsStand (own_state a) → IsMoved (own_state a) q c r (own_state b))
+    (stands : Agrees (own_state a).table.world → SlotsStand (own_state a) → Agrees (own_state b).table.world × SlotsStand (own_state b) × ClosesTaken (own_state a) c (own_state b))
+    (owns : Agrees (own_state a).table.world → SlotsStand (own_state a) → OwnsTickets (own_state a) → OwnsTickets (own_state b)) where
+  shows_next : (m : Machine) (shows : ShowsMachine (own_state a) m) → ShowsMachine (own_state b) (machine_after (quiet m.services shows.quiet shows.stand))
+  shows_next m shows =
+      shows_after (own_state a) (own_state b) m c r shows (quiet m.services shows.quiet shows.stand) (stands shows.quiet.agrees shows.stand) (owns shows.quiet.agrees shows.stand shows.owns)
+
+  -- a session that shows a machine shows another one after a command
+  pub shows_some : ShowsSome (own_state a) → ShowsSome (own_state b)
+  shows_some old = (machine_after (quiet old.0.services old.1.quiet old.1.stand), shows_next old.0 old.1)
+
+  -- and its reply is that of the machine
+  pub answers_reply : (slot : ℕ) (bytes old new : List ℕ) → slot ≡ slot_named c → (done : Result (Unit {0}) AllocError) → OnOk done (GrowsBy (Tells slot r) old new)
+      → OnOk done (SaysAnswer (λ a line c text b. SessionReplies (own_state a) line c text (own_state b)) a bytes c old new b)
+  answers_reply slot bytes old new slot_is (Ok done) grows = record {
+    said = grows.0;
+    is_said = λ m shows.
+        let moved = quiet m.services shows.quiet shows.stand in
+        record {
+          machine = machine_after moved;
+          replies = record { reply = r; moves = machine_moves (own_state a) (own_state b) m c r shows moved; tells = subst (λ (k : ℕ). Tells k r grows.0) slot_is grows.1 };
+          shows = shows_next m shows;
+        };
+    grown = grows.2;
+  }
+  answers_reply slot bytes old new slot_is (Err e) grows = tt
 
 -- ---- a line
 
-module _ (s n : SessionState) (c : Command) (r : Reply) (quiet : (q : Quiet) → IsQuiet s q → SlotsStand s → IsMoved s q c r n)
-    (stands : Agrees s.table.world → SlotsStand s → Agrees n.table.world × SlotsStand n × ClosesTaken s c n)
-    (owns : Agrees s.table.world → SlotsStand s → OwnsTickets s → OwnsTickets n) where
-  -- a session that shows a machine shows another one after a command
-  pub shows_some : ShowsSome s → ShowsSome n
-  shows_some old =
-      let m = old.0 in
-      let shows = old.1 in
-      let moved = quiet m.services shows.quiet shows.stand in
-      (machine_after moved, shows_after s n m c r shows moved (stands shows.quiet.agrees shows.stand) (owns shows.quiet.agrees shows.stand shows.owns))
+module _ {M : Type 0} (Answers : Answering M) (m : M) (k : ℕ) (bytes old : List ℕ) (l : Line) (is : IsLine bytes l) where
+  pub says_nothing : l ≡ line.Blank → SaysOfLine Answers true m k bytes old old m
+  says_nothing nothing = record { said = []; is_said = blank (subst (IsLine bytes) nothing is); grown = sym (append-nil old) }
 
-  pub says_reply : (k slot : ℕ) (bytes old new : List ℕ) (l : Line) → IsLine bytes l → l ≡ line.Command c → slot ≡ slot_named c → GrowsBy (Tells slot r) old new
-      → (m : Machine) → ShowsMachine s m → SaysOfLine true m k bytes old new n
-  says_reply k slot bytes old new l is command slot_is grows m shows =
-      let moved = quiet m.services shows.quiet shows.stand in
-      record {
-        said = grows.0;
-        machine = machine_after moved;
-        is_said = answers_command s n m c r bytes grows.0 shows moved (subst (IsLine bytes) command is)
-            (subst (λ (k : ℕ). Tells k r grows.0) slot_is grows.1);
-        shows = shows_after s n m c r shows moved (stands shows.quiet.agrees shows.stand) (owns shows.quiet.agrees shows.stand shows.owns);
-        grown = grows.2;
-      }
+  pub says_no_command : (n : M) (new : List ℕ) → l ≡ line.NotACommand → new ≡ old ++ not_a_command k → SaysOfLine Answers false m k bytes old new n
+  says_no_command n new other grown = record { said = not_a_command k; is_said = (subst (IsLine bytes) other is, refl); grown = grown }
 
-pub says_nothing : (s : SessionState) (k : ℕ) (bytes old : List ℕ) (l : Line) → IsLine bytes l → l ≡ line.Blank
-    → (m : Machine) → ShowsMachine s m → SaysOfLine true m k bytes old old s
-says_nothing s k bytes old l is nothing m shows =
-    record { said = []; machine = m; is_said = blank (subst (IsLine bytes) nothing is); shows = shows; grown = sym (append-nil old) }
-
-pub says_no_command : (s : SessionState) (k : ℕ) (bytes old new : List ℕ) (l : Line) → IsLine bytes l → l ≡ line.NotACommand → new ≡ old ++ not_a_command k
-    → (m : Machine) → ShowsMachine s m → SaysOfLine false m k bytes old new s
-says_no_command s k bytes old new l is other grown m shows =
-    record { said = not_a_command k; machine = m; is_said = (subst (IsLine bytes) other is, refl); shows = shows; grown = grown }
+  pub says_answer : (n : M) (new : List ℕ) (c : Command) → l ≡ line.Command c → SaysAnswer Answers m bytes c old new n → SaysOfLine Answers true m k bytes old new n
+  says_answer n new c command says = record { said = says.said; is_said = answered (subst (IsLine bytes) command is) says.is_said; grown = says.grown }
 
 -- ---- the start
 
@@ -85,4 +97,17 @@ shows_first s config table state is_default stand fresh = record {
   slots = ap (λ (x : SessionState). x.slots) state;
   stand = stand;
   owns = fresh.1;
+}
+
+-- ---- the end
+
+-- what a session says is what the machine says that it shows
+pub serves_as_machine : (s : Session TableState) (ended : Result Ending Fault) (input unread : List ℕ) (old new : Option (List ℕ)) → ShowsMachine (own_state s) first_machine
+    → ServesBy (λ a line c text b. SessionReplies (own_state a) line c text (own_state b)) s ended input unread old new → Serves ended input unread old new
+serves_as_machine s ended input unread old new shows served = record {
+  said = served.said;
+  transcript = transcript_along (λ a line c text b. SessionReplies (own_state a) line c text (own_state b)) Replies (λ a m. ShowsMachine (own_state a) m)
+      (λ a b line c text m by shown. let next = by m shown in (next.machine, next.replies, next.shows))
+      s first_machine input ended served.said unread served.transcript shows;
+  written = served.written;
 }

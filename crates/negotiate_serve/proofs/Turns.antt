@@ -3,23 +3,18 @@ use Rattle.std.proofs.Common.{◌≡◌, ℕ, Bool, true, false, List, [], ◌++
 use Rattle.std.specs.Prelude.{IsErrAnd}
 use Rattle.std.specs.Io.KnownBytes.{Appends}
 use Rattle.std.proofs.KnownBytes.{Appends-nil}
-use Rattle.iceoryx2_session.specs.Sessions.{SessionState}
 use Rattle.negotiate_serve.specs.declared.ending.Ending.TheVariants as ending
 use Rattle.negotiate_serve.specs.declared.ending.Fault.{Fault}
 use Rattle.negotiate_serve.specs.declared.ending.Fault.TheVariants as fault
 use Rattle.negotiate_serve.specs.Endings.{IsOfReading}
 use Rattle.negotiate_serve.specs.Inputs.{ReadsLine}
 use Rattle.negotiate_serve.specs.Outputs.{Says}
-use Rattle.negotiate_serve.specs.Transcripts.{Machine, AnswersLine, ComesNext, answer, no_command}
+use Rattle.negotiate_serve.specs.Transcripts.{Answering, AnswersLineBy, ComesNext, answer, no_command}
 use Rattle.negotiate_serve.specs.Served.{SaysOfLine, TakesTurn}
 
 -- what was read and said, by what the tests found
 pub as_read : (rest bytes line : List ℕ) (left : Option (List ℕ)) (found is : Bool) → ReadsLine rest found bytes left → found ≡ is → line ≡ bytes → ReadsLine rest is line left
 as_read rest bytes line left found is read test same = subst (λ (l : List ℕ). ReadsLine rest is l left) (sym same) (subst (λ (b : Bool). ReadsLine rest b bytes left) test read)
-
-pub as_said : (m : Machine) (k : ℕ) (line before text : List ℕ) (s : SessionState) (goes_on is : Bool) → SaysOfLine goes_on m k line before text s → goes_on ≡ is
-    → SaysOfLine is m k line before text s
-as_said m k line before text s goes_on is says test = subst (λ (b : Bool). SaysOfLine b m k line before text s) test says
 
 pub as_written : (bytes text : List ℕ) (r : Result (Unit {0}) Fault) (old new : Option (List ℕ)) → Says bytes r old new → bytes ≡ text → Says text r old new
 as_written bytes text r old new says same = subst (λ (l : List ℕ). Says l r old new) same says
@@ -29,62 +24,64 @@ pub as_fault : {T : Type 0} (r : Result T Fault) (f : Fault) → IsErrAnd r (λ 
 as_fault (Ok x) f is = absurd is
 as_fault (Err e) f is = ap Err is
 
-module _ (m : Machine) (k : ℕ) (rest : List ℕ) where
-  pub turn_at_end : (line : List ℕ) (left old : Option (List ℕ)) (s : SessionState) → ReadsLine rest false line left
-      → TakesTurn (Ok (Some ending.InputEnded)) m k rest left s old old
-  turn_at_end line left old s read =
-      record { said = []; answers = record { unread = []; ends = (read.0, refl, refl); left_is = read.1 }; written = Appends-nil old }
+module _ {M : Type 0} (Answers : Answering M) (m n : M) (k : ℕ) where
+  pub as_said : (line before text : List ℕ) (goes_on is : Bool) → SaysOfLine Answers goes_on m k line before text n → goes_on ≡ is → SaysOfLine Answers is m k line before text n
+  as_said line before text goes_on is says test = subst (λ (b : Bool). SaysOfLine Answers b m k line before text n) test says
 
-  pub turn_without_memory : (left old : Option (List ℕ)) (s : SessionState) → TakesTurn (Err fault.OutOfMemory) m k rest left s old old
-  turn_without_memory left old s = record { said = []; answers = record { unread = []; ends = refl; left_is = tt }; written = Appends-nil old }
+  module _ (rest : List ℕ) (left : Option (List ℕ)) where
+    pub turn_at_end : (line : List ℕ) (old : Option (List ℕ)) → ReadsLine rest false line left
+        → TakesTurn Answers (Ok (Some ending.InputEnded)) m k rest left n old old
+    turn_at_end line old read =
+        record { said = []; answers = record { unread = []; ends = (read.0, refl, refl); left_is = read.1 }; written = Appends-nil old }
 
-  pub turn_without_line : (f : Fault) (left old : Option (List ℕ)) (s : SessionState) → IsOfReading f → TakesTurn (Err f) m k rest left s old old
-  turn_without_line fault.Reading left old s is = record { said = []; answers = record { unread = []; ends = refl; left_is = tt }; written = Appends-nil old }
-  turn_without_line fault.OutOfMemory left old s is = turn_without_memory left old s
-  turn_without_line fault.Writing left old s is = absurd is
+    pub turn_without_memory : (old : Option (List ℕ)) → TakesTurn Answers (Err fault.OutOfMemory) m k rest left n old old
+    turn_without_memory old = record { said = []; answers = record { unread = []; ends = refl; left_is = tt }; written = Appends-nil old }
 
-  module _ (line before text : List ℕ) (left : Option (List ℕ)) (s : SessionState) (none : before ≡ []) (read : ReadsLine rest true line left) where
-    -- the text is what is said of the line
-    text_is : (said : List ℕ) → text ≡ before ++ said → said ≡ text
-    text_is said grown = ap (λ l. l ++ said) (sym none) ∙ sym grown
+    pub turn_without_line : (f : Fault) (old : Option (List ℕ)) → IsOfReading f → TakesTurn Answers (Err f) m k rest left n old old
+    turn_without_line fault.Reading old is = record { said = []; answers = record { unread = []; ends = refl; left_is = tt }; written = Appends-nil old }
+    turn_without_line fault.OutOfMemory old is = turn_without_memory old
+    turn_without_line fault.Writing old is = absurd is
 
-    pub turn_answered : (old new : Option (List ℕ)) → SaysOfLine true m k line before text s → Says text (Ok tt) old new
-        → TakesTurn (Ok None) m k rest left s old new
-    turn_answered old new says written = record {
-      said = says.said;
-      answers = record {
-        bytes = line;
-        behind = read.0;
-        machine = says.machine;
-        begins = read.1;
-        answered = says.is_said;
-        shows = says.shows;
-        left_is = read.2;
-      };
-      written = subst (Appends old new) (sym (text_is says.said says.grown)) written;
-    }
+    module _ (line before text : List ℕ) (none : before ≡ []) (read : ReadsLine rest true line left) where
+      -- the text is what is said of the line
+      text_is : (said : List ℕ) → text ≡ before ++ said → said ≡ text
+      text_is said grown = ap (λ l. l ++ said) (sym none) ∙ sym grown
 
-    pub turn_without_command : (old new : Option (List ℕ)) → SaysOfLine false m k line before text s → Says text (Ok tt) old new
-        → TakesTurn (Ok (Some ending.NotACommand)) m k rest left s old new
-    turn_without_command old new says written = record {
-      said = says.said;
-      answers = record {
-        unread = read.0;
-        ends = record { bytes = line; stands = read.1; no_command = says.is_said.0; said = says.is_said.1 };
-        left_is = read.2;
-      };
-      written = subst (Appends old new) (sym (text_is says.said says.grown)) written;
-    }
+      pub turn_answered : (old new : Option (List ℕ)) → SaysOfLine Answers true m k line before text n → Says text (Ok tt) old new
+          → TakesTurn Answers (Ok None) m k rest left n old new
+      turn_answered old new says written = record {
+        said = says.said;
+        answers = record {
+          bytes = line;
+          behind = read.0;
+          begins = read.1;
+          answered = says.is_said;
+          left_is = read.2;
+        };
+        written = subst (Appends old new) (sym (text_is says.said says.grown)) written;
+      }
 
-    -- what comes next is the text
-    comes_next : (goes_on : Bool) → SaysOfLine goes_on m k line before text s → ComesNext m k rest text
-    comes_next true says = answer read.1 (subst (λ t. AnswersLine m line t says.machine) (text_is says.said says.grown) says.is_said)
-    comes_next false says = subst (ComesNext m k rest) (sym says.is_said.1 ∙ text_is says.said says.grown) (no_command read.1 says.is_said.0)
+      pub turn_without_command : (old new : Option (List ℕ)) → SaysOfLine Answers false m k line before text n → Says text (Ok tt) old new
+          → TakesTurn Answers (Ok (Some ending.NotACommand)) m k rest left n old new
+      turn_without_command old new says written = record {
+        said = says.said;
+        answers = record {
+          unread = read.0;
+          ends = record { bytes = line; stands = read.1; no_command = says.is_said.0; said = says.is_said.1 };
+          left_is = read.2;
+        };
+        written = subst (Appends old new) (sym (text_is says.said says.grown)) written;
+      }
 
-    pub turn_cut : (goes_on : Bool) (f : Fault) (old new : Option (List ℕ)) → SaysOfLine goes_on m k line before text s → Says text (Err f) old new
-        → TakesTurn (Err f) m k rest left s old new
-    turn_cut goes_on f old new says written = subst (λ e. TakesTurn (Err e) m k rest left s old new) (sym written.0) (record {
-      said = written.1;
-      answers = record { unread = []; ends = (text, comes_next goes_on says, written.2); left_is = tt };
-      written = written.3;
-    })
+      -- what comes next is the text
+      comes_next : (goes_on : Bool) → SaysOfLine Answers goes_on m k line before text n → ComesNext Answers m k rest text
+      comes_next true says = answer read.1 (subst (λ t. AnswersLineBy Answers m line t n) (text_is says.said says.grown) says.is_said)
+      comes_next false says = subst (ComesNext Answers m k rest) (sym says.is_said.1 ∙ text_is says.said says.grown) (no_command read.1 says.is_said.0)
+
+      pub turn_cut : (goes_on : Bool) (f : Fault) (old new : Option (List ℕ)) → SaysOfLine Answers goes_on m k line before text n → Says text (Err f) old new
+          → TakesTurn Answers (Err f) m k rest left n old new
+      turn_cut goes_on f old new says written = subst (λ e. TakesTurn Answers (Err e) m k rest left n old new) (sym written.0) (record {
+        said = written.1;
+        answers = record { unread = []; ends = (text, comes_next goes_on says, written.2); left_is = tt };
+        written = written.3;
+      })

@@ -1,6 +1,7 @@
 -- What the parts of the program do, one line at a time.
 use Rattle.std.specs.Prelude.{◌≡◌, ℕ, Bool, true, false, List, [], ◌∷◌, ◌++◌, Option, Some, None, Result, Ok, Err, OnOk}
 use Rattle.std.specs.Io.KnownBytes.{Appends}
+use Rattle.iceoryx2_commands.specs.declared.command.Command.{Command}
 use Rattle.iceoryx2_description.specs.declared.description.ServiceHash.{ServiceHash}
 use Rattle.iceoryx2_description.specs.Defaults.{default_config}
 use Rattle.iceoryx2_world.specs.World.{ticket_of}
@@ -16,90 +17,80 @@ use Rattle.negotiate_serve.specs.declared.ending.Fault.{Fault}
 use Rattle.negotiate_serve.specs.declared.ending.Fault.TheVariants as fault
 use Rattle.negotiate_serve.specs.Inputs.{BeginsWith}
 use Rattle.negotiate_serve.specs.Outputs.{IsFrontOf}
-use Rattle.negotiate_serve.specs.Transcripts.{Machine, AnswersLine, IsAnswered, EndsWith, IsTranscript, not_a_command}
-use Rattle.negotiate_serve.specs.Transcripts.{out_of_memory}
+use Rattle.negotiate_serve.specs.Transcripts.{Answering, AnswersLineBy, IsAnswered, EndsWith, IsTranscriptBy}
+use Rattle.negotiate_serve.specs.Transcripts.{Machine, Replies, first_machine, not_a_command, out_of_memory}
 
--- ---- a session
+-- ---- a command
 
--- The session shows the machine: nobody else uses its table, which shows the machine's services, and its slots hold what
--- those of the machine hold. Its factories stand, and each ticket is that of one of them.
-pub record ShowsMachine (s : SessionState) (m : Machine) : Type 0 where
-  pub configured : s.config ≡ default_config
-  pub quiet : IsQuiet s m.services
-  pub slots : s.slots ≡ m.slots
-  pub stand : SlotsStand s
-  pub owns : OwnsTickets s
-
--- The session shows some machine.
-abbrev pub ShowsSome : SessionState → Type 0
-ShowsSome s = (m : Machine) × ShowsMachine s m
-
--- Nothing of any service is left in a table, and no ticket.
-pub record HasNothing (t : TableState) : Type 0 where
-  pub services : (hash : ServiceHash) → HasNothingAt t.world hash
-  pub tickets : (ticket : ℕ) → ticket_of t.world ticket ≡ None
+-- The text has grown by an answer to the line's command.
+pub record SaysAnswer {M : Type 0} (Answers : Answering M) (m : M) (line : List ℕ) (c : Command)
+    (old new : List ℕ) (n : M) : Type 0 where
+  pub said : List ℕ
+  pub is_said : Answers m line c said n
+  pub grown : new ≡ old ++ said
 
 -- ---- a line
 
 -- what is said of a line with this number, and whether the program goes on behind it
-abbrev pub IsSaidOf : (goes_on : Bool) → Machine → (number : ℕ) → (bytes said : List ℕ) → Machine → Type 0
-IsSaidOf true m k bytes said n = AnswersLine m bytes said n
-IsSaidOf false m k bytes said n = IsLine bytes line.NotACommand × (said ≡ not_a_command k)
+abbrev pub IsSaidOf : {M : Type 0} → Answering M → (goes_on : Bool) → M → (number : ℕ) → (bytes said : List ℕ)
+    → M → Type 0
+IsSaidOf Answers true m k bytes said n = AnswersLineBy Answers m bytes said n
+IsSaidOf Answers false m k bytes said n = IsLine bytes line.NotACommand × (said ≡ not_a_command k)
 
--- The text has grown by what is said of the line, and the session shows the machine after it.
-pub record SaysOfLine (goes_on : Bool) (m : Machine) (number : ℕ) (bytes old new : List ℕ) (s : SessionState)
-    : Type 0 where
+-- The text has grown by what is said of the line.
+pub record SaysOfLine {M : Type 0} (Answers : Answering M) (goes_on : Bool) (m : M) (number : ℕ)
+    (bytes old new : List ℕ) (n : M) : Type 0 where
   pub said : List ℕ
-  pub machine : Machine
-  pub is_said : IsSaidOf goes_on m number bytes said machine
-  pub shows : ShowsMachine s machine
+  pub is_said : IsSaidOf Answers goes_on m number bytes said n
   pub grown : new ≡ old ++ said
 
 -- ---- a turn: a line is read and answered
 
 -- how it ends, before a fault is told
-abbrev pub EndsUntold : Result Ending Fault → Machine → (number : ℕ) → (rest last unread : List ℕ) → Type 0
-EndsUntold (Err fault.OutOfMemory) m k rest last unread = last ≡ []
-EndsUntold ended m k rest last unread = EndsWith ended m k rest last unread
+abbrev pub EndsUntold : {M : Type 0} → Answering M → Result Ending Fault → M → (number : ℕ)
+    → (rest last unread : List ℕ) → Type 0
+EndsUntold Answers (Err fault.OutOfMemory) m k rest last unread = last ≡ []
+EndsUntold Answers ended m k rest last unread = EndsWith Answers ended m k rest last unread
 
 -- The next line is answered.
-pub record GoesOn (m : Machine) (rest said : List ℕ) (left : Option (List ℕ)) (s : SessionState) : Type 0 where
+pub record GoesOn {M : Type 0} (Answers : Answering M) (m : M) (rest said : List ℕ) (left : Option (List ℕ))
+    (n : M) : Type 0 where
   pub bytes : List ℕ
   pub behind : List ℕ
-  pub machine : Machine
   pub begins : BeginsWith rest (bytes ∷ []) behind
-  pub answered : AnswersLine m bytes said machine
-  pub shows : ShowsMachine s machine
+  pub answered : AnswersLineBy Answers m bytes said n
   pub left_is : left ≡ Some behind
 
 -- It ends so, and what is unread then is left.
-pub record Stops (ended : Result Ending Fault) (m : Machine) (number : ℕ) (rest said : List ℕ)
-    (left : Option (List ℕ)) : Type 0 where
+pub record Stops {M : Type 0} (Answers : Answering M) (ended : Result Ending Fault) (m : M) (number : ℕ)
+    (rest said : List ℕ) (left : Option (List ℕ)) : Type 0 where
   pub unread : List ℕ
-  pub ends : EndsUntold ended m number rest said unread
+  pub ends : EndsUntold Answers ended m number rest said unread
   pub left_is : OnOk ended (left ≡ Some unread)
 
 -- the next line is answered, or it ends
-abbrev pub AnswersNext : Result (Option Ending) Fault → Machine → (number : ℕ) → (rest said : List ℕ)
-    → (left : Option (List ℕ)) → SessionState → Type 0
-AnswersNext (Ok None) m k rest said left s = GoesOn m rest said left s
-AnswersNext (Ok (Some e)) m k rest said left s = Stops (Ok e) m k rest said left
-AnswersNext (Err f) m k rest said left s = Stops (Err f) m k rest said left
+abbrev pub AnswersNext : {M : Type 0} → Answering M → Result (Option Ending) Fault → M → (number : ℕ)
+    → (rest said : List ℕ) → (left : Option (List ℕ)) → M → Type 0
+AnswersNext Answers (Ok None) m k rest said left n = GoesOn Answers m rest said left n
+AnswersNext Answers (Ok (Some e)) m k rest said left n = Stops Answers (Ok e) m k rest said left
+AnswersNext Answers (Err f) m k rest said left n = Stops Answers (Err f) m k rest said left
 
 -- The writer has taken what is said in a turn.
-pub record TakesTurn (result : Result (Option Ending) Fault) (m : Machine) (number : ℕ) (rest : List ℕ)
-    (left : Option (List ℕ)) (s : SessionState) (old new : Option (List ℕ)) : Type 0 where
+pub record TakesTurn {M : Type 0} (Answers : Answering M) (result : Result (Option Ending) Fault) (m : M) (number : ℕ)
+    (rest : List ℕ) (left : Option (List ℕ)) (n : M) (old new : Option (List ℕ)) : Type 0 where
   pub said : List ℕ
-  pub answers : AnswersNext result m number rest said left s
+  pub answers : AnswersNext Answers result m number rest said left n
   pub written : Appends old new said
 
 -- ---- all lines
 
--- Lines are answered, and it ends so, with no fault told. The writer has taken what is said, and what is unread is left.
-pub record AnswersAll (ended : Result Ending Fault) (input : List ℕ) (left old new : Option (List ℕ)) : Type 0 where
+-- Lines are answered, and it ends so, with no fault told. The writer has taken what is said, and what is unread is
+-- left.
+pub record AnswersAll {M : Type 0} (Answers : Answering M) (first : M) (ended : Result Ending Fault) (input : List ℕ)
+    (left old new : Option (List ℕ)) : Type 0 where
   pub said : List ℕ
   pub unread : List ℕ
-  pub answered : IsAnswered (EndsUntold ended) input said unread
+  pub answered : IsAnswered Answers first (EndsUntold Answers ended) input said unread
   pub left_is : OnOk ended (left ≡ Some unread)
   pub written : Appends old new said
 
@@ -116,10 +107,44 @@ pub record SaysFault (before after : Fault) (old new : Option (List ℕ)) : Type
   pub tells : TellsFault before after said
   pub written : Appends old new said
 
--- ---- the program
+-- ---- a program
+
+-- The writer has taken what is said of an input, and nothing else. This is unread then.
+pub record ServesBy {M : Type 0} (Answers : Answering M) (first : M) (ended : Result Ending Fault)
+    (input unread : List ℕ) (old new : Option (List ℕ)) : Type 0 where
+  pub said : List ℕ
+  pub transcript : IsTranscriptBy Answers first input ended said unread
+  pub written : Appends old new said
+
+-- ---- `negotiate`, over a session
+
+-- The session shows the machine: nobody else uses its table, which shows the machine's services, and its slots hold
+-- what those of the machine hold. Its factories stand, and each ticket is that of one of them.
+pub record ShowsMachine (s : SessionState) (m : Machine) : Type 0 where
+  pub configured : s.config ≡ default_config
+  pub quiet : IsQuiet s m.services
+  pub slots : s.slots ≡ m.slots
+  pub stand : SlotsStand s
+  pub owns : OwnsTickets s
+
+-- The session shows some machine.
+abbrev pub ShowsSome : SessionState → Type 0
+ShowsSome s = (m : Machine) × ShowsMachine s m
+
+-- The session answers as each machine does that it shows, and it shows that one afterwards.
+pub record RepliesAs (m : Machine) (line : List ℕ) (c : Command) (text : List ℕ) (new : SessionState) : Type 0 where
+  pub machine : Machine
+  pub replies : Replies m line c text machine
+  pub shows : ShowsMachine new machine
+
+abbrev pub SessionReplies : SessionState → (line : List ℕ) → Command → (text : List ℕ) → SessionState → Type 0
+SessionReplies old line c text new = (m : Machine) → ShowsMachine old m → RepliesAs m line c text new
 
 -- The writer has taken the transcript of an input, and nothing else. This is unread then.
-pub record Serves (ended : Result Ending Fault) (input unread : List ℕ) (old new : Option (List ℕ)) : Type 0 where
-  pub said : List ℕ
-  pub transcript : IsTranscript input ended said unread
-  pub written : Appends old new said
+abbrev pub Serves : Result Ending Fault → (input unread : List ℕ) → (old new : Option (List ℕ)) → Type 0
+Serves = ServesBy Replies first_machine
+
+-- Nothing of any service is left in a table, and no ticket.
+pub record HasNothing (t : TableState) : Type 0 where
+  pub services : (hash : ServiceHash) → HasNothingAt t.world hash
+  pub tickets : (ticket : ℕ) → ticket_of t.world ticket ≡ None

@@ -1,4 +1,4 @@
--- What the program says of an input. docs/PROGRAM.md tells the same in words.
+-- What a program says of an input, line by line. docs/PROGRAM.md tells the same in words.
 use Rattle.std.specs.Prelude.{◌≡◌, ℕ, ◌+◌, List, [], ◌∷◌, ◌++◌, Option, None, Result, Ok, Err}
 use Rattle.std.specs.Prelude.{codes, decimal, length, replicate}
 use Rattle.std.specs.List.{concat}
@@ -21,7 +21,77 @@ use Rattle.negotiate_serve.specs.Inputs.{BeginsWith}
 use Rattle.negotiate_serve.specs.Outputs.{IsFrontOf}
 use Rattle.negotiate_serve.specs.Replies.{Tells}
 
--- ---- what answers
+-- ---- what answers lines, whatever its states are
+
+-- how the command of a line is answered by a text, from a state to the next one
+abbrev pub Answering : Type 0 → Type 1
+Answering M = M → (line : List ℕ) → Command → (text : List ℕ) → M → Type 0
+
+-- A line is answered, by nothing where it is blank, and where it is a command as that is. This leaves a new state.
+pub data AnswersLineBy {M : Type 0} (Answers : Answering M) (m : M) : (line text : List ℕ) → M → Type 0 where
+  blank : {bytes : List ℕ} → IsLine bytes line.Blank → AnswersLineBy Answers m bytes [] m
+  answered : {bytes text : List ℕ} {c : Command} {n : M} → IsLine bytes (line.Command c)
+      → Answers m bytes c text n → AnswersLineBy Answers m bytes text n
+
+-- what is said of the line with this number where it is neither blank nor a command
+abbrev pub not_a_command : ℕ → List ℕ
+not_a_command k = codes "line " ++ decimal k ++ codes ": not a command\n"
+
+-- what is said where memory runs out outside a call
+abbrev pub out_of_memory : List ℕ
+out_of_memory = codes "out of memory\n"
+
+-- ---- how it ends
+
+-- What comes next, behind the answers to lines: that to the next line, which has this number; that it is neither blank
+-- nor a command; or that memory ran out.
+pub data ComesNext {M : Type 0} (Answers : Answering M) (m : M) (k : ℕ) (rest : List ℕ) : List ℕ → Type 0 where
+  answer : {bytes text behind : List ℕ} {n : M} → BeginsWith rest (bytes ∷ []) behind
+      → AnswersLineBy Answers m bytes text n → ComesNext Answers m k rest text
+  no_command : {bytes behind : List ℕ} → BeginsWith rest (bytes ∷ []) behind
+      → IsLine bytes line.NotACommand → ComesNext Answers m k rest (not_a_command k)
+  no_memory : ComesNext Answers m k rest out_of_memory
+
+-- The next line, which has this number, is neither blank nor a command. Nothing behind it is read.
+pub record IsNoCommand (k : ℕ) (rest last unread : List ℕ) : Type 0 where
+  pub bytes : List ℕ
+  pub stands : BeginsWith rest (bytes ∷ []) unread
+  pub no_command : IsLine bytes line.NotACommand
+  pub said : last ≡ not_a_command k
+
+-- what is said last, behind the answers to lines, and what is left unread: at the end of the input, at a line that is
+-- neither blank nor a command, where reading failed, where memory ran out, and where the writer failed, which has taken
+-- a front of what comes next
+abbrev pub EndsWith : {M : Type 0} → Answering M → Result Ending Fault → M → (number : ℕ)
+    → (rest last unread : List ℕ) → Type 0
+EndsWith Answers (Ok ending.InputEnded) m k rest last unread = (rest ≡ []) × (last ≡ []) × (unread ≡ [])
+EndsWith Answers (Ok ending.NotACommand) m k rest last unread = IsNoCommand k rest last unread
+EndsWith Answers (Err fault.Reading) m k rest last unread = last ≡ []
+EndsWith Answers (Err fault.OutOfMemory) m k rest last unread = last ≡ out_of_memory
+EndsWith Answers (Err fault.Writing) m k rest last unread =
+    (next : List ℕ) × ComesNext Answers m k rest next × IsFrontOf last next
+
+-- The first lines of an input are answered one after the other, each by its text, and then it ends so. The number of
+-- the line that would be the next is counted from 1.
+pub record IsAnswered {M : Type 0} (Answers : Answering M) (first : M)
+    (Ends : M → ℕ → (rest last unread : List ℕ) → Type 0) (input said unread : List ℕ) : Type 0 where
+  pub lines : List (List ℕ)
+  pub rest : List ℕ
+  pub begins : BeginsWith input lines rest
+  pub texts : List (List ℕ)
+  pub machine : M
+  pub answered : CarriesOut (AnswersLineBy Answers) first lines texts machine
+  pub last : List ℕ
+  pub ends : Ends machine (length lines + 1) rest last unread
+  pub are : said ≡ concat texts ++ last
+
+-- What is said of an input by what answers so from this state on, and what is left unread, where it ends so.
+abbrev pub IsTranscriptBy : {M : Type 0} → Answering M → (first : M) → (input : List ℕ) → Result Ending Fault
+    → (said unread : List ℕ) → Type 0
+IsTranscriptBy Answers first input ended said unread =
+    IsAnswered Answers first (EndsWith Answers ended) input said unread
+
+-- ---- what `negotiate` says
 
 -- A map from hashes to descriptions with a count for each node, and 64 slots with what each holds.
 pub record Machine : Type 0 where
@@ -38,64 +108,16 @@ slot_named (command.Call call) = call.slot
 slot_named (command.Close slot) = slot
 slot_named command.List = 0
 
--- A line is answered, by nothing where it is blank, and where it is a command by the text of the reply that the machine
--- gives to it. This leaves the machine in a new state.
-pub data AnswersLine (m : Machine) : (line text : List ℕ) → Machine → Type 0 where
-  blank : {bytes : List ℕ} → IsLine bytes line.Blank → AnswersLine m bytes [] m
-  replied : {bytes text : List ℕ} {c : Command} {r : Reply} {n : Machine} → IsLine bytes (line.Command c)
-      → Moves default_config m.services m.slots c r n.services n.slots → Tells (slot_named c) r text
-      → AnswersLine m bytes text n
+-- The machine replies to a command, and that leaves it in a new state. The text is that of the reply.
+pub record Replies (m : Machine) (line : List ℕ) (c : Command) (text : List ℕ) (n : Machine) : Type 0 where
+  pub reply : Reply
+  pub moves : Moves default_config m.services m.slots c reply n.services n.slots
+  pub tells : Tells (slot_named c) reply text
 
--- what is said of the line with this number where it is neither blank nor a command
-abbrev pub not_a_command : ℕ → List ℕ
-not_a_command k = codes "line " ++ decimal k ++ codes ": not a command\n"
+-- a line's answer is what the machine replies to its command
+abbrev pub AnswersLine : Machine → (line text : List ℕ) → Machine → Type 0
+AnswersLine = AnswersLineBy Replies
 
--- what is said where memory runs out outside a call
-abbrev pub out_of_memory : List ℕ
-out_of_memory = codes "out of memory\n"
-
--- ---- how it ends
-
--- What comes next, behind the answers to lines: that to the next line, which has this number; that it is neither blank
--- nor a command; or that memory ran out.
-pub data ComesNext (m : Machine) (k : ℕ) (rest : List ℕ) : List ℕ → Type 0 where
-  answer : {bytes text behind : List ℕ} {n : Machine}
-      → BeginsWith rest (bytes ∷ []) behind → AnswersLine m bytes text n → ComesNext m k rest text
-  no_command : {bytes behind : List ℕ}
-      → BeginsWith rest (bytes ∷ []) behind → IsLine bytes line.NotACommand → ComesNext m k rest (not_a_command k)
-  no_memory : ComesNext m k rest out_of_memory
-
--- The next line, which has this number, is neither blank nor a command. Nothing behind it is read.
-pub record IsNoCommand (k : ℕ) (rest last unread : List ℕ) : Type 0 where
-  pub bytes : List ℕ
-  pub stands : BeginsWith rest (bytes ∷ []) unread
-  pub no_command : IsLine bytes line.NotACommand
-  pub said : last ≡ not_a_command k
-
--- what is said last, behind the answers to lines, and what is left unread: at the end of the input, at a line that is
--- neither blank nor a command, where reading failed, where memory ran out, and where the writer failed, which has taken
--- a front of what comes next
-abbrev pub EndsWith : Result Ending Fault → Machine → (number : ℕ) → (rest last unread : List ℕ) → Type 0
-EndsWith (Ok ending.InputEnded) m k rest last unread = (rest ≡ []) × (last ≡ []) × (unread ≡ [])
-EndsWith (Ok ending.NotACommand) m k rest last unread = IsNoCommand k rest last unread
-EndsWith (Err fault.Reading) m k rest last unread = last ≡ []
-EndsWith (Err fault.OutOfMemory) m k rest last unread = last ≡ out_of_memory
-EndsWith (Err fault.Writing) m k rest last unread = (next : List ℕ) × ComesNext m k rest next × IsFrontOf last next
-
--- The first lines of an input are answered one after the other, each by its text, and then it ends so. The number of the
--- line that would be the next is counted from 1.
-pub record IsAnswered (Ends : Machine → ℕ → (rest last unread : List ℕ) → Type 0) (input said unread : List ℕ)
-    : Type 0 where
-  pub lines : List (List ℕ)
-  pub rest : List ℕ
-  pub begins : BeginsWith input lines rest
-  pub texts : List (List ℕ)
-  pub machine : Machine
-  pub answered : CarriesOut AnswersLine first_machine lines texts machine
-  pub last : List ℕ
-  pub ends : Ends machine (length lines + 1) rest last unread
-  pub are : said ≡ concat texts ++ last
-
--- What the program says of an input, and what it leaves unread, where it ends so.
+-- What `negotiate` says of an input, and what it leaves unread, where it ends so.
 abbrev pub IsTranscript : (input : List ℕ) → Result Ending Fault → (said unread : List ℕ) → Type 0
-IsTranscript input ended said unread = IsAnswered (EndsWith ended) input said unread
+IsTranscript = IsTranscriptBy Replies first_machine

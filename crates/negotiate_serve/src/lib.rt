@@ -2,6 +2,7 @@
 #![tactic(auto)]
 
 pub mod answer;
+pub mod answerer;
 pub mod ending;
 pub mod input;
 pub mod output;

@@ -1,11 +1,10 @@
 //! The whole program: an input in, its transcript out.
 
 ghost use Rattle.std.specs.Prelude.{◌≡◌, ℕ, List, Some, OnOk};
-ghost use Rattle.iceoryx2_session.specs.SessionStates.{own_state};
-ghost use Rattle.negotiate_serve.specs.Transcripts.{first_machine};
-ghost use Rattle.negotiate_serve.specs.Served.{HasNothing, SaysFault, Serves, ShowsMachine, ShowsSome};
+ghost use Rattle.negotiate_serve.specs.Served.{HasNothing, SaysFault, Serves, ServesBy};
 
 use crate::answer::answer_lines;
+use crate::answerer::Answerer;
 use crate::ending::{Ending, Fault};
 use crate::output::say;
 use iceoryx2_description::config::Config;
@@ -28,47 +27,62 @@ pub fn serve<R: Read + Drop, W: Write>(
     ensures { (bytes : List ℕ) → R.remaining input ≡ Some bytes → (unread : List ℕ)
         × Serves result bytes unread (W.contents output.old) (W.contents output.new) }
 {
-    match BufReader::new(alloc, input) {
-        Ok(mut reader) => {
-            let (ended, _table) = serve_lines(alloc, &mut reader, output);
-            ended
-        }
-        Err(error) => Err(tell_fault(Fault::of_reading(&error), output)),
-    }
+    let (ended, _table) = serve_session(alloc, input, output);
+    ended
 }
 
-/// Does so for what a reader has left, and gives the table back, in which nothing is left.
-fn serve_lines<R: BufRead, W: Write>(
+/// Does so, and gives the table back, in which nothing is left.
+fn serve_session<R: Read + Drop, W: Write>(
     alloc: Global,
-    reader: &mut R,
+    input: R,
     output: &mut W,
 ) -> (Result<Ending, Fault>, Table)
-    ensures serves { (input : List ℕ) → R.remaining reader.old ≡ Some input → (unread : List ℕ)
-        × Serves result.0 input unread (W.contents output.old) (W.contents output.new)
-        × OnOk result.0 (R.remaining reader.new ≡ Some unread) }
+    ensures serves { (bytes : List ℕ) → R.remaining input ≡ Some bytes → (unread : List ℕ)
+        × Serves result.0 bytes unread (W.contents output.old) (W.contents output.new) }
     ensures finished { HasNothing result.1 }
 {
     let config = Config::default();
     let table = Table::new(alloc);
     let mut session = Session::new(config, table);
-    let ended = serve_session(alloc, reader, output, &mut session);
+    let ended = serve_by(alloc, input, output, &mut session);
     (ended, session.finish())
 }
 
-/// Answers each line over a session that begins, and tells a fault.
-fn serve_session<R: BufRead, W: Write>(
+/// Answers each line of an input by an answerer: it writes what this says of the input and nothing else,
+/// each answer before the next line is read, and tells how it ended.
+///
+/// `Fault` as `serve` does.
+pub fn serve_by<A: Answerer, R: Read + Drop, W: Write>(
+    alloc: Global,
+    input: R,
+    output: &mut W,
+    answerer: &mut A,
+) -> Result<Ending, Fault>
+    requires { A.stands answerer.old }
+    ensures serves { (bytes : List ℕ) → R.remaining input ≡ Some bytes → (unread : List ℕ) × ServesBy A.answers
+        answerer.old result bytes unread (W.contents output.old) (W.contents output.new) }
+    ensures stands { A.stands answerer.new }
+{
+    match BufReader::new(alloc, input) {
+        Ok(mut reader) => serve_lines(alloc, &mut reader, output, answerer),
+        Err(error) => Err(tell_fault(Fault::of_reading(&error), output)),
+    }
+}
+
+/// Does so for what a reader has left. Where no fault comes, what is unread is left.
+pub fn serve_lines<A: Answerer, R: BufRead, W: Write>(
     alloc: Global,
     reader: &mut R,
     output: &mut W,
-    session: &mut Session<Table>,
+    answerer: &mut A,
 ) -> Result<Ending, Fault>
-    requires { ShowsMachine (own_state session.old) first_machine }
-    ensures serves { (input : List ℕ) → R.remaining reader.old ≡ Some input → (unread : List ℕ)
-        × Serves result input unread (W.contents output.old) (W.contents output.new)
+    requires { A.stands answerer.old }
+    ensures serves { (input : List ℕ) → R.remaining reader.old ≡ Some input → (unread : List ℕ) × ServesBy A.answers
+        answerer.old result input unread (W.contents output.old) (W.contents output.new)
         × OnOk result (R.remaining reader.new ≡ Some unread) }
-    ensures stands { ShowsSome (own_state session.new) }
+    ensures stands { A.stands answerer.new }
 {
-    match answer_lines(alloc, reader, output, session) {
+    match answer_lines(alloc, reader, output, answerer) {
         Ok(ending) => Ok(ending),
         Err(fault) => Err(tell_fault(fault, output)),
     }

@@ -1,8 +1,6 @@
 use Rattle.std.proofs.Common.{Result, refl, sym, subst, rules}
-use Rattle.iceoryx2_session.specs.SessionStates.{own_state}
 use Rattle.negotiate_serve.specs.declared.ending.Ending.{Ending}
 use Rattle.negotiate_serve.specs.declared.ending.Fault.{Fault}
-use Rattle.negotiate_serve.specs.Transcripts.{first_machine}
 use Rattle.negotiate_serve.specs.Served.{AnswersAll}
 use Rattle.negotiate_serve.proofs.Turns.{as_fault}
 use Rattle.negotiate_serve.proofs.Answering.{nothing_so_far, turn_goes_on, turn_ends, turn_fails, too_many}
@@ -10,18 +8,18 @@ use Rattle.negotiate_serve.proofs.answer.answer_lines.Goals as goal
 
 pub loop-number-init : goal.loop-number-init
 loop-number-init g c = record {
-  said = λ input known. nothing_so_far input (g.R.Read.remaining c.args.reader.now) (g.W.Write.contents c.args.output.now) (own_state c.args.session.now) known c.requires;
-  stands = (first_machine, c.requires);
+  said = λ input known. nothing_so_far g.A.Answerer.answers c.args.answerer.now input (g.R.Read.remaining c.args.reader.now) (g.W.Write.contents c.args.output.now) known;
+  stands = c.requires;
 }
 
 pub loop-number-preserved : goal.loop-number-preserved
 loop-number-preserved g c = record {
   said = λ input known.
       let a = c.loop-number.invariant.said input known in
-      turn_goes_on input c.loop-number.number (g.R.Read.remaining c.loop-number.reader) (g.R.Read.remaining c.answer_next.new.reader)
+      turn_goes_on g.A.Answerer.answers c.args.answerer.now input c.loop-number.number (g.R.Read.remaining c.loop-number.reader) (g.R.Read.remaining c.answer_next.new.reader)
       (g.W.Write.contents c.args.output.now) (g.W.Write.contents c.loop-number.output) (g.W.Write.contents c.answer_next.new.output)
-      (own_state c.loop-number.session) (own_state c.answer_next.new.session) a _ c.in_ok-ending.field-0
-      (c.in_ok-ending.ensures.turn a.machine a.shows a.rest a.left_is) (search rules) refl;
+      c.loop-number.answerer c.answer_next.new.answerer a _ c.in_ok-ending.ending
+      (c.in_ok-ending.ensures.turn c.loop-number.invariant.stands a.rest a.left_is) (search rules) refl;
   stands = c.answer_next.ensures.stands c.loop-number.invariant.stands;
 }
 
@@ -32,9 +30,10 @@ returns-in_err-ending-clause-said g c = λ input known.
     let old = g.W.Write.contents c.args.output.now in
     let new = g.W.Write.contents c.answer_next.new.output in
     let fault = c.in_err-ending.field-0.0 in
-    subst (λ (r : Result Ending Fault). AnswersAll r input next old new) (sym (as_fault c.from_residual.result fault c.from_residual.ensures.1))
-    (turn_fails input c.loop-number.number (g.R.Read.remaining c.loop-number.reader) next old (g.W.Write.contents c.loop-number.output) new
-    (own_state c.loop-number.session) (own_state c.answer_next.new.session) a fault (c.in_err-ending.ensures.turn a.machine a.shows a.rest a.left_is))
+    subst (λ (r : Result Ending Fault). AnswersAll g.A.Answerer.answers c.args.answerer.now r input next old new)
+    (sym (as_fault c.from_residual.result fault c.from_residual.ensures.1))
+    (turn_fails g.A.Answerer.answers c.args.answerer.now input c.loop-number.number (g.R.Read.remaining c.loop-number.reader) next old (g.W.Write.contents c.loop-number.output) new
+    c.loop-number.answerer c.answer_next.new.answerer a fault (c.in_err-ending.ensures.turn c.loop-number.invariant.stands a.rest a.left_is))
 
 pub returns-in_err-ending-clause-stands : goal.returns-in_err-ending-clause-stands
 returns-in_err-ending-clause-stands g c = c.answer_next.ensures.stands c.loop-number.invariant.stands
@@ -42,18 +41,18 @@ returns-in_err-ending-clause-stands g c = c.answer_next.ensures.stands c.loop-nu
 pub returns-in-Some-clause-said : goal.returns-in-Some-clause-said
 returns-in-Some-clause-said g c = λ input known.
     let a = c.loop-number.invariant.said input known in
-    turn_ends input c.loop-number.number (g.R.Read.remaining c.loop-number.reader) (g.R.Read.remaining c.answer_next.new.reader)
+    turn_ends g.A.Answerer.answers c.args.answerer.now input c.loop-number.number (g.R.Read.remaining c.loop-number.reader) (g.R.Read.remaining c.answer_next.new.reader)
     (g.W.Write.contents c.args.output.now) (g.W.Write.contents c.loop-number.output) (g.W.Write.contents c.answer_next.new.output)
-    (own_state c.loop-number.session) (own_state c.answer_next.new.session) a c.in_ok-ending.field-0 c.in-Some.ending
-    (c.in_ok-ending.ensures.turn a.machine a.shows a.rest a.left_is) c.in-Some.is
+    c.loop-number.answerer c.answer_next.new.answerer a c.in_ok-ending.ending c.in-Some.ending
+    (c.in_ok-ending.ensures.turn c.loop-number.invariant.stands a.rest a.left_is) c.in-Some.is
 
 pub returns-in-Some-clause-stands : goal.returns-in-Some-clause-stands
 returns-in-Some-clause-stands g c = c.answer_next.ensures.stands c.loop-number.invariant.stands
 
 pub returns-clause-said : goal.returns-clause-said
 returns-clause-said g c = λ input known.
-    too_many input c.loop-number.number (g.R.Read.remaining c.loop-number.reader) (g.R.Read.remaining c.loop-number.reader) (g.W.Write.contents c.args.output.now)
-    (g.W.Write.contents c.loop-number.output) (own_state c.loop-number.session) (c.loop-number.invariant.said input known)
+    too_many g.A.Answerer.answers c.args.answerer.now input c.loop-number.number (g.R.Read.remaining c.loop-number.reader) (g.R.Read.remaining c.loop-number.reader)
+    (g.W.Write.contents c.args.output.now) (g.W.Write.contents c.loop-number.output) c.loop-number.answerer (c.loop-number.invariant.said input known)
 
 pub returns-clause-stands : goal.returns-clause-stands
 returns-clause-stands g c = c.loop-number.invariant.stands

@@ -1,5 +1,4 @@
 use Rattle.std.proofs.Common.{true, false, string_bytes, Option, Result, Ok, Err, refl, sym, subst, rules}
-use Rattle.iceoryx2_session.specs.SessionStates.{own_state}
 use Rattle.negotiate_serve.specs.declared.ending.Ending.{Ending}
 use Rattle.negotiate_serve.specs.declared.ending.Fault.{Fault}
 use Rattle.negotiate_serve.specs.Served.{TakesTurn}
@@ -7,52 +6,56 @@ use Rattle.negotiate_serve.proofs.Turns.{as_read, as_said, as_fault, as_written,
 use Rattle.negotiate_serve.proofs.answer.answer_next.Goals as goal
 
 pub returns-then-not-branch-clause-turn : goal.returns-then-not-branch-clause-turn
-returns-then-not-branch-clause-turn g c = λ m shows rest known.
+returns-then-not-branch-clause-turn g c = λ stands rest known.
     let left = g.R.Read.remaining c.next_line.new.reader in
     let line = c.next_line.new.line.items in
-    turn_at_end m c.args.number rest line left (g.W.Write.contents c.args.output.now) (own_state c.args.session.now)
+    turn_at_end g.A.Answerer.answers c.args.answerer.now c.args.answerer.now c.args.number rest left line (g.W.Write.contents c.args.output.now)
     (as_read rest line line left c.in_ok-next_line.field-0 false (c.in_ok-next_line.ensures.read rest known) (search rules) refl)
 
 pub returns-in_err-say-clause-turn : goal.returns-in_err-say-clause-turn
-returns-in_err-say-clause-turn g c = λ m shows rest known.
+returns-in_err-say-clause-turn g c = λ stands rest known.
     let left = g.R.Read.remaining c.next_line.new.reader in
     let line = c.deref.result.now in
     let before = string_bytes c.clear.new.self in
     let text = string_bytes c.answer_line.new.text in
-    let s = own_state c.answer_line.new.session in
+    let m = c.args.answerer.now in
+    let n = c.answer_line.new.answerer in
     let old = g.W.Write.contents c.args.output.now in
     let new = g.W.Write.contents c.say.new.output in
     let fault = c.in_err-say.field-0.0 in
-    subst (λ (r : Result (Option Ending) Fault). TakesTurn r m c.args.number rest left s old new) (sym (as_fault c.from_residual-in_err-say.result fault c.from_residual-in_err-say.ensures.1))
-    (turn_cut m c.args.number rest line before text left s c.clear.ensures.bytes
+    subst (λ (r : Result (Option Ending) Fault). TakesTurn g.A.Answerer.answers r m c.args.number rest left n old new)
+    (sym (as_fault c.from_residual-in_err-say.result fault c.from_residual-in_err-say.ensures.1))
+    (turn_cut g.A.Answerer.answers m n c.args.number rest left line before text c.clear.ensures.bytes
     (as_read rest c.next_line.new.line.items line left c.in_ok-next_line.field-0 true (c.in_ok-next_line.ensures.read rest known) (search rules) c.deref.ensures.value)
-    c.in_ok-goes_on.goes_on fault old new (c.in_ok-goes_on.ensures.said m shows)
+    c.in_ok-goes_on.goes_on fault old new (c.in_ok-goes_on.ensures.said stands)
     (as_written c.as_bytes.result.now text (Err fault) old new c.in_err-say.ensures c.as_bytes.ensures.value))
 
 pub returns-then-goes_on-clause-turn : goal.returns-then-goes_on-clause-turn
-returns-then-goes_on-clause-turn g c = λ m shows rest known.
+returns-then-goes_on-clause-turn g c = λ stands rest known.
     let left = g.R.Read.remaining c.next_line.new.reader in
     let line = c.deref.result.now in
     let before = string_bytes c.clear.new.self in
     let text = string_bytes c.answer_line.new.text in
-    let s = own_state c.answer_line.new.session in
+    let m = c.args.answerer.now in
+    let n = c.answer_line.new.answerer in
     let old = g.W.Write.contents c.args.output.now in
     let new = g.W.Write.contents c.say.new.output in
-    turn_answered m c.args.number rest line before text left s c.clear.ensures.bytes
+    turn_answered g.A.Answerer.answers m n c.args.number rest left line before text c.clear.ensures.bytes
     (as_read rest c.next_line.new.line.items line left c.in_ok-next_line.field-0 true (c.in_ok-next_line.ensures.read rest known) (search rules) c.deref.ensures.value)
-    old new (as_said m c.args.number line before text s c.in_ok-goes_on.goes_on true (c.in_ok-goes_on.ensures.said m shows) c.if-goes_on.true)
+    old new (as_said g.A.Answerer.answers m n c.args.number line before text c.in_ok-goes_on.goes_on true (c.in_ok-goes_on.ensures.said stands) c.if-goes_on.true)
     (as_written c.as_bytes.result.now text (Ok tt) old new c.in_ok-say.ensures c.as_bytes.ensures.value)
 
 pub returns-clause-turn : goal.returns-clause-turn
-returns-clause-turn g c = λ m shows rest known.
+returns-clause-turn g c = λ stands rest known.
     let left = g.R.Read.remaining c.next_line.new.reader in
     let line = c.deref.result.now in
     let before = string_bytes c.clear.new.self in
     let text = string_bytes c.answer_line.new.text in
-    let s = own_state c.answer_line.new.session in
+    let m = c.args.answerer.now in
+    let n = c.answer_line.new.answerer in
     let old = g.W.Write.contents c.args.output.now in
     let new = g.W.Write.contents c.say.new.output in
-    turn_without_command m c.args.number rest line before text left s c.clear.ensures.bytes
+    turn_without_command g.A.Answerer.answers m n c.args.number rest left line before text c.clear.ensures.bytes
     (as_read rest c.next_line.new.line.items line left c.in_ok-next_line.field-0 true (c.in_ok-next_line.ensures.read rest known) (search rules) c.deref.ensures.value)
-    old new (as_said m c.args.number line before text s c.in_ok-goes_on.goes_on false (c.in_ok-goes_on.ensures.said m shows) c.if-goes_on.false)
+    old new (as_said g.A.Answerer.answers m n c.args.number line before text c.in_ok-goes_on.goes_on false (c.in_ok-goes_on.ensures.said stands) c.if-goes_on.false)
     (as_written c.as_bytes.result.now text (Ok tt) old new c.in_ok-say.ensures c.as_bytes.ensures.value)

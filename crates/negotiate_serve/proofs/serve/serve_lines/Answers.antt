@@ -1,23 +1,19 @@
-use Rattle.std.proofs.Common.{ap}
-use Rattle.iceoryx2_world.specs.Tables.{TableState}
-use Rattle.iceoryx2_session.specs.SessionStates.{own_state}
-use Rattle.negotiate_serve.proofs.Shown.{shows_first}
+use Rattle.negotiate_serve.proofs.Answering.{served, served_to_fault}
 use Rattle.negotiate_serve.proofs.serve.serve_lines.Goals as goal
 
-pub serve_session-ended-requires : goal.serve_session-ended-requires
-serve_session-ended-requires g c =
-    let made = c.new-table.ensures.state in
-    shows_first (own_state c.new-session.result) c.default-config.result c.new-table.result c.new-session.ensures.state c.default-config.ensures c.new-session.ensures.stands
-    (c.new-session.ensures.fresh 0 (ap (λ (t : TableState). t.world) made) (ap (λ (t : TableState). t.waiting) made))
+pub returns-in-Ok-clause-serves : goal.returns-in-Ok-clause-serves
+returns-in-Ok-clause-serves g c = λ input known.
+    served g.A.Answerer.answers c.args.answerer.now input c.in-Ok.ending (g.R.Read.remaining c.answer_lines.new.reader) (g.W.Write.contents c.args.output.now)
+    (g.W.Write.contents c.answer_lines.new.output) (c.in-Ok.ensures.said input known)
 
-pub returns-clause-serves : goal.returns-clause-serves
-returns-clause-serves g c = c.serve_session-ended.ensures.serves
+pub returns-in-Ok-clause-stands : goal.returns-in-Ok-clause-stands
+returns-in-Ok-clause-stands g c = c.answer_lines.ensures.stands
 
-pub returns-clause-finished : goal.returns-clause-finished
-returns-clause-finished g c =
-    let m = c.serve_session-ended.ensures.stands.0 in
-    let shows = c.serve_session-ended.ensures.stands.1 in
-    record {
-      services = c.finish.ensures.empty m.services shows.quiet shows.stand shows.owns;
-      tickets = c.finish.ensures.no_tickets shows.quiet.agrees shows.stand shows.owns;
-    }
+pub returns-in-Err-clause-serves : goal.returns-in-Err-clause-serves
+returns-in-Err-clause-serves g c = λ input known.
+    let served = served_to_fault g.A.Answerer.answers c.args.answerer.now input c.in-Err.fault c.tell_fault.result (g.R.Read.remaining c.answer_lines.new.reader)
+    (g.W.Write.contents c.args.output.now) (g.W.Write.contents c.answer_lines.new.output) (g.W.Write.contents c.tell_fault.new.output) (c.in-Err.ensures.said input known) c.tell_fault.ensures in
+    (served.0, served.1, tt)
+
+pub returns-in-Err-clause-stands : goal.returns-in-Err-clause-stands
+returns-in-Err-clause-stands g c = c.answer_lines.ensures.stands

@@ -1,19 +1,31 @@
-use Rattle.negotiate_serve.proofs.Answering.{served, served_to_fault}
+use Rattle.std.proofs.Common.{ap}
+use Rattle.iceoryx2_world.specs.Tables.{TableState}
+use Rattle.iceoryx2_session.specs.SessionStates.{own_state}
+use Rattle.negotiate_serve.specs.Transcripts.{first_machine}
+use Rattle.negotiate_serve.proofs.Shown.{shows_first, serves_as_machine}
 use Rattle.negotiate_serve.proofs.serve.serve_session.Goals as goal
 
-pub returns-in-Ok-clause-serves : goal.returns-in-Ok-clause-serves
-returns-in-Ok-clause-serves g c = λ input known.
-    served input c.in-Ok.ending (g.R.Read.remaining c.answer_lines.new.reader) (g.W.Write.contents c.args.output.now) (g.W.Write.contents c.answer_lines.new.output)
-    (c.in-Ok.ensures.said input known)
+pub serve_by-ended-requires : goal.serve_by-ended-requires
+serve_by-ended-requires g c =
+    let made = c.new-table.ensures.state in (
+      first_machine,
+      shows_first (own_state c.new-session.result) c.default-config.result c.new-table.result c.new-session.ensures.state c.default-config.ensures c.new-session.ensures.stands
+          (c.new-session.ensures.fresh 0 (ap (λ (t : TableState). t.world) made) (ap (λ (t : TableState). t.waiting) made)),
+    )
 
-pub returns-in-Ok-clause-stands : goal.returns-in-Ok-clause-stands
-returns-in-Ok-clause-stands g c = c.answer_lines.ensures.stands
+pub returns-clause-serves : goal.returns-clause-serves
+returns-clause-serves g c = λ bytes known.
+    let made = c.new-table.ensures.state in
+    let served = c.serve_by-ended.ensures.serves bytes known in
+    let shows = shows_first (own_state c.new-session.result) c.default-config.result c.new-table.result c.new-session.ensures.state c.default-config.ensures c.new-session.ensures.stands
+    (c.new-session.ensures.fresh 0 (ap (λ (t : TableState). t.world) made) (ap (λ (t : TableState). t.waiting) made)) in
+    (served.0, serves_as_machine c.new-session.result c.serve_by-ended.result bytes served.0 (g.W.Write.contents c.args.output.now) (g.W.Write.contents c.serve_by-ended.new.output) shows served.1)
 
-pub returns-in-Err-clause-serves : goal.returns-in-Err-clause-serves
-returns-in-Err-clause-serves g c = λ input known.
-    let served = served_to_fault input c.in-Err.fault c.tell_fault.result (g.R.Read.remaining c.answer_lines.new.reader) (g.W.Write.contents c.args.output.now)
-    (g.W.Write.contents c.answer_lines.new.output) (g.W.Write.contents c.tell_fault.new.output) (c.in-Err.ensures.said input known) c.tell_fault.ensures in
-    (served.0, served.1, tt)
-
-pub returns-in-Err-clause-stands : goal.returns-in-Err-clause-stands
-returns-in-Err-clause-stands g c = c.answer_lines.ensures.stands
+pub returns-clause-finished : goal.returns-clause-finished
+returns-clause-finished g c =
+    let m = c.serve_by-ended.ensures.stands.0 in
+    let shows = c.serve_by-ended.ensures.stands.1 in
+    record {
+      services = c.finish.ensures.empty m.services shows.quiet shows.stand shows.owns;
+      tickets = c.finish.ensures.no_tickets shows.quiet.agrees shows.stand shows.owns;
+    }
