@@ -1,8 +1,10 @@
-//! Tests of what the program `negotiate` prints, and of its status.
+//! Tests of what the programs `negotiate` and `explain` print, and of their status.
 #![tactic(auto)]
 
 #[cfg(test)]
 mod ample_memory;
+#[cfg(test)]
+mod explanations;
 #[cfg(test)]
 mod faults;
 #[cfg(test)]

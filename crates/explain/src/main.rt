@@ -1,0 +1,44 @@
+//! The program `explain`: the lines of `negotiate`, and behind each reply what it comes from.
+#![tactic(auto)]
+
+use explain_serve::format::Format;
+use explain_serve::serve::serve;
+use negotiate_serve::ending::{Fault, NOT_A_COMMAND, status};
+use negotiate_serve::serve::tell_fault;
+use std::process::ExitCode;
+use std::{env, io};
+
+/// The format that the arguments ask for: none asks for lines, and other than `--diagram` there is none.
+fn asked_format(rt: &HostRuntime) -> io::Result<Option<Format>> {
+    let mut arguments = env::args(rt)?;
+    let _program = arguments.next();
+    let Some(argument) = arguments.next() else {
+        return Ok(Some(Format::Lines));
+    };
+    match arguments.next() {
+        None => Ok(Format::named(&argument)),
+        Some(_) => Ok(None),
+    }
+}
+
+/// Answers the lines of the standard input on the standard output, and explains each reply.
+///
+/// Ends with status 0, with 2 at a line that is no command and where the arguments are wrong, and with
+/// 3 where reading or writing fails or memory runs out outside a service call.
+fn main(rt: HostRuntime) -> ExitCode {
+    let mut output = io::writer(&rt);
+    match asked_format(&rt) {
+        Ok(Some(format)) => {
+            let ended = serve(rt.alloc(), rt.reader(), &mut output, format);
+            ExitCode::from(status(ended))
+        }
+        Ok(None) => {
+            let _ = eprintln!(rt; "usage: explain [--diagram] < LINES");
+            ExitCode::from(NOT_A_COMMAND)
+        }
+        Err(error) => {
+            let fault = tell_fault(Fault::of_reading(&error), &mut output);
+            ExitCode::from(status(Err(fault)))
+        }
+    }
+}

@@ -1,0 +1,7 @@
+pub mod Calls
+pub mod Explaining
+pub mod Lengths
+pub mod LineFeeds
+pub mod Printing
+pub mod Telling
+pub mod Traces

@@ -1,0 +1,54 @@
+-- The accesses of a command, as a trace keeps them.
+use Rattle.std.proofs.Common.{◌≡◌, ℕ, ◌+◌, ◌-◌, ◌^◌, ◌≤◌, min, List, [], ◌∷◌, ◌++◌, length, map, drop, length-append, length-drop, refl, sym, ap, ◌∙◌, arith}
+use Rattle.std.proofs.lemmas.List.{drop-drop, drop-append-le, length-map}
+use Rattle.iceoryx2_traced.specs.Entries.{entry_of}
+use Rattle.iceoryx2_traced.specs.Trace.{latest}
+use Rattle.iceoryx2_traced.proofs.Runs.{latest_entries, bound, same_room, total}
+use Rattle.iceoryx2_commands.specs.declared.command.Command.{Command}
+use Rattle.iceoryx2_commands.specs.declared.command.Reply.{Reply}
+use Rattle.iceoryx2_session.specs.CommandWords.{GoesAlong}
+use Rattle.iceoryx2_session.specs.Sessions.{GoesBy}
+use Rattle.explain_serve.specs.Traces.{IsAccess, table_inside, TracedSession, room_kept, GoesTraced}
+use Rattle.explain_serve.proofs.Lengths.{word_short}
+
+module _ {A : Type 0} where
+  -- of the latest ones the last ones are those that came last
+  latest_of_latest : (n : ℕ) (xs ys : List A) → length ys ≤ n → latest (length ys) (latest n (xs ++ ys)) ≡ ys
+  latest_of_latest n xs ys fits =
+      let whole = length-append xs ys in
+      let cut = length (xs ++ ys) - n in
+      let left = length-drop cut (xs ++ ys) in
+      let again : cut + (length (drop cut (xs ++ ys)) - length ys) ≡ length xs = omega (arith, whole, left, fits) in
+      drop-drop (length (drop cut (xs ++ ys)) - length ys) cut (xs ++ ys)
+      ∙ ap (λ k. drop k (xs ++ ys)) again ∙ drop-append-le (length xs) xs ys (omega arith) ∙ ap (λ l. l ++ ys) (drop_own xs)
+    where
+      drop_own : (l : List A) → drop (length l) l ≡ []
+      drop_own [] = refl
+      drop_own (x ∷ l) = drop_own l
+
+made_is : (before after n : ℕ) → before + n ≤ 2 ^ 64 - 1 → after ≡ min (before + n) (2 ^ 64 - 1) → after - before ≡ n
+made_is before after n fits is = omega (arith, fits, is)
+
+pub goes_traced : (old new : TracedSession) (c : Command) (r : Reply) → old.table.room ≡ room_kept → length old.table.entries ≤ room_kept
+    → GoesBy IsAccess table_inside old c r new → GoesAlong IsAccess old c r new → GoesTraced old c r new
+goes_traced old new c r room kept goes along = record {
+  goes = goes;
+  word = along.word;
+  is_word = along.is_word;
+  run = along.run;
+  short = word_short old.config old.slots c r along.word along.is_word;
+  made = λ fits. made_is old.table.total new.table.total (length along.word) fits (total along.run (omega (arith, fits)));
+  kept =
+      let same = length-map along.word entry_of in
+      let fits = word_short old.config old.slots c r along.word along.is_word in
+      ap (latest (length along.word)) (latest_entries along.run (omega (arith, room, kept)))
+      ∙ ap (λ n. latest n (latest old.table.room (old.table.entries ++ map entry_of along.word))) (sym same)
+      ∙ latest_of_latest old.table.room old.table.entries (map entry_of along.word) (omega (arith, room, fits, same));
+}
+
+pub still_room : (old new : TracedSession) (c : Command) (r : Reply) → old.table.room ≡ room_kept → GoesAlong IsAccess old c r new → new.table.room ≡ room_kept
+still_room old new c r room along = same_room along.run ∙ room
+
+pub still_kept : (old new : TracedSession) (c : Command) (r : Reply) → old.table.room ≡ room_kept → length old.table.entries ≤ room_kept → GoesAlong IsAccess old c r new
+    → length new.table.entries ≤ room_kept
+still_kept old new c r room kept along = let within = bound along.run (omega (arith, room, kept)) in omega (arith, room, within)

@@ -1,0 +1,4 @@
+pub mod Answered
+pub mod Explained
+pub mod Formats
+pub mod Traces

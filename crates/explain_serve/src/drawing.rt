@@ -1,0 +1,44 @@
+//! What is printed of a reply in a diagram.
+
+ghost use Rattle.std.specs.Prelude.{◌≡◌, OnOk, string_bytes};
+ghost use Rattle.negotiate_lines.specs.Lines.{without_last};
+ghost use Rattle.negotiate_serve.specs.Replies.{GrowsBy};
+ghost use Rattle.explain_serve.specs.Explained.{DrawsLines};
+
+use iceoryx2_commands::command::Reply;
+use iceoryx2_table::table::Table;
+use iceoryx2_traced::traced::Traced;
+use negotiate_explain::diagram::{draw_accesses, draw_note};
+use negotiate_serve::reply::describe;
+use std::alloc::AllocError;
+
+/// Writes the accesses that a command made, which are the latest of the table, as messages, and the reply as a
+/// note. An access that names no node is of this one.
+///
+/// `AllocError` where memory runs out. The text may then have a part of this.
+pub fn draw_reply(
+    node: u64,
+    slot: usize,
+    reply: &Reply,
+    made: u64,
+    traced: &Traced<Table>,
+    text: &mut String,
+) -> Result<(), AllocError>
+    ensures { OnOk result (GrowsBy (DrawsLines node slot reply.now made traced.now)
+        (string_bytes text.old) (string_bytes text.new)) }
+{
+    draw_accesses(traced, made, node, text)?;
+    let mut said = String::new(*text.allocator());
+    describe(reply, slot, &mut said)?;
+    draw_note(without_line_feed(&said), text)
+}
+
+/// The text without one line feed at its end.
+fn without_line_feed(text: &str) -> &str
+    ensures { result.now ≡ without_last 10 text.now }
+{
+    match text.strip_suffix('\n') {
+        Some(front) => front,
+        None => text,
+    }
+}

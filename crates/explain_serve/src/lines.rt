@@ -1,0 +1,98 @@
+//! What is printed of a reply in lines.
+
+ghost use Rattle.std.specs.Prelude.{◌≡◌, OnOk, string_bytes};
+ghost use Rattle.iceoryx2_commands.specs.declared.command.Call.{Call};
+ghost use Rattle.negotiate_serve.specs.Replies.{GrowsBy};
+ghost use Rattle.explain_serve.specs.Explained.{IsCallLine, MayTellWhy, TellsFound, TellsLines, TellsRefusal};
+ghost use Rattle.explain_serve.specs.Explained.{call_of, refusal_of};
+
+use iceoryx2_commands::command::{Call, Command, Refusal, Reply};
+use iceoryx2_session::table_storage::TableStorage;
+use iceoryx2_table::table::Table;
+use iceoryx2_traced::traced::Traced;
+use negotiate_explain::accesses::describe_accesses;
+use negotiate_explain::refusals::describe_row;
+use negotiate_explain::settings::describe_offer;
+use negotiate_explain::standing::service_of;
+use negotiate_lines::line::{self, Line};
+use negotiate_serve::reply::describe;
+use std::alloc::AllocError;
+
+/// Writes the reply to a line's command, the accesses that it made, which are the latest of the table, and
+/// of a refusal when it comes, what can be done, what was required and what is offered.
+///
+/// `AllocError` where memory runs out. The text may then have a part of this.
+pub fn describe_lines(
+    line: &[u8],
+    slot: usize,
+    reply: &Reply,
+    made: u64,
+    traced: &Traced<Table>,
+    text: &mut String,
+) -> Result<(), AllocError>
+    requires { MayTellWhy line.now (refusal_of reply.now) }
+    ensures { OnOk result (GrowsBy (TellsLines line.now slot reply.now made traced.now)
+        (string_bytes text.old) (string_bytes text.new)) }
+{
+    describe(reply, slot, text)?;
+    describe_accesses(traced, made, text)?;
+    match refusal_of(reply) {
+        Some(refusal) => describe_refusal(line, refusal, traced, text),
+        None => Ok(()),
+    }
+}
+
+/// The refusal that a reply tells.
+fn refusal_of(reply: &Reply) -> Option<Refusal>
+    ensures { result ≡ refusal_of reply.now }
+{
+    match reply {
+        Reply::Refused(refusal) => Some(*refusal),
+        _ => None,
+    }
+}
+
+/// Writes why the line's call was refused.
+fn describe_refusal(
+    line: &[u8],
+    refusal: Refusal,
+    traced: &Traced<Table>,
+    text: &mut String,
+) -> Result<(), AllocError>
+    requires { (call : Call) × IsCallLine line.now call }
+    ensures { OnOk result (GrowsBy (TellsRefusal line.now refusal traced.now.inner)
+        (string_bytes text.old) (string_bytes text.new)) }
+{
+    describe_row(refusal, text)?;
+    match call_of(line::parse(*text.allocator(), line)?) {
+        Some(call) => describe_found(&call, refusal, traced, text),
+        None => Ok(()),
+    }
+}
+
+/// The call that a line says.
+fn call_of(line: Line) -> Option<Call>
+    ensures { result ≡ call_of line }
+{
+    match line {
+        Line::Command(Command::Call(call)) => Some(call),
+        _ => None,
+    }
+}
+
+/// Writes what a refused call required, and what is offered by the service that it found.
+fn describe_found(
+    call: &Call,
+    refusal: Refusal,
+    traced: &Traced<Table>,
+    text: &mut String,
+) -> Result<(), AllocError>
+    ensures { OnOk result (GrowsBy (TellsFound call.entry.now refusal traced.now.inner)
+        (string_bytes text.old) (string_bytes text.new)) }
+{
+    let entries = traced.list()?;
+    match service_of(*text.allocator(), &entries, call)? {
+        Some(existing) => describe_offer(call, refusal, &existing, text),
+        None => Ok(()),
+    }
+}
