@@ -33,6 +33,7 @@ copy_crates() {
             [ ! -e "$crate/$part" ] || cp -a "$crate/$part" "$scratch/crates/$name/"
         done
     done
+    cp "$top/crates.txt" "$scratch/crates.txt"
     copy_library measured "$scratch" "negotiate_serve negotiate_lines $libraries libc"
 }
 
