@@ -218,9 +218,12 @@ impl<S: Service> Builder<S> {
     ///
     /// Refused with `AlreadyExists` where the service exists, with `HangsInCreation` or
     /// `IsBeingCreatedByAnotherInstance` while somebody else creates it, with
-    /// `ServiceInCorruptedState` where the storage contradicts itself, with `InternalFailure`
-    /// where the storage fails or there is no time, and with `InsufficientPermissions` or
-    /// `OutOfMemory` as they say. What a refused call made is given back.
+    /// `ServiceInCorruptedState` where the look finds bytes that are no description, or one of
+    /// another hash, or a storage at fault, where the node is counted though there is no service,
+    /// where a segment can't be cleared away, or where nothing is published, with
+    /// `InternalFailure` where the storage fails or there is no time, and with
+    /// `InsufficientPermissions` or `OutOfMemory` as they say. What a refused call made is given
+    /// back.
     pub fn create_with_attributes(
         self,
         specifier: &AttributeSpecifier,
@@ -254,8 +257,9 @@ impl<S: Service> Builder<S> {
     /// lacks a required pair or has no value for a required key, with the setting's error where it
     /// offers less than is required or another event or deadline, with `ExceedsMaxNumberOfNodes`
     /// where no further node has room, with `IsMarkedForDestruction` where the last node has left,
-    /// with `HangsInCreation` while it is created, with `ServiceInCorruptedState` where its
-    /// description can't be read or the service is replaced again and again, with
+    /// with `HangsInCreation` while it is created, with `ServiceInCorruptedState` where the look
+    /// finds bytes that are no description, or one of another hash, or a storage at fault, where
+    /// its segment isn't there, or where the service is replaced again and again, with
     /// `InternalFailure` where the storage fails, and with `IncompatibleMessagingPattern`,
     /// `InsufficientPermissions` or `OutOfMemory` as they say.
     pub fn open_with_attributes(

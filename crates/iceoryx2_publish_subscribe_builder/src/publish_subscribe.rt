@@ -333,9 +333,11 @@ impl<P: ZeroCopySend, U: ZeroCopySend, S: Service> Builder<P, U, S> {
     /// `SubscriberBufferMustBeLargerThanHistorySize` where without safe overflow the buffer has less
     /// room than the history wants, both before any access; with `AlreadyExists` where there is a
     /// service, with `HangsInCreation` or `IsBeingCreatedByAnotherInstance` while another one
-    /// creates it, with `ServiceInCorruptedState` where what is there can't be used or not be
-    /// cleared away, with `InternalFailure` where the storage fails, and with
-    /// `InsufficientPermissions` or `OutOfMemory` as they say.
+    /// creates it, with `ServiceInCorruptedState` where the look finds bytes that are no
+    /// description, or one of another hash, or a storage at fault, where the node is counted though
+    /// there is no service, where a segment can't be cleared away, or where nothing is published,
+    /// with `InternalFailure` where the storage fails, and with `InsufficientPermissions` or
+    /// `OutOfMemory` as they say.
     pub fn create_with_attributes(
         self,
         specifier: &AttributeSpecifier,
@@ -377,9 +379,10 @@ impl<P: ZeroCopySend, U: ZeroCopySend, S: Service> Builder<P, U, S> {
     /// a required key, with the setting's error where it offers less than is required or another
     /// overflow, with `ExceedsMaxNumberOfNodes` where no further node has room, with
     /// `IsMarkedForDestruction` where the last node has left, with `HangsInCreation` while it is
-    /// created, with `ServiceInCorruptedState` where its description can't be read or the service is
-    /// replaced again and again, with `InternalFailure` where the storage fails, and with
-    /// `IncompatibleMessagingPattern`, `InsufficientPermissions` or `OutOfMemory` as they say.
+    /// created, with `ServiceInCorruptedState` where the look finds bytes that are no description,
+    /// or one of another hash, or a storage at fault, where its segment isn't there, or where the
+    /// service is replaced again and again, with `InternalFailure` where the storage fails, and
+    /// with `IncompatibleMessagingPattern`, `InsufficientPermissions` or `OutOfMemory` as they say.
     pub fn open_with_attributes(
         self,
         verifier: &AttributeVerifier,

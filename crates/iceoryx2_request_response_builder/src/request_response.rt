@@ -399,7 +399,9 @@ impl<Q: ZeroCopySend, QU: ZeroCopySend, R: ZeroCopySend, RU: ZeroCopySend, S: Se
     /// Refused with `OutOfMemory` where there was no memory for the types, before any access; with
     /// `AlreadyExists` where there is a service, with `HangsInCreation` or
     /// `IsBeingCreatedByAnotherInstance` while another one creates it, with
-    /// `ServiceInCorruptedState` where what is there can't be used or not be cleared away, with
+    /// `ServiceInCorruptedState` where the look finds bytes that are no description, or one of
+    /// another hash, or a storage at fault, where the node is counted though there is no service,
+    /// where a segment can't be cleared away, or where nothing is published, with
     /// `InternalFailure` where the storage fails, and with `InsufficientPermissions` or
     /// `OutOfMemory` as they say.
     pub fn create_with_attributes(
@@ -444,8 +446,9 @@ impl<Q: ZeroCopySend, QU: ZeroCopySend, R: ZeroCopySend, RU: ZeroCopySend, S: Se
     /// with the setting's error where it offers less than is required or another behavior, with
     /// `ExceedsMaxNumberOfNodes` where no further node has room, with `IsMarkedForDestruction`
     /// where the last node has left, with `HangsInCreation` while it is created, with
-    /// `ServiceInCorruptedState` where its description can't be read or the service is replaced
-    /// again and again, with `InternalFailure` where the storage fails, and with
+    /// `ServiceInCorruptedState` where the look finds bytes that are no description, or one of
+    /// another hash, or a storage at fault, where its segment isn't there, or where the service is
+    /// replaced again and again, with `InternalFailure` where the storage fails, and with
     /// `IncompatibleMessagingPattern`, `InsufficientPermissions` or `OutOfMemory` as they say.
     pub fn open_with_attributes(
         self,

@@ -29,7 +29,7 @@ pub record There {A : Type 0} (o : Option A) : Type 0 where
   pub it : A
   pub is : o ≡ Some it
 
--- who may not read what is published has read it before
+-- the step Read was made, or it was forbidden and nothing changed
 pub read_or_not : (i : ℕ) (h : ServiceHash) (b c : Book) (t : set.FinSet tag_cmp) (k : Tickets) (done : Bool) → StepsOrStays b (Node i) h act.Read done c → world_with c t k ≡ write (world_with b t k) i h (read_change (step_at b (Node i) h act.Read))
 read_or_not i h b c t k true s = ap (λ x. world_with x t k) s.2 ∙ ap (λ o. write (world_with b t k) i h (read_change o)) (sym s.1)
 read_or_not i h b c t k false s = ap (λ x. world_with x t k) s.1 ∙ ap (λ o. write (world_with b t k) i h (read_change o)) (sym s.0)

@@ -122,7 +122,7 @@ abbrev pub is_joined : Phase → Bool
 is_joined (at.Joined n k) = true
 is_joined _ = false
 
--- who may not read what is published has read it before
+-- A fetch makes the step Read where that is allowed. Who has made or joined the segment reads and keeps its phase.
 abbrev pub read_change : Option ServiceView → Change
 read_change None = nothing
 read_change (Some x) = view_becomes x
@@ -139,7 +139,7 @@ has_made n _ = false
 abbrev pub need : {E : Type 0} → Bool → E → Option E → Option E
 need b e rest = if b then rest else Some e
 
--- the last test of an opening: there is a ticket
+-- there is a number left for the ticket, and then what is tested after it
 abbrev pub number_refusal : ℕ → Option OpenSegmentError → Option OpenSegmentError
 number_refusal c rest = need (nat_lt c last_number) Opening.OutOfNumbers rest
 
