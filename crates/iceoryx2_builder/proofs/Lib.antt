@@ -2,3 +2,4 @@ pub mod Setters
 pub mod Weaker
 pub mod Accepts
 pub mod Adjusting
+pub mod LawfulCalls

@@ -1,26 +1,34 @@
 //! Nodes, and where their builders begin.
 
-ghost use Rattle.std.specs.Prelude.{◌≡◌};
+ghost use Rattle.std.specs.Prelude.{◌≡◌, ℕ, List, Result};
 ghost use Rattle.iceoryx2_attribute.specs.Requirements.{Requirements};
 ghost use Rattle.iceoryx2_builder.specs.Setters.{AreSetters, event_place, publish_subscribe_place, request_response_place};
 ghost use Rattle.iceoryx2_builder.specs.Weaker.{AreSomeOf};
 ghost use Rattle.iceoryx2_builder.specs.Weaker.{IsWeakerEvent, IsWeakerPublishSubscribe, IsWeakerRequestResponse};
 ghost use Rattle.iceoryx2_builder_common.specs.Builders.{IsLawfulBuilder};
 ghost use Rattle.iceoryx2_open_or_create.specs.Adjusting.{Accepts, OnlyRaises};
+ghost use Rattle.iceoryx2_open_or_create.specs.BuilderCalls.{Way};
 ghost use Rattle.iceoryx2_open_or_create.specs.EndsAtOnce.{EndsAtOnce};
+ghost use Rattle.iceoryx2_open_or_create.specs.LawfulCalls.{IsLawfulCall};
 ghost use Rattle.iceoryx2_pattern.specs.OwnAttributes.{defining, requiring};
 ghost use Rattle.iceoryx2_description.specs.Description.{Description};
+ghost use Rattle.iceoryx2_description.specs.Span.{Span};
+ghost use Rattle.iceoryx2_description.specs.declared.description.ServiceHash.{ServiceHash};
+ghost use Rattle.iceoryx2_description.specs.declared.time.ClockFault.{ClockFault};
 ghost use Rattle.iceoryx2_event_builder.specs.Event.{event_adjusted, event_creating, event_meaning, event_opening, event_retried};
-ghost use Rattle.iceoryx2_event_builder.specs.Builder.{fresh_builder, with_setting as with_event_setting};
+ghost use Rattle.iceoryx2_event_builder.specs.Builder.{EventBuilderState, fresh_builder, with_setting as with_event_setting};
+ghost use Rattle.iceoryx2_event_builder.specs.EventCalls.{event_call};
 ghost use Rattle.iceoryx2_event_builder.specs.declared.event.demand.EventDemand.{EventDemand};
 ghost use Rattle.iceoryx2_types.specs.Types.{IsCompatible, Message};
 ghost use Rattle.iceoryx2_publish_subscribe_builder.specs.PublishSubscribe.{publish_subscribe_creating, publish_subscribe_opening, publish_subscribe_retried};
 ghost use Rattle.iceoryx2_publish_subscribe_builder.specs.PublishSubscribe.{publish_subscribe_adjusted as raised_publish_subscribe};
 ghost use Rattle.iceoryx2_publish_subscribe_builder.specs.PublishSubscribe.{prepared_meaning as publish_subscribe_meaning, prepared_adjusted as publish_subscribe_adjusted};
-ghost use Rattle.iceoryx2_publish_subscribe_builder.specs.Builder.{fresh_builder as fresh_publish_subscribe, with_setting as with_publish_subscribe_setting};
+ghost use Rattle.iceoryx2_publish_subscribe_builder.specs.PublishSubscribeCalls.{publish_subscribe_call};
+ghost use Rattle.iceoryx2_publish_subscribe_builder.specs.Builder.{PublishSubscribeBuilderState, fresh_builder as fresh_publish_subscribe, with_setting as with_publish_subscribe_setting};
 ghost use Rattle.iceoryx2_publish_subscribe_builder.specs.declared.publish_subscribe.demand.PublishSubscribeDemand.{PublishSubscribeDemand};
 ghost use Rattle.iceoryx2_publish_subscribe_builder.specs.declared.publish_subscribe.demand.PreparedDemand.{PreparedDemand as PreparedPublishSubscribe};
-ghost use Rattle.iceoryx2_request_response_builder.specs.Builder.{fresh_builder as fresh_request_response, with_setting as with_request_response_setting};
+ghost use Rattle.iceoryx2_request_response_builder.specs.RequestResponseCalls.{request_response_call};
+ghost use Rattle.iceoryx2_request_response_builder.specs.Builder.{Messages, RequestResponseBuilderState, fresh_builder as fresh_request_response, with_setting as with_request_response_setting};
 ghost use Rattle.iceoryx2_request_response_builder.specs.RequestResponse.{request_response_creating, request_response_opening, request_response_retried};
 ghost use Rattle.iceoryx2_request_response_builder.specs.RequestResponse.{request_response_adjusted as raised_request_response};
 ghost use Rattle.iceoryx2_request_response_builder.specs.RequestResponse.{prepared_meaning as request_response_meaning, prepared_adjusted as request_response_adjusted};
@@ -205,9 +213,10 @@ pub fn laws_of_asking()
 
 /// What holds of the calls of each builder, whatever they ask and whatever the clock says.
 ///
-/// A builder opens what the same builder creates: with its adjusted settings a create publishes
-/// what fits it and meets each setting that it requires, whatever attributes are defined. And what a
-/// table that nobody else uses refuses is not tried again by an open or create.
+/// A builder opens what the same builder creates, if the defined pairs meet the attributes that the
+/// open requires: with its adjusted settings a create publishes what fits it and meets each setting
+/// that it requires. And what a table that nobody else uses refuses is not tried again by an open or
+/// create.
 pub fn laws_of_calls()
     ensures events { (demand : EventDemand) → IsLawfulBuilder (event_creating demand) (event_opening demand) }
     ensures publish_subscribe { (demand : PublishSubscribeDemand) (message : Message)
@@ -249,3 +258,19 @@ pub fn laws_of_adjusting()
 {
     types::laws_of_compatibility();
 }
+
+/// Each call of a builder, whichever of its three it is, is one of which the laws over whole calls
+/// speak: its create publishes for one node or more, only raises minima, and publishes what an open
+/// takes that has the same settings and types and requires no attributes; and what a table that nobody
+/// else uses refuses is not tried again.
+pub fn lawful_calls()
+    ensures events { (hash_of : ℕ → List ℕ → ServiceHash) (b : EventBuilderState) (way : Way)
+        (required : Requirements) (now : Result Span ClockFault)
+        → IsLawfulCall (event_call hash_of b way required now) }
+    ensures publish_subscribe { (hash_of : ℕ → List ℕ → ServiceHash) (b : PublishSubscribeBuilderState)
+        (message : Message) (way : Way) (required : Requirements)
+        → IsLawfulCall (publish_subscribe_call hash_of b message way required) }
+    ensures request_response { (hash_of : ℕ → List ℕ → ServiceHash) (b : RequestResponseBuilderState)
+        (messages : Messages) (way : Way) (required : Requirements)
+        → IsLawfulCall (request_response_call hash_of b messages way required) }
+{}

@@ -3,6 +3,7 @@
 ghost use Rattle.std.specs.Prelude.{◌≡◌, ◌↔◌, ℕ, ◌+◌, ◌≤◌, List, Result, Ok, Err, Some, None};
 ghost use Rattle.std.specs.Prelude.{IsTrue, IfErr};
 ghost use Rattle.std.specs.FinMap as map;
+ghost use Rattle.iceoryx2_attribute.specs.Requirements.{Requirements, AreMetBy};
 ghost use Rattle.iceoryx2_description.specs.declared.description.ServiceHash.{ServiceHash};
 ghost use Rattle.iceoryx2_world.specs.declared.listing.Entry.{Entry};
 ghost use Rattle.iceoryx2_world.specs.declared.world.Participant.TheVariants.{Node};
@@ -18,6 +19,7 @@ ghost use Rattle.iceoryx2_world.specs.Listing.{Lists};
 ghost use Rattle.iceoryx2_pattern.specs.declared.pattern.OpenRefusal.TheVariants.{OutOfMemory};
 ghost use Rattle.iceoryx2_errors.specs.declared.error.CloseError.{CloseError};
 ghost use Rattle.iceoryx2_pattern.specs.Meaning.{Meaning};
+ghost use Rattle.iceoryx2_pattern.specs.OwnAttributes.{requiring};
 ghost use Rattle.iceoryx2_pattern.specs.Verdict.{verdict};
 ghost use Rattle.iceoryx2_access.specs.Registered.{Registered};
 ghost use Rattle.iceoryx2_create_and_open.specs.declared.caller.Caller.{Caller};
@@ -26,7 +28,9 @@ ghost use Rattle.iceoryx2_port_factory.specs.Closes.{IsCloseWord};
 ghost use Rattle.iceoryx2_open_or_create.specs.Adjusting.{OnlyRaises};
 ghost use Rattle.iceoryx2_open_or_create.specs.BuilderCalls.{BuilderCall, ErrorBy, creating, opening};
 ghost use Rattle.iceoryx2_open_or_create.specs.CallWords.{IsWordOf};
+ghost use Rattle.iceoryx2_open_or_create.specs.LawfulCalls.{IsLawfulCall};
 ghost use Rattle.iceoryx2_call_laws.specs.Headline.{IsOpenAsAsked};
+ghost use Rattle.iceoryx2_call_laws.specs.OpensAgain.{OpensAgain};
 ghost use Rattle.iceoryx2_call_laws.specs.Quiet.{Quiet, QuietService, Shows, no_service, service_at, times_counted};
 ghost use Rattle.iceoryx2_call_laws.specs.QuietCalls.{Closes, HasPlace, HasNumber};
 ghost use Rattle.iceoryx2_call_laws.specs.QuietPrepared.{CreatesPrepared, OpensPrepared};
@@ -122,15 +126,19 @@ pub fn quiet_calls<D, E: Copy, C: Copy>()
         → OpensPrepared m q node hash answer p
         → IfErr answer (λ e. e ≡ m.open_refusal OutOfMemory) }
 
-    // What a call of a builder has given the same builder opens, whichever node calls, if it accepts what it
-    // creates and its create only raises minima: while the factory is open, whatever came between, with a place
-    // and a number left, the open is Ok or out of memory.
-    ensures own_settings { (c : BuilderCall D E C) (node : ℕ) (q p : Quiet) (f : Registered) (w : World)
-        (answer : Result Registered E)
-        → AcceptsOwn (creating c) (opening c) c.caller
+    // What a call of a builder has given an open takes that asks the same, whichever node calls and whatever it
+    // requires of attributes that the factory's meet, as they do where it requires none, if the builder accepts what
+    // it creates and its create only raises minima: while the factory is open, whatever came between, with a place and
+    // a number left, the open is Ok or out of memory.
+    ensures own_settings { (c : BuilderCall D E C) (required : Requirements) (node : ℕ) (q p : Quiet) (f : Registered)
+        (w : World) (answer : Result Registered E)
+        → AcceptsOwn (creating c) (c.meaning c.asked) c.caller
         → OnlyRaises c.meaning c.adjusted
-        → IsOpenAsAsked c w f → Shows w q
+        → IsOpenAsAsked c w f → Shows w q → AreMetBy required f.description.attributes
         → ((x : QuietService) → service_at q c.caller.hash ≡ Some x → HasPlace x node) → HasNumber q
-        → OpensPrepared (opening c) q node c.caller.hash answer p
+        → OpensPrepared (requiring required (c.meaning c.asked)) q node c.caller.hash answer p
         → IfErr answer (λ e. e ≡ (opening c).open_refusal OutOfMemory) }
+
+    // So of each lawful call, as those of the three builders are, and along the words of the open.
+    ensures opens_again { (c : BuilderCall D E C) → IsLawfulCall c → OpensAgain c }
 {}

@@ -12,9 +12,10 @@ use Rattle.iceoryx2_builder_common.proofs.Rows.{accepted}
 use Rattle.iceoryx2_builder_common.proofs.Raised.{not_below}
 use Rattle.iceoryx2_event_builder.specs.declared.event.demand.EventDemand.{EventDemand}
 use Rattle.iceoryx2_attribute.specs.Attributes.{Pair}
-use Rattle.iceoryx2_attribute.specs.Requirements.{no_requirements}
+use Rattle.iceoryx2_attribute.specs.Requirements.{Requirements, AreMetBy}
 use Rattle.iceoryx2_event_builder.specs.Event.{event_meaning, event_adjusted, event_creating, event_opening, created_deadline, deadline_value}
 use Rattle.iceoryx2_create_and_open.specs.OwnSettings.{AcceptsOwn}
+use Rattle.iceoryx2_open_or_create.proofs.OwnAttributes.{met_with_attributes}
 
 -- a create sets the time of a deadline, and not its length
 same_deadline : (now : Span) (deadline : Option Deadline)
@@ -27,6 +28,10 @@ meets : (demand : EventDemand) (caller : Caller)
 unfolding at_least number_is span_is
 meets demand caller = accepted _ (search (rules, not_below, not_less, same_choice, same_deadline))
 
-pub own_settings : (demand : EventDemand) (given : List Pair) (caller : Caller)
-    → AcceptsOwn (event_creating demand given) (event_opening demand no_requirements) caller
-own_settings demand given caller = record { fits = λ node. refl; accepted = λ node. meets demand (record caller { node = node }) }
+pub own_settings : (demand : EventDemand) (given : List Pair) (required : Requirements) (caller : Caller) → AreMetBy required given
+    → AcceptsOwn (event_creating demand given) (event_opening demand required) caller
+own_settings demand given required caller met = record {
+  fits = λ node. refl;
+  accepted = λ node. let own = record caller { node = node } in
+      met_with_attributes (event_meaning demand) required (description_of (event_creating demand given) own) met (meets demand own);
+}

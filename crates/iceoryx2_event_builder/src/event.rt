@@ -43,9 +43,9 @@ pub fn prefix_is_e()
 
 /// What holds of each builder of events.
 ///
-/// With its adjusted settings a create publishes for one node or more,
-/// and what the same builder opens: it fits it and meets each setting that it requires, whatever
-/// attributes are defined and whatever the clock says.
+/// With its adjusted settings a create publishes for one node or more, and what the same builder
+/// opens, if the defined pairs meet the attributes that the open requires: it fits it and meets
+/// each setting that it requires, whatever the clock says.
 pub fn opens_what_it_creates()
     ensures { (demand : EventDemand) → IsLawfulBuilder (event_creating demand) (event_opening demand) }
 {}

@@ -3,3 +3,4 @@ pub mod Granted
 pub mod Adjusting
 pub mod Left
 pub mod Ends
+pub mod OwnAttributes

@@ -6,4 +6,5 @@ pub mod CallWords
 pub mod EndsAtOnce
 pub mod Adjusting
 pub mod Grants
+pub mod LawfulCalls
 pub mod Leaves

@@ -3,7 +3,7 @@ use Rattle.std.proofs.Common.{◌≡◌, Bool, false, true, cond, ℕ, List, Res
 use Rattle.std.specs.Prelude.{map}
 use Rattle.iceoryx2_types.specs.Types.{Message, compatible}
 use Rattle.iceoryx2_attribute.specs.Attributes.{Pair}
-use Rattle.iceoryx2_attribute.specs.Requirements.{Requirements, no_requirements}
+use Rattle.iceoryx2_attribute.specs.Requirements.{Requirements, AreMetBy}
 use Rattle.iceoryx2_description.specs.declared.description.MessagingPattern.{MessagingPattern}
 use Rattle.iceoryx2_description.specs.declared.description.MessagingPattern.TheVariants as existing
 use Rattle.iceoryx2_errors.specs.declared.error.publish_subscribe.PublishSubscribeCreateError.TheVariants as creating
@@ -16,6 +16,7 @@ use Rattle.iceoryx2_create_and_open.specs.OwnSettings.{AcceptsOwn}
 use Rattle.iceoryx2_description.specs.Description.{Description}
 use Rattle.iceoryx2_pattern.specs.OwnAttributes.{attribute_clauses, defining, requiring}
 use Rattle.iceoryx2_open_or_create.specs.EndsAtOnce.{EndsAtOnce}
+use Rattle.iceoryx2_open_or_create.proofs.OwnAttributes.{met_with_attributes}
 use Rattle.iceoryx2_open_or_create.proofs.Ends.{Errs, attributes_err, both_err, rows_err, unmet_ends}
 use Rattle.iceoryx2_errors.specs.declared.error.publish_subscribe.PublishSubscribeOpenError.{PublishSubscribeOpenError}
 use Rattle.iceoryx2_errors.specs.declared.error.publish_subscribe.PublishSubscribeOpenError.TheVariants as opening
@@ -36,11 +37,14 @@ meets : (demand : PublishSubscribeDemand) (message : Message) (caller : Caller)
 unfolding at_least flag_is
 meets demand message caller = accepted _ (search (rules, not_below, not_less, same_flag))
 
-own_settings : (demand : PublishSubscribeDemand) (message : Message) (given : List Pair) (caller : Caller)
-    → AcceptsOwn (publish_subscribe_creating demand message given) (publish_subscribe_opening demand message no_requirements) caller
-own_settings demand message given caller = record {
+own_settings : (demand : PublishSubscribeDemand) (message : Message) (given : List Pair) (required : Requirements) (caller : Caller)
+    → AreMetBy required given
+    → AcceptsOwn (publish_subscribe_creating demand message given) (publish_subscribe_opening demand message required) caller
+own_settings demand message given required caller met = record {
   fits = λ node. ap (λ b. cond b None (Some opening.IncompatibleTypes)) (fits_itself message);
-  accepted = λ node. meets demand message (record caller { node = node });
+  accepted = λ node. let own = record caller { node = node } in
+      met_with_attributes (publish_subscribe_meaning demand message) required
+      (description_of (publish_subscribe_creating demand message given) own) met (meets demand message own);
 }
 
 pub publish_subscribe_builder : (demand : PublishSubscribeDemand) (message : Message)

@@ -61,9 +61,9 @@ pub fn prefix_is_p()
 
 /// What holds of each builder of publish-subscribe, whatever the types of its messages.
 ///
-/// With its adjusted settings a create publishes for one node or more,
-/// and what the same builder opens: it fits it and meets each setting that it requires, whatever
-/// attributes are defined.
+/// With its adjusted settings a create publishes for one node or more, and what the same builder
+/// opens, if the defined pairs meet the attributes that the open requires: it fits it and meets
+/// each setting that it requires.
 pub fn opens_what_it_creates()
     ensures { (demand : PublishSubscribeDemand) (message : Message)
         → IsLawfulBuilder (publish_subscribe_creating demand message) (publish_subscribe_opening demand message) }

@@ -3,7 +3,7 @@ use Rattle.std.proofs.Common.{◌≡◌, Bool, false, cond, ℕ, List, Result, S
 use Rattle.std.specs.Prelude.{map}
 use Rattle.iceoryx2_types.specs.Types.{Message, compatible}
 use Rattle.iceoryx2_attribute.specs.Attributes.{Pair}
-use Rattle.iceoryx2_attribute.specs.Requirements.{Requirements, no_requirements}
+use Rattle.iceoryx2_attribute.specs.Requirements.{Requirements, AreMetBy}
 use Rattle.iceoryx2_description.specs.declared.description.MessagingPattern.{MessagingPattern}
 use Rattle.iceoryx2_description.specs.declared.description.MessagingPattern.TheVariants as existing
 use Rattle.iceoryx2_errors.specs.declared.error.request_response.RequestResponseCreateError.TheVariants as creating
@@ -16,6 +16,7 @@ use Rattle.iceoryx2_create_and_open.specs.OwnSettings.{AcceptsOwn}
 use Rattle.iceoryx2_description.specs.Description.{Description}
 use Rattle.iceoryx2_pattern.specs.OwnAttributes.{attribute_clauses, defining, requiring}
 use Rattle.iceoryx2_open_or_create.specs.EndsAtOnce.{EndsAtOnce}
+use Rattle.iceoryx2_open_or_create.proofs.OwnAttributes.{met_with_attributes}
 use Rattle.iceoryx2_open_or_create.proofs.Ends.{Errs, attributes_err, both_err, rows_err, unmet_ends}
 use Rattle.iceoryx2_errors.specs.declared.error.request_response.RequestResponseOpenError.{RequestResponseOpenError}
 use Rattle.iceoryx2_errors.specs.declared.error.request_response.RequestResponseOpenError.TheVariants as opening
@@ -36,11 +37,14 @@ meets : (demand : RequestResponseDemand) (request response : Message) (caller : 
 unfolding flag_is at_least
 meets demand request response caller = accepted _ (search (rules, not_below, same_flag))
 
-own_settings : (demand : RequestResponseDemand) (request response : Message) (given : List Pair) (caller : Caller)
-    → AcceptsOwn (request_response_creating demand request response given) (request_response_opening demand request response no_requirements) caller
-own_settings demand request response given caller = record {
+own_settings : (demand : RequestResponseDemand) (request response : Message) (given : List Pair) (required : Requirements) (caller : Caller)
+    → AreMetBy required given
+    → AcceptsOwn (request_response_creating demand request response given) (request_response_opening demand request response required) caller
+own_settings demand request response given required caller met = record {
   fits = λ node. rw (fits_itself request, fits_itself response) refl;
-  accepted = λ node. meets demand request response (record caller { node = node });
+  accepted = λ node. let own = record caller { node = node } in
+      met_with_attributes (request_response_meaning demand request response) required
+      (description_of (request_response_creating demand request response given) own) met (meets demand request response own);
 }
 
 pub request_response_builder : (demand : RequestResponseDemand) (request response : Message)

@@ -62,9 +62,9 @@ pub fn prefix_is_r()
 
 /// What holds of each builder of request-response, whatever the types of its messages.
 ///
-/// With its adjusted settings a create publishes for one node or more,
-/// and what the same builder opens: it fits it and meets each setting that it requires, whatever
-/// attributes are defined.
+/// With its adjusted settings a create publishes for one node or more, and what the same builder
+/// opens, if the defined pairs meet the attributes that the open requires: it fits it and meets
+/// each setting that it requires.
 pub fn opens_what_it_creates()
     ensures { (demand : RequestResponseDemand) (request response : Message) → IsLawfulBuilder
         (request_response_creating demand request response) (request_response_opening demand request response) }

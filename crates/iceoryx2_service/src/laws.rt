@@ -1,5 +1,6 @@
 //! The laws of calls and sessions over a table, and of the worlds, batches, scripts, faults and traces below them.
 
+pub use crate::promise::opens_again;
 pub use iceoryx2_call_laws::fault_laws::agreement_under_faults;
 pub use iceoryx2_call_laws::laws::agreement;
 pub use iceoryx2_call_laws::quiet_laws::{quiet_calls, quiet_laws};

@@ -3,6 +3,7 @@
 
 pub mod builder;
 pub mod laws;
+mod promise;
 pub mod session;
 
 pub use iceoryx2_call_laws::{fault_laws, quiet_laws};

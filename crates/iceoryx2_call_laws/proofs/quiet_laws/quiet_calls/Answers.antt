@@ -4,8 +4,7 @@ use Rattle.iceoryx2_pattern.specs.declared.pattern.OpenRefusal.TheVariants as re
 use Rattle.iceoryx2_call_laws.proofs.quiet.Prepared.{each_prepared, granted_prepared}
 use Rattle.iceoryx2_call_laws.proofs.quiet.Ways.{call_follows, refused_call}
 use Rattle.iceoryx2_call_laws.proofs.quiet.After.{create_and_close, opened_again, accepted}
-use Rattle.iceoryx2_open_or_create.specs.BuilderCalls.{opening}
-use Rattle.iceoryx2_call_laws.proofs.quiet.Own.{opens_own}
+use Rattle.iceoryx2_call_laws.proofs.quiet.Own.{opens_own_prepared, opens_again}
 use Rattle.iceoryx2_call_laws.proofs.quiet_laws.quiet_calls.Goals as goal
 
 pub returns-clause-call : goal.returns-clause-call
@@ -25,6 +24,8 @@ returns-clause-accepted g c = λ m node hash q p x answer there good fits place 
     each_prepared (λ answer p. IfErr answer (λ e. e ≡ m.open_refusal refusal.OutOfMemory)) refl (λ answer p is. accepted m node hash q p x answer there good fits place room is) call
 
 pub returns-clause-own_settings : goal.returns-clause-own_settings
-returns-clause-own_settings g c = λ call node q p f w answer own raises is s place room opened.
-    each_prepared (λ answer p. IfErr answer (λ e. e ≡ (opening call).open_refusal refusal.OutOfMemory)) refl
-    (λ answer p made. opens_own call own raises node q p f w answer is s place room made) opened
+returns-clause-own_settings g c = λ call required node q p f w answer own raises is s met place room opened.
+    opens_own_prepared call own raises required node q p f w answer is s met place room opened
+
+pub returns-clause-opens_again : goal.returns-clause-opens_again
+returns-clause-opens_again g c = λ call lawful. opens_again call lawful

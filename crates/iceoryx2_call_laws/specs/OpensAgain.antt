@@ -1,0 +1,37 @@
+-- That what a call has given is opened again, over a table that nobody else uses.
+use Rattle.std.specs.Prelude.{◌≡◌, ℕ, List, Some, Result, IfErr}
+use Rattle.iceoryx2_attribute.specs.Requirements.{Requirements, AreMetBy}
+use Rattle.iceoryx2_description.specs.declared.description.ServiceHash.{ServiceHash}
+use Rattle.iceoryx2_access.specs.Letter.{Letter}
+use Rattle.iceoryx2_access.specs.Registered.{Registered}
+use Rattle.iceoryx2_access.specs.Run.{Run}
+use Rattle.iceoryx2_pattern.specs.declared.pattern.OpenRefusal.TheVariants.{OutOfMemory}
+use Rattle.iceoryx2_open_or_create.specs.BuilderCalls.{BuilderCall, ToOpen, opening}
+use Rattle.iceoryx2_open_or_create.specs.CallWords.{IsWordBy}
+use Rattle.iceoryx2_world.specs.World.{World}
+use Rattle.iceoryx2_world.specs.Access.{IsOwnPart}
+use Rattle.iceoryx2_world.specs.Across.{Agrees}
+use Rattle.iceoryx2_call_laws.specs.Headline.{IsOpenAsAsked}
+use Rattle.iceoryx2_call_laws.specs.Quiet.{Quiet, QuietService, Shows, service_at}
+use Rattle.iceoryx2_call_laws.specs.QuietCalls.{HasPlace, HasNumber}
+
+-- An open of the call's service with its settings and types, by this node and with these required attributes.
+abbrev pub opening_again : {D E C : Type 0} → BuilderCall D E C → ℕ → Requirements → BuilderCall D E C
+opening_again c node required =
+    record c { way = ToOpen; caller = record c.caller { node = node }; required = required }
+
+-- The service takes this node, and a number is left.
+pub record HasRoomFor (q : Quiet) (node : ℕ) (hash : ServiceHash) : Type 0 where
+  pub place : (x : QuietService) → service_at q hash ≡ Some x → HasPlace x node
+  pub number : HasNumber q
+
+-- While a factory is open that the call gave, with a place and a number left, such an open is Ok or out of memory,
+-- whichever node calls and whatever it requires of attributes that the factory's meet, as they do where it requires
+-- none.
+abbrev pub OpensAgain : {D E C : Type 0} → BuilderCall D E C → Type 0
+OpensAgain {E = E} c = (required : Requirements) (node : ℕ) (f : Registered) (q : Quiet) (w v : World)
+    (word : List Letter) (answer : Result Registered E)
+    → IsOpenAsAsked c w f → AreMetBy required f.description.attributes
+    → Shows w q → Agrees w → HasRoomFor q node c.caller.hash
+    → IsWordBy (opening_again c node required) ToOpen word answer → Run IsOwnPart w word v
+    → IfErr answer (λ e. e ≡ (opening c).open_refusal OutOfMemory)

@@ -1,0 +1,35 @@
+//! What the calls of each builder come to, with nothing asked of the builder.
+
+ghost use Rattle.std.specs.Prelude.{ℕ, List, Result};
+ghost use Rattle.iceoryx2_attribute.specs.Requirements.{Requirements};
+ghost use Rattle.iceoryx2_types.specs.Types.{Message};
+ghost use Rattle.iceoryx2_description.specs.Span.{Span};
+ghost use Rattle.iceoryx2_description.specs.declared.description.ServiceHash.{ServiceHash};
+ghost use Rattle.iceoryx2_description.specs.declared.time.ClockFault.{ClockFault};
+ghost use Rattle.iceoryx2_open_or_create.specs.BuilderCalls.{Way};
+ghost use Rattle.iceoryx2_event_builder.specs.Builder.{EventBuilderState};
+ghost use Rattle.iceoryx2_event_builder.specs.EventCalls.{event_call};
+ghost use Rattle.iceoryx2_publish_subscribe_builder.specs.Builder.{PublishSubscribeBuilderState};
+ghost use Rattle.iceoryx2_publish_subscribe_builder.specs.PublishSubscribeCalls.{publish_subscribe_call};
+ghost use Rattle.iceoryx2_request_response_builder.specs.Builder.{Messages, RequestResponseBuilderState};
+ghost use Rattle.iceoryx2_request_response_builder.specs.RequestResponseCalls.{request_response_call};
+ghost use Rattle.iceoryx2_call_laws.specs.OpensAgain.{OpensAgain};
+
+/// What a call of a builder has given, whichever of its three, an open with the same settings and
+/// types takes over a table that nobody else uses, whichever node calls.
+///
+/// While the factory is open, with a place for the node and a number left, the open is Ok or out of
+/// memory, whatever attributes it requires that are met by those of what the factory carries. So a
+/// service that was created with attributes is opened by each node that requires none, or some of
+/// them.
+pub fn opens_again()
+    ensures events { (hash_of : ℕ → List ℕ → ServiceHash) (b : EventBuilderState) (way : Way)
+        (required : Requirements) (now : Result Span ClockFault)
+        → OpensAgain (event_call hash_of b way required now) }
+    ensures publish_subscribe { (hash_of : ℕ → List ℕ → ServiceHash) (b : PublishSubscribeBuilderState)
+        (message : Message) (way : Way) (required : Requirements)
+        → OpensAgain (publish_subscribe_call hash_of b message way required) }
+    ensures request_response { (hash_of : ℕ → List ℕ → ServiceHash) (b : RequestResponseBuilderState)
+        (messages : Messages) (way : Way) (required : Requirements)
+        → OpensAgain (request_response_call hash_of b messages way required) }
+{}
