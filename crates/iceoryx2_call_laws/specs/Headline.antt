@@ -6,6 +6,7 @@ use Rattle.iceoryx2_access.specs.Run.{Each, Run}
 use Rattle.iceoryx2_world.specs.World.{World, phase_of}
 use Rattle.iceoryx2_world.specs.Agreement.{IsSegmentOf}
 use Rattle.iceoryx2_world.specs.Across.{Agrees}
+use Rattle.iceoryx2_world.specs.Fallible.{IsFallibleAccess}
 use Rattle.iceoryx2_world.specs.Standing.{Spares, Stands}
 use Rattle.iceoryx2_call_laws.specs.Calls.{Throughout}
 use Rattle.iceoryx2_open_or_create.specs.BuilderCalls.{BuilderCall, ErrorBy}
@@ -53,11 +54,17 @@ module _ {S : Type 0} (step : S → Letter → S → Type 0) (world : S → Worl
 module _ {S : Type 0} (step : S → Letter → S → Type 0) (world : S → World)
     {D E C : Type 0} (c : BuilderCall D E C) (f : Registered) where
   -- The call has answered Ok with this factory, over a world that agreed, and since then no release of its ticket was
-  -- granted, whatever else reached the storage.
+  -- granted, whatever else was done to the storage.
   pub data IsOpenSince : S → Type 0 where
     answered : {word : List Letter} {s t : S} → Agrees (world s) → IsWordOf c word (Ok f) → Run step s word t
         → IsOpenSince t
+    -- an access of the storage,
     spared : {letter : Letter} {s t : S} → IsOpenSince s → Spares f letter → step s letter t → IsOpenSince t
+    -- one that reached its world alone, as an access of the table inside a storage that refuses,
+    inside : {letter : Letter} {s t : S} → IsOpenSince s → Spares f letter
+        → IsFallibleAccess (world s) letter (world t) → IsOpenSince t
+    -- and another state of the same world, as a table's at which batches were scheduled
+    same_world : {s t : S} → IsOpenSince s → world t ≡ world s → IsOpenSince t
 
 -- The factory is open, with what the call that gave it asked.
 pub record IsOpenAsAsked {D E C : Type 0} (c : BuilderCall D E C) (w : World) (f : Registered) : Type 0 where

@@ -63,7 +63,8 @@ module _ (node : ℕ) (hash : ServiceHash) where
   LeavesOfLock (GivenBack n is_lock_left is_segment_left) w v = LeavesGivenBack n is_lock_left is_segment_left w v
   LeavesOfLock _ w v = ⊥
 
-  -- All that stays, where the call's removals left this of its tag and its lock.
+  -- All that stays of a create, an open or a round of an open or create, whose removals left this of its tag and its
+  -- lock.
   pub record Leaves (is_tag_left : Bool) (lock : OwnedLock) (w v : World) : Type 0 where
     pub tickets : v.tickets ≡ w.tickets
     pub tags : v.tags ≡ tags_after is_tag_left w.tags (node, hash)
@@ -85,9 +86,9 @@ module _ (node : ℕ) (hash : ServiceHash) where
   StaysAway (GivenBack n false is_segment_left) v = IsGone n is_segment_left v
   StaysAway _ v = Unit {0}
 
-  -- What the rounds of a call leave, one after the other, of which the last ends in this world: each round is a run, it
-  -- leaves only that for which a removal was refused, and the numbers of the locks that it gave back whole are spent in
-  -- the end.
+  -- What the rounds of an open or create leave, one after the other, of which the last ends in this world: each is a
+  -- run, it leaves only that for which a removal was refused, and the numbers of the locks that it gave back whole are
+  -- spent in the end.
   pub data LeavesByRounds (w end : World) : List Letter → World → Type 0 where
     no_round : LeavesByRounds w end [] w
     one_more : {u v : List Letter} {x y : World} → LeavesByRounds w end u x → Run IsFallibleAccess x v y

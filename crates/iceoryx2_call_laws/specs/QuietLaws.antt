@@ -11,7 +11,7 @@ use Rattle.iceoryx2_call_laws.specs.Quiet.{Quiet, QuietService, Shows, service_a
 use Rattle.iceoryx2_call_laws.specs.QuietCalls.{Closes}
 use Rattle.iceoryx2_call_laws.specs.Tickets.{tickets_after}
 
--- After a create or an open from w to v, which is one of these calls of the machine.
+-- After a create, an open or an open or create from w to v, which is one of these calls of the machine.
 pub record IsCall {E : Type 0} (w : World) (Calls : Quiet → Type 0) (answer : Result Registered E) (v : World)
     : Type 0 where
   pub state : Quiet

@@ -7,7 +7,7 @@ use Rattle.iceoryx2_access.specs.Registered.{Registered}
 use Rattle.iceoryx2_errors.specs.declared.error.CloseError.{CloseError}
 use Rattle.iceoryx2_errors.specs.declared.error.CloseError.TheVariants.{NotHere}
 
--- the tickets after a create or an open: one more where it gave a factory
+-- the tickets after a create, an open or an open or create: one more where it gave a factory
 abbrev pub tickets_after : {E : Type 0} → Tickets → Result Registered E → Tickets
 tickets_after k (Ok r) = map.insert k r.ticket (ticket_for r)
 tickets_after k (Err e) = k

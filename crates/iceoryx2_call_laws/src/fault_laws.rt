@@ -48,8 +48,9 @@ pub fn agreement_under_faults<D, E: Copy, C: Copy>()
         → IsWordOf c word answer → Run (IsInjectedFault IsTableAccess) s word t → Agrees s.inner.world
         → IsAsPromised (IsInjectedFault IsTableAccess) (λ u. u.inner.world) c s word answer t }
 
-    // The same by history: at any state that such a table comes to after some call answered Ok with a factory, and
-    // before the release of its ticket, this factory is open, with what that call asked.
+    // The same by history: at any state that such a table comes to, by accesses, refused or not, and by accesses of the
+    // table inside and scheduling at it, after some call answered Ok with a factory, and before the release of its
+    // ticket, this factory is open, with what that call asked.
     ensures open_until_released { (c : BuilderCall D E C) (f : Registered) (s : FaultyState TableState)
         → IsOpenSince (IsInjectedFault IsTableAccess) (λ u. u.inner.world) c f s
         → IsOpenAsAsked c s.inner.world f }

@@ -71,8 +71,9 @@ pub fn agreement<D, E: Copy, C: Copy>()
         → IsWordOf c word answer → Run IsFallibleAccess w word v → Agrees w
         → IsAsPromised IsFallibleAccess (λ u. u) c w word answer v }
 
-    // The same by history: at any state that a table comes to after some call answered Ok with a factory, and before
-    // the release of its ticket, this factory is open, with what that call asked.
+    // The same by history: at any state that a table comes to, by accesses and by scheduling of batches, after some
+    // call answered Ok with a factory, and before the release of its ticket, this factory is open, with what that call
+    // asked.
     ensures open_until_released { (c : BuilderCall D E C) (f : Registered) (s : TableState)
         → IsOpenSince IsTableAccess (λ u. u.world) c f s → IsOpenAsAsked c s.world f }
 

@@ -1,5 +1,5 @@
 -- What every call comes to.
-use Rattle.std.proofs.Common.{◌≡◌, ℕ, List, [], ◌∷◌, Result, Ok, Err, inl, inr}
+use Rattle.std.proofs.Common.{◌≡◌, ℕ, List, [], ◌∷◌, Result, Ok, Err, inl, inr, sym, subst}
 use Rattle.std.specs.Prelude.{IfOk}
 use Rattle.iceoryx2_access.proofs.Run.{one, last}
 use Rattle.iceoryx2_world.specs.Peers.{IsAccess}
@@ -21,7 +21,7 @@ use Rattle.iceoryx2_call_laws.specs.Calls.{Throughout}
 use Rattle.iceoryx2_open_or_create.specs.BuilderCalls.{BuilderCall, ErrorBy}
 use Rattle.iceoryx2_open_or_create.specs.CallWords.{IsWordOf}
 use Rattle.iceoryx2_call_laws.specs.AnyCalls.{MayCarryBy}
-use Rattle.iceoryx2_call_laws.specs.Headline.{IsOpen, IsOpenAsAsked, IsOpenSince, IsGiven, IsAsPromised, answered, spared}
+use Rattle.iceoryx2_call_laws.specs.Headline.{IsOpen, IsOpenAsAsked, IsOpenSince, IsGiven, IsAsPromised, answered, spared, inside, same_world}
 use Rattle.iceoryx2_call_laws.proofs.calls.Words.{throughout, throughout_map, all_spared}
 use Rattle.iceoryx2_call_laws.proofs.calls.Standing.{stands_among, one_service}
 use Rattle.iceoryx2_call_laws.proofs.calls.AnyCalls.{Given, any_letters, any_short, any_given}
@@ -73,16 +73,26 @@ module _ {S : Type 0} (step : S → Letter → S → Type 0) (world : S → Worl
     pub hash : f.description.hash ≡ c.caller.hash
     pub carries : MayCarryBy c c.way f.description
 
+  goes_on : {f : Registered} (l : Letter) (s t : S) → Spares f l → IsFallibleAccess (world s) l (world t) → StillOpen f s → StillOpen f t
+  goes_on {f} l s t spares a o = record {
+    agrees = (faulty_keeps (world s) l (world t) a o.agrees).0;
+    stands = faulty_stands (world s) l (world t) f a spares o.agrees o.stands;
+    node = o.node;
+    hash = o.hash;
+    carries = o.carries;
+  }
+
   still_open : {f : Registered} {s : S} → IsOpenSince step world c f s → StillOpen f s
   still_open {f} (answered {word = word} {s = s} {t = t} old is run) =
       let worlds : Run IsFallibleAccess (world s) word (world t) = run_map world of_world run in
       let g = any_given c (world s) (world t) word (Ok f) is worlds old in
       record { agrees = (run_keeps worlds old).0; stands = g.stands; node = g.node; hash = g.hash; carries = g.carries }
-  still_open {f} (spared {letter = l} {s = s} {t = t} before spares a) =
-      let o = still_open before in
-      record {
-        agrees = (faulty_keeps (world s) l (world t) (of_world s t l a) o.agrees).0;
-        stands = faulty_stands (world s) l (world t) f (of_world s t l a) spares o.agrees o.stands;
+  still_open (spared {letter = l} {s = s} {t = t} before spares a) = goes_on l s t spares (of_world s t l a) (still_open before)
+  still_open (inside {letter = l} {s = s} {t = t} before spares a) = goes_on l s t spares a (still_open before)
+  still_open {f} (same_world before e) =
+      let o = still_open before in record {
+        agrees = subst Agrees (sym e) o.agrees;
+        stands = subst (λ u. Stands u f) (sym e) o.stands;
         node = o.node;
         hash = o.hash;
         carries = o.carries;
