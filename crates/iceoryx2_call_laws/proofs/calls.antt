@@ -16,4 +16,5 @@ pub mod Rounds
 pub mod Attempts
 pub mod AnyCalls
 pub mod Headline
+pub mod Promise
 pub mod AnyLeft

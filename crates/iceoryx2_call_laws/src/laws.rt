@@ -19,9 +19,11 @@ ghost use Rattle.iceoryx2_call_laws.specs.CallLeaves.{LeavesBy};
 ghost use Rattle.iceoryx2_open_or_create.specs.BuilderCalls.{BuilderCall, ErrorBy};
 ghost use Rattle.iceoryx2_call_laws.specs.AnyCalls.{IsShortBy};
 ghost use Rattle.iceoryx2_open_or_create.specs.CallWords.{IsWordOf};
+ghost use Rattle.iceoryx2_open_or_create.specs.LawfulCalls.{IsLawfulCall};
 ghost use Rattle.iceoryx2_call_laws.specs.Headline.{IsAsPromised, IsOpenAsAsked, IsOpenSince};
 ghost use Rattle.iceoryx2_call_laws.specs.Calls.{Throughout, AtEach, ActsCalmly, ChangesLast};
 ghost use Rattle.iceoryx2_call_laws.specs.Leaves.{IsGranted, LeavesNothing};
+ghost use Rattle.iceoryx2_call_laws.specs.Promise.{Promise};
 ghost use Rattle.iceoryx2_call_laws.specs.Tickets.{tickets_after, tickets_after_close};
 
 /// Whatever a call does and whatever steps peers take within it, the world agrees after each
@@ -136,4 +138,13 @@ pub fn agreement<D, E: Copy, C: Copy>()
     // A close looks nowhere and opens nothing. It removes at most one segment.
     ensures close_is_short { (r : Registered) (word : List Letter) (answer : Result (Unit {0}) (CloseError Registered))
         → IsCloseWord r word answer → IsWithin word close_limits }
+{}
+
+/// The promise, of each lawful call, as those of the three builders are (`lawful_calls` of
+/// `iceoryx2_builder`): over a table, over any world, and where chosen accesses are refused.
+///
+/// It adds to `every_open_factory_stands` that what an open or create gave is decided too: it meets
+/// what was asked, or holds what was published.
+pub fn promise_of_lawful_calls<D, E: Copy, C: Copy>()
+    ensures { (c : BuilderCall D E C) → IsLawfulCall c → Promise c }
 {}

@@ -14,6 +14,26 @@ ghost use Rattle.iceoryx2_publish_subscribe_builder.specs.PublishSubscribeCalls.
 ghost use Rattle.iceoryx2_request_response_builder.specs.Builder.{Messages, RequestResponseBuilderState};
 ghost use Rattle.iceoryx2_request_response_builder.specs.RequestResponseCalls.{request_response_call};
 ghost use Rattle.iceoryx2_call_laws.specs.OpensAgain.{OpensAgain};
+ghost use Rattle.iceoryx2_call_laws.specs.Promise.{Promise};
+
+/// The promise, of every call of each builder: any of its three, with any hasher, any settings and types,
+/// any attributes, and whatever the clock says.
+///
+/// Over a table, over any world whichever accesses are refused by a fault, and over a storage that
+/// refuses chosen accesses of a table: it is within fixed counts, after each of its accesses each open
+/// factory is open, whatever steps peers take, and so is the one that it gave, until its own ticket is
+/// released, which meets what the builder was asked, or holds its adjusted settings and attributes.
+pub fn promise_of_builders()
+    ensures events { (hash_of : ℕ → List ℕ → ServiceHash) (b : EventBuilderState) (way : Way)
+        (required : Requirements) (now : Result Span ClockFault)
+        → Promise (event_call hash_of b way required now) }
+    ensures publish_subscribe { (hash_of : ℕ → List ℕ → ServiceHash) (b : PublishSubscribeBuilderState)
+        (message : Message) (way : Way) (required : Requirements)
+        → Promise (publish_subscribe_call hash_of b message way required) }
+    ensures request_response { (hash_of : ℕ → List ℕ → ServiceHash) (b : RequestResponseBuilderState)
+        (messages : Messages) (way : Way) (required : Requirements)
+        → Promise (request_response_call hash_of b messages way required) }
+{}
 
 /// What a call of a builder has given, whichever of its three, an open with the same settings and
 /// types takes over a table that nobody else uses, whichever node calls.
