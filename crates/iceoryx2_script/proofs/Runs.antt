@@ -5,7 +5,7 @@ use Rattle.iceoryx2_access.specs.MayRefuse.{MayRefuse}
 use Rattle.iceoryx2_access.specs.Run.{Run, done, next}
 use Rattle.iceoryx2_script.specs.declared.script.Answer.{Answer}
 use Rattle.iceoryx2_script.specs.Counters.{counters_along}
-use Rattle.iceoryx2_script.specs.Faults.{FaultyState, IsInjectedFault, Reaches, is_refused}
+use Rattle.iceoryx2_script.specs.Faults.{FaultyState, IsInjectedFault, Reaches, RefusesNone, is_refused}
 use Rattle.iceoryx2_script.specs.Plays.{Lacks, Plays, PlaysFront, end, takes, fails}
 use Rattle.iceoryx2_script.specs.Script.{ScriptState, IsScriptAccess, Takes, MeetsFront, is_for}
 
@@ -61,6 +61,23 @@ stops n = omega arith
 stopped : (n : ℕ) → n ≤ 2 ^ 64 - 1 → n ≡ min (n + 0) (2 ^ 64 - 1)
 stopped n h = omega arith
 
+inside : {S : Type 0} (step : S → Letter → S → Type 0) (b : Bool) {old new : S} {l : Letter} → b ≡ false → Reaches b step old l new → step old l new
+inside step true e h = absurd (cc)
+inside step false e h = h
+
+-- the numbers of a word's accesses are those of its first and of the rest
+from_first : (n m : ℕ) → m ≡ min (n + 1) (2 ^ 64 - 1) → min (n + 1) (2 ^ 64 - 1) ≤ m
+from_first n m e = omega arith
+
+to_last : (n m k : ℕ) → m ≡ min (n + 1) (2 ^ 64 - 1) → m ≤ n + suc k
+to_last n m k e = omega arith
+
+from_next : (n m number : ℕ) → m ≡ min (n + 1) (2 ^ 64 - 1) → min (m + 1) (2 ^ 64 - 1) ≤ number → min (n + 1) (2 ^ 64 - 1) ≤ number
+from_next n m number e least = omega arith
+
+to_last_of_rest : (n m k number : ℕ) → m ≡ min (n + 1) (2 ^ 64 - 1) → number ≤ m + k → number ≤ n + suc k
+to_last_of_rest n m k number e most = omega arith
+
 module _ {S : Type 0} {step : S → Letter → S → Type 0} where
   pub refusable : {a b : FaultyState S} {word : List Letter} → Run (IsInjectedFault step) a word b → Run (MayRefuse step) a.inner word b.inner
   refusable done = done
@@ -70,11 +87,11 @@ module _ {S : Type 0} {step : S → Letter → S → Type 0} where
   same_list done = refl
   same_list (next h run) = same_list run ∙ h.refused
 
-  pub faultless : {a b : FaultyState S} {word : List Letter} → Run (IsInjectedFault step) a word b → a.refused ≡ [] → Run step a.inner word b.inner
-  faultless done e = done
-  faultless (next {old} {mid} {new} {letter} h run) e =
-      next (subst (λ xs. Reaches (is_refused mid.accesses xs) step old.inner letter mid.inner) e h.inside)
-      (faultless run (h.refused ∙ e))
+  pub faultless : {a b : FaultyState S} {word : List Letter} → Run (IsInjectedFault step) a word b → RefusesNone a word → Run step a.inner word b.inner
+  faultless done none = done
+  faultless (next {old} {mid} {word} h run) none =
+      next (inside step (is_refused mid.accesses old.refused) (none mid.accesses (from_first old.accesses mid.accesses h.accesses) (to_last old.accesses mid.accesses (length word) h.accesses)) h.inside)
+      (faultless run (λ number least most. subst (λ xs. is_refused number xs ≡ false) (sym h.refused) (none number (from_next old.accesses mid.accesses number h.accesses least) (to_last_of_rest old.accesses mid.accesses (length word) number h.accesses most))))
 
   pub fault_counters : {a b : FaultyState S} {word : List Letter} → Run (IsInjectedFault step) a word b → b.counters ≡ counters_along word a.counters
   fault_counters done = refl

@@ -1,5 +1,5 @@
 -- A storage that refuses chosen accesses of another.
-use Rattle.std.specs.Prelude.{◌≡◌, ℕ, Bool, true, false, List, nat_eq}
+use Rattle.std.specs.Prelude.{◌≡◌, ◌≤◌, ◌+◌, ℕ, Bool, true, false, List, length, nat_eq}
 use Rattle.std.specs.List.{list_any}
 use Rattle.iceoryx2_access.specs.Letter.{Letter}
 use Rattle.iceoryx2_access.specs.MayRefuse.{IsFault}
@@ -17,6 +17,13 @@ pub record FaultyState (S : Type 0) : Type 0 where
 -- The access of this number is refused.
 abbrev pub is_refused : ℕ → List ℕ → Bool
 is_refused number refused = list_any (nat_eq number) refused
+
+-- No access of this word is refused: from the number of its first to that of its last none is listed. A count that has
+-- stopped stays at the last number of 64 bits, and so does the number of each access then: it isn't listed either.
+abbrev pub RefusesNone : {S : Type 0} → FaultyState S → List Letter → Type 0
+RefusesNone s word =
+    (number : ℕ) → one_more s.accesses ≤ number → number ≤ s.accesses + length word
+    → is_refused number s.refused ≡ false
 
 -- A refused access answers its general fault and leaves what is inside; any other is an access of it.
 abbrev pub Reaches : {S : Type 0} → Bool → (S → Letter → S → Type 0) → S → Letter → S → Type 0

@@ -1,11 +1,11 @@
 //! What is true of every run over these storages.
 
-ghost use Rattle.std.specs.Prelude.{◌≡◌, ℕ, ◌+◌, ◌-◌, ◌^◌, ◌≤◌, List, [], length, min};
+ghost use Rattle.std.specs.Prelude.{◌≡◌, ℕ, ◌+◌, ◌-◌, ◌^◌, ◌≤◌, List, length, min};
 ghost use Rattle.iceoryx2_access.specs.Letter.{Letter};
 ghost use Rattle.iceoryx2_access.specs.MayRefuse.{MayRefuse};
 ghost use Rattle.iceoryx2_access.specs.Run.{Run};
 ghost use Rattle.iceoryx2_script.specs.Counters.{counters_along};
-ghost use Rattle.iceoryx2_script.specs.Faults.{FaultyState, IsInjectedFault};
+ghost use Rattle.iceoryx2_script.specs.Faults.{FaultyState, IsInjectedFault, RefusesNone};
 ghost use Rattle.iceoryx2_script.specs.Plays.{PlaysFront};
 ghost use Rattle.iceoryx2_script.specs.Script.{ScriptState, IsScriptAccess};
 
@@ -32,9 +32,9 @@ pub fn faults<S: Storage>()
     ensures refusable { (a b : FaultyState S) (word : List Letter)
         → Run (IsInjectedFault S.step) a word b → Run (MayRefuse S.step) a.inner word b.inner }
 
-    // Where no access is to be refused it is a word of the storage inside.
+    // Where none of its accesses is refused it is a word of the storage inside, whatever was refused before.
     ensures faultless { (a b : FaultyState S) (word : List Letter)
-        → Run (IsInjectedFault S.step) a word b → a.refused ≡ [] → Run S.step a.inner word b.inner }
+        → Run (IsInjectedFault S.step) a word b → RefusesNone a word → Run S.step a.inner word b.inner }
 
     // Each access counts, and the list stays.
     ensures accesses { (a b : FaultyState S) (word : List Letter)
