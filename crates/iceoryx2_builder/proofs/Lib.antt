@@ -3,3 +3,4 @@ pub mod Weaker
 pub mod Accepts
 pub mod Adjusting
 pub mod LawfulCalls
+pub mod Looks

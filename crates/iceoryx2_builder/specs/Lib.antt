@@ -1,3 +1,4 @@
 pub mod Builder
 pub mod Setters
 pub mod Weaker
+pub mod Looks

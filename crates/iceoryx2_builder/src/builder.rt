@@ -34,6 +34,10 @@ ghost use Rattle.iceoryx2_request_response_builder.specs.RequestResponse.{reques
 ghost use Rattle.iceoryx2_request_response_builder.specs.RequestResponse.{prepared_meaning as request_response_meaning, prepared_adjusted as request_response_adjusted};
 ghost use Rattle.iceoryx2_request_response_builder.specs.declared.request_response.demand.RequestResponseDemand.{RequestResponseDemand};
 ghost use Rattle.iceoryx2_request_response_builder.specs.declared.request_response.demand.PreparedDemand.{PreparedDemand as PreparedRequestResponse};
+ghost use Rattle.iceoryx2_errors.specs.States.{create_error_of_state, create_errors_of_events, open_error_of_state, open_errors_of_events};
+ghost use Rattle.iceoryx2_errors.specs.States.{publish_subscribe_create_error_of_state, publish_subscribe_open_error_of_state};
+ghost use Rattle.iceoryx2_errors.specs.States.{request_response_create_error_of_state, request_response_open_error_of_state};
+ghost use Rattle.iceoryx2_builder.specs.Looks.{AnswersStates, fault_of, publish_subscribe_fault_of, request_response_fault_of};
 
 use iceoryx2_access::storage::Service;
 use iceoryx2_builder_common::base::BuilderWithServiceType;
@@ -273,4 +277,19 @@ pub fn lawful_calls()
     ensures request_response { (hash_of : ℕ → List ℕ → ServiceHash) (b : RequestResponseBuilderState)
         (messages : Messages) (way : Way) (required : Requirements)
         → IsLawfulCall (request_response_call hash_of b messages way required) }
+{}
+
+/// What a call answers whose look finds something wrong.
+///
+/// Whatever a look of the rounds finds wrong has a public state, a `ServiceState` or one of the pattern's
+/// `ServiceAvailabilityState`. An open answers the error that this state becomes by `From`, as its open error, and a
+/// create the one that it becomes as its create error.
+pub fn laws_of_looks()
+    ensures events { (demand : EventDemand) → AnswersStates (event_meaning demand)
+        (fault_of open_errors_of_events) (open_error_of_state open_errors_of_events)
+        (create_error_of_state create_errors_of_events) }
+    ensures publish_subscribe { (asked : PreparedPublishSubscribe) → AnswersStates (publish_subscribe_meaning asked)
+        publish_subscribe_fault_of publish_subscribe_open_error_of_state publish_subscribe_create_error_of_state }
+    ensures request_response { (asked : PreparedRequestResponse) → AnswersStates (request_response_meaning asked)
+        request_response_fault_of request_response_open_error_of_state request_response_create_error_of_state }
 {}

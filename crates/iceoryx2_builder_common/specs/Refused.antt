@@ -14,7 +14,6 @@ open_error_of_refusal errors open_refusal.ExceedsMaxNumberOfNodes = errors.excee
 open_error_of_refusal errors open_refusal.IsMarkedForDestruction = errors.is_marked_for_destruction
 open_error_of_refusal errors open_refusal.OutOfMemory = errors.out_of_memory
 open_error_of_refusal errors open_refusal.HangsInCreation = errors.hangs_in_creation
-open_error_of_refusal errors open_refusal.IncompatibleMessagingPattern = errors.incompatible_messaging_pattern
 open_error_of_refusal errors open_refusal.InsufficientPermissions = errors.insufficient_permissions
 
 abbrev pub create_error_of_refusal : {C : Type 0} → CreateErrors C → CreateRefusal → C

@@ -13,7 +13,6 @@ macro_rules! open_error_of_refusal {
             OpenRefusal::IsMarkedForDestruction => $error::IsMarkedForDestruction,
             OpenRefusal::OutOfMemory => $error::OutOfMemory,
             OpenRefusal::HangsInCreation => $error::HangsInCreation,
-            OpenRefusal::IncompatibleMessagingPattern => $error::IncompatibleMessagingPattern,
             OpenRefusal::InsufficientPermissions => $error::InsufficientPermissions,
         }
     };

@@ -1,5 +1,6 @@
 pub mod CreateSteps
 pub mod LookSteps
+pub mod MakeSteps
 pub mod OpenSteps
 pub mod OwnAttributes
 pub mod Prepared

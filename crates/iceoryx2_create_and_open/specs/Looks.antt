@@ -9,9 +9,8 @@ use Rattle.iceoryx2_access.specs.declared.storage.FetchError.{FetchError}
 use Rattle.iceoryx2_access.specs.declared.storage.FetchError.TheVariants as fetch
 use Rattle.iceoryx2_access.specs.Letter.{Letter, Exists, Fetch}
 use Rattle.iceoryx2_pattern.specs.Meaning.{Meaning}
-use Rattle.iceoryx2_errors.specs.declared.error.ServiceState.TheVariants as state
 use Rattle.iceoryx2_create_and_open.specs.declared.look.Fault.{Fault}
-use Rattle.iceoryx2_create_and_open.specs.declared.look.Fault.TheVariants.{State, Misfit}
+use Rattle.iceoryx2_create_and_open.specs.declared.look.Fault.TheVariants as fault
 use Rattle.iceoryx2_create_and_open.specs.declared.look.Outcome.{Outcome}
 use Rattle.iceoryx2_create_and_open.specs.declared.look.Outcome.TheVariants.{Nothing, Found, Faulty}
 use Rattle.iceoryx2_create_and_open.specs.declared.look.Sight.{Sight}
@@ -26,17 +25,17 @@ pub data MayBeThere : Existence → Type 0 where
 module _ {E C : Type 0} (m : Meaning E C) (hash : ServiceHash) where
   pub data LeadsTo : Result (ℕ × List ℕ) FetchError → Outcome E → Type 0 where
     gone : LeadsTo (Err fetch.DoesNotExist) Nothing
-    not_finalized : LeadsTo (Err fetch.NotFinalized) (Faulty (State state.HangsInCreation))
-    not_opened : LeadsTo (Err fetch.OpenFault) (Faulty (State state.InsufficientPermissions))
-    not_read : LeadsTo (Err fetch.ReadFault) (Faulty (State state.InsufficientPermissions))
-    not_fetched : LeadsTo (Err fetch.OutOfMemory) (Faulty (State state.OutOfMemory))
-    not_decoded : {n : ℕ} {bytes : List ℕ} → LeadsTo (Ok (n, bytes)) (Faulty (State state.OutOfMemory))
+    not_finalized : LeadsTo (Err fetch.NotFinalized) (Faulty fault.HangsInCreation)
+    not_opened : LeadsTo (Err fetch.OpenFault) (Faulty fault.InsufficientPermissions)
+    not_read : LeadsTo (Err fetch.ReadFault) (Faulty fault.InsufficientPermissions)
+    not_fetched : LeadsTo (Err fetch.OutOfMemory) (Faulty fault.OutOfMemory)
+    not_decoded : {n : ℕ} {bytes : List ℕ} → LeadsTo (Ok (n, bytes)) (Faulty fault.OutOfMemory)
     malformed : {n : ℕ} {bytes : List ℕ} → ((d : Description) → IsForm d bytes → ⊥)
-        → LeadsTo (Ok (n, bytes)) (Faulty (State state.Corrupted))
+        → LeadsTo (Ok (n, bytes)) (Faulty fault.Corrupted)
     other_hash : {n : ℕ} {bytes : List ℕ} {d : Description} → IsForm d bytes → d.hash ≢ hash
-        → LeadsTo (Ok (n, bytes)) (Faulty (State state.Corrupted))
+        → LeadsTo (Ok (n, bytes)) (Faulty fault.Corrupted)
     misfit : {n : ℕ} {bytes : List ℕ} {d : Description} {error : E} → IsForm d bytes → d.hash ≡ hash
-        → m.misfit d ≡ Some error → LeadsTo (Ok (n, bytes)) (Faulty (Misfit error))
+        → m.misfit d ≡ Some error → LeadsTo (Ok (n, bytes)) (Faulty (fault.Misfit error))
     fits : {n : ℕ} {bytes : List ℕ} {d : Description} → IsForm d bytes → d.hash ≡ hash
         → m.misfit d ≡ None → LeadsTo (Ok (n, bytes)) (Found n d)
 
@@ -44,7 +43,7 @@ module _ {E C : Type 0} (m : Meaning E C) (hash : ServiceHash) where
 module _ {E C : Type 0} (m : Meaning E C) (node : ℕ) (hash : ServiceHash) where
   pub data IsLookWord : List Letter → Outcome E → Type 0 where
     absent : IsLookWord (Exists hash existence.No ∷ []) Nothing
-    broken : IsLookWord (Exists hash existence.Fault ∷ []) (Faulty (State state.Corrupted))
+    broken : IsLookWord (Exists hash existence.Fault ∷ []) (Faulty fault.Corrupted)
     fetched : {there : Existence} {answer : Result (ℕ × List ℕ) FetchError} {outcome : Outcome E}
         → MayBeThere there → LeadsTo m hash answer outcome
         → IsLookWord (Exists hash there ∷ Fetch node hash answer ∷ []) outcome

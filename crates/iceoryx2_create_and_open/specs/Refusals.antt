@@ -12,8 +12,6 @@ use Rattle.iceoryx2_access.specs.declared.storage.PublishError.{PublishError}
 use Rattle.iceoryx2_access.specs.declared.storage.PublishError.TheVariants as publish
 use Rattle.iceoryx2_access.specs.declared.storage.OpenSegmentError.{OpenSegmentError}
 use Rattle.iceoryx2_access.specs.declared.storage.OpenSegmentError.TheVariants as segment
-use Rattle.iceoryx2_errors.specs.declared.error.ServiceState.{ServiceState}
-use Rattle.iceoryx2_errors.specs.declared.error.ServiceState.TheVariants as state
 use Rattle.iceoryx2_create_and_open.specs.declared.look.Fault.{Fault}
 use Rattle.iceoryx2_create_and_open.specs.declared.look.Fault.TheVariants as fault
 use Rattle.iceoryx2_pattern.specs.Meaning.{Meaning}
@@ -35,12 +33,12 @@ of_lock lock.InsufficientPermissions = create_refusal.InsufficientPermissions
 of_lock lock.Other = create_refusal.InternalFailure
 of_lock lock.OutOfMemory = create_refusal.OutOfMemory
 
--- The segment that is there is removed, but not the one that is there at the sixth making.
-abbrev pub of_make : MakeSegmentError → CreateRefusal
-of_make make.AlreadyExists = create_refusal.ServiceInCorruptedState
-of_make make.InsufficientPermissions = create_refusal.InsufficientPermissions
-of_make make.Other = create_refusal.InternalFailure
-of_make make.OutOfMemory = create_refusal.OutOfMemory
+-- A segment that is there is removed, and another attempt made.
+abbrev pub of_make : MakeSegmentError → Option CreateRefusal
+of_make make.AlreadyExists = None
+of_make make.InsufficientPermissions = Some create_refusal.InsufficientPermissions
+of_make make.Other = Some create_refusal.InternalFailure
+of_make make.OutOfMemory = Some create_refusal.OutOfMemory
 
 abbrev pub of_remove : RemoveError → CreateRefusal
 of_remove remove.InsufficientPermissions = create_refusal.InsufficientPermissions
@@ -65,27 +63,19 @@ of_opening segment.Failed = None
 of_opening segment.OutOfNumbers = Some open_refusal.InternalFailure
 of_opening segment.OutOfMemory = Some open_refusal.OutOfMemory
 
--- of a look
-
-abbrev pub of_state : ServiceState → CreateRefusal
-of_state state.IncompatibleMessagingPattern = create_refusal.AlreadyExists
-of_state state.InsufficientPermissions = create_refusal.InsufficientPermissions
-of_state state.HangsInCreation = create_refusal.HangsInCreation
-of_state state.Corrupted = create_refusal.ServiceInCorruptedState
-of_state state.OutOfMemory = create_refusal.OutOfMemory
-
-abbrev pub of_state_opening : ServiceState → OpenRefusal
-of_state_opening state.IncompatibleMessagingPattern = open_refusal.IncompatibleMessagingPattern
-of_state_opening state.InsufficientPermissions = open_refusal.InsufficientPermissions
-of_state_opening state.HangsInCreation = open_refusal.HangsInCreation
-of_state_opening state.Corrupted = open_refusal.ServiceInCorruptedState
-of_state_opening state.OutOfMemory = open_refusal.OutOfMemory
+-- of a look, by what it finds wrong
 
 -- A service that doesn't fit is there, so a create says that it exists.
 abbrev pub create_error_of : {E C : Type 0} → Meaning E C → Fault E → C
-create_error_of m (fault.State s) = m.create_refusal (of_state s)
+create_error_of m fault.InsufficientPermissions = m.create_refusal create_refusal.InsufficientPermissions
+create_error_of m fault.HangsInCreation = m.create_refusal create_refusal.HangsInCreation
+create_error_of m fault.Corrupted = m.create_refusal create_refusal.ServiceInCorruptedState
+create_error_of m fault.OutOfMemory = m.create_refusal create_refusal.OutOfMemory
 create_error_of m (fault.Misfit error) = m.create_refusal create_refusal.AlreadyExists
 
 abbrev pub open_error_of : {E C : Type 0} → Meaning E C → Fault E → E
-open_error_of m (fault.State s) = m.open_refusal (of_state_opening s)
+open_error_of m fault.InsufficientPermissions = m.open_refusal open_refusal.InsufficientPermissions
+open_error_of m fault.HangsInCreation = m.open_refusal open_refusal.HangsInCreation
+open_error_of m fault.Corrupted = m.open_refusal open_refusal.ServiceInCorruptedState
+open_error_of m fault.OutOfMemory = m.open_refusal open_refusal.OutOfMemory
 open_error_of m (fault.Misfit error) = error

@@ -1,5 +1,5 @@
 -- The words of a create's segment part, with what comes of it.
-use Rattle.std.specs.Prelude.{◌≢◌, ◌<◌, ◌≤◌, ℕ, zero, suc, List, [], ◌∷◌, ◌++◌, Result, Ok, Err}
+use Rattle.std.specs.Prelude.{◌≡◌, ◌<◌, ◌≤◌, ℕ, zero, suc, List, [], ◌∷◌, ◌++◌, Result, Ok, Err, Some}
 use Rattle.iceoryx2_description.specs.declared.description.ServiceHash.{ServiceHash}
 use Rattle.iceoryx2_access.specs.declared.storage.MakeSegmentError.{MakeSegmentError}
 use Rattle.iceoryx2_access.specs.declared.storage.MakeSegmentError.TheVariants as make
@@ -23,8 +23,8 @@ module _ (node : ℕ) (hash : ServiceHash) (number max_nodes : ℕ) where
   pub data IsSegmentWord : List Letter → Result (Unit {0}) CreateRefusal → Type 0 where
     made : (k : ℕ) → k ≤ CLEARING_LIMIT
         → IsSegmentWord (clearings k ++ MakeSegment node hash number max_nodes (Ok tt) ∷ []) (Ok tt)
-    not_made : (k : ℕ) (e : MakeSegmentError) → k ≤ CLEARING_LIMIT → e ≢ make.AlreadyExists
-        → IsSegmentWord (clearings k ++ MakeSegment node hash number max_nodes (Err e) ∷ []) (Err (of_make e))
+    not_made : (k : ℕ) (e : MakeSegmentError) {why : CreateRefusal} → k ≤ CLEARING_LIMIT → of_make e ≡ Some why
+        → IsSegmentWord (clearings k ++ MakeSegment node hash number max_nodes (Err e) ∷ []) (Err why)
     not_removed : (k : ℕ) (e : RemoveError) → k < CLEARING_LIMIT
         → IsSegmentWord (clearings k ++ finds ∷ RemoveSegment node hash (Err e) ∷ []) (Err (of_remove e))
     still_there : IsSegmentWord (clearings CLEARING_LIMIT ++ finds ∷ []) (Err create_refusal.ServiceInCorruptedState)

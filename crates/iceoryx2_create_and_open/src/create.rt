@@ -52,14 +52,15 @@ fn lock_refusal(error: LockError) -> CreateRefusal
     }
 }
 
-fn make_refusal(error: MakeSegmentError) -> CreateRefusal
+/// Why a refused making ends the call. `None`: a segment is there, which is removed.
+fn make_refusal(error: MakeSegmentError) -> Option<CreateRefusal>
     ensures { result ≡ of_make error }
 {
     match error {
-        MakeSegmentError::AlreadyExists => CreateRefusal::ServiceInCorruptedState,
-        MakeSegmentError::InsufficientPermissions => CreateRefusal::InsufficientPermissions,
-        MakeSegmentError::Other => CreateRefusal::InternalFailure,
-        MakeSegmentError::OutOfMemory => CreateRefusal::OutOfMemory,
+        MakeSegmentError::AlreadyExists => None,
+        MakeSegmentError::InsufficientPermissions => Some(CreateRefusal::InsufficientPermissions),
+        MakeSegmentError::Other => Some(CreateRefusal::InternalFailure),
+        MakeSegmentError::OutOfMemory => Some(CreateRefusal::OutOfMemory),
     }
 }
 
@@ -124,9 +125,9 @@ fn make_own_segment<S: Storage>(
     for _removed in 0..CLEARING_LIMIT {
         match storage.make_segment(caller.node, &caller.hash, number, max_nodes) {
             Ok(()) => return Ok(()),
-            Err(error) => match error {
-                MakeSegmentError::AlreadyExists => {}
-                _ => return Err(make_refusal(error)),
+            Err(error) => match make_refusal(error) {
+                Some(refusal) => return Err(refusal),
+                None => {}
             },
         }
         match storage.remove_segment(caller.node, &caller.hash) {
@@ -136,9 +137,9 @@ fn make_own_segment<S: Storage>(
     }
     match storage.make_segment(caller.node, &caller.hash, number, max_nodes) {
         Ok(()) => Ok(()),
-        Err(error) => match error {
-            MakeSegmentError::AlreadyExists => Err(CreateRefusal::ServiceInCorruptedState),
-            _ => Err(make_refusal(error)),
+        Err(error) => match make_refusal(error) {
+            Some(refusal) => Err(refusal),
+            None => Err(CreateRefusal::ServiceInCorruptedState),
         },
     }
 }

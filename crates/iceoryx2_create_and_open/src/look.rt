@@ -6,21 +6,25 @@ ghost use Rattle.iceoryx2_access.specs.Letter.{fetch_answer};
 ghost use Rattle.iceoryx2_access.specs.Run.{Joins};
 ghost use Rattle.iceoryx2_create_and_open.specs.Looks.{IsLookWord, LeadsTo, found_unless, sight_of};
 ghost use Rattle.iceoryx2_create_and_open.specs.Refusals as refusals;
-ghost use Rattle.iceoryx2_create_and_open.specs.Refusals.{of_state, of_state_opening};
 
 use crate::caller::Caller;
 use iceoryx2_access::storage::{Existence, FetchError, Storage};
 use iceoryx2_byte_form::bytes::{DecodeError, decode};
 use iceoryx2_description::description::{ServiceHash, StaticConfig};
-use iceoryx2_errors::error::ServiceState;
 use iceoryx2_pattern::pattern::{CreateRefusal, OpenRefusal, Pattern};
 use std::alloc::Global;
 
 /// What a look finds wrong.
 #[derive(Clone, Copy)]
 pub enum Fault<E> {
-    /// What may be wrong whatever the pattern.
-    State(ServiceState),
+    /// The description can't be read.
+    InsufficientPermissions,
+    /// Somebody is creating the service.
+    HangsInCreation,
+    /// The storage is at fault, or the description is none of this service.
+    Corrupted,
+    /// There was no memory for the description.
+    OutOfMemory,
     /// The service is of another pattern, or of other message types: the error of an open.
     Misfit(E),
 }
@@ -57,38 +61,17 @@ impl<E> Outcome<E> {
     }
 }
 
-/// The refusal of an open whose look finds this state.
-fn state_refusal(state: ServiceState) -> OpenRefusal
-    ensures { result ≡ of_state_opening state }
-{
-    match state {
-        ServiceState::IncompatibleMessagingPattern => OpenRefusal::IncompatibleMessagingPattern,
-        ServiceState::InsufficientPermissions => OpenRefusal::InsufficientPermissions,
-        ServiceState::HangsInCreation => OpenRefusal::HangsInCreation,
-        ServiceState::Corrupted => OpenRefusal::ServiceInCorruptedState,
-        ServiceState::OutOfMemory => OpenRefusal::OutOfMemory,
-    }
-}
-
-/// The refusal of a create whose look finds this state.
-fn state_create_refusal(state: ServiceState) -> CreateRefusal
-    ensures { result ≡ of_state state }
-{
-    match state {
-        ServiceState::IncompatibleMessagingPattern => CreateRefusal::AlreadyExists,
-        ServiceState::InsufficientPermissions => CreateRefusal::InsufficientPermissions,
-        ServiceState::HangsInCreation => CreateRefusal::HangsInCreation,
-        ServiceState::Corrupted => CreateRefusal::ServiceInCorruptedState,
-        ServiceState::OutOfMemory => CreateRefusal::OutOfMemory,
-    }
-}
-
 /// The error of an open whose look finds this fault.
 pub fn open_error_of<P: Pattern>(pattern: &P, fault: Fault<P::OpenError>) -> P::OpenError
     ensures { result ≡ refusals.open_error_of (P.meaning pattern.now) fault }
 {
     match fault {
-        Fault::State(state) => pattern.open_refusal(state_refusal(state)),
+        Fault::InsufficientPermissions => pattern.open_refusal(
+            OpenRefusal::InsufficientPermissions,
+        ),
+        Fault::HangsInCreation => pattern.open_refusal(OpenRefusal::HangsInCreation),
+        Fault::Corrupted => pattern.open_refusal(OpenRefusal::ServiceInCorruptedState),
+        Fault::OutOfMemory => pattern.open_refusal(OpenRefusal::OutOfMemory),
         Fault::Misfit(error) => error,
     }
 }
@@ -98,7 +81,12 @@ pub fn create_error_of<P: Pattern>(pattern: &P, fault: Fault<P::OpenError>) -> P
     ensures { result ≡ refusals.create_error_of (P.meaning pattern.now) fault }
 {
     match fault {
-        Fault::State(state) => pattern.create_refusal(state_create_refusal(state)),
+        Fault::InsufficientPermissions => pattern.create_refusal(
+            CreateRefusal::InsufficientPermissions,
+        ),
+        Fault::HangsInCreation => pattern.create_refusal(CreateRefusal::HangsInCreation),
+        Fault::Corrupted => pattern.create_refusal(CreateRefusal::ServiceInCorruptedState),
+        Fault::OutOfMemory => pattern.create_refusal(CreateRefusal::OutOfMemory),
         Fault::Misfit(_) => pattern.create_refusal(CreateRefusal::AlreadyExists),
     }
 }
@@ -114,7 +102,7 @@ pub fn look<P: Pattern, S: Storage>(
 {
     match storage.exists(&caller.hash) {
         Existence::No => Outcome::Nothing,
-        Existence::Fault => Outcome::Faulty(Fault::State(ServiceState::Corrupted)),
+        Existence::Fault => Outcome::Faulty(Fault::Corrupted),
         Existence::Yes | Existence::BeingSetUp => {
             let answer = storage.fetch(caller.node, &caller.hash);
             outcome_of(pattern, &caller.hash, answer)
@@ -134,13 +122,11 @@ fn outcome_of<P: Pattern>(
         Ok((number, bytes)) => read(pattern, hash, number, *bytes.allocator(), &bytes),
         Err(error) => match error {
             FetchError::DoesNotExist => Outcome::Nothing,
-            FetchError::NotFinalized => {
-                Outcome::Faulty(Fault::State(ServiceState::HangsInCreation))
-            }
+            FetchError::NotFinalized => { Outcome::Faulty(Fault::HangsInCreation) }
             FetchError::OpenFault | FetchError::ReadFault => {
-                Outcome::Faulty(Fault::State(ServiceState::InsufficientPermissions))
+                Outcome::Faulty(Fault::InsufficientPermissions)
             }
-            FetchError::OutOfMemory => Outcome::Faulty(Fault::State(ServiceState::OutOfMemory)),
+            FetchError::OutOfMemory => Outcome::Faulty(Fault::OutOfMemory),
         },
     }
 }
@@ -157,11 +143,9 @@ fn read<P: Pattern>(
 {
     let description = match decode(alloc, bytes) {
         Ok(description) => description,
-        Err(DecodeError::Malformed) => return Outcome::Faulty(Fault::State(
-            ServiceState::Corrupted,
-        )),
+        Err(DecodeError::Malformed) => return Outcome::Faulty(Fault::Corrupted),
         Err(DecodeError::OutOfMemory) => {
-            return Outcome::Faulty(Fault::State(ServiceState::OutOfMemory));
+            return Outcome::Faulty(Fault::OutOfMemory);
         }
     };
     match fault_of(pattern, hash, &description) {
@@ -181,7 +165,7 @@ fn fault_of<P: Pattern>(
         → LeadsTo (P.meaning pattern.now) hash.now (Ok (number, bytes)) (found_unless result number description.now) }
 {
     if *description.service_hash() != *hash {
-        return Some(Fault::State(ServiceState::Corrupted));
+        return Some(Fault::Corrupted);
     }
     match pattern.misfit(description) {
         Some(error) => Some(Fault::Misfit(error)),

@@ -16,7 +16,6 @@ pub enum OpenRefusal {
     ExceedsMaxNumberOfNodes,
     HangsInCreation,
     IncompatibleAttributes,
-    IncompatibleMessagingPattern,
     InsufficientPermissions,
     InternalFailure,
     IsMarkedForDestruction,

@@ -34,7 +34,8 @@ use Rattle.iceoryx2_world.proofs.agreement.Whole.{own_hash}
 use Rattle.iceoryx2_pattern.specs.declared.pattern.CreateRefusal.{CreateRefusal}
 use Rattle.iceoryx2_pattern.specs.declared.pattern.CreateRefusal.TheVariants as refusal
 use Rattle.iceoryx2_pattern.specs.Meaning.{Meaning}
-use Rattle.iceoryx2_create_and_open.specs.Refusals.{of_tag, of_lock, of_make, of_publish}
+use Rattle.iceoryx2_create_and_open.specs.Refusals.{of_tag, of_lock, of_publish}
+use Rattle.iceoryx2_create_and_open.proofs.MakeSteps.{not_there, without_memory}
 use Rattle.iceoryx2_create_and_open.specs.Segments.{IsSegmentWord, clearings}
 use Rattle.iceoryx2_create_and_open.specs.Segments as segment
 use Rattle.iceoryx2_create_and_open.specs.Creates.{IsEntryWord, IsServiceWord, IsCreating, IsCreateWord, clock_stops, description_of, time_of}
@@ -82,8 +83,8 @@ module _ (i : ℕ) (h : ServiceHash) where
   left_part : (n m c : ℕ) (k : Tickets) (y : Segment) {a : Result (Unit {0}) CreateRefusal} {w : List Letter} {t : NodeView} → nat_lt 0 m ≡ true → IsSegmentWord i h n m w a → Run (AtNode i h) (at_lock n (Some y) c k) w t → Makes i h n m c k a t
   left_part n m c k y positive (segment.made zero le) r = let f = find_left n m c k y positive (last r) in absurd (grind (arith, f.0))
   left_part n m c k y positive (segment.made (suc j) le) r = elim (make_next n m c k y j positive r) [ inl z ↦ into (Makes i h n m c k) refl (ended z.1) makes | inr z ↦ absurd (grind (arith, z.0)) ]
-  left_part n m c k y positive (segment.not_made zero e le other) r = let f = find_left n m c k y positive (last r) in absurd (other (cc (f.0)))
-  left_part n m c k y positive (segment.not_made (suc j) e le other) r = elim (make_next n m c k y j positive r) [ inl z ↦ absurd (grind (arith, z.0)) | inr z ↦ let is : e ≡ Making.OutOfMemory = cc in into (Makes i h n m c k) (ap (λ x. Err (of_make x)) is) (ended z.1) makes_none ]
+  left_part n m c k y positive (segment.not_made zero e le other) r = let f = find_left n m c k y positive (last r) in absurd (not_there other (cc (f.0)))
+  left_part n m c k y positive (segment.not_made (suc j) e le other) r = elim (make_next n m c k y j positive r) [ inl z ↦ absurd (grind (arith, z.0)) | inr z ↦ let is : e ≡ Making.OutOfMemory = cc in into (Makes i h n m c k) (ap Err (without_memory other is)) (ended z.1) makes_none ]
   left_part n m c k y positive (segment.not_removed zero e lt) r =
       let f = head r in
       let g = clear_left n c k (Some y) (last (from (find_left n m c k y positive f.first).1 f.rest)) in

@@ -38,7 +38,8 @@ use Rattle.iceoryx2_pattern.specs.declared.pattern.CreateRefusal.{CreateRefusal}
 use Rattle.iceoryx2_pattern.specs.declared.pattern.CreateRefusal.TheVariants as refusal
 use Rattle.iceoryx2_pattern.specs.Meaning.{Meaning}
 use Rattle.iceoryx2_access.specs.Registered.{Registered}
-use Rattle.iceoryx2_create_and_open.specs.Refusals.{of_tag, of_lock, of_make, of_publish}
+use Rattle.iceoryx2_create_and_open.specs.Refusals.{of_tag, of_lock, of_publish}
+use Rattle.iceoryx2_create_and_open.proofs.MakeSteps.{without_memory}
 use Rattle.iceoryx2_create_and_open.specs.Looks.{IsLookWord}
 use Rattle.iceoryx2_create_and_open.specs.Looks as look
 use Rattle.iceoryx2_create_and_open.specs.GivesBack.{GivesBack, OwnTag, OwnLock, OwnSegment, own_tag}
@@ -155,7 +156,7 @@ module _ (i : ℕ) (h : ServiceHash) where
 
   pub segment_part : (n m c : ℕ) (k : Tickets) {a : Result (Unit {0}) CreateRefusal} {w : List Letter} {t : NodeView} → nat_lt 0 m ≡ true → IsSegmentWord i h n m w a → Run (AtNode i h) (locked n c k) w t → Makes n m c k a t
   segment_part n m c k positive (segment.made j le) r = elim (make_after n m c k j positive r) [ inl y ↦ into (Makes n m c k) refl (ended y.1) makes | inr y ↦ absurd (grind (arith, y.0)) ]
-  segment_part n m c k positive (segment.not_made j e le other) r = elim (make_after n m c k j positive r) [ inl y ↦ absurd (grind (arith, y.0)) | inr y ↦ let is : e ≡ Making.OutOfMemory = cc in into (Makes n m c k) (ap (λ x. Err (of_make x)) is) (ended y.1) makes_none ]
+  segment_part n m c k positive (segment.not_made j e le other) r = elim (make_after n m c k j positive r) [ inl y ↦ absurd (grind (arith, y.0)) | inr y ↦ let is : e ≡ Making.OutOfMemory = cc in into (Makes n m c k) (ap Err (without_memory other is)) (ended y.1) makes_none ]
   segment_part n m c k positive (segment.not_removed j e lt) r = elim (make_after n m c k j positive r) [ inl y ↦ absurd (grind (arith, y.0)) | inr y ↦ absurd (grind (arith, y.0)) ]
   segment_part n m c k positive segment.still_there r = elim (make_after n m c k 5 positive r) [ inl y ↦ absurd (grind (arith, y.0)) | inr y ↦ absurd (grind (arith, y.0)) ]
 

@@ -19,7 +19,6 @@ use Rattle.iceoryx2_access.specs.Letter as letter
 use Rattle.iceoryx2_access.specs.Run.{Run}
 use Rattle.iceoryx2_world.specs.Access.{NodeView, node_view, node_view_after}
 use Rattle.iceoryx2_access.proofs.Run.{head, split, last}
-use Rattle.iceoryx2_errors.specs.declared.error.ServiceState.TheVariants as state
 use Rattle.iceoryx2_call_laws.proofs.calls.Callers.{called}
 use Rattle.iceoryx2_create_and_open.specs.declared.look.Fault.{Fault}
 use Rattle.iceoryx2_create_and_open.specs.declared.look.Fault.TheVariants as at_fault
@@ -74,8 +73,8 @@ module _ (i : ℕ) (h : ServiceHash) (n : ℕ) (b : List ℕ) (sg : Option Segme
     pub data LooksThere (x : Phase) : Outcome E → NodeView → Type 0 where
       finds : {y : Phase} → Fetched n x y → m.misfit d ≡ None → LooksThere x (outcome.Found n d) (over y)
       misfits : {y : Phase} {error : E} → Fetched n x y → m.misfit d ≡ Some error → LooksThere x (outcome.Faulty (at_fault.Misfit error)) (over y)
-      forgets : {y : Phase} → Fetched n x y → LooksThere x (outcome.Faulty (at_fault.State state.OutOfMemory)) (over y)
-      starved : LooksThere x (outcome.Faulty (at_fault.State state.OutOfMemory)) (over x)
+      forgets : {y : Phase} → Fetched n x y → LooksThere x (outcome.Faulty at_fault.OutOfMemory) (over y)
+      starved : LooksThere x (outcome.Faulty at_fault.OutOfMemory) (over x)
 
     is_it : {n1 : ℕ} {b1 : List ℕ} {d1 : Description} → ◌≡◌ {A = Result (ℕ × List ℕ) FetchError} (Ok (n1, b1)) (Ok (n, b)) → form.IsForm d1 b1 → d1 ≡ d
     is_it {d1 = d1} e f = one_description b d1 d (f.0, sym (same_pair e).1 ∙ f.1) (limits, form_of)
