@@ -4,3 +4,4 @@ pub mod Accepts
 pub mod Adjusting
 pub mod LawfulCalls
 pub mod Looks
+pub mod Retries

@@ -37,7 +37,16 @@ ghost use Rattle.iceoryx2_request_response_builder.specs.declared.request_respon
 ghost use Rattle.iceoryx2_errors.specs.States.{create_error_of_state, create_errors_of_events, open_error_of_state, open_errors_of_events};
 ghost use Rattle.iceoryx2_errors.specs.States.{publish_subscribe_create_error_of_state, publish_subscribe_open_error_of_state};
 ghost use Rattle.iceoryx2_errors.specs.States.{request_response_create_error_of_state, request_response_open_error_of_state};
+ghost use Rattle.iceoryx2_errors.specs.declared.error.events.EventOpenError.{EventOpenError};
+ghost use Rattle.iceoryx2_errors.specs.declared.error.events.EventCreateError.{EventCreateError};
+ghost use Rattle.iceoryx2_errors.specs.declared.error.publish_subscribe.PublishSubscribeOpenError.{PublishSubscribeOpenError};
+ghost use Rattle.iceoryx2_errors.specs.declared.error.publish_subscribe.PublishSubscribeCreateError.{PublishSubscribeCreateError};
+ghost use Rattle.iceoryx2_errors.specs.declared.error.request_response.RequestResponseOpenError.{RequestResponseOpenError};
+ghost use Rattle.iceoryx2_errors.specs.declared.error.request_response.RequestResponseCreateError.{RequestResponseCreateError};
 ghost use Rattle.iceoryx2_builder.specs.Looks.{AnswersStates, fault_of, publish_subscribe_fault_of, request_response_fault_of};
+ghost use Rattle.iceoryx2_builder.specs.Retries.{event_create_is_retried, event_open_is_retried};
+ghost use Rattle.iceoryx2_builder.specs.Retries.{publish_subscribe_create_is_retried, publish_subscribe_open_is_retried};
+ghost use Rattle.iceoryx2_builder.specs.Retries.{request_response_create_is_retried, request_response_open_is_retried};
 
 use iceoryx2_access::storage::Service;
 use iceoryx2_builder_common::base::BuilderWithServiceType;
@@ -292,4 +301,23 @@ pub fn laws_of_looks()
         publish_subscribe_fault_of publish_subscribe_open_error_of_state publish_subscribe_create_error_of_state }
     ensures request_response { (asked : PreparedRequestResponse) → AnswersStates (request_response_meaning asked)
         request_response_fault_of request_response_open_error_of_state request_response_create_error_of_state }
+{}
+
+/// After which errors an open or create goes on to the next round: of each open and each create, error by error.
+///
+/// It goes on where the open of a round says `DoesNotExist`, `ServiceInCorruptedState` or `IsMarkedForDestruction`,
+/// and where its create says `AlreadyExists`, `IsBeingCreatedByAnotherInstance` or `ServiceInCorruptedState`. Any other
+/// error ends the call.
+pub fn laws_of_retries()
+    ensures event_opens { (error : EventOpenError) → event_retried.of_open error ≡ event_open_is_retried error }
+    ensures event_creates { (error : EventCreateError)
+        → event_retried.of_create error ≡ event_create_is_retried error }
+    ensures publish_subscribe_opens { (error : PublishSubscribeOpenError)
+        → publish_subscribe_retried.of_open error ≡ publish_subscribe_open_is_retried error }
+    ensures publish_subscribe_creates { (error : PublishSubscribeCreateError)
+        → publish_subscribe_retried.of_create error ≡ publish_subscribe_create_is_retried error }
+    ensures request_response_opens { (error : RequestResponseOpenError)
+        → request_response_retried.of_open error ≡ request_response_open_is_retried error }
+    ensures request_response_creates { (error : RequestResponseCreateError)
+        → request_response_retried.of_create error ≡ request_response_create_is_retried error }
 {}

@@ -146,6 +146,7 @@ fn each_law_has_its_path(_rt: HostRuntime) {
     builder::laws_of_asking();
     builder::laws_of_calls();
     builder::laws_of_looks();
+    builder::laws_of_retries();
     builder::laws_of_adjusting();
     builder::equality_of_errors();
     description::equality_of_times();

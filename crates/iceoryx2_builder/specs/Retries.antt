@@ -1,0 +1,113 @@
+-- After which errors an open or create goes on to the next round: a table of the errors of each open and create.
+use Rattle.std.specs.Prelude.{Bool, true, false}
+use Rattle.iceoryx2_errors.specs.declared.error.events.EventOpenError.{EventOpenError}
+use Rattle.iceoryx2_errors.specs.declared.error.events.EventOpenError.TheVariants as opening
+use Rattle.iceoryx2_errors.specs.declared.error.events.EventCreateError.{EventCreateError}
+use Rattle.iceoryx2_errors.specs.declared.error.events.EventCreateError.TheVariants as creating
+use Rattle.iceoryx2_errors.specs.declared.error.publish_subscribe.PublishSubscribeOpenError.{PublishSubscribeOpenError}
+use Rattle.iceoryx2_errors.specs.declared.error.publish_subscribe.PublishSubscribeOpenError.TheVariants as subscribe_opening
+use Rattle.iceoryx2_errors.specs.declared.error.publish_subscribe.PublishSubscribeCreateError.{PublishSubscribeCreateError}
+use Rattle.iceoryx2_errors.specs.declared.error.publish_subscribe.PublishSubscribeCreateError.TheVariants as subscribe_creating
+use Rattle.iceoryx2_errors.specs.declared.error.request_response.RequestResponseOpenError.{RequestResponseOpenError}
+use Rattle.iceoryx2_errors.specs.declared.error.request_response.RequestResponseOpenError.TheVariants as request_opening
+use Rattle.iceoryx2_errors.specs.declared.error.request_response.RequestResponseCreateError.{RequestResponseCreateError}
+use Rattle.iceoryx2_errors.specs.declared.error.request_response.RequestResponseCreateError.TheVariants as request_creating
+
+-- of events
+
+abbrev pub event_open_is_retried : EventOpenError → Bool
+event_open_is_retried opening.DoesNotExist = true
+event_open_is_retried opening.ServiceInCorruptedState = true
+event_open_is_retried opening.IsMarkedForDestruction = true
+event_open_is_retried opening.InsufficientPermissions = false
+event_open_is_retried opening.IncompatibleMessagingPattern = false
+event_open_is_retried opening.IncompatibleAttributes = false
+event_open_is_retried opening.InternalFailure = false
+event_open_is_retried opening.IncompatibleDeadline = false
+event_open_is_retried opening.IncompatibleNotifierCreatedEvent = false
+event_open_is_retried opening.IncompatibleNotifierDroppedEvent = false
+event_open_is_retried opening.IncompatibleNotifierDeadEvent = false
+event_open_is_retried opening.HangsInCreation = false
+event_open_is_retried opening.DoesNotSupportRequestedAmountOfNotifiers = false
+event_open_is_retried opening.DoesNotSupportRequestedAmountOfListeners = false
+event_open_is_retried opening.DoesNotSupportRequestedMaxEventId = false
+event_open_is_retried opening.DoesNotSupportRequestedAmountOfNodes = false
+event_open_is_retried opening.ExceedsMaxNumberOfNodes = false
+event_open_is_retried opening.OutOfMemory = false
+
+abbrev pub event_create_is_retried : EventCreateError → Bool
+event_create_is_retried creating.ServiceInCorruptedState = true
+event_create_is_retried creating.IsBeingCreatedByAnotherInstance = true
+event_create_is_retried creating.AlreadyExists = true
+event_create_is_retried creating.InternalFailure = false
+event_create_is_retried creating.HangsInCreation = false
+event_create_is_retried creating.InsufficientPermissions = false
+event_create_is_retried creating.OutOfMemory = false
+
+-- of publish-subscribe
+
+abbrev pub publish_subscribe_open_is_retried : PublishSubscribeOpenError → Bool
+publish_subscribe_open_is_retried subscribe_opening.DoesNotExist = true
+publish_subscribe_open_is_retried subscribe_opening.ServiceInCorruptedState = true
+publish_subscribe_open_is_retried subscribe_opening.IsMarkedForDestruction = true
+publish_subscribe_open_is_retried subscribe_opening.InternalFailure = false
+publish_subscribe_open_is_retried subscribe_opening.IncompatibleTypes = false
+publish_subscribe_open_is_retried subscribe_opening.IncompatibleMessagingPattern = false
+publish_subscribe_open_is_retried subscribe_opening.IncompatibleAttributes = false
+publish_subscribe_open_is_retried subscribe_opening.DoesNotSupportRequestedMinBufferSize = false
+publish_subscribe_open_is_retried subscribe_opening.DoesNotSupportRequestedMinHistorySize = false
+publish_subscribe_open_is_retried subscribe_opening.DoesNotSupportRequestedMinSubscriberBorrowedSamples = false
+publish_subscribe_open_is_retried subscribe_opening.DoesNotSupportRequestedAmountOfPublishers = false
+publish_subscribe_open_is_retried subscribe_opening.DoesNotSupportRequestedAmountOfSubscribers = false
+publish_subscribe_open_is_retried subscribe_opening.DoesNotSupportRequestedAmountOfNodes = false
+publish_subscribe_open_is_retried subscribe_opening.IncompatibleOverflowBehavior = false
+publish_subscribe_open_is_retried subscribe_opening.InsufficientPermissions = false
+publish_subscribe_open_is_retried subscribe_opening.HangsInCreation = false
+publish_subscribe_open_is_retried subscribe_opening.ExceedsMaxNumberOfNodes = false
+publish_subscribe_open_is_retried subscribe_opening.OutOfMemory = false
+
+abbrev pub publish_subscribe_create_is_retried : PublishSubscribeCreateError → Bool
+publish_subscribe_create_is_retried subscribe_creating.ServiceInCorruptedState = true
+publish_subscribe_create_is_retried subscribe_creating.AlreadyExists = true
+publish_subscribe_create_is_retried subscribe_creating.IsBeingCreatedByAnotherInstance = true
+publish_subscribe_create_is_retried subscribe_creating.SubscriberBufferMustBeLargerThanHistorySize = false
+publish_subscribe_create_is_retried subscribe_creating.InsufficientPermissions = false
+publish_subscribe_create_is_retried subscribe_creating.InternalFailure = false
+publish_subscribe_create_is_retried subscribe_creating.HangsInCreation = false
+publish_subscribe_create_is_retried subscribe_creating.OutOfMemory = false
+
+-- of request-response
+
+abbrev pub request_response_open_is_retried : RequestResponseOpenError → Bool
+request_response_open_is_retried request_opening.DoesNotExist = true
+request_response_open_is_retried request_opening.IsMarkedForDestruction = true
+request_response_open_is_retried request_opening.ServiceInCorruptedState = true
+request_response_open_is_retried request_opening.DoesNotSupportRequestedAmountOfClientRequestLoans = false
+request_response_open_is_retried request_opening.DoesNotSupportRequestedAmountOfActiveRequestsPerClient = false
+request_response_open_is_retried request_opening.DoesNotSupportRequestedResponseBufferSize = false
+request_response_open_is_retried request_opening.DoesNotSupportRequestedAmountOfServers = false
+request_response_open_is_retried request_opening.DoesNotSupportRequestedAmountOfClients = false
+request_response_open_is_retried request_opening.DoesNotSupportRequestedAmountOfNodes = false
+request_response_open_is_retried request_opening.DoesNotSupportRequestedAmountOfBorrowedResponsesPerPendingResponse =
+    false
+request_response_open_is_retried request_opening.ExceedsMaxNumberOfNodes = false
+request_response_open_is_retried request_opening.HangsInCreation = false
+request_response_open_is_retried request_opening.IncompatibleRequestType = false
+request_response_open_is_retried request_opening.IncompatibleResponseType = false
+request_response_open_is_retried request_opening.IncompatibleAttributes = false
+request_response_open_is_retried request_opening.IncompatibleMessagingPattern = false
+request_response_open_is_retried request_opening.IncompatibleOverflowBehaviorForRequests = false
+request_response_open_is_retried request_opening.IncompatibleOverflowBehaviorForResponses = false
+request_response_open_is_retried request_opening.IncompatibleBehaviorForFireAndForgetRequests = false
+request_response_open_is_retried request_opening.InsufficientPermissions = false
+request_response_open_is_retried request_opening.InternalFailure = false
+request_response_open_is_retried request_opening.OutOfMemory = false
+
+abbrev pub request_response_create_is_retried : RequestResponseCreateError → Bool
+request_response_create_is_retried request_creating.AlreadyExists = true
+request_response_create_is_retried request_creating.IsBeingCreatedByAnotherInstance = true
+request_response_create_is_retried request_creating.ServiceInCorruptedState = true
+request_response_create_is_retried request_creating.InternalFailure = false
+request_response_create_is_retried request_creating.InsufficientPermissions = false
+request_response_create_is_retried request_creating.HangsInCreation = false
+request_response_create_is_retried request_creating.OutOfMemory = false
