@@ -1,4 +1,5 @@
--- What a create answers where its service has no row, whatever segment an earlier refusal left there.
+-- What a create of which no access is refused answers where its service has no row, whatever segment an earlier refusal
+-- left there.
 use Rattle.std.specs.Prelude.{◌≡◌, ◌<◌, ◌≤◌, ℕ, Bool, true, false, Some, None, Result, Ok, Err}
 use Rattle.iceoryx2_access.specs.Registered.{Registered}
 use Rattle.iceoryx2_world.specs.Steps.{last_number}

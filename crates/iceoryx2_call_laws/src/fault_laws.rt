@@ -1,15 +1,14 @@
 //! What is true of whole calls over a table of which any access may be refused.
 
-ghost use Rattle.std.specs.Prelude.{◌≡◌, ◌≢◌, ◌<◌, List, Result, Ok, Err, None};
+ghost use Rattle.std.specs.Prelude.{◌≡◌, ◌≢◌, ◌<◌, List, [], Result, Ok, Err, None};
 ghost use Rattle.iceoryx2_description.specs.Description.{max_nodes_of};
 ghost use Rattle.iceoryx2_world.specs.World.{World, row_of, ticket_of};
 ghost use Rattle.iceoryx2_access.specs.Letter.{Letter};
 ghost use Rattle.iceoryx2_access.specs.Run.{Run};
-ghost use Rattle.iceoryx2_world.specs.Access.{IsOwnPart};
 ghost use Rattle.iceoryx2_world.specs.Across.{Agrees};
 ghost use Rattle.iceoryx2_world.specs.Fallible.{IsFallibleAccess};
 ghost use Rattle.iceoryx2_world.specs.Tables.{TableState, IsTableAccess};
-ghost use Rattle.iceoryx2_script.specs.Faults.{FaultyState, IsInjectedFault};
+ghost use Rattle.iceoryx2_script.specs.Faults.{FaultyState, IsInjectedFault, RefusesNone};
 ghost use Rattle.iceoryx2_access.specs.Registered.{Registered};
 ghost use Rattle.iceoryx2_errors.specs.declared.error.CloseError.{CloseError};
 ghost use Rattle.iceoryx2_errors.specs.declared.error.CloseError.TheVariants.{NotHere};
@@ -67,12 +66,13 @@ pub fn agreement_under_faults<D, E: Copy, C: Copy>()
         → IsCloseWord r word answer → ((s : Registered) → answer ≢ Err (NotHere s)) → Run IsFallibleAccess w word v
         → Agrees w → CloseLeaves r w v word }
 
-    // Where the service has no row, whatever segment was left there, a create without further refusals
-    // and steps of peers is Ok, or one of four things stops it. Adjusted settings publish for one node
-    // or more.
+    // Where the service has no row, whatever segment earlier refusals left there, a create of which no access is
+    // refused, over a table at which no batch waits, is Ok, or one of four things stops it. Adjusted settings
+    // publish for one node or more.
     ensures over_no_row { (m : Meaning E C) (caller : Caller)
-        (word : List Letter) (answer : Result Registered C) (w v : World)
-        → 0 < max_nodes_of (m.published (time_of caller.clock)) → Agrees w → row_of w caller.hash ≡ None
-        → IsCreateCall m caller word answer → Run IsOwnPart w word v
-        → AnswersOverNoRow m caller w.counter answer }
+        (word : List Letter) (answer : Result Registered C) (s t : FaultyState TableState)
+        → 0 < max_nodes_of (m.published (time_of caller.clock)) → Agrees s.inner.world
+        → row_of s.inner.world caller.hash ≡ None → s.inner.waiting ≡ [] → RefusesNone s word
+        → IsCreateCall m caller word answer → Run (IsInjectedFault IsTableAccess) s word t
+        → AnswersOverNoRow m caller s.inner.world.counter answer }
 {}
