@@ -2,13 +2,15 @@
 
 ghost use Rattle.std.specs.Prelude.{codes, refl};
 ghost use Rattle.std.proofs.Common.{lit≤};
-ghost use Rattle.iceoryx2_types.specs.Alignments.{eight};
+ghost use Rattle.iceoryx2_types.proofs.Powers.{powers};
 ghost use Rattle.iceoryx2_types.specs.Types.{fixed_size};
 
 use iceoryx2_service::types::{TypeVariant, ZeroCopySend};
+use std::mem::{align_of, size_of};
 
 /// Where a robot stands: two numbers of millimetres, and an angle in thousandths of a degree.
 #[derive(Clone, Copy)]
+#[repr(C)]
 pub struct Pose {
     pub x: i64,
     pub y: i64,
@@ -16,16 +18,16 @@ pub struct Pose {
 }
 
 impl ZeroCopySend for Pose {
-    // What it says of itself. The methods are proved to say the same.
+    // What it says of itself: name, size and alignment. The methods are proved to say the same.
     ghost detail = { fixed_size (codes "Pose") 24 8 };
 
     // Its name has 1 to 256 bytes.
     ghost has_name_length = { (lit≤ tt, lit≤ tt) };
 
-    // Its alignment is a power of two.
-    ghost is_aligned = { eight };
+    // Its alignment is a power of two: 8 is 2 to the 3.
+    ghost is_aligned = { (powers 8).1 (3, refl) };
 
-    // Its size is three times its alignment.
+    // Its size is 3 times its alignment.
     ghost fills_its_place = { (3, refl) };
 
     fn variant() -> TypeVariant {
@@ -37,10 +39,10 @@ impl ZeroCopySend for Pose {
     }
 
     fn size() -> u64 {
-        24
+        size_of::<Pose>() as u64
     }
 
     fn alignment() -> u64 {
-        8
+        align_of::<Pose>() as u64
     }
 }

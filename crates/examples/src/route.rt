@@ -2,13 +2,15 @@
 
 ghost use Rattle.std.specs.Prelude.{codes, refl};
 ghost use Rattle.std.proofs.Common.{lit≤};
-ghost use Rattle.iceoryx2_types.specs.Alignments.{eight};
+ghost use Rattle.iceoryx2_types.proofs.Powers.{powers};
 ghost use Rattle.iceoryx2_types.specs.Types.{fixed_size};
 
 use iceoryx2_service::types::{TypeVariant, ZeroCopySend};
+use std::mem::{align_of, size_of};
 
 /// How long a route is, in millimetres, and how many nanoseconds it takes.
 #[derive(Clone, Copy)]
+#[repr(C)]
 pub struct Route {
     pub length: u64,
     pub nanoseconds: u64,
@@ -19,7 +21,7 @@ impl ZeroCopySend for Route {
 
     ghost has_name_length = { (lit≤ tt, lit≤ tt) };
 
-    ghost is_aligned = { eight };
+    ghost is_aligned = { (powers 8).1 (3, refl) };
 
     ghost fills_its_place = { (2, refl) };
 
@@ -32,10 +34,10 @@ impl ZeroCopySend for Route {
     }
 
     fn size() -> u64 {
-        16
+        size_of::<Route>() as u64
     }
 
     fn alignment() -> u64 {
-        8
+        align_of::<Route>() as u64
     }
 }

@@ -2,7 +2,7 @@
 
 ghost use Rattle.std.specs.Prelude.{codes, refl};
 ghost use Rattle.std.proofs.Common.{lit≤};
-ghost use Rattle.iceoryx2_types.specs.Alignments.{eight};
+ghost use Rattle.iceoryx2_types.proofs.Powers.{powers};
 ghost use Rattle.iceoryx2_types.specs.Types.{fixed_size};
 
 use self::TypeVariant::*;
@@ -14,6 +14,7 @@ use iceoryx2_types::types::{
     TypeDetail, TypeDetailError, TypeVariant, ZeroCopySend,
 };
 use std::alloc::Global;
+use std::mem::{align_of, size_of};
 use std::process::Abort;
 
 /// What is told of a type: its variant, its name, its size and its alignment.
@@ -89,14 +90,17 @@ fn each_type_says_its_constants(rt: HostRuntime) {
 }
 
 /// A type of the tests' own.
-struct MyPayload;
+#[repr(C)]
+struct MyPayload {
+    _words: [u64; 2],
+}
 
 impl ZeroCopySend for MyPayload {
     ghost detail = { fixed_size (codes "MyPayload") 16 8 };
 
     ghost has_name_length = { (lit≤ tt, lit≤ tt) };
 
-    ghost is_aligned = { eight };
+    ghost is_aligned = { (powers 8).1 (3, refl) };
 
     ghost fills_its_place = { (2, refl) };
 
@@ -109,11 +113,11 @@ impl ZeroCopySend for MyPayload {
     }
 
     fn size() -> u64 {
-        16
+        size_of::<MyPayload>() as u64
     }
 
     fn alignment() -> u64 {
-        8
+        align_of::<MyPayload>() as u64
     }
 }
 
