@@ -200,7 +200,7 @@ impl<S: Service> Builder<S> {
 /// another that asks no more accepts too: each setting that it requires is required by the first as well,
 /// with a number at least as great or with the same value, each required pair and key is one of the first
 /// one's, and its messages are compatible to the first one's.
-pub fn laws_of_asking()
+pub fn laws()
     ensures event_setters { AreSetters with_event_setting event_place }
     ensures publish_subscribe_setters { AreSetters with_publish_subscribe_setting publish_subscribe_place }
     ensures request_response_setters { AreSetters with_request_response_setting request_response_place }

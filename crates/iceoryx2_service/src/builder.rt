@@ -5,7 +5,7 @@ pub mod publish_subscribe;
 pub mod request_response;
 
 pub use iceoryx2_builder::builder::{
-    Builder, Node, laws_of_adjusting, laws_of_asking, laws_of_calls, laws_of_looks,
+    Builder, Node, laws, laws_of_adjusting, laws_of_calls, laws_of_looks,
     laws_of_retries, lawful_calls,
 };
 pub use iceoryx2_builder_common::base::BuilderWithServiceType;

@@ -143,7 +143,7 @@ fn each_law_has_its_path(_rt: HostRuntime) {
     laws::sessions::<Traced<Table>>();
     laws::quiet_laws();
     bytes::laws_of_forms();
-    builder::laws_of_asking();
+    builder::laws();
     builder::laws_of_calls();
     builder::laws_of_looks();
     builder::laws_of_retries();

@@ -1,7 +1,7 @@
 use Rattle.std.proofs.Common.{rules}
 use Rattle.iceoryx2_builder.proofs.Setters.{event_setters, publish_subscribe_setters, request_response_setters}
 use Rattle.iceoryx2_builder.proofs.Accepts.{weaker_event_accepts, weaker_publish_subscribe_accepts, weaker_request_response_accepts}
-use Rattle.iceoryx2_builder.proofs.builder.laws_of_asking.Goals as goal
+use Rattle.iceoryx2_builder.proofs.builder.laws.Goals as goal
 
 pub returns : goal.returns
 returns c = record {
