@@ -1,6 +1,7 @@
-//! The rounds of a call, why calls are refused, and what an open service is held by, under one name.
+//! The rounds of a call with their laws, why calls are refused, and what an open service is held by, under one name.
 #![tactic(auto)]
 
 pub mod builder;
+pub mod laws;
 
 pub use iceoryx2_port_factory::port_factory;

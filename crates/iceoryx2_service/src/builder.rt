@@ -1,4 +1,5 @@
-//! Nodes and builders, what a look may find wrong, and the markers in whose place a type may be told.
+//! Nodes and builders, what they ask of the types of a message, what a look may find wrong, and the markers in whose
+//! place a type may be told.
 
 pub mod event;
 pub mod publish_subscribe;
@@ -9,5 +10,6 @@ pub use iceoryx2_builder::builder::{
     laws_of_retries, lawful_calls,
 };
 pub use iceoryx2_builder_common::base::BuilderWithServiceType;
-pub use iceoryx2_errors::error::{ServiceState, equality_of_errors};
+pub use iceoryx2_builder_common::requested::RequestedTypes;
+pub use iceoryx2_errors::error::{ServiceState, equality_of_errors, texts_of_errors_differ};
 pub use iceoryx2_types::types::{CustomHeaderMarker, CustomKeyMarker, CustomPayloadMarker};

@@ -1,9 +1,19 @@
-//! The laws of calls and sessions over a table, and of the worlds, batches, scripts, faults and traces below them.
+//! The laws of words, verdicts and errors, of calls and sessions over a table, and of the worlds, batches, scripts,
+//! faults and traces below them.
 
 pub use crate::promise::{opens_again, promise_of_builders};
 pub use iceoryx2_call_laws::fault_laws::agreement_under_faults;
 pub use iceoryx2_call_laws::laws::{agreement, promise_of_lawful_calls};
 pub use iceoryx2_call_laws::quiet_laws::{quiet_calls, quiet_laws};
+pub use iceoryx2_rounds::laws::{
+    clearing_limit_is_five, close_hands_back_its_own, create_is_short, create_keeps_what_it_made,
+    equality_of_errors, granted_create_carries, granted_open_carries,
+    granted_open_or_create_carries, granted_open_or_create_meets_or_holds, open_is_short,
+    open_keeps_its_tag, open_or_create_is_short, open_or_create_keeps_what_it_made,
+    open_or_create_retries_are_five, open_retries_are_five, refused_create_gives_back,
+    refused_open_gives_back, refused_open_or_create_gives_back, segment_part_is_short,
+    texts_of_errors_differ, verdict_law,
+};
 pub use iceoryx2_script::laws::{faults, scripts};
 pub use iceoryx2_session::laws::sessions;
 pub use iceoryx2_traced::laws::traces;

@@ -26,6 +26,8 @@ mod paths;
 #[cfg(test)]
 mod publish_subscribe;
 #[cfg(test)]
+mod reached;
+#[cfg(test)]
 mod readme;
 #[cfg(test)]
 mod request_response;
