@@ -1,6 +1,5 @@
 -- What a builder's adjusted settings publish is accepted by the same builder.
-use Rattle.std.proofs.Common.{◌≡◌, ℕ, true, List, Option, Some, None, Ok, refl, rules}
-use Rattle.std.specs.Prelude.{Result}
+use Rattle.std.proofs.Common.{◌≡◌, true, List, Option, Some, None, Ok, refl, rules}
 use Rattle.std.specs.Option.{option_map}
 use Rattle.iceoryx2_description.specs.Span.{Span}
 use Rattle.iceoryx2_description.specs.declared.event.Deadline.{Deadline}

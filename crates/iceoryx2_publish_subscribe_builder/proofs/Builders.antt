@@ -1,7 +1,7 @@
 -- A builder of publish-subscribe is a builder like each other one.
-use Rattle.std.proofs.Common.{◌≡◌, Bool, false, true, cond, ℕ, List, Result, Some, None, Ok, refl, sym, ap, rules}
+use Rattle.std.proofs.Common.{◌≡◌, Bool, false, true, cond, List, Some, None, Ok, refl, sym, ap, rules}
 use Rattle.std.specs.Prelude.{map}
-use Rattle.iceoryx2_types.specs.Types.{Message, compatible}
+use Rattle.iceoryx2_types.specs.Types.{Message}
 use Rattle.iceoryx2_attribute.specs.Attributes.{Pair}
 use Rattle.iceoryx2_attribute.specs.Requirements.{Requirements, AreMetBy}
 use Rattle.iceoryx2_description.specs.declared.description.MessagingPattern.{MessagingPattern}
@@ -28,7 +28,7 @@ use Rattle.iceoryx2_publish_subscribe_builder.specs.PublishSubscribe.{prepared_a
 use Rattle.iceoryx2_builder_common.proofs.Misfits.{fits_itself}
 use Rattle.iceoryx2_builder_common.proofs.Raised.{not_below, raised_above}
 use Rattle.iceoryx2_publish_subscribe_builder.specs.declared.publish_subscribe.demand.PublishSubscribeDemand.{PublishSubscribeDemand}
-use Rattle.iceoryx2_publish_subscribe_builder.specs.PublishSubscribe.{publish_subscribe_meaning, publish_subscribe_adjusted, publish_subscribe_creating, publish_subscribe_opening, misfit_of}
+use Rattle.iceoryx2_publish_subscribe_builder.specs.PublishSubscribe.{publish_subscribe_meaning, publish_subscribe_adjusted, publish_subscribe_creating, publish_subscribe_opening}
 
 -- ---- it takes what it created
 

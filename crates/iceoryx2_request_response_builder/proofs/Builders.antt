@@ -1,12 +1,11 @@
 -- A builder of request-response is a builder like each other one.
-use Rattle.std.proofs.Common.{◌≡◌, Bool, false, cond, ℕ, List, Result, Some, None, Ok, refl, rules}
+use Rattle.std.proofs.Common.{◌≡◌, false, List, Ok, refl, rules}
 use Rattle.std.specs.Prelude.{map}
-use Rattle.iceoryx2_types.specs.Types.{Message, compatible}
+use Rattle.iceoryx2_types.specs.Types.{Message}
 use Rattle.iceoryx2_attribute.specs.Attributes.{Pair}
 use Rattle.iceoryx2_attribute.specs.Requirements.{Requirements, AreMetBy}
 use Rattle.iceoryx2_description.specs.declared.description.MessagingPattern.{MessagingPattern}
 use Rattle.iceoryx2_description.specs.declared.description.MessagingPattern.TheVariants as existing
-use Rattle.iceoryx2_errors.specs.declared.error.request_response.RequestResponseCreateError.TheVariants as creating
 use Rattle.iceoryx2_pattern.specs.Verdict.{at_least, flag_is, verdict}
 use Rattle.iceoryx2_pattern.proofs.MetRows.{same_flag}
 use Rattle.iceoryx2_builder_common.proofs.Rows.{accepted}
@@ -27,7 +26,7 @@ use Rattle.iceoryx2_request_response_builder.specs.RequestResponse.{prepared_adj
 use Rattle.iceoryx2_builder_common.proofs.Misfits.{fits_itself}
 use Rattle.iceoryx2_builder_common.proofs.Raised.{not_below, raised_above}
 use Rattle.iceoryx2_request_response_builder.specs.declared.request_response.demand.RequestResponseDemand.{RequestResponseDemand}
-use Rattle.iceoryx2_request_response_builder.specs.RequestResponse.{request_response_meaning, request_response_adjusted, request_response_creating, request_response_opening, misfit_of}
+use Rattle.iceoryx2_request_response_builder.specs.RequestResponse.{request_response_meaning, request_response_adjusted, request_response_creating, request_response_opening}
 
 -- ---- it takes what it created
 

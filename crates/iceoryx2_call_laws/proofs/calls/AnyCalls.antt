@@ -1,5 +1,5 @@
 -- What is so of each of a builder's three calls is so of any.
-use Rattle.std.proofs.Common.{◌≡◌, ◌≢◌, ◌⊎◌, ℕ, ◌≤◌, Bool, true, false, List, Result, Ok, Err, inl, inr, refl, sym, ap, subst, ◌∙◌}
+use Rattle.std.proofs.Common.{◌≡◌, ◌⊎◌, ◌≤◌, Bool, true, false, List, Result, Ok, Err, inl, inr, refl, ap}
 use Rattle.std.specs.Prelude.{IfOk}
 use Rattle.iceoryx2_description.specs.Description.{Description}
 use Rattle.iceoryx2_access.specs.Registered.{Registered}
@@ -9,8 +9,6 @@ use Rattle.iceoryx2_world.specs.World.{World}
 use Rattle.iceoryx2_world.specs.Across.{Agrees}
 use Rattle.iceoryx2_world.specs.Fallible.{IsFallibleAccess}
 use Rattle.iceoryx2_world.specs.Standing.{Stands}
-use Rattle.iceoryx2_pattern.specs.declared.pattern.OpenRefusal.TheVariants as open_refusal
-use Rattle.iceoryx2_pattern.specs.declared.pattern.CreateRefusal.TheVariants as create_refusal
 use Rattle.iceoryx2_create_and_open.specs.Prepared.{IsPrepared, prepared, IsCreateCall, IsOpenCall}
 use Rattle.iceoryx2_create_and_open.proofs.Prepared.{granted_call}
 use Rattle.iceoryx2_create_and_open.proofs.Counts.{create_call_within, open_call_within}

@@ -1,5 +1,5 @@
 -- What every call comes to.
-use Rattle.std.proofs.Common.{◌≡◌, ℕ, List, [], ◌∷◌, Result, Ok, Err, inl, inr, sym, subst}
+use Rattle.std.proofs.Common.{◌≡◌, List, [], ◌∷◌, Result, Ok, Err, inl, sym, subst}
 use Rattle.std.specs.Prelude.{IfOk}
 use Rattle.iceoryx2_access.proofs.Run.{one, last}
 use Rattle.iceoryx2_world.specs.Peers.{IsAccess}

@@ -22,13 +22,11 @@ use Rattle.iceoryx2_call_laws.proofs.calls.Callers.{called}
 use Rattle.iceoryx2_call_laws.specs.Quiet.{QuietService, Quiet, ShowsService, Shows, service_at, times_counted, is_counted}
 use Rattle.iceoryx2_call_laws.specs.QuietCalls.{Creates, Opens, Closes, closed, HasPlace, HasNumber, first_counts, created_by, opened_by, closed_by, more_counts, fewer_counts, with_service, spend}
 use Rattle.iceoryx2_call_laws.specs.QuietCalls as call
-use Rattle.iceoryx2_call_laws.specs.QuietPrepared.{CreatesPrepared, OpensPrepared}
 use Rattle.iceoryx2_call_laws.specs.QuietLaws.{HoldsTheSame, HasNothingAt}
 use Rattle.iceoryx2_call_laws.proofs.quiet.Lift.{equal_or_not}
 use Rattle.iceoryx2_call_laws.proofs.quiet.Counts.{get_first_own, len_first, len_fewer_less, get_more_own, get_more_other}
 use Rattle.iceoryx2_call_laws.proofs.quiet.Same.{same_segment, joined_times, holds_the_same, nothing_at}
 use Rattle.iceoryx2_call_laws.proofs.quiet.Calls.{with_service_has}
-use Rattle.iceoryx2_call_laws.proofs.quiet.Prepared.{refused_prepared}
 
 module _ {E C : Type 0} (m : Meaning E C) (i : ℕ) (h : ServiceHash) where
   -- a refused call keeps the services

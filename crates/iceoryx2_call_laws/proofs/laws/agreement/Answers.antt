@@ -3,7 +3,6 @@ use Rattle.iceoryx2_call_laws.proofs.calls.Words.{agrees_throughout, stands_thro
 use Rattle.iceoryx2_call_laws.proofs.calls.Closed.{close_ok}
 use Rattle.iceoryx2_call_laws.proofs.calls.Tickets.{close_tickets, close_takes_out, no_refusal}
 use Rattle.iceoryx2_call_laws.proofs.calls.Standing.{stands_among, one_service}
-use Rattle.iceoryx2_call_laws.proofs.calls.Left.{gives_back}
 use Rattle.iceoryx2_world.proofs.Waiting.{table_run}
 use Rattle.iceoryx2_call_laws.proofs.calls.Headline.{open_as_asked, as_promised, of_table}
 use Rattle.iceoryx2_world.specs.Tables.{IsTableAccess}

@@ -1,5 +1,4 @@
-use Rattle.std.proofs.Common.{Ok, refl}
-use Rattle.iceoryx2_description.specs.Span.{zero_span}
+use Rattle.std.proofs.Common.{refl}
 use Rattle.iceoryx2_builder_common.proofs.Granted.{created_of, with_types, without_types}
 use Rattle.iceoryx2_port_factory.specs.Patterns.{is_request_response}
 use Rattle.iceoryx2_request_response_builder.proofs.request_response.Builder.create_with_attributes.Goals as goal
