@@ -13,6 +13,7 @@ use Rattle.iceoryx2_session.specs.QuietSessions.{IsQuiet, IsMoved, QuietState, M
 use Rattle.iceoryx2_session.proofs.StandingSlots.{stand_after, closes_taken}
 use Rattle.iceoryx2_session.proofs.QuietSessions.{moved, itself, unchanged_by}
 use Rattle.iceoryx2_session.proofs.OwnedTickets.{owns_after}
+use Rattle.iceoryx2_session.proofs.Promised.{calls_as_promised}
 
 -- one more command after those
 pub one_more : {S C A : Type 0} {step : S → C → A → S → Type 0} {u v w : S} {commands : List C} {replies : List A} {c : C} {a : A}
@@ -31,7 +32,7 @@ pub stand_between : {s n : SessionState} {commands : List Command} {replies : Li
     → Agrees s.table.world → SlotsStand s → CarriesOut GoesStanding s commands replies n
 stand_between none agrees old = none
 stand_between (first one rest) agrees old =
-    let after = stand_after one agrees old in first (one, after.0, after.1, closes_taken one agrees old) (stand_between rest after.0 after.1)
+    let after = stand_after one agrees old in first (one, after.0, after.1, closes_taken one agrees old, calls_as_promised one) (stand_between rest after.0 after.1)
 
 pub all_own : {s n : SessionState} {commands : List Command} {replies : List Reply} → CarriesOut Goes s commands replies n
     → Agrees s.table.world → SlotsStand s → OwnsTickets s → OwnsTickets n

@@ -1,6 +1,6 @@
 -- A session's builder calls are calls.
-use Rattle.std.proofs.Common.{◌≡◌, ℕ, List, Result, Ok, Err, refl, arith}
-use Rattle.std.specs.Prelude.{IfOk}
+use Rattle.std.proofs.Common.{◌≡◌, ℕ, List, Option, Some, None, Result, Ok, Err, refl, ap, subst, arith}
+use Rattle.std.specs.Prelude.{slice_set}
 use Rattle.iceoryx2_access.specs.Registered.{Registered}
 use Rattle.iceoryx2_attribute.specs.Requirements.{Requirements}
 use Rattle.iceoryx2_description.specs.declared.config.Config.{Config}
@@ -18,21 +18,35 @@ use Rattle.iceoryx2_commands.specs.declared.command.Call.{Call}
 use Rattle.iceoryx2_commands.specs.declared.command.Command.{Command}
 use Rattle.iceoryx2_commands.specs.declared.command.Refusal.{Refusal}
 use Rattle.iceoryx2_commands.specs.declared.command.Reply.{Reply}
+use Rattle.iceoryx2_commands.specs.declared.command.Reply.TheVariants as reply
 use Rattle.iceoryx2_session.specs.PatternCalls.{PatternCall, way_of}
 use Rattle.iceoryx2_session.specs.Patterns.{call_by, builder_call}
 use Rattle.iceoryx2_session.specs.Sessions.{SessionState, Builds, Goes}
 use Rattle.iceoryx2_session.specs.Sessions as goes
-use Rattle.iceoryx2_session.specs.Promised.{IsPromised, CallsAsPromised}
-use Rattle.iceoryx2_session.proofs.SlotLists.{not_free}
+use Rattle.iceoryx2_session.specs.Slots.{FreeAt, HoldsAt}
+use Rattle.iceoryx2_session.specs.Promised.{AnswerTo, IsRepliedBy, IsPromised, CallsAsPromised}
+use Rattle.iceoryx2_session.proofs.SlotLists.{not_free, set_here}
 
-same_grant : {X : Type 0} (carry : X → Refusal) (own : Result Registered X) → IfOk (map_err carry own) (λ f. own ≡ Ok f)
-same_grant carry (Ok f) = refl
-same_grant carry (Err e) = tt
+-- the reply to a call that answers Ok, and what its slot holds then
+opened_by : (b : PatternCall) (own : AnswerTo b) (slot : ℕ) (f : Registered) (slots : List (Option Registered)) → Ok f ≡ map_err b.refusal_of own → FreeAt slots slot
+    → IsRepliedBy b own slot (reply.Opened slot f.number) (slice_set slots slot (Some f))
+opened_by b (Ok g) slot f slots e free =
+    let is : f ≡ g = cc in
+    subst (λ (h : Registered). (reply.Opened slot f.number ≡ reply.Opened slot h.number) × HoldsAt (slice_set slots slot (Some f)) slot h) is
+    (refl, set_here slots slot (Some f) None free)
+opened_by b (Err e) slot f slots is free = absurd cc
 
-promised : (b : PatternCall) (s t : TableState) (answer : Result Registered Refusal) → OnlyRaises b.call.meaning b.call.adjusted → Builds b s answer t → IsPromised b s answer t
-promised b s t answer raises is = record {
+-- the reply to one that is refused
+refused_by : (b : PatternCall) (own : AnswerTo b) (slot : ℕ) (e : Refusal) (slots : List (Option Registered)) → Err e ≡ map_err b.refusal_of own → FreeAt slots slot
+    → IsRepliedBy b own slot (reply.Refused e) slots
+refused_by b (Ok g) slot e slots is free = absurd cc
+refused_by b (Err x) slot e slots is free = let same : e ≡ b.refusal_of x = cc in (ap (λ (y : Refusal). reply.Refused y) same, free)
+
+promised : (b : PatternCall) (slot : ℕ) (s : TableState) (answer : Result Registered Refusal) (a : Reply) (n : SessionState) → OnlyRaises b.call.meaning b.call.adjusted
+    → (is : Builds b s answer n.table) → IsRepliedBy b is.0 slot a n.slots → IsPromised b slot s a n
+promised b slot s answer a n raises is replied = record {
   own = is.0;
-  granted = rw is.1 (same_grant b.refusal_of is.0);
+  replied = replied;
   word = is.2.word;
   is_word = is.2.is_word;
   run = is.2.run;
@@ -46,15 +60,18 @@ raises_by config node name way attributes now (settings.Event xs) = events_only_
 raises_by config node name way attributes now (settings.PublishSubscribe xs) = publish_subscribe_only_raises
 raises_by config node name way attributes now (settings.RequestResponse xs) = request_response_only_raises
 
-call_promised : (config : Config) (call : Call) (s t : TableState) (answer : Result Registered Refusal) → Builds (builder_call config call) s answer t → IsPromised (builder_call config call) s answer t
-call_promised config call s t answer is =
-    promised (builder_call config call) s t answer (raises_by config call.node call.name (way_of call.how) call.attributes call.now call.settings) is
+call_promised : (config : Config) (call : Call) (s : TableState) (answer : Result Registered Refusal) (a : Reply) (n : SessionState)
+    → (is : Builds (builder_call config call) s answer n.table) → IsRepliedBy (builder_call config call) is.0 call.slot a n.slots → IsPromised (builder_call config call) call.slot s a n
+call_promised config call s answer a n is replied =
+    promised (builder_call config call) call.slot s answer a n (raises_by config call.node call.name (way_of call.how) call.attributes call.now call.settings) is replied
 
-pub calls_as_promised : {s : SessionState} {c : Command} {a : Reply} {n : SessionState} → Goes s c a n → CallsAsPromised s c n
+pub calls_as_promised : {s : SessionState} {c : Command} {a : Reply} {n : SessionState} → Goes s c a n → CallsAsPromised s c a n
 calls_as_promised (goes.call_past le) = λ few free. absurd (omega (arith, le, few))
 calls_as_promised {s = s} (goes.call_taken {call = call} taken) = λ few free. absurd (not_free s.slots call.slot call.slot taken.0 free taken.1 refl)
-calls_as_promised {s = s} (goes.called {call = call} f {t = t} free is) = λ few _. (Ok f, call_promised s.config call s.table t (Ok f) is)
-calls_as_promised {s = s} (goes.refused {call = call} {e = e} {t = t} free is) = λ few _. (Err e, call_promised s.config call s.table t (Err e) is)
+calls_as_promised {s = s} {a = a} {n = n} (goes.called {call = call} f free is) = λ few _.
+    call_promised s.config call s.table (Ok f) a n is (opened_by (builder_call s.config call) is.0 call.slot f s.slots is.1 free)
+calls_as_promised {s = s} {a = a} {n = n} (goes.refused {call = call} {e = e} free is) = λ few _.
+    call_promised s.config call s.table (Err e) a n is (refused_by (builder_call s.config call) is.0 call.slot e s.slots is.1 free)
 calls_as_promised (goes.close_past le) = tt
 calls_as_promised (goes.close_empty free) = tt
 calls_as_promised (goes.closed f at is) = tt

@@ -11,6 +11,7 @@ use Rattle.iceoryx2_commands.specs.declared.command.Command.TheVariants as comma
 use Rattle.iceoryx2_commands.specs.declared.command.Reply.{Reply}
 use Rattle.iceoryx2_commands.specs.Commands.{slot_count}
 use Rattle.iceoryx2_session.specs.Sessions.{SessionState, Goes, IsClosedPlace}
+use Rattle.iceoryx2_session.specs.Promised.{CallsAsPromised}
 
 -- Each slot's factory stands, with a ticket of its own.
 pub record SlotsStand (s : SessionState) : Type 0 where
@@ -25,9 +26,11 @@ ClosesTaken old (command.Close slot) new =
 ClosesTaken old (command.Call call) new = Unit {0}
 ClosesTaken old command.List new = Unit {0}
 
--- A command leads to a state whose world agrees, and in which the factories of all slots stand; and a close is Ok.
+-- A command leads to a state whose world agrees, and in which the factories of all slots stand; a close is Ok, and a
+-- call is as every call is.
 abbrev pub GoesStanding : SessionState → Command → Reply → SessionState → Type 0
-GoesStanding old c a new = Goes old c a new × Agrees new.table.world × SlotsStand new × ClosesTaken old c new
+GoesStanding old c a new =
+    Goes old c a new × Agrees new.table.world × SlotsStand new × ClosesTaken old c new × CallsAsPromised old c a new
 
 -- A slot's factory has this ticket.
 pub record HasTicket (slots : List (Option Registered)) (t : ℕ) : Type 0 where

@@ -128,7 +128,8 @@ impl<S: TableStorage> Session<S> {
 
         // The call of a free slot is as every call is: within fixed counts, and over a table whose world
         // agrees its factory is as it was asked, and stays open; and those that were open are open throughout.
-        ensures promised { CallsAsPromised (state_of S.shown self.old) command (state_of S.shown self.new) }
+        // The factory is the one that the slot holds then, with the reply's number, and a refusal is the reply's.
+        ensures promised { CallsAsPromised (state_of S.shown self.old) command result (state_of S.shown self.new) }
 
         // There the table's tickets stay those of the slots.
         ensures owns { Agrees (state_of S.shown self.old).table.world → SlotsStand (state_of S.shown self.old)
@@ -169,7 +170,7 @@ impl<S: TableStorage> Session<S> {
         ensures stands { Agrees (state_of S.shown self.old).table.world → SlotsStand (state_of S.shown self.old)
             → Agrees (state_of S.shown self.new).table.world × SlotsStand (state_of S.shown self.new) }
 
-        // and so it is after each of the commands.
+        // and so it is after each of the commands, of which each call is as every call is.
         ensures between { Agrees (state_of S.shown self.old).table.world → SlotsStand (state_of S.shown self.old)
             → IfOk result (λ replies.
             CarriesOut GoesStanding (state_of S.shown self.old) commands.items replies.items
