@@ -7,5 +7,5 @@ pub use iceoryx2_commands::command::{
     Call, Command, EventSetter, How, PublishSubscribeSetter, Refusal, Reply, RequestResponseSetter,
     SLOTS, Settings,
 };
-pub use iceoryx2_session::session::Session;
+pub use iceoryx2_session::session::{Session, TableSession};
 pub use iceoryx2_session::table_storage::TableStorage;

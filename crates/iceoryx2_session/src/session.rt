@@ -14,6 +14,7 @@ use iceoryx2_builder_common::base::BuilderWithServiceType;
 use iceoryx2_commands::command::{Call, Command, Refusal, Reply, SLOTS, Settings};
 use iceoryx2_description::config::Config;
 use iceoryx2_port_factory::port_factory::Registration;
+use iceoryx2_table::table::Table;
 use iceoryx2_types::types::CustomHeaderMarker;
 use std::alloc::AllocError;
 
@@ -24,6 +25,9 @@ pub struct Session<S> {
     storage: S,
     slots: Slots,
 }
+
+/// A session over a table itself.
+pub type TableSession = Session<Table>;
 
 /// The builder call of a command. The builder begins with the settings of its own pattern alone, so that those of
 /// the others aren't copied.
@@ -287,5 +291,16 @@ impl<S: TableStorage> Session<S> {
         }
         slots.destroy();
         storage
+    }
+}
+
+impl Session<Table> {
+    ghost use Rattle.iceoryx2_session.specs.SessionStates.{own_state};
+
+    /// The table, for its readers.
+    pub fn table(&self) -> &Table
+        ensures { result.now ≡ (own_state self.now).table }
+    {
+        self.storage()
     }
 }

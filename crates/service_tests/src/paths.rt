@@ -19,7 +19,9 @@ use iceoryx2_service::description::{
 use iceoryx2_service::laws;
 use iceoryx2_service::port_factory::{self, CloseError};
 use iceoryx2_service::script::{Answer, Faulty, FaultyService, Script, Scripted};
-use iceoryx2_service::session::{self, Call, Command, How, Reply, Session, TableStorage};
+use iceoryx2_service::session::{
+    self, Call, Command, How, Reply, Session, TableSession, TableStorage,
+};
 use iceoryx2_service::storage::{
     Existence, FetchError, LockError, MakeSegmentError, OpenSegmentError, PublishError, Release,
     ReleaseError, RemoveError, Service, ServiceNameHasher, Sha1Hasher, Storage, Tag, TagError,
@@ -116,8 +118,8 @@ fn of_factories() {
         named:
         CloseError<u64>, port_factory::event::PortFactory<Local>,
         port_factory::publish_subscribe::PortFactory<Local, u64, ()>,
-        port_factory::request_response::PortFactory<Local, u64, (), u64, ()>, Session<Table>, Command,
-        Call, How, Reply
+        port_factory::request_response::PortFactory<Local, u64, (), u64, ()>, Session<Table>,
+        TableSession, Command, Call, How, Reply
     }
 }
 

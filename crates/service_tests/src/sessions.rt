@@ -6,7 +6,7 @@ use iceoryx2_commands::command::{Command, EventSetter, How, Refusal, Reply};
 use iceoryx2_description::config::Config;
 use iceoryx2_description::time::{ClockFault, Duration, Time};
 use iceoryx2_errors::error::{EventCreateError, EventOpenError};
-use iceoryx2_session::session::Session;
+use iceoryx2_session::session::{Session, TableSession};
 use iceoryx2_session::table_storage::TableStorage;
 use iceoryx2_table::table::Table;
 use iceoryx2_traced::traced::Traced;
@@ -14,12 +14,12 @@ use std::alloc::Global;
 use std::process::Abort;
 
 /// A session over a new table.
-fn started(alloc: Global, config: Config) -> Session<Table> {
+fn started(alloc: Global, config: Config) -> TableSession {
     Session::new(config, table_from(alloc, 0))
 }
 
 /// The table of a session, which has no factory any more.
-fn finished(session: Session<Table>) -> Table {
+fn finished(session: TableSession) -> Table {
     session.finish()
 }
 
@@ -135,7 +135,7 @@ const SETTINGS: [EventSetter; 5] = [
 fn answers_of_settings(rt: &impl Abort, alloc: Global) -> ([Reply; 3], u64) {
     let mut session = started(alloc, Config::default());
     let made = call(rt, alloc, &mut session, (How::Create, 1, 0, "a"), &SETTINGS);
-    let (max_nodes, _) = node_views(rt, session.storage());
+    let (max_nodes, _) = node_views(rt, session.table());
     let refused = call(rt, alloc, &mut session, (How::Create, 1, 1, "a"), &[]);
     let missing = call(rt, alloc, &mut session, (How::Open, 1, 1, "b"), &[]);
     drop_table(finished(session));
