@@ -17,4 +17,4 @@ pub use iceoryx2_rounds::laws::{
 pub use iceoryx2_script::laws::{faults, scripts};
 pub use iceoryx2_session::laws::sessions;
 pub use iceoryx2_traced::laws::traces;
-pub use iceoryx2_world::laws::{accesses, agreement_of_worlds, batches};
+pub use iceoryx2_world::laws::{accesses, agreement_of_worlds, batches, interference};

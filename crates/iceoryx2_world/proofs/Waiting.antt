@@ -1,12 +1,12 @@
 -- What a table with waiting batches does, in its world.
-use Rattle.std.proofs.Common.{◌≡◌, ℕ, zero, suc, List, [], ◌∷◌, length, drop, refl, sym, ap, subst, ◌∙◌}
+use Rattle.std.proofs.Common.{◌≡◌, ℕ, Bool, zero, suc, inl, List, [], ◌∷◌, length, drop, refl, sym, ap, subst, ◌∙◌}
 use Rattle.iceoryx2_world.specs.World.{World}
 use Rattle.iceoryx2_world.specs.Access.{IsOwnPart}
 use Rattle.iceoryx2_world.specs.Agreement.{Later}
 use Rattle.iceoryx2_world.specs.Across.{Agrees}
-use Rattle.iceoryx2_world.specs.Peers.{Peers, none, peer, IsAccess}
-use Rattle.iceoryx2_world.specs.Fallible.{IsFallibleAccess}
-use Rattle.iceoryx2_world.proofs.agreement.Accesses.{peers_keep, access_keeps, with_refusals}
+use Rattle.iceoryx2_world.specs.Interference.{Others, nobody, peer_acts, After, everyone}
+use Rattle.iceoryx2_world.proofs.agreement.Accesses.{access_keeps, refusable}
+use Rattle.iceoryx2_world.proofs.agreement.Interference.{others_keep_own, among_others}
 use Rattle.iceoryx2_world.proofs.agreement.Accesses as kept
 use Rattle.iceoryx2_access.specs.Letter.{Letter}
 use Rattle.iceoryx2_access.specs.MayRefuse.{MayRefuse}
@@ -16,23 +16,27 @@ use Rattle.iceoryx2_world.specs.Batches.{act_of, IsPeerStep, forbidden, acts, st
 use Rattle.iceoryx2_world.specs.Tables.{TableState, next_batch, later_batches, IsBatchRun, IsTableAccess}
 use Rattle.iceoryx2_world.proofs.Runs.{run_map, run_map_where, refusable_map}
 
-step_peers : {s t : World × ℕ} {x : Step} {w : World} → IsPeerStep s x t → Peers t.0 w → Peers s.0 w
-step_peers {w = w} (forbidden e is) more = subst (λ p. Peers p w) (ap (λ p. p.0) is) more
-step_peers {x = x} (acts ok e same) more = peer x.peer x.hash (act_of x.act) ok e more
-step_peers {w = w} (starves v e wants is) more = subst (λ p. Peers p w) (ap (λ p. p.0) is) more
+module _ {own : ℕ → Bool} where
+  step_others : {s t : World × ℕ} {x : Step} {w : World} → IsPeerStep s x t → Others own t.0 w → Others own s.0 w
+  step_others {w = w} (forbidden e is) more = subst (λ p. Others own p w) (ap (λ p. p.0) is) more
+  step_others {x = x} (acts ok e same) more = peer_acts x.peer x.hash (act_of x.act) ok e more
+  step_others {w = w} (starves v e wants is) more = subst (λ p. Others own p w) (ap (λ p. p.0) is) more
 
-pub batch_peers : {s t : World × ℕ} {batch : List Step} → IsBatch s batch t → Peers s.0 t.0
-batch_peers done = none
-batch_peers (next h more) = step_peers h (batch_peers more)
+  pub batch_others : {s t : World × ℕ} {batch : List Step} → IsBatch s batch t → Others own s.0 t.0
+  batch_others done = nobody
+  batch_others (next h more) = step_others h (batch_others more)
 
-pub table_access : (s t : TableState) (l : Letter) → IsTableAccess s l t → IsAccess s.world l t.world
-table_access s t l a = record { between = a.between; peers = batch_peers a.batch; own = a.own }
+  pub table_access : (s t : TableState) (l : Letter) → IsTableAccess s l t → After (Others own) IsOwnPart s.world l t.world
+  table_access s t l a = record { between = a.between; before = batch_others a.batch; part = a.own }
 
-pub table_run : {s t : TableState} {word : List Letter} → Run IsTableAccess s word t → Run IsAccess s.world word t.world
-table_run r = run_map (λ s. s.world) table_access r
+  pub table_run : {s t : TableState} {word : List Letter} → Run IsTableAccess s word t → Run (After (Others own) IsOwnPart) s.world word t.world
+  table_run r = run_map (λ s. s.world) table_access r
 
-pub refusable_run : {s t : TableState} {word : List Letter} → Run (MayRefuse IsTableAccess) s word t → Run IsFallibleAccess s.world word t.world
-refusable_run r = run_map (λ s. s.world) (refusable_map IsTableAccess IsAccess (λ s. s.world) table_access) r
+  pub refusable_access : (s t : TableState) (l : Letter) → MayRefuse IsTableAccess s l t → After (Others own) (MayRefuse IsOwnPart) s.world l t.world
+  refusable_access s t l a = refusable (λ w. nobody) s.world l t.world (refusable_map IsTableAccess (After (Others own) IsOwnPart) (λ s. s.world) table_access s t l a)
+
+  pub refusable_run : {s t : TableState} {word : List Letter} → Run (MayRefuse IsTableAccess) s word t → Run (After (Others own) (MayRefuse IsOwnPart)) s.world word t.world
+  refusable_run r = run_map (λ s. s.world) refusable_access r
 
 -- no step changes nothing
 no_steps : {s t : World × ℕ} → IsBatch s [] t → t ≡ s
@@ -86,13 +90,13 @@ waiting_after done = refl
 waiting_after {s = s} (next {word = word} a rest) = waiting_after rest ∙ ap (drop (length word)) a.rest ∙ drop_later (length word) s.waiting
 
 pub batch_keeps : {s t : World × ℕ} {batch : List Step} → IsBatch s batch t → Agrees s.0 → Agrees t.0 × Later s.0 t.0
-batch_keeps r old = peers_keep (batch_peers r) old
+batch_keeps r old = let kept = others_keep_own everyone (batch_others r) old in (kept.agrees, kept.later)
 
 pub table_keeps : (s t : TableState) (l : Letter) → IsTableAccess s l t → Agrees s.world → Agrees t.world × Later s.world t.world
-table_keeps s t l a old = access_keeps s.world l t.world (table_access s t l a) old
-
-pub table_run_keeps : {s t : TableState} {word : List Letter} → Run IsTableAccess s word t → Agrees s.world → Agrees t.world × Later s.world t.world
-table_run_keeps r old = kept.run_keeps (with_refusals (table_run r)) old
+table_keeps s t l a old = access_keeps s.world l t.world (among_others everyone s.world l t.world (table_access s t l a)) old
 
 pub refusable_run_keeps : {s t : TableState} {word : List Letter} → Run (MayRefuse IsTableAccess) s word t → Agrees s.world → Agrees t.world × Later s.world t.world
-refusable_run_keeps r old = kept.run_keeps (refusable_run r) old
+refusable_run_keeps r old = kept.run_keeps (run_map (λ w. w) (λ w v l a. among_others everyone w l v a) (refusable_run r)) old
+
+pub table_run_keeps : {s t : TableState} {word : List Letter} → Run IsTableAccess s word t → Agrees s.world → Agrees t.world × Later s.world t.world
+table_run_keeps r old = refusable_run_keeps (run_map (λ s. s) (λ s t l a. inl a) r) old

@@ -16,5 +16,6 @@ pub mod Empty
 pub mod Calm
 pub mod Granted
 pub mod Spent
+pub mod Interference
 pub mod Closing
 pub mod Few

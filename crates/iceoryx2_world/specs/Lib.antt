@@ -9,8 +9,7 @@ pub mod Access
 pub mod AccessCases
 pub mod Agreement
 pub mod Across
-pub mod Peers
-pub mod Fallible
+pub mod Interference
 pub mod Standing
 pub mod Listing
 pub mod Calm

@@ -3,6 +3,7 @@
 
 ghost use Rattle.std.specs.Prelude.{◌≡◌, ◌≢◌, ℕ, ◌+◌, ◌≤◌, List, [], ◌∷◌, ◌++◌};
 ghost use Rattle.std.specs.Prelude.{Option, Some, None, Result, Ok, Err, ◌⊎◌, length, drop, unwrap_or};
+ghost use Rattle.std.specs.Prelude.{Bool, true};
 ghost use Rattle.iceoryx2_description.specs.declared.description.ServiceHash.{ServiceHash};
 ghost use Rattle.iceoryx2_description.specs.Description.{Description};
 ghost use Rattle.iceoryx2_byte_form.specs.Form.{IsForm};
@@ -10,7 +11,9 @@ ghost use Rattle.iceoryx2_world.specs.declared.world.Participant.{Participant};
 ghost use Rattle.iceoryx2_world.specs.declared.world.Participant.TheVariants.{Node, Peer};
 ghost use Rattle.iceoryx2_world.specs.declared.world.Ticket.{Ticket};
 ghost use Rattle.iceoryx2_world.specs.World.{World, Segment, phase_of, locked_number, empty_world, ticket_of};
-ghost use Rattle.iceoryx2_world.specs.World.{ticket_count, count_of};
+ghost use Rattle.iceoryx2_world.specs.World.{ticket_count, count_of, Tickets};
+ghost use Rattle.iceoryx2_world.specs.Sets.{FinSet};
+ghost use Rattle.iceoryx2_world.specs.Orders.{tag_cmp};
 ghost use Rattle.iceoryx2_world.specs.Acts.{Act, IsAct};
 ghost use Rattle.iceoryx2_world.specs.Steps.{ServiceView, view_after, world_after, last_number};
 ghost use Rattle.iceoryx2_world.specs.StepCases.{IsStep};
@@ -26,8 +29,8 @@ ghost use Rattle.iceoryx2_access.specs.Letter.{Release};
 ghost use Rattle.iceoryx2_access.specs.Run.{Run, Each};
 ghost use Rattle.iceoryx2_world.specs.Agreement.{AgreesEverywhere, Later, IsSpent};
 ghost use Rattle.iceoryx2_world.specs.Across.{AgreesOnNumbers, Agrees};
-ghost use Rattle.iceoryx2_world.specs.Peers.{IsAccess, Peers};
-ghost use Rattle.iceoryx2_world.specs.Fallible.{IsFallibleAccess};
+ghost use Rattle.iceoryx2_world.specs.Interference.{Rely, Others, After, IsAccessUnder, IsFallibleUnder};
+ghost use Rattle.iceoryx2_world.specs.Interference.{SameTickets, SameTags, everyone};
 ghost use Rattle.iceoryx2_world.specs.Calm.{SameServices, IsCalmLetter};
 ghost use Rattle.iceoryx2_access.specs.Registered.{Registered};
 ghost use Rattle.iceoryx2_world.specs.Standing.{ticket_for, Stands, Spares};
@@ -39,8 +42,8 @@ ghost use Rattle.iceoryx2_world.specs.declared.world.Phase.TheVariants as at;
 ghost use Rattle.iceoryx2_world.specs.declared.batches.Act.TheVariants as act;
 
 /// A world agrees: at each service its row, its segment and the phases fit one another, and each
-/// node has as many tickets as its phases count. Whatever accesses and steps of peers make of such
-/// a world agrees again and is later, and what stands for an open factory stays.
+/// node has as many tickets as its phases count. What a step makes of such a world agrees again and is
+/// later; what accesses make of it `interference` tells.
 pub fn agreement_of_worlds()
     // A world in which nothing is there agrees, wherever its counter begins.
     ensures empty { (c : ℕ) → Agrees (empty_world c) }
@@ -62,25 +65,11 @@ pub fn agreement_of_worlds()
     ensures peer { (w v : World) (id : ℕ) (h : ServiceHash) (act : Act)
         → IsAct act → world_after w (Peer id) h act ≡ Some v → Agrees w → Agrees v × Later w v }
 
-    // An access of a node, after any steps of peers, keeps the agreement and gives a later world.
-    ensures access { (w v : World) (l : Letter) → IsAccess w l v → Agrees w → Agrees v × Later w v }
-
-    // So does one that may be refused.
-    ensures refusable { (w v : World) (l : Letter) → IsFallibleAccess w l v → Agrees w → Agrees v × Later w v }
-
-    // And so does any run of these.
-    ensures run { (w v : World) (word : List Letter)
-        → Run IsFallibleAccess w word v → Agrees w → Agrees v × Later w v }
-
     // No node has more tickets for a service than the counter says.
     ensures few { (w : World) (i : ℕ) (h : ServiceHash) → Agrees w → ticket_count w.tickets i h ≤ w.counter }
 
     // What is later than a later world is later, where the first one agrees.
     ensures later { (u v w : World) → Agrees u → Later u v → Later v w → Later u w }
-
-    // A number that is spent at a service never comes back there.
-    ensures spent { (w v : World) (l : Letter) (h : ServiceHash) (n : ℕ)
-        → IsFallibleAccess w l v → Agrees w → IsSpent w h n → IsSpent v h n }
 
     // Each ticket is one of a factory that stands.
     ensures ticket { (w : World) (t : ℕ) (x : Ticket)
@@ -91,41 +80,6 @@ pub fn agreement_of_worlds()
     ensures other { (w v : World) (p : Participant) (h : ServiceHash) (act : Act) (f : Registered)
         → Node f.node ≢ p → IsAct act → world_after w p h act ≡ Some v
         → Agrees w → Stands w f → Stands v f }
-
-    // So does every access of any node, but a release of its ticket that is granted.
-    ensures stands { (w v : World) (l : Letter) (f : Registered)
-        → IsAccess w l v → Spares f l → Agrees w → Stands w f → Stands v f }
-
-    // The same along a run of accesses of which any may be refused.
-    ensures stands_along { (w v : World) (word : List Letter) (f : Registered)
-        → Run IsFallibleAccess w word v → Each (Spares f) word → Agrees w → Stands w f → Stands v f }
-
-    // The table grants the release of a standing factory's ticket.
-    ensures released { (w v : World) (f : Registered) (e : ReleaseError)
-        → Agrees w → Stands w f
-        → IsAccess w (Release f.ticket f.node f.description.hash f.number (Err e)) v → ⊥ }
-
-    // A granted release takes the ticket out.
-    ensures taken_out { (w v : World) (node number ticket : ℕ) (h : ServiceHash) (left : Released)
-        → IsFallibleAccess w (Release ticket node h number (Ok left)) v → ticket_of v ticket ≡ None }
-
-    // Who locks a service and publishes a description under the lock's number has a factory that
-    // stands with it. Its ticket is not below the counter at the beginning: no factory had it.
-    ensures created { (w v : World) (node number ticket : ℕ) (h : ServiceHash) (d : Description) (word : List Letter)
-        → Run IsFallibleAccess w (Lock node h (Ok number) ∷ (word ++ Publish node h number d (Ok ticket) ∷ [])) v
-        → Agrees w
-        → Stands v (record { node = node; number = number; ticket = ticket; description = d })
-        × (d.hash ≡ h) × (w.counter ≤ ticket) }
-
-    // Who fetches a description and opens the segment of its number has a factory that stands with
-    // that very description, and a new ticket.
-    ensures opened { (w v : World) (node number ticket : ℕ) (h : ServiceHash) (d : Description) (bytes : List ℕ)
-        (word : List Letter)
-        → Run IsFallibleAccess w
-        (Fetch node h (Ok (number, bytes)) ∷ (word ++ OpenSegment node h number (Ok ticket) ∷ [])) v
-        → IsForm d bytes → d.hash ≡ h → Agrees w
-        → Stands v (record { node = node; number = number; ticket = ticket; description = d })
-        × (w.counter ≤ ticket) }
 
     // The own part of an access changes a published description or a count only where it is a
     // granted publishing, opening, release or removal of a description.
@@ -149,6 +103,87 @@ pub fn agreement_of_worlds()
         → count_of w (Node node) h ≡ count_of v (Node node) h + 1 }
 {}
 
+/// Between two accesses of own nodes anything may happen that keeps the agreement and what these nodes have
+/// (`Rely`), as all that others do. An access after it keeps the agreement, and what stands for an own
+/// node's factory stays.
+pub fn interference()
+    // Peers, and nodes that aren't one's own, keep all that own nodes rely on, whatever they do and in any order.
+    ensures others { (own : ℕ → Bool) (w v : World) → Others own w v → Rely own w v }
+
+    // So does nothing that happens, and one such thing after another.
+    ensures nothing { (own : ℕ → Bool) (w : World) → Rely own w w }
+    ensures both { (own : ℕ → Bool) (u v w : World) → Rely own u v → Rely own v w → Rely own u w }
+
+    // What keeps all that some nodes rely on keeps what fewer do.
+    ensures fewer { (own more : ℕ → Bool) (w v : World)
+        → ((i : ℕ) → own i ≡ true → more i ≡ true) → Rely more w v → Rely own w v }
+
+    // An access after what others do is one under interference,
+    ensures among_others { (own : ℕ → Bool) (w v : World) (l : Letter)
+        → After (Others own) IsOwnPart w l v → IsAccessUnder own w l v }
+    // so is one that may be refused then,
+    ensures refused_among_others { (own : ℕ → Bool) (w v : World) (l : Letter)
+        → After (Others own) (MayRefuse IsOwnPart) w l v → IsFallibleUnder own w l v }
+    // and one that may be refused with nothing before it.
+    ensures may_refuse { (own : ℕ → Bool) (w v : World) (l : Letter)
+        → MayRefuse (IsAccessUnder own) w l v → IsFallibleUnder own w l v }
+
+    // Where every node is one's own, the same tickets and the same tags of own nodes are all the same.
+    ensures all_tickets { (j k : Tickets) → SameTickets everyone j k → k ≡ j }
+    ensures all_tags { (s t : FinSet tag_cmp) → SameTags everyone s t → t ≡ s }
+
+    // An access under interference keeps the agreement and gives a later world, whether it is refused or not.
+    ensures access { (own : ℕ → Bool) (w v : World) (l : Letter)
+        → IsFallibleUnder own w l v → Agrees w → Agrees v × Later w v }
+
+    // And so does any run of these.
+    ensures run { (own : ℕ → Bool) (w v : World) (word : List Letter)
+        → Run (IsFallibleUnder own) w word v → Agrees w → Agrees v × Later w v }
+
+    // A number that is spent at a service never comes back there.
+    ensures spent { (own : ℕ → Bool) (w v : World) (l : Letter) (h : ServiceHash) (n : ℕ)
+        → IsFallibleUnder own w l v → Agrees w → IsSpent w h n → IsSpent v h n }
+
+    // An own node's factory that stands goes on standing after every access of anyone, but a release of its ticket
+    // that is granted.
+    ensures stands { (own : ℕ → Bool) (w v : World) (l : Letter) (f : Registered)
+        → own f.node ≡ true → IsFallibleUnder own w l v → Spares f l → Agrees w → Stands w f → Stands v f }
+
+    // The same along a run.
+    ensures stands_along { (own : ℕ → Bool) (w v : World) (word : List Letter) (f : Registered)
+        → own f.node ≡ true → Run (IsFallibleUnder own) w word v → Each (Spares f) word
+        → Agrees w → Stands w f → Stands v f }
+
+    // The table grants an own node the release of a standing factory's ticket.
+    ensures released { (own : ℕ → Bool) (w v : World) (f : Registered) (e : ReleaseError)
+        → own f.node ≡ true → Agrees w → Stands w f
+        → IsAccessUnder own w (Release f.ticket f.node f.description.hash f.number (Err e)) v → ⊥ }
+
+    // A granted release takes the ticket out.
+    ensures taken_out { (own : ℕ → Bool) (w v : World) (node number ticket : ℕ) (h : ServiceHash) (left : Released)
+        → IsFallibleUnder own w (Release ticket node h number (Ok left)) v → ticket_of v ticket ≡ None }
+
+    // Who locks a service and publishes a description under the lock's number has a factory that
+    // stands with it. Its ticket is not below the counter at the beginning: no factory had it.
+    ensures created { (own : ℕ → Bool) (w v : World) (node number ticket : ℕ) (h : ServiceHash) (d : Description)
+        (word : List Letter)
+        → Run (IsFallibleUnder own) w
+        (Lock node h (Ok number) ∷ (word ++ Publish node h number d (Ok ticket) ∷ [])) v
+        → Agrees w
+        → Stands v (record { node = node; number = number; ticket = ticket; description = d })
+        × (d.hash ≡ h) × (w.counter ≤ ticket) }
+
+    // Who fetches a description and opens the segment of its number has a factory that stands with
+    // that very description, and a new ticket.
+    ensures opened { (own : ℕ → Bool) (w v : World) (node number ticket : ℕ) (h : ServiceHash) (d : Description)
+        (bytes : List ℕ) (word : List Letter)
+        → Run (IsFallibleUnder own) w
+        (Fetch node h (Ok (number, bytes)) ∷ (word ++ OpenSegment node h number (Ok ticket) ∷ [])) v
+        → IsForm d bytes → d.hash ≡ h → Agrees w
+        → Stands v (record { node = node; number = number; ticket = ticket; description = d })
+        × (w.counter ≤ ticket) }
+{}
+
 /// What a node's own part of an access answers and changes stands twice: as functions that make its
 /// tests in their order, and as a relation with one line for each line of the table. They are one.
 pub fn accesses()
@@ -163,19 +198,21 @@ pub fn accesses()
 /// world, and nodes' own parts alone where nothing waits. So what is true of runs of these is true
 /// of runs of a table with batches.
 pub fn batches()
-    // A batch is steps of peers.
-    ensures batch { (s t : World × ℕ) (batch : List Step) → IsBatch s batch t → Peers s.0 t.0 }
+    // A batch is steps of peers: others take them, whichever nodes are one's own.
+    ensures batch { (own : ℕ → Bool) (s t : World × ℕ) (batch : List Step) → IsBatch s batch t → Others own s.0 t.0 }
 
-    // An access with its batch is one of the world, after any steps of peers.
-    ensures access { (s t : TableState) (l : Letter) → IsTableAccess s l t → IsAccess s.world l t.world }
+    // An access with its batch is one of the world, after what others do.
+    ensures access { (own : ℕ → Bool) (s t : TableState) (l : Letter)
+        → IsTableAccess s l t → After (Others own) IsOwnPart s.world l t.world }
 
     // So is each of a run.
-    ensures run { (s t : TableState) (word : List Letter)
-        → Run IsTableAccess s word t → Run IsAccess s.world word t.world }
+    ensures run { (own : ℕ → Bool) (s t : TableState) (word : List Letter)
+        → Run IsTableAccess s word t → Run (After (Others own) IsOwnPart) s.world word t.world }
 
     // A run of which any access may be refused is such a run of the world.
-    ensures refusable { (s t : TableState) (word : List Letter)
-        → Run (MayRefuse IsTableAccess) s word t → Run IsFallibleAccess s.world word t.world }
+    ensures refusable { (own : ℕ → Bool) (s t : TableState) (word : List Letter)
+        → Run (MayRefuse IsTableAccess) s word t
+        → Run (After (Others own) (MayRefuse IsOwnPart)) s.world word t.world }
 
     // Where nothing waits there are the nodes' own parts alone, nothing waits afterwards, and
     // nothing was skipped.

@@ -137,6 +137,7 @@ fn each_type_has_its_path(_rt: HostRuntime) {
 #[test]
 fn each_law_has_its_path(_rt: HostRuntime) {
     laws::agreement_of_worlds();
+    laws::interference();
     laws::accesses();
     laws::batches();
     laws::scripts();

@@ -1,5 +1,5 @@
 -- Each access keeps the agreement, and so does each run of accesses.
-use Rattle.std.proofs.Common.{◌≡◌, ◌≢◌, ℕ, ◌+◌, ◌<◌, ◌⊎◌, inl, inr, List, Option, Some, None, refl, sym, ap, subst, ◌∙◌, arith}
+use Rattle.std.proofs.Common.{◌≡◌, ◌≢◌, ℕ, ◌+◌, ◌<◌, Bool, ◌⊎◌, inl, inr, List, Option, Some, None, refl, sym, ap, subst, ◌∙◌, arith}
 use Rattle.iceoryx2_description.specs.declared.description.ServiceHash.{ServiceHash}
 use Rattle.iceoryx2_world.specs.Sets as set
 use Rattle.iceoryx2_world.specs.declared.world.Participant.{Participant}
@@ -17,16 +17,15 @@ use Rattle.iceoryx2_world.specs.Agreement.{AgreesAt, AgreesEverywhere, Later, Is
 use Rattle.iceoryx2_world.specs.Across.{Agrees}
 use Rattle.iceoryx2_access.specs.Letter.{Letter}
 use Rattle.iceoryx2_world.specs.Access.{IsOwnPart}
-use Rattle.iceoryx2_world.specs.Peers.{Peers, none, peer, IsAccess}
-use Rattle.iceoryx2_world.specs.Fallible.{IsFallibleAccess}
-use Rattle.iceoryx2_access.specs.MayRefuse.{IsFault}
+use Rattle.iceoryx2_world.specs.Interference.{After, IsAccessUnder, IsFallibleUnder}
+use Rattle.iceoryx2_access.specs.MayRefuse.{IsFault, MayRefuse}
 use Rattle.iceoryx2_access.specs.Run.{Run, done, next}
 use Rattle.iceoryx2_world.proofs.agreement.Whole.{after_keeps}
 use Rattle.iceoryx2_world.specs.StepCases.{IsStep, joins as row_joins, joins_again}
 use Rattle.iceoryx2_world.proofs.agreement.StepCases.{step_case}
 use Rattle.iceoryx2_world.proofs.agreement.Step.{later_same}
 use Rattle.iceoryx2_world.proofs.agreement.Effects.{allowed_step}
-use Rattle.iceoryx2_world.proofs.agreement.Worlds.{ticket_put, is_none, peer_keeps, idle_keeps, gain_keeps, lose_keeps, step_locks, step_places}
+use Rattle.iceoryx2_world.proofs.agreement.Worlds.{ticket_put, is_none, idle_keeps, gain_keeps, lose_keeps, step_locks, step_places}
 use Rattle.iceoryx2_world.proofs.agreement.Parts.{mine, Publishing, Joining, IsCalm, Part, stays, tagged, calm, removed, publishes, joins, releases, own_part}
 
 pub later_refl : (w : World) → Later w w
@@ -63,13 +62,6 @@ later_trans u v w each a b = record {
 
 pub same_keeps : (w v : World) → v ≡ w → Agrees w → Agrees v × Later w v
 same_keeps w v e old = subst (λ u. Agrees u × Later w u) (sym e) (old, later_refl w)
-
-pub peers_keep : {w v : World} → Peers w v → Agrees w → Agrees v × Later w v
-peers_keep none old = (old, later_refl _)
-peers_keep {w = u} {v = w} (peer {v = v} id h a ok e rest) old =
-    let one = peer_keeps u v id h a ok e old in
-    let more = peers_keep rest one.0 in
-    (more.0, later_trans u v w old.everywhere one.1 more.1)
 
 tags_keep : (w : World) (t : set.FinSet tag_cmp) → Agrees w → Agrees (record w { tags = t }) × Later w (record w { tags = t })
 tags_keep w t old = (record { everywhere = old.everywhere; numbered = record { below = old.numbered.below; apart = old.numbered.apart; free = old.numbered.free }; held = record { number = old.held.number; count = old.held.count } }, record { counter = omega arith; rows = λ h. later_same _ _ })
@@ -125,7 +117,7 @@ calm_keeps w v id h act.Leave ok e old = absurd ok
 part_keeps : (w : World) (l : Letter) (v : World) → Part w l v → Agrees w → Agrees v × Later w v
 part_keeps w l v (stays e) old = same_keeps w v e old
 part_keeps w l v (tagged t e) old = subst (λ u. Agrees u × Later w u) (sym e) (tags_keep w t old)
-part_keeps w l v (calm i h a ok e) old = calm_keeps w v i h a ok e old
+part_keeps w l v (calm i h a who ok e) old = calm_keeps w v i h a ok e old
 part_keeps w l v (removed i h is e) old = idle_keeps w v i h act.RemoveDescription tt (λ x y i. i) e old
 part_keeps w l v (publishes i h n d t is p) old = published_keeps w v i h n d t p old
 part_keeps w l v (joins i h n t is p) old = opened_keeps w v i h n t p old
@@ -133,17 +125,6 @@ part_keeps w l v (releases t i h n a is p) old = subst (λ z. Agrees z × Later 
 
 pub own_keeps : (w : World) (l : Letter) (v : World) → IsOwnPart w l v → Agrees w → Agrees v × Later w v
 own_keeps w l v o old = part_keeps w l v (own_part w l v o) old
-
-pub access_keeps : (w : World) (l : Letter) (v : World) → IsAccess w l v → Agrees w → Agrees v × Later w v
-access_keeps w l v a old =
-    let first = peers_keep a.peers old in
-    let second = own_keeps a.between l v a.own first.0 in
-    (second.0, later_trans w a.between v old.everywhere first.1 second.1)
-
--- also where any access may be refused
-pub faulty_keeps : (w : World) (l : Letter) (v : World) → IsFallibleAccess w l v → Agrees w → Agrees v × Later w v
-faulty_keeps w l v (inl a) old = access_keeps w l v a old
-faulty_keeps w l v (inr f) old = same_keeps w v f.1 old
 
 -- what each step keeps a run keeps
 pub keeps_along : {step : World → Letter → World → Type 0} → ((w : World) (l : Letter) (v : World) → step w l v → Agrees w → Agrees v × Later w v) → {w v : World} {word : List Letter} → Run step w word v → Agrees w → Agrees v × Later w v
@@ -153,15 +134,37 @@ keeps_along keeps {w = u} {v = w} (next {mid = v} {letter = l} a rest) old =
     let more = keeps_along keeps rest one.0 in
     (more.0, later_trans u v w old.everywhere one.1 more.1)
 
-pub run_keeps : {w v : World} {word : List Letter} → Run IsFallibleAccess w word v → Agrees w → Agrees v × Later w v
+-- an access that is not refused is one that may be
+pub unrefused : {happens : World → World → Type 0} {step : World → Letter → World → Type 0} {w v : World} {l : Letter} → After happens step w l v → After happens (MayRefuse step) w l v
+unrefused a = record { between = a.between; before = a.before; part = inl a.part }
+
+-- and so is one of which the whole may be refused
+pub refusable : {happens : World → World → Type 0} {step : World → Letter → World → Type 0} → ((w : World) → happens w w) → (w : World) (l : Letter) (v : World) → MayRefuse (After happens step) w l v → After happens (MayRefuse step) w l v
+refusable still w l v (inl a) = unrefused a
+refusable still w l v (inr e) = record { between = w; before = still w; part = inr e }
+
+pub faulty_keeps : {own : ℕ → Bool} (w : World) (l : Letter) (v : World) → IsFallibleUnder own w l v → Agrees w → Agrees v × Later w v
+faulty_keeps w l v a old =
+    let first = a.before old in
+    let second : Agrees v × Later a.between v = elim a.part [
+      | inl o ↦ own_keeps a.between l v o first.agrees
+      | inr f ↦ same_keeps a.between v f.1 first.agrees
+    ] in
+    (second.0, later_trans w a.between v old.everywhere first.later second.1)
+
+pub access_keeps : {own : ℕ → Bool} (w : World) (l : Letter) (v : World) → IsAccessUnder own w l v → Agrees w → Agrees v × Later w v
+access_keeps w l v a old = faulty_keeps w l v (unrefused a) old
+
+pub run_keeps : {own : ℕ → Bool} {w v : World} {word : List Letter} → Run (IsFallibleUnder own) w word v → Agrees w → Agrees v × Later w v
 run_keeps = keeps_along faulty_keeps
 
--- accesses that are not refused are such accesses too
-pub with_refusals : {w v : World} {word : List Letter} → Run IsAccess w word v → Run IsFallibleAccess w word v
-with_refusals done = done
-with_refusals (next a rest) = next (inl a) (with_refusals rest)
-
 -- an answer that isn't the general fault is the table's own
-pub granted : (w : World) (l : Letter) (v : World) → (IsFault l → ⊥) → IsFallibleAccess w l v → IsAccess w l v
-granted w l v other (inl a) = a
-granted w l v other (inr f) = absurd (other f.0)
+pub granted : {own : ℕ → Bool} (w : World) (l : Letter) (v : World) → (IsFault l → ⊥) → IsFallibleUnder own w l v → IsAccessUnder own w l v
+granted w l v other a = elim a.part [
+  | inl o ↦ record { between = a.between; before = a.before; part = o }
+  | inr f ↦ absurd (other f.0)
+]
+
+pub unrefused_run : {own : ℕ → Bool} {w v : World} {word : List Letter} → Run (IsAccessUnder own) w word v → Run (IsFallibleUnder own) w word v
+unrefused_run done = done
+unrefused_run (next a rest) = next (unrefused a) (unrefused_run rest)

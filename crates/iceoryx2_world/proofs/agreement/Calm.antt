@@ -103,7 +103,7 @@ calmed w v id g a ok e =
 part_calmed : (w : World) (l : Letter) (v : World) → IsCalmLetter l → Part w l v → Calmed w v
 part_calmed w l v ok (stays e) = calmed_same w v e
 part_calmed w l v ok (tagged t e) = subst (λ u. Calmed w u) (sym e) (record { same = record { published = λ h. refl; counts = λ p h. refl }; locks = λ q h n l. l })
-part_calmed w l v ok (calm i h a is e) = calmed w v i h a is e
+part_calmed w l v ok (calm i h a who is e) = calmed w v i h a is e
 part_calmed w l v ok (removed i h is e) = absurd (subst IsCalmLetter is ok)
 part_calmed w l v ok (publishes i h n d t is p) = absurd (subst IsCalmLetter is ok)
 part_calmed w l v ok (joins i h n t is p) = absurd (subst IsCalmLetter is ok)
@@ -115,7 +115,7 @@ own_calmed w l v ok o = part_calmed w l v ok (own_part w l v o)
 part_unlocks : (w v : World) (i : ℕ) (h : ServiceHash) (n : ℕ) (a : Result (Unit {0}) RemoveError) → locked_number (phase_of w (Node i) h) ≡ Some n → Agrees w → Part w (letter.RemoveDescription i h a) v → SameServices w v
 part_unlocks w v i h n a lock old (stays e) = (calmed_same w v e).same
 part_unlocks w v i h n a lock old (tagged t e) = subst (λ u. SameServices w u) (sym e) (record { published = λ h. refl; counts = λ p h. refl })
-part_unlocks w v i h n a lock old (calm j g b is e) = (calmed w v j g b is e).same
+part_unlocks w v i h n a lock old (calm j g b who is e) = (calmed w v j g b is e).same
 part_unlocks w v i h n a lock old (removed j g is e) =
     let node : i ≡ j = cc in
     let hash : h ≡ g = cc in

@@ -1,5 +1,5 @@
 -- Where a node comes to as it closes: what it has to remove, and may.
-use Rattle.std.proofs.Common.{◌≡◌, ℕ, inl, inr, Option, Some, None, Ok, refl, sym, ap, subst, ◌∙◌}
+use Rattle.std.proofs.Common.{◌≡◌, ℕ, inl, inr, Option, Some, None, Ok, refl, sym, ap, subst, ◌∙◌, Bool, true}
 use Rattle.std.specs.FinMap as map
 use Rattle.iceoryx2_description.specs.declared.description.ServiceHash.{ServiceHash}
 use Rattle.iceoryx2_world.specs.declared.world.Participant.{Participant}
@@ -14,12 +14,12 @@ use Rattle.iceoryx2_world.specs.Acts as act
 use Rattle.iceoryx2_world.specs.Steps.{ServiceView, view_after}
 use Rattle.iceoryx2_access.specs.Letter as letter
 use Rattle.iceoryx2_world.specs.Access.{write, view_becomes_with, release_answer, is_ticket, IsOwnPart}
-use Rattle.iceoryx2_world.specs.Fallible.{IsFallibleAccess}
+use Rattle.iceoryx2_world.specs.Across.{Agrees}
+use Rattle.iceoryx2_world.specs.Interference.{IsFallibleUnder}
 use Rattle.iceoryx2_world.proofs.agreement.Effects.{allowed_step}
 use Rattle.iceoryx2_world.proofs.agreement.Worlds.{place_cases}
 use Rattle.iceoryx2_world.proofs.agreement.Parts.{clearing, sure_answer_cases, passed, release_ok}
 use Rattle.iceoryx2_world.proofs.agreement.Accesses.{granted}
-use Rattle.iceoryx2_world.proofs.agreement.Granted.{peers_phase}
 use Rattle.iceoryx2_world.proofs.agreement.Stands.{own_phase}
 
 -- what a release answers, by the phase that its node comes to
@@ -51,18 +51,22 @@ released_last w v t i h n p = last_is_leaving (phase_of v (Node i) h) (sym (rele
 tag_phase : (w v : World) (i : ℕ) (h : ServiceHash) (a : _) → IsOwnPart w (letter.RemoveTag i h a) v → phase_of v (Node i) h ≡ phase_of w (Node i) h
 tag_phase w v i h a p = ap (λ u. phase_of u (Node i) h) (p.is ∙ ap (write w i h) p.own.1)
 
-pub tag_removed_phase : (w v : World) (i : ℕ) (h : ServiceHash) (a : _) → IsFallibleAccess w (letter.RemoveTag i h a) v → phase_of v (Node i) h ≡ phase_of w (Node i) h
-tag_removed_phase w v i h a (inl b) = tag_phase b.between v i h a b.own ∙ peers_phase b.peers i h
-tag_removed_phase w v i h a (inr f) = ap (λ u. phase_of u (Node i) h) f.1
+pub tag_removed_phase : {own : ℕ → Bool} (w v : World) (i : ℕ) (h : ServiceHash) (a : _) → own i ≡ true → Agrees w → IsFallibleUnder own w (letter.RemoveTag i h a) v → phase_of v (Node i) h ≡ phase_of w (Node i) h
+tag_removed_phase w v i h a mine old b =
+    let still = (b.before old).phases i h mine in
+    elim b.part [
+      | inl o ↦ tag_phase b.between v i h a o ∙ still
+      | inr f ↦ ap (λ u. phase_of u (Node i) h) f.1 ∙ still
+    ]
 
 clear_phase : (p : Participant) (h : ServiceHash) (m : ℕ) (r : Option Row) (s : Option Segment) (c : ℕ) (new : ServiceView) → view_after p h act.RemoveSegment (at.Leaving m) r s c ≡ Some new → new.phase ≡ at.Cleared m
 clear_phase p h m r s c new e = let same : record { phase = at.Cleared m; row = r; segment = None; counter = c } ≡ new = cc in λ j. (sym same j).phase
 
 -- a removal of the segment by who left as the last
-pub segment_removed_phase : (w v : World) (i : ℕ) (h : ServiceHash) (m : ℕ) (a : _) → phase_of w (Node i) h ≡ at.Leaving m → IsFallibleAccess w (letter.RemoveSegment i h (Ok a)) v → phase_of v (Node i) h ≡ at.Cleared m
-segment_removed_phase w v i h m a is e =
+pub segment_removed_phase : {own : ℕ → Bool} (w v : World) (i : ℕ) (h : ServiceHash) (m : ℕ) (a : _) → own i ≡ true → Agrees w → phase_of w (Node i) h ≡ at.Leaving m → IsFallibleUnder own w (letter.RemoveSegment i h (Ok a)) v → phase_of v (Node i) h ≡ at.Cleared m
+segment_removed_phase w v i h m a mine old is e =
     let b = granted w (letter.RemoveSegment i h (Ok a)) v (λ x. cc) e in
-    let was = peers_phase b.peers i h ∙ is in
-    let done = clearing b.between v i h a b.own in
+    let was = (b.before old).phases i h mine ∙ is in
+    let done = clearing b.between v i h a b.part in
     let st = allowed_step b.between v (Node i) h act.RemoveSegment done in
     own_phase b.between v i h act.RemoveSegment st ∙ clear_phase (Node i) h m (row_of b.between h) (segment_of b.between h) (b.between).counter st.view (subst (λ x. view_after (Node i) h act.RemoveSegment x (row_of b.between h) (segment_of b.between h) (b.between).counter ≡ Some st.view) was st.is)

@@ -4,7 +4,7 @@ use Rattle.std.specs.Prelude.{nat_lt, ◌==◌}
 use Rattle.std.proofs.lemmas.Bool.Decides.{nat_tests}
 use Rattle.iceoryx2_description.specs.declared.description.ServiceHash.{ServiceHash}
 use Rattle.iceoryx2_world.specs.declared.world.Participant.{Participant}
-use Rattle.iceoryx2_world.specs.declared.world.Participant.TheVariants.{Node, Peer}
+use Rattle.iceoryx2_world.specs.declared.world.Participant.TheVariants.{Node}
 use Rattle.iceoryx2_world.specs.declared.world.Phase.{Phase}
 use Rattle.iceoryx2_world.specs.declared.world.Phase.TheVariants as at
 use Rattle.iceoryx2_access.specs.declared.storage.ReleaseError.{ReleaseError}
@@ -19,19 +19,11 @@ use Rattle.iceoryx2_world.specs.Across.{Agrees}
 use Rattle.iceoryx2_access.specs.Letter.{Letter}
 use Rattle.iceoryx2_access.specs.Letter as letter
 use Rattle.iceoryx2_world.specs.Access.{Change, node_view, own_step, or_refused, IsSureAnswer, release_of, is_ticket}
-use Rattle.iceoryx2_world.specs.Peers.{Peers, none, peer, IsAccess}
+use Rattle.iceoryx2_world.specs.Interference.{IsAccessUnder}
 use Rattle.iceoryx2_access.specs.Registered.{Registered}
 use Rattle.iceoryx2_world.specs.Standing.{ticket_for, Stands}
 use Rattle.iceoryx2_world.proofs.agreement.Maps.{self}
-use Rattle.iceoryx2_world.proofs.agreement.Effects.{allowed_step}
-use Rattle.iceoryx2_world.proofs.agreement.Worlds.{peer_places}
-use Rattle.iceoryx2_world.proofs.agreement.Accesses.{joined_means, peers_keep}
-use Rattle.iceoryx2_world.proofs.agreement.Stands.{peers_ticket}
-
--- peers leave a node where it is
-pub peers_phase : {w v : World} → Peers w v → (i : ℕ) (h : ServiceHash) → phase_of v (Node i) h ≡ phase_of w (Node i) h
-peers_phase none i h = refl
-peers_phase {w = u} {v = w} (peer {v = v} id g a ok e rest) i h = peers_phase rest i h ∙ peer_places u v id g a (allowed_step u v (Peer id) g a e) i h
+use Rattle.iceoryx2_world.proofs.agreement.Accesses.{joined_means}
 
 own_ticket : (i : ℕ) (h : ServiceHash) (n : ℕ) → is_ticket i h n (Some (record { node = i; hash = h; number = n })) ≡ true
 own_ticket i h n = rw (self hash_total hash_exact h) (grind (arith, nat_tests))
@@ -57,21 +49,21 @@ release_refused i h t k true other o e c is s = left_refused i h t k o e c s
 release_refused i h t k false other o e c is s = absurd (cc)
 
 -- A standing factory's ticket is released.
-pub release_granted : (w v : World) (f : Registered) (e : ReleaseError) → Agrees w → Stands w f → IsAccess w (letter.Release f.ticket f.node f.description.hash f.number (Err e)) v → ⊥
-release_granted w v f e old s a =
+pub release_granted : {own : ℕ → Bool} (w v : World) (f : Registered) (e : ReleaseError) → own f.node ≡ true → Agrees w → Stands w f → IsAccessUnder own w (letter.Release f.ticket f.node f.description.hash f.number (Err e)) v → ⊥
+release_granted w v f e mine old s a =
     let u = a.between in
     let i = f.node in
     let h = f.description.hash in
-    let mid = (peers_keep a.peers old).0 in
-    let there : ticket_of u f.ticket ≡ Some (ticket_for f) = peers_ticket a.peers f.ticket _ s.ticket in
+    let left = a.before old in
+    let there : ticket_of u f.ticket ≡ Some (ticket_for f) = left.tickets.kept f.ticket (ticket_for f) mine s.ticket in
     let test : is_ticket i h f.number (ticket_of u f.ticket) ≡ true = ap (is_ticket i h f.number) there ∙ own_ticket i h f.number in
-    let j = joined_means _ f.number (mid.held.number f.ticket (ticket_for f) there) in
-    let c = (mid.everywhere h).joined (Node i) f.number j.0 j.1 in
-    leave_granted (Node i) h (phase_of u (Node i) h) (row_of u h) (segment_of u h) u.counter f.number j.0 c.2.segment j.1 c.0 c.2.there (release_refused i h f.ticket u.tickets _ _ (own_step i h act.Leave (node_view u i h).view) e (a.own).change test (a.own).own)
+    let j = joined_means _ f.number (left.agrees.held.number f.ticket (ticket_for f) there) in
+    let c = (left.agrees.everywhere h).joined (Node i) f.number j.0 j.1 in
+    leave_granted (Node i) h (phase_of u (Node i) h) (row_of u h) (segment_of u h) u.counter f.number j.0 c.2.segment j.1 c.0 c.2.there (release_refused i h f.ticket u.tickets _ _ (own_step i h act.Leave (node_view u i h).view) e (a.part).change test (a.part).own)
 
 -- A tag is always removed.
-pub tag_granted : (w v : World) (i : ℕ) (h : ServiceHash) (e : RemoveError) → IsAccess w (letter.RemoveTag i h (Err e)) v → ⊥
-tag_granted w v i h e a = let is = (a.own).own.0 in cc
+pub tag_granted : {own : ℕ → Bool} (w v : World) (i : ℕ) (h : ServiceHash) (e : RemoveError) → IsAccessUnder own w (letter.RemoveTag i h (Err e)) v → ⊥
+tag_granted w v i h e a = let is = (a.part).own.0 in cc
 
 step_refused : (e f : RemoveError) (o : Option ServiceView) (c : Change) → IsSureAnswer (or_refused {A = Unit {0}} f tt o) (Err e) c → o ≡ None
 step_refused e f None c s = refl
@@ -102,8 +94,8 @@ end_step p h (at.Cleared n) r s c ok e = cc
 end_step p h _ r s c ok e = absurd ok
 
 -- Who made a lock or a segment, or left as the last, is granted what it has to remove.
-pub segment_granted : (w v : World) (i : ℕ) (h : ServiceHash) (e : RemoveError) → MayClear (phase_of w (Node i) h) → IsAccess w (letter.RemoveSegment i h (Err e)) v → ⊥
-segment_granted w v i h e ok a = clear_step (Node i) h (phase_of a.between (Node i) h) (row_of a.between h) (segment_of a.between h) (a.between).counter (subst MayClear (sym (peers_phase a.peers i h)) ok) (step_refused e _ (own_step i h act.RemoveSegment (node_view a.between i h).view) (a.own).change (a.own).own)
+pub segment_granted : {own : ℕ → Bool} (w v : World) (i : ℕ) (h : ServiceHash) (e : RemoveError) → own i ≡ true → Agrees w → MayClear (phase_of w (Node i) h) → IsAccessUnder own w (letter.RemoveSegment i h (Err e)) v → ⊥
+segment_granted w v i h e mine old ok a = clear_step (Node i) h (phase_of a.between (Node i) h) (row_of a.between h) (segment_of a.between h) (a.between).counter (subst MayClear (sym ((a.before old).phases i h mine)) ok) (step_refused e _ (own_step i h act.RemoveSegment (node_view a.between i h).view) (a.part).change (a.part).own)
 
-pub description_granted : (w v : World) (i : ℕ) (h : ServiceHash) (e : RemoveError) → MayEnd (phase_of w (Node i) h) → IsAccess w (letter.RemoveDescription i h (Err e)) v → ⊥
-description_granted w v i h e ok a = end_step (Node i) h (phase_of a.between (Node i) h) (row_of a.between h) (segment_of a.between h) (a.between).counter (subst MayEnd (sym (peers_phase a.peers i h)) ok) (step_refused e _ (own_step i h act.RemoveDescription (node_view a.between i h).view) (a.own).change (a.own).own)
+pub description_granted : {own : ℕ → Bool} (w v : World) (i : ℕ) (h : ServiceHash) (e : RemoveError) → own i ≡ true → Agrees w → MayEnd (phase_of w (Node i) h) → IsAccessUnder own w (letter.RemoveDescription i h (Err e)) v → ⊥
+description_granted w v i h e mine old ok a = end_step (Node i) h (phase_of a.between (Node i) h) (row_of a.between h) (segment_of a.between h) (a.between).counter (subst MayEnd (sym ((a.before old).phases i h mine)) ok) (step_refused e _ (own_step i h act.RemoveDescription (node_view a.between i h).view) (a.part).change (a.part).own)

@@ -2,7 +2,7 @@
 use Rattle.std.proofs.Common.{◌≡◌, ℕ, ◌⊎◌, inl, inr, Option, Some, None, refl, sym, ap, subst, ◌∙◌, arith}
 use Rattle.iceoryx2_description.specs.declared.description.ServiceHash.{ServiceHash}
 use Rattle.iceoryx2_world.specs.declared.world.Participant.{Participant}
-use Rattle.iceoryx2_world.specs.declared.world.Participant.TheVariants.{Node, Peer}
+use Rattle.iceoryx2_world.specs.declared.world.Participant.TheVariants.{Node}
 use Rattle.iceoryx2_world.specs.declared.world.Phase.{Phase}
 use Rattle.iceoryx2_world.specs.declared.world.Row.{Row}
 use Rattle.iceoryx2_world.specs.declared.world.Row.TheVariants as row
@@ -15,16 +15,12 @@ use Rattle.iceoryx2_world.specs.Agreement.{AgreesEverywhere, IsSpent}
 use Rattle.iceoryx2_world.specs.Across.{Agrees}
 use Rattle.iceoryx2_access.specs.Letter.{Letter}
 use Rattle.iceoryx2_world.specs.Access.{IsOwnPart}
-use Rattle.iceoryx2_world.specs.Peers.{Peers, none, peer}
-use Rattle.iceoryx2_world.specs.Fallible.{IsFallibleAccess}
 use Rattle.iceoryx2_world.proofs.agreement.Whole.{after_keeps}
 use Rattle.iceoryx2_world.specs.StepCases.{IsStep, reads, locks, clears, makes, unmakes, unlocks, publishes, joins as adds, joins_again, leaves_once, leaves, leaves_last, clears_last, ends}
 use Rattle.iceoryx2_world.proofs.agreement.StepCases.{step_case}
 use Rattle.iceoryx2_world.proofs.agreement.Maps.{set_cases}
 use Rattle.iceoryx2_world.proofs.agreement.Effects.{allowed_step}
-use Rattle.iceoryx2_world.proofs.agreement.Worlds.{peer_keeps}
 use Rattle.iceoryx2_world.proofs.agreement.Parts.{IsCalm, Part, stays, tagged, calm, removed, publishes, joins, releases, own_part}
-use Rattle.iceoryx2_world.proofs.agreement.Accesses.{peers_keep}
 
 -- a segment after a step has its number from the one before, or from the lock of who acts
 abbrev pub Origin : Option ℕ → Option Segment → Option Segment → Type 0
@@ -85,10 +81,6 @@ spent_step w v p g a h n ok e each s =
 spent_same : (w v : World) (h : ServiceHash) (n : ℕ) → v ≡ w → IsSpent w h n → IsSpent v h n
 spent_same w v h n e s = subst (λ u. IsSpent u h n) (sym e) s
 
-pub spent_peers : {w v : World} (h : ServiceHash) (n : ℕ) → Peers w v → Agrees w → IsSpent w h n → IsSpent v h n
-spent_peers h n none old s = s
-spent_peers {w = u} {v = w} h n (peer {v = v} id g a ok e rest) old s = spent_peers h n rest (peer_keeps u v id g a ok e old).0 (spent_step u v (Peer id) g a h n ok e old.everywhere s)
-
 calm_is : (a : Act) → IsCalm a → IsAct a
 calm_is act.Read ok = tt
 calm_is act.Lock ok = tt
@@ -102,7 +94,7 @@ calm_is act.Leave ok = absurd ok
 part_spent : (w : World) (l : Letter) (v : World) (h : ServiceHash) (n : ℕ) → Part w l v → Agrees w → IsSpent w h n → IsSpent v h n
 part_spent w l v h n (stays e) old s = spent_same w v h n e s
 part_spent w l v h n (tagged t e) old s = subst (λ u. IsSpent u h n) (sym e) (record { below = s.below; row = s.row; segment = s.segment })
-part_spent w l v h n (calm i g a ok e) old s = spent_step w v (Node i) g a h n (calm_is a ok) e old.everywhere s
+part_spent w l v h n (calm i g a who ok e) old s = spent_step w v (Node i) g a h n (calm_is a ok) e old.everywhere s
 part_spent w l v h n (removed i g is e) old s = spent_step w v (Node i) g act.RemoveDescription h n tt e old.everywhere s
 part_spent w l v h n (publishes i g m d t is p) old s = let new = spent_step w p.mid (Node i) g (act.Publish d) h n p.limits p.step old.everywhere s in subst (λ u. IsSpent u h n) (sym p.is) (record { below = new.below; row = new.row; segment = new.segment })
 part_spent w l v h n (joins i g m t is p) old s = let new = spent_step w p.mid (Node i) g act.Join h n tt p.step old.everywhere s in subst (λ u. IsSpent u h n) (sym p.is) (record { below = grind (arith, s.below); row = new.row; segment = new.segment })
@@ -110,7 +102,3 @@ part_spent w l v h n (releases t i g m a is p) old s = let new = spent_step w p.
 
 pub spent_own : (w : World) (l : Letter) (v : World) (h : ServiceHash) (n : ℕ) → IsOwnPart w l v → Agrees w → IsSpent w h n → IsSpent v h n
 spent_own w l v h n o old s = part_spent w l v h n (own_part w l v o) old s
-
-pub spent_access : (w : World) (l : Letter) (v : World) (h : ServiceHash) (n : ℕ) → IsFallibleAccess w l v → Agrees w → IsSpent w h n → IsSpent v h n
-spent_access w l v h n (inl a) old s = spent_own a.between l v h n a.own (peers_keep a.peers old).0 (spent_peers h n a.peers old s)
-spent_access w l v h n (inr f) old s = spent_same w v h n f.1 s

@@ -1,5 +1,5 @@
 -- What keeps a factory standing: its ticket, the agreement, and that what is published stays.
-use Rattle.std.proofs.Common.{◌≡◌, ◌≢◌, ℕ, ◌+◌, ◌≤◌, ◌⊎◌, inl, inr, List, [], ◌∷◌, ◌++◌, Option, Some, None, Ok, refl, sym, ap, subst, ◌∙◌, arith}
+use Rattle.std.proofs.Common.{◌≡◌, ◌≢◌, ℕ, ◌+◌, ◌≤◌, Bool, true, ◌⊎◌, inl, inr, List, [], ◌∷◌, ◌++◌, Option, Some, None, Ok, refl, sym, ap, subst, ◌∙◌, arith}
 use Rattle.std.specs.FinMap as map
 use Rattle.std.proofs.lemmas.Cmp.{nat_cmp_total}
 use Rattle.std.proofs.lemmas.Map.Lookups.{exact_unsigned}
@@ -7,7 +7,7 @@ use Rattle.iceoryx2_description.specs.declared.description.ServiceHash.{ServiceH
 use Rattle.iceoryx2_description.specs.Description.{Description, IsDescription}
 use Rattle.iceoryx2_byte_form.specs.Form as form
 use Rattle.iceoryx2_world.specs.declared.world.Participant.{Participant}
-use Rattle.iceoryx2_world.specs.declared.world.Participant.TheVariants.{Node, Peer}
+use Rattle.iceoryx2_world.specs.declared.world.Participant.TheVariants.{Node}
 use Rattle.iceoryx2_world.specs.declared.world.Phase.{Phase}
 use Rattle.iceoryx2_world.specs.declared.world.Phase.TheVariants as at
 use Rattle.iceoryx2_world.specs.declared.world.Ticket.{Ticket}
@@ -23,8 +23,7 @@ use Rattle.iceoryx2_world.specs.Across.{Agrees}
 use Rattle.iceoryx2_access.specs.declared.storage.Release.{Release as Released}
 use Rattle.iceoryx2_access.specs.Letter.{Letter}
 use Rattle.iceoryx2_access.specs.Letter as letter
-use Rattle.iceoryx2_world.specs.Peers.{Peers, none, peer, IsAccess}
-use Rattle.iceoryx2_world.specs.Fallible.{IsFallibleAccess}
+use Rattle.iceoryx2_world.specs.Interference.{IsAccessUnder, IsFallibleUnder}
 use Rattle.iceoryx2_access.specs.Registered.{Registered}
 use Rattle.iceoryx2_world.specs.Standing.{ticket_for, Stands, Spares}
 use Rattle.iceoryx2_access.specs.Run.{Each, Run, done, next}
@@ -36,7 +35,7 @@ use Rattle.iceoryx2_world.proofs.agreement.Maps.{set_cases}
 use Rattle.iceoryx2_world.proofs.agreement.Effects.{AllowedStep, allowed_step}
 use Rattle.iceoryx2_world.proofs.agreement.Worlds.{ticket_put, ticket_removed, place_cases, step_tickets}
 use Rattle.iceoryx2_world.proofs.agreement.Parts.{mine, Part, stays, tagged, calm, removed, publishes, joins, releases, own_part, publishing, joining, releasing, fetching, locking}
-use Rattle.iceoryx2_world.proofs.agreement.Accesses.{later_refl, later_trans, joined_means, peers_keep, own_keeps, access_keeps, faulty_keeps, run_keeps, granted}
+use Rattle.iceoryx2_world.proofs.agreement.Accesses.{later_refl, later_trans, joined_means, own_keeps, access_keeps, faulty_keeps, run_keeps, granted, unrefused}
 
 -- A factory stands where its ticket is and its node is registered, with what its service had before.
 pub stands_by : (u w : World) (f : Registered) → Later u w → IsDescription f.description → row_of u f.description.hash ≡ Some (row.Published f.number (form.description f.description)) → AgreesEverywhere w → joined_number (phase_of w (Node f.node) f.description.hash) ≡ Some f.number → ticket_of w f.ticket ≡ Some (ticket_for f) → Stands w f
@@ -77,48 +76,48 @@ other_stands w v p g a f apart ok e old s =
     stands_by w v f kept.1 s.limits s.row kept.0 (ap joined_number still ∙ old.held.number f.ticket (ticket_for f) s.ticket) (ap (λ m. map.get m f.ticket) (step_tickets w v p g a st) ∙ s.ticket)
 
 -- a step leaves all tickets
-step_ticket : (w v : World) (p : Participant) (g : ServiceHash) (a : Act) (t : ℕ) (x : Ticket) → world_after w p g a ≡ Some v → ticket_of w t ≡ Some x → ticket_of v t ≡ Some x
-step_ticket w v p g a t x e k = ap (λ m. map.get m t) (step_tickets w v p g a (allowed_step w v p g a e)) ∙ k
+pub step_ticket : (w v : World) (p : Participant) (g : ServiceHash) (a : Act) (t : ℕ) → world_after w p g a ≡ Some v → ticket_of v t ≡ ticket_of w t
+step_ticket w v p g a t e = ap (λ m. map.get m t) (step_tickets w v p g a (allowed_step w v p g a e))
 
 -- another ticket comes or goes
 other_ticket : (u v : World) (s t : ℕ) (o : Option Ticket) (x : Ticket) → s ≢ t → ((q : ℕ) → ((q ≡ s) × (ticket_of v q ≡ o)) ⊎ ((q ≢ s) × (ticket_of v q ≡ ticket_of u q))) → ticket_of u t ≡ Some x → ticket_of v t ≡ Some x
 other_ticket u v s t o x apart cases k = elim (cases t) [ inl i ↦ absurd (apart (sym i.0)) | inr i ↦ i.1 ∙ k ]
 
-part_ticket : (w : World) (l : Letter) (v : World) (f : Registered) → Part w l v → Spares f l → Agrees w → ticket_of w f.ticket ≡ Some (ticket_for f) → ticket_of v f.ticket ≡ Some (ticket_for f)
+pub part_ticket : (w : World) (l : Letter) (v : World) (f : Registered) → Part w l v → Spares f l → Agrees w → ticket_of w f.ticket ≡ Some (ticket_for f) → ticket_of v f.ticket ≡ Some (ticket_for f)
 part_ticket w l v f (stays e) spares old k = ap (λ z. ticket_of z f.ticket) e ∙ k
 part_ticket w l v f (tagged t e) spares old k = ap (λ z. ticket_of z f.ticket) e ∙ k
-part_ticket w l v f (calm i h a ok e) spares old k = step_ticket w v (Node i) h a f.ticket _ e k
-part_ticket w l v f (removed i h is e) spares old k = step_ticket w v (Node i) h act.RemoveDescription f.ticket _ e k
+part_ticket w l v f (calm i h a who ok e) spares old k = step_ticket w v (Node i) h a f.ticket e ∙ k
+part_ticket w l v f (removed i h is e) spares old k = step_ticket w v (Node i) h act.RemoveDescription f.ticket e ∙ k
 part_ticket w l v f (publishes i h n d t is p) spares old k =
     let locked : row_of w h ≡ Some (row.Locked n) = (old.everywhere h).locked (Node i) n (ap locked_number p.phase) in
     let free = old.numbered.free h n locked in
     let apart : t ≢ f.ticket = λ e. let here : ticket_of w n ≡ Some (ticket_for f) = ap (ticket_of w) (sym p.ticket ∙ e) ∙ k in cc in
-    ap (λ z. ticket_of z f.ticket) p.is ∙ other_ticket p.mid (ticket_put p.mid t (mine i h n)) t f.ticket (Some (mine i h n)) (ticket_for f) apart (set_cases nat_cmp_total exact_unsigned (p.mid).tickets t (Some (mine i h n))) (step_ticket w p.mid (Node i) h (act.Publish d) f.ticket _ p.step k)
+    ap (λ z. ticket_of z f.ticket) p.is ∙ other_ticket p.mid (ticket_put p.mid t (mine i h n)) t f.ticket (Some (mine i h n)) (ticket_for f) apart (set_cases nat_cmp_total exact_unsigned (p.mid).tickets t (Some (mine i h n))) (step_ticket w p.mid (Node i) h (act.Publish d) f.ticket p.step ∙ k)
 part_ticket w l v f (joins i h n t is p) spares old k =
     let apart : t ≢ f.ticket = λ e. grind (arith, old.numbered.below f.ticket (ticket_for f) k, p.ticket) in
-    ap (λ z. ticket_of z f.ticket) p.is ∙ other_ticket p.mid (ticket_put (record p.mid { counter = w.counter + 1 }) t (mine i h n)) t f.ticket (Some (mine i h n)) (ticket_for f) apart (set_cases nat_cmp_total exact_unsigned (p.mid).tickets t (Some (mine i h n))) (step_ticket w p.mid (Node i) h act.Join f.ticket _ p.step k)
+    ap (λ z. ticket_of z f.ticket) p.is ∙ other_ticket p.mid (ticket_put (record p.mid { counter = w.counter + 1 }) t (mine i h n)) t f.ticket (Some (mine i h n)) (ticket_for f) apart (set_cases nat_cmp_total exact_unsigned (p.mid).tickets t (Some (mine i h n))) (step_ticket w p.mid (Node i) h act.Join f.ticket p.step ∙ k)
 part_ticket w l v f (releases t i h n a is p) spares old k =
     let spared : Spares f (letter.Release t i h n (Ok a)) = subst (Spares f) is spares in
     let apart : t ≢ f.ticket = λ e. let same : mine i h n ≡ ticket_for f = cc (sym p.ticket ∙ ap (ticket_of w) e ∙ k) in spared e (λ j. (same j).node) (λ j. (same j).hash) (λ j. (same j).number) in
-    ap (λ z. ticket_of z f.ticket) p.is ∙ other_ticket p.mid (ticket_removed p.mid t) t f.ticket None (ticket_for f) apart (set_cases nat_cmp_total exact_unsigned (p.mid).tickets t None) (step_ticket w p.mid (Node i) h act.Leave f.ticket _ p.step k)
+    ap (λ z. ticket_of z f.ticket) p.is ∙ other_ticket p.mid (ticket_removed p.mid t) t f.ticket None (ticket_for f) apart (set_cases nat_cmp_total exact_unsigned (p.mid).tickets t None) (step_ticket w p.mid (Node i) h act.Leave f.ticket p.step ∙ k)
 
-pub peers_ticket : {w v : World} → Peers w v → (t : ℕ) (x : Ticket) → ticket_of w t ≡ Some x → ticket_of v t ≡ Some x
-peers_ticket none t x k = k
-peers_ticket {w = u} {v = w} (peer {v = v} id g a ok e rest) t x k = peers_ticket rest t x (step_ticket u v (Peer id) g a t x e k)
+-- An access that isn't a granted release of its ticket, where its node is one's own.
+pub faulty_stands : {own : ℕ → Bool} (w : World) (l : Letter) (v : World) (f : Registered) → own f.node ≡ true → IsFallibleUnder own w l v → Spares f l → Agrees w → Stands w f → Stands v f
+faulty_stands w l v f mine a spares old s =
+    let kept = faulty_keeps w l v a old in
+    let left = a.before old in
+    let there = left.tickets.kept f.ticket (ticket_for f) mine s.ticket in
+    stands_by_ticket w v f kept.1 s.limits s.row kept.0 (elim a.part [
+      | inl o ↦ part_ticket a.between l v f (own_part a.between l v o) spares left.agrees there
+      | inr e ↦ ap (λ z. ticket_of z f.ticket) e.1 ∙ there
+    ])
 
--- An access that isn't a granted release of its ticket.
-pub access_stands : (w : World) (l : Letter) (v : World) (f : Registered) → IsAccess w l v → Spares f l → Agrees w → Stands w f → Stands v f
-access_stands w l v f a spares old s =
-    let kept = access_keeps w l v a old in
-    stands_by_ticket w v f kept.1 s.limits s.row kept.0 (part_ticket a.between l v f (own_part a.between l v a.own) spares (peers_keep a.peers old).0 (peers_ticket a.peers f.ticket _ s.ticket))
+pub access_stands : {own : ℕ → Bool} (w : World) (l : Letter) (v : World) (f : Registered) → own f.node ≡ true → IsAccessUnder own w l v → Spares f l → Agrees w → Stands w f → Stands v f
+access_stands w l v f mine a spares old s = faulty_stands w l v f mine (unrefused a) spares old s
 
-pub faulty_stands : (w : World) (l : Letter) (v : World) (f : Registered) → IsFallibleAccess w l v → Spares f l → Agrees w → Stands w f → Stands v f
-faulty_stands w l v f (inl a) spares old s = access_stands w l v f a spares old s
-faulty_stands w l v f (inr e) spares old s = subst (λ u. Stands u f) (sym e.1) s
-
-pub run_stands : {w v : World} {word : List Letter} (f : Registered) → Run IsFallibleAccess w word v → Each (Spares f) word → Agrees w → Stands w f → Stands v f
-run_stands f done spares old s = s
-run_stands {w = u} {v = w} f (next {mid = v} {letter = l} a rest) spares old s = run_stands f rest spares.1 (faulty_keeps u l v a old).0 (faulty_stands u l v f a spares.0 old s)
+pub run_stands : {own : ℕ → Bool} {w v : World} {word : List Letter} (f : Registered) → own f.node ≡ true → Run (IsFallibleUnder own) w word v → Each (Spares f) word → Agrees w → Stands w f → Stands v f
+run_stands f mine done spares old s = s
+run_stands {w = u} {v = w} f mine (next {mid = v} {letter = l} a rest) spares old s = run_stands f mine rest spares.1 (faulty_keeps u l v a old).0 (faulty_stands u l v f mine a spares.0 old s)
 
 -- the row that a publishing leaves
 publish_view : {p : Participant} {h : ServiceHash} {d : Description} {n : ℕ} {x : Phase} {r : Option Row} {s : Option Segment} {c : ℕ} {new : ServiceView} → x ≡ at.Made n
@@ -139,10 +138,10 @@ ticket_there : (u : World) (t : ℕ) (x : Ticket) → ticket_of (ticket_put u t 
 ticket_there u t x = elim (set_cases nat_cmp_total exact_unsigned u.tickets t (Some x) t) [ inl i ↦ i.1 | inr i ↦ absurd (i.0 refl) ]
 
 -- Who publishes has a factory that stands, with the number as its ticket.
-pub published_stands : (w v : World) (i : ℕ) (h : ServiceHash) (n : ℕ) (d : Description) (t : ℕ) → IsFallibleAccess w (letter.Publish i h n d (Ok t)) v → Agrees w → Stands v (record { node = i; number = n; ticket = t; description = d }) × (d.hash ≡ h) × (t ≡ n)
+pub published_stands : {own : ℕ → Bool} (w v : World) (i : ℕ) (h : ServiceHash) (n : ℕ) (d : Description) (t : ℕ) → IsFallibleUnder own w (letter.Publish i h n d (Ok t)) v → Agrees w → Stands v (record { node = i; number = n; ticket = t; description = d }) × (d.hash ≡ h) × (t ≡ n)
 published_stands w v i h n d t e old =
     let a = granted w (letter.Publish i h n d (Ok t)) v (λ x. cc) e in
-    let p = publishing a.between v i h n d t a.own in
+    let p = publishing a.between v i h n d t a.part in
     let st = allowed_step a.between p.mid (Node i) h (act.Publish d) p.step in
     let new = (access_keeps w (letter.Publish i h n d (Ok t)) v a old).0 in
     let is = publish_view p.phase (step_case (Node i) h (act.Publish d) (phase_of a.between (Node i) h) (row_of a.between h) (segment_of a.between h) a.between.counter st.view st.is) in
@@ -153,38 +152,38 @@ published_stands w v i h n d t e old =
 
 -- Who opens a segment has a factory that stands with the description that was published under its number,
 -- and its ticket is a new one.
-pub opened_stands : (u w v : World) (i : ℕ) (h : ServiceHash) (n : ℕ) (d : Description) (t : ℕ) → Later u w → AgreesEverywhere u → row_of u h ≡ Some (row.Published n (form.description d)) → IsDescription d → d.hash ≡ h → IsFallibleAccess w (letter.OpenSegment i h n (Ok t)) v → Agrees w → Stands v (record { node = i; number = n; ticket = t; description = d }) × (w.counter ≤ t)
+pub opened_stands : {own : ℕ → Bool} (u w v : World) (i : ℕ) (h : ServiceHash) (n : ℕ) (d : Description) (t : ℕ) → Later u w → AgreesEverywhere u → row_of u h ≡ Some (row.Published n (form.description d)) → IsDescription d → d.hash ≡ h → IsFallibleUnder own w (letter.OpenSegment i h n (Ok t)) v → Agrees w → Stands v (record { node = i; number = n; ticket = t; description = d }) × (w.counter ≤ t)
 opened_stands u w v i h n d t later each was limits hash e old =
     let a = granted w (letter.OpenSegment i h n (Ok t)) v (λ x. cc) e in
-    let p = joining a.between v i h n t a.own in
-    let between = peers_keep a.peers old in
+    let p = joining a.between v i h n t a.part in
+    let between = a.before old in
     let new = access_keeps w (letter.OpenSegment i h n (Ok t)) v a old in
     let f : Registered = record { node = i; number = n; ticket = t; description = d } in
     let ticket : ticket_of v t ≡ Some (ticket_for f) = ap (λ z. ticket_of z t) p.is ∙ ticket_there (record p.mid { counter = a.between.counter + 1 }) t (mine i h n) ∙ (λ j. Some (record { node = i; hash = sym hash j; number = n })) in
-    (stands_by_ticket u v f (later_trans u w v each later new.1) limits (ap (row_of u) hash ∙ was) new.0 ticket, grind (arith, between.1.counter, p.ticket))
+    (stands_by_ticket u v f (later_trans u w v each later new.1) limits (ap (row_of u) hash ∙ was) new.0 ticket, grind (arith, between.later.counter, p.ticket))
 
 -- a granted release takes its ticket out
-pub released_gone : (w v : World) (t i : ℕ) (h : ServiceHash) (n : ℕ) (a : Released) → IsFallibleAccess w (letter.Release t i h n (Ok a)) v → ticket_of v t ≡ None
+pub released_gone : {own : ℕ → Bool} (w v : World) (t i : ℕ) (h : ServiceHash) (n : ℕ) (a : Released) → IsFallibleUnder own w (letter.Release t i h n (Ok a)) v → ticket_of v t ≡ None
 released_gone w v t i h n a e =
     let b = granted w (letter.Release t i h n (Ok a)) v (λ x. cc) e in
-    let p = releasing b.between v t i h n a b.own in
+    let p = releasing b.between v t i h n a b.part in
     ap (λ z. ticket_of z t) p.is ∙ elim (set_cases nat_cmp_total exact_unsigned (p.mid).tickets t None t) [ inl k ↦ k.1 | inr k ↦ absurd (k.0 refl) ]
 
 -- a fetch that is granted: the row is there, and after it too
-pub fetched_row : (w v : World) (i : ℕ) (h : ServiceHash) (n : ℕ) (b : List ℕ) → IsFallibleAccess w (letter.Fetch i h (Ok (n, b))) v → Agrees w → (u : World) × Agrees u × (row_of u h ≡ Some (row.Published n b)) × Later w u × Later u v
+pub fetched_row : {own : ℕ → Bool} (w v : World) (i : ℕ) (h : ServiceHash) (n : ℕ) (b : List ℕ) → IsFallibleUnder own w (letter.Fetch i h (Ok (n, b))) v → Agrees w → (u : World) × Agrees u × (row_of u h ≡ Some (row.Published n b)) × Later w u × Later u v
 fetched_row w v i h n b e old =
     let a = granted w (letter.Fetch i h (Ok (n, b))) v (λ x. cc) e in
-    let mid = peers_keep a.peers old in
-    (a.between, mid.0, fetching a.between v i h n b a.own, mid.1, (own_keeps a.between (letter.Fetch i h (Ok (n, b))) v a.own mid.0).1)
+    let mid = a.before old in
+    (a.between, mid.agrees, fetching a.between v i h n b a.part, mid.later, (own_keeps a.between (letter.Fetch i h (Ok (n, b))) v a.part mid.agrees).1)
 
 -- a lock that is granted has a new number
-pub locked_number_new : (w v : World) (i : ℕ) (h : ServiceHash) (n : ℕ) → IsFallibleAccess w (letter.Lock i h (Ok n)) v → Agrees w → w.counter ≤ n
+pub locked_number_new : {own : ℕ → Bool} (w v : World) (i : ℕ) (h : ServiceHash) (n : ℕ) → IsFallibleUnder own w (letter.Lock i h (Ok n)) v → Agrees w → w.counter ≤ n
 locked_number_new w v i h n e old =
     let a = granted w (letter.Lock i h (Ok n)) v (λ x. cc) e in
-    grind (arith, (peers_keep a.peers old).1.counter, (locking a.between v i h n a.own).0)
+    grind (arith, (a.before old).later.counter, (locking a.between v i h n a.part).0)
 
 -- From the lock to the publishing.
-pub created_stands : (u v : World) (i : ℕ) (h : ServiceHash) (n : ℕ) (d : Description) (t : ℕ) (word : List Letter) → Run IsFallibleAccess u (letter.Lock i h (Ok n) ∷ (word ++ letter.Publish i h n d (Ok t) ∷ [])) v → Agrees u → Stands v (record { node = i; number = n; ticket = t; description = d }) × (d.hash ≡ h) × (u.counter ≤ t)
+pub created_stands : {own : ℕ → Bool} (u v : World) (i : ℕ) (h : ServiceHash) (n : ℕ) (d : Description) (t : ℕ) (word : List Letter) → Run (IsFallibleUnder own) u (letter.Lock i h (Ok n) ∷ (word ++ letter.Publish i h n d (Ok t) ∷ [])) v → Agrees u → Stands v (record { node = i; number = n; ticket = t; description = d }) × (d.hash ≡ h) × (u.counter ≤ t)
 created_stands u v i h n d t word run old =
     let first = head run in
     let rest = split word _ first.rest in
@@ -194,7 +193,7 @@ created_stands u v i h n d t word run old =
     (published.0, published.1, grind (arith, locked_number_new u first.mid i h n first.first old, published.2))
 
 -- From the fetch to the opening.
-pub found_stands : (u v : World) (i : ℕ) (h : ServiceHash) (n : ℕ) (d : Description) (b : List ℕ) (t : ℕ) (word : List Letter) → Run IsFallibleAccess u (letter.Fetch i h (Ok (n, b)) ∷ (word ++ letter.OpenSegment i h n (Ok t) ∷ [])) v → form.IsForm d b → d.hash ≡ h → Agrees u → Stands v (record { node = i; number = n; ticket = t; description = d }) × (u.counter ≤ t)
+pub found_stands : {own : ℕ → Bool} (u v : World) (i : ℕ) (h : ServiceHash) (n : ℕ) (d : Description) (b : List ℕ) (t : ℕ) (word : List Letter) → Run (IsFallibleUnder own) u (letter.Fetch i h (Ok (n, b)) ∷ (word ++ letter.OpenSegment i h n (Ok t) ∷ [])) v → form.IsForm d b → d.hash ≡ h → Agrees u → Stands v (record { node = i; number = n; ticket = t; description = d }) × (u.counter ≤ t)
 found_stands u v i h n d b t word run is hash old =
     let first = head run in
     let rest = split word _ first.rest in

@@ -1,18 +1,18 @@
-use Rattle.iceoryx2_world.proofs.Waiting.{batch_peers, table_access, table_run, idle_run, own_access, waiting_after, refusable_run, batch_keeps, table_keeps, table_run_keeps, refusable_run_keeps}
+use Rattle.iceoryx2_world.proofs.Waiting.{batch_others, table_access, table_run, idle_run, own_access, waiting_after, refusable_run, batch_keeps, table_keeps, table_run_keeps, refusable_run_keeps}
 use Rattle.iceoryx2_world.proofs.Counting.{run_counts, removing_step, reading_step, joining_step}
 use Rattle.iceoryx2_world.proofs.laws.batches.Goals as goal
 
 pub returns-clause-batch : goal.returns-clause-batch
-returns-clause-batch g = λ s t batch r. batch_peers r
+returns-clause-batch g = λ own s t batch r. batch_others {own = own} r
 
 pub returns-clause-access : goal.returns-clause-access
-returns-clause-access g = λ s t l a. table_access s t l a
+returns-clause-access g = λ own s t l a. table_access {own = own} s t l a
 
 pub returns-clause-run : goal.returns-clause-run
-returns-clause-run g = λ s t word r. table_run r
+returns-clause-run g = λ own s t word r. table_run {own = own} r
 
 pub returns-clause-refusable : goal.returns-clause-refusable
-returns-clause-refusable g = λ s t word r. refusable_run r
+returns-clause-refusable g = λ own s t word r. refusable_run {own = own} r
 
 pub returns-clause-quiet : goal.returns-clause-quiet
 returns-clause-quiet g = λ s t word e r. let q = idle_run e r in (q.0, q.1.0, q.1.1)
