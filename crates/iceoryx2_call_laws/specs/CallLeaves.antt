@@ -1,5 +1,5 @@
 -- What a refused call leaves, whichever it is.
-use Rattle.std.specs.Prelude.{ℕ, List}
+use Rattle.std.specs.Prelude.{ℕ, Bool, List}
 use Rattle.iceoryx2_description.specs.declared.description.ServiceHash.{ServiceHash}
 use Rattle.iceoryx2_access.specs.Letter.{Letter}
 use Rattle.iceoryx2_world.specs.World.{World}
@@ -8,17 +8,20 @@ use Rattle.iceoryx2_open_or_create.specs.BuilderCalls.{BuilderCall, Way, ToCreat
 use Rattle.iceoryx2_call_laws.specs.Leaves.{Leaves, LeavesByRounds}
 
 -- A create leaves only that for which a removal was refused,
-pub record LeavesOfCreate (node : ℕ) (hash : ServiceHash) (w : World) (word : List Letter) (v : World) : Type 0 where
+pub record LeavesOfCreate (own : ℕ → Bool) (node : ℕ) (hash : ServiceHash) (w : World) (word : List Letter) (v : World)
+    : Type 0 where
   pub gives_back : GivesAllBack node hash word
-  pub leaves : Leaves node hash gives_back.is_tag_left gives_back.lock w v
+  pub leaves : Leaves node hash own gives_back.is_tag_left gives_back.lock w v
 
 -- an open at most its tag,
-pub record LeavesAtMostTag (node : ℕ) (hash : ServiceHash) (w : World) (word : List Letter) (v : World) : Type 0 where
+pub record LeavesAtMostTag (own : ℕ → Bool) (node : ℕ) (hash : ServiceHash) (w : World) (word : List Letter) (v : World)
+    : Type 0 where
   pub gives_back : GivesTagBack node hash word
-  pub leaves : Leaves node hash gives_back.is_tag_left NoLock w v
+  pub leaves : Leaves node hash own gives_back.is_tag_left NoLock w v
 
 -- and an open or create so round by round.
-abbrev pub LeavesBy : {D E C : Type 0} → BuilderCall D E C → Way → World → List Letter → World → Type 0
-LeavesBy c ToCreate w word v = LeavesOfCreate c.caller.node c.caller.hash w word v
-LeavesBy c ToOpen w word v = LeavesAtMostTag c.caller.node c.caller.hash w word v
-LeavesBy c ToOpenOrCreate w word v = LeavesByRounds c.caller.node c.caller.hash w v word v
+abbrev pub LeavesBy : {D E C : Type 0} → (own : ℕ → Bool) → BuilderCall D E C → Way → World → List Letter → World
+    → Type 0
+LeavesBy own c ToCreate w word v = LeavesOfCreate own c.caller.node c.caller.hash w word v
+LeavesBy own c ToOpen w word v = LeavesAtMostTag own c.caller.node c.caller.hash w word v
+LeavesBy own c ToOpenOrCreate w word v = LeavesByRounds c.caller.node c.caller.hash own w v word v

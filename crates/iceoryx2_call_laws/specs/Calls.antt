@@ -1,11 +1,11 @@
 -- What is said of whole calls: of the worlds that their accesses lead through, and of each access.
-use Rattle.std.specs.Prelude.{◌≡◌, ◌+◌, ℕ, List, [], ◌∷◌, ◌++◌}
+use Rattle.std.specs.Prelude.{◌≡◌, ◌+◌, ℕ, Bool, List, [], ◌∷◌, ◌++◌}
 use Rattle.iceoryx2_description.specs.declared.description.ServiceHash.{ServiceHash}
 use Rattle.iceoryx2_world.specs.declared.world.Participant.TheVariants.{Node}
 use Rattle.iceoryx2_world.specs.World.{World, count_of}
 use Rattle.iceoryx2_access.specs.Letter.{Letter}
-use Rattle.iceoryx2_world.specs.Peers.{IsAccess}
-use Rattle.iceoryx2_world.specs.Fallible.{IsFallibleAccess}
+use Rattle.iceoryx2_world.specs.Access.{IsOwnPart}
+use Rattle.iceoryx2_world.specs.Interference.{Rely, IsFallibleUnder}
 use Rattle.iceoryx2_world.specs.Calm.{SameServices}
 
 -- Whatever states the accesses of this word lead through, it is true of each: before the first access, between
@@ -20,15 +20,15 @@ abbrev pub AtEach : (step P : World → Letter → World → Type 0) → World �
 AtEach step P w [] = Unit {0}
 AtEach step P w (l ∷ word) = (v : World) → step w l v → P w l v × AtEach step P v word
 
--- The access's own part, without the steps of peers before it, changes nothing that is published and nobody's count.
-abbrev pub ActsCalmly : World → Letter → World → Type 0
-ActsCalmly w l v = (a : IsAccess w l v) → SameServices a.between v
+-- The access's own part, without what others do before it, changes nothing that is published and nobody's count.
+abbrev pub ActsCalmly : (own : ℕ → Bool) → World → Letter → World → Type 0
+ActsCalmly own w l v = (u : World) → Rely own w u → IsOwnPart u l v → SameServices u v
 
 -- Only the last access of the word changes what is published or counted: it counts the node once more.
-pub record ChangesLast (node : ℕ) (hash : ServiceHash) (w : World) (word : List Letter) : Type 0 where
+pub record ChangesLast (own : ℕ → Bool) (node : ℕ) (hash : ServiceHash) (w : World) (word : List Letter)
+    : Type 0 where
   pub front : List Letter
   pub final : Letter
   pub in_order : word ≡ front ++ final ∷ []
-  pub calm : AtEach IsFallibleAccess ActsCalmly w front
-  pub change : (u v : World) (a : IsAccess u final v)
-      → count_of v (Node node) hash ≡ count_of a.between (Node node) hash + 1
+  pub calm : AtEach (IsFallibleUnder own) (ActsCalmly own) w front
+  pub change : (u v : World) → IsOwnPart u final v → count_of v (Node node) hash ≡ count_of u (Node node) hash + 1

@@ -1,5 +1,5 @@
 -- What a close leaves in the world, by the answers of its word.
-use Rattle.std.specs.Prelude.{◌≡◌, ◌-◌, ◌<◌, ℕ, List, [], ◌∷◌, Option, None, Result, Ok, Err}
+use Rattle.std.specs.Prelude.{◌≡◌, ◌-◌, ◌<◌, ℕ, Bool, List, [], ◌∷◌, Option, None, Result, Ok, Err}
 use Rattle.std.specs.FinMap as map
 use Rattle.iceoryx2_description.specs.declared.description.ServiceHash.{ServiceHash}
 use Rattle.iceoryx2_access.specs.declared.storage.RemoveError.{RemoveError}
@@ -13,6 +13,7 @@ use Rattle.iceoryx2_world.specs.declared.world.Phase.TheVariants as at
 use Rattle.iceoryx2_world.specs.declared.world.Row.{Row}
 use Rattle.iceoryx2_world.specs.Orders.{tag_cmp}
 use Rattle.iceoryx2_world.specs.World.{World, Segment, row_of, segment_of, phase_of}
+use Rattle.iceoryx2_world.specs.Interference.{SameTickets, SameTags}
 use Rattle.iceoryx2_world.specs.Agreement.{IsPublished, HasMember, IsDeserted}
 use Rattle.iceoryx2_port_factory.specs.Closes.{releases}
 
@@ -41,7 +42,7 @@ abbrev pub phase_after : (segment description : Result (Unit {0}) RemoveError) �
 phase_after segment (Ok a) n = at.Idle
 phase_after segment (Err e) n = last_phase segment n
 
-module _ (r : Registered) (w v : World) where
+module _ (own : ℕ → Bool) (r : Registered) (w v : World) where
   abbrev node : ℕ
   node = r.node
 
@@ -50,8 +51,8 @@ module _ (r : Registered) (w v : World) where
 
   -- The node is still counted, once less: beside that and the ticket nothing of its own changed.
   pub record CountsLess : Type 0 where
-    pub tickets : v.tickets ≡ map.remove w.tickets r.ticket
-    pub tags : v.tags ≡ w.tags
+    pub tickets : SameTickets own (map.remove w.tickets r.ticket) v.tickets
+    pub tags : SameTags own w.tags v.tags
     pub count : ℕ
     pub more : 1 < count
     pub before : phase_of w (Node node) hash ≡ at.Joined r.number count
@@ -61,14 +62,14 @@ module _ (r : Registered) (w v : World) where
 
   -- The node has left, and others stay.
   pub record LeavesOthers (tag : Result (Unit {0}) RemoveError) : Type 0 where
-    pub tickets : v.tickets ≡ map.remove w.tickets r.ticket
-    pub tags : v.tags ≡ tags_without tag w.tags (node, hash)
+    pub tickets : SameTickets own (map.remove w.tickets r.ticket) v.tickets
+    pub tags : SameTags own (tags_without tag w.tags (node, hash)) v.tags
     pub phase : phase_of v (Node node) hash ≡ at.Idle
 
   -- It was the last one.
   pub record LeavesNobody (tag segment description : Result (Unit {0}) RemoveError) : Type 0 where
-    pub tickets : v.tickets ≡ map.remove w.tickets r.ticket
-    pub tags : v.tags ≡ tags_without tag w.tags (node, hash)
+    pub tickets : SameTickets own (map.remove w.tickets r.ticket) v.tickets
+    pub tags : SameTags own (tags_without tag w.tags (node, hash)) v.tags
     pub segment_after : SegmentAfter segment r.number (segment_of v hash)
     pub row : RowAfter description r.number (row_of w hash) (row_of v hash)
     pub phase : phase_of v (Node node) hash ≡ phase_after segment description r.number

@@ -1,12 +1,12 @@
 -- What every call comes to, over a storage with a world inside.
-use Rattle.std.specs.Prelude.{◌≡◌, ◌≢◌, ◌≤◌, List, Result, Ok, IfOk}
+use Rattle.std.specs.Prelude.{◌≡◌, ◌≢◌, ◌≤◌, ℕ, Bool, true, List, Result, Ok, IfOk}
 use Rattle.iceoryx2_access.specs.Registered.{Registered}
 use Rattle.iceoryx2_access.specs.Letter.{Letter}
 use Rattle.iceoryx2_access.specs.Run.{Each, Run}
 use Rattle.iceoryx2_world.specs.World.{World, phase_of}
 use Rattle.iceoryx2_world.specs.Agreement.{IsSegmentOf}
 use Rattle.iceoryx2_world.specs.Across.{Agrees}
-use Rattle.iceoryx2_world.specs.Fallible.{IsFallibleAccess}
+use Rattle.iceoryx2_world.specs.Interference.{IsFallibleUnder}
 use Rattle.iceoryx2_world.specs.Standing.{Spares, Stands}
 use Rattle.iceoryx2_call_laws.specs.Calls.{Throughout}
 use Rattle.iceoryx2_open_or_create.specs.BuilderCalls.{BuilderCall, ErrorBy}
@@ -39,20 +39,21 @@ module _ {S : Type 0} (step : S → Letter → S → Type 0) (world : S → Worl
     pub stays_open : (more : List Letter) → Each (Spares r) more
         → Throughout step (λ u. IsOpen (world u) r) t more
 
-  -- A call from s to t along this word, with this answer.
-  pub record IsAsPromised (s : S) (word : List Letter) (answer : Result Registered (ErrorBy E C c.way)) (t : S)
-      : Type 0 where
+  -- A call from s to t along this word, with this answer, of one of these nodes, which are one's own.
+  pub record IsAsPromised (own : ℕ → Bool) (s : S) (word : List Letter)
+      (answer : Result Registered (ErrorBy E C c.way)) (t : S) : Type 0 where
     -- within fixed counts
     pub counts : IsShortBy c.way word
-    -- after every access each factory that was open is open
-    pub stay_open : (f : Registered) → Stands (world s) f → Throughout step (λ u. IsOpen (world u) f) s word
+    -- after every access each factory of an own node that was open is open
+    pub stay_open : (f : Registered) → own f.node ≡ true → Stands (world s) f
+        → Throughout step (λ u. IsOpen (world u) f) s word
     -- and so is the one that it gave
     pub given : IfOk answer (IsGiven s t)
     -- and so on with the next call
     pub agrees : Agrees (world t)
 
 module _ {S : Type 0} (step : S → Letter → S → Type 0) (world : S → World)
-    {D E C : Type 0} (c : BuilderCall D E C) (f : Registered) where
+    {D E C : Type 0} (c : BuilderCall D E C) (own : ℕ → Bool) (f : Registered) where
   -- The call has answered Ok with this factory, over a world that agreed, and since then no release of its ticket was
   -- granted, whatever else was done to the storage.
   pub data IsOpenSince : S → Type 0 where
@@ -62,7 +63,7 @@ module _ {S : Type 0} (step : S → Letter → S → Type 0) (world : S → Worl
     spared : {letter : Letter} {s t : S} → IsOpenSince s → Spares f letter → step s letter t → IsOpenSince t
     -- one that reached its world alone, as an access of the table inside a storage that refuses,
     inside : {letter : Letter} {s t : S} → IsOpenSince s → Spares f letter
-        → IsFallibleAccess (world s) letter (world t) → IsOpenSince t
+        → IsFallibleUnder own (world s) letter (world t) → IsOpenSince t
     -- and another state of the same world, as a table's at which batches were scheduled
     same_world : {s t : S} → IsOpenSince s → world t ≡ world s → IsOpenSince t
 

@@ -8,10 +8,10 @@ use Rattle.iceoryx2_world.specs.declared.world.Participant.TheVariants.{Node}
 use Rattle.iceoryx2_world.specs.declared.world.Phase.{Phase}
 use Rattle.iceoryx2_world.specs.declared.world.Row.{Row}
 use Rattle.iceoryx2_world.specs.Orders.{tag_cmp}
-use Rattle.iceoryx2_world.specs.World.{World, Segment, row_of, segment_of, phase_of, begins, locked_number, row_number}
+use Rattle.iceoryx2_world.specs.World.{World, row_of, phase_of, begins, locked_number, row_number}
 use Rattle.iceoryx2_world.specs.Agreement.{IsSpent}
 use Rattle.iceoryx2_access.specs.Run.{Each, Run}
-use Rattle.iceoryx2_world.specs.Fallible.{IsFallibleAccess}
+use Rattle.iceoryx2_world.specs.Interference.{LacksSegment, SameTickets, SameTags, IsFallibleUnder}
 use Rattle.iceoryx2_create_and_open.specs.TracksOwned.{OwnedLock, NoLock, GivenBack, GivesAllBack}
 
 -- A removal is granted.
@@ -25,12 +25,9 @@ IsGranted _ = Unit {0}
 abbrev pub HasAtMostRead : (old new : Phase) → Type 0
 HasAtMostRead old new = (new ≡ old) ⊎ ((begins old ≡ true) × (begins new ≡ true))
 
--- No row has this number, and no segment.
+-- No row has this number.
 abbrev pub LacksRow : World → ServiceHash → ℕ → Type 0
 LacksRow w h n = (x : Row) → row_of w h ≡ Some x → row_number x ≢ n
-
-abbrev pub LacksSegment : World → ServiceHash → ℕ → Type 0
-LacksSegment w h n = (x : Segment) → segment_of w h ≡ Some x → x.number ≢ n
 
 -- the tags, with the call's own where that is left
 abbrev pub tags_after : Bool → set.FinSet tag_cmp → ℕ × ServiceHash → set.FinSet tag_cmp
@@ -64,16 +61,16 @@ module _ (node : ℕ) (hash : ServiceHash) where
   LeavesOfLock _ w v = ⊥
 
   -- All that stays of a create, an open or a round of an open or create, whose removals left this of its tag and its
-  -- lock.
-  pub record Leaves (is_tag_left : Bool) (lock : OwnedLock) (w v : World) : Type 0 where
-    pub tickets : v.tickets ≡ w.tickets
-    pub tags : v.tags ≡ tags_after is_tag_left w.tags (node, hash)
+  -- lock: of tickets and tags these are those of own nodes.
+  pub record Leaves (own : ℕ → Bool) (is_tag_left : Bool) (lock : OwnedLock) (w v : World) : Type 0 where
+    pub tickets : SameTickets own w.tickets v.tickets
+    pub tags : SameTags own (tags_after is_tag_left w.tags (node, hash)) v.tags
     pub of_lock : LeavesOfLock lock w v
 
   -- Nothing of the call's own stays: the node has read at most, and the number of each lock that it got is spent.
-  pub record LeavesNothing (word : List Letter) (w v : World) : Type 0 where
-    pub tickets : v.tickets ≡ w.tickets
-    pub tags : v.tags ≡ w.tags
+  pub record LeavesNothing (own : ℕ → Bool) (word : List Letter) (w v : World) : Type 0 where
+    pub tickets : SameTickets own w.tickets v.tickets
+    pub tags : SameTags own w.tags v.tags
     pub phase : NodeHasRead w v
     pub numbers : Each (SpendsNumber hash v) word
 
@@ -89,8 +86,8 @@ module _ (node : ℕ) (hash : ServiceHash) where
   -- What the rounds of an open or create leave, one after the other, of which the last ends in this world: each is a
   -- run, it leaves only that for which a removal was refused, and the numbers of the locks that it gave back whole are
   -- spent in the end.
-  pub data LeavesByRounds (w end : World) : List Letter → World → Type 0 where
-    no_round : LeavesByRounds w end [] w
-    one_more : {u v : List Letter} {x y : World} → LeavesByRounds w end u x → Run IsFallibleAccess x v y
-        → (g : GivesAllBack node hash v) → Leaves g.is_tag_left g.lock x y → StaysAway g.lock end
-        → LeavesByRounds w end (u ++ v) y
+  pub data LeavesByRounds (own : ℕ → Bool) (w end : World) : List Letter → World → Type 0 where
+    no_round : LeavesByRounds own w end [] w
+    one_more : {u v : List Letter} {x y : World} → LeavesByRounds own w end u x → Run (IsFallibleUnder own) x v y
+        → (g : GivesAllBack node hash v) → Leaves own g.is_tag_left g.lock x y → StaysAway g.lock end
+        → LeavesByRounds own w end (u ++ v) y

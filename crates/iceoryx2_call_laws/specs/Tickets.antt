@@ -1,7 +1,8 @@
 -- The tickets after a whole call.
-use Rattle.std.specs.Prelude.{Result, Ok, Err}
+use Rattle.std.specs.Prelude.{◌≡◌, ◌≢◌, ℕ, Bool, true, Some, Result, Ok, Err}
 use Rattle.std.specs.FinMap as map
-use Rattle.iceoryx2_world.specs.World.{Tickets}
+use Rattle.iceoryx2_world.specs.declared.world.Ticket.{Ticket}
+use Rattle.iceoryx2_world.specs.World.{World, Tickets, ticket_of}
 use Rattle.iceoryx2_world.specs.Standing.{ticket_for}
 use Rattle.iceoryx2_access.specs.Registered.{Registered}
 use Rattle.iceoryx2_errors.specs.declared.error.CloseError.{CloseError}
@@ -16,3 +17,7 @@ tickets_after k (Err e) = k
 abbrev pub tickets_after_close : Tickets → Registered → Result (Unit {0}) (CloseError Registered) → Tickets
 tickets_after_close k r (Err (NotHere s)) = k
 tickets_after_close k r _ = map.remove k r.ticket
+
+-- No own node has this ticket.
+abbrev pub HasNoTicket : (own : ℕ → Bool) → World → ℕ → Type 0
+HasNoTicket own w t = (x : Ticket) → own x.node ≡ true → ticket_of w t ≢ Some x

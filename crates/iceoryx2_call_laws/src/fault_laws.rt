@@ -1,18 +1,17 @@
 //! What is true of whole calls over a table of which any access may be refused.
 
-ghost use Rattle.std.specs.Prelude.{◌≡◌, ◌≢◌, ◌<◌, List, [], Result, Ok, Err, None};
+ghost use Rattle.std.specs.Prelude.{◌≡◌, ◌<◌, ℕ, Bool, List, [], Result, None};
 ghost use Rattle.iceoryx2_description.specs.Description.{max_nodes_of};
-ghost use Rattle.iceoryx2_world.specs.World.{World, row_of, ticket_of};
+ghost use Rattle.iceoryx2_world.specs.World.{World, row_of};
 ghost use Rattle.iceoryx2_access.specs.Letter.{Letter};
+ghost use Rattle.iceoryx2_access.specs.MayRefuse.{MayRefuse};
 ghost use Rattle.iceoryx2_access.specs.Run.{Run};
+ghost use Rattle.iceoryx2_world.specs.Access.{IsOwnPart};
 ghost use Rattle.iceoryx2_world.specs.Across.{Agrees};
-ghost use Rattle.iceoryx2_world.specs.Fallible.{IsFallibleAccess};
+ghost use Rattle.iceoryx2_world.specs.Interference.{Others, After, IsFallibleUnder, everyone};
 ghost use Rattle.iceoryx2_world.specs.Tables.{TableState, IsTableAccess};
 ghost use Rattle.iceoryx2_script.specs.Faults.{FaultyState, IsInjectedFault, RefusesNone};
 ghost use Rattle.iceoryx2_access.specs.Registered.{Registered};
-ghost use Rattle.iceoryx2_errors.specs.declared.error.CloseError.{CloseError};
-ghost use Rattle.iceoryx2_errors.specs.declared.error.CloseError.TheVariants.{NotHere};
-ghost use Rattle.iceoryx2_port_factory.specs.Closes.{IsCloseWord};
 ghost use Rattle.iceoryx2_create_and_open.specs.declared.caller.Caller.{Caller};
 ghost use Rattle.iceoryx2_create_and_open.specs.Creates.{time_of};
 ghost use Rattle.iceoryx2_create_and_open.specs.Prepared.{IsCreateCall};
@@ -20,7 +19,6 @@ ghost use Rattle.iceoryx2_pattern.specs.Meaning.{Meaning};
 ghost use Rattle.iceoryx2_open_or_create.specs.BuilderCalls.{BuilderCall, ErrorBy};
 ghost use Rattle.iceoryx2_open_or_create.specs.CallWords.{IsWordOf};
 ghost use Rattle.iceoryx2_call_laws.specs.Headline.{IsAsPromised, IsOpenAsAsked, IsOpenSince};
-ghost use Rattle.iceoryx2_call_laws.specs.CloseLeaves.{CloseLeaves};
 ghost use Rattle.iceoryx2_call_laws.specs.OverNoRow.{AnswersOverNoRow};
 
 /// What such a storage adds to `agreement`, whichever accesses are refused, those by which a call gives
@@ -31,10 +29,13 @@ ghost use Rattle.iceoryx2_call_laws.specs.OverNoRow.{AnswersOverNoRow};
 /// access, standing factories stand, and of a refused call only that stays for which a removal was refused.
 pub fn agreement_under_faults<D, E: Copy, C: Copy>()
     // The accesses of a faulty storage with a table inside, whichever are refused and whatever batches
-    // wait, are accesses of the table's world of which any may be refused. So what is said of runs over
-    // worlds is true of each run over such a storage.
-    ensures of_tables { (s t : FaultyState TableState) (word : List Letter)
-        → Run (IsInjectedFault IsTableAccess) s word t → Run IsFallibleAccess s.inner.world word t.inner.world }
+    // wait, are accesses of the table's world of which any may be refused, after what others do and so under
+    // interference, whichever nodes are own. So what is said of runs over worlds is true of each run over such a
+    // storage.
+    ensures of_tables { (own : ℕ → Bool) (s t : FaultyState TableState) (word : List Letter)
+        → Run (IsInjectedFault IsTableAccess) s word t
+        → Run (After (Others own) (MayRefuse IsOwnPart)) s.inner.world word t.inner.world
+        × Run (IsFallibleUnder own) s.inner.world word t.inner.world }
 
     // Every open factory stands. Of every call, whichever it is, whichever accesses are refused and whatever it
     // answers: it is within fixed counts; after each of its accesses, whatever steps peers take, each factory that
@@ -45,26 +46,14 @@ pub fn agreement_under_faults<D, E: Copy, C: Copy>()
     ensures every_open_factory_stands { (c : BuilderCall D E C) (word : List Letter)
         (answer : Result Registered (ErrorBy E C c.way)) (s t : FaultyState TableState)
         → IsWordOf c word answer → Run (IsInjectedFault IsTableAccess) s word t → Agrees s.inner.world
-        → IsAsPromised (IsInjectedFault IsTableAccess) (λ u. u.inner.world) c s word answer t }
+        → IsAsPromised (IsInjectedFault IsTableAccess) (λ u. u.inner.world) c everyone s word answer t }
 
     // The same by history: at any state that such a table comes to, by accesses, refused or not, and by accesses of the
     // table inside and scheduling at it, after some call answered Ok with a factory, and before the release of its
     // ticket, this factory is open, with what that call asked.
     ensures open_until_released { (c : BuilderCall D E C) (f : Registered) (s : FaultyState TableState)
-        → IsOpenSince (IsInjectedFault IsTableAccess) (λ u. u.inner.world) c f s
+        → IsOpenSince (IsInjectedFault IsTableAccess) (λ u. u.inner.world) c everyone f s
         → IsOpenAsAsked c s.inner.world f }
-
-    // A close that doesn't hand its factory back takes the ticket out,
-    ensures taken_out { (r : Registered) (word : List Letter) (answer : Result (Unit {0}) (CloseError Registered))
-        (w v : World)
-        → IsCloseWord r word answer → ((s : Registered) → answer ≢ Err (NotHere s)) → Run IsFallibleAccess w word v
-        → ticket_of v r.ticket ≡ None }
-
-    // and of what it removes only that stays for which the removal was refused.
-    ensures close_leaves { (r : Registered) (word : List Letter) (answer : Result (Unit {0}) (CloseError Registered))
-        (w v : World)
-        → IsCloseWord r word answer → ((s : Registered) → answer ≢ Err (NotHere s)) → Run IsFallibleAccess w word v
-        → Agrees w → CloseLeaves r w v word }
 
     // Where the service has no row, whatever segment earlier refusals left there, a create of which no access is
     // refused, over a table at which no batch waits, is Ok, or one of four things stops it. Adjusted settings

@@ -19,10 +19,11 @@ ghost use Rattle.iceoryx2_call_laws.specs.Promise.{Promise};
 /// The promise, of every call of each builder: any of its three, with any hasher, any settings and types,
 /// any attributes, and whatever the clock says.
 ///
-/// Over a table, over any world whichever accesses are refused by a fault, and over a storage that
-/// refuses chosen accesses of a table: it is within fixed counts, after each of its accesses each open
-/// factory is open, whatever steps peers take, and so is the one that it gave, until its own ticket is
-/// released, which meets what the builder was asked, or holds its adjusted settings and attributes.
+/// Over a table, over any world, whatever others do between its accesses and whichever of these are refused
+/// by a fault, and over a storage that refuses chosen accesses of a table, it is within fixed counts. After
+/// each of its accesses each open factory is open, whatever steps peers take, and so is the one that it gave,
+/// until its own ticket is released. That one meets what the builder was asked, or holds its adjusted settings
+/// and attributes. Where other nodes act too, it is so of own nodes' factories, the caller's among them.
 pub fn promise_of_builders()
     ensures events { (hash_of : ℕ → List ℕ → ServiceHash) (b : EventBuilderState) (way : Way)
         (required : Requirements) (now : Result Span ClockFault)

@@ -1,5 +1,5 @@
 -- What is so of each of a builder's three calls is so of any.
-use Rattle.std.proofs.Common.{◌≡◌, ◌⊎◌, ◌≤◌, Bool, true, false, List, Result, Ok, Err, inl, inr, refl, ap}
+use Rattle.std.proofs.Common.{◌≡◌, ◌⊎◌, ℕ, ◌≤◌, Bool, true, false, List, Result, Ok, Err, inl, inr, refl, ap}
 use Rattle.std.specs.Prelude.{IfOk}
 use Rattle.iceoryx2_description.specs.Description.{Description}
 use Rattle.iceoryx2_access.specs.Registered.{Registered}
@@ -7,7 +7,7 @@ use Rattle.iceoryx2_access.specs.Letter.{Letter}
 use Rattle.iceoryx2_access.specs.Run.{Run, Each}
 use Rattle.iceoryx2_world.specs.World.{World}
 use Rattle.iceoryx2_world.specs.Across.{Agrees}
-use Rattle.iceoryx2_world.specs.Fallible.{IsFallibleAccess}
+use Rattle.iceoryx2_world.specs.Interference.{IsFallibleUnder}
 use Rattle.iceoryx2_world.specs.Standing.{Stands}
 use Rattle.iceoryx2_create_and_open.specs.Prepared.{IsPrepared, prepared, IsCreateCall, IsOpenCall}
 use Rattle.iceoryx2_create_and_open.proofs.Prepared.{granted_call}
@@ -59,7 +59,7 @@ module _ {D E C : Type 0} (c : BuilderCall D E C) where
     pub carries : MayCarryBy c way r.description
     pub ticket : w.counter ≤ r.ticket
 
-  given_create : {w v : World} (word : List Letter) (own : Result Registered C) → IsCreateCall (creating c) c.caller word own → Run IsFallibleAccess w word v → Agrees w → IfOk own (Given ToCreate w v)
+  given_create : {nodes : ℕ → Bool} {w v : World} (word : List Letter) (own : Result Registered C) → IsCreateCall (creating c) c.caller word own → Run (IsFallibleUnder nodes) w word v → Agrees w → IfOk own (Given ToCreate w v)
   given_create word (Err e) is run old = tt
   given_create word (Ok r) is run old = let o = create_stands (granted_call is) run old in record {
     stands = o.0;
@@ -69,7 +69,7 @@ module _ {D E C : Type 0} (c : BuilderCall D E C) where
     ticket = o.3;
   }
 
-  given_open : {w v : World} (word : List Letter) (own : Result Registered E) → IsOpenCall (opening c) c.caller.node c.caller.hash word own → Run IsFallibleAccess w word v → Agrees w → IfOk own (Given ToOpen w v)
+  given_open : {nodes : ℕ → Bool} {w v : World} (word : List Letter) (own : Result Registered E) → IsOpenCall (opening c) c.caller.node c.caller.hash word own → Run (IsFallibleUnder nodes) w word v → Agrees w → IfOk own (Given ToOpen w v)
   given_open word (Err e) is run old = tt
   given_open word (Ok r) is run old = let o = open_stands (granted_call is) run old in record {
     stands = o.stands;
@@ -87,7 +87,7 @@ module _ {D E C : Type 0} (c : BuilderCall D E C) where
   carried (meets same accepts) = inl (record { hash = same; accepted = accepts })
   carried holds = inr refl
 
-  given_either : {w v : World} (word : List Letter) (answer : Result Registered (OpenOrCreateRefusal E C)) → IsOpenOrCreateCall c word answer → Run IsFallibleAccess w word v → Agrees w → IfOk answer (Given ToOpenOrCreate w v)
+  given_either : {nodes : ℕ → Bool} {w v : World} (word : List Letter) (answer : Result Registered (OpenOrCreateRefusal E C)) → IsOpenOrCreateCall c word answer → Run (IsFallibleUnder nodes) w word v → Agrees w → IfOk answer (Given ToOpenOrCreate w v)
   given_either word (Err e) is run old = tt
   given_either word (Ok r) is run old =
       let o = open_or_create_stands (granted_call is) run old in
@@ -95,6 +95,6 @@ module _ {D E C : Type 0} (c : BuilderCall D E C) where
       let own = carries_prepared c carries.1 in
       record { stands = o.0; node = carries.0; hash = carries_hash own; carries = λ raises. carried (carries_once raises own); ticket = o.1 }
 
-  pub any_given : (w v : World) (word : List Letter) (answer : Result Registered (ErrorBy E C c.way)) → IsWordOf c word answer → Run IsFallibleAccess w word v → Agrees w → IfOk answer (Given c.way w v)
-  any_given w v word answer is = each_word (λ way word answer. Run IsFallibleAccess w word v → Agrees w → IfOk answer (Given way w v))
+  pub any_given : {nodes : ℕ → Bool} (w v : World) (word : List Letter) (answer : Result Registered (ErrorBy E C c.way)) → IsWordOf c word answer → Run (IsFallibleUnder nodes) w word v → Agrees w → IfOk answer (Given c.way w v)
+  any_given {nodes} w v word answer is = each_word (λ way word answer. Run (IsFallibleUnder nodes) w word v → Agrees w → IfOk answer (Given way w v))
       given_create given_open given_either c.way word answer is

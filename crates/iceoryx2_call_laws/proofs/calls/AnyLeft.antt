@@ -1,13 +1,12 @@
 -- What any call changes and leaves.
-use Rattle.std.proofs.Common.{◌≡◌, List, Result, Ok, Err, refl}
+use Rattle.std.proofs.Common.{◌≡◌, List, Result, Ok, Err, refl, ℕ, Bool, true}
 use Rattle.std.specs.Prelude.{IfOk, IfErr}
 use Rattle.iceoryx2_access.specs.Registered.{Registered}
 use Rattle.iceoryx2_access.specs.Letter.{Letter}
 use Rattle.iceoryx2_access.specs.Run.{Run, Each}
 use Rattle.iceoryx2_world.specs.World.{World}
 use Rattle.iceoryx2_world.specs.Across.{Agrees}
-use Rattle.iceoryx2_world.specs.Peers.{IsAccess}
-use Rattle.iceoryx2_world.specs.Fallible.{IsFallibleAccess}
+use Rattle.iceoryx2_world.specs.Interference.{IsAccessUnder, IsFallibleUnder, SameTickets}
 use Rattle.iceoryx2_create_and_open.specs.Prepared.{IsCreateCall, IsOpenCall}
 use Rattle.iceoryx2_create_and_open.proofs.Prepared.{granted_call}
 use Rattle.iceoryx2_create_and_open.proofs.Kept.{refused_create_call_keeps, refused_open_call_keeps}
@@ -58,28 +57,28 @@ module _ {D E C : Type 0} (c : BuilderCall D E C) where
         (λ word own is. granted_of ToOpen word own (IsOpenCall (opening c) c.caller.node c.caller.hash) (opens word) is)
         (λ word answer is. granted_of ToOpenOrCreate word answer (IsOpenOrCreateCall c) (both word) is) c.way word answer is
 
-  pub any_tickets : (w v : World) (word : List Letter) (answer : Result Registered (ErrorBy E C c.way)) → IsWordOf c word answer → Run IsFallibleAccess w word v → v.tickets ≡ tickets_after w.tickets answer
-  any_tickets w v word answer is = each_word c (λ way word answer. Run IsFallibleAccess w word v → v.tickets ≡ tickets_after w.tickets answer)
-      (λ word own is run. create_call_tickets refl is run)
-      (λ word own is run. open_call_tickets is run)
-      (λ word answer is run. attempt_tickets c is run) c.way word answer is
+  pub any_tickets : {nodes : ℕ → Bool} (w v : World) (word : List Letter) (answer : Result Registered (ErrorBy E C c.way)) → IsWordOf c word answer → Run (IsFallibleUnder nodes) w word v → Agrees w → SameTickets nodes (tickets_after w.tickets answer) v.tickets
+  any_tickets {nodes} w v word answer is = each_word c (λ way word answer. Run (IsFallibleUnder nodes) w word v → Agrees w → SameTickets nodes (tickets_after w.tickets answer) v.tickets)
+      (λ word own is run old. create_call_tickets refl is run old)
+      (λ word own is run old. open_call_tickets is run old)
+      (λ word answer is run old. attempt_tickets c is run old) c.way word answer is
 
-  pub any_refused : (w : World) → Agrees w → (word : List Letter) (answer : Result Registered (ErrorBy E C c.way)) → IsWordOf c word answer → IfErr answer (λ e. AtEach IsFallibleAccess ActsCalmly w word)
-  any_refused w old = each_refused (λ way word. AtEach IsFallibleAccess ActsCalmly w word)
-      (λ word e is. refused_create_call_calm w old is) (λ word e is. refused_open_call_calm w old is) (λ word e is. refused_attempt_calm c w old is)
+  pub any_refused : (nodes : ℕ → Bool) → nodes c.caller.node ≡ true → (w : World) → Agrees w → (word : List Letter) (answer : Result Registered (ErrorBy E C c.way)) → IsWordOf c word answer → IfErr answer (λ e. AtEach (IsFallibleUnder nodes) (ActsCalmly nodes) w word)
+  any_refused nodes mine w old = each_refused (λ way word. AtEach (IsFallibleUnder nodes) (ActsCalmly nodes) w word)
+      (λ word e is. refused_create_call_calm nodes mine w old is) (λ word e is. refused_open_call_calm nodes mine w old is) (λ word e is. refused_attempt_calm c nodes mine w old is)
 
-  pub any_granted : (w : World) → Agrees w → (word : List Letter) (answer : Result Registered (ErrorBy E C c.way)) → IsWordOf c word answer → IfOk answer (λ r. ChangesLast c.caller.node c.caller.hash w word)
-  any_granted w old = each_granted (λ way word. ChangesLast c.caller.node c.caller.hash w word)
-      (λ word r is. created_changes w (granted_call is) old) (λ word r is. opened_changes w (granted_call is) old) (λ word r is. granted_open_or_create_changes w (granted_call is) old)
+  pub any_granted : (nodes : ℕ → Bool) → nodes c.caller.node ≡ true → (w : World) → Agrees w → (word : List Letter) (answer : Result Registered (ErrorBy E C c.way)) → IsWordOf c word answer → IfOk answer (λ r. ChangesLast nodes c.caller.node c.caller.hash w word)
+  any_granted nodes mine w old = each_granted (λ way word. ChangesLast nodes c.caller.node c.caller.hash w word)
+      (λ word r is. created_changes nodes mine w (granted_call is) old) (λ word r is. opened_changes nodes mine w (granted_call is) old) (λ word r is. granted_open_or_create_changes nodes mine w (granted_call is) old)
 
-  pub any_leaves : (w v : World) → Agrees w → (word : List Letter) (answer : Result Registered (ErrorBy E C c.way)) → IsWordOf c word answer → IfErr answer (λ e. Run IsFallibleAccess w word v → LeavesBy c c.way w word v)
-  any_leaves w v old = each_refused (λ way word. Run IsFallibleAccess w word v → LeavesBy c way w word v)
-      (λ word e is run. let back = refused_create_call_keeps is in record { gives_back = back; leaves = gives_back c.caller.node c.caller.hash back run old })
-      (λ word e is run. leaves_tag c.caller.node c.caller.hash (refused_open_call_keeps is) run old)
-      (λ word e is run. leaves_by_rounds c.caller.node c.caller.hash (refused_call_gives_back c is) run old)
+  pub any_leaves : (nodes : ℕ → Bool) → nodes c.caller.node ≡ true → (w v : World) → Agrees w → (word : List Letter) (answer : Result Registered (ErrorBy E C c.way)) → IsWordOf c word answer → IfErr answer (λ e. Run (IsFallibleUnder nodes) w word v → LeavesBy nodes c c.way w word v)
+  any_leaves nodes mine w v old = each_refused (λ way word. Run (IsFallibleUnder nodes) w word v → LeavesBy nodes c way w word v)
+      (λ word e is run. let back = refused_create_call_keeps is in record { gives_back = back; leaves = gives_back nodes c.caller.node mine c.caller.hash back run old })
+      (λ word e is run. leaves_tag nodes c.caller.node mine c.caller.hash (refused_open_call_keeps is) run old)
+      (λ word e is run. leaves_by_rounds nodes c.caller.node mine c.caller.hash (refused_call_gives_back c is) run old)
 
-  pub any_gives_back : (w v : World) → Agrees w → (word : List Letter) (answer : Result Registered (ErrorBy E C c.way)) → IsWordOf c word answer → IfErr answer (λ e. Run IsAccess w word v → Each IsGranted word × LeavesNothing c.caller.node c.caller.hash word w v)
-  any_gives_back w v old = each_refused (λ way word. Run IsAccess w word v → Each IsGranted word × LeavesNothing c.caller.node c.caller.hash word w v)
-      (λ word e is run. gives_all_back c.caller.node c.caller.hash (refused_create_call_keeps is) run old)
-      (λ word e is run. gives_all_back c.caller.node c.caller.hash (only_tag (refused_open_call_keeps is)) run old)
-      (λ word e is run. rounds_give_back c.caller.node c.caller.hash (refused_call_gives_back c is) run old)
+  pub any_gives_back : (nodes : ℕ → Bool) → nodes c.caller.node ≡ true → (w v : World) → Agrees w → (word : List Letter) (answer : Result Registered (ErrorBy E C c.way)) → IsWordOf c word answer → IfErr answer (λ e. Run (IsAccessUnder nodes) w word v → Each IsGranted word × LeavesNothing c.caller.node c.caller.hash nodes word w v)
+  any_gives_back nodes mine w v old = each_refused (λ way word. Run (IsAccessUnder nodes) w word v → Each IsGranted word × LeavesNothing c.caller.node c.caller.hash nodes word w v)
+      (λ word e is run. gives_all_back nodes c.caller.node mine c.caller.hash (refused_create_call_keeps is) run old)
+      (λ word e is run. gives_all_back nodes c.caller.node mine c.caller.hash (only_tag (refused_open_call_keeps is)) run old)
+      (λ word e is run. rounds_give_back nodes c.caller.node mine c.caller.hash (refused_call_gives_back c is) run old)

@@ -1,5 +1,5 @@
 -- Which accesses of a call change what is published, or a count.
-use Rattle.std.proofs.Common.{◌∷◌, ◌++◌, [], ℕ, zero, suc, Bool, true, false, inl, inr, List, Result, Ok, Err, sym, ap, subst, ◌∙◌, append_assoc}
+use Rattle.std.proofs.Common.{◌∷◌, ◌++◌, [], ℕ, zero, suc, Bool, true, false, inl, inr, List, Result, Ok, Err, sym, ap, subst, ◌∙◌, append_assoc, ◌≡◌}
 use Rattle.iceoryx2_description.specs.declared.description.ServiceHash.{ServiceHash}
 use Rattle.iceoryx2_description.specs.Description.{Description}
 use Rattle.iceoryx2_world.specs.declared.world.Participant.TheVariants.{Node}
@@ -9,11 +9,10 @@ use Rattle.iceoryx2_world.specs.World.{World, phase_of, locked_number}
 use Rattle.iceoryx2_access.specs.Letter.{Letter}
 use Rattle.iceoryx2_access.specs.Letter as letter
 use Rattle.iceoryx2_world.specs.Across.{Agrees}
-use Rattle.iceoryx2_world.specs.Fallible.{IsFallibleAccess}
+use Rattle.iceoryx2_world.specs.Interference.{IsFallibleUnder}
 use Rattle.iceoryx2_world.specs.Calm.{IsCalmLetter}
 use Rattle.iceoryx2_world.proofs.agreement.Parts.{locking}
-use Rattle.iceoryx2_world.proofs.agreement.Accesses.{peers_keep, faulty_keeps, granted}
-use Rattle.iceoryx2_world.proofs.agreement.Granted.{peers_phase}
+use Rattle.iceoryx2_world.proofs.agreement.Accesses.{faulty_keeps, granted}
 use Rattle.iceoryx2_world.proofs.agreement.Calm.{own_calmed, own_unlocks, publishing_counts, joining_counts, Tame, ends, goes, locks, unlocks, WhileLocked, locked_now, tame_both}
 use Rattle.iceoryx2_create_and_open.specs.declared.look.Outcome.{Outcome}
 use Rattle.iceoryx2_pattern.specs.declared.pattern.CreateRefusal.{CreateRefusal}
@@ -30,26 +29,30 @@ use Rattle.iceoryx2_create_and_open.specs.Opens.{IsReady, ready, IsFailedRound, 
 use Rattle.iceoryx2_call_laws.specs.Calls.{AtEach, ActsCalmly, ChangesLast}
 
 -- the lock stays with its node
-lock_stays : (node : ℕ) (hash : ServiceHash) (b : Bool) (w : World) (l : Letter) (v : World) → IsCalmLetter l → IsFallibleAccess w l v → WhileLocked node hash b w → WhileLocked node hash b v
-lock_stays node hash false w l v ok s has = tt
-lock_stays node hash true w l v ok (inl a) has = (has.0, (own_calmed a.between l v ok a.own).locks (Node node) hash has.0 (ap locked_number (peers_phase a.peers node hash) ∙ has.1))
-lock_stays node hash true w l v ok (inr f) has = (has.0, ap (λ u. locked_number (phase_of u (Node node) hash)) f.1 ∙ has.1)
+lock_stays : (nodes : ℕ → Bool) (node : ℕ) → nodes node ≡ true → (hash : ServiceHash) (b : Bool) (w : World) (l : Letter) (v : World) → IsCalmLetter l → IsFallibleUnder nodes w l v → Agrees w → WhileLocked node hash b w → WhileLocked node hash b v
+lock_stays nodes node mine hash false w l v ok s old has = tt
+lock_stays nodes node mine hash true w l v ok a old has =
+    let still = ap locked_number ((a.before old).phases node hash mine) ∙ has.1 in
+    elim a.part [
+      | inl o ↦ (has.0, (own_calmed a.between l v ok o).locks (Node node) hash has.0 still)
+      | inr f ↦ (has.0, ap (λ u. locked_number (phase_of u (Node node) hash)) f.1 ∙ still)
+    ]
 
 -- Each access of such a word is calm.
-pub calm_at_each : {node : ℕ} {hash : ServiceHash} {b c : Bool} {word : List Letter} (w : World) → Tame node hash b word c → WhileLocked node hash b w → Agrees w → AtEach IsFallibleAccess ActsCalmly w word
-calm_at_each w ends has old = tt
-calm_at_each {node} {hash} {b = b} w (goes {l = l} ok more) has old = λ v s. (
-  λ a. (own_calmed a.between l v ok a.own).same,
-  calm_at_each v more (lock_stays node hash b w l v ok s has) (faulty_keeps w l v s old).0,
+pub calm_at_each : (nodes : ℕ → Bool) {node : ℕ} → nodes node ≡ true → {hash : ServiceHash} {b c : Bool} {word : List Letter} (w : World) → Tame node hash b word c → WhileLocked node hash b w → Agrees w → AtEach (IsFallibleUnder nodes) (ActsCalmly nodes) w word
+calm_at_each nodes mine w ends has old = tt
+calm_at_each nodes {node} mine {hash} {b = b} w (goes {l = l} ok more) has old = λ v s. (
+  λ u between o. (own_calmed u l v ok o).same,
+  calm_at_each nodes mine v more (lock_stays nodes node mine hash b w l v ok s old has) (faulty_keeps {own = nodes} w l v s old).0,
 )
-calm_at_each {node} {hash} w (locks {n = n} more) has old = λ v s.
-    let b = granted w (letter.Lock node hash (Ok n)) v (λ e. cc) s in (
-      λ a. (own_calmed a.between (letter.Lock node hash (Ok n)) v tt a.own).same,
-      calm_at_each v more (b.between.counter, locked_now b.between v node hash (locking b.between v node hash n b.own).1) (faulty_keeps w (letter.Lock node hash (Ok n)) v s old).0,
+calm_at_each nodes {node} mine {hash} w (locks {n = n} more) has old = λ v s.
+    let b = granted {own = nodes} w (letter.Lock node hash (Ok n)) v (λ e. cc) s in (
+      λ u between o. (own_calmed u (letter.Lock node hash (Ok n)) v tt o).same,
+      calm_at_each nodes mine v more (b.between.counter, locked_now b.between v node hash (locking b.between v node hash n b.part).1) (faulty_keeps {own = nodes} w (letter.Lock node hash (Ok n)) v s old).0,
     )
-calm_at_each {node} {hash} w (unlocks x more) has old = λ v s. (
-  λ a. own_unlocks a.between v node hash has.0 x (ap locked_number (peers_phase a.peers node hash) ∙ has.1) (peers_keep a.peers old).0 a.own,
-  calm_at_each v more tt (faulty_keeps w (letter.RemoveDescription node hash x) v s old).0,
+calm_at_each nodes {node} mine {hash} w (unlocks x more) has old = λ v s. (
+  λ u between o. own_unlocks u v node hash has.0 x (ap locked_number ((between old).phases node hash mine) ∙ has.1) (between old).agrees o,
+  calm_at_each nodes mine v more tt (faulty_keeps {own = nodes} w (letter.RemoveDescription node hash x) v s old).0,
 )
 
 module _ {node : ℕ} {hash : ServiceHash} where
@@ -122,49 +125,49 @@ module _ {E C : Type 0} {m : Meaning E C} {node : ℕ} {hash : ServiceHash} wher
   open_tame (all_failed before) = rounds_tame before
 
   -- A refused call changes nothing.
-  pub refused_create_calm : {stops : Bool} {d : Description} {word : List Letter} {error : C} (w : World) → IsCreating m node hash stops d word (Err error) → Agrees w → AtEach IsFallibleAccess ActsCalmly w word
-  refused_create_calm w is old = calm_at_each w (create_tame is) tt old
+  pub refused_create_calm : (nodes : ℕ → Bool) → nodes node ≡ true → {stops : Bool} {d : Description} {word : List Letter} {error : C} (w : World) → IsCreating m node hash stops d word (Err error) → Agrees w → AtEach (IsFallibleUnder nodes) (ActsCalmly nodes) w word
+  refused_create_calm nodes mine w is old = calm_at_each nodes mine w (create_tame is) tt old
 
-  pub refused_open_calm : {word : List Letter} {error : E} (w : World) → IsOpenWord m node hash word (Err error) → Agrees w → AtEach IsFallibleAccess ActsCalmly w word
-  refused_open_calm w is old = calm_at_each w (open_tame is) tt old
+  pub refused_open_calm : (nodes : ℕ → Bool) → nodes node ≡ true → {word : List Letter} {error : E} (w : World) → IsOpenWord m node hash word (Err error) → Agrees w → AtEach (IsFallibleUnder nodes) (ActsCalmly nodes) w word
+  refused_open_calm nodes mine w is old = calm_at_each nodes mine w (open_tame is) tt old
 
   -- A granted create changes something where it publishes.
-  service_changes : {d : Description} {tag : Tag} {x z : List Letter} {r : Registered} (w : World) → Tame node hash false x false → IsServiceWord m node hash d tag z (Ok r) → Agrees w → ChangesLast node hash w (x ++ z)
-  service_changes {d} {x = x} w before (published {v = y} n t segment) old = record {
+  service_changes : (nodes : ℕ → Bool) → nodes node ≡ true → {d : Description} {tag : Tag} {x z : List Letter} {r : Registered} (w : World) → Tame node hash false x false → IsServiceWord m node hash d tag z (Ok r) → Agrees w → ChangesLast nodes node hash w (x ++ z)
+  service_changes nodes mine {d} {x = x} w before (published {v = y} n t segment) old = record {
     front = x ++ letter.Lock node hash (Ok n) ∷ y;
     final = letter.Publish node hash n d (Ok t);
     in_order = sym (append_assoc x (letter.Lock node hash (Ok n) ∷ y) (letter.Publish node hash n d (Ok t) ∷ []));
-    calm = calm_at_each {b = false} w (tame_both before (locks (making_tame segment))) tt old;
-    change = λ u v a. publishing_counts a.between v node hash n d t a.own;
+    calm = calm_at_each nodes mine {b = false} w (tame_both before (locks (making_tame segment))) tt old;
+    change = λ m v o. publishing_counts m v node hash n d t o;
   }
 
-  created_changes_after : {stops : Bool} {d : Description} {x z : List Letter} {r : Registered} (w : World) → Tame node hash false x false → IsCreating m node hash stops d z (Ok r) → Agrees w → ChangesLast node hash w (x ++ z)
-  created_changes_after {x = x} w before (creates.made {u} {v} _ _ entry service) old =
-      subst (ChangesLast node hash w) (append_assoc x u v) (service_changes w (tame_both before (entry_tame entry)) service old)
+  created_changes_after : (nodes : ℕ → Bool) → nodes node ≡ true → {stops : Bool} {d : Description} {x z : List Letter} {r : Registered} (w : World) → Tame node hash false x false → IsCreating m node hash stops d z (Ok r) → Agrees w → ChangesLast nodes node hash w (x ++ z)
+  created_changes_after nodes mine {x = x} w before (creates.made {u} {v} _ _ entry service) old =
+      subst (ChangesLast nodes node hash w) (append_assoc x u v) (service_changes nodes mine w (tame_both before (entry_tame entry)) service old)
 
-  pub created_changes : {stops : Bool} {d : Description} {word : List Letter} {r : Registered} (w : World) → IsCreating m node hash stops d word (Ok r) → Agrees w → ChangesLast node hash w word
-  created_changes w is old = created_changes_after w ends is old
+  pub created_changes : (nodes : ℕ → Bool) → nodes node ≡ true → {stops : Bool} {d : Description} {word : List Letter} {r : Registered} (w : World) → IsCreating m node hash stops d word (Ok r) → Agrees w → ChangesLast nodes node hash w word
+  created_changes nodes mine w is old = created_changes_after nodes mine w ends is old
 
   -- so does one after a look in a round of an open or create
-  pub creates_after : {stops : Bool} {d : Description} (x u v : List Letter) {r : Registered} (w : World) → Tame node hash false (x ++ u) false → IsCreating m node hash stops d v (Ok r) → Agrees w → ChangesLast node hash w (x ++ (u ++ v))
-  creates_after x u v w before is old = subst (ChangesLast node hash w) (append_assoc x u v) (created_changes_after w before is old)
+  pub creates_after : (nodes : ℕ → Bool) → nodes node ≡ true → {stops : Bool} {d : Description} (x u v : List Letter) {r : Registered} (w : World) → Tame node hash false (x ++ u) false → IsCreating m node hash stops d v (Ok r) → Agrees w → ChangesLast nodes node hash w (x ++ (u ++ v))
+  creates_after nodes mine x u v w before is old = subst (ChangesLast nodes node hash w) (append_assoc x u v) (created_changes_after nodes mine w before is old)
 
-  round_changes : {x y : List Letter} {r : Registered} (w : World) → Tame node hash false x false → IsLastRound m node hash y (Ok r) → Agrees w → ChangesLast node hash w (x ++ y)
-  round_changes {x = x} w before (opens.opened {u = y} {n = n} t r) old = record {
+  round_changes : (nodes : ℕ → Bool) → nodes node ≡ true → {x y : List Letter} {r : Registered} (w : World) → Tame node hash false x false → IsLastRound m node hash y (Ok r) → Agrees w → ChangesLast nodes node hash w (x ++ y)
+  round_changes nodes mine {x = x} w before (opens.opened {u = y} {n = n} t r) old = record {
     front = x ++ y;
     final = letter.OpenSegment node hash n (Ok t);
     in_order = sym (append_assoc x y (letter.OpenSegment node hash n (Ok t) ∷ []));
-    calm = calm_at_each w (tame_both before (ready_tame r)) tt old;
-    change = λ u v a. joining_counts a.between v node hash n t a.own;
+    calm = calm_at_each nodes mine w (tame_both before (ready_tame r)) tt old;
+    change = λ m v o. joining_counts m v node hash n t o;
   }
 
   -- A granted open changes something where it opens.
-  opened_changes_after : {x z : List Letter} {r : Registered} (w : World) → Tame node hash false x false → IsOpenWord m node hash z (Ok r) → Agrees w → ChangesLast node hash w (x ++ z)
-  opened_changes_after {x = x} w before (ended {u} {v} small rounds l) old =
-      subst (ChangesLast node hash w) (append_assoc x u v) (round_changes w (tame_both before (rounds_tame rounds)) l old)
+  opened_changes_after : (nodes : ℕ → Bool) → nodes node ≡ true → {x z : List Letter} {r : Registered} (w : World) → Tame node hash false x false → IsOpenWord m node hash z (Ok r) → Agrees w → ChangesLast nodes node hash w (x ++ z)
+  opened_changes_after nodes mine {x = x} w before (ended {u} {v} small rounds l) old =
+      subst (ChangesLast nodes node hash w) (append_assoc x u v) (round_changes nodes mine w (tame_both before (rounds_tame rounds)) l old)
 
-  pub opened_changes : {word : List Letter} {r : Registered} (w : World) → IsOpenWord m node hash word (Ok r) → Agrees w → ChangesLast node hash w word
-  opened_changes w is old = opened_changes_after w ends is old
+  pub opened_changes : (nodes : ℕ → Bool) → nodes node ≡ true → {word : List Letter} {r : Registered} (w : World) → IsOpenWord m node hash word (Ok r) → Agrees w → ChangesLast nodes node hash w word
+  opened_changes nodes mine w is old = opened_changes_after nodes mine w ends is old
 
-  pub opens_after : (x u v : List Letter) {r : Registered} (w : World) → Tame node hash false (x ++ u) false → IsOpenWord m node hash v (Ok r) → Agrees w → ChangesLast node hash w (x ++ (u ++ v))
-  opens_after x u v w before is old = subst (ChangesLast node hash w) (append_assoc x u v) (opened_changes_after w before is old)
+  pub opens_after : (nodes : ℕ → Bool) → nodes node ≡ true → (x u v : List Letter) {r : Registered} (w : World) → Tame node hash false (x ++ u) false → IsOpenWord m node hash v (Ok r) → Agrees w → ChangesLast nodes node hash w (x ++ (u ++ v))
+  opens_after nodes mine x u v w before is old = subst (ChangesLast nodes node hash w) (append_assoc x u v) (opened_changes_after nodes mine w before is old)

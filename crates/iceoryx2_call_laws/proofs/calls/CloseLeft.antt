@@ -1,5 +1,5 @@
 -- What a close leaves, whatever peers do within it and whichever of its removals are refused.
-use Rattle.std.proofs.Common.{◌≡◌, ◌≢◌, ℕ, ◌-◌, ◌<◌, inl, inr, List, Option, Some, Result, Ok, Err, refl, sym, ap, subst, ◌∙◌}
+use Rattle.std.proofs.Common.{◌≡◌, ◌≢◌, ℕ, ◌-◌, ◌<◌, inl, inr, List, Option, Some, Result, Ok, Err, refl, sym, ap, subst, ◌∙◌, Bool, true}
 use Rattle.std.specs.FinMap as map
 use Rattle.iceoryx2_description.specs.declared.description.ServiceHash.{ServiceHash}
 use Rattle.iceoryx2_access.specs.declared.storage.RemoveError.{RemoveError}
@@ -23,22 +23,24 @@ use Rattle.iceoryx2_world.specs.Steps.{ServiceView}
 use Rattle.iceoryx2_world.specs.Agreement.{Later, IsPublished}
 use Rattle.iceoryx2_world.specs.Across.{Agrees}
 use Rattle.iceoryx2_world.specs.Access.{write, release_answer}
-use Rattle.iceoryx2_world.specs.Fallible.{IsFallibleAccess}
+use Rattle.iceoryx2_world.specs.Orders.{tag_cmp}
+use Rattle.iceoryx2_world.specs.Interference.{SameTickets, SameTags, IsFallibleUnder}
+use Rattle.iceoryx2_world.proofs.agreement.Interference.{tickets_trans, tickets_equal, tickets_remove, tags_trans, tags_equal, tags_remove}
 use Rattle.iceoryx2_world.specs.StepCases.{IsStep, leaves_once, leaves, leaves_last}
 use Rattle.iceoryx2_world.proofs.agreement.StepCases.{step_case}
 use Rattle.iceoryx2_world.proofs.agreement.Effects.{allowed_step}
 use Rattle.iceoryx2_world.proofs.agreement.Worlds.{step_tickets}
 use Rattle.iceoryx2_world.proofs.agreement.Parts.{mine, clearing, unlocking, releasing}
-use Rattle.iceoryx2_world.proofs.agreement.Accesses.{joined_means, later_trans, peers_keep, faulty_keeps, granted}
+use Rattle.iceoryx2_world.proofs.agreement.Accesses.{joined_means, later_trans, faulty_keeps, granted}
 use Rattle.iceoryx2_world.proofs.agreement.Stands.{own_row, own_phase, own_segment}
-use Rattle.iceoryx2_world.proofs.agreement.Granted.{peers_phase, tag_granted, segment_granted, description_granted, MayClear, MayEnd}
+use Rattle.iceoryx2_world.proofs.agreement.Granted.{tag_granted, segment_granted, description_granted, MayClear, MayEnd}
 use Rattle.iceoryx2_world.proofs.agreement.Closing.{released_as, tag_removed_phase, segment_removed_phase}
 use Rattle.iceoryx2_errors.specs.declared.error.CloseError.{CloseError}
 use Rattle.iceoryx2_errors.specs.declared.error.CloseError.TheVariants as closing
 use Rattle.iceoryx2_port_factory.specs.Closes.{IsCloseWord, not_here, still_counted, left, last as last_left}
 use Rattle.iceoryx2_call_laws.specs.CloseLeaves.{tags_without, SegmentAfter, RowAfter, last_phase, phase_after, CloseLeaves, counts_less, leaves_others, leaves_nobody}
 use Rattle.iceoryx2_call_laws.proofs.calls.Plain.{step_tags}
-use Rattle.iceoryx2_call_laws.proofs.calls.Left.{peers_leave, unlock_row}
+use Rattle.iceoryx2_call_laws.proofs.calls.Left.{unlock_row}
 use Rattle.iceoryx2_call_laws.proofs.calls.Tickets.{same_tickets}
 
 -- where a release leads from where, by its answer
@@ -57,61 +59,80 @@ row_stays : (w v : World) (h : ServiceHash) (n : ℕ) → Later w v → IsPublis
 row_stays w v h n later was is = is.1 ∙ ap (λ b. Some (row.Published n b)) (sym ((later.rows h).same_bytes n was.0 is.0 was.1 is.1)) ∙ sym was.1
 
 -- A release that is granted.
-record ReleasedTo (r : Registered) (a : Released) (w v : World) : Type 0 where
-  pub tickets : v.tickets ≡ map.remove w.tickets r.ticket
-  pub tags : v.tags ≡ w.tags
+record ReleasedTo (own : ℕ → Bool) (r : Registered) (a : Released) (w v : World) : Type 0 where
+  pub tickets : SameTickets own (map.remove w.tickets r.ticket) v.tickets
+  pub tags : SameTags own w.tags v.tags
   pub phase : LeadsTo r.number a (phase_of w (Node r.node) r.description.hash) (phase_of v (Node r.node) r.description.hash)
   pub row : IsPublished r.number (row_of w r.description.hash)
 
-release_to : (r : Registered) (a : Released) (w v : World) → IsFallibleAccess w (letter.Release r.ticket r.node r.description.hash r.number (Ok a)) v → Agrees w → ReleasedTo r a w v
-release_to r a w v x old =
+release_to : (own : ℕ → Bool) (r : Registered) → own r.node ≡ true → (a : Released) (w v : World) → IsFallibleUnder own w (letter.Release r.ticket r.node r.description.hash r.number (Ok a)) v → Agrees w → ReleasedTo own r a w v
+release_to own r is_own a w v x old =
     let t = r.ticket in
     let i = r.node in
     let h = r.description.hash in
     let n = r.number in
     let b = granted w (letter.Release t i h n (Ok a)) v (λ e. cc) x in
     let u = b.between in
-    let rel = releasing u v t i h n a b.own in
+    let rel = releasing u v t i h n a b.part in
     let st = allowed_step u rel.mid (Node i) h act.Leave rel.step in
-    let same = peers_leave b.peers in
-    let here : ticket_of w t ≡ Some (mine i h n) = ap (λ k. map.get k t) (sym same.tickets) ∙ rel.ticket in
+    let alone = b.before old in
+    let here : ticket_of w t ≡ Some (mine i h n) = alone.tickets.no_other t (mine i h n) is_own rel.ticket in
     let joined = old.held.number t (mine i h n) here in
-    let still = peers_phase b.peers i h in
+    let still = alone.phases i h is_own in
     let view : phase_of v (Node i) h ≡ st.view.phase = ap (λ z. phase_of z (Node i) h) rel.is ∙ own_phase u rel.mid i h act.Leave st in
     let leads = leave_row n (step_case (Node i) h act.Leave (phase_of u (Node i) h) (row_of u h) (segment_of u h) u.counter st.view st.is) (ap joined_number still ∙ joined) in
     let to : LeadsTo n (release_answer (phase_of v (Node i) h)) (phase_of u (Node i) h) (phase_of v (Node i) h) = subst (λ y. LeadsTo n (release_answer y) (phase_of u (Node i) h) y) (sym view) leads in
-    let answered : LeadsTo n a (phase_of u (Node i) h) (phase_of v (Node i) h) = subst (λ y. LeadsTo n y (phase_of u (Node i) h) (phase_of v (Node i) h)) (sym (released_as u v t i h n a b.own)) to in
+    let answered : LeadsTo n a (phase_of u (Node i) h) (phase_of v (Node i) h) = subst (λ y. LeadsTo n y (phase_of u (Node i) h) (phase_of v (Node i) h)) (sym (released_as u v t i h n a b.part)) to in
     let j = joined_means _ n joined in
+    let tickets_is : v.tickets ≡ map.remove u.tickets t = ap (λ (z : World). z.tickets) rel.is ∙ ap (λ k. map.remove k t) (step_tickets u rel.mid (Node i) h act.Leave st) in
+    let tags_is : v.tags ≡ u.tags = ap (λ (z : World). z.tags) rel.is ∙ step_tags u rel.mid (Node i) h act.Leave rel.step in
     record {
-      tickets = ap (λ (z : World). z.tickets) rel.is ∙ ap (λ k. map.remove k t) (step_tickets u rel.mid (Node i) h act.Leave st ∙ same.tickets);
-      tags = ap (λ (z : World). z.tags) rel.is ∙ step_tags u rel.mid (Node i) h act.Leave rel.step ∙ same.tags;
+      tickets = tickets_trans own (map.remove w.tickets t) (map.remove u.tickets t) v.tickets (tickets_remove own w.tickets u.tickets t alone.tickets) (tickets_equal own (map.remove u.tickets t) v.tickets tickets_is);
+      tags = tags_trans own w.tags u.tags v.tags alone.tags (tags_equal own u.tags v.tags tags_is);
       phase = subst (λ y. LeadsTo n a y (phase_of v (Node i) h)) still answered;
       row = ((old.everywhere h).joined (Node i) n j.0 j.1).1;
     }
 
-module _ (i : ℕ) (h : ServiceHash) where
+-- without a tag that is removed
+tags_without_same : (own : ℕ → Bool) (a : Result (Unit {0}) RemoveError) (s t : set.FinSet tag_cmp) (x : ℕ × ServiceHash) → SameTags own s t → SameTags own (tags_without a s x) (tags_without a t x)
+tags_without_same own (Ok y) s t x e = tags_remove own s t x e
+tags_without_same own (Err e) s t x k = k
+
+module _ (own : ℕ → Bool) (i : ℕ) (is_own : own i ≡ true) (h : ServiceHash) where
   -- the removals
-  tags_after : (w v : World) (a : Result (Unit {0}) RemoveError) → IsFallibleAccess w (letter.RemoveTag i h a) v → v.tags ≡ tags_without a w.tags (i, h)
-  tags_after w v (Ok y) x =
+  tags_after : (w v : World) (a : Result (Unit {0}) RemoveError) → IsFallibleUnder own w (letter.RemoveTag i h a) v → Agrees w → SameTags own (tags_without a w.tags (i, h)) v.tags
+  tags_after w v (Ok y) x old =
       let a = granted w (letter.RemoveTag i h (Ok y)) v (λ e. cc) x in
-      ap (λ (z : World). z.tags) (a.own.is ∙ ap (write a.between i h) a.own.own.1) ∙ ap (λ s. set.remove s (i, h)) (peers_leave a.peers).tags
-  tags_after w v (Err e) (inl a) = absurd (tag_granted w v i h e a)
-  tags_after w v (Err e) (inr f) = ap (λ (z : World). z.tags) f.1
+      let u = a.between in
+      let part = a.part in
+      tags_trans own (set.remove w.tags (i, h)) (set.remove u.tags (i, h)) v.tags (tags_remove own w.tags u.tags (i, h) (a.before old).tags) (tags_equal own (set.remove u.tags (i, h)) v.tags (ap (λ (z : World). z.tags) (part.is ∙ ap (write u i h) part.own.1)))
+  tags_after w v (Err e) x old = elim x.part [
+    | inl o ↦ absurd (tag_granted {own = own} w v i h e (record { between = x.between; before = x.before; part = o }))
+    | inr f ↦ tags_trans own w.tags x.between.tags v.tags (x.before old).tags (tags_equal own x.between.tags v.tags (ap (λ (z : World). z.tags) f.1))
+  ]
 
   -- where the last one is after the removal of its segment
   record HasRemoved (n : ℕ) (a : Result (Unit {0}) RemoveError) (w v : World) : Type 0 where
-    pub tags : v.tags ≡ w.tags
+    pub tags : SameTags own w.tags v.tags
     pub phase : phase_of v (Node i) h ≡ last_phase a n
 
-  segment_removed : (w v : World) (n : ℕ) (a : Result (Unit {0}) RemoveError) → phase_of w (Node i) h ≡ at.Leaving n → IsFallibleAccess w (letter.RemoveSegment i h a) v → HasRemoved n a w v
-  segment_removed w v n (Ok y) is x =
+  segment_removed : (w v : World) (n : ℕ) (a : Result (Unit {0}) RemoveError) → Agrees w → phase_of w (Node i) h ≡ at.Leaving n → IsFallibleUnder own w (letter.RemoveSegment i h a) v → HasRemoved n a w v
+  segment_removed w v n (Ok y) old is x =
       let b = granted w (letter.RemoveSegment i h (Ok y)) v (λ e. cc) x in
+      let u = b.between in
       record {
-        tags = step_tags b.between v (Node i) h act.RemoveSegment (clearing b.between v i h y b.own) ∙ (peers_leave b.peers).tags;
-        phase = segment_removed_phase w v i h n y is x;
+        tags = tags_trans own w.tags u.tags v.tags (b.before old).tags (tags_equal own u.tags v.tags (step_tags u v (Node i) h act.RemoveSegment (clearing u v i h y b.part)));
+        phase = segment_removed_phase {own = own} w v i h n y is_own old is x;
       }
-  segment_removed w v n (Err e) is (inl b) = absurd (segment_granted w v i h e (subst MayClear (sym is) tt) b)
-  segment_removed w v n (Err e) is (inr f) = record { tags = ap (λ (z : World). z.tags) f.1; phase = ap (λ z. phase_of z (Node i) h) f.1 ∙ is }
+  segment_removed w v n (Err e) old is x = elim x.part [
+    | inl o ↦ absurd (segment_granted {own = own} w v i h e is_own old (subst MayClear (sym is) tt) (record { between = x.between; before = x.before; part = o }))
+    | inr f ↦
+        let left = x.before old in
+        record {
+          tags = tags_trans own w.tags x.between.tags v.tags left.tags (tags_equal own x.between.tags v.tags (ap (λ (z : World). z.tags) f.1));
+          phase = ap (λ z. phase_of z (Node i) h) f.1 ∙ left.phases i h is_own ∙ is;
+        }
+  ]
 
   -- what is there while the last one is there
   record IsStill (n : ℕ) (a : Result (Unit {0}) RemoveError) (w : World) : Type 0 where
@@ -127,29 +148,36 @@ module _ (i : ℕ) (h : ServiceHash) where
   may_end n (Err e) = tt
 
   record HasEnded (n : ℕ) (segment a : Result (Unit {0}) RemoveError) (w v : World) : Type 0 where
-    pub tags : v.tags ≡ w.tags
+    pub tags : SameTags own w.tags v.tags
     pub segment_after : SegmentAfter segment n (segment_of v h)
     pub row : RowAfter a n (row_of w h) (row_of v h)
     pub phase : phase_of v (Node i) h ≡ phase_after segment a n
 
-  ended : (w v : World) (n : ℕ) (segment a : Result (Unit {0}) RemoveError) → Agrees w → phase_of w (Node i) h ≡ last_phase segment n → IsFallibleAccess w (letter.RemoveDescription i h a) v → HasEnded n segment a w v
+  ended : (w v : World) (n : ℕ) (segment a : Result (Unit {0}) RemoveError) → Agrees w → phase_of w (Node i) h ≡ last_phase segment n → IsFallibleUnder own w (letter.RemoveDescription i h a) v → HasEnded n segment a w v
   ended w v n segment (Ok y) old is x =
       let b = granted w (letter.RemoveDescription i h (Ok y)) v (λ e. cc) x in
       let u = b.between in
-      let e = unlocking u v i h y b.own in
+      let alone = b.before old in
+      let e = unlocking u v i h y b.part in
       let st = allowed_step u v (Node i) h act.RemoveDescription e in
       let k = unlock_row (step_case (Node i) h act.RemoveDescription (phase_of u (Node i) h) (row_of u h) (segment_of u h) u.counter st.view st.is) in
-      let s = still u n segment (peers_keep b.peers old).0 (peers_phase b.peers i h ∙ is) in
+      let s = still u n segment alone.agrees (alone.phases i h is_own ∙ is) in
       record {
-        tags = step_tags u v (Node i) h act.RemoveDescription e ∙ (peers_leave b.peers).tags;
+        tags = tags_trans own w.tags u.tags v.tags alone.tags (tags_equal own u.tags v.tags (step_tags u v (Node i) h act.RemoveDescription e));
         segment_after = subst (λ z. SegmentAfter segment n z) (sym (own_segment u v (Node i) h act.RemoveDescription st ∙ k.segment)) s.segment_after;
         row = own_row u v (Node i) h act.RemoveDescription st ∙ k.row;
         phase = own_phase u v i h act.RemoveDescription st ∙ k.phase;
       }
-  ended w v n segment (Err e) old is (inl b) = absurd (description_granted w v i h e (subst MayEnd (sym is) (may_end n segment)) b)
-  ended w v n segment (Err e) old is (inr f) =
-      let s = still w n segment old is in
-      subst (λ z. HasEnded n segment (Err e) w z) (sym f.1) (record { tags = refl; segment_after = s.segment_after; row = (s.row, refl); phase = is })
+  ended w v n segment (Err e) old is x = elim x.part [
+    | inl o ↦ absurd (description_granted {own = own} w v i h e is_own old (subst MayEnd (sym is) (may_end n segment)) (record { between = x.between; before = x.before; part = o }))
+    | inr f ↦
+        let u = x.between in
+        let left = x.before old in
+        let was = still w n segment old is in
+        let now = left.phases i h is_own ∙ is in
+        let s = still u n segment left.agrees now in
+        subst (λ z. HasEnded n segment (Err e) w z) (sym f.1) (record { tags = left.tags; segment_after = s.segment_after; row = (s.row, row_stays w u h n left.later was.row s.row); phase = now })
+  ]
 
   -- from a row that was published before
   row_from : (u w v : World) (n : ℕ) (a : Result (Unit {0}) RemoveError) → Later u w → IsPublished n (row_of u h) → IsPublished n (row_of w h) → RowAfter a n (row_of w h) (row_of v h) → RowAfter a n (row_of u h) (row_of v h)
@@ -157,11 +185,11 @@ module _ (i : ℕ) (h : ServiceHash) where
   row_from u w v n (Err e) later was is k = (k.0, k.1 ∙ row_stays u w h n later was is)
 
 -- What each close leaves.
-pub close_leaves : {r : Registered} {word : List Letter} {answer : Result (Unit {0}) (CloseError Registered)} {w v : World} → IsCloseWord r word answer → ((s : Registered) → answer ≢ Err (closing.NotHere s)) → Run IsFallibleAccess w word v → Agrees w → CloseLeaves r w v word
-close_leaves not_here here run old = absurd (here _ refl)
-close_leaves {r} {w = w} {v = v} still_counted here run old =
-    let k = release_to r leave.StillCounted w v (last run) old in
-    let kept = faulty_keeps w (letter.Release r.ticket r.node r.description.hash r.number (Ok leave.StillCounted)) v (last run) old in
+pub close_leaves : {own : ℕ → Bool} {r : Registered} {word : List Letter} {answer : Result (Unit {0}) (CloseError Registered)} {w v : World} → own r.node ≡ true → IsCloseWord r word answer → ((s : Registered) → answer ≢ Err (closing.NotHere s)) → Run (IsFallibleUnder own) w word v → Agrees w → CloseLeaves own r w v word
+close_leaves is_own not_here here run old = absurd (here _ refl)
+close_leaves {own} {r = r} {w = w} {v = v} is_own still_counted here run old =
+    let k = release_to own r is_own leave.StillCounted w v (last run) old in
+    let kept = faulty_keeps {own = own} w (letter.Release r.ticket r.node r.description.hash r.number (Ok leave.StillCounted)) v (last run) old in
     let now = (kept.0.everywhere r.description.hash).joined (Node r.node) r.number (k.phase.0 - 1) k.phase.3 in
     counts_less (record {
       tickets = k.tickets;
@@ -173,18 +201,19 @@ close_leaves {r} {w = w} {v = v} still_counted here run old =
       row = row_stays w v r.description.hash r.number kept.1 k.row now.1;
       member = now.2;
     })
-close_leaves {r} {w = w} {v = v} (left tag) here run old =
+close_leaves {own} {r = r} {w = w} {v = v} is_own (left tag) here run old =
     let i = r.node in
     let h = r.description.hash in
     let first = head run in
-    let k = release_to r leave.Left w first.mid first.first old in
+    let k = release_to own r is_own leave.Left w first.mid first.first old in
+    let old_1 = (faulty_keeps {own = own} w (letter.Release r.ticket i h r.number (Ok leave.Left)) first.mid first.first old).0 in
     let x = last first.rest in
     leaves_others (record {
-      tickets = same_tickets first.mid (letter.RemoveTag i h tag) v tt x ∙ k.tickets;
-      tags = tags_after i h first.mid v tag x ∙ ap (λ s. tags_without tag s (i, h)) k.tags;
-      phase = tag_removed_phase first.mid v i h tag x ∙ k.phase;
+      tickets = tickets_trans own (map.remove w.tickets r.ticket) first.mid.tickets v.tickets k.tickets (same_tickets first.mid (letter.RemoveTag i h tag) v tt x old_1);
+      tags = tags_trans own (tags_without tag w.tags (i, h)) (tags_without tag first.mid.tags (i, h)) v.tags (tags_without_same own tag w.tags first.mid.tags (i, h) k.tags) (tags_after own i is_own h first.mid v tag x old_1);
+      phase = tag_removed_phase {own = own} first.mid v i h tag is_own old_1 x ∙ k.phase;
     })
-close_leaves {r} {w = w} {v = v} (last_left tag segment description) here run old =
+close_leaves {own} {r = r} {w = w} {v = v} is_own (last_left tag segment description) here run old =
     let i = r.node in
     let h = r.description.hash in
     let n = r.number in
@@ -192,17 +221,24 @@ close_leaves {r} {w = w} {v = v} (last_left tag segment description) here run ol
     let second = head first.rest in
     let third = head second.rest in
     let x = last third.rest in
-    let k = release_to r leave.Last w first.mid first.first old in
-    let kept_1 = faulty_keeps w (letter.Release r.ticket i h n (Ok leave.Last)) first.mid first.first old in
-    let kept_2 = faulty_keeps first.mid (letter.RemoveTag i h tag) second.mid second.first kept_1.0 in
-    let kept_3 = faulty_keeps second.mid (letter.RemoveSegment i h segment) third.mid third.first kept_2.0 in
+    let k = release_to own r is_own leave.Last w first.mid first.first old in
+    let kept_1 = faulty_keeps {own = own} w (letter.Release r.ticket i h n (Ok leave.Last)) first.mid first.first old in
+    let kept_2 = faulty_keeps {own = own} first.mid (letter.RemoveTag i h tag) second.mid second.first kept_1.0 in
+    let kept_3 = faulty_keeps {own = own} second.mid (letter.RemoveSegment i h segment) third.mid third.first kept_2.0 in
     let later = later_trans w second.mid third.mid old.everywhere (later_trans w first.mid second.mid old.everywhere kept_1.1 kept_2.1) kept_3.1 in
-    let cleared = segment_removed i h second.mid third.mid n segment (tag_removed_phase first.mid second.mid i h tag second.first ∙ k.phase) third.first in
-    let e = ended i h third.mid v n segment description kept_3.0 cleared.phase x in
+    let cleared = segment_removed own i is_own h second.mid third.mid n segment kept_2.0 (tag_removed_phase {own = own} first.mid second.mid i h tag is_own kept_1.0 second.first ∙ k.phase) third.first in
+    let e = ended own i is_own h third.mid v n segment description kept_3.0 cleared.phase x in
+    let gone = map.remove w.tickets r.ticket in
+    let without = tags_without tag w.tags (i, h) in
     leaves_nobody (record {
-      tickets = same_tickets third.mid (letter.RemoveDescription i h description) v tt x ∙ same_tickets second.mid (letter.RemoveSegment i h segment) third.mid tt third.first ∙ same_tickets first.mid (letter.RemoveTag i h tag) second.mid tt second.first ∙ k.tickets;
-      tags = e.tags ∙ cleared.tags ∙ tags_after i h first.mid second.mid tag second.first ∙ ap (λ s. tags_without tag s (i, h)) k.tags;
+      tickets = tickets_trans own gone third.mid.tickets v.tickets (tickets_trans own gone second.mid.tickets third.mid.tickets (tickets_trans own gone first.mid.tickets second.mid.tickets k.tickets
+          (same_tickets first.mid (letter.RemoveTag i h tag) second.mid tt second.first kept_1.0))
+          (same_tickets second.mid (letter.RemoveSegment i h segment) third.mid tt third.first kept_2.0))
+          (same_tickets third.mid (letter.RemoveDescription i h description) v tt x kept_3.0);
+      tags = tags_trans own without third.mid.tags v.tags (tags_trans own without second.mid.tags third.mid.tags
+          (tags_trans own without (tags_without tag first.mid.tags (i, h)) second.mid.tags (tags_without_same own tag w.tags first.mid.tags (i, h) k.tags) (tags_after own i is_own h first.mid second.mid tag second.first kept_1.0))
+          cleared.tags) e.tags;
       segment_after = e.segment_after;
-      row = row_from i h w third.mid v n description later k.row (still i h third.mid n segment kept_3.0 cleared.phase).row e.row;
+      row = row_from own i is_own h w third.mid v n description later k.row (still own i is_own h third.mid n segment kept_3.0 cleared.phase).row e.row;
       phase = e.phase;
     })

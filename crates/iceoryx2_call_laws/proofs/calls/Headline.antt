@@ -1,47 +1,47 @@
 -- What every call comes to.
-use Rattle.std.proofs.Common.{◌≡◌, List, [], ◌∷◌, Result, Ok, Err, inl, sym, subst}
+use Rattle.std.proofs.Common.{◌≡◌, ℕ, Bool, true, List, [], ◌∷◌, Result, Ok, Err, sym, ap, subst, ◌∙◌}
 use Rattle.std.specs.Prelude.{IfOk}
 use Rattle.iceoryx2_access.proofs.Run.{one, last}
-use Rattle.iceoryx2_world.specs.Peers.{IsAccess}
-use Rattle.iceoryx2_world.proofs.Runs.{run_map, refusable_map}
-use Rattle.iceoryx2_world.proofs.Waiting.{table_access}
+use Rattle.iceoryx2_world.proofs.Runs.{run_map}
+use Rattle.iceoryx2_world.proofs.Waiting.{table_access, refusable_access}
 use Rattle.iceoryx2_world.specs.Tables.{TableState, IsTableAccess}
 use Rattle.iceoryx2_script.specs.Faults.{FaultyState, IsInjectedFault}
 use Rattle.iceoryx2_script.proofs.Runs.{refusable}
 use Rattle.iceoryx2_access.specs.Registered.{Registered}
 use Rattle.iceoryx2_access.specs.Letter.{Letter}
+use Rattle.iceoryx2_access.specs.MayRefuse.{MayRefuse}
 use Rattle.iceoryx2_access.specs.Run.{Run, Each}
 use Rattle.iceoryx2_world.specs.World.{World}
+use Rattle.iceoryx2_world.specs.Access.{IsOwnPart}
 use Rattle.iceoryx2_world.specs.Across.{Agrees}
-use Rattle.iceoryx2_world.specs.Fallible.{IsFallibleAccess}
+use Rattle.iceoryx2_world.specs.Interference.{Others, After, IsAccessUnder, IsFallibleUnder}
+use Rattle.iceoryx2_world.proofs.agreement.Interference.{among_others}
 use Rattle.iceoryx2_world.specs.Standing.{Spares, Stands}
-use Rattle.iceoryx2_world.proofs.agreement.Accesses.{faulty_keeps, run_keeps}
+use Rattle.iceoryx2_world.proofs.agreement.Accesses.{faulty_keeps, run_keeps, unrefused}
 use Rattle.iceoryx2_world.proofs.agreement.Stands.{faulty_stands, older_ticket}
 use Rattle.iceoryx2_call_laws.specs.Calls.{Throughout}
 use Rattle.iceoryx2_open_or_create.specs.BuilderCalls.{BuilderCall, ErrorBy}
 use Rattle.iceoryx2_open_or_create.specs.CallWords.{IsWordOf}
 use Rattle.iceoryx2_call_laws.specs.AnyCalls.{MayCarryBy}
 use Rattle.iceoryx2_call_laws.specs.Headline.{IsOpen, IsOpenAsAsked, IsOpenSince, IsGiven, IsAsPromised, answered, spared, inside, same_world}
-use Rattle.iceoryx2_call_laws.proofs.calls.Words.{throughout, throughout_map, all_spared}
+use Rattle.iceoryx2_call_laws.proofs.calls.Words.{throughout_map, both_throughout, all_spared}
 use Rattle.iceoryx2_call_laws.proofs.calls.Standing.{stands_among, one_service}
 use Rattle.iceoryx2_call_laws.proofs.calls.AnyCalls.{Given, any_letters, any_short, any_given}
 
 is_open : (w : World) (f : Registered) → Agrees w → Stands w f → IsOpen w f
 is_open w f old s = record { stands = s; one_description = λ g t same. (one_service w g f t s same).1; among = stands_among w f old s }
 
-pub open_throughout : (w : World) (word : List Letter) (f : Registered) → Each (Spares f) word → Agrees w → Stands w f → Throughout IsFallibleAccess (λ v. IsOpen v f) w word
-open_throughout w word f each old s =
-    throughout_map IsFallibleAccess (λ v. Agrees v × Stands v f) (λ v. IsOpen v f) (λ v k. is_open v f k.0 k.1) w word (
-    throughout (λ v. Agrees v × Stands v f) (Spares f) (λ u l v spares a k. ((faulty_keeps u l v a k.0).0, faulty_stands u l v f a spares k.0 k.1)) w word each (old, s)
-    )
+pub open_throughout : (own : ℕ → Bool) (w : World) (word : List Letter) (f : Registered) → own f.node ≡ true → Each (Spares f) word → Agrees w → Stands w f → Throughout (IsFallibleUnder own) (λ v. IsOpen v f) w word
+open_throughout own w word f mine each old s =
+    throughout_map own (λ v. Agrees v × Stands v f) (λ v. IsOpen v f) (λ v k. is_open v f k.0 k.1) w word (both_throughout own w word f mine each old s)
 
--- over a storage whose accesses are accesses of its world
-module _ {S : Type 0} (step : S → Letter → S → Type 0) (world : S → World) (of_world : (s t : S) (l : Letter) → step s l t → IsFallibleAccess (world s) l (world t)) where
-  along : (P : World → Type 0) (s : S) (word : List Letter) → Throughout IsFallibleAccess P (world s) word → Throughout step (λ u. P (world u)) s word
+-- over a storage whose accesses are accesses of its world under interference
+module _ (own : ℕ → Bool) {S : Type 0} (step : S → Letter → S → Type 0) (world : S → World) (of_world : (s t : S) (l : Letter) → step s l t → IsFallibleUnder own (world s) l (world t)) where
+  along : (P : World → Type 0) (s : S) (word : List Letter) → Throughout (IsFallibleUnder own) P (world s) word → Throughout step (λ u. P (world u)) s word
   along P s [] p = p
   along P s (l ∷ word) p = (p.0, λ u a. along P u word (p.1 (world u) (of_world s u l a)))
 
-  module _ {D E C : Type 0} (c : BuilderCall D E C) where
+  module _ {D E C : Type 0} (c : BuilderCall D E C) (mine : own c.caller.node ≡ true) where
     gives : (s t : S) (answer : Result Registered (ErrorBy E C c.way)) → Agrees (world s) → Agrees (world t) → IfOk answer (Given c c.way (world s) (world t)) → IfOk answer (IsGiven step world c s t)
     gives s t (Err e) old new g = tt
     gives s t (Ok r) old new g = record {
@@ -50,22 +50,22 @@ module _ {S : Type 0} (step : S → Letter → S → Type 0) (world : S → Worl
       carries = g.carries;
       ticket = g.ticket;
       new_ticket = λ f stood. older_ticket (world s) f r.ticket old stood g.ticket;
-      stays_open = λ more spares. along (λ u. IsOpen u r) t more (open_throughout (world t) more r spares new g.stands);
+      stays_open = λ more spares. along (λ u. IsOpen u r) t more (open_throughout own (world t) more r (ap own g.node ∙ mine) spares new g.stands);
     }
 
-    pub as_promised : {s t : S} (word : List Letter) (answer : Result Registered (ErrorBy E C c.way)) → IsWordOf c word answer → Run step s word t → Agrees (world s) → IsAsPromised step world c s word answer t
+    pub as_promised : {s t : S} (word : List Letter) (answer : Result Registered (ErrorBy E C c.way)) → IsWordOf c word answer → Run step s word t → Agrees (world s) → IsAsPromised step world c own s word answer t
     as_promised {s} {t} word answer is run old =
-        let worlds : Run IsFallibleAccess (world s) word (world t) = run_map world of_world run in
+        let worlds : Run (IsFallibleUnder own) (world s) word (world t) = run_map world of_world run in
         let new = (run_keeps worlds old).0 in
         record {
           counts = any_short c word answer is;
-          stay_open = λ f stood. along (λ u. IsOpen u f) s word (open_throughout (world s) word f (all_spared f word (any_letters c word answer is)) old stood);
+          stay_open = λ f own_node stood. along (λ u. IsOpen u f) s word (open_throughout own (world s) word f own_node (all_spared f word (any_letters c word answer is)) old stood);
           given = gives s t answer old new (any_given c (world s) (world t) word answer is worlds old);
           agrees = new;
         }
 
 -- Every open factory stands.
-module _ {S : Type 0} (step : S → Letter → S → Type 0) (world : S → World) (of_world : (s t : S) (l : Letter) → step s l t → IsFallibleAccess (world s) l (world t)) {D E C : Type 0} (c : BuilderCall D E C) where
+module _ (own : ℕ → Bool) {S : Type 0} (step : S → Letter → S → Type 0) (world : S → World) (of_world : (s t : S) (l : Letter) → step s l t → IsFallibleUnder own (world s) l (world t)) {D E C : Type 0} (c : BuilderCall D E C) (mine : own c.caller.node ≡ true) where
   record StillOpen (f : Registered) (s : S) : Type 0 where
     pub agrees : Agrees (world s)
     pub stands : Stands (world s) f
@@ -73,18 +73,18 @@ module _ {S : Type 0} (step : S → Letter → S → Type 0) (world : S → Worl
     pub hash : f.description.hash ≡ c.caller.hash
     pub carries : MayCarryBy c c.way f.description
 
-  goes_on : {f : Registered} (l : Letter) (s t : S) → Spares f l → IsFallibleAccess (world s) l (world t) → StillOpen f s → StillOpen f t
+  goes_on : {f : Registered} (l : Letter) (s t : S) → Spares f l → IsFallibleUnder own (world s) l (world t) → StillOpen f s → StillOpen f t
   goes_on {f} l s t spares a o = record {
-    agrees = (faulty_keeps (world s) l (world t) a o.agrees).0;
-    stands = faulty_stands (world s) l (world t) f a spares o.agrees o.stands;
+    agrees = (faulty_keeps {own = own} (world s) l (world t) a o.agrees).0;
+    stands = faulty_stands {own = own} (world s) l (world t) f (ap own o.node ∙ mine) a spares o.agrees o.stands;
     node = o.node;
     hash = o.hash;
     carries = o.carries;
   }
 
-  still_open : {f : Registered} {s : S} → IsOpenSince step world c f s → StillOpen f s
+  still_open : {f : Registered} {s : S} → IsOpenSince step world c own f s → StillOpen f s
   still_open {f} (answered {word = word} {s = s} {t = t} old is run) =
-      let worlds : Run IsFallibleAccess (world s) word (world t) = run_map world of_world run in
+      let worlds : Run (IsFallibleUnder own) (world s) word (world t) = run_map world of_world run in
       let g = any_given c (world s) (world t) word (Ok f) is worlds old in
       record { agrees = (run_keeps worlds old).0; stands = g.stands; node = g.node; hash = g.hash; carries = g.carries }
   still_open (spared {letter = l} {s = s} {t = t} before spares a) = goes_on l s t spares (of_world s t l a) (still_open before)
@@ -98,12 +98,18 @@ module _ {S : Type 0} (step : S → Letter → S → Type 0) (world : S → Worl
         carries = o.carries;
       }
 
-  pub open_as_asked : {f : Registered} {s : S} → IsOpenSince step world c f s → IsOpenAsAsked c (world s) f
+  pub open_as_asked : {f : Registered} {s : S} → IsOpenSince step world c own f s → IsOpenAsAsked c (world s) f
   open_as_asked {f} {s} is = let o = still_open is in record { is_open = is_open (world s) f o.agrees o.stands; node = o.node; hash = o.hash; carries = o.carries }
 
 -- a table's accesses, and those of a faulty storage with a table inside
-pub of_table : (s t : TableState) (l : Letter) → IsTableAccess s l t → IsFallibleAccess s.world l t.world
-of_table s t l a = inl (table_access s t l a)
+pub table_accesses : (own : ℕ → Bool) {s t : TableState} {word : List Letter} → Run IsTableAccess s word t → Run (IsAccessUnder own) s.world word t.world
+table_accesses own run = run_map (λ u. u.world) (λ s t l a. among_others own s.world l t.world (table_access s t l a)) run
 
-pub of_faulty_table : (s t : FaultyState TableState) (l : Letter) → IsInjectedFault IsTableAccess s l t → IsFallibleAccess s.inner.world l t.inner.world
-of_faulty_table s t l a = refusable_map IsTableAccess IsAccess (λ u. u.world) table_access s.inner t.inner l (last (refusable (one a)))
+pub of_table : (own : ℕ → Bool) (s t : TableState) (l : Letter) → IsTableAccess s l t → IsFallibleUnder own s.world l t.world
+of_table own s t l a = unrefused (among_others own s.world l t.world (table_access s t l a))
+
+pub faulty_access : (own : ℕ → Bool) (s t : FaultyState TableState) (l : Letter) → IsInjectedFault IsTableAccess s l t → After (Others own) (MayRefuse IsOwnPart) s.inner.world l t.inner.world
+faulty_access own s t l a = refusable_access s.inner t.inner l (last (refusable (one a)))
+
+pub of_faulty_table : (own : ℕ → Bool) (s t : FaultyState TableState) (l : Letter) → IsInjectedFault IsTableAccess s l t → IsFallibleUnder own s.inner.world l t.inner.world
+of_faulty_table own s t l a = among_others own s.inner.world l t.inner.world (faulty_access own s t l a)

@@ -1,12 +1,12 @@
 -- An open that answers Ok.
-use Rattle.std.proofs.Common.{◌≡◌, ℕ, ◌≤◌, ◌∷◌, [], List, Ok, None, refl, arith}
+use Rattle.std.proofs.Common.{◌≡◌, ℕ, ◌≤◌, Bool, ◌∷◌, [], List, Ok, None, refl, arith}
 use Rattle.iceoryx2_description.specs.declared.description.ServiceHash.{ServiceHash}
 use Rattle.iceoryx2_world.specs.World.{World}
 use Rattle.iceoryx2_access.specs.Letter.{Letter}
 use Rattle.iceoryx2_access.specs.Letter as letter
 use Rattle.iceoryx2_access.specs.Run.{Run}
 use Rattle.iceoryx2_world.specs.Across.{Agrees}
-use Rattle.iceoryx2_world.specs.Fallible.{IsFallibleAccess}
+use Rattle.iceoryx2_world.specs.Interference.{IsFallibleUnder}
 use Rattle.iceoryx2_world.specs.Standing.{Stands}
 use Rattle.iceoryx2_access.proofs.Run.{split, head}
 use Rattle.iceoryx2_world.proofs.agreement.Accesses.{run_keeps, faulty_keeps}
@@ -26,8 +26,8 @@ pub record IsOpened {E C : Type 0} (m : Meaning E C) (node : ℕ) (hash : Servic
   pub accepted : verdict (m.requirement r.description) ≡ Ok tt
   pub new_ticket : w.counter ≤ r.ticket
 
-module _ {E C : Type 0} {m : Meaning E C} {node : ℕ} {hash : ServiceHash} where
-  round_stands : {word : List Letter} {r : Registered} {w v : World} → IsLastRound m node hash word (Ok r) → Run IsFallibleAccess w word v → Agrees w → IsOpened m node hash r w v
+module _ {own : ℕ → Bool} {E C : Type 0} {m : Meaning E C} {node : ℕ} {hash : ServiceHash} where
+  round_stands : {word : List Letter} {r : Registered} {w v : World} → IsLastRound m node hash word (Ok r) → Run (IsFallibleUnder own) w word v → Agrees w → IsOpened m node hash r w v
   round_stands {w = w} {v = v} (opened {n = n} {d = d} t (ready tag (fetched {there} may (fits {bytes = b} form same misfit)) accepted)) run old =
       let first = head run in
       let looked = faulty_keeps w (letter.Exists hash there) first.mid first.first old in
@@ -41,7 +41,7 @@ module _ {E C : Type 0} {m : Meaning E C} {node : ℕ} {hash : ServiceHash} wher
         new_ticket = grind (arith, looked.1.counter, new.1);
       }
 
-  pub open_stands : {word : List Letter} {r : Registered} {w v : World} → IsOpenWord m node hash word (Ok r) → Run IsFallibleAccess w word v → Agrees w → IsOpened m node hash r w v
+  pub open_stands : {word : List Letter} {r : Registered} {w v : World} → IsOpenWord m node hash word (Ok r) → Run (IsFallibleUnder own) w word v → Agrees w → IsOpened m node hash r w v
   open_stands {r} {v = z} (ended {u = x} {v = y} small before round) run old =
       let first = split x y run in
       let rounds = run_keeps first.first old in

@@ -1,5 +1,5 @@
 -- What the rounds of a refused open or create leave.
-use Rattle.std.proofs.Common.{ℕ, true, false, inl, List, Ok, Err, refl, ◌∙◌, arith}
+use Rattle.std.proofs.Common.{ℕ, true, false, inl, List, Ok, Err, refl, arith, ◌≡◌, Bool}
 use Rattle.iceoryx2_description.specs.declared.description.ServiceHash.{ServiceHash}
 use Rattle.iceoryx2_access.specs.Letter.{Letter}
 use Rattle.iceoryx2_access.specs.Letter as letter
@@ -8,10 +8,9 @@ use Rattle.iceoryx2_access.proofs.Run.{both, split}
 use Rattle.iceoryx2_world.specs.World.{World}
 use Rattle.iceoryx2_world.specs.Across.{Agrees}
 use Rattle.iceoryx2_world.specs.Agreement.{IsSpent}
-use Rattle.iceoryx2_world.specs.Peers.{IsAccess}
-use Rattle.iceoryx2_world.specs.Fallible.{IsFallibleAccess}
-use Rattle.iceoryx2_world.proofs.agreement.Accesses.{faulty_keeps, run_keeps, with_refusals}
-use Rattle.iceoryx2_world.proofs.agreement.Spent.{spent_access}
+use Rattle.iceoryx2_world.specs.Interference.{IsAccessUnder, IsFallibleUnder}
+use Rattle.iceoryx2_world.proofs.agreement.Interference.{tickets_refl, tickets_trans, tags_trans, spent_access}
+use Rattle.iceoryx2_world.proofs.agreement.Accesses.{faulty_keeps, run_keeps, unrefused_run}
 use Rattle.iceoryx2_world.proofs.agreement.Stands.{each_append, each_map}
 use Rattle.iceoryx2_create_and_open.specs.TracksOwned.{OwnedLock, NoLock, Locked, WithSegment, GivenBack, HasService}
 use Rattle.iceoryx2_open_or_create.specs.Leaves as rounds
@@ -21,18 +20,18 @@ use Rattle.iceoryx2_call_laws.proofs.calls.Left.{gives_back, gives_all_back, sta
 use Rattle.iceoryx2_call_laws.proofs.calls.Plain.{read_both, row_stays_away}
 
 -- a number that is spent stays so
-spent_run : {w v : World} {word : List Letter} (h : ServiceHash) (n : ℕ) → Run IsFallibleAccess w word v → Agrees w → IsSpent w h n → IsSpent v h n
+spent_run : {own : ℕ → Bool} {w v : World} {word : List Letter} (h : ServiceHash) (n : ℕ) → Run (IsFallibleUnder own) w word v → Agrees w → IsSpent w h n → IsSpent v h n
 spent_run h n done old is = is
 spent_run {w = w} h n (next {mid = u} {letter = l} s rest) old is = spent_run h n rest (faulty_keeps w l u s old).0 (spent_access w l u h n s old is)
 
-spends_on : {w v : World} {word : List Letter} (h : ServiceHash) → Run IsFallibleAccess w word v → Agrees w → (l : Letter) → SpendsNumber h w l → SpendsNumber h v l
+spends_on : {own : ℕ → Bool} {w v : World} {word : List Letter} (h : ServiceHash) → Run (IsFallibleUnder own) w word v → Agrees w → (l : Letter) → SpendsNumber h w l → SpendsNumber h v l
 spends_on h run old (letter.Lock i g (Ok n)) is = spent_run h n run old is
 spends_on h run old (letter.Lock i g (Err e)) is = tt
 spends_on h run old _ is = tt
 
-module _ (node : ℕ) (hash : ServiceHash) where
+module _ (own : ℕ → Bool) (node : ℕ) (mine : own node ≡ true) (hash : ServiceHash) where
   -- what was given back of a lock stays away
-  away_on : (k : OwnedLock) {w v : World} {word : List Letter} → Run IsFallibleAccess w word v → Agrees w → StaysAway node hash k w → StaysAway node hash k v
+  away_on : (k : OwnedLock) {w v : World} {word : List Letter} → Run (IsFallibleUnder own) w word v → Agrees w → StaysAway node hash k w → StaysAway node hash k v
   away_on (GivenBack n false false) run old is = spent_run hash n run old is
   away_on (GivenBack n false true) {w} {v} run old is = let later = (run_keeps run old).1 in (grind (arith, later.counter, is.0), row_stays_away w v hash n later is.0 is.1)
   away_on (GivenBack n true l) run old is = tt
@@ -41,30 +40,30 @@ module _ (node : ℕ) (hash : ServiceHash) where
   away_on (WithSegment n) run old is = tt
   away_on (HasService n) run old is = tt
 
-  leaves_before : {word rest : List Letter} {w v end : World} → GivesBackByRounds node hash word → Run IsFallibleAccess w word v → Run IsFallibleAccess v rest end → Agrees w → LeavesByRounds node hash w end word v
+  leaves_before : {word rest : List Letter} {w v end : World} → GivesBackByRounds node hash word → Run (IsFallibleUnder own) w word v → Run (IsFallibleUnder own) v rest end → Agrees w → LeavesByRounds node hash own w end word v
   leaves_before rounds.no_round done more old = no_round
   leaves_before (rounds.one_more {u = x} {v = y} before g) run more old =
       let parts = split x y run in
       let mid = (run_keeps parts.first old).0 in
-      one_more (leaves_before before parts.first (both parts.second more) old) parts.second g (gives_back node hash g parts.second mid)
-      (away_on g.lock more (run_keeps run old).0 (stays_away node hash g parts.second mid))
+      one_more (leaves_before before parts.first (both parts.second more) old) parts.second g (gives_back own node mine hash g parts.second mid)
+      (away_on g.lock more (run_keeps run old).0 (stays_away own node mine hash g parts.second mid))
 
-  pub leaves_by_rounds : {word : List Letter} {w v : World} → GivesBackByRounds node hash word → Run IsFallibleAccess w word v → Agrees w → LeavesByRounds node hash w v word v
+  pub leaves_by_rounds : {word : List Letter} {w v : World} → GivesBackByRounds node hash word → Run (IsFallibleUnder own) w word v → Agrees w → LeavesByRounds node hash own w v word v
   leaves_by_rounds back run old = leaves_before back run done old
 
   -- Where nothing is refused by a fault, each removal is granted, and nothing stays.
-  pub rounds_give_back : {word : List Letter} {w v : World} → GivesBackByRounds node hash word → Run IsAccess w word v → Agrees w → Each IsGranted word × LeavesNothing node hash word w v
-  rounds_give_back rounds.no_round done old = (tt, record { tickets = refl; tags = refl; phase = inl refl; numbers = tt })
-  rounds_give_back {v = v} (rounds.one_more {u = x} {v = y} before g) run old =
+  pub rounds_give_back : {word : List Letter} {w v : World} → GivesBackByRounds node hash word → Run (IsAccessUnder own) w word v → Agrees w → Each IsGranted word × LeavesNothing node hash own word w v
+  rounds_give_back {w = w} rounds.no_round done old = (tt, record { tickets = tickets_refl own w.tickets; tags = λ i h is. refl; phase = inl refl; numbers = tt })
+  rounds_give_back {w = w} {v = v} (rounds.one_more {u = x} {v = y} before g) run old =
       let parts = split x y run in
-      let mid = (run_keeps (with_refusals parts.first) old).0 in
+      let mid = (run_keeps (unrefused_run parts.first) old).0 in
       let first = rounds_give_back before parts.first old in
-      let second = gives_all_back node hash g parts.second mid in (
+      let second = gives_all_back own node mine hash g parts.second mid in (
         each_append IsGranted x y first.0 second.0,
         record {
-          tickets = second.1.tickets ∙ first.1.tickets;
-          tags = second.1.tags ∙ first.1.tags;
+          tickets = tickets_trans own w.tickets parts.mid.tickets v.tickets first.1.tickets second.1.tickets;
+          tags = tags_trans own w.tags parts.mid.tags v.tags first.1.tags second.1.tags;
           phase = read_both first.1.phase second.1.phase;
-          numbers = each_append (SpendsNumber hash v) x y (each_map (SpendsNumber hash parts.mid) (SpendsNumber hash v) (spends_on hash (with_refusals parts.second) mid) x first.1.numbers) second.1.numbers;
+          numbers = each_append (SpendsNumber hash v) x y (each_map (SpendsNumber hash parts.mid) (SpendsNumber hash v) (spends_on hash (unrefused_run parts.second) mid) x first.1.numbers) second.1.numbers;
         },
       )

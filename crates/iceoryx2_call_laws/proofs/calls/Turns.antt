@@ -1,5 +1,5 @@
 -- What is so of the rounds of an open or create, and of a whole one.
-use Rattle.std.proofs.Common.{◌≡◌, ℕ, ◌≤◌, false, List, ◌++◌, Result, Ok, Err, refl, ap, ◌∙◌, arith}
+use Rattle.std.proofs.Common.{◌≡◌, ℕ, ◌≤◌, Bool, false, List, ◌++◌, Result, Ok, Err, refl, arith, true}
 use Rattle.std.specs.FinMap as map
 use Rattle.iceoryx2_access.specs.Registered.{Registered}
 use Rattle.iceoryx2_access.specs.Letter.{Letter}
@@ -7,7 +7,7 @@ use Rattle.iceoryx2_access.specs.Run.{Run, Each}
 use Rattle.iceoryx2_access.proofs.Run.{split}
 use Rattle.iceoryx2_world.specs.World.{World}
 use Rattle.iceoryx2_world.specs.Across.{Agrees}
-use Rattle.iceoryx2_world.specs.Fallible.{IsFallibleAccess}
+use Rattle.iceoryx2_world.specs.Interference.{IsFallibleUnder, SameTickets}
 use Rattle.iceoryx2_world.specs.Standing.{Stands, ticket_for}
 use Rattle.iceoryx2_world.proofs.agreement.Accesses.{run_keeps}
 use Rattle.iceoryx2_world.proofs.agreement.Calm.{Tame, ends, tame_both}
@@ -21,7 +21,7 @@ use Rattle.iceoryx2_call_laws.proofs.calls.Words.{IsNoRelease, look_letters, cre
 use Rattle.iceoryx2_call_laws.proofs.calls.Calm.{calm_at_each, look_tame, create_tame, open_tame, creates_after, opens_after}
 use Rattle.iceoryx2_call_laws.proofs.calls.Created.{create_stands}
 use Rattle.iceoryx2_call_laws.proofs.calls.Opened.{open_stands}
-use Rattle.iceoryx2_call_laws.proofs.calls.Tickets.{tame_tickets, create_tickets, open_tickets}
+use Rattle.iceoryx2_call_laws.proofs.calls.Tickets.{then_put, tame_tickets, create_tickets, open_tickets}
 
 -- of one round
 module _ {D E C : Type 0} {c : BuilderCall D E C} where
@@ -45,11 +45,11 @@ module _ {D E C : Type 0} {c : BuilderCall D E C} where
   last_tame (not_opened l o _) = tame_both (look_tame l) (open_tame o)
   last_tame (not_created l m _) = tame_both (look_tame l) (create_tame m)
 
-  turn_changes : {x y : List Letter} {r : Registered} (w : World) → Tame c.caller.node c.caller.hash false x false → IsLastTurn c y (Ok r) → Agrees w → ChangesLast c.caller.node c.caller.hash w (x ++ y)
-  turn_changes {x} w before (opened {u} {v} l o) old = opens_after x u v w (tame_both before (look_tame l)) o old
-  turn_changes {x} w before (created {u} {v} l m) old = creates_after x u v w (tame_both before (look_tame l)) m old
+  turn_changes : (nodes : ℕ → Bool) → nodes c.caller.node ≡ true → {x y : List Letter} {r : Registered} (w : World) → Tame c.caller.node c.caller.hash false x false → IsLastTurn c y (Ok r) → Agrees w → ChangesLast nodes c.caller.node c.caller.hash w (x ++ y)
+  turn_changes nodes mine {x} w before (opened {u} {v} l o) old = opens_after nodes mine x u v w (tame_both before (look_tame l)) o old
+  turn_changes nodes mine {x} w before (created {u} {v} l m) old = creates_after nodes mine x u v w (tame_both before (look_tame l)) m old
 
-  turn_stands : {word : List Letter} {r : Registered} {w v : World} → IsLastTurn c word (Ok r) → Run IsFallibleAccess w word v → Agrees w → Stands v r × (w.counter ≤ r.ticket)
+  turn_stands : {own : ℕ → Bool} {word : List Letter} {r : Registered} {w v : World} → IsLastTurn c word (Ok r) → Run (IsFallibleUnder own) w word v → Agrees w → Stands v r × (w.counter ≤ r.ticket)
   turn_stands (opened {u = x} {v = y} l o) run old =
       let parts = split x y run in
       let looked = run_keeps parts.first old in
@@ -61,13 +61,13 @@ module _ {D E C : Type 0} {c : BuilderCall D E C} where
       let new = create_stands m parts.second looked.0 in
       (new.0, grind (arith, looked.1.counter, new.3))
 
-  turn_tickets : {word : List Letter} {r : Registered} {w v : World} → IsLastTurn c word (Ok r) → Run IsFallibleAccess w word v → v.tickets ≡ map.insert w.tickets r.ticket (ticket_for r)
-  turn_tickets {r} (opened {u = x} {v = y} l o) run =
+  turn_tickets : {own : ℕ → Bool} {word : List Letter} {r : Registered} {w v : World} → IsLastTurn c word (Ok r) → Run (IsFallibleUnder own) w word v → Agrees w → SameTickets own (map.insert w.tickets r.ticket (ticket_for r)) v.tickets
+  turn_tickets {own} {r = r} {w = w} {v = v} (opened {u = x} {v = y} l o) run old =
       let parts = split x y run in
-      open_tickets (Ok r) o parts.second ∙ ap (λ k. map.insert k r.ticket (ticket_for r)) (tame_tickets {b = false} (look_tame l) parts.first)
-  turn_tickets {r} (created {u = x} {v = y} l m) run =
+      then_put w parts.mid v r.ticket (ticket_for r) (tame_tickets {b = false} (look_tame l) parts.first old) (open_tickets (Ok r) o parts.second (run_keeps {own = own} parts.first old).0)
+  turn_tickets {own} {r = r} {w = w} {v = v} (created {u = x} {v = y} l m) run old =
       let parts = split x y run in
-      create_tickets (Ok r) refl m parts.second ∙ ap (λ k. map.insert k r.ticket (ticket_for r)) (tame_tickets {b = false} (look_tame l) parts.first)
+      then_put w parts.mid v r.ticket (ticket_for r) (tame_tickets {b = false} (look_tame l) parts.first old) (create_tickets (Ok r) refl m parts.second (run_keeps {own = own} parts.first old).0)
 
 -- and of all
 module _ {D E C : Type 0} {c : BuilderCall D E C} where
@@ -87,24 +87,24 @@ module _ {D E C : Type 0} {c : BuilderCall D E C} where
   open_or_create_tame (ended small before t) = tame_both (turns_tame before) (last_tame t)
   open_or_create_tame (in_flux before) = turns_tame before
 
-  pub refused_open_or_create_calm : {word : List Letter} {refusal : OpenOrCreateRefusal E C} (w : World) → IsOpenOrCreateWord c word (Err refusal) → Agrees w → AtEach IsFallibleAccess ActsCalmly w word
-  refused_open_or_create_calm w is old = calm_at_each w (open_or_create_tame is) tt old
+  pub refused_open_or_create_calm : (nodes : ℕ → Bool) → nodes c.caller.node ≡ true → {word : List Letter} {refusal : OpenOrCreateRefusal E C} (w : World) → IsOpenOrCreateWord c word (Err refusal) → Agrees w → AtEach (IsFallibleUnder nodes) (ActsCalmly nodes) w word
+  refused_open_or_create_calm nodes mine w is old = calm_at_each nodes mine w (open_or_create_tame is) tt old
 
-  pub granted_open_or_create_changes : {word : List Letter} {r : Registered} (w : World) → IsOpenOrCreateWord c word (Ok r) → Agrees w → ChangesLast c.caller.node c.caller.hash w word
-  granted_open_or_create_changes w (ended small before t) old = turn_changes w (turns_tame before) t old
+  pub granted_open_or_create_changes : (nodes : ℕ → Bool) → nodes c.caller.node ≡ true → {word : List Letter} {r : Registered} (w : World) → IsOpenOrCreateWord c word (Ok r) → Agrees w → ChangesLast nodes c.caller.node c.caller.hash w word
+  granted_open_or_create_changes nodes mine w (ended small before t) old = turn_changes nodes mine w (turns_tame before) t old
 
-  pub open_or_create_stands : {word : List Letter} {r : Registered} {w v : World} → IsOpenOrCreateWord c word (Ok r) → Run IsFallibleAccess w word v → Agrees w → Stands v r × (w.counter ≤ r.ticket)
+  pub open_or_create_stands : {own : ℕ → Bool} {word : List Letter} {r : Registered} {w v : World} → IsOpenOrCreateWord c word (Ok r) → Run (IsFallibleUnder own) w word v → Agrees w → Stands v r × (w.counter ≤ r.ticket)
   open_or_create_stands (ended {u = x} {v = y} small before t) run old =
       let parts = split x y run in
       let turns = run_keeps parts.first old in
       let new = turn_stands t parts.second turns.0 in
       (new.0, grind (arith, turns.1.counter, new.1))
 
-  granted_tickets : {word : List Letter} {r : Registered} {w v : World} → IsOpenOrCreateWord c word (Ok r) → Run IsFallibleAccess w word v → v.tickets ≡ map.insert w.tickets r.ticket (ticket_for r)
-  granted_tickets {r} (ended {u = x} {v = y} small before t) run =
+  granted_tickets : {own : ℕ → Bool} {word : List Letter} {r : Registered} {w v : World} → IsOpenOrCreateWord c word (Ok r) → Run (IsFallibleUnder own) w word v → Agrees w → SameTickets own (map.insert w.tickets r.ticket (ticket_for r)) v.tickets
+  granted_tickets {own} {r = r} {w = w} {v = v} (ended {u = x} {v = y} small before t) run old =
       let parts = split x y run in
-      turn_tickets t parts.second ∙ ap (λ k. map.insert k r.ticket (ticket_for r)) (tame_tickets (turns_tame before) parts.first)
+      then_put w parts.mid v r.ticket (ticket_for r) (tame_tickets (turns_tame before) parts.first old) (turn_tickets t parts.second (run_keeps {own = own} parts.first old).0)
 
-  pub open_or_create_tickets : {word : List Letter} (answer : Result Registered (OpenOrCreateRefusal E C)) {w v : World} → IsOpenOrCreateWord c word answer → Run IsFallibleAccess w word v → v.tickets ≡ tickets_after w.tickets answer
-  open_or_create_tickets (Ok r) is run = granted_tickets is run
-  open_or_create_tickets (Err e) is run = tame_tickets (open_or_create_tame is) run
+  pub open_or_create_tickets : {own : ℕ → Bool} {word : List Letter} (answer : Result Registered (OpenOrCreateRefusal E C)) {w v : World} → IsOpenOrCreateWord c word answer → Run (IsFallibleUnder own) w word v → Agrees w → SameTickets own (tickets_after w.tickets answer) v.tickets
+  open_or_create_tickets (Ok r) is run old = granted_tickets is run old
+  open_or_create_tickets (Err e) is run old = tame_tickets (open_or_create_tame is) run old

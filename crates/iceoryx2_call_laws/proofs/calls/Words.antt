@@ -1,5 +1,5 @@
 -- What the accesses of a call have in common.
-use Rattle.std.proofs.Common.{◌≡◌, ◌≢◌, ℕ, zero, suc, Bool, List, [], ◌∷◌, Result, Ok, Err, refl, sym, arith}
+use Rattle.std.proofs.Common.{◌≡◌, ◌≢◌, ℕ, zero, suc, Bool, true, List, [], ◌∷◌, Result, Ok, Err, refl, sym, arith}
 use Rattle.iceoryx2_description.specs.declared.description.ServiceHash.{ServiceHash}
 use Rattle.iceoryx2_description.specs.Description.{Description}
 use Rattle.iceoryx2_world.specs.World.{World}
@@ -7,7 +7,7 @@ use Rattle.iceoryx2_access.specs.Letter.{Letter}
 use Rattle.iceoryx2_access.specs.Letter as letter
 use Rattle.iceoryx2_world.specs.Agreement.{Later}
 use Rattle.iceoryx2_world.specs.Across.{Agrees}
-use Rattle.iceoryx2_world.specs.Fallible.{IsFallibleAccess}
+use Rattle.iceoryx2_world.specs.Interference.{IsFallibleUnder}
 use Rattle.iceoryx2_access.specs.Registered.{Registered}
 use Rattle.iceoryx2_world.specs.Standing.{Stands, Spares}
 use Rattle.iceoryx2_access.specs.Run.{Each}
@@ -33,15 +33,6 @@ use Rattle.iceoryx2_port_factory.specs.Closes.{IsCloseWord, not_here, still_coun
 use Rattle.iceoryx2_port_factory.proofs.HandedBack.{removed_here}
 use Rattle.iceoryx2_call_laws.specs.Calls.{Throughout}
 
--- what each access keeps is true throughout
-pub throughout : (P : World → Type 0) (I : Letter → Type 0) → ((u : World) (l : Letter) (v : World) → I l → IsFallibleAccess u l v → P u → P v) → (w : World) (word : List Letter) → Each I word → P w → Throughout IsFallibleAccess P w word
-throughout P I keeps w [] each p = p
-throughout P I keeps w (l ∷ word) each p = (p, λ v s. throughout P I keeps v word each.1 (keeps w l v each.0 s p))
-
-pub throughout_map : (step : World → Letter → World → Type 0) (P Q : World → Type 0) → ((v : World) → P v → Q v) → (w : World) (word : List Letter) → Throughout step P w word → Throughout step Q w word
-throughout_map step P Q f w [] t = f w t
-throughout_map step P Q f w (l ∷ word) t = (f w t.0, λ v s. throughout_map step P Q f v word (t.1 v s))
-
 abbrev pub IsAny : Letter → Type 0
 IsAny l = Unit {0}
 
@@ -49,16 +40,26 @@ any : (word : List Letter) → Each IsAny word
 any [] = tt
 any (l ∷ word) = (tt, any word)
 
--- the agreement
-pub agrees_throughout : (w : World) (word : List Letter) → Agrees w → Throughout IsFallibleAccess (λ v. Agrees v × Later w v) w word
-agrees_throughout w word old = throughout (λ v. Agrees v × Later w v) IsAny (λ u l v _ s k. let one = faulty_keeps u l v s k.0 in (one.0, later_trans w u v old.everywhere k.1 one.1)) w word (any word) (old, later_refl w)
+module _ (own : ℕ → Bool) where
+  -- what each access keeps is true throughout
+  throughout : (P : World → Type 0) (I : Letter → Type 0) → ((u : World) (l : Letter) (v : World) → I l → IsFallibleUnder own u l v → P u → P v) → (w : World) (word : List Letter) → Each I word → P w → Throughout (IsFallibleUnder own) P w word
+  throughout P I keeps w [] each p = p
+  throughout P I keeps w (l ∷ word) each p = (p, λ v s. throughout P I keeps v word each.1 (keeps w l v each.0 s p))
 
--- and a factory
-pub stands_throughout : (w : World) (word : List Letter) (f : Registered) → Each (Spares f) word → Agrees w → Stands w f → Throughout IsFallibleAccess (λ v. Stands v f) w word
-stands_throughout w word f each old s =
-    throughout_map IsFallibleAccess (λ v. Agrees v × Stands v f) (λ v. Stands v f) (λ v k. k.1) w word (
-    throughout (λ v. Agrees v × Stands v f) (Spares f) (λ u l v spares a k. ((faulty_keeps u l v a k.0).0, faulty_stands u l v f a spares k.0 k.1)) w word each (old, s)
-    )
+  pub throughout_map : (P Q : World → Type 0) → ((v : World) → P v → Q v) → (w : World) (word : List Letter) → Throughout (IsFallibleUnder own) P w word → Throughout (IsFallibleUnder own) Q w word
+  throughout_map P Q f w [] t = f w t
+  throughout_map P Q f w (l ∷ word) t = (f w t.0, λ v s. throughout_map P Q f v word (t.1 v s))
+
+  -- the agreement
+  pub agrees_throughout : (w : World) (word : List Letter) → Agrees w → Throughout (IsFallibleUnder own) (λ v. Agrees v × Later w v) w word
+  agrees_throughout w word old = throughout (λ v. Agrees v × Later w v) IsAny (λ u l v _ s k. let one = faulty_keeps {own = own} u l v s k.0 in (one.0, later_trans w u v old.everywhere k.1 one.1)) w word (any word) (old, later_refl w)
+
+  -- and a factory of an own node
+  pub both_throughout : (w : World) (word : List Letter) (f : Registered) → own f.node ≡ true → Each (Spares f) word → Agrees w → Stands w f → Throughout (IsFallibleUnder own) (λ v. Agrees v × Stands v f) w word
+  both_throughout w word f mine each old s = throughout (λ v. Agrees v × Stands v f) (Spares f) (λ u l v spares a k. ((faulty_keeps {own = own} u l v a k.0).0, faulty_stands {own = own} u l v f mine a spares k.0 k.1)) w word each (old, s)
+
+  pub stands_throughout : (w : World) (word : List Letter) (f : Registered) → own f.node ≡ true → Each (Spares f) word → Agrees w → Stands w f → Throughout (IsFallibleUnder own) (λ v. Stands v f) w word
+  stands_throughout w word f mine each old s = throughout_map (λ v. Agrees v × Stands v f) (λ v. Stands v f) (λ v k. k.1) w word (both_throughout w word f mine each old s)
 
 -- the letters of a create and of an open: none releases a ticket
 abbrev pub IsNoRelease : Letter → Type 0
