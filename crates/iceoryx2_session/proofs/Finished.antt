@@ -8,6 +8,7 @@ use Rattle.iceoryx2_description.specs.declared.description.ServiceHash.{ServiceH
 use Rattle.iceoryx2_world.specs.Tables.{TableState, IsTableAccess}
 use Rattle.iceoryx2_world.proofs.Waiting.{idle_run}
 use Rattle.iceoryx2_world.specs.Across.{Agrees}
+use Rattle.iceoryx2_world.specs.Interference.{everyone}
 use Rattle.iceoryx2_world.specs.World.{ticket_of}
 use Rattle.iceoryx2_access.specs.Run.{Joins, done, next}
 use Rattle.iceoryx2_access.specs.Registered.{Registered}
@@ -51,7 +52,7 @@ past_taken config u v f slots agrees is old = record {
 ok : (u v : TableState) (f : Registered) → Agrees u.world → Stands u.world f → ClosesFactory u f v
     → Joins IsTableAccess u (λ word. IsCloseWord f word (Ok tt)) v
 ok u v f agrees stands is =
-    subst (λ a. Joins IsTableAccess u (λ word. IsCloseWord f word a) v) (close_ok is.1.is_word (accesses is.1.run) agrees stands) is.1
+    subst (λ a. Joins IsTableAccess u (λ word. IsCloseWord f word a) v) (close_ok {own = everyone} refl is.1.is_word (accesses is.1.run) agrees stands) is.1
 
 pub all_closed : (config : Config) {u w : TableState} {slots : List (Option Registered)} → Agrees u.world → SlotsStand (state config u slots)
     → ClosesSlots u slots w → Agrees w.world × AreClosed u slots w

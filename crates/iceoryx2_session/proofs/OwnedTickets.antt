@@ -1,9 +1,11 @@
 -- The table's tickets are those of a session's slots, over any table whose world agrees.
-use Rattle.std.proofs.Common.{◌≡◌, Some, None, Ok, Err, inl, inr, sym, ap, ◌∙◌}
+use Rattle.std.proofs.Common.{◌≡◌, Some, None, Ok, Err, inl, inr, refl, sym, ap, ◌∙◌}
 use Rattle.std.specs.FinMap as map
 use Rattle.std.proofs.lemmas.Cmp.{nat_cmp_total}
 use Rattle.std.proofs.lemmas.Map.Lookups.{exact_unsigned}
 use Rattle.iceoryx2_world.specs.Across.{Agrees}
+use Rattle.iceoryx2_world.specs.Interference.{everyone}
+use Rattle.iceoryx2_world.proofs.agreement.Interference.{all_tickets}
 use Rattle.iceoryx2_world.specs.Tables.{TableState}
 use Rattle.iceoryx2_world.specs.Standing.{Stands, ticket_for}
 use Rattle.iceoryx2_world.proofs.agreement.Maps.{set_cases}
@@ -23,7 +25,8 @@ use Rattle.iceoryx2_session.proofs.StandingSlots.{accesses, faulty, leaves}
 pub taken_by_close : (u v : TableState) (f : Registered) → Agrees u.world → Stands u.world f → ClosesFactory u f v
     → v.world.tickets ≡ map.remove u.world.tickets f.ticket
 taken_by_close u v f agrees stands is =
-    closed_tickets (close_ok is.1.is_word (accesses is.1.run) agrees stands) is.1.is_word (faulty is.1.run)
+    let ok = close_ok {own = everyone} refl is.1.is_word (accesses is.1.run) agrees stands in
+    all_tickets (map.remove u.world.tickets f.ticket) v.world.tickets (closed_tickets ok is.1.is_word (faulty is.1.run) agrees)
 
 -- ---- commands
 

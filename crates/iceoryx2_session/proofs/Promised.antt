@@ -6,6 +6,7 @@ use Rattle.iceoryx2_attribute.specs.Requirements.{Requirements}
 use Rattle.iceoryx2_description.specs.declared.config.Config.{Config}
 use Rattle.iceoryx2_description.specs.declared.time.ClockFault.{ClockFault}
 use Rattle.iceoryx2_description.specs.Span.{Span}
+use Rattle.iceoryx2_world.specs.Interference.{everyone}
 use Rattle.iceoryx2_world.specs.Tables.{TableState, IsTableAccess}
 use Rattle.iceoryx2_create_and_open.specs.Answers.{map_err}
 use Rattle.iceoryx2_open_or_create.specs.Adjusting.{OnlyRaises}
@@ -51,7 +52,7 @@ promised b slot s answer a n raises is replied = record {
   is_word = is.2.is_word;
   run = is.2.run;
   only_raises = raises;
-  promised = λ agrees. as_promised IsTableAccess (λ u. u.world) of_table b.call is.2.word is.0 is.2.is_word is.2.run agrees;
+  promised = λ agrees. as_promised everyone IsTableAccess (λ u. u.world) (of_table everyone) b.call refl is.2.word is.0 is.2.is_word is.2.run agrees;
 }
 
 raises_by : (config : Config) (node : ℕ) (name : List ℕ) (way : Way) (attributes : Requirements) (now : Result Span ClockFault) (x : Settings)

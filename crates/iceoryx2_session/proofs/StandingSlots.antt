@@ -3,24 +3,23 @@ use Rattle.std.proofs.Common.{◌≡◌, ◌≢◌, ℕ, ◌<◌, ◌≤◌, Lis
 use Rattle.std.specs.Prelude.{slice_set, IfOk}
 use Rattle.iceoryx2_world.specs.World.{World}
 use Rattle.iceoryx2_world.specs.Across.{Agrees}
-use Rattle.iceoryx2_world.specs.Fallible.{IsFallibleAccess}
+use Rattle.iceoryx2_world.specs.Interference.{everyone, IsAccess, IsFallibleAccess}
 use Rattle.iceoryx2_access.specs.Letter.{Letter}
-use Rattle.iceoryx2_world.specs.Peers.{IsAccess}
 use Rattle.iceoryx2_access.specs.Run.{Run, done, next}
 use Rattle.iceoryx2_access.specs.Registered.{Registered}
 use Rattle.iceoryx2_world.specs.Tables.{TableState, IsTableAccess}
-use Rattle.iceoryx2_world.proofs.Waiting.{table_run}
 use Rattle.iceoryx2_world.specs.Standing.{Stands, ticket_for}
-use Rattle.iceoryx2_world.proofs.agreement.Accesses.{with_refusals}
+use Rattle.iceoryx2_world.proofs.agreement.Accesses.{unrefused_run}
+use Rattle.iceoryx2_world.proofs.agreement.Interference.{all_tickets}
 use Rattle.iceoryx2_call_laws.specs.Calls.{Throughout}
 use Rattle.iceoryx2_call_laws.specs.Tickets.{tickets_after}
 use Rattle.iceoryx2_call_laws.proofs.calls.Words.{agrees_throughout, stands_throughout, all_spared, close_spares}
 use Rattle.iceoryx2_call_laws.proofs.calls.Closed.{close_ok}
+use Rattle.iceoryx2_call_laws.proofs.calls.Headline.{table_accesses}
 use Rattle.iceoryx2_port_factory.specs.Closes.{IsCloseWord}
 use Rattle.iceoryx2_commands.specs.declared.command.Command.{Command}
 use Rattle.iceoryx2_commands.specs.declared.command.Refusal.{Refusal}
 use Rattle.iceoryx2_commands.specs.declared.command.Reply.{Reply}
-use Rattle.iceoryx2_create_and_open.specs.Answers.{map_err}
 use Rattle.iceoryx2_create_and_open.specs.Answers.{map_err}
 use Rattle.iceoryx2_open_or_create.specs.BuilderCalls.{BuilderCall, Way}
 use Rattle.iceoryx2_call_laws.proofs.calls.AnyCalls.{Given, any_given, any_letters}
@@ -36,12 +35,12 @@ use Rattle.iceoryx2_session.proofs.SlotLists.{same_factory, same_slot, no_factor
 
 -- ---- runs of the session's table
 
--- each access of a table is one of a world that peers may share
+-- each access of a table is one of a world that peers may share, and every node is its own
 pub accesses : {s t : TableState} {word : List Letter} → Run IsTableAccess s word t → Run IsAccess s.world word t.world
-accesses run = table_run run
+accesses run = table_accesses everyone run
 
 pub faulty : {s t : TableState} {word : List Letter} → Run IsTableAccess s word t → Run IsFallibleAccess s.world word t.world
-faulty run = with_refusals (accesses run)
+faulty run = unrefused_run (accesses run)
 
 -- what is so throughout a word is so after it
 at_end : {step : World → Letter → World → Type 0} (P : World → Type 0) {w v : World} {word : List Letter}
@@ -50,7 +49,7 @@ at_end P so done = so
 at_end P so (next {mid = u} s rest) = at_end P (so.1 u s) rest
 
 pub agrees_after : {s t : TableState} (word : List Letter) → Run IsTableAccess s word t → Agrees s.world → Agrees t.world
-agrees_after {s = s} word run old = (at_end _ (agrees_throughout s.world word old) (faulty run)).0
+agrees_after {s = s} word run old = (at_end _ (agrees_throughout everyone s.world word old) (faulty run)).0
 
 -- ---- calls
 
@@ -86,15 +85,15 @@ leaves b answer s t old is =
     record {
       agrees = agrees_after is.2.word is.2.run old;
       given = rw is.1 (carried (λ f. Stands t.world f × (s.world.counter ≤ f.ticket)) b.refusal_of is.0 (given_stands b.call b.call.way s.world t.world is.0 given));
-      kept = λ f at. at_end _ (stands_throughout s.world is.2.word f (all_spared f is.2.word (any_letters b.call is.2.word is.0 is.2.is_word)) old at) run;
-      tickets = rw is.1 (carried_tickets s.world t.world b.refusal_of is.0 (any_tickets b.call s.world t.world is.2.word is.0 is.2.is_word run));
+      kept = λ f at. at_end _ (stands_throughout everyone s.world is.2.word f refl (all_spared f is.2.word (any_letters b.call is.2.word is.0 is.2.is_word)) old at) run;
+      tickets = rw is.1 (carried_tickets s.world t.world b.refusal_of is.0 (all_tickets (tickets_after s.world.tickets is.0) t.world.tickets (any_tickets b.call s.world t.world is.2.word is.0 is.2.is_word run old)));
     }
 
 -- a close leaves each other factory standing
 pub kept_by_close : (s t : TableState) (f : Registered) → Agrees s.world → ClosesFactory s f t
     → (g : Registered) → g.ticket ≢ f.ticket → Stands s.world g → Stands t.world g
 kept_by_close s t f old is g apart at =
-    at_end _ (stands_throughout s.world is.1.word g (close_spares g apart is.1.is_word) old at) (faulty is.1.run)
+    at_end _ (stands_throughout everyone s.world is.1.word g refl (close_spares g apart is.1.is_word) old at) (faulty is.1.run)
 
 -- ---- slots
 
@@ -171,7 +170,7 @@ stand_after goes.not_listed agrees old = (agrees, old)
 -- a taken slot is closed with Ok
 close_is_ok : (s t : TableState) (f : Registered) → Agrees s.world → Stands s.world f → ClosesFactory s f t → IsClosedPlace s (Some f) t
 close_is_ok s t f agrees stood is =
-    let ok = close_ok is.1.is_word (accesses is.1.run) agrees stood in
+    let ok = close_ok {own = everyone} refl is.1.is_word (accesses is.1.run) agrees stood in
     record { word = is.1.word; is_word = subst (λ a. IsCloseWord f is.1.word a) ok is.1.is_word; run = is.1.run }
 
 pub closes_taken : {s : SessionState} {c : Command} {a : Reply} {n : SessionState} → Goes s c a n → Agrees s.table.world → SlotsStand s → ClosesTaken s c n

@@ -4,6 +4,7 @@ use Rattle.iceoryx2_access.specs.Registered.{Registered}
 use Rattle.iceoryx2_access.specs.Letter.{Letter}
 use Rattle.iceoryx2_access.specs.Run.{Run}
 use Rattle.iceoryx2_world.specs.Across.{Agrees}
+use Rattle.iceoryx2_world.specs.Interference.{everyone}
 use Rattle.iceoryx2_world.specs.Tables.{TableState, IsTableAccess}
 use Rattle.iceoryx2_open_or_create.specs.Adjusting.{OnlyRaises}
 use Rattle.iceoryx2_open_or_create.specs.BuilderCalls.{ErrorBy}
@@ -39,7 +40,7 @@ pub record IsPromised (b : PatternCall) (slot : ℕ) (s : TableState) (answer : 
   pub is_word : IsWordOf b.call word own
   pub run : Run IsTableAccess s word new.table
   pub only_raises : OnlyRaises b.call.meaning b.call.adjusted
-  pub promised : Agrees s.world → IsAsPromised IsTableAccess (λ u. u.world) b.call s word own new.table
+  pub promised : Agrees s.world → IsAsPromised IsTableAccess (λ u. u.world) b.call everyone s word own new.table
 
 -- So is the call of a free slot.
 abbrev pub CallsAsPromised : SessionState → Command → Reply → SessionState → Type 0
