@@ -11,7 +11,8 @@ use Rattle.iceoryx2_open_or_create.specs.CallWords.{IsWordBy}
 use Rattle.iceoryx2_world.specs.World.{World}
 use Rattle.iceoryx2_world.specs.Access.{IsOwnPart}
 use Rattle.iceoryx2_world.specs.Across.{Agrees}
-use Rattle.iceoryx2_call_laws.specs.Headline.{IsOpenAsAsked}
+use Rattle.iceoryx2_world.specs.Standing.{Stands}
+use Rattle.iceoryx2_call_laws.specs.AnyCalls.{MayCarryBy}
 use Rattle.iceoryx2_call_laws.specs.Quiet.{Quiet, QuietService, Shows, service_at}
 use Rattle.iceoryx2_call_laws.specs.QuietCalls.{HasPlace, HasNumber}
 
@@ -20,18 +21,24 @@ abbrev pub opening_again : {D E C : Type 0} → BuilderCall D E C → ℕ → Re
 opening_again c node required =
     record c { way = ToOpen; caller = record c.caller { node = node }; required = required }
 
+-- A factory of the call's service stands, whosever it is, that carries what the call may give.
+pub record StandsAsAsked {D E C : Type 0} (c : BuilderCall D E C) (w : World) (f : Registered) : Type 0 where
+  pub stands : Stands w f
+  pub hash : f.description.hash ≡ c.caller.hash
+  pub carries : MayCarryBy c c.way f.description
+
 -- The service takes this node, and a number is left.
 pub record HasRoomFor (q : Quiet) (node : ℕ) (hash : ServiceHash) : Type 0 where
   pub place : (x : QuietService) → service_at q hash ≡ Some x → HasPlace x node
   pub number : HasNumber q
 
--- While a factory is open that the call gave, with a place and a number left, such an open is Ok or out of memory,
--- whichever node calls and whatever it requires of attributes that the factory's meet, as they do where it requires
--- none.
+-- While a factory stands that the call gave, or another one of the same description, with a place and a number left,
+-- such an open is Ok or out of memory, whichever node calls and whatever it requires of attributes that those of the
+-- description meet, as they do where it requires none.
 abbrev pub OpensAgain : {D E C : Type 0} → BuilderCall D E C → Type 0
 OpensAgain {E = E} c = (required : Requirements) (node : ℕ) (f : Registered) (q : Quiet) (w v : World)
     (word : List Letter) (answer : Result Registered E)
-    → IsOpenAsAsked c w f → AreMetBy required f.description.attributes
+    → StandsAsAsked c w f → AreMetBy required f.description.attributes
     → Shows w q → Agrees w → HasRoomFor q node c.caller.hash
     → IsWordBy (opening_again c node required) ToOpen word answer → Run IsOwnPart w word v
     → IfErr answer (λ e. e ≡ (opening c).open_refusal OutOfMemory)

@@ -30,7 +30,7 @@ ghost use Rattle.iceoryx2_open_or_create.specs.BuilderCalls.{BuilderCall, ErrorB
 ghost use Rattle.iceoryx2_open_or_create.specs.CallWords.{IsWordOf};
 ghost use Rattle.iceoryx2_open_or_create.specs.LawfulCalls.{IsLawfulCall};
 ghost use Rattle.iceoryx2_call_laws.specs.Headline.{IsOpenAsAsked};
-ghost use Rattle.iceoryx2_call_laws.specs.OpensAgain.{OpensAgain};
+ghost use Rattle.iceoryx2_call_laws.specs.OpensAgain.{OpensAgain, StandsAsAsked};
 ghost use Rattle.iceoryx2_call_laws.specs.Quiet.{Quiet, QuietService, Shows, no_service, service_at, times_counted};
 ghost use Rattle.iceoryx2_call_laws.specs.QuietCalls.{Closes, HasPlace, HasNumber};
 ghost use Rattle.iceoryx2_call_laws.specs.QuietPrepared.{CreatesPrepared, OpensPrepared};
@@ -126,15 +126,19 @@ pub fn quiet_calls<D, E: Copy, C: Copy>()
         → OpensPrepared m q node hash answer p
         → IfErr answer (λ e. e ≡ m.open_refusal OutOfMemory) }
 
+    // Where a factory is open as its call asked, each standing one of its service, whosever it is, carries the same.
+    ensures stands_as_asked { (c : BuilderCall D E C) (w : World) (f g : Registered)
+        → IsOpenAsAsked c w f → Stands w g → g.description.hash ≡ f.description.hash → StandsAsAsked c w g }
+
     // What a call of a builder has given an open takes that asks the same, whichever node calls and whatever it
     // requires of attributes that the factory's meet, as they do where it requires none, if the builder accepts what
-    // it creates and its create only raises minima: while the factory is open, whatever came between, with a place and
-    // a number left, the open is Ok or out of memory.
+    // it creates and its create only raises minima: while the factory stands, or another one of the same description,
+    // whatever came between, with a place and a number left, the open is Ok or out of memory.
     ensures own_settings { (c : BuilderCall D E C) (required : Requirements) (node : ℕ) (q p : Quiet) (f : Registered)
         (w : World) (answer : Result Registered E)
         → AcceptsOwn (creating c) (c.meaning c.asked) c.caller
         → OnlyRaises c.meaning c.adjusted
-        → IsOpenAsAsked c w f → Shows w q → AreMetBy required f.description.attributes
+        → StandsAsAsked c w f → Shows w q → AreMetBy required f.description.attributes
         → ((x : QuietService) → service_at q c.caller.hash ≡ Some x → HasPlace x node) → HasNumber q
         → OpensPrepared (requiring required (c.meaning c.asked)) q node c.caller.hash answer p
         → IfErr answer (λ e. e ≡ (opening c).open_refusal OutOfMemory) }

@@ -39,10 +39,10 @@ pub fn promise_of_builders()
 /// What a call of a builder has given, whichever of its three, an open with the same settings and
 /// types takes over a table that nobody else uses, whichever node calls.
 ///
-/// While the factory is open, with a place for the node and a number left, the open is Ok or out of
-/// memory, whatever attributes it requires that are met by those of what the factory carries. So a
-/// service that was created with attributes is opened by each node that requires none, or some of
-/// them.
+/// While the factory stands, or another node's that carries the same, with a place for the node and a
+/// number left, the open is Ok or out of memory, whatever attributes it requires that are met by those
+/// of what is carried. So a service that was created with attributes is opened by each node that
+/// requires none, or some of them.
 pub fn opens_again()
     ensures events { (hash_of : ℕ → List ℕ → ServiceHash) (b : EventBuilderState) (way : Way)
         (required : Requirements) (now : Result Span ClockFault)

@@ -1,5 +1,5 @@
 -- A builder that accepts what it creates opens what its calls have given.
-use Rattle.std.proofs.Common.{◌≡◌, ℕ, List, Some, Result, ◌⊎◌, inl, inr, Bool, true, false, refl, sym, ap, ◌∙◌}
+use Rattle.std.proofs.Common.{◌≡◌, ℕ, List, Some, Result, ◌⊎◌, inl, inr, Bool, true, false, refl, sym, ap, subst, ◌∙◌}
 use Rattle.std.specs.Prelude.{IfErr}
 use Rattle.iceoryx2_attribute.specs.Requirements.{Requirements, AreMetBy}
 use Rattle.iceoryx2_description.specs.Description.{Description}
@@ -15,12 +15,13 @@ use Rattle.iceoryx2_open_or_create.specs.LawfulCalls.{IsLawfulCall}
 use Rattle.iceoryx2_open_or_create.proofs.OwnAttributes.{accepts_with_attributes, accepts_without_attributes}
 use Rattle.iceoryx2_world.specs.Access.{IsOwnPart}
 use Rattle.iceoryx2_world.specs.Across.{Agrees}
+use Rattle.iceoryx2_world.specs.Standing.{Stands}
 use Rattle.iceoryx2_world.specs.World.{World}
 use Rattle.iceoryx2_open_or_create.specs.BuilderCalls.{BuilderCall, Way, ToCreate, ToOpen, ToOpenOrCreate, creating, opening}
 use Rattle.iceoryx2_open_or_create.specs.CallWords.{IsWordBy}
 use Rattle.iceoryx2_call_laws.specs.AnyCalls.{Meets, Holds, MayCarryBy}
 use Rattle.iceoryx2_call_laws.specs.Headline.{IsOpenAsAsked}
-use Rattle.iceoryx2_call_laws.specs.OpensAgain.{opening_again, HasRoomFor}
+use Rattle.iceoryx2_call_laws.specs.OpensAgain.{StandsAsAsked, opening_again, HasRoomFor}
 use Rattle.iceoryx2_call_laws.specs.Quiet.{QuietService, Quiet, Shows, service_at}
 use Rattle.iceoryx2_call_laws.specs.QuietCalls.{Opens, HasPlace, HasNumber}
 use Rattle.iceoryx2_call_laws.specs.QuietPrepared.{OpensPrepared, PreparesFirstIf, prepared}
@@ -53,13 +54,13 @@ module _ {D E C : Type 0} (c : BuilderCall D E C) (own : AcceptsOwn (creating c)
 
   module _ (required : Requirements) where
     opens_own : (node : ℕ) (q p : Quiet) (f : Registered) (w : World) (answer : Result Registered E)
-        → IsOpenAsAsked c w f → Shows w q → AreMetBy required f.description.attributes
+        → StandsAsAsked c w f → Shows w q → AreMetBy required f.description.attributes
         → ((x : QuietService) → service_at q c.caller.hash ≡ Some x → HasPlace x node) → HasNumber q
         → Opens (requiring required (c.meaning c.asked)) q node c.caller.hash answer p
         → IfErr answer (λ e. e ≡ (opening c).open_refusal refusal.OutOfMemory)
     opens_own node q p f w answer is s met place room opened =
         let other = requiring required (c.meaning c.asked) in
-        let has = service_of w q f s is.is_open.stands in
+        let has = service_of w q f s is.stands in
         let there : service_at q c.caller.hash ≡ Some has.service = ap (λ h. service_at q h) (sym is.hash) ∙ has.there in
         let taken = accepts_with_attributes (c.meaning c.asked) required f.description met (given_accepted c.way f.description is.carries) in
         accepted other node c.caller.hash q p has.service answer there
@@ -69,7 +70,7 @@ module _ {D E C : Type 0} (c : BuilderCall D E C) (own : AcceptsOwn (creating c)
 
     -- also where it may prepare its types first
     pub opens_own_prepared : (node : ℕ) (q p : Quiet) (f : Registered) (w : World) (answer : Result Registered E)
-        → IsOpenAsAsked c w f → Shows w q → AreMetBy required f.description.attributes
+        → StandsAsAsked c w f → Shows w q → AreMetBy required f.description.attributes
         → ((x : QuietService) → service_at q c.caller.hash ≡ Some x → HasPlace x node) → HasNumber q
         → OpensPrepared (requiring required (c.meaning c.asked)) q node c.caller.hash answer p
         → IfErr answer (λ e. e ≡ (opening c).open_refusal refusal.OutOfMemory)
@@ -86,7 +87,7 @@ may_prepare false is = prepared is
 -- the words of such an open
 module _ {D E C : Type 0} (c : BuilderCall D E C) (lawful : IsLawfulCall c) where
   pub opens_again : (required : Requirements) (node : ℕ) (f : Registered) (q : Quiet) (w v : World) (word : List Letter) (answer : Result Registered E)
-      → IsOpenAsAsked c w f → AreMetBy required f.description.attributes
+      → StandsAsAsked c w f → AreMetBy required f.description.attributes
       → Shows w q → Agrees w → HasRoomFor q node c.caller.hash
       → IsWordBy (opening_again c node required) ToOpen word answer → Run IsOwnPart w word v
       → IfErr answer (λ e. e ≡ (opening c).open_refusal refusal.OutOfMemory)
@@ -95,3 +96,12 @@ module _ {D E C : Type 0} (c : BuilderCall D E C) (lawful : IsLawfulCall c) wher
       let made = call_follows other q tt shows old is_word run in
       opens_own_prepared c lawful.accepts_own lawful.only_raises required node q made.state f w answer is shows met room.place room.number
       (may_prepare other.prepares made.call)
+
+-- where a factory is open as its call asked, each of its service carries the same
+pub stands_as_asked : {D E C : Type 0} (c : BuilderCall D E C) (w : World) (f g : Registered)
+    → IsOpenAsAsked c w f → Stands w g → g.description.hash ≡ f.description.hash → StandsAsAsked c w g
+stands_as_asked c w f g is there same = record {
+  stands = there;
+  hash = same ∙ is.hash;
+  carries = subst (MayCarryBy c c.way) (sym (is.is_open.one_description g there same)) is.carries;
+}

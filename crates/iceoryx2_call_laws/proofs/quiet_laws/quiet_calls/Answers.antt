@@ -4,7 +4,7 @@ use Rattle.iceoryx2_pattern.specs.declared.pattern.OpenRefusal.TheVariants as re
 use Rattle.iceoryx2_call_laws.proofs.quiet.Prepared.{each_prepared, granted_prepared}
 use Rattle.iceoryx2_call_laws.proofs.quiet.Ways.{call_follows, refused_call}
 use Rattle.iceoryx2_call_laws.proofs.quiet.After.{create_and_close, opened_again, accepted}
-use Rattle.iceoryx2_call_laws.proofs.quiet.Own.{opens_own_prepared, opens_again}
+use Rattle.iceoryx2_call_laws.proofs.quiet.Own.{opens_own_prepared, opens_again, stands_as_asked}
 use Rattle.iceoryx2_call_laws.proofs.quiet_laws.quiet_calls.Goals as goal
 
 pub returns-clause-call : goal.returns-clause-call
@@ -29,3 +29,6 @@ returns-clause-own_settings g c = λ call required node q p f w answer own raise
 
 pub returns-clause-opens_again : goal.returns-clause-opens_again
 returns-clause-opens_again g c = λ call lawful. opens_again call lawful
+
+pub returns-clause-stands_as_asked : goal.returns-clause-stands_as_asked
+returns-clause-stands_as_asked g c = λ call w f g is there same. stands_as_asked call w f g is there same
