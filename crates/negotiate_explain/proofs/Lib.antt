@@ -1,2 +1,5 @@
+pub mod Asked
 pub mod Found
 pub mod Lines
+pub mod Parts
+pub mod Told

@@ -1,5 +1,6 @@
--- What each setter requires, beside what is there, and with which error an open is refused that doesn't find it.
-use Rattle.std.specs.Prelude.{codes}
+-- What each setter of a setting requires, beside what is there, and with which error an open is refused that doesn't
+-- find it. The setters of types set none.
+use Rattle.std.specs.Prelude.{Option, Some, None, codes}
 use Rattle.iceoryx2_event_builder.specs.Event.{deadline_value}
 use Rattle.iceoryx2_event_builder.specs.declared.event.setting.EventSetter.{EventSetter}
 use Rattle.iceoryx2_event_builder.specs.declared.event.setting.EventSetter.TheVariants as event_set
@@ -16,115 +17,99 @@ use Rattle.iceoryx2_request_response_builder.specs.declared.request_response.set
 use Rattle.iceoryx2_errors.specs.declared.error.request_response.RequestResponseOpenError.{RequestResponseOpenError}
 use Rattle.iceoryx2_errors.specs.declared.error.request_response.RequestResponseOpenError.TheVariants as request_opening
 use Rattle.iceoryx2_description.specs.declared.request_response.StaticConfig.{StaticConfig as RequestSettings}
-use Rattle.negotiate_explain.specs.Settings.{Compared, compared, number, truth, event, time, type}
+use Rattle.negotiate_explain.specs.Settings.{Compared, compared, number, truth, event, time}
 
-abbrev pub event_compared : EventSetter → EventSettings → Compared EventOpenError
+abbrev pub event_compared : EventSetter → EventSettings → Option (Compared EventOpenError)
 event_compared (event_set.MaxNotifiers value) there =
-    compared (codes "max_notifiers") event_opening.DoesNotSupportRequestedAmountOfNotifiers
-    (number value) (number there.max_notifiers)
+    Some (compared (codes "max_notifiers") event_opening.DoesNotSupportRequestedAmountOfNotifiers
+    (number value) (number there.max_notifiers))
 event_compared (event_set.MaxListeners value) there =
-    compared (codes "max_listeners") event_opening.DoesNotSupportRequestedAmountOfListeners
-    (number value) (number there.max_listeners)
+    Some (compared (codes "max_listeners") event_opening.DoesNotSupportRequestedAmountOfListeners
+    (number value) (number there.max_listeners))
 event_compared (event_set.EventIdMaxValue value) there =
-    compared (codes "event_id_max_value") event_opening.DoesNotSupportRequestedMaxEventId
-    (number value) (number there.event_id_max_value)
+    Some (compared (codes "event_id_max_value") event_opening.DoesNotSupportRequestedMaxEventId
+    (number value) (number there.event_id_max_value))
 event_compared (event_set.MaxNodes value) there =
-    compared (codes "max_nodes") event_opening.DoesNotSupportRequestedAmountOfNodes
-    (number value) (number there.max_nodes)
+    Some (compared (codes "max_nodes") event_opening.DoesNotSupportRequestedAmountOfNodes
+    (number value) (number there.max_nodes))
 event_compared (event_set.NotifierCreatedEvent value) there =
-    compared (codes "notifier_created_event") event_opening.IncompatibleNotifierCreatedEvent
-    (event value) (event there.notifier_created_event)
+    Some (compared (codes "notifier_created_event") event_opening.IncompatibleNotifierCreatedEvent
+    (event value) (event there.notifier_created_event))
 event_compared (event_set.NotifierDroppedEvent value) there =
-    compared (codes "notifier_dropped_event") event_opening.IncompatibleNotifierDroppedEvent
-    (event value) (event there.notifier_dropped_event)
+    Some (compared (codes "notifier_dropped_event") event_opening.IncompatibleNotifierDroppedEvent
+    (event value) (event there.notifier_dropped_event))
 event_compared (event_set.NotifierDeadEvent value) there =
-    compared (codes "notifier_dead_event") event_opening.IncompatibleNotifierDeadEvent
-    (event value) (event there.notifier_dead_event)
+    Some (compared (codes "notifier_dead_event") event_opening.IncompatibleNotifierDeadEvent
+    (event value) (event there.notifier_dead_event))
 event_compared (event_set.Deadline value) there =
-    compared (codes "deadline") event_opening.IncompatibleDeadline
-    (time value) (time (deadline_value there.deadline))
+    Some (compared (codes "deadline") event_opening.IncompatibleDeadline
+    (time value) (time (deadline_value there.deadline)))
 
-abbrev pub publish_subscribe_compared : PublishSubscribeSetter → SampleSettings → Compared PublishSubscribeOpenError
+abbrev pub publish_subscribe_compared : PublishSubscribeSetter → SampleSettings
+    → Option (Compared PublishSubscribeOpenError)
 publish_subscribe_compared (sample_set.MaxPublishers value) there =
-    compared (codes "max_publishers") sample_opening.DoesNotSupportRequestedAmountOfPublishers
-    (number value) (number there.max_publishers)
+    Some (compared (codes "max_publishers") sample_opening.DoesNotSupportRequestedAmountOfPublishers
+    (number value) (number there.max_publishers))
 publish_subscribe_compared (sample_set.MaxSubscribers value) there =
-    compared (codes "max_subscribers") sample_opening.DoesNotSupportRequestedAmountOfSubscribers
-    (number value) (number there.max_subscribers)
+    Some (compared (codes "max_subscribers") sample_opening.DoesNotSupportRequestedAmountOfSubscribers
+    (number value) (number there.max_subscribers))
 publish_subscribe_compared (sample_set.SubscriberMaxBufferSize value) there =
-    compared (codes "subscriber_max_buffer_size") sample_opening.DoesNotSupportRequestedMinBufferSize
-    (number value) (number there.subscriber_max_buffer_size)
+    Some (compared (codes "subscriber_max_buffer_size") sample_opening.DoesNotSupportRequestedMinBufferSize
+    (number value) (number there.subscriber_max_buffer_size))
 publish_subscribe_compared (sample_set.HistorySize value) there =
-    compared (codes "history_size") sample_opening.DoesNotSupportRequestedMinHistorySize
-    (number value) (number there.history_size)
+    Some (compared (codes "history_size") sample_opening.DoesNotSupportRequestedMinHistorySize
+    (number value) (number there.history_size))
 publish_subscribe_compared (sample_set.SubscriberMaxBorrowedSamples value) there =
-    compared (codes "subscriber_max_borrowed_samples")
+    Some (compared (codes "subscriber_max_borrowed_samples")
     sample_opening.DoesNotSupportRequestedMinSubscriberBorrowedSamples
-    (number value) (number there.subscriber_max_borrowed_samples)
+    (number value) (number there.subscriber_max_borrowed_samples))
 publish_subscribe_compared (sample_set.EnableSafeOverflow value) there =
-    compared (codes "enable_safe_overflow") sample_opening.IncompatibleOverflowBehavior
-    (truth value) (truth there.enable_safe_overflow)
+    Some (compared (codes "enable_safe_overflow") sample_opening.IncompatibleOverflowBehavior
+    (truth value) (truth there.enable_safe_overflow))
 publish_subscribe_compared (sample_set.MaxNodes value) there =
-    compared (codes "max_nodes") sample_opening.DoesNotSupportRequestedAmountOfNodes
-    (number value) (number there.max_nodes)
-publish_subscribe_compared (sample_set.PayloadType value) there =
-    compared (codes "payload") sample_opening.IncompatibleTypes
-    (type value) (type there.message_type_details.payload)
-publish_subscribe_compared (sample_set.UserHeaderType value) there =
-    compared (codes "user_header") sample_opening.IncompatibleTypes
-    (type value) (type there.message_type_details.user_header)
-publish_subscribe_compared (sample_set.PayloadAlignment value) there =
-    compared (codes "payload_alignment") sample_opening.IncompatibleTypes
-    (number value) (number there.message_type_details.payload.alignment)
+    Some (compared (codes "max_nodes") sample_opening.DoesNotSupportRequestedAmountOfNodes
+    (number value) (number there.max_nodes))
+publish_subscribe_compared (sample_set.PayloadType value) there = None
+publish_subscribe_compared (sample_set.UserHeaderType value) there = None
+publish_subscribe_compared (sample_set.PayloadAlignment value) there = None
 
-abbrev pub request_response_compared : RequestResponseSetter → RequestSettings → Compared RequestResponseOpenError
+abbrev pub request_response_compared : RequestResponseSetter → RequestSettings
+    → Option (Compared RequestResponseOpenError)
 request_response_compared (request_set.EnableSafeOverflowForRequests value) there =
-    compared (codes "enable_safe_overflow_for_requests") request_opening.IncompatibleOverflowBehaviorForRequests
-    (truth value) (truth there.enable_safe_overflow_for_requests)
+    Some (compared (codes "enable_safe_overflow_for_requests") request_opening.IncompatibleOverflowBehaviorForRequests
+    (truth value) (truth there.enable_safe_overflow_for_requests))
 request_response_compared (request_set.EnableSafeOverflowForResponses value) there =
-    compared (codes "enable_safe_overflow_for_responses") request_opening.IncompatibleOverflowBehaviorForResponses
-    (truth value) (truth there.enable_safe_overflow_for_responses)
+    Some (compared (codes "enable_safe_overflow_for_responses") request_opening.IncompatibleOverflowBehaviorForResponses
+    (truth value) (truth there.enable_safe_overflow_for_responses))
 request_response_compared (request_set.EnableFireAndForgetRequests value) there =
-    compared (codes "enable_fire_and_forget_requests") request_opening.IncompatibleBehaviorForFireAndForgetRequests
-    (truth value) (truth there.enable_fire_and_forget_requests)
+    Some (compared (codes "enable_fire_and_forget_requests") request_opening.IncompatibleBehaviorForFireAndForgetRequests
+    (truth value) (truth there.enable_fire_and_forget_requests))
 request_response_compared (request_set.MaxActiveRequestsPerClient value) there =
-    compared (codes "max_active_requests_per_client")
+    Some (compared (codes "max_active_requests_per_client")
     request_opening.DoesNotSupportRequestedAmountOfActiveRequestsPerClient
-    (number value) (number there.max_active_requests_per_client)
+    (number value) (number there.max_active_requests_per_client))
 request_response_compared (request_set.MaxLoanedRequests value) there =
-    compared (codes "max_loaned_requests") request_opening.DoesNotSupportRequestedAmountOfClientRequestLoans
-    (number value) (number there.max_loaned_requests)
+    Some (compared (codes "max_loaned_requests") request_opening.DoesNotSupportRequestedAmountOfClientRequestLoans
+    (number value) (number there.max_loaned_requests))
 request_response_compared (request_set.MaxBorrowedResponsesPerPendingResponse value) there =
-    compared (codes "max_borrowed_responses_per_pending_response")
+    Some (compared (codes "max_borrowed_responses_per_pending_response")
     request_opening.DoesNotSupportRequestedAmountOfBorrowedResponsesPerPendingResponse
-    (number value) (number there.max_borrowed_responses_per_pending_response)
+    (number value) (number there.max_borrowed_responses_per_pending_response))
 request_response_compared (request_set.MaxResponseBufferSize value) there =
-    compared (codes "max_response_buffer_size") request_opening.DoesNotSupportRequestedResponseBufferSize
-    (number value) (number there.max_response_buffer_size)
+    Some (compared (codes "max_response_buffer_size") request_opening.DoesNotSupportRequestedResponseBufferSize
+    (number value) (number there.max_response_buffer_size))
 request_response_compared (request_set.MaxServers value) there =
-    compared (codes "max_servers") request_opening.DoesNotSupportRequestedAmountOfServers
-    (number value) (number there.max_servers)
+    Some (compared (codes "max_servers") request_opening.DoesNotSupportRequestedAmountOfServers
+    (number value) (number there.max_servers))
 request_response_compared (request_set.MaxClients value) there =
-    compared (codes "max_clients") request_opening.DoesNotSupportRequestedAmountOfClients
-    (number value) (number there.max_clients)
+    Some (compared (codes "max_clients") request_opening.DoesNotSupportRequestedAmountOfClients
+    (number value) (number there.max_clients))
 request_response_compared (request_set.MaxNodes value) there =
-    compared (codes "max_nodes") request_opening.DoesNotSupportRequestedAmountOfNodes
-    (number value) (number there.max_nodes)
-request_response_compared (request_set.RequestPayloadType value) there =
-    compared (codes "request_payload") request_opening.IncompatibleRequestType
-    (type value) (type there.request_message_type_details.payload)
-request_response_compared (request_set.RequestHeaderType value) there =
-    compared (codes "request_header") request_opening.IncompatibleRequestType
-    (type value) (type there.request_message_type_details.user_header)
-request_response_compared (request_set.RequestPayloadAlignment value) there =
-    compared (codes "request_payload_alignment") request_opening.IncompatibleRequestType
-    (number value) (number there.request_message_type_details.payload.alignment)
-request_response_compared (request_set.ResponsePayloadType value) there =
-    compared (codes "response_payload") request_opening.IncompatibleResponseType
-    (type value) (type there.response_message_type_details.payload)
-request_response_compared (request_set.ResponseHeaderType value) there =
-    compared (codes "response_header") request_opening.IncompatibleResponseType
-    (type value) (type there.response_message_type_details.user_header)
-request_response_compared (request_set.ResponsePayloadAlignment value) there =
-    compared (codes "response_payload_alignment") request_opening.IncompatibleResponseType
-    (number value) (number there.response_message_type_details.payload.alignment)
+    Some (compared (codes "max_nodes") request_opening.DoesNotSupportRequestedAmountOfNodes
+    (number value) (number there.max_nodes))
+request_response_compared (request_set.RequestPayloadType value) there = None
+request_response_compared (request_set.RequestHeaderType value) there = None
+request_response_compared (request_set.RequestPayloadAlignment value) there = None
+request_response_compared (request_set.ResponsePayloadType value) there = None
+request_response_compared (request_set.ResponseHeaderType value) there = None
+request_response_compared (request_set.ResponsePayloadAlignment value) there = None

@@ -2,6 +2,7 @@ pub mod Accesses
 pub mod Attributes
 pub mod Comparisons
 pub mod Diagrams
+pub mod Messages
 pub mod Offers
 pub mod Refusals
 pub mod Rows

@@ -1,8 +1,9 @@
 -- What the service offers that a refused open required otherwise.
-use Rattle.std.specs.Prelude.{ℕ, List, [], Option, Some, None, if◌then◌else◌}
+use Rattle.std.specs.Prelude.{ℕ, Bool, List, [], ◌++◌, ◌||◌, Option, Some, None, if◌then◌else◌, codes}
 use Rattle.iceoryx2_attribute.specs.Requirements.{Requirements}
 use Rattle.iceoryx2_description.specs.Description.{Description}
 use Rattle.iceoryx2_description.specs.declared.description.MessagingPattern.{MessagingPattern}
+use Rattle.iceoryx2_description.specs.declared.request_response.StaticConfig.{StaticConfig as RequestSettings}
 use Rattle.iceoryx2_description.specs.declared.description.MessagingPattern.TheVariants as pattern
 use Rattle.iceoryx2_commands.specs.declared.command.Call.{Call}
 use Rattle.iceoryx2_commands.specs.declared.command.Refusal.{Refusal}
@@ -19,6 +20,7 @@ use Rattle.iceoryx2_errors.specs.declared.error.publish_subscribe.PublishSubscri
 use Rattle.iceoryx2_errors.specs.declared.error.publish_subscribe.PublishSubscribeOpenError.TheVariants as sample_opening
 use Rattle.iceoryx2_errors.specs.declared.error.publish_subscribe.PublishSubscribeOpenOrCreateError.TheVariants as sample_either
 use Rattle.iceoryx2_errors.specs.contracts.error.publish_subscribe.PublishSubscribeOpenErrorPartialEq.TheImpl as same_sample
+use Rattle.iceoryx2_request_response_builder.specs.Builder.{Messages}
 use Rattle.iceoryx2_request_response_builder.specs.declared.request_response.setting.RequestResponseSetter.{RequestResponseSetter}
 use Rattle.iceoryx2_errors.specs.declared.error.request_response.RequestResponseOpenError.{RequestResponseOpenError}
 use Rattle.iceoryx2_errors.specs.declared.error.request_response.RequestResponseOpenError.TheVariants as request_opening
@@ -26,6 +28,7 @@ use Rattle.iceoryx2_errors.specs.declared.error.request_response.RequestResponse
 use Rattle.iceoryx2_errors.specs.contracts.error.request_response.RequestResponseOpenErrorPartialEq.TheImpl as same_request
 use Rattle.negotiate_explain.specs.Attributes.{lacking_lines}
 use Rattle.negotiate_explain.specs.Comparisons.{event_compared, publish_subscribe_compared, request_response_compared}
+use Rattle.negotiate_explain.specs.Messages.{asked_message, asked_messages, message_lines}
 use Rattle.negotiate_explain.specs.Settings.{required_lines}
 
 -- of an open that was refused by an error, where it was one
@@ -46,7 +49,7 @@ event_required error setters (pattern.Event there) =
 event_required error setters (pattern.PublishSubscribe there) = []
 event_required error setters (pattern.RequestResponse there) = []
 
--- settings and types, or attributes
+-- settings, or attributes
 abbrev pub event_offer_lines : EventOpenError → List EventSetter → Requirements → Description → List ℕ
 event_offer_lines error setters required d =
     if same_event.ghosts.eq error event_opening.IncompatibleAttributes
@@ -64,10 +67,12 @@ abbrev pub publish_subscribe_required : PublishSubscribeOpenError → List Publi
     → List ℕ
 publish_subscribe_required error setters (pattern.Event there) = []
 publish_subscribe_required error setters (pattern.PublishSubscribe there) =
-    required_lines publish_subscribe_compared there same_sample.ghosts.eq error setters
+    if same_sample.ghosts.eq error sample_opening.IncompatibleTypes
+    then message_lines (codes "user_header") (codes "payload") (asked_message setters) there.message_type_details
+    else required_lines publish_subscribe_compared there same_sample.ghosts.eq error setters
 publish_subscribe_required error setters (pattern.RequestResponse there) = []
 
--- settings and types, or attributes
+-- settings or types, or attributes
 abbrev pub publish_subscribe_offer_lines : PublishSubscribeOpenError → List PublishSubscribeSetter → Requirements
     → Description → List ℕ
 publish_subscribe_offer_lines error setters required d =
@@ -82,13 +87,26 @@ request_response_open_error (refusal.RequestResponseOpenOrCreate (request_either
     Some error
 request_response_open_error other = None
 
+-- whether the refusal is by the types of requests or of responses
+abbrev pub is_by_types : RequestResponseOpenError → Bool
+is_by_types error = same_request.ghosts.eq error request_opening.IncompatibleRequestType
+    || same_request.ghosts.eq error request_opening.IncompatibleResponseType
+
+-- of a request each part, and of a response
+abbrev pub messages_lines : Messages → RequestSettings → List ℕ
+messages_lines asked there =
+    message_lines (codes "request_header") (codes "request_payload") asked.request there.request_message_type_details
+    ++ message_lines (codes "response_header") (codes "response_payload") asked.response
+    there.response_message_type_details
+
 abbrev pub request_response_required : RequestResponseOpenError → List RequestResponseSetter → MessagingPattern → List ℕ
 request_response_required error setters (pattern.Event there) = []
 request_response_required error setters (pattern.PublishSubscribe there) = []
 request_response_required error setters (pattern.RequestResponse there) =
-    required_lines request_response_compared there same_request.ghosts.eq error setters
+    if is_by_types error then messages_lines (asked_messages setters) there
+    else required_lines request_response_compared there same_request.ghosts.eq error setters
 
--- settings and types, or attributes
+-- settings or types, or attributes
 abbrev pub request_response_offer_lines : RequestResponseOpenError → List RequestResponseSetter → Requirements
     → Description → List ℕ
 request_response_offer_lines error setters required d =

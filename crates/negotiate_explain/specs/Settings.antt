@@ -1,19 +1,15 @@
--- What an open required of settings and types, and what the service offers: in terms of a command's line.
+-- What an open required of settings, and what the service offers: in terms of a command's line.
 use Rattle.std.specs.Prelude.{ℕ, Bool, true, false, List, [], ◌∷◌, ◌++◌, Option, Some, None, ◌&&◌, not}
 use Rattle.std.specs.Prelude.{if◌then◌else◌, bytes_eq, codes, decimal}
 use Rattle.std.specs.List.{list_any}
-use Rattle.iceoryx2_types.specs.declared.types.TypeVariant.{TypeVariant}
-use Rattle.iceoryx2_types.specs.declared.types.TypeVariant.TheVariants.{FixedSize, Dynamic}
-use Rattle.iceoryx2_types.specs.Types.{Detail}
 use Rattle.iceoryx2_description.specs.Span.{Span}
 
--- a value of a setting, or a type
+-- a value of a setting
 pub data Amount : Type 0 where
   number : ℕ → Amount
   truth : Bool → Amount
   event : Option ℕ → Amount
   time : Option Span → Amount
-  type : Detail → Amount
 
 -- ---- its text: the value of a term that says it
 
@@ -29,22 +25,20 @@ none_or text (Some a) = text a
 abbrev pub span_text : Span → List ℕ
 span_text s = decimal s.seconds ++ (codes "," ++ decimal s.nanoseconds)
 
-abbrev pub variant_text : TypeVariant → List ℕ
-variant_text FixedSize = codes "fixed"
-variant_text Dynamic = codes "dynamic"
-
--- its four parts, with a comma between two
-abbrev pub detail_text : Detail → List ℕ
-detail_text d =
-    variant_text d.variant ++ (codes "," ++ (d.name ++ (codes "," ++ (decimal d.size
-    ++ (codes "," ++ decimal d.alignment)))))
-
 abbrev pub amount_text : Amount → List ℕ
 amount_text (number n) = decimal n
 amount_text (truth b) = truth_text b
 amount_text (event id) = none_or decimal id
 amount_text (time span) = none_or span_text span
-amount_text (type d) = detail_text d
+
+-- ---- a line of what is required and offered
+
+abbrev pub told_line : (name required offered : List ℕ) → List ℕ
+told_line name required offered =
+    codes "  required " ++ (name ++ (codes " " ++ (required ++ (codes ", offered " ++ (offered ++ codes "\n")))))
+
+abbrev pub value_line : (name : List ℕ) → (required offered : Amount) → List ℕ
+value_line name required offered = told_line name (amount_text required) (amount_text offered)
 
 -- ---- what a setter requires
 
@@ -61,22 +55,28 @@ compared name error required offered =
     record { name = name; error = error; required = required; offered = offered }
 
 abbrev pub compared_line : {E : Type 0} → Compared E → List ℕ
-compared_line c =
-    codes "  required " ++ (c.name ++ (codes " " ++ (amount_text c.required
-    ++ (codes ", offered " ++ (amount_text c.offered ++ codes "\n")))))
+compared_line c = value_line c.name c.required c.offered
+
+-- whether it is of the setting with this name
+abbrev pub is_of_name : {E : Type 0} → List ℕ → Option (Compared E) → Bool
+is_of_name name None = false
+is_of_name name (Some c) = bytes_eq c.name name
 
 -- Of the settings with this error that no later setter sets again, a line each. S are the setters of a pattern's
--- builder, and X is what there is.
-module _ {S X E : Type 0} (compared : S → X → Compared E) (there : X) where
-  abbrev pub is_set_again : S → List S → Bool
-  is_set_again setter later =
-      list_any (λ other. bytes_eq (compared other there).name (compared setter there).name) later
+-- builder, of which those of types set no setting, and X is what there is.
+module _ {S X E : Type 0} (compared : S → X → Option (Compared E)) (there : X) where
+  abbrev pub is_set_again : (name : List ℕ) → List S → Bool
+  is_set_again name later = list_any (λ other. is_of_name name (compared other there)) later
 
-  abbrev pub is_required : (E → E → Bool) → E → S → List S → Bool
-  is_required same error setter later = same (compared setter there).error error && not (is_set_again setter later)
+  abbrev pub is_required : (E → E → Bool) → (error own : E) → (name : List ℕ) → List S → Bool
+  is_required same error own name later = same own error && not (is_set_again name later)
+
+  abbrev pub setting_line : (E → E → Bool) → E → Option (Compared E) → List S → List ℕ
+  setting_line same error None later = []
+  setting_line same error (Some c) later =
+      if is_required same error c.error c.name later then compared_line c else []
 
   abbrev pub required_lines : (E → E → Bool) → E → List S → List ℕ
   required_lines same error [] = []
   required_lines same error (setter ∷ later) =
-      (if is_required same error setter later then compared_line (compared setter there) else [])
-      ++ required_lines same error later
+      setting_line same error (compared setter there) later ++ required_lines same error later

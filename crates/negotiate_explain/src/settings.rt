@@ -1,40 +1,42 @@
 //! What a refused open required, and what the service offers.
 
-ghost use Rattle.std.specs.Prelude.{◌≡◌, ◌++◌, OnOk, string_bytes};
+ghost use Rattle.std.specs.Prelude.{◌≡◌, ◌++◌, ℕ, List, OnOk, Option, string_bytes};
+ghost use Rattle.iceoryx2_description.specs.declared.config.PublishSubscribe.{PublishSubscribe as SampleDefaults};
+ghost use Rattle.iceoryx2_description.specs.declared.config.RequestResponse.{RequestResponse as RequestDefaults};
+ghost use Rattle.iceoryx2_publish_subscribe_builder.specs.Builder as sample;
+ghost use Rattle.iceoryx2_publish_subscribe_builder.specs.declared.publish_subscribe.setting.PublishSubscribeSetter.{PublishSubscribeSetter};
+ghost use Rattle.iceoryx2_request_response_builder.specs.Builder as request;
+ghost use Rattle.iceoryx2_request_response_builder.specs.declared.request_response.setting.RequestResponseSetter.{RequestResponseSetter};
+ghost use Rattle.iceoryx2_session.specs.PublishSubscribe.{named_message};
+ghost use Rattle.iceoryx2_session.specs.RequestResponse.{named_messages};
+ghost use Rattle.iceoryx2_session.specs.Setters.{with_settings};
+ghost use Rattle.negotiate_explain.specs.Messages.{asked_message, asked_messages};
 ghost use Rattle.negotiate_explain.specs.Offers.{offer_lines};
-ghost use Rattle.negotiate_explain.specs.Settings.{Compared, compared, compared_line};
-ghost use Rattle.negotiate_explain.specs.Settings.{is_required, is_set_again, required_lines};
-ghost use Rattle.negotiate_explain.specs.Settings.{event, number, time, truth, type};
-ghost use Rattle.negotiate_explain.specs.Values.{IsToldAs};
+ghost use Rattle.negotiate_explain.specs.Settings.{Compared, compared, value_line};
+ghost use Rattle.negotiate_explain.specs.Settings.{is_of_name, is_required, is_set_again};
+ghost use Rattle.negotiate_explain.specs.Settings.{required_lines, setting_line};
+ghost use Rattle.negotiate_explain.specs.Settings.{event, number, time, truth};
+ghost use Rattle.negotiate_explain.specs.Values.{AreToldAs, IsToldAs, amount_of};
 ghost use Rattle.iceoryx2_event_builder.specs.Event.{deadline_value};
 
 /// What a setter requires, beside what is there, by a table of each pattern: of a setting its kind, its
-/// setter, its name and the error; of a type its setter, its name, the error, and where the service tells
-/// it; of an alignment the same, but that of a payload.
+/// setter, its name and the error. The setters of types are no settings.
 macro_rules! comparison_of {
     ($setter:expr, $existing:ident, $setters:ident, $errors:ident;
      settings { $($kind:ident $variant:ident $name:ident $error:ident;)* }
-     types { $($typed:ident $type_name:ident $type_error:ident $message:ident $part:ident;)* }
-     alignments { $($aligned:ident $alignment_name:ident $payload_error:ident $payload:ident;)* }) => {
+     types { $($typed:ident)* }) => {
         match $setter {
-            $($setters::$variant(value) => Comparison::$kind(
+            $($setters::$variant(value) => Some(Comparison::$kind(
                 stringify!($name), $errors::$error, *value, $existing.$name,
-            ),)*
-            $($setters::$typed(value) => Comparison::types(
-                stringify!($type_name), $errors::$type_error, value, $existing.$message.$part(),
-            ),)*
-            $($setters::$aligned(value) => Comparison::numbers(
-                stringify!($alignment_name),
-                $errors::$payload_error,
-                value.value(),
-                $existing.$payload.payload().alignment(),
-            ),)*
+            )),)*
+            $($setters::$typed(_) => None,)*
         }
     };
 }
 
 mod attributes;
 mod events;
+mod messages;
 mod publish_subscribe;
 mod request_response;
 mod value;
@@ -44,12 +46,12 @@ use iceoryx2_commands::command::{Call, Refusal, Settings};
 use iceoryx2_description::description::StaticConfig;
 use iceoryx2_description::event::{Deadline, EventId};
 use iceoryx2_description::time::Duration;
-use iceoryx2_types::types::TypeDetail;
 use std::alloc::AllocError;
 
 /// Writes what a refused call required, and what the service of this description offers: of the
-/// settings, types or attributes that the refusal names. Nothing where it names none, and where the
-/// service is of another pattern. `AllocError` where the text finds no memory.
+/// settings or attributes that the refusal names, and where it names types, of each part of the messages.
+/// Nothing where it names none of these, and where the service is of another pattern. `AllocError` where
+/// the text or the name of a type finds no memory.
 pub fn describe_offer(
     call: &Call,
     refusal: Refusal,
@@ -80,19 +82,30 @@ pub fn describe_offer(
     }
 }
 
+/// The messages whose parts are told are those that a session's builder asks for after the same setters, whoever
+/// calls and whatever is configured.
+pub fn messages_of_calls()
+    ensures samples { (node : ℕ) (name : List ℕ) (defaults : SampleDefaults) (setters : List PublishSubscribeSetter)
+        → named_message (with_settings sample.with_setting (sample.fresh_builder node name defaults) setters)
+        ≡ asked_message setters }
+    ensures requests { (node : ℕ) (name : List ℕ) (defaults : RequestDefaults) (setters : List RequestResponseSetter)
+        → named_messages (with_settings request.with_setting (request.fresh_builder node name defaults) setters)
+        ≡ asked_messages setters }
+{}
+
 /// A setter beside what there is: the name of the setting, with which error an open is refused that
 /// doesn't find what is set, what is set, and what is there.
 #[derive(Clone, Copy)]
-pub(crate) struct Comparison<'a, E> {
+pub(crate) struct Comparison<E> {
     pub name: &'static str,
     pub error: E,
-    pub required: Value<'a>,
-    pub offered: Value<'a>,
+    pub required: Value,
+    pub offered: Value,
 }
 
-impl<'a, E> Comparison<'a, E> {
+impl<E> Comparison<E> {
     /// Of a setting that is a number.
-    fn numbers(name: &'static str, error: E, required: u64, offered: u64) -> Comparison<'a, E>
+    fn numbers(name: &'static str, error: E, required: u64, offered: u64) -> Comparison<E>
         ensures { IsToldAs result (compared name.now error (number required) (number offered)) }
     {
         Comparison {
@@ -104,7 +117,7 @@ impl<'a, E> Comparison<'a, E> {
     }
 
     /// Of a setting that is true or false.
-    fn truths(name: &'static str, error: E, required: bool, offered: bool) -> Comparison<'a, E>
+    fn truths(name: &'static str, error: E, required: bool, offered: bool) -> Comparison<E>
         ensures { IsToldAs result (compared name.now error (truth required) (truth offered)) }
     {
         Comparison {
@@ -121,7 +134,7 @@ impl<'a, E> Comparison<'a, E> {
         error: E,
         required: Option<EventId>,
         offered: Option<EventId>,
-    ) -> Comparison<'a, E>
+    ) -> Comparison<E>
         ensures { IsToldAs result (compared name.now error (event required) (event offered)) }
     {
         Comparison {
@@ -138,7 +151,7 @@ impl<'a, E> Comparison<'a, E> {
         error: E,
         required: Option<Duration>,
         offered: Option<Deadline>,
-    ) -> Comparison<'a, E>
+    ) -> Comparison<E>
         ensures { IsToldAs result (compared name.now error (time required) (time (deadline_value offered))) }
     {
         let offered = match offered {
@@ -152,23 +165,6 @@ impl<'a, E> Comparison<'a, E> {
             offered: Value::Time(offered),
         }
     }
-
-    /// Of a type.
-    fn types(
-        name: &'static str,
-        error: E,
-        required: &'a TypeDetail,
-        offered: &'a TypeDetail,
-    ) -> Comparison<'a, E>
-        ensures { IsToldAs result (compared name.now error (type required.now) (type offered.now)) }
-    {
-        Comparison {
-            name,
-            error,
-            required: Value::Type(required),
-            offered: Value::Type(offered),
-        }
-    }
 }
 
 /// A setter of a pattern's builder, which can be compared with what there is.
@@ -179,11 +175,11 @@ pub(crate) trait Compare {
     /// The settings of its services, with their types.
     type Existing;
 
-    ghost compared: { Self → Self.Existing → Compared Self.OpenError };
+    ghost compared: { Self → Self.Existing → Option (Compared Self.OpenError) };
 
-    /// What is required by this setter, beside what is there.
-    fn compare<'a>(&'a self, existing: &'a Self::Existing) -> Comparison<'a, Self::OpenError>
-        ensures { IsToldAs result (compared self.now existing.now) };
+    /// What is required by this setter, beside what is there. `None` where it sets no setting but a type.
+    fn compare(&self, existing: &Self::Existing) -> Option<Comparison<Self::OpenError>>
+        ensures { AreToldAs result (compared self.now existing.now) };
 }
 
 /// Writes of each setting that is named by the error what is required and what is offered; of one
@@ -199,52 +195,83 @@ pub(crate) fn describe_required<S: Compare>(
 {
     let mut left = setters;
     while let Some((setter, later)) = left.split_first() {
-        if is_required(error, setter, later, existing) {
-            describe_comparison(setter, existing, text)?;
-        }
+        describe_setter(error, setter, later, existing, text)?;
         left = later;
     }
     Ok(())
 }
 
-/// Whether the error names what is set, and no later setter sets it again.
-fn is_required<S: Compare>(
+/// Writes what is required by a setter and what is offered, where it is of a setting that the error names and that
+/// no later setter sets again.
+fn describe_setter<S: Compare>(
     error: S::OpenError,
     setter: &S,
     later: &[S],
     existing: &S::Existing,
-) -> bool
-    ensures { result ≡ is_required S.compared existing.now S.OpenError.eq error setter.now later.now }
+    text: &mut String,
+) -> Result<(), AllocError>
+    ensures { let there = S.compared setter.now existing.now in
+        OnOk result (string_bytes text.new ≡ string_bytes text.old
+        ++ setting_line S.compared existing.now S.OpenError.eq error there later.now) }
 {
-    let comparison = setter.compare(existing);
-    comparison.error == error && !is_set_again(setter, later, existing)
+    let Some(comparison) = setter.compare(existing) else {
+        return Ok(());
+    };
+    if is_required(error, comparison.error, comparison.name, later, existing) {
+        return describe_values(
+            comparison.name,
+            comparison.required,
+            comparison.offered,
+            text,
+        );
+    }
+    Ok(())
 }
 
-/// Whether a later setter sets the same setting.
-fn is_set_again<S: Compare>(setter: &S, later: &[S], existing: &S::Existing) -> bool
-    ensures { result ≡ is_set_again S.compared existing.now setter.now later.now }
+/// Whether the error is that of the setting with this name, and no later setter sets it again.
+fn is_required<S: Compare>(
+    error: S::OpenError,
+    own: S::OpenError,
+    name: &str,
+    later: &[S],
+    existing: &S::Existing,
+) -> bool
+    ensures { result ≡ is_required S.compared existing.now S.OpenError.eq error own name.now later.now }
 {
-    let name = setter.compare(existing).name;
+    own == error && !is_set_again(name, later, existing)
+}
+
+/// Whether a later setter sets the setting with this name.
+fn is_set_again<S: Compare>(name: &str, later: &[S], existing: &S::Existing) -> bool
+    ensures { result ≡ is_set_again S.compared existing.now name.now later.now }
+{
     for other in later {
-        if other.compare(existing).name == name {
+        if is_of_name(name, other.compare(existing)) {
             return true;
         }
     }
     false
 }
 
-/// Writes what is required by a setter and what is offered.
-fn describe_comparison<S: Compare>(
-    setter: &S,
-    existing: &S::Existing,
+/// Whether it is of the setting with this name.
+fn is_of_name<E: Copy>(name: &str, comparison: Option<Comparison<E>>) -> bool
+    ensures { (told : Option (Compared E)) → AreToldAs comparison told → result ≡ is_of_name name.now told }
+{
+    match comparison {
+        Some(comparison) => comparison.name == name,
+        None => false,
+    }
+}
+
+/// Writes what is required of a setting and what is offered.
+fn describe_values(
+    name: &str,
+    required: Value,
+    offered: Value,
     text: &mut String,
 ) -> Result<(), AllocError>
     ensures { OnOk result (string_bytes text.new ≡ string_bytes text.old
-        ++ compared_line (S.compared setter.now existing.now)) }
+        ++ value_line name.now (amount_of required) (amount_of offered)) }
 {
-    let comparison = setter.compare(existing);
-    let name = comparison.name;
-    let required = comparison.required;
-    let offered = comparison.offered;
     writeln!(text, "  required {name} {required}, offered {offered}")
 }

@@ -22,7 +22,7 @@ impl Compare for EventSetter {
 
     ghost compared = { event_compared };
 
-    fn compare<'a>(&'a self, existing: &'a StaticConfig) -> Comparison<'a, EventOpenError> {
+    fn compare(&self, existing: &StaticConfig) -> Option<Comparison<EventOpenError>> {
         comparison_of!(self, existing, EventSetter, EventOpenError;
         settings {
             numbers MaxNotifiers max_notifiers DoesNotSupportRequestedAmountOfNotifiers;
@@ -34,8 +34,7 @@ impl Compare for EventSetter {
             events NotifierDeadEvent notifier_dead_event IncompatibleNotifierDeadEvent;
             deadlines Deadline deadline IncompatibleDeadline;
         }
-        types {}
-        alignments {})
+        types {})
     }
 }
 

@@ -1,16 +1,26 @@
 //! What opens of request-response require, beside what is there.
 
-ghost use Rattle.std.specs.Prelude.{◌≡◌, ◌++◌, OnOk, string_bytes};
+ghost use Rattle.std.specs.Prelude.{◌≡◌, ◌++◌, IfOk, OnOk, string_bytes};
+ghost use Rattle.iceoryx2_description.specs.declared.description.MessagingPattern.TheVariants as pattern;
+ghost use Rattle.iceoryx2_request_response_builder.specs.Builder.{no_message_types, with_setting};
+ghost use Rattle.negotiate_explain.specs.Messages.{asked_messages, request_builder, request_builder_after};
+ghost use Rattle.negotiate_explain.specs.Offers.{is_by_types, messages_lines};
 ghost use Rattle.negotiate_explain.specs.Offers.{request_response_offer_lines, request_response_open_error};
+ghost use Rattle.negotiate_explain.specs.Offers.{request_response_required};
 
 use super::attributes::describe_lacking;
+use super::messages::describe_message;
 use super::{Compare, Comparison, describe_required};
 use iceoryx2_attribute::attribute::AttributeVerifier;
+use iceoryx2_builder_common::requested::RequestedTypes;
 use iceoryx2_commands::command::Refusal;
 use iceoryx2_description::description::{self, MessagingPattern};
 use iceoryx2_description::request_response::StaticConfig;
 use iceoryx2_errors::error::{RequestResponseOpenError, RequestResponseOpenOrCreateError};
 use iceoryx2_request_response_builder::request_response::RequestResponseSetter;
+use iceoryx2_request_response_builder::request_response::requested::RequestedMessages;
+use iceoryx2_types::types::request_response::{RequestHeader, ResponseHeader};
+use iceoryx2_types::types::{CustomHeaderMarker, CustomPayloadMarker, Slice};
 use std::alloc::AllocError;
 
 impl Compare for RequestResponseSetter {
@@ -22,10 +32,7 @@ impl Compare for RequestResponseSetter {
 
     ghost compared = { request_response_compared };
 
-    fn compare<'a>(
-        &'a self,
-        existing: &'a StaticConfig,
-    ) -> Comparison<'a, RequestResponseOpenError> {
+    fn compare(&self, existing: &StaticConfig) -> Option<Comparison<RequestResponseOpenError>> {
         comparison_of!(self, existing, RequestResponseSetter, RequestResponseOpenError;
         settings {
             truths EnableSafeOverflowForRequests enable_safe_overflow_for_requests IncompatibleOverflowBehaviorForRequests;
@@ -40,14 +47,8 @@ impl Compare for RequestResponseSetter {
             numbers MaxNodes max_nodes DoesNotSupportRequestedAmountOfNodes;
         }
         types {
-            RequestPayloadType request_payload IncompatibleRequestType request_message_type_details payload;
-            RequestHeaderType request_header IncompatibleRequestType request_message_type_details user_header;
-            ResponsePayloadType response_payload IncompatibleResponseType response_message_type_details payload;
-            ResponseHeaderType response_header IncompatibleResponseType response_message_type_details user_header;
-        }
-        alignments {
-            RequestPayloadAlignment request_payload_alignment IncompatibleRequestType request_message_type_details;
-            ResponsePayloadAlignment response_payload_alignment IncompatibleResponseType response_message_type_details;
+            RequestPayloadType RequestHeaderType RequestPayloadAlignment
+            ResponsePayloadType ResponseHeaderType ResponsePayloadAlignment
         })
     }
 }
@@ -81,7 +82,104 @@ pub(super) fn describe_offer(
         return describe_lacking(required, existing.attributes(), text);
     }
     match existing.messaging_pattern() {
-        MessagingPattern::RequestResponse(there) => describe_required(error, setters, there, text),
+        MessagingPattern::RequestResponse(there) => describe_required_of(
+            error, setters, there, text,
+        ),
         MessagingPattern::Event(_) | MessagingPattern::PublishSubscribe(_) => Ok(()),
     }
+}
+
+/// Writes what it required of types or of settings, and what is there.
+fn describe_required_of(
+    error: RequestResponseOpenError,
+    setters: &[RequestResponseSetter],
+    there: &StaticConfig,
+    text: &mut String,
+) -> Result<(), AllocError>
+    ensures { OnOk result (string_bytes text.new ≡ string_bytes text.old
+        ++ request_response_required error setters.now (pattern.RequestResponse there.now)) }
+{
+    if !is_by_types(error) {
+        return describe_required(error, setters, there, text);
+    }
+    describe_types(setters, there, text)
+}
+
+/// Whether the refusal is by the types of requests or of responses.
+fn is_by_types(error: RequestResponseOpenError) -> bool
+    ensures { result ≡ is_by_types error }
+{
+    error == RequestResponseOpenError::IncompatibleRequestType
+        || error == RequestResponseOpenError::IncompatibleResponseType
+}
+
+/// Writes of each part of requests and responses what it required and what is there.
+fn describe_types(
+    setters: &[RequestResponseSetter],
+    there: &StaticConfig,
+    text: &mut String,
+) -> Result<(), AllocError>
+    ensures { OnOk result (string_bytes text.new ≡ string_bytes text.old
+        ++ messages_lines (asked_messages setters.now) there.now) }
+{
+    let alloc = *text.allocator();
+    let RequestedMessages { request, response } = asked_types(setters)?;
+    let asked = request.prepare::<RequestHeader, Slice<CustomPayloadMarker>, CustomHeaderMarker>(
+        alloc,
+    )?;
+    let offered = &there.request_message_type_details;
+    describe_message("request_header", "request_payload", &asked, offered, text)?;
+    let asked = response.prepare::<ResponseHeader, Slice<CustomPayloadMarker>, CustomHeaderMarker>(
+        alloc,
+    )?;
+    let offered = &there.response_message_type_details;
+    describe_message("response_header", "response_payload", &asked, offered, text)
+}
+
+/// What a call asks after these setters of the types of its requests and responses. `AllocError` where there was
+/// no memory for their names.
+fn asked_types(setters: &[RequestResponseSetter]) -> Result<RequestedMessages, AllocError>
+    ensures { IfOk result (λ types. types ≡ (request_builder_after no_message_types setters.now).types) }
+{
+    let mut types = RequestedMessages {
+        request: RequestedTypes::none(),
+        response: RequestedTypes::none(),
+    };
+    let mut left = setters;
+    while let Some((setter, later)) = left.split_first() {
+        types = with_types(types, setter)?;
+        left = later;
+    }
+    Ok(types)
+}
+
+/// The types after one setter. `AllocError` where there was no memory for the name of a type.
+fn with_types(
+    mut types: RequestedMessages,
+    setter: &RequestResponseSetter,
+) -> Result<RequestedMessages, AllocError>
+    ensures { IfOk result (λ after. after ≡ (with_setting (request_builder types) setter.now).types) }
+{
+    match setter {
+        RequestResponseSetter::RequestPayloadType(detail) => {
+            types.request.payload = Some(detail.clone()?)
+        }
+        RequestResponseSetter::RequestHeaderType(detail) => {
+            types.request.user_header = Some(detail.clone()?)
+        }
+        RequestResponseSetter::RequestPayloadAlignment(asked) => {
+            types.request.alignment = Some(*asked)
+        }
+        RequestResponseSetter::ResponsePayloadType(detail) => {
+            types.response.payload = Some(detail.clone()?)
+        }
+        RequestResponseSetter::ResponseHeaderType(detail) => {
+            types.response.user_header = Some(detail.clone()?)
+        }
+        RequestResponseSetter::ResponsePayloadAlignment(asked) => {
+            types.response.alignment = Some(*asked)
+        }
+        _ => {}
+    }
+    Ok(types)
 }

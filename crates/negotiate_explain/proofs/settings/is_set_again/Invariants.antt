@@ -3,4 +3,4 @@ use Rattle.negotiate_explain.specs.Settings.{is_set_again}
 use Rattle.negotiate_explain.proofs.settings.is_set_again.Given as goal
 
 abbrev pub invariant-loop-other : goal.invariant-loop-other
-invariant-loop-other g l = is_set_again g.S.Compare.compared l.existing l.setter (take l.other-index l.later) ≡ false
+invariant-loop-other g l = is_set_again g.S.Compare.compared l.existing l.name (take l.other-index l.later) ≡ false
