@@ -7,7 +7,7 @@ use Rattle.iceoryx2_commands.specs.declared.command.Reply.{Reply}
 use Rattle.iceoryx2_session.specs.QuietSessions.{Moves}
 use Rattle.negotiate_serve.specs.declared.ending.Ending.{Ending}
 use Rattle.negotiate_serve.specs.declared.ending.Fault.{Fault}
-use Rattle.negotiate_serve.specs.declared.ending.Fault.TheVariants as fault
+use Rattle.negotiate_serve.specs.Endings.{IsOfWriting}
 use Rattle.negotiate_serve.specs.Outputs.{IsFrontOf}
 use Rattle.negotiate_serve.specs.Served.{ShowsMachine}
 use Rattle.negotiate_serve.specs.Transcripts.{Machine, first_machine, IsTranscriptBy}
@@ -42,7 +42,7 @@ pub data ExplainsInput (format : Format) (ended : Result Ending Fault) (input : 
     (old new : Option (List ℕ)) : Type 0 where
   explained : (said unread : List ℕ) → IsExplanation format input ended said unread
       → Appends old new (head_of format ++ said) → ExplainsInput format ended input old new
-  not_begun : (front : List ℕ) → ended ≡ Err fault.Writing → IsFrontOf front (head_of format)
+  not_begun : (f : Fault) (front : List ℕ) → ended ≡ Err f → IsOfWriting f → IsFrontOf front (head_of format)
       → Appends old new front → ExplainsInput format ended input old new
 
 -- ---- the explainer

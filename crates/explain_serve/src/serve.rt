@@ -16,7 +16,8 @@ use std::io::{Read, Write};
 /// format. It writes nothing else, each answer before the next line is read, and tells how it ended. Whatever
 /// that is, the factories that are still open are closed.
 ///
-/// `Fault` where reading or writing fails, and where memory runs out outside a call, which is told.
+/// `Fault` where the reader or the writer answers an error, where a count is at its end (`Fault` tells which), and
+/// where memory runs out outside a call, which is told.
 pub fn serve<R: Read + Drop, W: Write>(
     alloc: Global,
     input: R,

@@ -11,7 +11,7 @@ use Rattle.negotiate_serve.specs.declared.ending.Fault.TheVariants as fault
 use Rattle.negotiate_serve.specs.Endings.{IsOfReading}
 use Rattle.negotiate_serve.specs.Inputs.{lines_of, BeginsWith}
 use Rattle.negotiate_serve.specs.Outputs.{IsFrontOf}
-use Rattle.negotiate_serve.specs.Transcripts.{Answering, AnswersLineBy, no_memory, IsAnswered, EndsWith, out_of_memory}
+use Rattle.negotiate_serve.specs.Transcripts.{Answering, AnswersLineBy, no_memory, IsAnswered, IsCut, EndsWith, most_lines, out_of_memory}
 use Rattle.negotiate_serve.specs.Served.{EndsUntold, GoesOn, Stops, TakesTurn, AnswersAll, TellsFault, SaysFault, ServesBy}
 
 -- ---- the first lines of an input
@@ -105,10 +105,11 @@ module _ {M : Type 0} (Answers : Answering M) (first : M) (input : List ℕ) whe
     pub turn_fails : (f : Fault) → TakesTurn Answers (Err f) m k a.rest next p mid new → AnswersAll Answers first (Err f) input next old new
     turn_fails f turn = it_ends k left next old mid new m (Err f) a turn.said turn.answers turn.written
 
-  -- too many lines
-  pub too_many : (k : ℕ) (left last_left old new : Option (List ℕ)) (m : M) → SoFar Answers first input k left old new m
-      → AnswersAll Answers first (Err fault.Reading) input last_left old new
-  too_many k left last_left old new m a = it_ends k left last_left old new new m (Err fault.Reading) a [] (record { unread = []; ends = refl; left_is = tt }) (Appends-nil new)
+  -- as many lines as are answered at most
+  pub too_many : (k : ℕ) (left last_left old new : Option (List ℕ)) (m : M) → k ≡ most_lines + 1 → SoFar Answers first input k left old new m
+      → AnswersAll Answers first (Err fault.TooManyLines) input last_left old new
+  too_many k left last_left old new m most a =
+      it_ends k left last_left old new new m (Err fault.TooManyLines) a [] (record { unread = []; ends = (most, refl); left_is = tt }) (Appends-nil new)
 
   -- ---- a fault is told
 
@@ -132,13 +133,21 @@ module _ {M : Type 0} (Answers : Answering M) (first : M) (input : List ℕ) whe
       → EndsUntold Answers (Err before) m k rest last unread → EndsWith Answers (Err after) m k rest (last ++ more) unread
   ends_told fault.OutOfMemory fault.OutOfMemory more unread m k rest last tells kept = ap (λ l. l ++ more) kept ∙ tells
   ends_told fault.OutOfMemory fault.Writing more unread m k rest last tells kept =
-      (out_of_memory, no_memory, subst (λ l. IsFrontOf (l ++ more) out_of_memory) (sym kept) tells)
-  ends_told fault.OutOfMemory fault.Reading more unread m k rest last tells kept = absurd tells
+      (out_of_memory, no_memory, subst (λ l. IsFrontOf (l ++ more) out_of_memory) (sym kept) tells.1)
+  ends_told fault.OutOfMemory fault.TooManyTries more unread m k rest last tells kept =
+      (out_of_memory, no_memory, subst (λ l. IsFrontOf (l ++ more) out_of_memory) (sym kept) tells.1)
+  ends_told fault.OutOfMemory fault.Reading more unread m k rest last tells kept = absurd tells.0
+  ends_told fault.OutOfMemory fault.TooManyLines more unread m k rest last tells kept = absurd tells.0
   ends_told fault.Reading after more unread m k rest last tells kept =
       subst (λ f. EndsWith Answers (Err f) m k rest (last ++ more) unread) (sym tells.0) (ap (λ l. last ++ l) tells.1 ∙ append-nil last ∙ kept)
+  ends_told fault.TooManyLines after more unread m k rest last tells kept =
+      subst (λ f. EndsWith Answers (Err f) m k rest (last ++ more) unread) (sym tells.0) (kept.0, ap (λ l. last ++ l) tells.1 ∙ append-nil last ∙ kept.1)
   ends_told fault.Writing after more unread m k rest last tells cut =
       subst (λ f. EndsWith Answers (Err f) m k rest (last ++ more) unread) (sym tells.0)
-      (subst (λ l. EndsWith Answers (Err fault.Writing) m k rest l unread) (sym (ap (λ l. last ++ l) tells.1 ∙ append-nil last)) cut)
+      (subst (IsCut Answers m k rest) (sym (ap (λ l. last ++ l) tells.1 ∙ append-nil last)) cut)
+  ends_told fault.TooManyTries after more unread m k rest last tells cut =
+      subst (λ f. EndsWith Answers (Err f) m k rest (last ++ more) unread) (sym tells.0)
+      (subst (IsCut Answers m k rest) (sym (ap (λ l. last ++ l) tells.1 ∙ append-nil last)) cut)
 
   pub served : (e : Ending) (left old new : Option (List ℕ)) → AnswersAll Answers first (Ok e) input left old new
       → (unread : List ℕ) × ServesBy Answers first (Ok e) input unread old new × (left ≡ Some unread)
@@ -160,6 +169,8 @@ module _ {M : Type 0} (Answers : Answering M) (first : M) (input : List ℕ) whe
   nothing_said fault.Reading h = refl
   nothing_said fault.OutOfMemory h = refl
   nothing_said fault.Writing h = absurd h
+  nothing_said fault.TooManyLines h = absurd h
+  nothing_said fault.TooManyTries h = absurd h
 
   -- nothing is read
   pub served_nothing : (before after : Fault) (old new : Option (List ℕ)) → IsOfReading before → SaysFault before after old new
@@ -181,13 +192,6 @@ module _ {M : Type 0} (Answers : Answering M) (first : M) (input : List ℕ) whe
     left_is = tt;
     written = Appends-nil old;
   }) b
-
--- nothing is said of a fault of reading or writing
-pub tells_reading : (f : Fault) (old : Option (List ℕ)) → f ≡ fault.Reading → SaysFault f fault.Reading old old
-tells_reading f old is = subst (λ (e : Fault). SaysFault e fault.Reading old old) (sym is) (record { said = []; tells = (refl, refl); written = Appends-nil old })
-
-pub tells_writing : (f : Fault) (old : Option (List ℕ)) → f ≡ fault.Writing → SaysFault f fault.Writing old old
-tells_writing f old is = subst (λ (e : Fault). SaysFault e fault.Writing old old) (sym is) (record { said = []; tells = (refl, refl); written = Appends-nil old })
 
 -- a reader's bytes behind an empty buffer
 pub read_ahead : (capacity : ℕ) (buffer : List ℕ) (left : Option (List ℕ)) (bytes : List ℕ) → capacity ≡ 8192 → buffer ≡ [] → left ≡ Some bytes

@@ -32,8 +32,10 @@ module _ {A M : Type 0} (By : Answering A) (Of : Answering M) (Shows : A → M �
   ends_along (Ok ending.InputEnded) a m k rest last unread ends shows = ends
   ends_along (Ok ending.NotACommand) a m k rest last unread ends shows = ends
   ends_along (Err fault.Reading) a m k rest last unread ends shows = ends
+  ends_along (Err fault.TooManyLines) a m k rest last unread ends shows = ends
   ends_along (Err fault.OutOfMemory) a m k rest last unread ends shows = ends
   ends_along (Err fault.Writing) a m k rest last unread ends shows = (ends.0, next_along a m k rest ends.0 ends.1 shows, ends.2)
+  ends_along (Err fault.TooManyTries) a m k rest last unread ends shows = (ends.0, next_along a m k rest ends.0 ends.1 shows, ends.2)
 
   pub transcript_along : (a : A) (m : M) (input : List ℕ) (ended : Result Ending Fault) (said unread : List ℕ) → IsTranscriptBy By a input ended said unread → Shows a m
       → IsTranscriptBy Of m input ended said unread

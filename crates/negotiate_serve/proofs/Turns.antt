@@ -6,11 +6,11 @@ use Rattle.std.proofs.KnownBytes.{Appends-nil}
 use Rattle.negotiate_serve.specs.declared.ending.Ending.TheVariants as ending
 use Rattle.negotiate_serve.specs.declared.ending.Fault.{Fault}
 use Rattle.negotiate_serve.specs.declared.ending.Fault.TheVariants as fault
-use Rattle.negotiate_serve.specs.Endings.{IsOfReading}
+use Rattle.negotiate_serve.specs.Endings.{IsOfReading, IsOfWriting}
 use Rattle.negotiate_serve.specs.Inputs.{ReadsLine}
 use Rattle.negotiate_serve.specs.Outputs.{Says}
-use Rattle.negotiate_serve.specs.Transcripts.{Answering, AnswersLineBy, ComesNext, answer, no_command}
-use Rattle.negotiate_serve.specs.Served.{SaysOfLine, TakesTurn}
+use Rattle.negotiate_serve.specs.Transcripts.{Answering, AnswersLineBy, ComesNext, answer, no_command, IsCut}
+use Rattle.negotiate_serve.specs.Served.{EndsUntold, SaysOfLine, TakesTurn}
 
 -- what was read and said, by what the tests found
 pub as_read : (rest bytes line : List ℕ) (left : Option (List ℕ)) (found is : Bool) → ReadsLine rest found bytes left → found ≡ is → line ≡ bytes → ReadsLine rest is line left
@@ -41,6 +41,16 @@ module _ {M : Type 0} (Answers : Answering M) (m n : M) (k : ℕ) where
     turn_without_line fault.Reading old is = record { said = []; answers = record { unread = []; ends = refl; left_is = tt }; written = Appends-nil old }
     turn_without_line fault.OutOfMemory old is = turn_without_memory old
     turn_without_line fault.Writing old is = absurd is
+    turn_without_line fault.TooManyLines old is = absurd is
+    turn_without_line fault.TooManyTries old is = absurd is
+
+    -- a fault of writing cuts what comes next
+    ends_cut : (f : Fault) (last : List ℕ) → IsOfWriting f → IsCut Answers m k rest last → EndsUntold Answers (Err f) m k rest last []
+    ends_cut fault.Writing last is cut = cut
+    ends_cut fault.TooManyTries last is cut = cut
+    ends_cut fault.Reading last is cut = absurd is
+    ends_cut fault.TooManyLines last is cut = absurd is
+    ends_cut fault.OutOfMemory last is cut = absurd is
 
     module _ (line before text : List ℕ) (none : before ≡ []) (read : ReadsLine rest true line left) where
       -- the text is what is said of the line
@@ -80,8 +90,8 @@ module _ {M : Type 0} (Answers : Answering M) (m n : M) (k : ℕ) where
 
       pub turn_cut : (goes_on : Bool) (f : Fault) (old new : Option (List ℕ)) → SaysOfLine Answers goes_on m k line before text n → Says text (Err f) old new
           → TakesTurn Answers (Err f) m k rest left n old new
-      turn_cut goes_on f old new says written = subst (λ e. TakesTurn Answers (Err e) m k rest left n old new) (sym written.0) (record {
+      turn_cut goes_on f old new says written = record {
         said = written.1;
-        answers = record { unread = []; ends = (text, comes_next goes_on says, written.2); left_is = tt };
+        answers = record { unread = []; ends = ends_cut f written.1 written.0 (text, comes_next goes_on says, written.2); left_is = tt };
         written = written.3;
-      })
+      }

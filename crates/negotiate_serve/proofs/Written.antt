@@ -3,7 +3,7 @@ use Rattle.std.proofs.Common.{◌≡◌, ℕ, List, [], ◌∷◌, ◌++◌, Opt
 use Rattle.std.specs.Io.KnownBytes.{Appends, Keeps}
 use Rattle.std.proofs.KnownBytes.{Appends-nil, Appends-trans, Appends-kept}
 use Rattle.negotiate_serve.specs.declared.ending.Fault.{Fault}
-use Rattle.negotiate_serve.specs.declared.ending.Fault.TheVariants as fault
+use Rattle.negotiate_serve.specs.Endings.{IsOfWriting}
 use Rattle.negotiate_serve.specs.Outputs.{Says}
 
 -- a front was taken, and this is the rest
@@ -34,5 +34,5 @@ pub taken_all : (text rest : List ℕ) (old new : Option (List ℕ)) → HasTake
 taken_all text rest old new so_far none =
     subst (Appends old new) (sym (so_far.parts ∙ ap (λ l. so_far.front ++ l) (nothing_left rest none) ∙ append-nil so_far.front)) so_far.written
 
-pub taken_front : (text rest : List ℕ) (old new : Option (List ℕ)) (f : Fault) → f ≡ fault.Writing → HasTaken text rest old new → Says text (Err f) old new
+pub taken_front : (text rest : List ℕ) (old new : Option (List ℕ)) (f : Fault) → IsOfWriting f → HasTaken text rest old new → Says text (Err f) old new
 taken_front text rest old new f is so_far = (is, so_far.front, (rest, so_far.parts), so_far.written)

@@ -23,3 +23,13 @@ abbrev pub IsOfReading : Fault → Type 0
 IsOfReading fault.Reading = Unit {0}
 IsOfReading fault.OutOfMemory = Unit {0}
 IsOfReading fault.Writing = ⊥
+IsOfReading fault.TooManyLines = ⊥
+IsOfReading fault.TooManyTries = ⊥
+
+-- writing fails, or is interrupted too often
+abbrev pub IsOfWriting : Fault → Type 0
+IsOfWriting fault.Writing = Unit {0}
+IsOfWriting fault.TooManyTries = Unit {0}
+IsOfWriting fault.Reading = ⊥
+IsOfWriting fault.TooManyLines = ⊥
+IsOfWriting fault.OutOfMemory = ⊥

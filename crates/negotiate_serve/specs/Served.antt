@@ -15,6 +15,7 @@ use Rattle.negotiate_lines.specs.Lines.{IsLine}
 use Rattle.negotiate_serve.specs.declared.ending.Ending.{Ending}
 use Rattle.negotiate_serve.specs.declared.ending.Fault.{Fault}
 use Rattle.negotiate_serve.specs.declared.ending.Fault.TheVariants as fault
+use Rattle.negotiate_serve.specs.Endings.{IsOfWriting}
 use Rattle.negotiate_serve.specs.Inputs.{BeginsWith}
 use Rattle.negotiate_serve.specs.Outputs.{IsFrontOf}
 use Rattle.negotiate_serve.specs.Transcripts.{Answering, AnswersLineBy, IsAnswered, EndsWith, IsTranscriptBy}
@@ -94,11 +95,10 @@ pub record AnswersAll {M : Type 0} (Answers : Answering M) (first : M) (ended : 
   pub left_is : OnOk ended (left ≡ Some unread)
   pub written : Appends old new said
 
--- A fault is told: that memory ran out is said, and where that can't be written, writing is the fault.
+-- A fault is told: that memory ran out is said, and where that can't be written, the fault is one of writing.
 abbrev pub TellsFault : (before after : Fault) → (said : List ℕ) → Type 0
 TellsFault fault.OutOfMemory fault.OutOfMemory said = said ≡ out_of_memory
-TellsFault fault.OutOfMemory fault.Writing said = IsFrontOf said out_of_memory
-TellsFault fault.OutOfMemory fault.Reading said = ⊥
+TellsFault fault.OutOfMemory after said = IsOfWriting after × IsFrontOf said out_of_memory
 TellsFault before after said = (after ≡ before) × (said ≡ [])
 
 -- A fault is told, and the writer has taken what is said of it.

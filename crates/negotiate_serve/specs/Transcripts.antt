@@ -1,5 +1,5 @@
 -- What a program says of an input, line by line. docs/PROGRAM.md tells the same in words.
-use Rattle.std.specs.Prelude.{◌≡◌, ℕ, ◌+◌, List, [], ◌∷◌, ◌++◌, Option, None, Result, Ok, Err}
+use Rattle.std.specs.Prelude.{◌≡◌, ℕ, ◌+◌, ◌-◌, ◌^◌, List, [], ◌∷◌, ◌++◌, Option, None, Result, Ok, Err}
 use Rattle.std.specs.Prelude.{codes, decimal, length, replicate}
 use Rattle.std.specs.List.{concat}
 use Rattle.iceoryx2_access.specs.Registered.{Registered}
@@ -59,17 +59,26 @@ pub record IsNoCommand (k : ℕ) (rest last unread : List ℕ) : Type 0 where
   pub no_command : IsLine bytes line.NotACommand
   pub said : last ≡ not_a_command k
 
+-- The writer has taken a front of what comes next.
+abbrev pub IsCut : {M : Type 0} → Answering M → M → (number : ℕ) → (rest last : List ℕ) → Type 0
+IsCut Answers m k rest last = (next : List ℕ) × ComesNext Answers m k rest next × IsFrontOf last next
+
+-- how many lines are answered at most
+abbrev pub most_lines : ℕ
+most_lines = 2 ^ 64 - 2
+
 -- what is said last, behind the answers to lines, and what is left unread: at the end of the input, at a line that is
--- neither blank nor a command, where reading failed, where memory ran out, and where the writer failed, which has taken
--- a front of what comes next
+-- neither blank nor a command, where reading failed, behind as many lines as are answered at most, where memory ran
+-- out, and where the writer failed or was interrupted too often, which has taken a front of what comes next
 abbrev pub EndsWith : {M : Type 0} → Answering M → Result Ending Fault → M → (number : ℕ)
     → (rest last unread : List ℕ) → Type 0
 EndsWith Answers (Ok ending.InputEnded) m k rest last unread = (rest ≡ []) × (last ≡ []) × (unread ≡ [])
 EndsWith Answers (Ok ending.NotACommand) m k rest last unread = IsNoCommand k rest last unread
 EndsWith Answers (Err fault.Reading) m k rest last unread = last ≡ []
+EndsWith Answers (Err fault.TooManyLines) m k rest last unread = (k ≡ most_lines + 1) × (last ≡ [])
 EndsWith Answers (Err fault.OutOfMemory) m k rest last unread = last ≡ out_of_memory
-EndsWith Answers (Err fault.Writing) m k rest last unread =
-    (next : List ℕ) × ComesNext Answers m k rest next × IsFrontOf last next
+EndsWith Answers (Err fault.Writing) m k rest last unread = IsCut Answers m k rest last
+EndsWith Answers (Err fault.TooManyTries) m k rest last unread = IsCut Answers m k rest last
 
 -- The first lines of an input are answered one after the other, each by its text, and then it ends so. The number of
 -- the line that would be the next is counted from 1.

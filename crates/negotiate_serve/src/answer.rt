@@ -11,7 +11,8 @@ use negotiate_lines::line::{self, Line};
 use std::alloc::{AllocError, Global};
 use std::io::{BufRead, Write};
 
-/// Answers line after line, until the input ends or a line is no command. A fault isn't told here.
+/// Answers line after line, until the input ends, a line is no command, or 2^64 - 2 lines were answered, which is
+/// a fault. A fault isn't told here.
 pub fn answer_lines<A: Answerer, R: BufRead, W: Write>(
     alloc: Global,
     reader: &mut R,
@@ -31,7 +32,7 @@ pub fn answer_lines<A: Answerer, R: BufRead, W: Write>(
             return Ok(ending);
         }
     }
-    Err(Fault::Reading)
+    Err(Fault::TooManyLines)
 }
 
 /// Reads the next line and answers it by one write, which is flushed. It is the line with this number,

@@ -13,7 +13,7 @@ pub const DONE: u8 = 0;
 /// The status after a line that is no command.
 pub const NOT_A_COMMAND: u8 = 2;
 
-/// The status after a fault of reading or writing, or where memory ran out.
+/// The status after a fault.
 pub const FAULT: u8 = 3;
 
 /// How the program ends where nothing fails.
@@ -28,10 +28,14 @@ pub enum Ending {
 /// What keeps the program from going on.
 #[derive(Clone, Copy, Debug, PartialEq, Eq)]
 pub enum Fault {
-    /// Reading failed, or there are 2^64 - 2 lines.
+    /// The reader answered an error, other than an interruption or that memory ran out.
     Reading,
-    /// Writing failed.
+    /// The writer answered an error other than an interruption, or took nothing of a text that isn't empty.
     Writing,
+    /// 2^64 - 2 lines were answered. No further line is read.
+    TooManyLines,
+    /// The writer was interrupted 2^64 - 1 times, one after the other.
+    TooManyTries,
     /// Memory ran out outside a call.
     OutOfMemory,
 }

@@ -10,7 +10,8 @@ use std::io::BufRead;
 
 /// Reads the next line, without its end, in place of what `line` held, and tells whether there was one.
 ///
-/// `Fault` where reading fails, or there is no memory for the line. The reader is not to be used then.
+/// `Fault` where the reader answers an error, or there is no memory for the line. An interrupted read is tried
+/// again. The reader is not to be used behind a fault.
 pub fn next_line<R: BufRead>(reader: &mut R, line: &mut Vec<u8>) -> Result<bool, Fault>
     ensures read { IfOk result (λ found. (input : List ℕ) → R.remaining reader.old ≡ Some input
         → ReadsLine input found line.new.items (R.remaining reader.new)) }

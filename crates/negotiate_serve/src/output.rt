@@ -1,47 +1,85 @@
 //! What the program writes: one text after the other.
 
-ghost use Rattle.negotiate_serve.specs.Outputs.{Says, TakesFront};
+ghost use Rattle.std.specs.Prelude.{IfErr};
+ghost use Rattle.std.specs.Io.KnownBytes.{Keeps};
+ghost use Rattle.negotiate_serve.specs.Endings.{IsOfWriting};
+ghost use Rattle.negotiate_serve.specs.Outputs.{Says, TakesFront, TakesOnce};
 
 use crate::ending::Fault;
 use std::io::{ErrorKind, Write};
 
 /// Writes a text, and flushes it.
 ///
-/// `Fault::Writing` where writing or flushing fails. The writer has taken a front of the text then.
+/// `Fault` where the writer answers an error, takes nothing, or is interrupted 2^64 - 1 times one after the
+/// other. It has taken a front of the text then.
 pub fn say<W: Write>(text: &[u8], output: &mut W) -> Result<(), Fault>
     ensures { Says text.now result (W.contents output.old) (W.contents output.new) }
 {
     write_text(text, output)?;
-    match output.flush() {
-        Ok(()) => Ok(()),
-        Err(_) => Err(Fault::Writing),
-    }
+    flush(output)
 }
 
-/// Writes a text.
+/// Writes a text, in as many pieces as the writer takes.
 fn write_text<W: Write>(text: &[u8], output: &mut W) -> Result<(), Fault>
     ensures { Says text.now result (W.contents output.old) (W.contents output.new) }
 {
     let mut rest = text;
-    for _ in 0..u64::MAX {
-        if rest.is_empty() {
-            return Ok(());
-        }
+    while !rest.is_empty() {
         let count = write_front(rest, output)?;
         rest = &rest[count..];
     }
-    Err(Fault::Writing)
+    Ok(())
 }
 
-/// Writes a front of a text, and tells how long it is. It is empty only where writing was interrupted.
+/// Writes a front of a text that isn't empty, and tells how long it is. An interrupted write is tried again.
 fn write_front<W: Write>(text: &[u8], output: &mut W) -> Result<usize, Fault>
     ensures { TakesFront text.now result (W.contents output.old) (W.contents output.new) }
 {
+    for _ in 0..u64::MAX {
+        if let Some(count) = write_once(text, output)? {
+            return Ok(count);
+        }
+    }
+    Err(Fault::TooManyTries)
+}
+
+/// Asks the writer once to take a text that isn't empty, and tells how much of it it took, or `None` where it was
+/// interrupted.
+fn write_once<W: Write>(text: &[u8], output: &mut W) -> Result<Option<usize>, Fault>
+    ensures { TakesOnce text.now result (W.contents output.old) (W.contents output.new) }
+{
     match output.write(text) {
         Ok(0) => Err(Fault::Writing),
-        Ok(count) => Ok(count),
+        Ok(count) => Ok(Some(count)),
         Err(error) => match error.kind() {
-            ErrorKind::Interrupted => Ok(0),
+            ErrorKind::Interrupted => Ok(None),
+            _ => Err(Fault::Writing),
+        },
+    }
+}
+
+/// Flushes what was written. An interrupted flush is tried again.
+fn flush<W: Write>(output: &mut W) -> Result<(), Fault>
+    ensures kept { Keeps (W.contents output.old) (W.contents output.new) }
+    ensures err { IfErr result IsOfWriting }
+{
+    for _ in 0..u64::MAX {
+        if flush_once(output)? {
+            return Ok(());
+        }
+    }
+    Err(Fault::TooManyTries)
+}
+
+/// Asks the writer once to flush, and tells whether it did. It didn't where it was interrupted.
+fn flush_once<W: Write>(output: &mut W) -> Result<bool, Fault>
+    ensures kept { Keeps (W.contents output.old) (W.contents output.new) }
+    ensures err { IfErr result IsOfWriting }
+{
+    match output.flush() {
+        Ok(()) => Ok(true),
+        Err(error) => match error.kind() {
+            ErrorKind::Interrupted => Ok(false),
             _ => Err(Fault::Writing),
         },
     }

@@ -17,8 +17,8 @@ use std::io::{BufRead, BufReader, Read, Write};
 /// else, each reply before the next line is read, and tells how it ended. Whatever that is, the factories
 /// that are still open are closed.
 ///
-/// `Fault` where reading or writing fails, and where memory runs out outside a call, which is told. The
-/// writer has taken a front of a transcript then.
+/// `Fault` where the reader or the writer answers an error, where a count is at its end (`Fault` tells which), and
+/// where memory runs out outside a call, which is told. The writer has taken a front of a transcript then.
 pub fn serve<R: Read + Drop, W: Write>(
     alloc: Global,
     input: R,
@@ -97,7 +97,6 @@ pub fn tell_fault<W: Write>(fault: Fault, output: &mut W) -> Fault
             Ok(()) => Fault::OutOfMemory,
             Err(writing) => writing,
         },
-        Fault::Reading => Fault::Reading,
-        Fault::Writing => Fault::Writing,
+        _ => fault,
     }
 }

@@ -14,6 +14,8 @@ mod order;
 #[cfg(test)]
 mod replies;
 #[cfg(test)]
+mod retries;
+#[cfg(test)]
 mod scripts;
 #[cfg(test)]
 mod setting_terms;

@@ -1,4 +1,4 @@
-use Rattle.std.proofs.Common.{Result, refl, sym, subst, rules}
+use Rattle.std.proofs.Common.{Result, refl, sym, subst, rules, arith}
 use Rattle.negotiate_serve.specs.declared.ending.Ending.{Ending}
 use Rattle.negotiate_serve.specs.declared.ending.Fault.{Fault}
 use Rattle.negotiate_serve.specs.Served.{AnswersAll}
@@ -52,7 +52,7 @@ returns-in-Some-clause-stands g c = c.answer_next.ensures.stands c.loop-number.i
 pub returns-clause-said : goal.returns-clause-said
 returns-clause-said g c = λ input known.
     too_many g.A.Answerer.answers c.args.answerer.now input c.loop-number.number (g.R.Read.remaining c.loop-number.reader) (g.R.Read.remaining c.loop-number.reader)
-    (g.W.Write.contents c.args.output.now) (g.W.Write.contents c.loop-number.output) c.loop-number.answerer (c.loop-number.invariant.said input known)
+    (g.W.Write.contents c.args.output.now) (g.W.Write.contents c.loop-number.output) c.loop-number.answerer (omega (arith, c.loop-number-test.false, c.loop-number.auto.number-end)) (c.loop-number.invariant.said input known)
 
 pub returns-clause-stands : goal.returns-clause-stands
 returns-clause-stands g c = c.loop-number.invariant.stands
