@@ -4,6 +4,7 @@
 use explain_serve::format::Format;
 use explain_serve::serve::serve;
 use negotiate_serve::ending::{Fault, NOT_A_COMMAND, status};
+use negotiate_serve::report::report;
 use negotiate_serve::serve::tell_fault;
 use std::process::ExitCode;
 use std::{env, io};
@@ -24,21 +25,17 @@ fn asked_format(rt: &HostRuntime) -> io::Result<Option<Format>> {
 /// Answers the lines of the standard input on the standard output, and explains each reply.
 ///
 /// Ends with status 0, with 2 at a line that is no command and where the arguments are wrong, and with
-/// 3 where reading or writing fails or memory runs out outside a service call.
+/// 3 where there is a fault, of which the standard error has a line.
 fn main(rt: HostRuntime) -> ExitCode {
     let mut output = io::writer(&rt);
-    match asked_format(&rt) {
-        Ok(Some(format)) => {
-            let ended = serve(rt.alloc(), rt.reader(), &mut output, format);
-            ExitCode::from(status(ended))
-        }
+    let ended = match asked_format(&rt) {
+        Ok(Some(format)) => serve(rt.alloc(), rt.reader(), &mut output, format),
         Ok(None) => {
             let _ = eprintln!(rt; "usage: explain [--diagram] < LINES");
-            ExitCode::from(NOT_A_COMMAND)
+            return ExitCode::from(NOT_A_COMMAND);
         }
-        Err(error) => {
-            let fault = tell_fault(Fault::of_reading(&error), &mut output);
-            ExitCode::from(status(Err(fault)))
-        }
-    }
+        Err(error) => Err(tell_fault(Fault::of_reading(&error), &mut output)),
+    };
+    let _ = report("explain", ended, &mut rt.stderr());
+    ExitCode::from(status(ended))
 }

@@ -2,6 +2,7 @@
 #![tactic(auto)]
 
 use negotiate_serve::ending::{Fault, NOT_A_COMMAND, status};
+use negotiate_serve::report::report;
 use negotiate_serve::serve::{serve, tell_fault};
 use std::process::ExitCode;
 use std::{env, io};
@@ -16,18 +17,17 @@ fn has_arguments(rt: &HostRuntime) -> io::Result<bool> {
 /// Answers the lines of the standard input on the standard output.
 ///
 /// Ends with status 0, with 2 at a line that is no command and where there are arguments, and with
-/// 3 where reading or writing fails or memory runs out outside a service call.
+/// 3 where there is a fault, of which the standard error has a line.
 fn main(rt: HostRuntime) -> ExitCode {
     let mut output = io::writer(&rt);
-    match has_arguments(&rt) {
-        Ok(false) => ExitCode::from(status(serve(rt.alloc(), rt.reader(), &mut output))),
+    let ended = match has_arguments(&rt) {
+        Ok(false) => serve(rt.alloc(), rt.reader(), &mut output),
         Ok(true) => {
             let _ = eprintln!(rt; "usage: negotiate < LINES");
-            ExitCode::from(NOT_A_COMMAND)
+            return ExitCode::from(NOT_A_COMMAND);
         }
-        Err(error) => {
-            let fault = tell_fault(Fault::of_reading(&error), &mut output);
-            ExitCode::from(status(Err(fault)))
-        }
-    }
+        Err(error) => Err(tell_fault(Fault::of_reading(&error), &mut output)),
+    };
+    let _ = report("negotiate", ended, &mut rt.stderr());
+    ExitCode::from(status(ended))
 }

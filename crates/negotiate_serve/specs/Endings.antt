@@ -1,5 +1,5 @@
 -- How the program ends.
-use Rattle.std.specs.Prelude.{ℕ, Result, Ok, Err}
+use Rattle.std.specs.Prelude.{ℕ, List, [], ◌++◌, codes, Result, Ok, Err}
 use Rattle.std.specs.declared.io.ErrorKind.{ErrorKind}
 use Rattle.std.specs.declared.io.ErrorKind.TheVariants as kind
 use Rattle.negotiate_serve.specs.declared.ending.Ending.{Ending}
@@ -33,3 +33,16 @@ IsOfWriting fault.TooManyTries = Unit {0}
 IsOfWriting fault.Reading = ⊥
 IsOfWriting fault.TooManyLines = ⊥
 IsOfWriting fault.OutOfMemory = ⊥
+
+-- what is written of a fault behind the program's name
+abbrev pub reason_of : Fault → List ℕ
+reason_of fault.Reading = codes ": reading failed\n"
+reason_of fault.Writing = codes ": writing failed\n"
+reason_of fault.TooManyLines = codes ": too many lines\n"
+reason_of fault.TooManyTries = codes ": interrupted too often\n"
+reason_of fault.OutOfMemory = codes ": out of memory\n"
+
+-- what is written to the standard error where a program of this name ends: a fault's line, and else nothing
+abbrev pub report_of : (program : List ℕ) → Result Ending Fault → List ℕ
+report_of program (Ok end) = []
+report_of program (Err f) = program ++ reason_of f

@@ -2,7 +2,7 @@
 
 ghost use Rattle.std.specs.Prelude.{◌≡◌};
 ghost use Rattle.std.specs.IoError.{error_kind};
-ghost use Rattle.negotiate_serve.specs.Endings.{IsOfReading, fault_of_reading, status_of};
+ghost use Rattle.negotiate_serve.specs.Endings.{IsOfReading, fault_of_reading, reason_of, status_of};
 
 use std::alloc::AllocError;
 use std::io::{self, ErrorKind};
@@ -49,6 +49,19 @@ impl Fault {
         match error.kind() {
             ErrorKind::OutOfMemory => Fault::OutOfMemory,
             _ => Fault::Reading,
+        }
+    }
+
+    /// What is written of it behind the program's name, on the writer of errors.
+    pub fn reason(self) -> &'static str
+        ensures { result.now ≡ reason_of self }
+    {
+        match self {
+            Fault::Reading => ": reading failed\n",
+            Fault::Writing => ": writing failed\n",
+            Fault::TooManyLines => ": too many lines\n",
+            Fault::TooManyTries => ": interrupted too often\n",
+            Fault::OutOfMemory => ": out of memory\n",
         }
     }
 }

@@ -7,4 +7,5 @@ pub mod ending;
 pub mod input;
 pub mod output;
 pub mod reply;
+pub mod report;
 pub mod serve;

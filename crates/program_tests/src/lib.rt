@@ -14,6 +14,8 @@ mod order;
 #[cfg(test)]
 mod replies;
 #[cfg(test)]
+mod reports;
+#[cfg(test)]
 mod retries;
 #[cfg(test)]
 mod scripts;
