@@ -147,6 +147,91 @@ fn the_replies_are_those_of_negotiate(rt: HostRuntime) {
     }
 }
 
+/// The lines of a text that tell what was required or is lacking.
+fn required(alloc: Global, text: &str) -> Result<String, AllocError> {
+    let mut kept = String::new(alloc);
+    for line in text.lines() {
+        if line.starts_with("  required ") || line.starts_with("  first lacking ") {
+            kept.push_str(line)?;
+            kept.push_str("\n")?;
+        }
+    }
+    Ok(kept)
+}
+
+/// A service of poses, one of plans and one with attributes, each beside opens that it refuses, and what these
+/// required: of types each part of the messages, with the markers where no term names one.
+const REQUIRED: [(&str, &str); 7] = [
+    (
+        "pubsub create 1 0 poses payload=fixed,Pose,24,8 payload_alignment=64\npubsub open 2 1 poses\n",
+        "  required header fixed,publish_subscribe::Header,32,8, offered fixed,publish_subscribe::Header,32,8
+  required user_header fixed,CustomHeaderMarker,0,1, offered fixed,CustomHeaderMarker,0,1
+  required payload dynamic,CustomPayloadMarker,1,1, offered fixed,Pose,24,64
+",
+    ),
+    (
+        "pubsub create 1 0 poses payload=fixed,Pose,24,8 payload_alignment=64\n\
+        pubsub open_or_create 2 1 poses payload=fixed,Pose,32,8 payload_alignment=128 \
+        payload=fixed,Pose,24,8 user_header=fixed,Stamp,8,8\n",
+        "  required header fixed,publish_subscribe::Header,32,8, offered fixed,publish_subscribe::Header,32,8
+  required user_header fixed,Stamp,8,8, offered fixed,CustomHeaderMarker,0,1
+  required payload fixed,Pose,24,128, offered fixed,Pose,24,64
+",
+    ),
+    (
+        "rr create 1 0 plan request_payload=fixed,Goal,16,8 response_header=fixed,Stamp,8,8\n\
+        rr open 2 1 plan response_payload_alignment=4 response_payload=fixed,Way,6,2\n",
+        "  required header fixed,request_response::RequestHeader,32,8, offered fixed,request_response::RequestHeader,32,8
+  required request_header fixed,CustomHeaderMarker,0,1, offered fixed,CustomHeaderMarker,0,1
+  required request_payload dynamic,CustomPayloadMarker,1,1, offered fixed,Goal,16,8
+  required header fixed,request_response::ResponseHeader,32,8, offered fixed,request_response::ResponseHeader,32,8
+  required response_header fixed,CustomHeaderMarker,0,1, offered fixed,Stamp,8,8
+  required response_payload fixed,Way,6,4, offered dynamic,CustomPayloadMarker,1,1
+",
+    ),
+    (
+        "rr create 1 0 plan request_payload=fixed,Goal,16,8 response_header=fixed,Stamp,8,8\n\
+        rr open 2 1 plan request_payload_alignment=2 request_payload=fixed,Goal,16,8\n",
+        "  required header fixed,request_response::RequestHeader,32,8, offered fixed,request_response::RequestHeader,32,8
+  required request_header fixed,CustomHeaderMarker,0,1, offered fixed,CustomHeaderMarker,0,1
+  required request_payload fixed,Goal,16,8, offered fixed,Goal,16,8
+  required header fixed,request_response::ResponseHeader,32,8, offered fixed,request_response::ResponseHeader,32,8
+  required response_header fixed,CustomHeaderMarker,0,1, offered fixed,Stamp,8,8
+  required response_payload dynamic,CustomPayloadMarker,1,1, offered dynamic,CustomPayloadMarker,1,1
+",
+    ),
+    (
+        "pubsub create 1 0 a max_publishers=2\n\
+        pubsub open 2 1 a max_publishers=3 payload_alignment=1 max_publishers=9\n",
+        "  required max_publishers 9, offered 2\n",
+    ),
+    (
+        "event create 1 0 a attribute=k:1 attribute=k:2\n\
+        event open 2 1 a attribute=k:1 attribute=k:3 require_key=k\n",
+        "  first lacking attribute: k\n  required attribute k:1\n  required attribute k:3\n",
+    ),
+    (
+        "event create 1 0 a attribute=k:1\nevent open 2 1 a require_key=x require_key=k\n",
+        "  first lacking attribute: x\n",
+    ),
+];
+
+/// Ends a test whose input is explained with other lines of what was required.
+fn assert_required(rt: &impl Abort, alloc: Global, input: &str, wanted: &str) {
+    let (bytes, _) = explained(alloc, input, Format::Lines, usize::MAX);
+    match required(alloc, text_of(rt, bytes.as_slice())) {
+        Ok(text) => assert_same(rt, (input, text.as_str()), (input, wanted)),
+        Err(_) => panic!(rt; "no memory"),
+    }
+}
+
+#[test]
+fn each_part_of_a_message_that_does_not_fit_is_explained(rt: HostRuntime) {
+    for (input, wanted) in REQUIRED {
+        assert_required(&rt, rt.alloc(), input, wanted);
+    }
+}
+
 /// How much room there is, and what is printed in it of a diagram.
 const ROOMS: [(usize, &str); 3] = [
     (0, ""),
