@@ -1,13 +1,14 @@
 //! Builders with the types of a program.
 
 use crate::request_response::support::*;
+use iceoryx2_builder::builder::request_response::Builder;
 use iceoryx2_description::description::ServiceHash;
 use iceoryx2_errors::error::{RequestResponseCreateError, RequestResponseOpenError};
 use iceoryx2_port_factory::port_factory::request_response::PortFactory;
 use iceoryx2_table::local::Local;
 use iceoryx2_table::table::Table;
 use iceoryx2_types::types::TypeVariant::{Dynamic, FixedSize};
-use iceoryx2_types::types::{CustomPayloadMarker, Slice, ZeroCopySend};
+use iceoryx2_types::types::{CustomHeaderMarker, CustomPayloadMarker, Slice, ZeroCopySend};
 use std::alloc::Global;
 use std::process::Abort;
 
@@ -105,4 +106,70 @@ fn is_told(rt: &impl Abort, alloc: Global) -> (bool, bool) {
 #[test]
 fn other_user_headers_keep_payloads_and_alignments(rt: HostRuntime) {
     assert_same(&rt, is_told(&rt, rt.alloc()), (true, true));
+}
+
+/// A builder with a number of markers as payloads.
+type OfMarkers<QU, RU> = Builder<
+    Slice<CustomPayloadMarker>,
+    QU,
+    Slice<CustomPayloadMarker>,
+    RU,
+    Local,
+>;
+
+/// What requests and responses are made of whose user headers were told, whatever their own are.
+const HEADERS: Messages = &[
+    [
+        (FixedSize, "request_response::RequestHeader", 32, 8),
+        U32,
+        (Dynamic, "CustomPayloadMarker", 1, 1),
+    ],
+    [
+        (FixedSize, "request_response::ResponseHeader", 32, 8),
+        I64,
+        (Dynamic, "CustomPayloadMarker", 1, 1),
+    ],
+];
+
+/// A builder whose user headers are told.
+fn with_headers(rt: &impl Abort, alloc: Global, builder: Unnamed) -> Unnamed {
+    builder
+        .internal_set_request_header_type_details(detail(rt, alloc, U32))
+        .internal_set_response_header_type_details(detail(rt, alloc, I64))
+}
+
+/// Whether a builder creates a service with those user headers.
+fn has_headers<QU: ZeroCopySend, RU: ZeroCopySend>(
+    rt: &impl Abort,
+    alloc: Global,
+    builder: OfMarkers<QU, RU>,
+) -> bool {
+    let mut table = table_from(alloc, 0);
+    let factory = factory(rt, builder.create(&mut table));
+    let has_headers = are_of(factory.static_config(), HEADERS);
+    factory.abandon();
+    drop_table(table);
+    has_headers
+}
+
+/// Whether they stand where they were told before other user headers were chosen, and behind them.
+fn told_headers_stand(rt: &impl Abort, alloc: Global) -> (bool, bool) {
+    let before = with_headers(rt, alloc, unnamed(rt, alloc, 1))
+        .request_user_header::<u16>()
+        .response_user_header::<bool>();
+    let chosen = unnamed(rt, alloc, 1)
+        .request_user_header::<u16>()
+        .response_user_header::<bool>()
+        .request_user_header::<CustomHeaderMarker>()
+        .response_user_header::<CustomHeaderMarker>();
+    let behind = with_headers(rt, alloc, chosen);
+    (
+        has_headers(rt, alloc, before),
+        has_headers(rt, alloc, behind),
+    )
+}
+
+#[test]
+fn user_headers_that_are_told_stand_in_either_order(rt: HostRuntime) {
+    assert_same(&rt, told_headers_stand(&rt, rt.alloc()), (true, true));
 }
