@@ -35,7 +35,7 @@ ghost use Rattle.iceoryx2_call_laws.specs.Tickets.{tickets_after, tickets_after_
 ///
 /// `own` tells which nodes are one's own, the caller among them. Others are peers and all other nodes: before
 /// each access anything may happen that keeps what own nodes rely on. Over a table every node is one's own
-/// (`everyone`), and what is said of tickets and tags of own nodes is said of all.
+/// (`everyone`), so tickets and tags of own nodes are all that there are.
 ///
 /// A call is a word of its accesses. A create, an open and an open or create may prepare the types of
 /// their messages first; one that doesn't goes along a word of its grammar, which is a word of such a

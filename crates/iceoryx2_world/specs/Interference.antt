@@ -42,7 +42,7 @@ pub record KeepsOwn (own : ℕ → Bool) (w v : World) : Type 0 where
   pub locked : (i : ℕ) (h : ServiceHash) (n : ℕ) → own i ≡ true
       → locked_number (phase_of w (Node i) h) ≡ Some n → LacksSegment w h n → LacksSegment v h n
 
--- What own nodes rely on, whoever acts: where the world agrees all this is kept. Of others nothing is promised.
+-- What own nodes rely on, whoever acts: in a world that agrees all this is kept. Of other worlds nothing is asked.
 abbrev pub Rely : (own : ℕ → Bool) → World → World → Type 0
 Rely own w v = Agrees w → KeepsOwn own w v
 
