@@ -17,4 +17,6 @@ pub use iceoryx2_rounds::laws::{
 pub use iceoryx2_script::laws::{faults, scripts};
 pub use iceoryx2_session::laws::sessions;
 pub use iceoryx2_traced::laws::traces;
-pub use iceoryx2_world::laws::{accesses, agreement_of_worlds, batches, interference};
+pub use iceoryx2_world::laws::{
+    accesses, batches, laws_of_accesses, laws_of_counts, laws_of_standing, laws_of_steps,
+};

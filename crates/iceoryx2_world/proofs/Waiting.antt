@@ -1,13 +1,12 @@
 -- What a table with waiting batches does, in its world.
-use Rattle.std.proofs.Common.{◌≡◌, ℕ, Bool, zero, suc, inl, List, [], ◌∷◌, length, drop, refl, sym, ap, subst, ◌∙◌}
+use Rattle.std.proofs.Common.{◌≡◌, ℕ, Bool, zero, suc, List, [], ◌∷◌, length, drop, refl, sym, ap, subst, ◌∙◌}
 use Rattle.iceoryx2_world.specs.World.{World}
 use Rattle.iceoryx2_world.specs.Access.{IsOwnPart}
 use Rattle.iceoryx2_world.specs.Agreement.{Later}
 use Rattle.iceoryx2_world.specs.Across.{Agrees}
 use Rattle.iceoryx2_world.specs.Interference.{Others, nobody, peer_acts, After, everyone}
 use Rattle.iceoryx2_world.proofs.agreement.Accesses.{access_keeps, refusable}
-use Rattle.iceoryx2_world.proofs.agreement.Interference.{others_keep_own, among_others}
-use Rattle.iceoryx2_world.proofs.agreement.Accesses as kept
+use Rattle.iceoryx2_world.proofs.agreement.Interference.{among_others}
 use Rattle.iceoryx2_access.specs.Letter.{Letter}
 use Rattle.iceoryx2_access.specs.MayRefuse.{MayRefuse}
 use Rattle.iceoryx2_access.specs.Run.{Run, done, next}
@@ -89,14 +88,5 @@ pub waiting_after : {s t : TableState} {word : List Letter} → Run IsTableAcces
 waiting_after done = refl
 waiting_after {s = s} (next {word = word} a rest) = waiting_after rest ∙ ap (drop (length word)) a.rest ∙ drop_later (length word) s.waiting
 
-pub batch_keeps : {s t : World × ℕ} {batch : List Step} → IsBatch s batch t → Agrees s.0 → Agrees t.0 × Later s.0 t.0
-batch_keeps r old = let kept = others_keep_own everyone (batch_others r) old in (kept.agrees, kept.later)
-
 pub table_keeps : (s t : TableState) (l : Letter) → IsTableAccess s l t → Agrees s.world → Agrees t.world × Later s.world t.world
 table_keeps s t l a old = access_keeps s.world l t.world (among_others everyone s.world l t.world (table_access s t l a)) old
-
-pub refusable_run_keeps : {s t : TableState} {word : List Letter} → Run (MayRefuse IsTableAccess) s word t → Agrees s.world → Agrees t.world × Later s.world t.world
-refusable_run_keeps r old = kept.run_keeps (run_map (λ w. w) (λ w v l a. among_others everyone w l v a) (refusable_run r)) old
-
-pub table_run_keeps : {s t : TableState} {word : List Letter} → Run IsTableAccess s word t → Agrees s.world → Agrees t.world × Later s.world t.world
-table_run_keeps r old = refusable_run_keeps (run_map (λ s. s) (λ s t l a. inl a) r) old

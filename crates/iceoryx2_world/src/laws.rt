@@ -1,7 +1,7 @@
 //! What is true of every world of a table, whatever its nodes do and whatever steps peers take, and of a
 //! table at which batches of these steps wait.
 
-ghost use Rattle.std.specs.Prelude.{◌≡◌, ◌≢◌, ℕ, ◌+◌, ◌≤◌, List, [], ◌∷◌, ◌++◌};
+ghost use Rattle.std.specs.Prelude.{◌≡◌, ◌≢◌, ◌↔◌, ℕ, ◌+◌, ◌≤◌, List, [], ◌∷◌, ◌++◌};
 ghost use Rattle.std.specs.Prelude.{Option, Some, None, Result, Ok, Err, ◌⊎◌, length, drop, unwrap_or};
 ghost use Rattle.std.specs.Prelude.{Bool, true};
 ghost use Rattle.iceoryx2_description.specs.declared.description.ServiceHash.{ServiceHash};
@@ -41,73 +41,34 @@ ghost use Rattle.iceoryx2_world.specs.Tables.{TableState, IsTableAccess};
 ghost use Rattle.iceoryx2_world.specs.declared.world.Phase.TheVariants as at;
 ghost use Rattle.iceoryx2_world.specs.declared.batches.Act.TheVariants as act;
 
-/// A world agrees: at each service its row, its segment and the phases fit one another, and each
-/// node has as many tickets as its phases count. What a step makes of such a world agrees again and is
-/// later; what accesses make of it `interference` tells.
-pub fn agreement_of_worlds()
+/// Steps, of anyone: each is one of the fourteen, and what it makes of a world that agrees is later and agrees
+/// again, but for the tickets of nodes. A world agrees where at each service its row, its segment and the phases
+/// fit one another, and each node has as many tickets as its phases count.
+pub fn laws_of_steps()
     // A world in which nothing is there agrees, wherever its counter begins.
     ensures empty { (c : ℕ) → Agrees (empty_world c) }
 
     // A step is allowed, and comes to this, exactly where it is one of the fourteen.
     ensures allowed { (p : Participant) (h : ServiceHash) (act : Act)
         (x : Phase) (r : Option Row) (s : Option Segment) (c : ℕ) (new : ServiceView)
-        → view_after p h act x r s c ≡ Some new → IsStep p h act x r s c new }
-    ensures each_allowed { (p : Participant) (h : ServiceHash) (act : Act)
-        (x : Phase) (r : Option Row) (s : Option Segment) (c : ℕ) (new : ServiceView)
-        → IsStep p h act x r s c new → view_after p h act x r s c ≡ Some new }
+        → (view_after p h act x r s c ≡ Some new) ↔ IsStep p h act x r s c new }
 
-    // A step of anyone keeps everything but the tickets of nodes, and gives a later world.
+    // A step of anyone keeps everything but the tickets of nodes, and gives a later world. That a peer's step keeps
+    // these tickets too `others` of `laws_of_accesses` has.
     ensures step { (w v : World) (p : Participant) (h : ServiceHash) (act : Act)
         → IsAct act → world_after w p h act ≡ Some v
         → AgreesEverywhere w → AgreesOnNumbers w → AgreesEverywhere v × AgreesOnNumbers v × Later w v }
 
-    // A peer's step keeps these tickets too.
-    ensures peer { (w v : World) (id : ℕ) (h : ServiceHash) (act : Act)
-        → IsAct act → world_after w (Peer id) h act ≡ Some v → Agrees w → Agrees v × Later w v }
-
-    // No node has more tickets for a service than the counter says.
-    ensures few { (w : World) (i : ℕ) (h : ServiceHash) → Agrees w → ticket_count w.tickets i h ≤ w.counter }
-
-    // What is later than a later world is later, where the first one agrees.
-    ensures later { (u v w : World) → Agrees u → Later u v → Later v w → Later u w }
-
-    // Each ticket is one of a factory that stands.
-    ensures ticket { (w : World) (t : ℕ) (x : Ticket)
-        → Agrees w → ticket_of w t ≡ Some x
-        → (f : Registered) × (f.ticket ≡ t) × (ticket_for f ≡ x) × Stands w f }
-
-    // A step of anyone but its node leaves a standing factory standing.
-    ensures other { (w v : World) (p : Participant) (h : ServiceHash) (act : Act) (f : Registered)
-        → Node f.node ≢ p → IsAct act → world_after w p h act ≡ Some v
-        → Agrees w → Stands w f → Stands v f }
-
-    // The own part of an access changes a published description or a count only where it is a
-    // granted publishing, opening, release or removal of a description.
-    ensures calm { (w v : World) (l : Letter) → IsCalmLetter l → IsOwnPart w l v → SameServices w v }
-
-    // A node that holds the lock removes nothing that is published.
-    ensures unlock { (w v : World) (node number : ℕ) (h : ServiceHash) (answer : Result (Unit {0}) RemoveError)
-        → locked_number (phase_of w (Node node) h) ≡ Some number
-        → Agrees w → IsOwnPart w (RemoveDescription node h answer) v → SameServices w v }
-
-    // A granted publishing and a granted opening raise their node's count by one, and a granted
-    // release lowers it by one.
-    ensures publishing { (w v : World) (node number ticket : ℕ) (h : ServiceHash) (d : Description)
-        → IsOwnPart w (Publish node h number d (Ok ticket)) v
-        → count_of v (Node node) h ≡ count_of w (Node node) h + 1 }
-    ensures opening { (w v : World) (node number ticket : ℕ) (h : ServiceHash)
-        → IsOwnPart w (OpenSegment node h number (Ok ticket)) v
-        → count_of v (Node node) h ≡ count_of w (Node node) h + 1 }
-    ensures releasing { (w v : World) (node number ticket : ℕ) (h : ServiceHash) (left : Released)
-        → IsOwnPart w (Release ticket node h number (Ok left)) v → Agrees w
-        → count_of w (Node node) h ≡ count_of v (Node node) h + 1 }
+    // What is later than a later world is later, where the first one agrees at each service.
+    ensures later { (u v w : World) → AgreesEverywhere u → Later u v → Later v w → Later u w }
 {}
 
-/// Between two accesses of own nodes anything may happen that keeps the agreement and what these nodes have
-/// (`Rely`), as all that others do. An access after it keeps the agreement, and what stands for an own
-/// node's factory stays.
-pub fn interference()
-    // Peers, and nodes that aren't one's own, keep all that own nodes rely on, whatever they do and in any order.
+/// Accesses of own nodes, whatever others do before each of them. Between two of these anything may happen that
+/// keeps the agreement and what own nodes have (`Rely`), as all that others do. An access after it keeps
+/// the agreement.
+pub fn laws_of_accesses()
+    // Peers, and nodes that aren't one's own, keep all that own nodes rely on, whatever they do and in any order. So an
+    // access after what others do is one under interference, and one that may be refused is one that may be there.
     ensures others { (own : ℕ → Bool) (w v : World) → Others own w v → Rely own w v }
 
     // So does nothing that happens, and one such thing after another.
@@ -118,39 +79,38 @@ pub fn interference()
     ensures fewer { (own more : ℕ → Bool) (w v : World)
         → ((i : ℕ) → own i ≡ true → more i ≡ true) → Rely more w v → Rely own w v }
 
-    // An access after what others do is one under interference,
-    ensures among_others { (own : ℕ → Bool) (w v : World) (l : Letter)
-        → After (Others own) IsOwnPart w l v → IsAccessUnder own w l v }
-    // so is one that may be refused then,
-    ensures refused_among_others { (own : ℕ → Bool) (w v : World) (l : Letter)
-        → After (Others own) (MayRefuse IsOwnPart) w l v → IsFallibleUnder own w l v }
-    // and one that may be refused with nothing before it.
-    ensures may_refuse { (own : ℕ → Bool) (w v : World) (l : Letter)
-        → MayRefuse (IsAccessUnder own) w l v → IsFallibleUnder own w l v }
-
     // Where every node is one's own, the same tickets and the same tags of own nodes are all the same.
     ensures all_tickets { (j k : Tickets) → SameTickets everyone j k → k ≡ j }
     ensures all_tags { (s t : FinSet tag_cmp) → SameTags everyone s t → t ≡ s }
 
-    // An access under interference keeps the agreement and gives a later world, whether it is refused or not.
-    ensures access { (own : ℕ → Bool) (w v : World) (l : Letter)
-        → IsFallibleUnder own w l v → Agrees w → Agrees v × Later w v }
+    // An access under interference that is refused, with nothing before it, is one that may be refused.
+    ensures may_refuse { (own : ℕ → Bool) (w v : World) (l : Letter)
+        → MayRefuse (IsAccessUnder own) w l v → IsFallibleUnder own w l v }
 
-    // And so does any run of these.
+    // Any run of accesses under interference keeps the agreement and gives a later world, whichever are refused.
     ensures run { (own : ℕ → Bool) (w v : World) (word : List Letter)
         → Run (IsFallibleUnder own) w word v → Agrees w → Agrees v × Later w v }
 
     // A number that is spent at a service never comes back there.
     ensures spent { (own : ℕ → Bool) (w v : World) (l : Letter) (h : ServiceHash) (n : ℕ)
         → IsFallibleUnder own w l v → Agrees w → IsSpent w h n → IsSpent v h n }
+{}
 
-    // An own node's factory that stands goes on standing after every access of anyone, but a release of its ticket
-    // that is granted.
-    ensures stands { (own : ℕ → Bool) (w v : World) (l : Letter) (f : Registered)
-        → own f.node ≡ true → IsFallibleUnder own w l v → Spares f l → Agrees w → Stands w f → Stands v f }
+/// Standing factories: which stand, which accesses leave them so, and what gives one.
+pub fn laws_of_standing()
+    // Each ticket is one of a factory that stands.
+    ensures ticket { (w : World) (t : ℕ) (x : Ticket)
+        → Agrees w → ticket_of w t ≡ Some x
+        → (f : Registered) × (f.ticket ≡ t) × (ticket_for f ≡ x) × Stands w f }
 
-    // The same along a run.
-    ensures stands_along { (own : ℕ → Bool) (w v : World) (word : List Letter) (f : Registered)
+    // A step of anyone but its node leaves a standing factory standing.
+    ensures other { (w v : World) (p : Participant) (h : ServiceHash) (act : Act) (f : Registered)
+        → Node f.node ≢ p → IsAct act → world_after w p h act ≡ Some v
+        → Agrees w → Stands w f → Stands v f }
+
+    // An own node's factory that stands goes on standing whatever accesses follow, anybody's and refused ones among
+    // them, as long as none of them is a granted release of its own ticket.
+    ensures stands { (own : ℕ → Bool) (w v : World) (word : List Letter) (f : Registered)
         → own f.node ≡ true → Run (IsFallibleUnder own) w word v → Each (Spares f) word
         → Agrees w → Stands w f → Stands v f }
 
@@ -184,6 +144,33 @@ pub fn interference()
         × (w.counter ≤ ticket) }
 {}
 
+/// Counts: how many tickets a node has, and which own parts of accesses change what is published or counted.
+pub fn laws_of_counts()
+    // No node has more tickets for a service than the counter says.
+    ensures few { (w : World) (i : ℕ) (h : ServiceHash) → Agrees w → ticket_count w.tickets i h ≤ w.counter }
+
+    // The own part of an access changes a published description or a count only where it is a
+    // granted publishing, opening, release or removal of a description.
+    ensures calm { (w v : World) (l : Letter) → IsCalmLetter l → IsOwnPart w l v → SameServices w v }
+
+    // A node that holds the lock removes nothing that is published.
+    ensures unlock { (w v : World) (node number : ℕ) (h : ServiceHash) (answer : Result (Unit {0}) RemoveError)
+        → locked_number (phase_of w (Node node) h) ≡ Some number
+        → Agrees w → IsOwnPart w (RemoveDescription node h answer) v → SameServices w v }
+
+    // A granted publishing and a granted opening raise their node's count by one, and a granted
+    // release lowers it by one.
+    ensures publishing { (w v : World) (node number ticket : ℕ) (h : ServiceHash) (d : Description)
+        → IsOwnPart w (Publish node h number d (Ok ticket)) v
+        → count_of v (Node node) h ≡ count_of w (Node node) h + 1 }
+    ensures opening { (w v : World) (node number ticket : ℕ) (h : ServiceHash)
+        → IsOwnPart w (OpenSegment node h number (Ok ticket)) v
+        → count_of v (Node node) h ≡ count_of w (Node node) h + 1 }
+    ensures releasing { (w v : World) (node number ticket : ℕ) (h : ServiceHash) (left : Released)
+        → IsOwnPart w (Release ticket node h number (Ok left)) v → Agrees w
+        → count_of w (Node node) h ≡ count_of v (Node node) h + 1 }
+{}
+
 /// What a node's own part of an access answers and changes stands twice: as functions that make its
 /// tests in their order, and as a relation with one line for each line of the table. They are one.
 pub fn accesses()
@@ -196,16 +183,12 @@ pub fn accesses()
 
 /// What waits at a table is steps of peers and nothing else: its accesses are accesses of its
 /// world, and nodes' own parts alone where nothing waits. So what is true of runs of these is true
-/// of runs of a table with batches.
+/// of runs of a table with batches: a batch and each access keep the agreement and give a later world.
 pub fn batches()
     // A batch is steps of peers: others take them, whichever nodes are one's own.
     ensures batch { (own : ℕ → Bool) (s t : World × ℕ) (batch : List Step) → IsBatch s batch t → Others own s.0 t.0 }
 
-    // An access with its batch is one of the world, after what others do.
-    ensures access { (own : ℕ → Bool) (s t : TableState) (l : Letter)
-        → IsTableAccess s l t → After (Others own) IsOwnPart s.world l t.world }
-
-    // So is each of a run.
+    // Each access of a run, with its batch, is one of the world, after what others do.
     ensures run { (own : ℕ → Bool) (s t : TableState) (word : List Letter)
         → Run IsTableAccess s word t → Run (After (Others own) IsOwnPart) s.world word t.world }
 
@@ -227,20 +210,6 @@ pub fn batches()
     // Each access takes one batch off, in order.
     ensures taken { (s t : TableState) (word : List Letter)
         → Run IsTableAccess s word t → t.waiting ≡ drop (length word) s.waiting }
-
-    // A batch keeps the agreement and gives a later world.
-    ensures batch_keeps { (s t : World × ℕ) (batch : List Step)
-        → IsBatch s batch t → Agrees s.0 → Agrees t.0 × Later s.0 t.0 }
-
-    // So does an access with its batch.
-    ensures access_keeps { (s t : TableState) (l : Letter)
-        → IsTableAccess s l t → Agrees s.world → Agrees t.world × Later s.world t.world }
-
-    // So does any run of these, also where any access may be refused.
-    ensures run_keeps { (s t : TableState) (word : List Letter)
-        → Run IsTableAccess s word t → Agrees s.world → Agrees t.world × Later s.world t.world }
-    ensures refusable_keeps { (s t : TableState) (word : List Letter)
-        → Run (MayRefuse IsTableAccess) s word t → Agrees s.world → Agrees t.world × Later s.world t.world }
 
     // The count of skipped steps never falls, and stops at the last number.
     ensures counts { (s t : TableState) (word : List Letter)

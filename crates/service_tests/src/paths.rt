@@ -136,8 +136,10 @@ fn each_type_has_its_path(_rt: HostRuntime) {
 // So does this one.
 #[test]
 fn each_law_has_its_path(_rt: HostRuntime) {
-    laws::agreement_of_worlds();
-    laws::interference();
+    laws::laws_of_steps();
+    laws::laws_of_accesses();
+    laws::laws_of_standing();
+    laws::laws_of_counts();
     laws::accesses();
     laws::batches();
     laws::scripts();

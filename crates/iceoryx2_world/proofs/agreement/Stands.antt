@@ -23,7 +23,7 @@ use Rattle.iceoryx2_world.specs.Across.{Agrees}
 use Rattle.iceoryx2_access.specs.declared.storage.Release.{Release as Released}
 use Rattle.iceoryx2_access.specs.Letter.{Letter}
 use Rattle.iceoryx2_access.specs.Letter as letter
-use Rattle.iceoryx2_world.specs.Interference.{IsAccessUnder, IsFallibleUnder}
+use Rattle.iceoryx2_world.specs.Interference.{IsFallibleUnder}
 use Rattle.iceoryx2_access.specs.Registered.{Registered}
 use Rattle.iceoryx2_world.specs.Standing.{ticket_for, Stands, Spares}
 use Rattle.iceoryx2_access.specs.Run.{Each, Run, done, next}
@@ -35,7 +35,7 @@ use Rattle.iceoryx2_world.proofs.agreement.Maps.{set_cases}
 use Rattle.iceoryx2_world.proofs.agreement.Effects.{AllowedStep, allowed_step}
 use Rattle.iceoryx2_world.proofs.agreement.Worlds.{ticket_put, ticket_removed, place_cases, step_tickets}
 use Rattle.iceoryx2_world.proofs.agreement.Parts.{mine, Part, stays, tagged, calm, removed, publishes, joins, releases, own_part, publishing, joining, releasing, fetching, locking}
-use Rattle.iceoryx2_world.proofs.agreement.Accesses.{later_refl, later_trans, joined_means, own_keeps, access_keeps, faulty_keeps, run_keeps, granted, unrefused}
+use Rattle.iceoryx2_world.proofs.agreement.Accesses.{later_refl, later_trans, joined_means, own_keeps, access_keeps, faulty_keeps, run_keeps, granted}
 
 -- A factory stands where its ticket is and its node is registered, with what its service had before.
 pub stands_by : (u w : World) (f : Registered) → Later u w → IsDescription f.description → row_of u f.description.hash ≡ Some (row.Published f.number (form.description f.description)) → AgreesEverywhere w → joined_number (phase_of w (Node f.node) f.description.hash) ≡ Some f.number → ticket_of w f.ticket ≡ Some (ticket_for f) → Stands w f
@@ -111,9 +111,6 @@ faulty_stands w l v f mine a spares old s =
       | inl o ↦ part_ticket a.between l v f (own_part a.between l v o) spares left.agrees there
       | inr e ↦ ap (λ z. ticket_of z f.ticket) e.1 ∙ there
     ])
-
-pub access_stands : {own : ℕ → Bool} (w : World) (l : Letter) (v : World) (f : Registered) → own f.node ≡ true → IsAccessUnder own w l v → Spares f l → Agrees w → Stands w f → Stands v f
-access_stands w l v f mine a spares old s = faulty_stands w l v f mine (unrefused a) spares old s
 
 pub run_stands : {own : ℕ → Bool} {w v : World} {word : List Letter} (f : Registered) → own f.node ≡ true → Run (IsFallibleUnder own) w word v → Each (Spares f) word → Agrees w → Stands w f → Stands v f
 run_stands f mine done spares old s = s

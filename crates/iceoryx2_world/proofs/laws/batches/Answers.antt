@@ -1,12 +1,9 @@
-use Rattle.iceoryx2_world.proofs.Waiting.{batch_others, table_access, table_run, idle_run, own_access, waiting_after, refusable_run, batch_keeps, table_keeps, table_run_keeps, refusable_run_keeps}
+use Rattle.iceoryx2_world.proofs.Waiting.{batch_others, table_run, idle_run, own_access, waiting_after, refusable_run}
 use Rattle.iceoryx2_world.proofs.Counting.{run_counts, removing_step, reading_step, joining_step}
 use Rattle.iceoryx2_world.proofs.laws.batches.Goals as goal
 
 pub returns-clause-batch : goal.returns-clause-batch
 returns-clause-batch g = λ own s t batch r. batch_others {own = own} r
-
-pub returns-clause-access : goal.returns-clause-access
-returns-clause-access g = λ own s t l a. table_access {own = own} s t l a
 
 pub returns-clause-run : goal.returns-clause-run
 returns-clause-run g = λ own s t word r. table_run {own = own} r
@@ -22,18 +19,6 @@ returns-clause-own g = λ s l w e own. own_access s l w e own
 
 pub returns-clause-taken : goal.returns-clause-taken
 returns-clause-taken g = λ s t word r. waiting_after r
-
-pub returns-clause-batch_keeps : goal.returns-clause-batch_keeps
-returns-clause-batch_keeps g = λ s t batch r old. batch_keeps r old
-
-pub returns-clause-access_keeps : goal.returns-clause-access_keeps
-returns-clause-access_keeps g = λ s t l a old. table_keeps s t l a old
-
-pub returns-clause-run_keeps : goal.returns-clause-run_keeps
-returns-clause-run_keeps g = λ s t word r old. table_run_keeps r old
-
-pub returns-clause-refusable_keeps : goal.returns-clause-refusable_keeps
-returns-clause-refusable_keeps g = λ s t word r old. refusable_run_keeps r old
 
 pub returns-clause-counts : goal.returns-clause-counts
 returns-clause-counts g = λ s t word r small. run_counts r small

@@ -1,0 +1,17 @@
+use Rattle.iceoryx2_world.proofs.agreement.StepCases.{step_case, case_allowed}
+use Rattle.iceoryx2_world.proofs.agreement.Empty.{empty_agrees}
+use Rattle.iceoryx2_world.proofs.agreement.Worlds.{bare_keeps}
+use Rattle.iceoryx2_world.proofs.agreement.Accesses.{later_trans}
+use Rattle.iceoryx2_world.proofs.laws.laws_of_steps.Goals as goal
+
+pub returns-clause-empty : goal.returns-clause-empty
+returns-clause-empty g = λ c. empty_agrees c
+
+pub returns-clause-allowed : goal.returns-clause-allowed
+returns-clause-allowed g = λ p h act x r s c new. (step_case p h act x r s c new, case_allowed p h)
+
+pub returns-clause-step : goal.returns-clause-step
+returns-clause-step g = λ w v p h act ok e each numbered. bare_keeps w v p h act ok e each numbered
+
+pub returns-clause-later : goal.returns-clause-later
+returns-clause-later g = λ u v w each a b. later_trans u v w each a b
