@@ -1,17 +1,14 @@
--- The count of skipped steps, and which steps are never skipped.
+-- The count of skipped steps, and that a step that keeps nothing new is never skipped.
 use Rattle.std.proofs.Common.{◌≡◌, ℕ, ◌≤◌, false, List, sym, ap, subst, ◌∙◌, inl, inr, arith}
-use Rattle.std.specs.Prelude.{unwrap_or, ◌⊎◌}
-use Rattle.iceoryx2_world.specs.declared.world.Phase.TheVariants as at
-use Rattle.iceoryx2_world.specs.declared.world.Participant.TheVariants.{Peer}
-use Rattle.iceoryx2_world.specs.World.{World, phase_of}
+use Rattle.std.specs.Prelude.{unwrap_or}
+use Rattle.iceoryx2_world.specs.World.{World}
 use Rattle.iceoryx2_world.specs.Steps.{last_number}
 use Rattle.iceoryx2_access.specs.Counts.{one_more}
 use Rattle.iceoryx2_access.specs.Letter.{Letter}
 use Rattle.iceoryx2_access.specs.MayRefuse.{MayRefuse}
 use Rattle.iceoryx2_access.specs.Run.{Run}
-use Rattle.iceoryx2_world.specs.declared.batches.Act.TheVariants as stored
 use Rattle.iceoryx2_world.specs.declared.batches.Step.{Step}
-use Rattle.iceoryx2_world.specs.Batches.{act_of, effect, needs_room, may_starve, IsPeerStep, forbidden, acts, starves}
+use Rattle.iceoryx2_world.specs.Batches.{effect, may_starve, IsPeerStep, forbidden, acts, starves}
 use Rattle.iceoryx2_world.specs.Tables.{TableState, IsTableAccess}
 use Rattle.iceoryx2_world.proofs.Runs as runs
 
@@ -38,14 +35,3 @@ pub sure_step : (s t : World × ℕ) (x : Step) → may_starve s.0 x ≡ false �
 sure_step s t x free (forbidden e is) = is ∙ ap (λ o. (unwrap_or o s.0, s.1)) (sym e)
 sure_step s t x free (acts ok e same) = (λ j. (unwrap_or (sym e j) s.0, same j))
 sure_step s t x free (starves v e wants is) = absurd (grind (arith, wants, free))
-
-pub removing_step : (s t : World × ℕ) (x : Step) → (x.act ≡ stored.RemoveSegment) ⊎ (x.act ≡ stored.RemoveDescription) ⊎ (x.act ≡ stored.Leave) → IsPeerStep s x t → t ≡ (unwrap_or (effect s.0 x) s.0, s.1)
-removing_step s t x (inl e) h = sure_step s t x (ap (λ a. needs_room (act_of a) (phase_of s.0 (Peer x.peer) x.hash)) e) h
-removing_step s t x (inr (inl e)) h = sure_step s t x (ap (λ a. needs_room (act_of a) (phase_of s.0 (Peer x.peer) x.hash)) e) h
-removing_step s t x (inr (inr e)) h = sure_step s t x (ap (λ a. needs_room (act_of a) (phase_of s.0 (Peer x.peer) x.hash)) e) h
-
-pub reading_step : (s t : World × ℕ) (x : Step) (n : ℕ) → x.act ≡ stored.Read → phase_of s.0 (Peer x.peer) x.hash ≡ at.Read n → IsPeerStep s x t → t ≡ (unwrap_or (effect s.0 x) s.0, s.1)
-reading_step s t x n e p h = sure_step s t x (λ j. needs_room (act_of (e j)) (p j)) h
-
-pub joining_step : (s t : World × ℕ) (x : Step) (n k : ℕ) → x.act ≡ stored.Join → phase_of s.0 (Peer x.peer) x.hash ≡ at.Joined n k → IsPeerStep s x t → t ≡ (unwrap_or (effect s.0 x) s.0, s.1)
-joining_step s t x n k e p h = sure_step s t x (λ j. needs_room (act_of (e j)) (p j)) h

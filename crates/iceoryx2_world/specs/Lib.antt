@@ -13,5 +13,6 @@ pub mod Interference
 pub mod Standing
 pub mod Listing
 pub mod Calm
+pub mod Laws
 pub mod Batches
 pub mod Tables

@@ -1,45 +1,38 @@
 //! What is true of every world of a table, whatever its nodes do and whatever steps peers take, and of a
 //! table at which batches of these steps wait.
 
-ghost use Rattle.std.specs.Prelude.{◌≡◌, ◌≢◌, ◌↔◌, ℕ, ◌+◌, ◌≤◌, List, [], ◌∷◌, ◌++◌};
-ghost use Rattle.std.specs.Prelude.{Option, Some, None, Result, Ok, Err, ◌⊎◌, length, drop, unwrap_or};
-ghost use Rattle.std.specs.Prelude.{Bool, true};
+ghost use Rattle.std.specs.Prelude.{◌≡◌, ◌↔◌, ℕ, ◌≤◌, List, []};
+ghost use Rattle.std.specs.Prelude.{Option, Some, None, Ok, length, drop, unwrap_or};
+ghost use Rattle.std.specs.Prelude.{Bool, true, false};
 ghost use Rattle.iceoryx2_description.specs.declared.description.ServiceHash.{ServiceHash};
-ghost use Rattle.iceoryx2_description.specs.Description.{Description};
-ghost use Rattle.iceoryx2_byte_form.specs.Form.{IsForm};
 ghost use Rattle.iceoryx2_world.specs.declared.world.Participant.{Participant};
-ghost use Rattle.iceoryx2_world.specs.declared.world.Participant.TheVariants.{Node, Peer};
-ghost use Rattle.iceoryx2_world.specs.declared.world.Ticket.{Ticket};
-ghost use Rattle.iceoryx2_world.specs.World.{World, Segment, phase_of, locked_number, empty_world, ticket_of};
-ghost use Rattle.iceoryx2_world.specs.World.{ticket_count, count_of, Tickets};
+ghost use Rattle.iceoryx2_world.specs.World.{World, Segment, empty_world, ticket_of};
+ghost use Rattle.iceoryx2_world.specs.World.{ticket_count, Tickets};
 ghost use Rattle.iceoryx2_world.specs.Sets.{FinSet};
 ghost use Rattle.iceoryx2_world.specs.Orders.{tag_cmp};
-ghost use Rattle.iceoryx2_world.specs.Acts.{Act, IsAct};
-ghost use Rattle.iceoryx2_world.specs.Steps.{ServiceView, view_after, world_after, last_number};
+ghost use Rattle.iceoryx2_world.specs.Acts.{Act};
+ghost use Rattle.iceoryx2_world.specs.Steps.{ServiceView, view_after, last_number};
 ghost use Rattle.iceoryx2_world.specs.StepCases.{IsStep};
 ghost use Rattle.iceoryx2_world.specs.declared.world.Phase.{Phase};
 ghost use Rattle.iceoryx2_world.specs.declared.world.Row.{Row};
-ghost use Rattle.iceoryx2_access.specs.declared.storage.RemoveError.{RemoveError};
 ghost use Rattle.iceoryx2_access.specs.declared.storage.Release.{Release as Released};
-ghost use Rattle.iceoryx2_access.specs.declared.storage.ReleaseError.{ReleaseError};
 ghost use Rattle.iceoryx2_world.specs.Access.{IsOwnPart};
 ghost use Rattle.iceoryx2_world.specs.AccessCases.{IsOwnCase};
-ghost use Rattle.iceoryx2_access.specs.Letter.{Letter, Lock, Publish, Fetch, OpenSegment, RemoveDescription};
-ghost use Rattle.iceoryx2_access.specs.Letter.{Release};
-ghost use Rattle.iceoryx2_access.specs.Run.{Run, Each};
+ghost use Rattle.iceoryx2_access.specs.Letter.{Letter, Release};
+ghost use Rattle.iceoryx2_access.specs.Registered.{Registered};
+ghost use Rattle.iceoryx2_access.specs.Run.{Run};
 ghost use Rattle.iceoryx2_world.specs.Agreement.{AgreesEverywhere, Later, IsSpent};
-ghost use Rattle.iceoryx2_world.specs.Across.{AgreesOnNumbers, Agrees};
+ghost use Rattle.iceoryx2_world.specs.Across.{Agrees};
 ghost use Rattle.iceoryx2_world.specs.Interference.{Rely, Others, After, IsAccessUnder, IsFallibleUnder};
 ghost use Rattle.iceoryx2_world.specs.Interference.{SameTickets, SameTags, everyone};
 ghost use Rattle.iceoryx2_world.specs.Calm.{SameServices, IsCalmLetter};
-ghost use Rattle.iceoryx2_access.specs.Registered.{Registered};
-ghost use Rattle.iceoryx2_world.specs.Standing.{ticket_for, Stands, Spares};
 ghost use Rattle.iceoryx2_access.specs.MayRefuse.{MayRefuse};
+ghost use Rattle.iceoryx2_world.specs.Laws.{EachStepKeeps, EachTicketStands, StandsAfterOthers, StandsUntilReleased};
+ghost use Rattle.iceoryx2_world.specs.Laws.{IsReleased, StandsAsCreated, StandsAsOpened};
+ghost use Rattle.iceoryx2_world.specs.Laws.{UnlocksCalmly, PublishingCounts, OpeningCounts, ReleasingCounts};
 ghost use Rattle.iceoryx2_world.specs.declared.batches.Step.{Step};
-ghost use Rattle.iceoryx2_world.specs.Batches.{effect, IsPeerStep, IsBatch};
+ghost use Rattle.iceoryx2_world.specs.Batches.{effect, may_starve, IsPeerStep, IsBatch};
 ghost use Rattle.iceoryx2_world.specs.Tables.{TableState, IsTableAccess};
-ghost use Rattle.iceoryx2_world.specs.declared.world.Phase.TheVariants as at;
-ghost use Rattle.iceoryx2_world.specs.declared.batches.Act.TheVariants as act;
 
 /// Steps, of anyone: each is one of the fourteen, and what it makes of a world that agrees is later and agrees
 /// again, but for the tickets of nodes. A world agrees where at each service its row, its segment and the phases
@@ -55,9 +48,7 @@ pub fn laws_of_steps()
 
     // A step of anyone keeps everything but the tickets of nodes, and gives a later world. That a peer's step keeps
     // these tickets too `others` of `laws_of_accesses` has.
-    ensures step { (w v : World) (p : Participant) (h : ServiceHash) (act : Act)
-        → IsAct act → world_after w p h act ≡ Some v
-        → AgreesEverywhere w → AgreesOnNumbers w → AgreesEverywhere v × AgreesOnNumbers v × Later w v }
+    ensures step { EachStepKeeps }
 
     // What is later than a later world is later, where the first one agrees at each service.
     ensures later { (u v w : World) → AgreesEverywhere u → Later u v → Later v w → Later u w }
@@ -99,49 +90,27 @@ pub fn laws_of_accesses()
 /// Standing factories: which stand, which accesses leave them so, and what gives one.
 pub fn laws_of_standing()
     // Each ticket is one of a factory that stands.
-    ensures ticket { (w : World) (t : ℕ) (x : Ticket)
-        → Agrees w → ticket_of w t ≡ Some x
-        → (f : Registered) × (f.ticket ≡ t) × (ticket_for f ≡ x) × Stands w f }
+    ensures ticket { EachTicketStands }
 
     // A step of anyone but its node leaves a standing factory standing.
-    ensures other { (w v : World) (p : Participant) (h : ServiceHash) (act : Act) (f : Registered)
-        → Node f.node ≢ p → IsAct act → world_after w p h act ≡ Some v
-        → Agrees w → Stands w f → Stands v f }
+    ensures other { StandsAfterOthers }
 
-    // An own node's factory that stands goes on standing whatever accesses follow, anybody's and refused ones among
-    // them, as long as none of them is a granted release of its own ticket.
+    // An own node's factory stands until its ticket is released, whatever accesses follow.
     ensures stands { (own : ℕ → Bool) (w v : World) (word : List Letter) (f : Registered)
-        → own f.node ≡ true → Run (IsFallibleUnder own) w word v → Each (Spares f) word
-        → Agrees w → Stands w f → Stands v f }
+        → StandsUntilReleased own w v word f }
 
     // The table grants an own node the release of a standing factory's ticket.
-    ensures released { (own : ℕ → Bool) (w v : World) (f : Registered) (e : ReleaseError)
-        → own f.node ≡ true → Agrees w → Stands w f
-        → IsAccessUnder own w (Release f.ticket f.node f.description.hash f.number (Err e)) v → ⊥ }
+    ensures released { (own : ℕ → Bool) → IsReleased own }
 
     // A granted release takes the ticket out.
     ensures taken_out { (own : ℕ → Bool) (w v : World) (node number ticket : ℕ) (h : ServiceHash) (left : Released)
         → IsFallibleUnder own w (Release ticket node h number (Ok left)) v → ticket_of v ticket ≡ None }
 
-    // Who locks a service and publishes a description under the lock's number has a factory that
-    // stands with it. Its ticket is not below the counter at the beginning: no factory had it.
-    ensures created { (own : ℕ → Bool) (w v : World) (node number ticket : ℕ) (h : ServiceHash) (d : Description)
-        (word : List Letter)
-        → Run (IsFallibleUnder own) w
-        (Lock node h (Ok number) ∷ (word ++ Publish node h number d (Ok ticket) ∷ [])) v
-        → Agrees w
-        → Stands v (record { node = node; number = number; ticket = ticket; description = d })
-        × (d.hash ≡ h) × (w.counter ≤ ticket) }
+    // Who locks and publishes under the lock's number has a factory that stands, with a new ticket.
+    ensures created { (own : ℕ → Bool) → StandsAsCreated own }
 
-    // Who fetches a description and opens the segment of its number has a factory that stands with
-    // that very description, and a new ticket.
-    ensures opened { (own : ℕ → Bool) (w v : World) (node number ticket : ℕ) (h : ServiceHash) (d : Description)
-        (bytes : List ℕ) (word : List Letter)
-        → Run (IsFallibleUnder own) w
-        (Fetch node h (Ok (number, bytes)) ∷ (word ++ OpenSegment node h number (Ok ticket) ∷ [])) v
-        → IsForm d bytes → d.hash ≡ h → Agrees w
-        → Stands v (record { node = node; number = number; ticket = ticket; description = d })
-        × (w.counter ≤ ticket) }
+    // So has who fetches a description and opens the segment of its number.
+    ensures opened { (own : ℕ → Bool) → StandsAsOpened own }
 {}
 
 /// Counts: how many tickets a node has, and which own parts of accesses change what is published or counted.
@@ -154,21 +123,13 @@ pub fn laws_of_counts()
     ensures calm { (w v : World) (l : Letter) → IsCalmLetter l → IsOwnPart w l v → SameServices w v }
 
     // A node that holds the lock removes nothing that is published.
-    ensures unlock { (w v : World) (node number : ℕ) (h : ServiceHash) (answer : Result (Unit {0}) RemoveError)
-        → locked_number (phase_of w (Node node) h) ≡ Some number
-        → Agrees w → IsOwnPart w (RemoveDescription node h answer) v → SameServices w v }
+    ensures unlock { UnlocksCalmly }
 
     // A granted publishing and a granted opening raise their node's count by one, and a granted
     // release lowers it by one.
-    ensures publishing { (w v : World) (node number ticket : ℕ) (h : ServiceHash) (d : Description)
-        → IsOwnPart w (Publish node h number d (Ok ticket)) v
-        → count_of v (Node node) h ≡ count_of w (Node node) h + 1 }
-    ensures opening { (w v : World) (node number ticket : ℕ) (h : ServiceHash)
-        → IsOwnPart w (OpenSegment node h number (Ok ticket)) v
-        → count_of v (Node node) h ≡ count_of w (Node node) h + 1 }
-    ensures releasing { (w v : World) (node number ticket : ℕ) (h : ServiceHash) (left : Released)
-        → IsOwnPart w (Release ticket node h number (Ok left)) v → Agrees w
-        → count_of w (Node node) h ≡ count_of v (Node node) h + 1 }
+    ensures publishing { PublishingCounts }
+    ensures opening { OpeningCounts }
+    ensures releasing { ReleasingCounts }
 {}
 
 /// What a node's own part of an access answers and changes stands twice: as functions that make its
@@ -216,16 +177,8 @@ pub fn batches()
         → Run (MayRefuse IsTableAccess) s word t → s.skipped ≤ last_number
         → (s.skipped ≤ t.skipped) × (t.skipped ≤ last_number) }
 
-    // These are never skipped: where they are allowed they have their effect. What takes something away,
-    ensures removing { (s t : World × ℕ) (x : Step)
-        → (x.act ≡ act.RemoveSegment) ⊎ (x.act ≡ act.RemoveDescription) ⊎ (x.act ≡ act.Leave)
-        → IsPeerStep s x t → t ≡ (unwrap_or (effect s.0 x) s.0, s.1) }
-    // what reads once more,
-    ensures reading { (s t : World × ℕ) (x : Step) (n : ℕ)
-        → x.act ≡ act.Read → phase_of s.0 (Peer x.peer) x.hash ≡ at.Read n
-        → IsPeerStep s x t → t ≡ (unwrap_or (effect s.0 x) s.0, s.1) }
-    // and what joins once more.
-    ensures joining { (s t : World × ℕ) (x : Step) (n k : ℕ)
-        → x.act ≡ act.Join → phase_of s.0 (Peer x.peer) x.hash ≡ at.Joined n k
-        → IsPeerStep s x t → t ≡ (unwrap_or (effect s.0 x) s.0, s.1) }
+    // A step that keeps nothing new is never skipped: where it is allowed it has its effect. Such is each that takes
+    // something away, reads once more or joins once more.
+    ensures sure { (s t : World × ℕ) (x : Step)
+        → may_starve s.0 x ≡ false → IsPeerStep s x t → t ≡ (unwrap_or (effect s.0 x) s.0, s.1) }
 {}

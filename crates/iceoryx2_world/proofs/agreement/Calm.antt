@@ -1,13 +1,11 @@
 -- Accesses that change nothing published and no count, and words of such.
 use Rattle.std.proofs.Common.{◌≡◌, ℕ, ◌+◌, ◌≤◌, Bool, true, false, inl, inr, List, [], ◌∷◌, ◌++◌, Option, Some, None, Result, Ok, refl, sym, ap, subst, ◌∙◌}
 use Rattle.iceoryx2_description.specs.declared.description.ServiceHash.{ServiceHash}
-use Rattle.iceoryx2_description.specs.Description.{Description}
 use Rattle.iceoryx2_world.specs.declared.world.Participant.{Participant}
 use Rattle.iceoryx2_world.specs.declared.world.Participant.TheVariants.{Node}
 use Rattle.iceoryx2_world.specs.declared.world.Phase.{Phase}
 use Rattle.iceoryx2_world.specs.declared.world.Phase.TheVariants as at
 use Rattle.iceoryx2_access.specs.declared.storage.RemoveError.{RemoveError}
-use Rattle.iceoryx2_access.specs.declared.storage.Release.{Release as Released}
 use Rattle.iceoryx2_world.specs.declared.world.Row.{Row}
 use Rattle.iceoryx2_world.specs.Orders.{hash_total, hash_exact}
 use Rattle.iceoryx2_world.specs.World.{World, Segment, row_of, segment_of, phase_of, begins, locked_number, join_count}
@@ -20,6 +18,7 @@ use Rattle.iceoryx2_access.specs.Letter as letter
 use Rattle.iceoryx2_world.specs.Access.{IsOwnPart}
 use Rattle.iceoryx2_world.specs.Calm.{published_of, SameServices, IsCalmLetter}
 use Rattle.iceoryx2_world.specs.StepCases.{IsStep, reads, locks as row_locks, clears, makes, unmakes, unlocks as row_unlocks, publishes as row_publishes, joins as row_joins, joins_again, leaves_once, leaves, leaves_last, clears_last, ends as row_ends}
+use Rattle.iceoryx2_world.specs.Laws.{UnlocksCalmly, PublishingCounts, OpeningCounts, ReleasingCounts}
 use Rattle.iceoryx2_world.proofs.agreement.StepCases.{step_case}
 use Rattle.iceoryx2_world.proofs.agreement.Maps.{set_cases}
 use Rattle.iceoryx2_world.proofs.agreement.Effects.{PhaseChange, Gains, Idles, AllowedStep, allowed_step, step_effect}
@@ -130,7 +129,7 @@ part_unlocks w v i h n a lock old (joins j g m t is p) = absurd (cc)
 part_unlocks w v i h n a lock old (releases t j g m b is p) = absurd (cc)
 
 -- who holds the lock takes away no description but its own lock
-pub own_unlocks : (w v : World) (i : ℕ) (h : ServiceHash) (n : ℕ) (a : Result (Unit {0}) RemoveError) → locked_number (phase_of w (Node i) h) ≡ Some n → Agrees w → IsOwnPart w (letter.RemoveDescription i h a) v → SameServices w v
+pub own_unlocks : UnlocksCalmly
 own_unlocks w v i h n a lock old o = part_unlocks w v i h n a lock old (own_part w (letter.RemoveDescription i h a) v o)
 
 -- the count at a step's place, in a world with the same phases
@@ -138,14 +137,14 @@ gained : (w u : World) (i : ℕ) (h : ServiceHash) (a : Act) → ((x y : Phase) 
 gained w u i h a gain e = elim (step_places w u i h a (allowed_step w u (Node i) h a e) i h) [ inl k ↦ (gain _ _ k.2).count | inr k ↦ absurd (k.0 refl refl) ]
 
 -- A publishing and an opening raise the count of their node by one.
-pub publishing_counts : (w v : World) (i : ℕ) (h : ServiceHash) (n : ℕ) (d : Description) (t : ℕ) → IsOwnPart w (letter.Publish i h n d (Ok t)) v → join_count (phase_of v (Node i) h) ≡ join_count (phase_of w (Node i) h) + 1
+pub publishing_counts : PublishingCounts
 publishing_counts w v i h n d t o = let p = publishing w v i h n d t o in ap (λ z. join_count (phase_of z (Node i) h)) p.is ∙ gained w p.mid i h (act.Publish d) (λ x y g. g) p.step
 
-pub joining_counts : (w v : World) (i : ℕ) (h : ServiceHash) (n t : ℕ) → IsOwnPart w (letter.OpenSegment i h n (Ok t)) v → join_count (phase_of v (Node i) h) ≡ join_count (phase_of w (Node i) h) + 1
+pub joining_counts : OpeningCounts
 joining_counts w v i h n t o = let p = joining w v i h n t o in ap (λ z. join_count (phase_of z (Node i) h)) p.is ∙ gained w p.mid i h act.Join (λ x y g. g) p.step
 
 -- A release lowers it by one.
-pub releasing_counts : (w v : World) (t i : ℕ) (h : ServiceHash) (n : ℕ) (a : Released) → IsOwnPart w (letter.Release t i h n (Ok a)) v → Agrees w → join_count (phase_of w (Node i) h) ≡ join_count (phase_of v (Node i) h) + 1
+pub releasing_counts : ReleasingCounts
 releasing_counts w v t i h n a o old =
     let p = releasing w v t i h n a o in
     let j = joined_means _ n (old.held.number t _ p.ticket) in

@@ -12,16 +12,14 @@ use Rattle.iceoryx2_access.specs.declared.storage.RemoveError.{RemoveError}
 use Rattle.iceoryx2_world.specs.declared.world.Row.{Row}
 use Rattle.iceoryx2_world.specs.Orders.{hash_total, hash_exact}
 use Rattle.iceoryx2_world.specs.World.{World, Segment, row_of, segment_of, phase_of, ticket_of, Tickets}
-use Rattle.iceoryx2_world.specs.Acts.{Act}
 use Rattle.iceoryx2_world.specs.Acts as act
 use Rattle.iceoryx2_world.specs.Steps.{ServiceView, view_after, to_view, leave_of, has_others, without_one, without_any}
 use Rattle.iceoryx2_world.specs.Across.{Agrees}
-use Rattle.iceoryx2_access.specs.Letter.{Letter}
 use Rattle.iceoryx2_access.specs.Letter as letter
 use Rattle.iceoryx2_world.specs.Access.{Change, node_view, own_step, or_refused, IsSureAnswer, release_of, is_ticket}
 use Rattle.iceoryx2_world.specs.Interference.{IsAccessUnder}
-use Rattle.iceoryx2_access.specs.Registered.{Registered}
-use Rattle.iceoryx2_world.specs.Standing.{ticket_for, Stands}
+use Rattle.iceoryx2_world.specs.Standing.{ticket_for}
+use Rattle.iceoryx2_world.specs.Laws.{IsReleased}
 use Rattle.iceoryx2_world.proofs.agreement.Maps.{self}
 use Rattle.iceoryx2_world.proofs.agreement.Accesses.{joined_means}
 
@@ -49,7 +47,7 @@ release_refused i h t k true other o e c is s = left_refused i h t k o e c s
 release_refused i h t k false other o e c is s = absurd (cc)
 
 -- A standing factory's ticket is released.
-pub release_granted : {own : ℕ → Bool} (w v : World) (f : Registered) (e : ReleaseError) → own f.node ≡ true → Agrees w → Stands w f → IsAccessUnder own w (letter.Release f.ticket f.node f.description.hash f.number (Err e)) v → ⊥
+pub release_granted : {own : ℕ → Bool} → IsReleased own
 release_granted w v f e mine old s a =
     let u = a.between in
     let i = f.node in

@@ -15,7 +15,7 @@ use Rattle.iceoryx2_world.specs.declared.world.Row.{Row}
 use Rattle.iceoryx2_world.specs.declared.world.Row.TheVariants as row
 use Rattle.iceoryx2_world.specs.Orders.{hash_total, hash_exact}
 use Rattle.iceoryx2_world.specs.World.{World, Segment, row_of, segment_of, phase_of, joined_number, locked_number, ticket_of}
-use Rattle.iceoryx2_world.specs.Acts.{Act, IsAct}
+use Rattle.iceoryx2_world.specs.Acts.{Act}
 use Rattle.iceoryx2_world.specs.Acts as act
 use Rattle.iceoryx2_world.specs.Steps.{ServiceView, world_after}
 use Rattle.iceoryx2_world.specs.Agreement.{AgreesEverywhere, Later}
@@ -26,10 +26,11 @@ use Rattle.iceoryx2_access.specs.Letter as letter
 use Rattle.iceoryx2_world.specs.Interference.{IsFallibleUnder}
 use Rattle.iceoryx2_access.specs.Registered.{Registered}
 use Rattle.iceoryx2_world.specs.Standing.{ticket_for, Stands, Spares}
-use Rattle.iceoryx2_access.specs.Run.{Each, Run, done, next}
+use Rattle.iceoryx2_access.specs.Run.{Each, done, next}
 use Rattle.iceoryx2_access.proofs.Run.{split, head, last}
 use Rattle.iceoryx2_world.proofs.agreement.Whole.{after_keeps}
 use Rattle.iceoryx2_world.specs.StepCases.{IsStep, publishes as row_publishes}
+use Rattle.iceoryx2_world.specs.Laws.{EachTicketStands, StandsAfterOthers, StandsUntilReleased, StandsAsCreated, StandsAsOpened}
 use Rattle.iceoryx2_world.proofs.agreement.StepCases.{step_case}
 use Rattle.iceoryx2_world.proofs.agreement.Maps.{set_cases}
 use Rattle.iceoryx2_world.proofs.agreement.Effects.{AllowedStep, allowed_step}
@@ -54,7 +55,7 @@ pub stands_by_ticket : (u w : World) (f : Registered) → Later u w → IsDescri
 stands_by_ticket u w f later limits was a ticket = stands_by u w f later limits was a.everywhere (a.held.number f.ticket (ticket_for f) ticket) ticket
 
 -- In a world that agrees each ticket is one of a factory that stands.
-pub ticket_stands : (w : World) (t : ℕ) (x : Ticket) → Agrees w → ticket_of w t ≡ Some x → (f : Registered) × (f.ticket ≡ t) × (ticket_for f ≡ x) × Stands w f
+pub ticket_stands : EachTicketStands
 ticket_stands w t x a e =
     let j = joined_means _ x.number (a.held.number t x e) in
     let c = (a.everywhere x.hash).joined (Node x.node) x.number j.0 j.1 in
@@ -65,7 +66,7 @@ ticket_stands w t x a e =
     (f, refl, same, stands_by_ticket w w f (later_refl w) d.form.0 row a (e ∙ ap Some (sym same)))
 
 -- A step of another participant.
-pub other_stands : (w v : World) (p : Participant) (g : ServiceHash) (a : Act) (f : Registered) → (Node f.node ≢ p) → IsAct a → world_after w p g a ≡ Some v → Agrees w → Stands w f → Stands v f
+pub other_stands : StandsAfterOthers
 other_stands w v p g a f apart ok e old s =
     let st = allowed_step w v p g a e in
     let kept = after_keeps w v p g a ok e old.everywhere in
@@ -112,7 +113,7 @@ faulty_stands w l v f mine a spares old s =
       | inr e ↦ ap (λ z. ticket_of z f.ticket) e.1 ∙ there
     ])
 
-pub run_stands : {own : ℕ → Bool} {w v : World} {word : List Letter} (f : Registered) → own f.node ≡ true → Run (IsFallibleUnder own) w word v → Each (Spares f) word → Agrees w → Stands w f → Stands v f
+pub run_stands : {own : ℕ → Bool} {w v : World} {word : List Letter} (f : Registered) → StandsUntilReleased own w v word f
 run_stands f mine done spares old s = s
 run_stands {w = u} {v = w} f mine (next {mid = v} {letter = l} a rest) spares old s = run_stands f mine rest spares.1 (faulty_keeps u l v a old).0 (faulty_stands u l v f mine a spares.0 old s)
 
@@ -180,7 +181,7 @@ locked_number_new w v i h n e old =
     grind (arith, (a.before old).later.counter, (locking a.between v i h n a.part).0)
 
 -- From the lock to the publishing.
-pub created_stands : {own : ℕ → Bool} (u v : World) (i : ℕ) (h : ServiceHash) (n : ℕ) (d : Description) (t : ℕ) (word : List Letter) → Run (IsFallibleUnder own) u (letter.Lock i h (Ok n) ∷ (word ++ letter.Publish i h n d (Ok t) ∷ [])) v → Agrees u → Stands v (record { node = i; number = n; ticket = t; description = d }) × (d.hash ≡ h) × (u.counter ≤ t)
+pub created_stands : {own : ℕ → Bool} → StandsAsCreated own
 created_stands u v i h n d t word run old =
     let first = head run in
     let rest = split word _ first.rest in
@@ -190,7 +191,7 @@ created_stands u v i h n d t word run old =
     (published.0, published.1, grind (arith, locked_number_new u first.mid i h n first.first old, published.2))
 
 -- From the fetch to the opening.
-pub found_stands : {own : ℕ → Bool} (u v : World) (i : ℕ) (h : ServiceHash) (n : ℕ) (d : Description) (b : List ℕ) (t : ℕ) (word : List Letter) → Run (IsFallibleUnder own) u (letter.Fetch i h (Ok (n, b)) ∷ (word ++ letter.OpenSegment i h n (Ok t) ∷ [])) v → form.IsForm d b → d.hash ≡ h → Agrees u → Stands v (record { node = i; number = n; ticket = t; description = d }) × (u.counter ≤ t)
+pub found_stands : {own : ℕ → Bool} → StandsAsOpened own
 found_stands u v i h n d b t word run is hash old =
     let first = head run in
     let rest = split word _ first.rest in

@@ -17,6 +17,7 @@ use Rattle.iceoryx2_world.specs.Steps.{ServiceView, put, world_after}
 use Rattle.iceoryx2_world.specs.Agreement.{AgreesEverywhere, Later}
 use Rattle.iceoryx2_world.proofs.agreement.Whole.{AgreesAt-later, after_keeps, stored}
 use Rattle.iceoryx2_world.specs.Across.{AgreesOnNumbers, Agrees}
+use Rattle.iceoryx2_world.specs.Laws.{EachStepKeeps}
 use Rattle.iceoryx2_world.proofs.agreement.Maps.{set_cases}
 use Rattle.iceoryx2_world.proofs.agreement.Effects.{Gains, Idles, PhaseChange, AllowedStep, allowed_step, step_effect}
 use Rattle.iceoryx2_world.proofs.agreement.Holding.{Places, held_same, held_more, held_less}
@@ -127,7 +128,7 @@ numbered_less w v t x there tickets rows rises old =
     }
 
 -- any step keeps all but the tickets of nodes
-pub bare_keeps : (w v : World) (p : Participant) (h : ServiceHash) (a : Act) → IsAct a → world_after w p h a ≡ Some v → AgreesEverywhere w → AgreesOnNumbers w → AgreesEverywhere v × AgreesOnNumbers v × Later w v
+pub bare_keeps : EachStepKeeps
 bare_keeps w v p h a ok e each numbered =
     let kept = after_keeps w v p h a ok e each in
     (kept.0, step_numbered w v p h a (allowed_step w v p h a e) each numbered, kept.1)

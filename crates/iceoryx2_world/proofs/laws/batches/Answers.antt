@@ -1,5 +1,5 @@
 use Rattle.iceoryx2_world.proofs.Waiting.{batch_others, table_run, idle_run, own_access, waiting_after, refusable_run}
-use Rattle.iceoryx2_world.proofs.Counting.{run_counts, removing_step, reading_step, joining_step}
+use Rattle.iceoryx2_world.proofs.Counting.{run_counts, sure_step}
 use Rattle.iceoryx2_world.proofs.laws.batches.Goals as goal
 
 pub returns-clause-batch : goal.returns-clause-batch
@@ -23,11 +23,5 @@ returns-clause-taken g = λ s t word r. waiting_after r
 pub returns-clause-counts : goal.returns-clause-counts
 returns-clause-counts g = λ s t word r small. run_counts r small
 
-pub returns-clause-removing : goal.returns-clause-removing
-returns-clause-removing g = λ s t x is h. removing_step s t x is h
-
-pub returns-clause-reading : goal.returns-clause-reading
-returns-clause-reading g = λ s t x n is at h. reading_step s t x n is at h
-
-pub returns-clause-joining : goal.returns-clause-joining
-returns-clause-joining g = λ s t x n k is at h. joining_step s t x n k is at h
+pub returns-clause-sure : goal.returns-clause-sure
+returns-clause-sure g = λ s t x free h. sure_step s t x free h

@@ -9,13 +9,13 @@ pub returns-clause-calm : goal.returns-clause-calm
 returns-clause-calm g = λ w v l ok o. (own_calmed w l v ok o).same
 
 pub returns-clause-unlock : goal.returns-clause-unlock
-returns-clause-unlock g = λ w v i n h a lock old o. own_unlocks w v i h n a lock old o
+returns-clause-unlock g = own_unlocks
 
 pub returns-clause-publishing : goal.returns-clause-publishing
-returns-clause-publishing g = λ w v i n t h d o. publishing_counts w v i h n d t o
+returns-clause-publishing g = publishing_counts
 
 pub returns-clause-opening : goal.returns-clause-opening
-returns-clause-opening g = λ w v i n t h o. joining_counts w v i h n t o
+returns-clause-opening g = joining_counts
 
 pub returns-clause-releasing : goal.returns-clause-releasing
-returns-clause-releasing g = λ w v i n t h a o old. releasing_counts w v t i h n a o old
+returns-clause-releasing g = releasing_counts

@@ -11,7 +11,7 @@ pub returns-clause-allowed : goal.returns-clause-allowed
 returns-clause-allowed g = λ p h act x r s c new. (step_case p h act x r s c new, case_allowed p h)
 
 pub returns-clause-step : goal.returns-clause-step
-returns-clause-step g = λ w v p h act ok e each numbered. bare_keeps w v p h act ok e each numbered
+returns-clause-step g = bare_keeps
 
 pub returns-clause-later : goal.returns-clause-later
 returns-clause-later g = λ u v w each a b. later_trans u v w each a b
