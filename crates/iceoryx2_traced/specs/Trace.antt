@@ -18,6 +18,11 @@ pub record TracedState (S : Type 0) : Type 0 where
   pub room : ℕ
   pub total : ℕ
 
+-- Nothing is kept, and no access was counted.
+pub record IsNew {S : Type 0} (a : TracedState S) : Type 0 where
+  pub empty : a.entries ≡ []
+  pub uncounted : a.total ≡ 0
+
 -- the last so many of a list, or all where there are no more
 abbrev pub latest : {A : Type 0} → ℕ → List A → List A
 latest room xs = drop (length xs - room) xs

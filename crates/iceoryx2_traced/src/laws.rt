@@ -4,7 +4,7 @@ ghost use Rattle.std.specs.Prelude.{◌≡◌, ℕ, ◌+◌, ◌-◌, ◌^◌, �
 ghost use Rattle.iceoryx2_access.specs.Letter.{Letter};
 ghost use Rattle.iceoryx2_access.specs.Run.{Run};
 ghost use Rattle.iceoryx2_traced.specs.Entries.{entry_of};
-ghost use Rattle.iceoryx2_traced.specs.Trace.{TracedState, IsTracedAccess, latest};
+ghost use Rattle.iceoryx2_traced.specs.Trace.{TracedState, IsTracedAccess, IsNew, latest};
 
 use iceoryx2_access::storage::Storage;
 
@@ -39,8 +39,8 @@ pub fn traces<S: Storage>()
         → Run (IsTracedAccess S.step) a word b → a.total ≤ 2 ^ 64 - 1
         → b.total ≡ min (a.total + length word) (2 ^ 64 - 1) }
 
-    // As many are forgotten as there was no room for.
+    // From a new one, as many are forgotten as there was no room for.
     ensures forgotten { (a b : TracedState S) (word : List Letter)
-        → Run (IsTracedAccess S.step) a word b → a.entries ≡ [] → a.total ≡ 0 → length word ≤ 2 ^ 64 - 1
+        → Run (IsTracedAccess S.step) a word b → IsNew a → length word ≤ 2 ^ 64 - 1
         → b.total - length b.entries ≡ length word - a.room }
 {}

@@ -27,4 +27,4 @@ pub returns-clause-total : goal.returns-clause-total
 returns-clause-total g c = λ a b word run le. total run le
 
 pub returns-clause-forgotten : goal.returns-clause-forgotten
-returns-clause-forgotten g c = λ a b word run none zero few. forgotten run none zero few
+returns-clause-forgotten g c = λ a b word run new few. forgotten run new.empty new.uncounted few
