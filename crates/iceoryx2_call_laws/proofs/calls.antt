@@ -6,6 +6,7 @@ pub mod Closed
 pub mod Calm
 pub mod Standing
 pub mod Plain
+pub mod Tracked
 pub mod Left
 pub mod CloseLeft
 pub mod NoRow

@@ -1,5 +1,5 @@
 -- What a call keeps along its words.
-use Rattle.std.proofs.Common.{ℕ, zero, suc, Bool, false, List, ◌∷◌, ◌++◌, Ok, Err}
+use Rattle.std.proofs.Common.{◌≡◌, ℕ, zero, suc, Bool, false, List, ◌∷◌, ◌++◌, Ok, Err, refl}
 use Rattle.std.specs.Prelude.{is_err}
 use Rattle.iceoryx2_description.specs.declared.description.ServiceHash.{ServiceHash}
 use Rattle.iceoryx2_description.specs.Description.{Description}
@@ -39,6 +39,12 @@ module _ (node : ℕ) (hash : ServiceHash) where
     pub tag : Untags s j lock w
 
 module _ {node : ℕ} {hash : ServiceHash} where
+  -- who has the service keeps it
+  pub service_stays : {s t : OwnedTag} {n : ℕ} {k : OwnedLock} {w : List Letter} → TracksOwned node hash s (HasService n) w t k → k ≡ HasService n
+  service_stays ends = refl
+  service_stays (removes_tag answer free p) = absurd free
+  service_stays (goes_on l p) = service_stays p
+
   -- one word after another
   pub then_keeps : {r s t : OwnedTag} {i j k : OwnedLock} {v w : List Letter} → TracksOwned node hash r i v s j → TracksOwned node hash s j w t k → TracksOwned node hash r i (v ++ w) t k
   then_keeps ends q = q
@@ -70,7 +76,7 @@ module _ {node : ℕ} {hash : ServiceHash} where
   clearings_keeps number max_nodes (suc k) = then_keeps (clearings_keeps number max_nodes k) (clears ends)
 
   module _ {number max_nodes : ℕ} {t : OwnedTag} where
-    segment_kept : {w : List Letter} → IsSegmentWord node hash number max_nodes w (Ok tt) → TracksOwned node hash t (Locked number false) w t (WithSegment number)
+    pub segment_kept : {w : List Letter} → IsSegmentWord node hash number max_nodes w (Ok tt) → TracksOwned node hash t (Locked number false) w t (WithSegment number)
     segment_kept (segments.made k small) = then_keeps (clearings_keeps number max_nodes k) (makes_segment ends)
 
     segment_refused : {w : List Letter} {why : CreateRefusal} → IsSegmentWord node hash number max_nodes w (Err why) → TracksOwned node hash t (Locked number false) w t (Locked number false)
@@ -103,7 +109,7 @@ module _ {E C : Type 0} {m : Meaning E C} {node : ℕ} {hash : ServiceHash} wher
   look_keeps broken = goes_on keeps.looks ends
   look_keeps (fetched there read) = goes_on keeps.looks (goes_on keeps.fetches ends)
 
-  entry_kept : {w : List Letter} {tag : Tag} → IsEntryWord m node hash w (Ok tag) → TracksOwned node hash no_own_tag NoLock w (with_tag no_own_tag tag) NoLock
+  pub entry_kept : {w : List Letter} {tag : Tag} → IsEntryWord m node hash w (Ok tag) → TracksOwned node hash no_own_tag NoLock w (with_tag no_own_tag tag) NoLock
   entry_kept (entered tag l) = then_keeps (look_keeps l) (goes_on keeps.asks (tag_kept tag ends))
 
   entry_refused : {w : List Letter} {error : C} → IsEntryWord m node hash w (Err error) → TracksOwned node hash no_own_tag NoLock w no_own_tag NoLock
@@ -135,7 +141,7 @@ module _ {E C : Type 0} {m : Meaning E C} {node : ℕ} {hash : ServiceHash} wher
   pub created_keeps : {stops : Bool} {d : Description} {w : List Letter} {r : Registered} → IsCreating m node hash stops d w (Ok r) → KeepsAll node hash w r.number
   created_keeps (made {tag} _ _ e s) = record { tag = tag; tracks = then_keeps (entry_kept e) (service_kept s) }
 
-  ready_kept : {n : ℕ} {d : Description} {tag : Tag} {w : List Letter} {is_left : Bool} → IsReady m node hash n d tag w → TracksOwned node hash (OwnsNoTag is_left) NoLock w (with_tag (OwnsNoTag is_left) tag) NoLock
+  pub ready_kept : {n : ℕ} {d : Description} {tag : Tag} {w : List Letter} {is_left : Bool} → IsReady m node hash n d tag w → TracksOwned node hash (OwnsNoTag is_left) NoLock w (with_tag (OwnsNoTag is_left) tag) NoLock
   ready_kept (ready tag l _) = then_keeps (look_keeps l) (tag_kept tag ends)
 
   -- a second look, and the tag given back
@@ -155,7 +161,7 @@ module _ {E C : Type 0} {m : Meaning E C} {node : ℕ} {hash : ServiceHash} wher
   last_leaves is_left (opens.then_faulty {tag = tag} r l b) = then_untags (ready_kept r) (looks_again tag is_left l b)
   last_leaves is_left (opens.then_none {tag = tag} r l b) = then_untags (ready_kept r) (looks_again tag is_left l b)
 
-  rounds_leave : {k : ℕ} {w : List Letter} → AreFailedRounds m node hash k w → Untags node hash no_own_tag NoLock NoLock w
+  pub rounds_leave : {k : ℕ} {w : List Letter} → AreFailedRounds m node hash k w → Untags node hash no_own_tag NoLock NoLock w
   rounds_leave no_round = leaves ends
   rounds_leave (one_more before r) = let first = rounds_leave before in then_untags first.keeps (failed_leaves first.is_left r)
 

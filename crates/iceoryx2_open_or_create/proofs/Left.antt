@@ -43,7 +43,7 @@ module _ {D E C : Type 0} {c : BuilderCall D E C} where
   then_ends back (created l m) = let kept = created_keeps m in record { before = _; in_the_end = _; is_word = refl; gives_back = back; keeps = record { is_tag_left = false; tag = kept.tag; tracks = then_keeps (look_keeps l) kept.tracks } }
 
 module _ {D E C : Type 0} {c : BuilderCall D E C} where
-  turns_give_back : {asked : D} {k : ℕ} {w : List Letter} → AreRetriedTurns c k w asked → GivesBackByRounds c.caller.node c.caller.hash w
+  pub turns_give_back : {asked : D} {k : ℕ} {w : List Letter} → AreRetriedTurns c k w asked → GivesBackByRounds c.caller.node c.caller.hash w
   turns_give_back no_turn = no_round
   turns_give_back (words.one_more before t) = one_more (turns_give_back before) (turn_gives_back t)
 

@@ -19,7 +19,7 @@ use Rattle.iceoryx2_call_laws.proofs.calls.Words.{IsNoRelease}
 
 module _ {D E C : Type 0} (c : BuilderCall D E C) where
   pub attempt_letters : {word : List Letter} {answer : Result Registered (OpenOrCreateRefusal E C)} → IsOpenOrCreateCall c word answer → Each IsNoRelease word
-  attempt_letters = each_call (λ word answer. Each IsNoRelease word) tt (λ word answer is. open_or_create_letters is)
+  attempt_letters = each_call (λ word answer. Each IsNoRelease word) tt (λ word answer is. open_or_create_letters answer is)
 
   pub attempt_tickets : {nodes : ℕ → Bool} {word : List Letter} {answer : Result Registered (OpenOrCreateRefusal E C)} {w v : World} → IsOpenOrCreateCall c word answer → Run (IsFallibleUnder nodes) w word v → Agrees w → SameTickets nodes (tickets_after w.tickets answer) v.tickets
   attempt_tickets {nodes} {w = w} {v = v} = each_call (λ word answer. Run (IsFallibleUnder nodes) w word v → Agrees w → SameTickets nodes (tickets_after w.tickets answer) v.tickets) (λ run old. tickets_equal nodes w.tickets v.tickets (ap (λ (z : World). z.tickets) (nowhere run))) (λ word answer is run old. open_or_create_tickets answer is run old)

@@ -1,10 +1,9 @@
 -- Which accesses of a call change what is published, or a count.
-use Rattle.std.proofs.Common.{◌∷◌, ◌++◌, [], ℕ, zero, suc, Bool, true, false, inl, inr, List, Result, Ok, Err, sym, ap, subst, ◌∙◌, append_assoc, ◌≡◌}
+use Rattle.std.proofs.Common.{◌∷◌, ◌++◌, [], ℕ, Bool, true, false, inl, inr, List, Ok, Err, sym, ap, subst, ◌∙◌, append_assoc, ◌≡◌}
 use Rattle.iceoryx2_description.specs.declared.description.ServiceHash.{ServiceHash}
 use Rattle.iceoryx2_description.specs.Description.{Description}
 use Rattle.iceoryx2_world.specs.declared.world.Participant.TheVariants.{Node}
 use Rattle.iceoryx2_access.specs.declared.storage.Tag.{Tag}
-use Rattle.iceoryx2_access.specs.declared.storage.Tag.TheVariants.{Made, Found}
 use Rattle.iceoryx2_world.specs.World.{World, phase_of, locked_number}
 use Rattle.iceoryx2_access.specs.Letter.{Letter}
 use Rattle.iceoryx2_access.specs.Letter as letter
@@ -14,19 +13,14 @@ use Rattle.iceoryx2_world.specs.Calm.{IsCalmLetter}
 use Rattle.iceoryx2_world.proofs.agreement.Parts.{locking}
 use Rattle.iceoryx2_world.proofs.agreement.Accesses.{faulty_keeps, granted}
 use Rattle.iceoryx2_world.proofs.agreement.Calm.{own_calmed, own_unlocks, publishing_counts, joining_counts, Tame, ends, goes, locks, unlocks, WhileLocked, locked_now, tame_both}
-use Rattle.iceoryx2_create_and_open.specs.declared.look.Outcome.{Outcome}
-use Rattle.iceoryx2_pattern.specs.declared.pattern.CreateRefusal.{CreateRefusal}
 use Rattle.iceoryx2_pattern.specs.Meaning.{Meaning}
 use Rattle.iceoryx2_access.specs.Registered.{Registered}
-use Rattle.iceoryx2_create_and_open.specs.Looks.{IsLookWord, absent, broken, fetched}
-use Rattle.iceoryx2_create_and_open.specs.GivesBack.{OwnLock, OwnSegment, own_tag, GivesBack, nothing_left, segment_back, lock_back, tag_back}
-use Rattle.iceoryx2_create_and_open.specs.Segments.{clearings, IsSegmentWord, made, not_made, not_removed, still_there}
-use Rattle.iceoryx2_create_and_open.specs.declared.create.TheConstants.{CLEARING_LIMIT}
 use Rattle.iceoryx2_create_and_open.specs.Creates as creates
-use Rattle.iceoryx2_create_and_open.specs.Creates.{IsEntryWord, IsServiceWord, IsCreating, forbidden, not_entered, clock_fault, not_locked, no_segment, not_published, published, counted, no_copies, entered}
+use Rattle.iceoryx2_create_and_open.specs.Creates.{IsServiceWord, IsCreating, published}
 use Rattle.iceoryx2_create_and_open.specs.Opens as opens
-use Rattle.iceoryx2_create_and_open.specs.Opens.{IsReady, ready, IsFailedRound, failed, IsLastRound, AreFailedRounds, no_round, one_more, IsOpenWord, ended, all_failed}
+use Rattle.iceoryx2_create_and_open.specs.Opens.{IsLastRound, IsOpenWord, ended}
 use Rattle.iceoryx2_call_laws.specs.Calls.{AtEach, ActsCalmly, ChangesLast}
+use Rattle.iceoryx2_call_laws.proofs.calls.Tracked.{making_tame, entry_tame, create_tame, ready_tame, rounds_tame, open_tame}
 
 -- the lock stays with its node
 lock_stays : (nodes : ℕ → Bool) (node : ℕ) → nodes node ≡ true → (hash : ServiceHash) (b : Bool) (w : World) (l : Letter) (v : World) → IsCalmLetter l → IsFallibleUnder nodes w l v → Agrees w → WhileLocked node hash b w → WhileLocked node hash b v
@@ -55,75 +49,7 @@ calm_at_each nodes {node} mine {hash} w (unlocks x more) has old = λ v s. (
   calm_at_each nodes mine v more tt (faulty_keeps {own = nodes} w (letter.RemoveDescription node hash x) v s old).0,
 )
 
-module _ {node : ℕ} {hash : ServiceHash} where
-  tag_tame : {w : List Letter} (tag : Tag) → GivesBack node hash (own_tag tag) w → Tame node hash false w false
-  tag_tame Made (tag_back answer nothing_left) = goes tt ends
-  tag_tame Found nothing_left = ends
-
-  lock_tame : {w : List Letter} (tag : Tag) → GivesBack node hash (OwnLock ∷ own_tag tag) w → Tame node hash true w false
-  lock_tame tag (lock_back answer rest) = unlocks answer (tag_tame tag rest)
-
-  segment_tame : {w : List Letter} (tag : Tag) → GivesBack node hash (OwnSegment ∷ OwnLock ∷ own_tag tag) w → Tame node hash true w false
-  segment_tame tag (segment_back answer rest) = goes tt (lock_tame tag rest)
-
-  clearings_tame : (number max_nodes k : ℕ) → Tame node hash true (clearings node hash number max_nodes k) true
-  clearings_tame number max_nodes zero = ends
-  clearings_tame number max_nodes (suc k) = tame_both (clearings_tame number max_nodes k) (goes tt (goes tt ends))
-
-  pub making_tame : {number max_nodes : ℕ} {w : List Letter} {r : Result (Unit {0}) CreateRefusal} → IsSegmentWord node hash number max_nodes w r → Tame node hash true w true
-  making_tame {number} {max_nodes} (made k _) = tame_both (clearings_tame number max_nodes k) (goes tt ends)
-  making_tame {number} {max_nodes} (not_made k e _ _) = tame_both (clearings_tame number max_nodes k) (goes tt ends)
-  making_tame {number} {max_nodes} (not_removed k e _) = tame_both (clearings_tame number max_nodes k) (goes tt (goes tt ends))
-  making_tame {number} {max_nodes} still_there = tame_both (clearings_tame number max_nodes CLEARING_LIMIT) (goes tt ends)
-
 module _ {E C : Type 0} {m : Meaning E C} {node : ℕ} {hash : ServiceHash} where
-  pub look_tame : {b : Bool} {w : List Letter} {o : Outcome E} → IsLookWord m node hash w o → Tame node hash b w b
-  look_tame absent = goes tt ends
-  look_tame broken = goes tt ends
-  look_tame (fetched there read) = goes tt (goes tt ends)
-
-  pub entry_tame : {b : Bool} {w : List Letter} {r : Result Tag C} → IsEntryWord m node hash w r → Tame node hash b w b
-  entry_tame (creates.look_faulty l) = look_tame l
-  entry_tame (creates.look_found l) = look_tame l
-  entry_tame (counted l) = tame_both (look_tame l) (goes tt ends)
-  entry_tame (no_copies l) = tame_both (look_tame l) (goes tt ends)
-  entry_tame (creates.no_tag e l) = tame_both (look_tame l) (goes tt (goes tt ends))
-  entry_tame (entered tag l) = tame_both (look_tame l) (goes tt (goes tt ends))
-
-  service_tame : {d : Description} {tag : Tag} {w : List Letter} {error : C} → IsServiceWord m node hash d tag w (Err error) → Tame node hash false w false
-  service_tame {tag = tag} (not_locked x b) = goes tt (tag_tame tag b)
-  service_tame {tag = tag} (no_segment s b) = locks (tame_both (making_tame s) (lock_tame tag b))
-  service_tame {tag = tag} (not_published x s b) = locks (tame_both (making_tame s) (goes tt (segment_tame tag b)))
-
-  pub create_tame : {stops : Bool} {d : Description} {w : List Letter} {error : C} → IsCreating m node hash stops d w (Err error) → Tame node hash false w false
-  create_tame (forbidden _) = ends
-  create_tame (not_entered _ e) = entry_tame e
-  create_tame (clock_fault {tag} _ _ e b) = tame_both (entry_tame e) (tag_tame tag b)
-  create_tame (creates.made _ _ e s) = tame_both (entry_tame e) (service_tame s)
-
-  pub ready_tame : {n : ℕ} {d : Description} {tag : Tag} {w : List Letter} → IsReady m node hash n d tag w → Tame node hash false w false
-  ready_tame (ready tag l _) = tame_both (look_tame l) (goes tt ends)
-
-  failed_tame : {w : List Letter} → IsFailedRound m node hash w → Tame node hash false w false
-  failed_tame (failed {tag} r l b) = tame_both (ready_tame r) (goes tt (tame_both (look_tame l) (tag_tame tag b)))
-
-  last_tame : {w : List Letter} {error : E} → IsLastRound m node hash w (Err error) → Tame node hash false w false
-  last_tame (opens.look_faulty l) = look_tame l
-  last_tame (opens.look_none l) = look_tame l
-  last_tame (opens.not_accepted l _) = look_tame l
-  last_tame (opens.no_tag e l _) = tame_both (look_tame l) (goes tt ends)
-  last_tame (opens.not_opened {tag} e _ r b) = tame_both (ready_tame r) (goes tt (tag_tame tag b))
-  last_tame (opens.then_faulty {tag} r l b) = tame_both (ready_tame r) (goes tt (tame_both (look_tame l) (tag_tame tag b)))
-  last_tame (opens.then_none {tag} r l b) = tame_both (ready_tame r) (goes tt (tame_both (look_tame l) (tag_tame tag b)))
-
-  pub rounds_tame : {k : ℕ} {w : List Letter} → AreFailedRounds m node hash k w → Tame node hash false w false
-  rounds_tame no_round = ends
-  rounds_tame (one_more before r) = tame_both (rounds_tame before) (failed_tame r)
-
-  pub open_tame : {w : List Letter} {error : E} → IsOpenWord m node hash w (Err error) → Tame node hash false w false
-  open_tame (ended small before l) = tame_both (rounds_tame before) (last_tame l)
-  open_tame (all_failed before) = rounds_tame before
-
   -- A refused call changes nothing.
   pub refused_create_calm : (nodes : ℕ → Bool) → nodes node ≡ true → {stops : Bool} {d : Description} {word : List Letter} {error : C} (w : World) → IsCreating m node hash stops d word (Err error) → Agrees w → AtEach (IsFallibleUnder nodes) (ActsCalmly nodes) w word
   refused_create_calm nodes mine w is old = calm_at_each nodes mine w (create_tame is) tt old

@@ -38,22 +38,12 @@ use Rattle.iceoryx2_world.proofs.agreement.Granted.{tag_granted, segment_granted
 use Rattle.iceoryx2_world.proofs.agreement.Spent.{world_segment, spent_own}
 use Rattle.iceoryx2_world.proofs.agreement.Stands.{own_row, own_phase, own_segment}
 use Rattle.iceoryx2_create_and_open.specs.TracksOwned as keeps
-use Rattle.iceoryx2_create_and_open.specs.TracksOwned.{OwnedTag, OwnsNoTag, OwnsTag, OwnedLock, NoLock, Locked, WithSegment, GivenBack, HasService, IsUnlocked, MakesNothing, TracksOwned, GivesAllBack, GivesTagBack}
+use Rattle.iceoryx2_create_and_open.specs.TracksOwned.{OwnedTag, OwnsNoTag, OwnsTag, OwnedLock, NoLock, Locked, WithSegment, GivenBack, HasService, IsUnlocked, TracksOwned, GivesAllBack, GivesTagBack}
+use Rattle.iceoryx2_create_and_open.proofs.Kept.{service_stays}
 use Rattle.iceoryx2_call_laws.specs.CallLeaves.{LeavesAtMostTag}
 use Rattle.iceoryx2_call_laws.specs.Leaves.{IsGranted, HasAtMostRead, NodeHasRead, Leaves, LeavesOfLock, LeavesNothing, IsGone, StaysAway, SpendsNumber, tags_after}
+use Rattle.iceoryx2_call_laws.proofs.calls.Tracked.{idle}
 use Rattle.iceoryx2_call_laws.proofs.calls.Plain.{IsPlain, Untouched, plain_untouched, read_both, step_tags, row_stays_away}
-
--- what makes nothing is plain
-makes_nothing : {node : ℕ} {hash : ServiceHash} {l : Letter} → MakesNothing node hash l → IsPlain l
-makes_nothing keeps.looks = tt
-makes_nothing keeps.fetches = tt
-makes_nothing keeps.asks = tt
-makes_nothing keeps.finds_tag = tt
-makes_nothing keeps.gets_no_tag = tt
-makes_nothing keeps.gets_no_lock = tt
-makes_nothing keeps.gets_no_segment = tt
-makes_nothing keeps.publishes_nothing = tt
-makes_nothing keeps.opens_nothing = tt
 
 -- a phase that holds a lock doesn't begin
 unlocked_begins : (x : Phase) (n : ℕ) → begins x ≡ true → locked_number x ≡ Some n → ⊥
@@ -346,12 +336,6 @@ module _ {own : ℕ → Bool} {node : ℕ} {hash : ServiceHash} {start w : World
   with_left_tag : (k : OwnedLock) → Kept own node hash start OwnsTag k w → Kept own node hash start (OwnsNoTag true) k w
   with_left_tag k h = record { tickets = h.tickets; tags = h.tags; phase = h.phase; holds = h.holds }
 
--- who has the service keeps it
-service_stays : {node : ℕ} {hash : ServiceHash} {s t : OwnedTag} {n : ℕ} {k : OwnedLock} {word : List Letter} → TracksOwned node hash s (HasService n) word t k → k ≡ HasService n
-service_stays keeps.ends = refl
-service_stays (keeps.removes_tag answer free p) = absurd free
-service_stays (keeps.goes_on l p) = service_stays p
-
 no_service : {node : ℕ} {hash : ServiceHash} {s t : OwnedTag} {n : ℕ} {k : OwnedLock} {word : List Letter} → TracksOwned node hash s (HasService n) word t k → IsUnlocked k → ⊥
 no_service p free = subst IsUnlocked (service_stays p) free
 
@@ -388,7 +372,7 @@ kept_run {own} {node} {hash} {w = w} mine (keeps.clears {s = s} {number = n} {ma
     let old_2 = (faulty_keeps w first mid x old).0 in
     kept_run mine p free rest (faulty_keeps mid second last z old_2).0 (kept_plain own node mine hash s (Locked n false) mid second last tt z old_2 (kept_plain own node mine hash s (Locked n false) w first mid tt x old h))
 kept_run {own} {node} {hash} {w = w} mine (keeps.goes_on {s = s} {j = j} {letter = l} is p) free (next {mid = mid} x rest) old h =
-    kept_run mine p free rest (faulty_keeps w l mid x old).0 (kept_plain own node mine hash s j w l mid (makes_nothing is) x old h)
+    kept_run mine p free rest (faulty_keeps w l mid x old).0 (kept_plain own node mine hash s j w l mid (idle is).plain x old h)
 
 module _ (own : ℕ → Bool) (node : ℕ) (hash : ServiceHash) where
   begin_kept : (w : World) → Kept own node hash w (OwnsNoTag false) NoLock w
@@ -467,17 +451,6 @@ module _ (own : ℕ → Bool) (node : ℕ) (mine : own node ≡ true) (hash : Se
   tag_ok (Ok y) w v a = refl
   tag_ok (Err e) w v a = absurd (tag_granted w v node hash e a)
 
-nothing_refused : {node : ℕ} {hash : ServiceHash} {l : Letter} → MakesNothing node hash l → IsGranted l
-nothing_refused keeps.looks = tt
-nothing_refused keeps.fetches = tt
-nothing_refused keeps.asks = tt
-nothing_refused keeps.finds_tag = tt
-nothing_refused keeps.gets_no_tag = tt
-nothing_refused keeps.gets_no_lock = tt
-nothing_refused keeps.gets_no_segment = tt
-nothing_refused keeps.publishes_nothing = tt
-nothing_refused keeps.opens_nothing = tt
-
 granted_run : {own : ℕ → Bool} {node : ℕ} {hash : ServiceHash} {s t : OwnedTag} {j k : OwnedLock} {word : List Letter} {start w v : World} → own node ≡ true → TracksOwned node hash s j word t k → IsUnlocked k → Run (IsAccessUnder own) w word v → Agrees w → Kept own node hash start s j w → Each IsGranted word
 granted_run mine keeps.ends free done old h = tt
 granted_run {own} {node} {hash} {w = w} mine (keeps.makes_tag {is_left = l} p) free (next {mid = mid} x rest) old h =
@@ -509,7 +482,7 @@ granted_run {own} {node} {hash} {w = w} mine (keeps.clears {s = s} {number = n} 
     let now = kept_plain own node mine hash s (Locked n false) w first mid tt (unrefused x) old h in
     let ok = segment_ok own node mine hash n (Err e) mid last (access_keeps w first mid x old).0 now.holds.0 z in absurd (cc)
 granted_run {own} {node} {hash} {w = w} mine (keeps.goes_on {s = s} {j = j} {letter = l} is p) free (next {mid = mid} x rest) old h =
-    (nothing_refused is, granted_run mine p free rest (access_keeps w l mid x old).0 (kept_plain own node mine hash s j w l mid (makes_nothing is) (unrefused x) old h))
+    ((idle is).granted, granted_run mine p free rest (access_keeps w l mid x old).0 (kept_plain own node mine hash s j w l mid (idle is).plain (unrefused x) old h))
 
 -- where each removal is granted nothing is left
 abbrev LeftNoTag : OwnedTag → Type 0
@@ -558,17 +531,6 @@ same_number n (keeps.removes_tag answer free p) e = same_number n p e
 same_number n (keeps.clears p) e = same_number n p e
 same_number n (keeps.goes_on l p) e = same_number n p e
 
-spends_nothing : {node : ℕ} {hash : ServiceHash} {l : Letter} (h : ServiceHash) (v : World) → MakesNothing node hash l → SpendsNumber h v l
-spends_nothing h v keeps.looks = tt
-spends_nothing h v keeps.fetches = tt
-spends_nothing h v keeps.asks = tt
-spends_nothing h v keeps.finds_tag = tt
-spends_nothing h v keeps.gets_no_tag = tt
-spends_nothing h v keeps.gets_no_lock = tt
-spends_nothing h v keeps.gets_no_segment = tt
-spends_nothing h v keeps.publishes_nothing = tt
-spends_nothing h v keeps.opens_nothing = tt
-
 spends : {node : ℕ} {hash : ServiceHash} {s t : OwnedTag} {j k : OwnedLock} {word : List Letter} (v : World) → TracksOwned node hash s j word t k → ((n : ℕ) → number_of k ≡ Some n → IsSpent v hash n) → Each (SpendsNumber hash v) word
 spends v keeps.ends f = tt
 spends v (keeps.makes_tag p) f = (tt, spends v p f)
@@ -580,7 +542,7 @@ spends v (keeps.removes_segment answer p) f = (tt, spends v p f)
 spends v (keeps.unlocks answer p) f = (tt, spends v p f)
 spends v (keeps.removes_tag answer free p) f = (tt, spends v p f)
 spends v (keeps.clears p) f = (tt, (tt, spends v p f))
-spends {hash = hash} v (keeps.goes_on l p) f = (spends_nothing hash v l, spends v p f)
+spends {hash = hash} v (keeps.goes_on l p) f = ((idle l).spends hash v, spends v p f)
 
 tags_same : (own : ℕ → Bool) (node : ℕ) (hash : ServiceHash) (l : Bool) (old new : set.FinSet tag_cmp) → l ≡ false → HoldsTag own node hash (OwnsNoTag l) old new → SameTags own old new
 tags_same own node hash false old new clean h = h

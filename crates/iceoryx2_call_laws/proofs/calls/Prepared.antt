@@ -24,7 +24,8 @@ use Rattle.iceoryx2_call_laws.specs.Tickets.{tickets_after}
 use Rattle.iceoryx2_call_laws.proofs.calls.Calm.{refused_create_calm, refused_open_calm}
 use Rattle.iceoryx2_call_laws.proofs.calls.NoRow.{create_over_no_row}
 use Rattle.iceoryx2_call_laws.proofs.calls.Tickets.{create_tickets, open_tickets}
-use Rattle.iceoryx2_call_laws.proofs.calls.Words.{IsNoRelease, create_letters, open_letters}
+use Rattle.iceoryx2_call_laws.proofs.calls.Tracked.{create_letters, open_letters}
+use Rattle.iceoryx2_call_laws.proofs.calls.Words.{IsNoRelease}
 
 -- without an access nothing changes
 pub nowhere : {step : World → Letter → World → Type 0} {w v : World} → Run step w [] v → v ≡ w
@@ -33,7 +34,7 @@ nowhere done = refl
 module _ {E C : Type 0} {m : Meaning E C} {node : ℕ} {hash : ServiceHash} where
   module _ {stops : Bool} {d : Description} where
     pub create_call_letters : {word : List Letter} {answer : Result Registered C} → IsPrepared (m.create_refusal OutOfMemory) (IsCreating m node hash stops d) word answer → Each IsNoRelease word
-    create_call_letters = each_call (λ word answer. Each IsNoRelease word) tt (λ word answer is. create_letters is)
+    create_call_letters = each_call (λ word answer. Each IsNoRelease word) tt (λ word answer is. create_letters answer is)
 
     pub create_call_tickets : {nodes : ℕ → Bool} {word : List Letter} {answer : Result Registered C} {w v : World} → d.hash ≡ hash → IsPrepared (m.create_refusal OutOfMemory) (IsCreating m node hash stops d) word answer → Run (IsFallibleUnder nodes) w word v → Agrees w → SameTickets nodes (tickets_after w.tickets answer) v.tickets
     create_call_tickets {nodes} {w = w} {v = v} same = each_call (λ word answer. Run (IsFallibleUnder nodes) w word v → Agrees w → SameTickets nodes (tickets_after w.tickets answer) v.tickets) (λ run old. tickets_equal nodes w.tickets v.tickets (ap (λ (z : World). z.tickets) (nowhere run))) (λ word answer is run old. create_tickets answer same is run old)
@@ -46,7 +47,7 @@ module _ {E C : Type 0} {m : Meaning E C} {node : ℕ} {hash : ServiceHash} wher
     create_call_over_no_row {w = w} {v = v} room old gone = each_call (λ word answer. Run IsOwnPart w word v → AnswersOverNoRow m (called node hash name now) w.counter answer) (λ run. no_memory) (λ word answer is run. create_over_no_row m node hash name now room old gone is run)
 
   pub open_call_letters : {word : List Letter} {answer : Result Registered E} → IsOpenCall m node hash word answer → Each IsNoRelease word
-  open_call_letters = each_call (λ word answer. Each IsNoRelease word) tt (λ word answer is. open_letters is)
+  open_call_letters = each_call (λ word answer. Each IsNoRelease word) tt (λ word answer is. open_letters answer is)
 
   pub open_call_tickets : {nodes : ℕ → Bool} {word : List Letter} {answer : Result Registered E} {w v : World} → IsOpenCall m node hash word answer → Run (IsFallibleUnder nodes) w word v → Agrees w → SameTickets nodes (tickets_after w.tickets answer) v.tickets
   open_call_tickets {nodes} {w = w} {v = v} = each_call (λ word answer. Run (IsFallibleUnder nodes) w word v → Agrees w → SameTickets nodes (tickets_after w.tickets answer) v.tickets) (λ run old. tickets_equal nodes w.tickets v.tickets (ap (λ (z : World). z.tickets) (nowhere run))) (λ word answer is run old. open_tickets answer is run old)

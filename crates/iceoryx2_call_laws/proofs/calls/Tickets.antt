@@ -38,7 +38,7 @@ use Rattle.iceoryx2_create_and_open.specs.Creates.{IsServiceWord, IsCreating, ma
 use Rattle.iceoryx2_create_and_open.specs.Opens.{IsLastRound, IsOpenWord, opened, ended}
 use Rattle.iceoryx2_create_and_open.proofs.Carried.{opened_carries}
 use Rattle.iceoryx2_call_laws.specs.Tickets.{tickets_after, tickets_after_close, HasNoTicket}
-use Rattle.iceoryx2_call_laws.proofs.calls.Calm.{making_tame, entry_tame, create_tame, ready_tame, rounds_tame, open_tame}
+use Rattle.iceoryx2_call_laws.proofs.calls.Tracked.{making_tame, entry_tame, create_tame, ready_tame, rounds_tame, open_tame}
 
 -- ---- accesses by which no ticket comes or goes
 
@@ -143,7 +143,7 @@ module _ {own : ℕ → Bool} {E C : Type 0} {m : Meaning E C} {node : ℕ} {has
       → IsCreating m node hash stops d word answer → Run (IsFallibleUnder own) w word v → Agrees w → SameTickets own (tickets_after w.tickets answer) v.tickets
   create_tickets (Ok r) {w} {v} same (made {u = x} {v = y} _ _ entry service) run old =
       let parts = split x y run in
-      then_put w parts.mid v r.ticket (ticket_for r) (tame_tickets {b = false} (entry_tame entry) parts.first old) (service_tickets same service parts.second (run_keeps {own = own} parts.first old).0)
+      then_put w parts.mid v r.ticket (ticket_for r) (tame_tickets (entry_tame entry) parts.first old) (service_tickets same service parts.second (run_keeps {own = own} parts.first old).0)
   create_tickets (Err e) same is run old = tame_tickets (create_tame is) run old
 
   round_tickets : {word : List Letter} {r : Registered} {w v : World} → r.description.hash ≡ hash

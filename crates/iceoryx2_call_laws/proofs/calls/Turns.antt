@@ -10,41 +10,22 @@ use Rattle.iceoryx2_world.specs.Across.{Agrees}
 use Rattle.iceoryx2_world.specs.Interference.{IsFallibleUnder, SameTickets}
 use Rattle.iceoryx2_world.specs.Standing.{Stands, ticket_for}
 use Rattle.iceoryx2_world.proofs.agreement.Accesses.{run_keeps}
-use Rattle.iceoryx2_world.proofs.agreement.Calm.{Tame, ends, tame_both}
-use Rattle.iceoryx2_world.proofs.agreement.Stands.{each_append}
+use Rattle.iceoryx2_world.proofs.agreement.Calm.{Tame, tame_both}
 use Rattle.iceoryx2_open_or_create.specs.declared.open_or_create.OpenOrCreateRefusal.{OpenOrCreateRefusal}
 use Rattle.iceoryx2_open_or_create.specs.BuilderCalls.{BuilderCall}
-use Rattle.iceoryx2_open_or_create.specs.OpenOrCreates.{IsRetriedTurn, open_retried, create_retried, IsLastTurn, look_faulty, not_opened, opened, not_created, created, AreRetriedTurns, no_turn, one_more, IsOpenOrCreateWord, ended, in_flux}
+use Rattle.iceoryx2_open_or_create.specs.OpenOrCreates.{IsLastTurn, opened, created, AreRetriedTurns, IsOpenOrCreateWord, ended}
+use Rattle.iceoryx2_open_or_create.proofs.Left.{turns_give_back, refused_gives_back, granted_keeps}
 use Rattle.iceoryx2_call_laws.specs.Calls.{AtEach, ActsCalmly, ChangesLast}
 use Rattle.iceoryx2_call_laws.specs.Tickets.{tickets_after}
-use Rattle.iceoryx2_call_laws.proofs.calls.Words.{IsNoRelease, look_letters, create_letters, open_letters}
-use Rattle.iceoryx2_call_laws.proofs.calls.Calm.{calm_at_each, look_tame, create_tame, open_tame, creates_after, opens_after}
+use Rattle.iceoryx2_call_laws.proofs.calls.Words.{IsNoRelease}
+use Rattle.iceoryx2_call_laws.proofs.calls.Tracked.{look_tame, rounds_back_letters, in_the_end_letters, rounds_back_tame}
+use Rattle.iceoryx2_call_laws.proofs.calls.Calm.{calm_at_each, creates_after, opens_after}
 use Rattle.iceoryx2_call_laws.proofs.calls.Created.{create_stands}
 use Rattle.iceoryx2_call_laws.proofs.calls.Opened.{open_stands}
 use Rattle.iceoryx2_call_laws.proofs.calls.Tickets.{then_put, tame_tickets, create_tickets, open_tickets}
 
 -- of one round
 module _ {D E C : Type 0} {c : BuilderCall D E C} where
-  retried_letters : {next : D} {w : List Letter} → IsRetriedTurn c w next → Each IsNoRelease w
-  retried_letters (open_retried {u} l o _) = each_append IsNoRelease u _ (look_letters l) (open_letters o)
-  retried_letters (create_retried {u} l m _) = each_append IsNoRelease u _ (look_letters l) (create_letters m)
-
-  last_letters : {w : List Letter} {r : Result Registered (OpenOrCreateRefusal E C)} → IsLastTurn c w r → Each IsNoRelease w
-  last_letters (look_faulty l) = look_letters l
-  last_letters (not_opened {u} l o _) = each_append IsNoRelease u _ (look_letters l) (open_letters o)
-  last_letters (opened {u} l o) = each_append IsNoRelease u _ (look_letters l) (open_letters o)
-  last_letters (not_created {u} l m _) = each_append IsNoRelease u _ (look_letters l) (create_letters m)
-  last_letters (created {u} l m) = each_append IsNoRelease u _ (look_letters l) (create_letters m)
-
-  retried_tame : {next : D} {w : List Letter} → IsRetriedTurn c w next → Tame c.caller.node c.caller.hash false w false
-  retried_tame (open_retried l o _) = tame_both (look_tame l) (open_tame o)
-  retried_tame (create_retried l m _) = tame_both (look_tame l) (create_tame m)
-
-  last_tame : {w : List Letter} {refusal : OpenOrCreateRefusal E C} → IsLastTurn c w (Err refusal) → Tame c.caller.node c.caller.hash false w false
-  last_tame (look_faulty l) = look_tame l
-  last_tame (not_opened l o _) = tame_both (look_tame l) (open_tame o)
-  last_tame (not_created l m _) = tame_both (look_tame l) (create_tame m)
-
   turn_changes : (nodes : ℕ → Bool) → nodes c.caller.node ≡ true → {x y : List Letter} {r : Registered} (w : World) → Tame c.caller.node c.caller.hash false x false → IsLastTurn c y (Ok r) → Agrees w → ChangesLast nodes c.caller.node c.caller.hash w (x ++ y)
   turn_changes nodes mine {x} w before (opened {u} {v} l o) old = opens_after nodes mine x u v w (tame_both before (look_tame l)) o old
   turn_changes nodes mine {x} w before (created {u} {v} l m) old = creates_after nodes mine x u v w (tame_both before (look_tame l)) m old
@@ -64,28 +45,22 @@ module _ {D E C : Type 0} {c : BuilderCall D E C} where
   turn_tickets : {own : ℕ → Bool} {word : List Letter} {r : Registered} {w v : World} → IsLastTurn c word (Ok r) → Run (IsFallibleUnder own) w word v → Agrees w → SameTickets own (map.insert w.tickets r.ticket (ticket_for r)) v.tickets
   turn_tickets {own} {r = r} {w = w} {v = v} (opened {u = x} {v = y} l o) run old =
       let parts = split x y run in
-      then_put w parts.mid v r.ticket (ticket_for r) (tame_tickets {b = false} (look_tame l) parts.first old) (open_tickets (Ok r) o parts.second (run_keeps {own = own} parts.first old).0)
+      then_put w parts.mid v r.ticket (ticket_for r) (tame_tickets (look_tame l) parts.first old) (open_tickets (Ok r) o parts.second (run_keeps {own = own} parts.first old).0)
   turn_tickets {own} {r = r} {w = w} {v = v} (created {u = x} {v = y} l m) run old =
       let parts = split x y run in
-      then_put w parts.mid v r.ticket (ticket_for r) (tame_tickets {b = false} (look_tame l) parts.first old) (create_tickets (Ok r) refl m parts.second (run_keeps {own = own} parts.first old).0)
+      then_put w parts.mid v r.ticket (ticket_for r) (tame_tickets (look_tame l) parts.first old) (create_tickets (Ok r) refl m parts.second (run_keeps {own = own} parts.first old).0)
 
 -- and of all
 module _ {D E C : Type 0} {c : BuilderCall D E C} where
-  turns_letters : {asked : D} {k : ℕ} {w : List Letter} → AreRetriedTurns c k w asked → Each IsNoRelease w
-  turns_letters no_turn = tt
-  turns_letters (one_more {u} before t) = each_append IsNoRelease u _ (turns_letters before) (retried_letters t)
-
-  pub open_or_create_letters : {w : List Letter} {r : Result Registered (OpenOrCreateRefusal E C)} → IsOpenOrCreateWord c w r → Each IsNoRelease w
-  open_or_create_letters (ended {u} small before t) = each_append IsNoRelease u _ (turns_letters before) (last_letters t)
-  open_or_create_letters (in_flux before) = turns_letters before
+  pub open_or_create_letters : {w : List Letter} (answer : Result Registered (OpenOrCreateRefusal E C)) → IsOpenOrCreateWord c w answer → Each IsNoRelease w
+  open_or_create_letters (Ok r) is = in_the_end_letters (granted_keeps is)
+  open_or_create_letters (Err e) is = rounds_back_letters (refused_gives_back is)
 
   turns_tame : {asked : D} {k : ℕ} {w : List Letter} → AreRetriedTurns c k w asked → Tame c.caller.node c.caller.hash false w false
-  turns_tame no_turn = ends
-  turns_tame (one_more before t) = tame_both (turns_tame before) (retried_tame t)
+  turns_tame before = rounds_back_tame (turns_give_back before)
 
   open_or_create_tame : {w : List Letter} {refusal : OpenOrCreateRefusal E C} → IsOpenOrCreateWord c w (Err refusal) → Tame c.caller.node c.caller.hash false w false
-  open_or_create_tame (ended small before t) = tame_both (turns_tame before) (last_tame t)
-  open_or_create_tame (in_flux before) = turns_tame before
+  open_or_create_tame is = rounds_back_tame (refused_gives_back is)
 
   pub refused_open_or_create_calm : (nodes : ℕ → Bool) → nodes c.caller.node ≡ true → {word : List Letter} {refusal : OpenOrCreateRefusal E C} (w : World) → IsOpenOrCreateWord c word (Err refusal) → Agrees w → AtEach (IsFallibleUnder nodes) (ActsCalmly nodes) w word
   refused_open_or_create_calm nodes mine w is old = calm_at_each nodes mine w (open_or_create_tame is) tt old
