@@ -24,6 +24,6 @@ module _ {D E C : Type 0} (c : BuilderCall D E C) where
   MayCarryBy ToOpen d = Meets d
   MayCarryBy ToOpenOrCreate d = OnlyRaises c.meaning c.adjusted → Meets d ⊎ Holds d
 
--- How many looks, openings, makings and removals of a segment a call has at most.
+-- How many accesses a call has at most, and how many looks, openings, makings and removals of a segment.
 abbrev pub IsShortBy : Way → List Letter → Type 0
 IsShortBy way word = IsWithin word (limits_of way)

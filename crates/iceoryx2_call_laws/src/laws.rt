@@ -100,7 +100,7 @@ pub fn agreement<D, E: Copy, C: Copy>()
     ensures open_in_any_world { (own : ℕ → Bool) (c : BuilderCall D E C) (f : Registered) (w : World)
         → own c.caller.node ≡ true → IsOpenSince (IsFallibleUnder own) (λ u. u) c own f w → IsOpenAsAsked c w f }
 
-    // Every call is short over every storage: its word alone tells so.
+    // Every call is short over every storage, in all accesses and in those of each kind: its word alone tells so.
     ensures is_short { (c : BuilderCall D E C) (word : List Letter) (answer : Result Registered (ErrorBy E C c.way))
         → IsWordOf c word answer → IsShortBy c.way word }
 
@@ -176,7 +176,7 @@ pub fn agreement<D, E: Copy, C: Copy>()
         → own r.node ≡ true → IsCloseWord r word answer → ((s : Registered) → answer ≢ Err (NotHere s))
         → Run (IsFallibleUnder own) w word v → Agrees w → CloseLeaves own r w v word }
 
-    // A close looks nowhere and opens nothing. It removes at most one segment.
+    // A close makes at most four accesses. It looks nowhere and opens nothing, and removes at most one segment.
     ensures close_is_short { (r : Registered) (word : List Letter) (answer : Result (Unit {0}) (CloseError Registered))
         → IsCloseWord r word answer → IsWithin word close_limits }
 {}

@@ -1,5 +1,5 @@
--- How often a word has an access of a kind.
-use Rattle.std.specs.Prelude.{◌≤◌, ℕ, Bool, true, false, List, count_by}
+-- How many accesses a word has, in all and of a kind.
+use Rattle.std.specs.Prelude.{◌≤◌, ℕ, Bool, true, false, List, count_by, length}
 use Rattle.iceoryx2_access.specs.Letter.{Letter, Exists, OpenSegment, MakeSegment, RemoveSegment}
 
 abbrev pub is_look : Letter → Bool
@@ -31,8 +31,9 @@ makings word = count_by is_making word
 abbrev pub removals : List Letter → ℕ
 removals word = count_by is_removal word
 
--- How many of each there may be.
+-- How many of each there may be, and how many accesses in all.
 pub record Limits : Type 0 where
+  pub accesses : ℕ
   pub looks : ℕ
   pub openings : ℕ
   -- attempts to make a segment, and removals of one
@@ -41,6 +42,7 @@ pub record Limits : Type 0 where
 
 -- At most so many.
 pub record IsWithin (word : List Letter) (most : Limits) : Type 0 where
+  pub few_accesses : length word ≤ most.accesses
   pub few_looks : looks word ≤ most.looks
   pub few_openings : openings word ≤ most.openings
   pub few_makings : makings word ≤ most.makings
@@ -48,13 +50,13 @@ pub record IsWithin (word : List Letter) (most : Limits) : Type 0 where
 
 -- of a create, of an open, of the part of a create that makes its segment, and of a close
 abbrev pub create_limits : Limits
-create_limits = record { looks = 1; openings = 0; makings = 6; removals = 6 }
+create_limits = record { accesses = 20; looks = 1; openings = 0; makings = 6; removals = 6 }
 
 abbrev pub open_limits : Limits
-open_limits = record { looks = 12; openings = 6; makings = 0; removals = 0 }
+open_limits = record { accesses = 42; looks = 12; openings = 6; makings = 0; removals = 0 }
 
 abbrev pub segment_limits : Limits
-segment_limits = record { looks = 0; openings = 0; makings = 6; removals = 5 }
+segment_limits = record { accesses = 11; looks = 0; openings = 0; makings = 6; removals = 5 }
 
 abbrev pub close_limits : Limits
-close_limits = record { looks = 0; openings = 0; makings = 0; removals = 1 }
+close_limits = record { accesses = 4; looks = 0; openings = 0; makings = 0; removals = 1 }

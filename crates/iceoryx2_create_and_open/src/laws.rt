@@ -19,22 +19,23 @@ ghost use Rattle.iceoryx2_access.specs.Registered.{Registered};
 ghost use Rattle.iceoryx2_create_and_open.specs.Segments.{IsSegmentWord};
 ghost use Rattle.iceoryx2_pattern.specs.Meaning.{Meaning};
 
-/// A create looks at most once and opens nothing. It makes a segment in at most six attempts, and
-/// removes one at most six times, the last time to give its own back.
+/// A create makes at most 20 accesses. It looks at most once and opens nothing. It makes a segment
+/// in at most six attempts, and removes one at most six times, the last time to give its own back.
 pub fn create_is_short<E: Copy, C: Copy>()
     ensures { (m : Meaning E C) (caller : Caller) (word : List Letter) (answer : Result Registered C)
         → IsCreateCall m caller word answer → IsWithin word create_limits }
 {}
 
 /// The part of a create that makes its segment does so in at most six attempts, with at most five
-/// removals between them.
+/// removals between them: eleven accesses at most.
 pub fn segment_part_is_short()
     ensures { (node : ℕ) (hash : ServiceHash) (number max_nodes : ℕ)
         (word : List Letter) (answer : Result (Unit {0}) CreateRefusal)
         → IsSegmentWord node hash number max_nodes word answer → IsWithin word segment_limits }
 {}
 
-/// An open looks at most twelve times and opens at most six times. It makes and removes no segment.
+/// An open makes at most 42 accesses. It looks at most twelve times and opens at most six times. It
+/// makes and removes no segment.
 pub fn open_is_short<E: Copy, C: Copy>()
     ensures { (m : Meaning E C) (node : ℕ) (hash : ServiceHash)
         (word : List Letter) (answer : Result Registered E)

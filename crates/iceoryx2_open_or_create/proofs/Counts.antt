@@ -1,4 +1,4 @@
--- How often an open or create looks and opens.
+-- How many accesses an open or create has, in all and of each kind.
 use Rattle.std.proofs.Common.{◌*◌, ℕ, List, Result, arith}
 use Rattle.iceoryx2_access.specs.Registered.{Registered}
 use Rattle.iceoryx2_access.specs.Letter.{Letter}
@@ -10,27 +10,27 @@ use Rattle.iceoryx2_open_or_create.specs.OpenOrCreates.{IsRetriedTurn, open_retr
 use Rattle.iceoryx2_open_or_create.specs.CallWords.{IsOpenOrCreateCall}
 
 module _ {D E C : Type 0} {c : BuilderCall D E C} where
-  last_within : {w : List Letter} {r : Result Registered (OpenOrCreateRefusal E C)} → IsLastTurn c w r → Within w 13 6 6 6
-  last_within (look_faulty l) = within_more _ _ _ _ (omega arith) (omega arith) (omega arith) (omega arith) (look_within _ _ _ l)
-  last_within (not_opened l o _) = within_more _ _ _ _ (omega arith) (omega arith) (omega arith) (omega arith) (within_append (look_within _ _ _ l) (open_within _ _ _ o))
-  last_within (opened l o) = within_more _ _ _ _ (omega arith) (omega arith) (omega arith) (omega arith) (within_append (look_within _ _ _ l) (open_within _ _ _ o))
-  last_within (not_created l m _) = within_more _ _ _ _ (omega arith) (omega arith) (omega arith) (omega arith) (within_append (look_within _ _ _ l) (create_within _ _ _ m))
-  last_within (created l m) = within_more _ _ _ _ (omega arith) (omega arith) (omega arith) (omega arith) (within_append (look_within _ _ _ l) (create_within _ _ _ m))
+  last_within : {w : List Letter} {r : Result Registered (OpenOrCreateRefusal E C)} → IsLastTurn c w r → Within w 44 13 6 6 6
+  last_within (look_faulty l) = within_more (omega arith) (omega arith) (omega arith) (omega arith) (omega arith) (look_within _ _ _ l)
+  last_within (not_opened l o _) = within_more (omega arith) (omega arith) (omega arith) (omega arith) (omega arith) (within_append (look_within _ _ _ l) (open_within _ _ _ o))
+  last_within (opened l o) = within_more (omega arith) (omega arith) (omega arith) (omega arith) (omega arith) (within_append (look_within _ _ _ l) (open_within _ _ _ o))
+  last_within (not_created l m _) = within_more (omega arith) (omega arith) (omega arith) (omega arith) (omega arith) (within_append (look_within _ _ _ l) (create_within _ _ _ m))
+  last_within (created l m) = within_more (omega arith) (omega arith) (omega arith) (omega arith) (omega arith) (within_append (look_within _ _ _ l) (create_within _ _ _ m))
 
-  retried_within : {next : D} {w : List Letter} → IsRetriedTurn c w next → Within w 13 6 6 6
-  retried_within (open_retried l o _) = within_more _ _ _ _ (omega arith) (omega arith) (omega arith) (omega arith) (within_append (look_within _ _ _ l) (open_within _ _ _ o))
-  retried_within (create_retried l m _) = within_more _ _ _ _ (omega arith) (omega arith) (omega arith) (omega arith) (within_append (look_within _ _ _ l) (create_within _ _ _ m))
+  retried_within : {next : D} {w : List Letter} → IsRetriedTurn c w next → Within w 44 13 6 6 6
+  retried_within (open_retried l o _) = within_more (omega arith) (omega arith) (omega arith) (omega arith) (omega arith) (within_append (look_within _ _ _ l) (open_within _ _ _ o))
+  retried_within (create_retried l m _) = within_more (omega arith) (omega arith) (omega arith) (omega arith) (omega arith) (within_append (look_within _ _ _ l) (create_within _ _ _ m))
 
 module _ {D E C : Type 0} {c : BuilderCall D E C} where
-  turns_within : {asked : D} {k : ℕ} {w : List Letter} → AreRetriedTurns c k w asked → Within w (13 * k) (6 * k) (6 * k) (6 * k)
+  turns_within : {asked : D} {k : ℕ} {w : List Letter} → AreRetriedTurns c k w asked → Within w (44 * k) (13 * k) (6 * k) (6 * k) (6 * k)
   turns_within no_turn = none_within
-  turns_within (one_more before t) = within_more _ _ _ _ (omega arith) (omega arith) (omega arith) (omega arith) (within_append (turns_within before) (retried_within t))
+  turns_within (one_more before t) = within_more (omega arith) (omega arith) (omega arith) (omega arith) (omega arith) (within_append (turns_within before) (retried_within t))
 
   -- six rounds, of which each looks once more than its open or its create
-  pub open_or_create_within : {w : List Letter} {r : Result Registered (OpenOrCreateRefusal E C)} → IsOpenOrCreateWord c w r → Within w 78 36 36 36
-  open_or_create_within (ended small before t) = within_more _ _ _ _ (omega arith) (omega arith) (omega arith) (omega arith) (within_append (turns_within before) (last_within t))
+  pub open_or_create_within : {w : List Letter} {r : Result Registered (OpenOrCreateRefusal E C)} → IsOpenOrCreateWord c w r → Within w 264 78 36 36 36
+  open_or_create_within (ended small before t) = within_more (omega arith) (omega arith) (omega arith) (omega arith) (omega arith) (within_append (turns_within before) (last_within t))
   open_or_create_within (in_flux before) = turns_within before
 
 module _ {D E C : Type 0} (c : BuilderCall D E C) where
-  pub open_or_create_call_within : {w : List Letter} {r : Result Registered (OpenOrCreateRefusal E C)} → IsOpenOrCreateCall c w r → Within w 78 36 36 36
-  open_or_create_call_within = each_call (λ w r. Within w 78 36 36 36) (within_more _ _ _ _ (omega arith) (omega arith) (omega arith) (omega arith) none_within) (λ w r is. open_or_create_within is)
+  pub open_or_create_call_within : {w : List Letter} {r : Result Registered (OpenOrCreateRefusal E C)} → IsOpenOrCreateCall c w r → Within w 264 78 36 36 36
+  open_or_create_call_within = each_call (λ w r. Within w 264 78 36 36 36) (within_more (omega arith) (omega arith) (omega arith) (omega arith) (omega arith) none_within) (λ w r is. open_or_create_within is)

@@ -56,9 +56,9 @@ module _ {D E C : Type 0} (c : BuilderCall D E C) where
   abbrev pub rounds_of : BuilderCall D E C
   rounds_of = record c { way = ToOpenOrCreate; prepares = false }
 
--- how many looks, openings, makings and removals of a segment an open or create has at most,
+-- how many accesses an open or create has at most, and how many looks, openings, makings and removals of a segment,
 abbrev pub open_or_create_limits : Limits
-open_or_create_limits = record { looks = 78; openings = 36; makings = 36; removals = 36 }
+open_or_create_limits = record { accesses = 264; looks = 78; openings = 36; makings = 36; removals = 36 }
 
 -- and each of the three
 abbrev pub limits_of : Way → Limits

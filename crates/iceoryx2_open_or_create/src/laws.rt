@@ -14,8 +14,8 @@ ghost use Rattle.iceoryx2_open_or_create.specs.Grants.{Carries};
 ghost use Rattle.iceoryx2_open_or_create.specs.Leaves.{GivesBackByRounds, KeepsInTheEnd};
 ghost use Rattle.iceoryx2_open_or_create.specs.declared.open_or_create.OpenOrCreateRefusal.{OpenOrCreateRefusal};
 
-/// An open or create looks at most 78 times and opens at most 36 times. It makes a segment in at most
-/// 36 attempts, and removes one at most 36 times.
+/// An open or create makes at most 264 accesses. It looks at most 78 times and opens at most 36 times.
+/// It makes a segment in at most 36 attempts, and removes one at most 36 times.
 pub fn open_or_create_is_short<D, E: Copy, C: Copy>()
     ensures { (c : BuilderCall D E C) (word : List Letter)
         (answer : Result Registered (OpenOrCreateRefusal E C))

@@ -77,7 +77,7 @@ not_here_means {s} is = not_here_by s refl is
 
 -- A close is short.
 pub close_within : {r : Registered} {word : List Letter} {answer : Result (Unit {0}) (CloseError Registered)} → IsCloseWord r word answer → IsWithin word close_limits
-close_within not_here = record { few_looks = omega arith; few_openings = omega arith; few_makings = omega arith; few_removals = omega arith }
-close_within still_counted = record { few_looks = omega arith; few_openings = omega arith; few_makings = omega arith; few_removals = omega arith }
-close_within (left tag) = record { few_looks = omega arith; few_openings = omega arith; few_makings = omega arith; few_removals = omega arith }
-close_within (last tag segment description) = record { few_looks = omega arith; few_openings = omega arith; few_makings = omega arith; few_removals = omega arith }
+close_within not_here = record { few_accesses = omega arith; few_looks = omega arith; few_openings = omega arith; few_makings = omega arith; few_removals = omega arith }
+close_within still_counted = record { few_accesses = omega arith; few_looks = omega arith; few_openings = omega arith; few_makings = omega arith; few_removals = omega arith }
+close_within (left tag) = record { few_accesses = omega arith; few_looks = omega arith; few_openings = omega arith; few_makings = omega arith; few_removals = omega arith }
+close_within (last tag segment description) = record { few_accesses = omega arith; few_looks = omega arith; few_openings = omega arith; few_makings = omega arith; few_removals = omega arith }
