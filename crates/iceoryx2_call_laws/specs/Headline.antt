@@ -52,6 +52,11 @@ module _ {S : Type 0} (step : S → Letter → S → Type 0) (world : S → Worl
     -- and so on with the next call
     pub agrees : Agrees (world t)
 
+  -- So is the call along each of its words, from a state that agrees.
+  abbrev pub EachIsAsPromised : (own : ℕ → Bool) → Type 0
+  EachIsAsPromised own = (word : List Letter) (answer : Result Registered (ErrorBy E C c.way)) (s t : S)
+      → IsWordOf c word answer → Run step s word t → Agrees (world s) → IsAsPromised own s word answer t
+
 module _ {S : Type 0} (step : S → Letter → S → Type 0) (world : S → World)
     {D E C : Type 0} (c : BuilderCall D E C) (own : ℕ → Bool) (f : Registered) where
   -- The call has answered Ok with this factory, over a world that agreed, and since then no release of its ticket was

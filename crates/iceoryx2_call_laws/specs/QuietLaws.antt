@@ -1,15 +1,24 @@
 -- What is told of the calls over a world that shows the quiet machine.
-use Rattle.std.specs.Prelude.{◌≡◌, ◌≢◌, ℕ, false, Option, Some, None, Result, IfOk, unwrap_or}
+use Rattle.std.specs.Prelude.{◌≡◌, ◌≢◌, ℕ, ◌+◌, false, List, Option, Some, None, Result, IfOk, unwrap_or}
 use Rattle.std.specs.FinMap as map
 use Rattle.iceoryx2_description.specs.declared.description.ServiceHash.{ServiceHash}
 use Rattle.iceoryx2_world.specs.declared.world.Participant.TheVariants.{Node}
 use Rattle.iceoryx2_world.specs.World.{World, row_of, segment_of, phase_of, tag_of, join_count}
+use Rattle.iceoryx2_world.specs.Access.{IsOwnPart}
 use Rattle.iceoryx2_world.specs.Across.{Agrees}
+use Rattle.iceoryx2_access.specs.Letter.{Letter}
 use Rattle.iceoryx2_access.specs.Registered.{Registered}
+use Rattle.iceoryx2_access.specs.Run.{Run}
 use Rattle.iceoryx2_world.specs.Standing.{Stands}
 use Rattle.iceoryx2_call_laws.specs.Quiet.{Quiet, QuietService, Shows, service_at, times_counted}
 use Rattle.iceoryx2_call_laws.specs.QuietCalls.{Closes}
 use Rattle.iceoryx2_call_laws.specs.Tickets.{tickets_after}
+
+-- This word runs over a world that agrees and shows the machine, and nobody else acts.
+pub record RunsQuietly (w : World) (q : Quiet) (word : List Letter) (v : World) : Type 0 where
+  pub shows : Shows w q
+  pub agrees : Agrees w
+  pub run : Run IsOwnPart w word v
 
 -- After a create, an open or an open or create from w to v, which is one of these calls of the machine.
 pub record IsCall {E : Type 0} (w : World) (Calls : Quiet → Type 0) (answer : Result Registered E) (v : World)
@@ -42,6 +51,12 @@ pub record HasOpened (q : Quiet) (i : ℕ) (h : ServiceHash) (n : ℕ) : Type 0 
   pub count : ℕ
   pub counted : times_counted service i ≡ Some count
 
+-- The node has opened the service of this hash so often.
+pub record HasOpenedTimes (q : Quiet) (i : ℕ) (h : ServiceHash) (k : ℕ) : Type 0 where
+  pub service : QuietService
+  pub there : service_at q h ≡ Some service
+  pub counted : times_counted service i ≡ Some k
+
 -- Under the factory's hash the machine has a service of the factory's description and number.
 pub record HasServiceOf (q : Quiet) (f : Registered) : Type 0 where
   pub service : QuietService
@@ -70,3 +85,15 @@ pub record HasNothingAt (w : World) (h : ServiceHash) : Type 0 where
   pub segment : segment_of w h ≡ None
   pub tags : (i : ℕ) → tag_of w i h ≡ false
   pub counts : (i : ℕ) → join_count (phase_of w (Node i) h) ≡ 0
+
+-- Nothing of this service is left, the rest is as it was, and one number is spent.
+pub record SpendsOneNumber (w v : World) (h : ServiceHash) : Type 0 where
+  pub nothing : HasNothingAt v h
+  pub same : HoldsTheSame w v
+  pub spent : v.counter ≡ w.counter + 1
+
+-- The node, which had opened the service so often, has opened it once more, and takes no further place.
+pub record OpensOnceMore (w v : World) (i : ℕ) (h : ServiceHash) (k : ℕ) : Type 0 where
+  pub segment : segment_of v h ≡ segment_of w h
+  pub before : join_count (phase_of w (Node i) h) ≡ k
+  pub after : join_count (phase_of v (Node i) h) ≡ k + 1

@@ -1,5 +1,5 @@
 -- The calls of the quiet machine that may prepare the types of their messages first.
-use Rattle.std.specs.Prelude.{ℕ, Bool, true, false, Result, Err}
+use Rattle.std.specs.Prelude.{ℕ, Bool, true, false, Result, Ok, Err}
 use Rattle.iceoryx2_description.specs.declared.description.ServiceHash.{ServiceHash}
 use Rattle.iceoryx2_access.specs.Registered.{Registered}
 use Rattle.iceoryx2_pattern.specs.declared.pattern.CreateRefusal.TheVariants as create_refusal
@@ -7,7 +7,7 @@ use Rattle.iceoryx2_pattern.specs.declared.pattern.OpenRefusal.TheVariants as op
 use Rattle.iceoryx2_pattern.specs.Meaning.{Meaning}
 use Rattle.iceoryx2_create_and_open.specs.declared.caller.Caller.{Caller}
 use Rattle.iceoryx2_call_laws.specs.Quiet.{Quiet}
-use Rattle.iceoryx2_call_laws.specs.QuietCalls.{Creates, Opens}
+use Rattle.iceoryx2_call_laws.specs.QuietCalls.{Creates, Opens, Closes}
 
 -- Such a call is one of the machine's, or it is out of memory in place of what that would answer, and nothing changes.
 pub data PreparesFirst {E : Type 0} (no_memory : E) (q : Quiet) (Calls : Result Registered E → Quiet → Type 0)
@@ -30,3 +30,10 @@ CreatesPrepared m q caller = PreparesFirst (m.create_refusal create_refusal.OutO
 abbrev pub OpensPrepared
     : {E C : Type 0} → Meaning E C → Quiet → ℕ → ServiceHash → Result Registered E → Quiet → Type 0
 OpensPrepared m q node hash = PreparesFirst (m.open_refusal open_refusal.OutOfMemory) q (Opens m q node hash)
+
+-- Such a create that gave this factory, and then its close.
+pub record CreatesAndCloses {E C : Type 0} (m : Meaning E C) (q : Quiet) (caller : Caller) (r : Registered) (p : Quiet)
+    : Type 0 where
+  pub between : Quiet
+  pub creates : CreatesPrepared m q caller (Ok r) between
+  pub closes : Closes between r.node r.description.hash p

@@ -1,32 +1,27 @@
 //! What is true of whole calls over a table of which any access may be refused.
 
-ghost use Rattle.std.specs.Prelude.{◌≡◌, ◌<◌, ℕ, Bool, List, [], Result, None};
-ghost use Rattle.iceoryx2_description.specs.Description.{max_nodes_of};
-ghost use Rattle.iceoryx2_world.specs.World.{World, row_of};
+ghost use Rattle.std.specs.Prelude.{ℕ, Bool, List, Result};
 ghost use Rattle.iceoryx2_access.specs.Letter.{Letter};
 ghost use Rattle.iceoryx2_access.specs.MayRefuse.{MayRefuse};
 ghost use Rattle.iceoryx2_access.specs.Run.{Run};
 ghost use Rattle.iceoryx2_world.specs.Access.{IsOwnPart};
-ghost use Rattle.iceoryx2_world.specs.Across.{Agrees};
 ghost use Rattle.iceoryx2_world.specs.Interference.{Others, After, IsFallibleUnder, everyone};
 ghost use Rattle.iceoryx2_world.specs.Tables.{TableState, IsTableAccess};
-ghost use Rattle.iceoryx2_script.specs.Faults.{FaultyState, IsInjectedFault, RefusesNone};
+ghost use Rattle.iceoryx2_script.specs.Faults.{FaultyState, IsInjectedFault};
 ghost use Rattle.iceoryx2_access.specs.Registered.{Registered};
 ghost use Rattle.iceoryx2_create_and_open.specs.declared.caller.Caller.{Caller};
-ghost use Rattle.iceoryx2_create_and_open.specs.Creates.{time_of};
-ghost use Rattle.iceoryx2_create_and_open.specs.Prepared.{IsCreateCall};
 ghost use Rattle.iceoryx2_pattern.specs.Meaning.{Meaning};
-ghost use Rattle.iceoryx2_open_or_create.specs.BuilderCalls.{BuilderCall, ErrorBy};
-ghost use Rattle.iceoryx2_open_or_create.specs.CallWords.{IsWordOf};
-ghost use Rattle.iceoryx2_call_laws.specs.Headline.{IsAsPromised, IsOpenAsAsked, IsOpenSince};
-ghost use Rattle.iceoryx2_call_laws.specs.OverNoRow.{AnswersOverNoRow};
+ghost use Rattle.iceoryx2_open_or_create.specs.BuilderCalls.{BuilderCall};
+ghost use Rattle.iceoryx2_call_laws.specs.Headline.{EachIsAsPromised, IsOpenAsAsked, IsOpenSince};
+ghost use Rattle.iceoryx2_call_laws.specs.OverNoRow.{CreatesOverNoRow, AnswersOverNoRow};
 
 /// What such a storage adds to `agreement`, whichever accesses are refused, those by which a call gives
 /// back and by which a close removes among them, and whatever steps peers take.
 ///
-/// An access that is refused answers its general fault and changes nothing. What `agreement` says of
-/// accesses of which any may be refused is true of it as it stands there: the world agrees after each
-/// access, standing factories stand, and of a refused call only that stays for which a removal was refused.
+/// An access that is refused answers its general fault and changes nothing. What `agreement`, and the laws of
+/// accesses and of standing factories of `iceoryx2_world`, have of accesses of which any may be refused is true of it
+/// as it stands there: the world agrees after each access, standing factories stand, and of a refused call only that
+/// stays for which a removal was refused.
 pub fn agreement_under_faults<D, E: Copy, C: Copy>()
     // The accesses of a faulty storage with a table inside, whichever are refused and whatever batches
     // wait, are accesses of the table's world of which any may be refused, after what others do and so under
@@ -43,10 +38,8 @@ pub fn agreement_under_faults<D, E: Copy, C: Copy>()
     // service, meets what was asked or holds what was published, and is open until its own ticket is released: it
     // carries the one published description of its hash, its segment is there, and its node is among at most
     // `max_nodes`.
-    ensures every_open_factory_stands { (c : BuilderCall D E C) (word : List Letter)
-        (answer : Result Registered (ErrorBy E C c.way)) (s t : FaultyState TableState)
-        → IsWordOf c word answer → Run (IsInjectedFault IsTableAccess) s word t → Agrees s.inner.world
-        → IsAsPromised (IsInjectedFault IsTableAccess) (λ u. u.inner.world) c everyone s word answer t }
+    ensures every_open_factory_stands { (c : BuilderCall D E C)
+        → EachIsAsPromised (IsInjectedFault IsTableAccess) (λ u. u.inner.world) c everyone }
 
     // The same by history: at any state that such a table comes to, by accesses, refused or not, and by accesses of the
     // table inside and scheduling at it, after some call answered Ok with a factory, and before the release of its
@@ -60,8 +53,5 @@ pub fn agreement_under_faults<D, E: Copy, C: Copy>()
     // publish for one node or more.
     ensures over_no_row { (m : Meaning E C) (caller : Caller)
         (word : List Letter) (answer : Result Registered C) (s t : FaultyState TableState)
-        → 0 < max_nodes_of (m.published (time_of caller.clock)) → Agrees s.inner.world
-        → row_of s.inner.world caller.hash ≡ None → s.inner.waiting ≡ [] → RefusesNone s word
-        → IsCreateCall m caller word answer → Run (IsInjectedFault IsTableAccess) s word t
-        → AnswersOverNoRow m caller s.inner.world.counter answer }
+        → CreatesOverNoRow m caller s word answer t → AnswersOverNoRow m caller s.inner.world.counter answer }
 {}

@@ -6,13 +6,13 @@ ghost use Rattle.iceoryx2_access.specs.Letter.{Letter};
 ghost use Rattle.iceoryx2_access.specs.MayRefuse.{MayRefuse};
 ghost use Rattle.iceoryx2_access.specs.Run.{Run, Each};
 ghost use Rattle.iceoryx2_world.specs.Access.{IsOwnPart};
-ghost use Rattle.iceoryx2_world.specs.Agreement.{Later, IsSegmentOf};
+ghost use Rattle.iceoryx2_world.specs.Agreement.{IsSegmentOf};
 ghost use Rattle.iceoryx2_world.specs.Across.{Agrees};
 ghost use Rattle.iceoryx2_world.specs.Interference.{Others, After, IsAccessUnder, IsFallibleUnder};
 ghost use Rattle.iceoryx2_world.specs.Interference.{SameTickets, everyone};
 ghost use Rattle.iceoryx2_world.specs.Tables.{TableState, IsTableAccess};
 ghost use Rattle.iceoryx2_access.specs.Registered.{Registered};
-ghost use Rattle.iceoryx2_world.specs.Standing.{Spares, Stands};
+ghost use Rattle.iceoryx2_world.specs.Standing.{Stands};
 ghost use Rattle.iceoryx2_errors.specs.declared.error.CloseError.{CloseError};
 ghost use Rattle.iceoryx2_errors.specs.declared.error.CloseError.TheVariants.{NotHere};
 ghost use Rattle.iceoryx2_port_factory.specs.Closes.{IsCloseWord};
@@ -23,7 +23,7 @@ ghost use Rattle.iceoryx2_open_or_create.specs.BuilderCalls.{BuilderCall, ErrorB
 ghost use Rattle.iceoryx2_call_laws.specs.AnyCalls.{IsShortBy};
 ghost use Rattle.iceoryx2_open_or_create.specs.CallWords.{IsWordOf};
 ghost use Rattle.iceoryx2_open_or_create.specs.LawfulCalls.{IsLawfulCall};
-ghost use Rattle.iceoryx2_call_laws.specs.Headline.{IsAsPromised, IsOpenAsAsked, IsOpenSince};
+ghost use Rattle.iceoryx2_call_laws.specs.Headline.{EachIsAsPromised, IsOpenAsAsked, IsOpenSince};
 ghost use Rattle.iceoryx2_call_laws.specs.Calls.{Throughout, AtEach, ActsCalmly, ChangesLast};
 ghost use Rattle.iceoryx2_call_laws.specs.Leaves.{IsGranted, LeavesNothing};
 ghost use Rattle.iceoryx2_call_laws.specs.Promise.{Promise};
@@ -40,7 +40,9 @@ ghost use Rattle.iceoryx2_call_laws.specs.Tickets.{tickets_after, tickets_after_
 /// A call is a word of its accesses. A create, an open and an open or create may prepare the types of
 /// their messages first; one that doesn't goes along a word of its grammar, which is a word of such a
 /// call too.
-/// Where nothing else is said, any access may be refused by a fault.
+/// Where nothing else is said, any access may be refused by a fault. What holds of the run of any word,
+/// whoever's it is, holds of these: that the world agrees is `run` of `laws_of_accesses` of `iceoryx2_world`, and that
+/// an open factory stands on is `stands` of `laws_of_standing`.
 pub fn agreement<D, E: Copy, C: Copy>()
     // A table's own accesses, whatever batches wait before them, are accesses of its world under
     // interference, whichever nodes are own, and so accesses of which any may be refused. So what is said of
@@ -48,17 +50,6 @@ pub fn agreement<D, E: Copy, C: Copy>()
     ensures of_tables { (own : ℕ → Bool) (s t : TableState) (word : List Letter)
         → Run IsTableAccess s word t
         → Run (IsAccessUnder own) s.world word t.world × Run (IsFallibleUnder own) s.world word t.world }
-
-    // Before, between and after the accesses of any word, so within each call and from call to
-    // call, the world agrees and is later than the first one.
-    ensures agrees { (own : ℕ → Bool) (word : List Letter) (w : World)
-        → Agrees w → Throughout (IsFallibleUnder own) (λ v. Agrees v × Later w v) w word }
-
-    // An own node's factory that stands goes on standing whatever accesses follow, anybody's, refused ones and
-    // those of others among them, as long as none of them is a granted release of its own ticket.
-    ensures stands { (own : ℕ → Bool) (word : List Letter) (w : World) (f : Registered)
-        → own f.node ≡ true → Each (Spares f) word → Agrees w → Stands w f
-        → Throughout (IsFallibleUnder own) (λ v. Stands v f) w word }
 
     // A standing factory's segment has as many places as its description has nodes, and in it are
     // at most so many participants, each of them registered under the factory's number.
@@ -71,24 +62,17 @@ pub fn agreement<D, E: Copy, C: Copy>()
     // factory with which it answered Ok has a new ticket, is of its caller and its service, meets what was
     // asked or holds what was published, and is open until its own ticket is released: it carries the one
     // published description of its hash, its segment is there, and its node is among at most `max_nodes`.
-    ensures every_open_factory_stands { (c : BuilderCall D E C) (word : List Letter)
-        (answer : Result Registered (ErrorBy E C c.way)) (s t : TableState)
-        → IsWordOf c word answer → Run IsTableAccess s word t → Agrees s.world
-        → IsAsPromised IsTableAccess (λ u. u.world) c everyone s word answer t }
+    ensures every_open_factory_stands { (c : BuilderCall D E C)
+        → EachIsAsPromised IsTableAccess (λ u. u.world) c everyone }
 
     // So it is of own nodes' factories over any world that agrees, under any interference, and whichever accesses
     // are refused by a fault,
-    ensures in_any_world { (own : ℕ → Bool) (c : BuilderCall D E C) (word : List Letter)
-        (answer : Result Registered (ErrorBy E C c.way)) (w v : World)
-        → own c.caller.node ≡ true → IsWordOf c word answer → Run (IsFallibleUnder own) w word v → Agrees w
-        → IsAsPromised (IsFallibleUnder own) (λ u. u) c own w word answer v }
+    ensures in_any_world { (own : ℕ → Bool) (c : BuilderCall D E C)
+        → own c.caller.node ≡ true → EachIsAsPromised (IsFallibleUnder own) (λ u. u) c own }
 
     // as where steps of peers and accesses of other nodes fall between those of the call.
-    ensures among_others { (own : ℕ → Bool) (c : BuilderCall D E C) (word : List Letter)
-        (answer : Result Registered (ErrorBy E C c.way)) (w v : World)
-        → own c.caller.node ≡ true → IsWordOf c word answer
-        → Run (After (Others own) (MayRefuse IsOwnPart)) w word v → Agrees w
-        → IsAsPromised (After (Others own) (MayRefuse IsOwnPart)) (λ u. u) c own w word answer v }
+    ensures among_others { (own : ℕ → Bool) (c : BuilderCall D E C)
+        → own c.caller.node ≡ true → EachIsAsPromised (After (Others own) (MayRefuse IsOwnPart)) (λ u. u) c own }
 
     // The same by history: at any state that a table comes to, by accesses and by scheduling of batches, after some
     // call answered Ok with a factory, and before the release of its ticket, this factory is open, with what that call

@@ -1,43 +1,37 @@
 //! What the calls make of a table that nobody else uses.
 
-ghost use Rattle.std.specs.Prelude.{◌≡◌, ◌↔◌, ℕ, ◌+◌, ◌≤◌, List, Result, Ok, Err, Some, None};
-ghost use Rattle.std.specs.Prelude.{IsTrue, IfErr};
+ghost use Rattle.std.specs.Prelude.{◌≡◌, ◌↔◌, ℕ, ◌≤◌, List, Result, Ok, Err, Some, None};
+ghost use Rattle.std.specs.Prelude.{IsTrue};
 ghost use Rattle.std.specs.FinMap as map;
-ghost use Rattle.iceoryx2_attribute.specs.Requirements.{Requirements, AreMetBy};
 ghost use Rattle.iceoryx2_description.specs.declared.description.ServiceHash.{ServiceHash};
 ghost use Rattle.iceoryx2_world.specs.declared.listing.Entry.{Entry};
-ghost use Rattle.iceoryx2_world.specs.declared.world.Participant.TheVariants.{Node};
 ghost use Rattle.iceoryx2_world.specs.declared.world.Ticket.{Ticket};
-ghost use Rattle.iceoryx2_world.specs.World.{World, segment_of, phase_of, tag_of, empty_world};
-ghost use Rattle.iceoryx2_world.specs.World.{ticket_of, ticket_count, join_count};
+ghost use Rattle.iceoryx2_world.specs.World.{World, tag_of, empty_world};
+ghost use Rattle.iceoryx2_world.specs.World.{ticket_of, ticket_count};
 ghost use Rattle.iceoryx2_access.specs.Letter.{Letter};
-ghost use Rattle.iceoryx2_access.specs.Run.{Run};
-ghost use Rattle.iceoryx2_world.specs.Access.{IsOwnPart};
 ghost use Rattle.iceoryx2_world.specs.Across.{Agrees};
 ghost use Rattle.iceoryx2_world.specs.Standing.{Stands, ticket_for};
 ghost use Rattle.iceoryx2_world.specs.Listing.{Lists};
-ghost use Rattle.iceoryx2_pattern.specs.declared.pattern.OpenRefusal.TheVariants.{OutOfMemory};
 ghost use Rattle.iceoryx2_errors.specs.declared.error.CloseError.{CloseError};
 ghost use Rattle.iceoryx2_pattern.specs.Meaning.{Meaning};
-ghost use Rattle.iceoryx2_pattern.specs.OwnAttributes.{requiring};
-ghost use Rattle.iceoryx2_pattern.specs.Verdict.{verdict};
 ghost use Rattle.iceoryx2_access.specs.Registered.{Registered};
 ghost use Rattle.iceoryx2_create_and_open.specs.declared.caller.Caller.{Caller};
 ghost use Rattle.iceoryx2_create_and_open.specs.OwnSettings.{AcceptsOwn};
 ghost use Rattle.iceoryx2_port_factory.specs.Closes.{IsCloseWord};
 ghost use Rattle.iceoryx2_open_or_create.specs.Adjusting.{OnlyRaises};
-ghost use Rattle.iceoryx2_open_or_create.specs.BuilderCalls.{BuilderCall, ErrorBy, creating, opening};
+ghost use Rattle.iceoryx2_open_or_create.specs.BuilderCalls.{BuilderCall, ErrorBy, creating};
 ghost use Rattle.iceoryx2_open_or_create.specs.CallWords.{IsWordOf};
 ghost use Rattle.iceoryx2_open_or_create.specs.LawfulCalls.{IsLawfulCall};
 ghost use Rattle.iceoryx2_call_laws.specs.Headline.{IsOpenAsAsked};
-ghost use Rattle.iceoryx2_call_laws.specs.OpensAgain.{OpensAgain, StandsAsAsked};
-ghost use Rattle.iceoryx2_call_laws.specs.Quiet.{Quiet, QuietService, Shows, no_service, service_at, times_counted};
-ghost use Rattle.iceoryx2_call_laws.specs.QuietCalls.{Closes, HasPlace, HasNumber};
-ghost use Rattle.iceoryx2_call_laws.specs.QuietPrepared.{CreatesPrepared, OpensPrepared};
+ghost use Rattle.iceoryx2_call_laws.specs.OpensAgain.{CanOpen, IsOkOrOutOfMemory, OpensOwnSettings, OpensAgain};
+ghost use Rattle.iceoryx2_call_laws.specs.OpensAgain.{StandsAsAsked};
+ghost use Rattle.iceoryx2_call_laws.specs.Quiet.{Quiet, Shows, no_service, service_at};
+ghost use Rattle.iceoryx2_call_laws.specs.QuietPrepared.{OpensPrepared, CreatesAndCloses};
 ghost use Rattle.iceoryx2_call_laws.specs.QuietWays.{Answers, IsSteadyBy};
 ghost use Rattle.iceoryx2_call_laws.specs.QuietLists.{listing};
-ghost use Rattle.iceoryx2_call_laws.specs.QuietLaws.{IsCall, IsClose, HasOpened, HasServiceOf};
-ghost use Rattle.iceoryx2_call_laws.specs.QuietLaws.{HoldsTheSame, HasNothingAt, times_opened};
+ghost use Rattle.iceoryx2_call_laws.specs.QuietLaws.{RunsQuietly, IsCall, IsClose, HasOpened, HasOpenedTimes};
+ghost use Rattle.iceoryx2_call_laws.specs.QuietLaws.{HasServiceOf, HoldsTheSame, HasNothingAt, SpendsOneNumber};
+ghost use Rattle.iceoryx2_call_laws.specs.QuietLaws.{OpensOnceMore, times_opened};
 
 /// What holds of a table that nobody else uses, whatever the patterns of its services.
 pub fn quiet_laws()
@@ -45,10 +39,9 @@ pub fn quiet_laws()
     ensures empty { (c : ℕ) → Shows (empty_world c) (no_service c) }
 
     // To close a factory whose ticket is there is Ok, and it is the machine's close.
-    ensures close { (r : Registered) (w v : World) (q : Quiet)
-        (word : List Letter) (answer : Result (Unit {0}) (CloseError Registered))
-        → Shows w q → Agrees w → ticket_of w r.ticket ≡ Some (ticket_for r)
-        → IsCloseWord r word answer → Run IsOwnPart w word v
+    ensures close { (r : Registered) (w v : World) (q : Quiet) (word : List Letter)
+        (answer : Result (Unit {0}) (CloseError Registered))
+        → RunsQuietly w q word v → IsCloseWord r word answer → ticket_of w r.ticket ≡ Some (ticket_for r)
         → (answer ≡ Ok tt) × IsClose w q r v }
 
     // Who has a ticket has opened its service.
@@ -92,7 +85,7 @@ pub fn quiet_calls<D, E: Copy, C: Copy>()
     // and then changes nothing.
     ensures call { (c : BuilderCall D E C) (w v : World) (q : Quiet) (word : List Letter)
         (answer : Result Registered (ErrorBy E C c.way))
-        → IsSteadyBy c c.way → Shows w q → Agrees w → IsWordOf c word answer → Run IsOwnPart w word v
+        → RunsQuietly w q word v → IsSteadyBy c c.way → IsWordOf c word answer
         → IsCall w (Answers c q answer) answer v }
 
     // A refused call changes no description, segment, tag or count.
@@ -102,46 +95,28 @@ pub fn quiet_calls<D, E: Copy, C: Copy>()
     // What follows is said of calls that may prepare their types first; each call of the machine is one of these too.
     // A create and then the close of its factory leave nothing of that service and the rest as it
     // was, and one number is spent.
-    ensures create_and_close { (m : Meaning E C) (caller : Caller) (w v : World) (q p z : Quiet) (r : Registered)
-        → Shows w q → Shows v z
-        → CreatesPrepared m q caller (Ok r) p → Closes p r.node r.description.hash z
-        → HasNothingAt v caller.hash × HoldsTheSame w v × (v.counter ≡ w.counter + 1) }
+    ensures create_and_close { (m : Meaning E C) (caller : Caller) (w v : World) (q z : Quiet) (r : Registered)
+        → Shows w q → Shows v z → CreatesAndCloses m q caller r z → SpendsOneNumber w v caller.hash }
 
-    // A further factory of a node takes no further place: the segment stays as it is, and the
-    // node's count rises by one.
-    ensures again { (m : Meaning E C) (node : ℕ) (hash : ServiceHash)
-        (w v : World) (q p : Quiet) (r : Registered) (x : QuietService) (k : ℕ)
-        → Shows w q → Shows v p → service_at q hash ≡ Some x → times_counted x node ≡ Some k
-        → OpensPrepared m q node hash (Ok r) p
-        → (segment_of v hash ≡ segment_of w hash)
-        × (join_count (phase_of w (Node node) hash) ≡ k)
-        × (join_count (phase_of v (Node node) hash) ≡ k + 1) }
+    // A further factory of a node takes no further place.
+    ensures again { (m : Meaning E C) (node : ℕ) (hash : ServiceHash) (w v : World) (q p : Quiet) (r : Registered)
+        (k : ℕ)
+        → Shows w q → Shows v p → HasOpenedTimes q node hash k → OpensPrepared m q node hash (Ok r) p
+        → OpensOnceMore w v node hash k }
 
     // While a service stands that fits and that the requirement accepts, and a place and a number
     // are left, an open is Ok or out of memory.
-    ensures accepted { (m : Meaning E C) (node : ℕ) (hash : ServiceHash)
-        (q p : Quiet) (x : QuietService) (answer : Result Registered E)
-        → service_at q hash ≡ Some x → m.misfit x.description ≡ None
-        → verdict (m.requirement x.description) ≡ Ok tt → HasPlace x node → HasNumber q
-        → OpensPrepared m q node hash answer p
-        → IfErr answer (λ e. e ≡ m.open_refusal OutOfMemory) }
+    ensures accepted { (m : Meaning E C) (node : ℕ) (hash : ServiceHash) (q p : Quiet) (answer : Result Registered E)
+        → CanOpen m q node hash → OpensPrepared m q node hash answer p → IsOkOrOutOfMemory m answer }
 
     // Where a factory is open as its call asked, each standing one of its service, whosever it is, carries the same.
     ensures stands_as_asked { (c : BuilderCall D E C) (w : World) (f g : Registered)
         → IsOpenAsAsked c w f → Stands w g → g.description.hash ≡ f.description.hash → StandsAsAsked c w g }
 
-    // What a call of a builder has given an open takes that asks the same, whichever node calls and whatever it
-    // requires of attributes that the factory's meet, as they do where it requires none, if the builder accepts what
-    // it creates and its create only raises minima: while the factory stands, or another one of the same description,
-    // whatever came between, with a place and a number left, the open is Ok or out of memory.
-    ensures own_settings { (c : BuilderCall D E C) (required : Requirements) (node : ℕ) (q p : Quiet) (f : Registered)
-        (w : World) (answer : Result Registered E)
-        → AcceptsOwn (creating c) (c.meaning c.asked) c.caller
-        → OnlyRaises c.meaning c.adjusted
-        → StandsAsAsked c w f → Shows w q → AreMetBy required f.description.attributes
-        → ((x : QuietService) → service_at q c.caller.hash ≡ Some x → HasPlace x node) → HasNumber q
-        → OpensPrepared (requiring required (c.meaning c.asked)) q node c.caller.hash answer p
-        → IfErr answer (λ e. e ≡ (opening c).open_refusal OutOfMemory) }
+    // What a call of a builder has given an open takes that asks the same, if the builder accepts what it creates and
+    // its create only raises minima.
+    ensures own_settings { (c : BuilderCall D E C)
+        → AcceptsOwn (creating c) (c.meaning c.asked) c.caller → OnlyRaises c.meaning c.adjusted → OpensOwnSettings c }
 
     // So of each lawful call, as those of the three builders are, and along the words of the open.
     ensures opens_again { (c : BuilderCall D E C) → IsLawfulCall c → OpensAgain c }

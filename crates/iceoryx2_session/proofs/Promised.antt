@@ -52,7 +52,7 @@ promised b slot s answer a n raises is replied = record {
   is_word = is.2.is_word;
   run = is.2.run;
   only_raises = raises;
-  promised = λ agrees. as_promised everyone IsTableAccess (λ u. u.world) (of_table everyone) b.call refl is.2.word is.0 is.2.is_word is.2.run agrees;
+  promised = λ agrees. as_promised everyone IsTableAccess (λ u. u.world) (of_table everyone) b.call refl is.2.word is.0 s n.table is.2.is_word is.2.run agrees;
 }
 
 raises_by : (config : Config) (node : ℕ) (name : List ℕ) (way : Way) (attributes : Requirements) (now : Result Span ClockFault) (x : Settings)

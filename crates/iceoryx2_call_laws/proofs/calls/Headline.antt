@@ -21,9 +21,8 @@ use Rattle.iceoryx2_world.proofs.agreement.Accesses.{faulty_keeps, run_keeps, un
 use Rattle.iceoryx2_world.proofs.agreement.Stands.{faulty_stands, older_ticket}
 use Rattle.iceoryx2_call_laws.specs.Calls.{Throughout}
 use Rattle.iceoryx2_open_or_create.specs.BuilderCalls.{BuilderCall, ErrorBy}
-use Rattle.iceoryx2_open_or_create.specs.CallWords.{IsWordOf}
 use Rattle.iceoryx2_call_laws.specs.AnyCalls.{MayCarryBy}
-use Rattle.iceoryx2_call_laws.specs.Headline.{IsOpen, IsOpenAsAsked, IsOpenSince, IsGiven, IsAsPromised, answered, spared, inside, same_world}
+use Rattle.iceoryx2_call_laws.specs.Headline.{IsOpen, IsOpenAsAsked, IsOpenSince, IsGiven, EachIsAsPromised, answered, spared, inside, same_world}
 use Rattle.iceoryx2_call_laws.proofs.calls.Words.{throughout_map, both_throughout, all_spared}
 use Rattle.iceoryx2_call_laws.proofs.calls.Standing.{stands_among, one_service}
 use Rattle.iceoryx2_call_laws.proofs.calls.AnyCalls.{Given, any_letters, any_short, any_given}
@@ -53,8 +52,8 @@ module _ (own : ℕ → Bool) {S : Type 0} (step : S → Letter → S → Type 0
       stays_open = λ more spares. along (λ u. IsOpen u r) t more (open_throughout own (world t) more r (ap own g.node ∙ mine) spares new g.stands);
     }
 
-    pub as_promised : {s t : S} (word : List Letter) (answer : Result Registered (ErrorBy E C c.way)) → IsWordOf c word answer → Run step s word t → Agrees (world s) → IsAsPromised step world c own s word answer t
-    as_promised {s} {t} word answer is run old =
+    pub as_promised : EachIsAsPromised step world c own
+    as_promised word answer s t is run old =
         let worlds : Run (IsFallibleUnder own) (world s) word (world t) = run_map world of_world run in
         let new = (run_keeps worlds old).0 in
         record {

@@ -37,7 +37,7 @@ module _ {D E C : Type 0} (c : BuilderCall D E C) (raises : OnlyRaises c.meaning
     promise_over : PromiseOver step world c own
     promise_over = record {
       kept = λ word answer s t is run old.
-          let p = as_promised own step world of_world c mine word answer is run old in (p, if_given s t answer p.given);
+          let p = as_promised own step world of_world c mine word answer s t is run old in (p, if_given s t answer p.given);
       until_released = λ f s is. let o = open_as_asked own step world of_world c mine is in (o, decided c.way f.description o.carries);
     }
 

@@ -1,6 +1,6 @@
 -- What follows of calls: refused ones, a create and its close, a node's second factory, an open that is accepted.
 use Rattle.std.proofs.Common.{◌≡◌, ℕ, ◌+◌, inl, inr, true, false, cond, List, Some, None, Result, Ok, Err, refl, sym, ap, subst, ◌∙◌, arith}
-use Rattle.std.specs.Prelude.{nat_lt, is_some, unwrap_or, IfErr}
+use Rattle.std.specs.Prelude.{nat_lt, is_some, unwrap_or}
 use Rattle.std.specs.FinMap as map
 use Rattle.std.specs.FinMap.{same_map, get-insert, get-remove}
 use Rattle.std.specs.Ordering.{is_eq}
@@ -12,17 +12,17 @@ use Rattle.iceoryx2_description.specs.Span.{Span}
 use Rattle.iceoryx2_world.specs.declared.world.Participant.{Participant}
 use Rattle.iceoryx2_world.specs.declared.world.Participant.TheVariants.{Node, Peer}
 use Rattle.iceoryx2_world.specs.Orders.{hash_cmp, hash_total, hash_exact}
-use Rattle.iceoryx2_world.specs.World.{World, segment_of, phase_of, join_count}
+use Rattle.iceoryx2_world.specs.World.{World}
 use Rattle.iceoryx2_world.proofs.agreement.Whole.{same_hash}
-use Rattle.iceoryx2_pattern.specs.declared.pattern.OpenRefusal.TheVariants as refusal
 use Rattle.iceoryx2_pattern.specs.Meaning.{Meaning}
 use Rattle.iceoryx2_pattern.specs.Verdict.{verdict}
 use Rattle.iceoryx2_access.specs.Registered.{Registered}
 use Rattle.iceoryx2_call_laws.proofs.calls.Callers.{called}
 use Rattle.iceoryx2_call_laws.specs.Quiet.{QuietService, Quiet, ShowsService, Shows, service_at, times_counted, is_counted}
-use Rattle.iceoryx2_call_laws.specs.QuietCalls.{Creates, Opens, Closes, closed, HasPlace, HasNumber, first_counts, created_by, opened_by, closed_by, more_counts, fewer_counts, with_service, spend}
+use Rattle.iceoryx2_call_laws.specs.QuietCalls.{Creates, Opens, Closes, closed, HasPlace, first_counts, created_by, opened_by, closed_by, more_counts, fewer_counts, with_service, spend}
 use Rattle.iceoryx2_call_laws.specs.QuietCalls as call
-use Rattle.iceoryx2_call_laws.specs.QuietLaws.{HoldsTheSame, HasNothingAt}
+use Rattle.iceoryx2_call_laws.specs.OpensAgain.{CanOpen, IsOkOrOutOfMemory}
+use Rattle.iceoryx2_call_laws.specs.QuietLaws.{HasOpenedTimes, SpendsOneNumber, OpensOnceMore}
 use Rattle.iceoryx2_call_laws.proofs.quiet.Lift.{equal_or_not}
 use Rattle.iceoryx2_call_laws.proofs.quiet.Counts.{get_first_own, len_first, len_fewer_less, get_more_own, get_more_other}
 use Rattle.iceoryx2_call_laws.proofs.quiet.Same.{same_segment, joined_times, holds_the_same, nothing_at}
@@ -71,10 +71,14 @@ close_of_new q i h d z gone (closed x k there counted) =
 
 module _ {E C : Type 0} (m : Meaning E C) (i : ℕ) (h : ServiceHash) where
   -- A create and then the close of its factory leave nothing of the service, and one number is spent.
-  pub create_and_close : (name : List ℕ) (now : Result Span ClockFault) (w v : World) (q p z : Quiet) (r : Registered) → Shows w q → Shows v z → Creates m q (called i h name now) (Ok r) p → Closes p r.node r.description.hash z → HasNothingAt v h × HoldsTheSame w v × (v.counter ≡ w.counter + 1)
+  pub create_and_close : (name : List ℕ) (now : Result Span ClockFault) (w v : World) (q p z : Quiet) (r : Registered) → Shows w q → Shows v z → Creates m q (called i h name now) (Ok r) p → Closes p r.node r.description.hash z → SpendsOneNumber w v h
   create_and_close name now w v q p z r s t (call.created fits gone runs room) c =
       let back = close_of_new q i h r.description z gone c in
-      (nothing_at v z h t (ap (λ k. map.get k h) back.1 ∙ gone), holds_the_same w v q z s t back.1, t.counter ∙ back.0 ∙ ap (λ n. n + 1) (sym s.counter))
+      record {
+        nothing = nothing_at v z h t (ap (λ k. map.get k h) back.1 ∙ gone);
+        same = holds_the_same w v q z s t back.1;
+        spent = t.counter ∙ back.0 ∙ ap (λ n. n + 1) (sym s.counter);
+      }
 
   still_counted : (x : QuietService) (k : ℕ) → times_counted x i ≡ Some k → (p : Participant) → is_counted (opened_by i x) p ≡ is_counted x p
   still_counted x k e (Node j) = elim (equal_or_not j i) [
@@ -84,30 +88,32 @@ module _ {E C : Type 0} (m : Meaning E C) (i : ℕ) (h : ServiceHash) where
   still_counted x k e (Peer j) = refl
 
   -- A further factory of a node takes no further place: the segment stays as it is, and the node's count rises by one.
-  pub opened_again : (w v : World) (q p : Quiet) (r : Registered) (x : QuietService) (k : ℕ) → Shows w q → Shows v p → service_at q h ≡ Some x → times_counted x i ≡ Some k → Opens m q i h (Ok r) p
-      → (segment_of v h ≡ segment_of w h) × (join_count (phase_of w (Node i) h) ≡ k) × (join_count (phase_of v (Node i) h) ≡ k + 1)
-  opened_again w v q p r x k s t there counted (call.opened y is_y good fits place room) =
+  pub opened_again : (w v : World) (q p : Quiet) (r : Registered) (k : ℕ) → Shows w q → Shows v p → HasOpenedTimes q i h k → Opens m q i h (Ok r) p → OpensOnceMore w v i h k
+  opened_again w v q p r k s t has (call.opened y is_y good fits place room) =
+      let x = has.service in
+      let there = has.there in
+      let counted = has.counted in
       let same : y ≡ x = let is = sym is_y ∙ there in cc in
       let now : service_at p h ≡ Some (opened_by i x) = with_service_has q h (opened_by i y) ∙ ap (λ z. Some (opened_by i z)) same in
       let before = subst (λ o. ShowsService w h o) there (s.services h) in
       let after = subst (λ o. ShowsService v h o) now (t.services h) in
-      let times = ap (λ o. unwrap_or o 0) (get_more_own x.counts i) ∙ ap (λ o. unwrap_or o 0 + 1) counted in (
-        same_segment w v h x (more_counts x.counts i) before after (still_counted x k counted),
-        joined_times x.number _ (times_counted x i) (before.phases i) ∙ ap (λ o. unwrap_or o 0) counted,
-        joined_times x.number _ (times_counted (opened_by i x) i) (after.phases i) ∙ times,
-      )
+      let times = ap (λ o. unwrap_or o 0) (get_more_own x.counts i) ∙ ap (λ o. unwrap_or o 0 + 1) counted in record {
+        segment = same_segment w v h x (more_counts x.counts i) before after (still_counted x k counted);
+        before = joined_times x.number _ (times_counted x i) (before.phases i) ∙ ap (λ o. unwrap_or o 0) counted;
+        after = joined_times x.number _ (times_counted (opened_by i x) i) (after.phases i) ∙ times;
+      }
 
   -- An open that the requirement accepts, with a place and a number left, is Ok or out of memory.
-  pub accepted : (q p : Quiet) (x : QuietService) (r : Result Registered E) → service_at q h ≡ Some x → m.misfit x.description ≡ None → verdict (m.requirement x.description) ≡ Ok tt → HasPlace x i → HasNumber q → Opens m q i h r p → IfErr r (λ e. e ≡ m.open_refusal refusal.OutOfMemory)
-  accepted q p x r there good fits place room (call.absent gone) = let is = sym gone ∙ there in absurd (cc)
-  accepted q p x r there good fits place room (call.misfit y is_y bad) = let same : y ≡ x = let is = sym is_y ∙ there in cc in let is = sym good ∙ ap (λ z. m.misfit z.description) (sym same) ∙ bad in absurd (cc)
-  accepted q p x r there good fits place room (call.not_accepted y is_y _ unfit) = let same : y ≡ x = let is = sym is_y ∙ there in cc in let is = sym fits ∙ ap (λ z. verdict (m.requirement z.description)) (sym same) ∙ unfit in absurd (cc)
-  accepted q p x r there good fits place room (call.no_place y is_y _ _ none) =
-      let same : x ≡ y = let is = sym there ∙ is_y in cc in
-      elim (subst (λ z. HasPlace z i) same place) [
+  pub accepted : (q p : Quiet) (r : Result Registered E) → CanOpen m q i h → Opens m q i h r p → IsOkOrOutOfMemory m r
+  accepted q p r can (call.absent gone) = let is = sym gone ∙ can.there in absurd (cc)
+  accepted q p r can (call.misfit y is_y bad) = let same : y ≡ can.service = let is = sym is_y ∙ can.there in cc in let is = sym can.accepted.fits ∙ ap (λ z. m.misfit z.description) (sym same) ∙ bad in absurd (cc)
+  accepted q p r can (call.not_accepted y is_y _ unfit) = let same : y ≡ can.service = let is = sym is_y ∙ can.there in cc in let is = sym can.accepted.meets ∙ ap (λ z. verdict (m.requirement z.description)) (sym same) ∙ unfit in absurd (cc)
+  accepted q p r can (call.no_place y is_y _ _ none) =
+      let same : can.service ≡ y = let is = sym can.there ∙ is_y in cc in
+      elim (subst (λ z. HasPlace z i) same can.place) [
         | inl e ↦ let is = sym e ∙ ap is_some none.0 in absurd (cc)
         | inr e ↦ absurd (omega (arith, e, none.1))
       ]
-  accepted q p x r there good fits place room (call.no_number y is_y _ _ _ end) = absurd (omega (arith, end, room))
-  accepted q p x r there good fits place room (call.opened y is_y _ _ _ _) = tt
-  accepted q p x r there good fits place room (call.no_memory y is_y) = refl
+  accepted q p r can (call.no_number y is_y _ _ _ end) = absurd (omega (arith, end, can.number))
+  accepted q p r can (call.opened y is_y _ _ _ _) = tt
+  accepted q p r can (call.no_memory y is_y) = refl

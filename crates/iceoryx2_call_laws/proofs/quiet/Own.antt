@@ -1,30 +1,23 @@
 -- A builder that accepts what it creates opens what its calls have given.
-use Rattle.std.proofs.Common.{◌≡◌, ℕ, List, Some, Result, ◌⊎◌, inl, inr, Bool, true, false, refl, sym, ap, subst, ◌∙◌}
-use Rattle.std.specs.Prelude.{IfErr}
+use Rattle.std.proofs.Common.{◌≡◌, ℕ, Some, Result, ◌⊎◌, inl, inr, Bool, true, false, refl, sym, ap, subst, ◌∙◌}
 use Rattle.iceoryx2_attribute.specs.Requirements.{Requirements, AreMetBy}
 use Rattle.iceoryx2_description.specs.Description.{Description}
-use Rattle.iceoryx2_access.specs.Letter.{Letter}
 use Rattle.iceoryx2_access.specs.Registered.{Registered}
-use Rattle.iceoryx2_access.specs.Run.{Run}
-use Rattle.iceoryx2_pattern.specs.declared.pattern.OpenRefusal.TheVariants as refusal
 use Rattle.iceoryx2_pattern.specs.OwnAttributes.{requiring}
 use Rattle.iceoryx2_pattern.specs.Verdict.{verdict}
 use Rattle.iceoryx2_create_and_open.specs.OwnSettings.{AcceptsOwn}
 use Rattle.iceoryx2_open_or_create.specs.Adjusting.{Accepts, OnlyRaises}
 use Rattle.iceoryx2_open_or_create.specs.LawfulCalls.{IsLawfulCall}
 use Rattle.iceoryx2_open_or_create.proofs.OwnAttributes.{accepts_with_attributes, accepts_without_attributes}
-use Rattle.iceoryx2_world.specs.Access.{IsOwnPart}
-use Rattle.iceoryx2_world.specs.Across.{Agrees}
 use Rattle.iceoryx2_world.specs.Standing.{Stands}
 use Rattle.iceoryx2_world.specs.World.{World}
 use Rattle.iceoryx2_open_or_create.specs.BuilderCalls.{BuilderCall, Way, ToCreate, ToOpen, ToOpenOrCreate, creating, opening}
-use Rattle.iceoryx2_open_or_create.specs.CallWords.{IsWordBy}
 use Rattle.iceoryx2_call_laws.specs.AnyCalls.{Meets, Holds, MayCarryBy}
 use Rattle.iceoryx2_call_laws.specs.Headline.{IsOpenAsAsked}
-use Rattle.iceoryx2_call_laws.specs.OpensAgain.{StandsAsAsked, opening_again, HasRoomFor}
-use Rattle.iceoryx2_call_laws.specs.Quiet.{QuietService, Quiet, Shows, service_at}
-use Rattle.iceoryx2_call_laws.specs.QuietCalls.{Opens, HasPlace, HasNumber}
-use Rattle.iceoryx2_call_laws.specs.QuietPrepared.{OpensPrepared, PreparesFirstIf, prepared}
+use Rattle.iceoryx2_call_laws.specs.OpensAgain.{StandsAsAsked, opening_again, HasRoomFor, IsOkOrOutOfMemory, OpensOwnSettings, OpensAgain}
+use Rattle.iceoryx2_call_laws.specs.Quiet.{Quiet, Shows, service_at}
+use Rattle.iceoryx2_call_laws.specs.QuietCalls.{Opens}
+use Rattle.iceoryx2_call_laws.specs.QuietPrepared.{PreparesFirstIf, prepared}
 use Rattle.iceoryx2_call_laws.proofs.quiet.After.{accepted}
 use Rattle.iceoryx2_call_laws.proofs.quiet.Prepared.{each_prepared}
 use Rattle.iceoryx2_call_laws.proofs.quiet.Tickets.{service_of}
@@ -55,28 +48,29 @@ module _ {D E C : Type 0} (c : BuilderCall D E C) (own : AcceptsOwn (creating c)
   module _ (required : Requirements) where
     opens_own : (node : ℕ) (q p : Quiet) (f : Registered) (w : World) (answer : Result Registered E)
         → StandsAsAsked c w f → Shows w q → AreMetBy required f.description.attributes
-        → ((x : QuietService) → service_at q c.caller.hash ≡ Some x → HasPlace x node) → HasNumber q
+        → HasRoomFor q node c.caller.hash
         → Opens (requiring required (c.meaning c.asked)) q node c.caller.hash answer p
-        → IfErr answer (λ e. e ≡ (opening c).open_refusal refusal.OutOfMemory)
-    opens_own node q p f w answer is s met place room opened =
+        → IsOkOrOutOfMemory (opening c) answer
+    opens_own node q p f w answer is s met room opened =
         let other = requiring required (c.meaning c.asked) in
         let has = service_of w q f s is.stands in
         let there : service_at q c.caller.hash ≡ Some has.service = ap (λ h. service_at q h) (sym is.hash) ∙ has.there in
         let taken = accepts_with_attributes (c.meaning c.asked) required f.description met (given_accepted c.way f.description is.carries) in
-        accepted other node c.caller.hash q p has.service answer there
-        (ap (λ d. other.misfit d) has.description ∙ taken.fits)
-        (ap (λ d. verdict (other.requirement d)) has.description ∙ taken.meets)
-        (place has.service there) room opened
+        accepted other node c.caller.hash q p answer (record {
+          service = has.service;
+          there = there;
+          accepted = record {
+            fits = ap (λ d. other.misfit d) has.description ∙ taken.fits;
+            meets = ap (λ d. verdict (other.requirement d)) has.description ∙ taken.meets;
+          };
+          place = room.place has.service there;
+          number = room.number;
+        }) opened
 
-    -- also where it may prepare its types first
-    pub opens_own_prepared : (node : ℕ) (q p : Quiet) (f : Registered) (w : World) (answer : Result Registered E)
-        → StandsAsAsked c w f → Shows w q → AreMetBy required f.description.attributes
-        → ((x : QuietService) → service_at q c.caller.hash ≡ Some x → HasPlace x node) → HasNumber q
-        → OpensPrepared (requiring required (c.meaning c.asked)) q node c.caller.hash answer p
-        → IfErr answer (λ e. e ≡ (opening c).open_refusal refusal.OutOfMemory)
-    opens_own_prepared node q p f w answer is s met place room opened =
-        each_prepared (λ answer p. IfErr answer (λ e. e ≡ (opening c).open_refusal refusal.OutOfMemory)) refl
-        (λ answer p made. opens_own node q p f w answer is s met place room made) opened
+  -- also where it may prepare its types first
+  pub opens_own_prepared : OpensOwnSettings c
+  opens_own_prepared required node q p f w answer is s met room opened =
+      each_prepared (λ answer p. IsOkOrOutOfMemory (opening c) answer) refl (λ answer p made. opens_own required node q p f w answer is s met room made) opened
 
 -- a call that doesn't prepare is one that may
 may_prepare : {E : Type 0} (b : Bool) {no_memory : E} {q : Quiet} {Calls : Result Registered E → Quiet → Type 0} {answer : Result Registered E} {p : Quiet}
@@ -86,15 +80,11 @@ may_prepare false is = prepared is
 
 -- the words of such an open
 module _ {D E C : Type 0} (c : BuilderCall D E C) (lawful : IsLawfulCall c) where
-  pub opens_again : (required : Requirements) (node : ℕ) (f : Registered) (q : Quiet) (w v : World) (word : List Letter) (answer : Result Registered E)
-      → StandsAsAsked c w f → AreMetBy required f.description.attributes
-      → Shows w q → Agrees w → HasRoomFor q node c.caller.hash
-      → IsWordBy (opening_again c node required) ToOpen word answer → Run IsOwnPart w word v
-      → IfErr answer (λ e. e ≡ (opening c).open_refusal refusal.OutOfMemory)
+  pub opens_again : OpensAgain c
   opens_again required node f q w v word answer is met shows old room is_word run =
       let other = opening_again c node required in
       let made = call_follows other q tt shows old is_word run in
-      opens_own_prepared c lawful.accepts_own lawful.only_raises required node q made.state f w answer is shows met room.place room.number
+      opens_own_prepared c lawful.accepts_own lawful.only_raises required node q made.state f w answer is shows met room
       (may_prepare other.prepares made.call)
 
 -- where a factory is open as its call asked, each of its service carries the same

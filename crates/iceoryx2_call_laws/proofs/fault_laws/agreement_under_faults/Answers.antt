@@ -13,10 +13,10 @@ pub returns-clause-of_tables : goal.returns-clause-of_tables
 returns-clause-of_tables g c = λ own s t word run. (run_map (λ u. u.inner.world) (faulty_access own) run, run_map (λ u. u.inner.world) (of_faulty_table own) run)
 
 pub returns-clause-every_open_factory_stands : goal.returns-clause-every_open_factory_stands
-returns-clause-every_open_factory_stands g c = λ call word answer s t is run old. as_promised everyone (IsInjectedFault IsTableAccess) (λ u. u.inner.world) (of_faulty_table everyone) call refl word answer is run old
+returns-clause-every_open_factory_stands g c = λ call. as_promised everyone (IsInjectedFault IsTableAccess) (λ u. u.inner.world) (of_faulty_table everyone) call refl
 
 pub returns-clause-open_until_released : goal.returns-clause-open_until_released
 returns-clause-open_until_released g c = λ call f s is. open_as_asked everyone (IsInjectedFault IsTableAccess) (λ u. u.inner.world) (of_faulty_table everyone) call refl is
 
 pub returns-clause-over_no_row : goal.returns-clause-over_no_row
-returns-clause-over_no_row g c = λ m caller word answer s t room old gone idle none is run. create_call_over_no_row caller.name caller.clock room old gone is (idle_run idle (faultless run none)).0
+returns-clause-over_no_row g c = λ m caller word answer s t c. create_call_over_no_row caller.name caller.clock c.some_nodes c.agrees c.no_row c.is_word (idle_run c.idle (faultless c.run c.unrefused)).0

@@ -5,7 +5,7 @@ use Rattle.iceoryx2_world.specs.Interference.{Others, After, IsFallibleUnder, ev
 use Rattle.iceoryx2_world.specs.Tables.{IsTableAccess}
 use Rattle.iceoryx2_world.proofs.agreement.Accesses.{unrefused_run}
 use Rattle.iceoryx2_world.proofs.agreement.Interference.{among_others}
-use Rattle.iceoryx2_call_laws.proofs.calls.Words.{agrees_throughout, stands_throughout, close_spares, not_here_means, close_within}
+use Rattle.iceoryx2_call_laws.proofs.calls.Words.{stands_throughout, close_spares, not_here_means, close_within}
 use Rattle.iceoryx2_call_laws.proofs.calls.Closed.{close_ok}
 use Rattle.iceoryx2_call_laws.proofs.calls.CloseLeft.{close_leaves}
 use Rattle.iceoryx2_call_laws.proofs.calls.Tickets.{close_tickets, close_takes_out, no_refusal}
@@ -18,23 +18,17 @@ use Rattle.iceoryx2_call_laws.proofs.laws.agreement.Goals as goal
 pub returns-clause-of_tables : goal.returns-clause-of_tables
 returns-clause-of_tables g c = λ own s t word run. let accesses = table_accesses own run in (accesses, unrefused_run accesses)
 
-pub returns-clause-agrees : goal.returns-clause-agrees
-returns-clause-agrees g c = λ own word w old. agrees_throughout own w word old
-
-pub returns-clause-stands : goal.returns-clause-stands
-returns-clause-stands g c = λ own word w f mine spares old s. stands_throughout own w word f mine spares old s
-
 pub returns-clause-among : goal.returns-clause-among
 returns-clause-among g c = λ w f old s. stands_among w f old s
 
 pub returns-clause-every_open_factory_stands : goal.returns-clause-every_open_factory_stands
-returns-clause-every_open_factory_stands g c = λ call word answer s t is run old. as_promised everyone IsTableAccess (λ u. u.world) (of_table everyone) call refl word answer is run old
+returns-clause-every_open_factory_stands g c = λ call. as_promised everyone IsTableAccess (λ u. u.world) (of_table everyone) call refl
 
 pub returns-clause-in_any_world : goal.returns-clause-in_any_world
-returns-clause-in_any_world g c = λ own call word answer w v mine is run old. as_promised own (IsFallibleUnder own) (λ u. u) (λ s t l a. a) call mine word answer is run old
+returns-clause-in_any_world g c = λ own call mine. as_promised own (IsFallibleUnder own) (λ u. u) (λ s t l a. a) call mine
 
 pub returns-clause-among_others : goal.returns-clause-among_others
-returns-clause-among_others g c = λ own call word answer w v mine is run old. as_promised own (After (Others own) (MayRefuse IsOwnPart)) (λ u. u) (λ s t l a. among_others own s l t a) call mine word answer is run old
+returns-clause-among_others g c = λ own call mine. as_promised own (After (Others own) (MayRefuse IsOwnPart)) (λ u. u) (λ s t l a. among_others own s l t a) call mine
 
 pub returns-clause-open_until_released : goal.returns-clause-open_until_released
 returns-clause-open_until_released g c = λ call f s is. open_as_asked everyone IsTableAccess (λ u. u.world) (of_table everyone) call refl is

@@ -8,7 +8,7 @@ pub returns-clause-empty : goal.returns-clause-empty
 returns-clause-empty c = λ n. empty_shows n
 
 pub returns-clause-close : goal.returns-clause-close
-returns-clause-close c = λ r w v q word answer s old here is_word run. close_follows r w v q word answer s old here is_word run
+returns-clause-close c = λ r w v q word answer quiet is_word here. close_follows r w v q word answer quiet.shows quiet.agrees here is_word quiet.run
 
 pub returns-clause-ticket : goal.returns-clause-ticket
 returns-clause-ticket c = λ w q t x s old here. has_opened w q t x s old here
