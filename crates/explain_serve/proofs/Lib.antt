@@ -1,6 +1,5 @@
 pub mod Calls
 pub mod Explaining
-pub mod Lengths
 pub mod LineFeeds
 pub mod Printing
 pub mod Telling

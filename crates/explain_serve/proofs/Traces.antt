@@ -1,15 +1,26 @@
 -- The accesses of a command, as a trace keeps them.
-use Rattle.std.proofs.Common.{◌≡◌, ℕ, ◌+◌, ◌-◌, ◌^◌, ◌≤◌, min, List, [], ◌∷◌, ◌++◌, length, map, drop, length-append, length-drop, refl, sym, ap, ◌∙◌, arith}
+use Rattle.std.proofs.Common.{◌≡◌, ℕ, ◌+◌, ◌-◌, ◌^◌, ◌≤◌, min, List, [], ◌∷◌, ◌++◌, Option, Result, length, map, drop, length-append, length-drop, refl, sym, ap, ◌∙◌, arith}
 use Rattle.std.proofs.lemmas.List.{drop-drop, drop-append-le, length-map}
+use Rattle.iceoryx2_access.specs.Letter.{Letter}
+use Rattle.iceoryx2_access.specs.Registered.{Registered}
+use Rattle.iceoryx2_description.specs.declared.config.Config.{Config}
+use Rattle.iceoryx2_open_or_create.specs.BuilderCalls.{Way, ToCreate, ToOpen, ToOpenOrCreate}
+use Rattle.iceoryx2_call_laws.specs.AnyCalls.{IsShortBy}
+use Rattle.iceoryx2_call_laws.proofs.calls.AnyCalls.{any_short}
+use Rattle.iceoryx2_call_laws.proofs.calls.Words.{close_within}
 use Rattle.iceoryx2_traced.specs.Entries.{entry_of}
 use Rattle.iceoryx2_traced.specs.Trace.{latest}
 use Rattle.iceoryx2_traced.proofs.Runs.{latest_entries, bound, same_room, total}
 use Rattle.iceoryx2_commands.specs.declared.command.Command.{Command}
+use Rattle.iceoryx2_commands.specs.declared.command.Command.TheVariants as command
+use Rattle.iceoryx2_commands.specs.declared.command.Refusal.{Refusal}
 use Rattle.iceoryx2_commands.specs.declared.command.Reply.{Reply}
-use Rattle.iceoryx2_session.specs.CommandWords.{GoesAlong}
+use Rattle.iceoryx2_commands.specs.declared.command.Reply.TheVariants as reply
+use Rattle.iceoryx2_session.specs.CommandWords.{IsBuilderWord, IsCommandWord, GoesAlong}
+use Rattle.iceoryx2_session.specs.PatternCalls.{PatternCall}
+use Rattle.iceoryx2_session.specs.Patterns.{builder_call}
 use Rattle.iceoryx2_session.specs.Sessions.{GoesBy}
 use Rattle.explain_serve.specs.Traces.{IsAccess, table_inside, TracedSession, room_kept, GoesTraced}
-use Rattle.explain_serve.proofs.Lengths.{word_short}
 
 module _ {A : Type 0} where
   -- of the latest ones the last ones are those that came last
@@ -25,6 +36,25 @@ module _ {A : Type 0} where
       drop_own : (l : List A) → drop (length l) l ≡ []
       drop_own [] = refl
       drop_own (x ∷ l) = drop_own l
+
+-- no call makes more accesses than an open or create
+longest : (way : Way) (w : List Letter) → IsShortBy way w → length w ≤ 264
+longest ToCreate w s = omega (arith, s.few_accesses)
+longest ToOpen w s = omega (arith, s.few_accesses)
+longest ToOpenOrCreate w s = s.few_accesses
+
+builder_short : (b : PatternCall) (answer : Result Registered Refusal) (w : List Letter) → IsBuilderWord b answer w → length w ≤ 264
+builder_short b answer w is = longest b.call.way w (any_short b.call w is.0 is.2)
+
+no_access : (w : List Letter) → w ≡ [] → length w ≤ 264
+no_access w is = omega (arith, ap length is)
+
+-- so no command does
+word_short : (config : Config) (slots : List (Option Registered)) (c : Command) (r : Reply) (w : List Letter) → IsCommandWord config slots c r w → length w ≤ 264
+word_short config slots (command.Call call) (reply.Opened slot number) w is = builder_short (builder_call config call) _ w is.2
+word_short config slots (command.Call call) (reply.Refused refused) w is = builder_short (builder_call config call) _ w is
+word_short config slots (command.Close slot) (reply.Closed same) w is = let few = close_within is.2.1 in omega (arith, few.few_accesses)
+word_short config slots _ _ w is = no_access w is
 
 made_is : (before after n : ℕ) → before + n ≤ 2 ^ 64 - 1 → after ≡ min (before + n) (2 ^ 64 - 1) → after - before ≡ n
 made_is before after n fits is = omega (arith, fits, is)
