@@ -6,8 +6,8 @@ pub mod publish_subscribe;
 pub mod request_response;
 
 pub use iceoryx2_builder::builder::{
-    Builder, Node, laws, laws_of_adjusting, laws_of_calls, laws_of_looks,
-    laws_of_retries, lawful_calls,
+    Builder, Node, lawful_calls, laws, laws_of_adjusting, laws_of_calls, laws_of_looks,
+    laws_of_retries,
 };
 pub use iceoryx2_builder_common::base::BuilderWithServiceType;
 pub use iceoryx2_builder_common::requested::RequestedTypes;
