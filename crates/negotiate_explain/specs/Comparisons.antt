@@ -82,7 +82,8 @@ request_response_compared (request_set.EnableSafeOverflowForResponses value) the
     Some (compared (codes "enable_safe_overflow_for_responses") request_opening.IncompatibleOverflowBehaviorForResponses
     (truth value) (truth there.enable_safe_overflow_for_responses))
 request_response_compared (request_set.EnableFireAndForgetRequests value) there =
-    Some (compared (codes "enable_fire_and_forget_requests") request_opening.IncompatibleBehaviorForFireAndForgetRequests
+    Some (compared (codes "enable_fire_and_forget_requests")
+    request_opening.IncompatibleBehaviorForFireAndForgetRequests
     (truth value) (truth there.enable_fire_and_forget_requests))
 request_response_compared (request_set.MaxActiveRequestsPerClient value) there =
     Some (compared (codes "max_active_requests_per_client")
