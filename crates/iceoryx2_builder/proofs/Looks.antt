@@ -8,12 +8,7 @@ use Rattle.iceoryx2_types.specs.Types.{Message, compatible}
 use Rattle.iceoryx2_access.specs.Letter.{Letter}
 use Rattle.iceoryx2_access.specs.declared.storage.FetchError.{FetchError}
 use Rattle.iceoryx2_pattern.specs.Meaning.{Meaning}
-use Rattle.iceoryx2_pattern.specs.declared.pattern.OpenRefusal.TheVariants as open_refusal
-use Rattle.iceoryx2_pattern.specs.declared.pattern.CreateRefusal.TheVariants as create_refusal
-use Rattle.iceoryx2_builder_common.specs.Refused.{open_error_of_refusal, create_error_of_refusal}
-use Rattle.iceoryx2_errors.specs.States.{OpenErrors, CreateErrors, open_error_of_state, create_error_of_state}
-use Rattle.iceoryx2_errors.specs.States.{open_errors_of_events, create_errors_of_events, open_errors_of_publish_subscribe, create_errors_of_publish_subscribe}
-use Rattle.iceoryx2_errors.specs.States.{open_errors_of_request_response, create_errors_of_request_response}
+use Rattle.iceoryx2_errors.specs.States.{event_open_error_of_state, event_create_error_of_state}
 use Rattle.iceoryx2_errors.specs.States.{publish_subscribe_open_error_of_state, publish_subscribe_create_error_of_state}
 use Rattle.iceoryx2_errors.specs.States.{request_response_open_error_of_state, request_response_create_error_of_state}
 use Rattle.iceoryx2_errors.specs.declared.error.ServiceState.{ServiceState}
@@ -41,7 +36,7 @@ use Rattle.iceoryx2_publish_subscribe_builder.specs.declared.publish_subscribe.d
 use Rattle.iceoryx2_publish_subscribe_builder.specs.PublishSubscribe.{prepared_meaning as publish_subscribe_meaning, misfit_of as publish_subscribe_misfit_of}
 use Rattle.iceoryx2_request_response_builder.specs.declared.request_response.demand.PreparedDemand.{PreparedDemand as PreparedRequestResponse}
 use Rattle.iceoryx2_request_response_builder.specs.RequestResponse.{prepared_meaning as request_response_meaning, misfit_of as request_response_misfit_of}
-use Rattle.iceoryx2_builder.specs.Looks.{AnswersStates, fault_of, publish_subscribe_fault_of, request_response_fault_of}
+use Rattle.iceoryx2_builder.specs.Looks.{AnswersStates, event_fault_of, publish_subscribe_fault_of, request_response_fault_of}
 
 abbrev HasState : {S E : Type 0} → (S → Fault E) → Fault E → Type 0
 HasState {S} fault_of f = (state : S) × (f ≡ fault_of state)
@@ -73,36 +68,29 @@ module _ {S E C : Type 0} (m : Meaning E C) (fault_of : S → Fault E)
   look_has look.broken = corrupted
   look_has (look.fetched there leads) = fetched_has leads
 
--- the errors of the states that every pattern has
-opens : {E C : Type 0} (m : Meaning E C) (errors : OpenErrors E) → m.open_refusal ≡ open_error_of_refusal errors → (s : ServiceState) → open_error_of m (fault_of errors s) ≡ open_error_of_state errors s
-opens m errors is state.IncompatibleMessagingPattern = refl
-opens m errors is state.InsufficientPermissions = ap (λ name. name open_refusal.InsufficientPermissions) is
-opens m errors is state.HangsInCreation = ap (λ name. name open_refusal.HangsInCreation) is
-opens m errors is state.Corrupted = ap (λ name. name open_refusal.ServiceInCorruptedState) is
-opens m errors is state.OutOfMemory = ap (λ name. name open_refusal.OutOfMemory) is
-
-creates : {E C : Type 0} (m : Meaning E C) (opening : OpenErrors E) (errors : CreateErrors C) → m.create_refusal ≡ create_error_of_refusal errors → (s : ServiceState) → create_error_of m (fault_of opening s) ≡ create_error_of_state errors s
-creates m opening errors is state.IncompatibleMessagingPattern = ap (λ name. name create_refusal.AlreadyExists) is
-creates m opening errors is state.InsufficientPermissions = ap (λ name. name create_refusal.InsufficientPermissions) is
-creates m opening errors is state.HangsInCreation = ap (λ name. name create_refusal.HangsInCreation) is
-creates m opening errors is state.Corrupted = ap (λ name. name create_refusal.ServiceInCorruptedState) is
-creates m opening errors is state.OutOfMemory = ap (λ name. name create_refusal.OutOfMemory) is
-
 -- ---- events
 
-event_misfit : (pattern : MessagingPattern) (error : EventOpenError) → event_misfit_of pattern ≡ Some error → HasState (fault_of open_errors_of_events) (fault.Misfit error)
+event_misfit : (pattern : MessagingPattern) (error : EventOpenError) → event_misfit_of pattern ≡ Some error → HasState event_fault_of (fault.Misfit error)
 event_misfit (existing.Event s) error e = absurd (cc)
 event_misfit (existing.PublishSubscribe s) error e = let is : opening.IncompatibleMessagingPattern ≡ error = cc in (state.IncompatibleMessagingPattern, ap fault.Misfit (sym is))
 event_misfit (existing.RequestResponse s) error e = let is : opening.IncompatibleMessagingPattern ≡ error = cc in (state.IncompatibleMessagingPattern, ap fault.Misfit (sym is))
 
+event_opens : (demand : EventDemand) (s : ServiceState) → open_error_of (event_meaning demand) (event_fault_of s) ≡ event_open_error_of_state s
+event_opens demand state.Corrupted = refl
+event_opens demand s = refl
+
+event_creates : (demand : EventDemand) (s : ServiceState) → create_error_of (event_meaning demand) (event_fault_of s) ≡ event_create_error_of_state s
+event_creates demand state.Corrupted = refl
+event_creates demand s = refl
+
 pub events_answer : (demand : EventDemand)
-    → AnswersStates (event_meaning demand) (fault_of open_errors_of_events) (open_error_of_state open_errors_of_events) (create_error_of_state create_errors_of_events)
+    → AnswersStates (event_meaning demand) event_fault_of event_open_error_of_state event_create_error_of_state
 events_answer demand = record {
-  has_state = λ node hash word f is. look_has (event_meaning demand) (fault_of open_errors_of_events)
+  has_state = λ node hash word f is. look_has (event_meaning demand) event_fault_of
       (state.InsufficientPermissions, refl) (state.HangsInCreation, refl) (state.Corrupted, refl) (state.OutOfMemory, refl)
       (λ d error e. event_misfit d.pattern error e) is;
-  of_open = opens (event_meaning demand) open_errors_of_events refl;
-  of_create = creates (event_meaning demand) open_errors_of_events create_errors_of_events refl;
+  of_open = event_opens demand;
+  of_create = event_creates demand;
 }
 
 -- ---- publish-subscribe
@@ -117,12 +105,12 @@ publish_subscribe_misfit message (existing.PublishSubscribe s) error e = types_m
 publish_subscribe_misfit message (existing.RequestResponse s) error e = let is : subscribe_opening.IncompatibleMessagingPattern ≡ error = cc in (subscribe_look.ServiceState state.IncompatibleMessagingPattern, ap fault.Misfit (sym is))
 
 publish_subscribe_opens : (asked : PreparedPublishSubscribe) (s : PublishSubscribeState) → open_error_of (publish_subscribe_meaning asked) (publish_subscribe_fault_of s) ≡ publish_subscribe_open_error_of_state s
-publish_subscribe_opens asked (subscribe_look.ServiceState s) = opens (publish_subscribe_meaning asked) open_errors_of_publish_subscribe refl s
-publish_subscribe_opens asked subscribe_look.IncompatibleTypes = refl
+publish_subscribe_opens asked (subscribe_look.ServiceState state.Corrupted) = refl
+publish_subscribe_opens asked s = refl
 
 publish_subscribe_creates : (asked : PreparedPublishSubscribe) (s : PublishSubscribeState) → create_error_of (publish_subscribe_meaning asked) (publish_subscribe_fault_of s) ≡ publish_subscribe_create_error_of_state s
-publish_subscribe_creates asked (subscribe_look.ServiceState s) = creates (publish_subscribe_meaning asked) open_errors_of_publish_subscribe create_errors_of_publish_subscribe refl s
-publish_subscribe_creates asked subscribe_look.IncompatibleTypes = refl
+publish_subscribe_creates asked (subscribe_look.ServiceState state.Corrupted) = refl
+publish_subscribe_creates asked s = refl
 
 pub publish_subscribe_answers : (asked : PreparedPublishSubscribe)
     → AnswersStates (publish_subscribe_meaning asked) publish_subscribe_fault_of publish_subscribe_open_error_of_state publish_subscribe_create_error_of_state
@@ -149,14 +137,12 @@ request_response_misfit request response (existing.PublishSubscribe s) error e =
 request_response_misfit request response (existing.RequestResponse s) error e = requests_misfit (compatible request s.request_message_type_details) (compatible response s.response_message_type_details) error e
 
 request_response_opens : (asked : PreparedRequestResponse) (s : RequestResponseState) → open_error_of (request_response_meaning asked) (request_response_fault_of s) ≡ request_response_open_error_of_state s
-request_response_opens asked (request_look.ServiceState s) = opens (request_response_meaning asked) open_errors_of_request_response refl s
-request_response_opens asked request_look.IncompatibleRequestType = refl
-request_response_opens asked request_look.IncompatibleResponseType = refl
+request_response_opens asked (request_look.ServiceState state.Corrupted) = refl
+request_response_opens asked s = refl
 
 request_response_creates : (asked : PreparedRequestResponse) (s : RequestResponseState) → create_error_of (request_response_meaning asked) (request_response_fault_of s) ≡ request_response_create_error_of_state s
-request_response_creates asked (request_look.ServiceState s) = creates (request_response_meaning asked) open_errors_of_request_response create_errors_of_request_response refl s
-request_response_creates asked request_look.IncompatibleRequestType = refl
-request_response_creates asked request_look.IncompatibleResponseType = refl
+request_response_creates asked (request_look.ServiceState state.Corrupted) = refl
+request_response_creates asked s = refl
 
 pub request_response_answers : (asked : PreparedRequestResponse)
     → AnswersStates (request_response_meaning asked) request_response_fault_of request_response_open_error_of_state request_response_create_error_of_state

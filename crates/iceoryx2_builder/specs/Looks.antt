@@ -3,9 +3,10 @@ use Rattle.std.specs.Prelude.{◌≡◌, ℕ, List}
 use Rattle.iceoryx2_description.specs.declared.description.ServiceHash.{ServiceHash}
 use Rattle.iceoryx2_access.specs.Letter.{Letter}
 use Rattle.iceoryx2_pattern.specs.Meaning.{Meaning}
-use Rattle.iceoryx2_errors.specs.States.{OpenErrors, open_errors_of_publish_subscribe, open_errors_of_request_response}
 use Rattle.iceoryx2_errors.specs.declared.error.ServiceState.{ServiceState}
 use Rattle.iceoryx2_errors.specs.declared.error.ServiceState.TheVariants as state
+use Rattle.iceoryx2_errors.specs.declared.error.events.EventOpenError.{EventOpenError}
+use Rattle.iceoryx2_errors.specs.declared.error.events.EventOpenError.TheVariants as opening
 use Rattle.iceoryx2_errors.specs.declared.error.publish_subscribe.ServiceAvailabilityState.{ServiceAvailabilityState as PublishSubscribeState}
 use Rattle.iceoryx2_errors.specs.declared.error.publish_subscribe.ServiceAvailabilityState.TheVariants as subscribe_look
 use Rattle.iceoryx2_errors.specs.declared.error.publish_subscribe.PublishSubscribeOpenError.{PublishSubscribeOpenError}
@@ -20,21 +21,24 @@ use Rattle.iceoryx2_create_and_open.specs.declared.look.Outcome.TheVariants.{Fau
 use Rattle.iceoryx2_create_and_open.specs.Looks.{IsLookWord}
 use Rattle.iceoryx2_create_and_open.specs.Refusals.{open_error_of, create_error_of}
 
--- What a look of the rounds finds wrong, by its public state. A service of another pattern doesn't fit,
-abbrev pub fault_of : {E : Type 0} → OpenErrors E → ServiceState → Fault E
-fault_of errors state.IncompatibleMessagingPattern = fault.Misfit errors.incompatible_messaging_pattern
-fault_of errors state.InsufficientPermissions = fault.InsufficientPermissions
-fault_of errors state.HangsInCreation = fault.HangsInCreation
-fault_of errors state.Corrupted = fault.Corrupted
-fault_of errors state.OutOfMemory = fault.OutOfMemory
+-- What a look of the rounds finds wrong, by its public state and the error of a service of another pattern.
+abbrev pub fault_of : {E : Type 0} → E → ServiceState → Fault E
+fault_of misfit state.IncompatibleMessagingPattern = fault.Misfit misfit
+fault_of misfit state.InsufficientPermissions = fault.InsufficientPermissions
+fault_of misfit state.HangsInCreation = fault.HangsInCreation
+fault_of misfit state.Corrupted = fault.Corrupted
+fault_of misfit state.OutOfMemory = fault.OutOfMemory
 
--- and neither does one of other types.
+abbrev pub event_fault_of : ServiceState → Fault EventOpenError
+event_fault_of s = fault_of opening.IncompatibleMessagingPattern s
+
+-- A service of other types doesn't fit either.
 abbrev pub publish_subscribe_fault_of : PublishSubscribeState → Fault PublishSubscribeOpenError
-publish_subscribe_fault_of (subscribe_look.ServiceState s) = fault_of open_errors_of_publish_subscribe s
+publish_subscribe_fault_of (subscribe_look.ServiceState s) = fault_of subscribe_opening.IncompatibleMessagingPattern s
 publish_subscribe_fault_of subscribe_look.IncompatibleTypes = fault.Misfit subscribe_opening.IncompatibleTypes
 
 abbrev pub request_response_fault_of : RequestResponseState → Fault RequestResponseOpenError
-request_response_fault_of (request_look.ServiceState s) = fault_of open_errors_of_request_response s
+request_response_fault_of (request_look.ServiceState s) = fault_of request_opening.IncompatibleMessagingPattern s
 request_response_fault_of request_look.IncompatibleRequestType = fault.Misfit request_opening.IncompatibleRequestType
 request_response_fault_of request_look.IncompatibleResponseType = fault.Misfit request_opening.IncompatibleResponseType
 

@@ -34,7 +34,7 @@ ghost use Rattle.iceoryx2_request_response_builder.specs.RequestResponse.{reques
 ghost use Rattle.iceoryx2_request_response_builder.specs.RequestResponse.{prepared_meaning as request_response_meaning, prepared_adjusted as request_response_adjusted};
 ghost use Rattle.iceoryx2_request_response_builder.specs.declared.request_response.demand.RequestResponseDemand.{RequestResponseDemand};
 ghost use Rattle.iceoryx2_request_response_builder.specs.declared.request_response.demand.PreparedDemand.{PreparedDemand as PreparedRequestResponse};
-ghost use Rattle.iceoryx2_errors.specs.States.{create_error_of_state, create_errors_of_events, open_error_of_state, open_errors_of_events};
+ghost use Rattle.iceoryx2_errors.specs.States.{event_create_error_of_state, event_open_error_of_state};
 ghost use Rattle.iceoryx2_errors.specs.States.{publish_subscribe_create_error_of_state, publish_subscribe_open_error_of_state};
 ghost use Rattle.iceoryx2_errors.specs.States.{request_response_create_error_of_state, request_response_open_error_of_state};
 ghost use Rattle.iceoryx2_errors.specs.declared.error.events.EventOpenError.{EventOpenError};
@@ -43,7 +43,7 @@ ghost use Rattle.iceoryx2_errors.specs.declared.error.publish_subscribe.PublishS
 ghost use Rattle.iceoryx2_errors.specs.declared.error.publish_subscribe.PublishSubscribeCreateError.{PublishSubscribeCreateError};
 ghost use Rattle.iceoryx2_errors.specs.declared.error.request_response.RequestResponseOpenError.{RequestResponseOpenError};
 ghost use Rattle.iceoryx2_errors.specs.declared.error.request_response.RequestResponseCreateError.{RequestResponseCreateError};
-ghost use Rattle.iceoryx2_builder.specs.Looks.{AnswersStates, fault_of, publish_subscribe_fault_of, request_response_fault_of};
+ghost use Rattle.iceoryx2_builder.specs.Looks.{AnswersStates, event_fault_of, publish_subscribe_fault_of, request_response_fault_of};
 ghost use Rattle.iceoryx2_builder.specs.Retries.{event_create_is_retried, event_open_is_retried};
 ghost use Rattle.iceoryx2_builder.specs.Retries.{publish_subscribe_create_is_retried, publish_subscribe_open_is_retried};
 ghost use Rattle.iceoryx2_builder.specs.Retries.{request_response_create_is_retried, request_response_open_is_retried};
@@ -295,8 +295,7 @@ pub fn lawful_calls()
 /// create the one that it becomes as its create error.
 pub fn laws_of_looks()
     ensures events { (demand : EventDemand) → AnswersStates (event_meaning demand)
-        (fault_of open_errors_of_events) (open_error_of_state open_errors_of_events)
-        (create_error_of_state create_errors_of_events) }
+        event_fault_of event_open_error_of_state event_create_error_of_state }
     ensures publish_subscribe { (asked : PreparedPublishSubscribe) → AnswersStates (publish_subscribe_meaning asked)
         publish_subscribe_fault_of publish_subscribe_open_error_of_state publish_subscribe_create_error_of_state }
     ensures request_response { (asked : PreparedRequestResponse) → AnswersStates (request_response_meaning asked)

@@ -2,5 +2,4 @@ pub mod Facts
 pub mod Zeros
 pub mod Requested
 pub mod Rows
-pub mod Refused
 pub mod Builders

@@ -11,10 +11,14 @@ use Rattle.iceoryx2_description.specs.declared.event.Deadline.{Deadline}
 use Rattle.iceoryx2_pattern.specs.Verdict.{Clause}
 use Rattle.iceoryx2_pattern.specs.Meaning.{Meaning}
 use Rattle.iceoryx2_pattern.specs.OwnAttributes.{defining, requiring}
-use Rattle.iceoryx2_errors.specs.States.{open_errors_of_events, create_errors_of_events}
+use Rattle.iceoryx2_pattern.specs.declared.pattern.OpenRefusal.{OpenRefusal}
+use Rattle.iceoryx2_pattern.specs.declared.pattern.OpenRefusal.TheVariants as open_refusal
+use Rattle.iceoryx2_pattern.specs.declared.pattern.CreateRefusal.{CreateRefusal}
+use Rattle.iceoryx2_pattern.specs.declared.pattern.CreateRefusal.TheVariants as create_refusal
 use Rattle.iceoryx2_errors.specs.declared.error.events.EventOpenError.{EventOpenError}
 use Rattle.iceoryx2_errors.specs.declared.error.events.EventOpenError.TheVariants as opening
 use Rattle.iceoryx2_errors.specs.declared.error.events.EventCreateError.{EventCreateError}
+use Rattle.iceoryx2_errors.specs.declared.error.events.EventCreateError.TheVariants as creating
 use Rattle.iceoryx2_errors.specs.contracts.error.events.EventOpenErrorPartialEq.TheImpl as same_opening
 use Rattle.iceoryx2_errors.specs.contracts.error.events.EventCreateErrorPartialEq.TheImpl as same_creating
 use Rattle.iceoryx2_errors.specs.declared.error.events.EventOpenOrCreateError.{EventOpenOrCreateError}
@@ -24,7 +28,6 @@ use Rattle.iceoryx2_open_or_create.specs.declared.open_or_create.OpenOrCreateRef
 use Rattle.iceoryx2_open_or_create.specs.declared.open_or_create.OpenOrCreateRefusal.TheVariants as refusal
 use Rattle.iceoryx2_builder_common.specs.Zeros.{at_least_one}
 use Rattle.iceoryx2_builder_common.specs.Rows.{Row, AtLeast, SameNumber, SameSpan, row_clauses}
-use Rattle.iceoryx2_builder_common.specs.Refused.{open_error_of_refusal, create_error_of_refusal}
 use Rattle.iceoryx2_event_builder.specs.declared.event.demand.EventDemand.{EventDemand}
 use Rattle.iceoryx2_event_builder.specs.declared.event.demand.Marks.{Marks}
 
@@ -78,10 +81,31 @@ event_adjusted demand = record demand {
 abbrev pub created_deadline : Span → Deadline → Deadline
 created_deadline now deadline = record { value = deadline.value; creation_time = now }
 
+-- what it calls a refusal that every pattern has
+abbrev pub event_open_error_of_refusal : OpenRefusal → EventOpenError
+event_open_error_of_refusal open_refusal.DoesNotExist = opening.DoesNotExist
+event_open_error_of_refusal open_refusal.IncompatibleAttributes = opening.IncompatibleAttributes
+event_open_error_of_refusal open_refusal.ServiceInCorruptedState = opening.ServiceInCorruptedState
+event_open_error_of_refusal open_refusal.InternalFailure = opening.InternalFailure
+event_open_error_of_refusal open_refusal.ExceedsMaxNumberOfNodes = opening.ExceedsMaxNumberOfNodes
+event_open_error_of_refusal open_refusal.IsMarkedForDestruction = opening.IsMarkedForDestruction
+event_open_error_of_refusal open_refusal.OutOfMemory = opening.OutOfMemory
+event_open_error_of_refusal open_refusal.HangsInCreation = opening.HangsInCreation
+event_open_error_of_refusal open_refusal.InsufficientPermissions = opening.InsufficientPermissions
+
+abbrev pub event_create_error_of_refusal : CreateRefusal → EventCreateError
+event_create_error_of_refusal create_refusal.ServiceInCorruptedState = creating.ServiceInCorruptedState
+event_create_error_of_refusal create_refusal.InternalFailure = creating.InternalFailure
+event_create_error_of_refusal create_refusal.IsBeingCreatedByAnotherInstance = creating.IsBeingCreatedByAnotherInstance
+event_create_error_of_refusal create_refusal.AlreadyExists = creating.AlreadyExists
+event_create_error_of_refusal create_refusal.InsufficientPermissions = creating.InsufficientPermissions
+event_create_error_of_refusal create_refusal.OutOfMemory = creating.OutOfMemory
+event_create_error_of_refusal create_refusal.HangsInCreation = creating.HangsInCreation
+
 abbrev pub event_meaning : EventDemand → Meaning EventOpenError EventCreateError
 event_meaning demand = record {
-  open_refusal = open_error_of_refusal open_errors_of_events;
-  create_refusal = create_error_of_refusal create_errors_of_events;
+  open_refusal = event_open_error_of_refusal;
+  create_refusal = event_create_error_of_refusal;
   misfit = λ d. misfit_of d.pattern;
   requirement = λ d. setting_clauses demand d.pattern;
   history_refusal = None;
@@ -102,7 +126,7 @@ event_opening demand required = requiring required (event_meaning demand)
 -- after which errors an open or create goes on
 abbrev pub event_retried : Retried EventOpenError EventCreateError
 event_retried = retried_by same_opening.ghosts.eq same_creating.ghosts.eq
-    (open_error_of_refusal open_errors_of_events) (create_error_of_refusal create_errors_of_events)
+    event_open_error_of_refusal event_create_error_of_refusal
 
 -- what the rounds of an open or create call its error
 abbrev pub event_refusal : EventOpenOrCreateError → OpenOrCreateRefusal EventOpenError EventCreateError

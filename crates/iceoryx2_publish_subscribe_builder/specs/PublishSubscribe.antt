@@ -10,7 +10,10 @@ use Rattle.iceoryx2_description.specs.declared.description.MessagingPattern.TheV
 use Rattle.iceoryx2_pattern.specs.Verdict.{Clause}
 use Rattle.iceoryx2_pattern.specs.Meaning.{Meaning}
 use Rattle.iceoryx2_pattern.specs.OwnAttributes.{defining, requiring}
-use Rattle.iceoryx2_errors.specs.States.{open_errors_of_publish_subscribe, create_errors_of_publish_subscribe}
+use Rattle.iceoryx2_pattern.specs.declared.pattern.OpenRefusal.{OpenRefusal}
+use Rattle.iceoryx2_pattern.specs.declared.pattern.OpenRefusal.TheVariants as open_refusal
+use Rattle.iceoryx2_pattern.specs.declared.pattern.CreateRefusal.{CreateRefusal}
+use Rattle.iceoryx2_pattern.specs.declared.pattern.CreateRefusal.TheVariants as create_refusal
 use Rattle.iceoryx2_errors.specs.declared.error.publish_subscribe.PublishSubscribeOpenError.{PublishSubscribeOpenError}
 use Rattle.iceoryx2_errors.specs.declared.error.publish_subscribe.PublishSubscribeOpenError.TheVariants as opening
 use Rattle.iceoryx2_errors.specs.declared.error.publish_subscribe.PublishSubscribeCreateError.{PublishSubscribeCreateError}
@@ -24,7 +27,6 @@ use Rattle.iceoryx2_open_or_create.specs.declared.open_or_create.OpenOrCreateRef
 use Rattle.iceoryx2_open_or_create.specs.declared.open_or_create.OpenOrCreateRefusal.TheVariants as refusal
 use Rattle.iceoryx2_builder_common.specs.Zeros.{at_least_one}
 use Rattle.iceoryx2_builder_common.specs.Rows.{Row, AtLeast, SameFlag, row_clauses}
-use Rattle.iceoryx2_builder_common.specs.Refused.{open_error_of_refusal, create_error_of_refusal}
 use Rattle.iceoryx2_publish_subscribe_builder.specs.declared.publish_subscribe.demand.Marks.{Marks}
 use Rattle.iceoryx2_publish_subscribe_builder.specs.declared.publish_subscribe.demand.PublishSubscribeDemand.{PublishSubscribeDemand}
 use Rattle.iceoryx2_publish_subscribe_builder.specs.declared.publish_subscribe.demand.PreparedDemand.{PreparedDemand}
@@ -95,11 +97,33 @@ published_with settings message = existing.PublishSubscribe (record {
   message_type_details = message;
 })
 
+-- what it calls a refusal that every pattern has
+abbrev pub publish_subscribe_open_error_of_refusal : OpenRefusal → PublishSubscribeOpenError
+publish_subscribe_open_error_of_refusal open_refusal.DoesNotExist = opening.DoesNotExist
+publish_subscribe_open_error_of_refusal open_refusal.IncompatibleAttributes = opening.IncompatibleAttributes
+publish_subscribe_open_error_of_refusal open_refusal.ServiceInCorruptedState = opening.ServiceInCorruptedState
+publish_subscribe_open_error_of_refusal open_refusal.InternalFailure = opening.InternalFailure
+publish_subscribe_open_error_of_refusal open_refusal.ExceedsMaxNumberOfNodes = opening.ExceedsMaxNumberOfNodes
+publish_subscribe_open_error_of_refusal open_refusal.IsMarkedForDestruction = opening.IsMarkedForDestruction
+publish_subscribe_open_error_of_refusal open_refusal.OutOfMemory = opening.OutOfMemory
+publish_subscribe_open_error_of_refusal open_refusal.HangsInCreation = opening.HangsInCreation
+publish_subscribe_open_error_of_refusal open_refusal.InsufficientPermissions = opening.InsufficientPermissions
+
+abbrev pub publish_subscribe_create_error_of_refusal : CreateRefusal → PublishSubscribeCreateError
+publish_subscribe_create_error_of_refusal create_refusal.ServiceInCorruptedState = creating.ServiceInCorruptedState
+publish_subscribe_create_error_of_refusal create_refusal.InternalFailure = creating.InternalFailure
+publish_subscribe_create_error_of_refusal create_refusal.IsBeingCreatedByAnotherInstance =
+    creating.IsBeingCreatedByAnotherInstance
+publish_subscribe_create_error_of_refusal create_refusal.AlreadyExists = creating.AlreadyExists
+publish_subscribe_create_error_of_refusal create_refusal.InsufficientPermissions = creating.InsufficientPermissions
+publish_subscribe_create_error_of_refusal create_refusal.OutOfMemory = creating.OutOfMemory
+publish_subscribe_create_error_of_refusal create_refusal.HangsInCreation = creating.HangsInCreation
+
 abbrev pub publish_subscribe_meaning : PublishSubscribeDemand → Message
     → Meaning PublishSubscribeOpenError PublishSubscribeCreateError
 publish_subscribe_meaning demand message = record {
-  open_refusal = open_error_of_refusal open_errors_of_publish_subscribe;
-  create_refusal = create_error_of_refusal create_errors_of_publish_subscribe;
+  open_refusal = publish_subscribe_open_error_of_refusal;
+  create_refusal = publish_subscribe_create_error_of_refusal;
   misfit = λ d. misfit_of message d.pattern;
   requirement = λ d. setting_clauses demand d.pattern;
   history_refusal = history_refusal_of demand.settings;
@@ -131,8 +155,8 @@ prepared_adjusted asked = record asked { demand = publish_subscribe_adjusted ask
 abbrev pub publish_subscribe_retried : Retried PublishSubscribeOpenError PublishSubscribeCreateError
 publish_subscribe_retried =
     retried_by same_opening.ghosts.eq same_creating.ghosts.eq
-    (open_error_of_refusal open_errors_of_publish_subscribe)
-    (create_error_of_refusal create_errors_of_publish_subscribe)
+    publish_subscribe_open_error_of_refusal
+    publish_subscribe_create_error_of_refusal
 
 -- what the rounds of an open or create call its error
 abbrev pub publish_subscribe_refusal : PublishSubscribeOpenOrCreateError

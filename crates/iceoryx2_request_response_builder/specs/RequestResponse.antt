@@ -10,10 +10,14 @@ use Rattle.iceoryx2_description.specs.declared.description.MessagingPattern.TheV
 use Rattle.iceoryx2_pattern.specs.Verdict.{Clause}
 use Rattle.iceoryx2_pattern.specs.Meaning.{Meaning}
 use Rattle.iceoryx2_pattern.specs.OwnAttributes.{defining, requiring}
-use Rattle.iceoryx2_errors.specs.States.{open_errors_of_request_response, create_errors_of_request_response}
+use Rattle.iceoryx2_pattern.specs.declared.pattern.OpenRefusal.{OpenRefusal}
+use Rattle.iceoryx2_pattern.specs.declared.pattern.OpenRefusal.TheVariants as open_refusal
+use Rattle.iceoryx2_pattern.specs.declared.pattern.CreateRefusal.{CreateRefusal}
+use Rattle.iceoryx2_pattern.specs.declared.pattern.CreateRefusal.TheVariants as create_refusal
 use Rattle.iceoryx2_errors.specs.declared.error.request_response.RequestResponseOpenError.{RequestResponseOpenError}
 use Rattle.iceoryx2_errors.specs.declared.error.request_response.RequestResponseOpenError.TheVariants as opening
 use Rattle.iceoryx2_errors.specs.declared.error.request_response.RequestResponseCreateError.{RequestResponseCreateError}
+use Rattle.iceoryx2_errors.specs.declared.error.request_response.RequestResponseCreateError.TheVariants as creating
 use Rattle.iceoryx2_errors.specs.contracts.error.request_response.RequestResponseOpenErrorPartialEq.TheImpl as same_opening
 use Rattle.iceoryx2_errors.specs.contracts.error.request_response.RequestResponseCreateErrorPartialEq.TheImpl as same_creating
 use Rattle.iceoryx2_errors.specs.declared.error.request_response.RequestResponseOpenOrCreateError.{RequestResponseOpenOrCreateError}
@@ -23,7 +27,6 @@ use Rattle.iceoryx2_open_or_create.specs.declared.open_or_create.OpenOrCreateRef
 use Rattle.iceoryx2_open_or_create.specs.declared.open_or_create.OpenOrCreateRefusal.TheVariants as refusal
 use Rattle.iceoryx2_builder_common.specs.Zeros.{at_least_one}
 use Rattle.iceoryx2_builder_common.specs.Rows.{Row, AtLeast, SameFlag, row_clauses}
-use Rattle.iceoryx2_builder_common.specs.Refused.{open_error_of_refusal, create_error_of_refusal}
 use Rattle.iceoryx2_request_response_builder.specs.declared.request_response.demand.PreparedDemand.{PreparedDemand}
 use Rattle.iceoryx2_request_response_builder.specs.declared.request_response.demand.Marks.{Marks}
 use Rattle.iceoryx2_request_response_builder.specs.declared.request_response.demand.RequestResponseDemand.{RequestResponseDemand}
@@ -103,11 +106,33 @@ published_with settings request response = existing.RequestResponse (record {
   response_message_type_details = response;
 })
 
+-- what it calls a refusal that every pattern has
+abbrev pub request_response_open_error_of_refusal : OpenRefusal → RequestResponseOpenError
+request_response_open_error_of_refusal open_refusal.DoesNotExist = opening.DoesNotExist
+request_response_open_error_of_refusal open_refusal.IncompatibleAttributes = opening.IncompatibleAttributes
+request_response_open_error_of_refusal open_refusal.ServiceInCorruptedState = opening.ServiceInCorruptedState
+request_response_open_error_of_refusal open_refusal.InternalFailure = opening.InternalFailure
+request_response_open_error_of_refusal open_refusal.ExceedsMaxNumberOfNodes = opening.ExceedsMaxNumberOfNodes
+request_response_open_error_of_refusal open_refusal.IsMarkedForDestruction = opening.IsMarkedForDestruction
+request_response_open_error_of_refusal open_refusal.OutOfMemory = opening.OutOfMemory
+request_response_open_error_of_refusal open_refusal.HangsInCreation = opening.HangsInCreation
+request_response_open_error_of_refusal open_refusal.InsufficientPermissions = opening.InsufficientPermissions
+
+abbrev pub request_response_create_error_of_refusal : CreateRefusal → RequestResponseCreateError
+request_response_create_error_of_refusal create_refusal.ServiceInCorruptedState = creating.ServiceInCorruptedState
+request_response_create_error_of_refusal create_refusal.InternalFailure = creating.InternalFailure
+request_response_create_error_of_refusal create_refusal.IsBeingCreatedByAnotherInstance =
+    creating.IsBeingCreatedByAnotherInstance
+request_response_create_error_of_refusal create_refusal.AlreadyExists = creating.AlreadyExists
+request_response_create_error_of_refusal create_refusal.InsufficientPermissions = creating.InsufficientPermissions
+request_response_create_error_of_refusal create_refusal.OutOfMemory = creating.OutOfMemory
+request_response_create_error_of_refusal create_refusal.HangsInCreation = creating.HangsInCreation
+
 abbrev pub request_response_meaning : RequestResponseDemand → (request response : Message)
     → Meaning RequestResponseOpenError RequestResponseCreateError
 request_response_meaning demand request response = record {
-  open_refusal = open_error_of_refusal open_errors_of_request_response;
-  create_refusal = create_error_of_refusal create_errors_of_request_response;
+  open_refusal = request_response_open_error_of_refusal;
+  create_refusal = request_response_create_error_of_refusal;
   misfit = λ d. misfit_of request response d.pattern;
   requirement = λ d. setting_clauses demand d.pattern;
   history_refusal = None;
@@ -140,7 +165,7 @@ prepared_adjusted asked = record asked { demand = request_response_adjusted aske
 abbrev pub request_response_retried : Retried RequestResponseOpenError RequestResponseCreateError
 request_response_retried =
     retried_by same_opening.ghosts.eq same_creating.ghosts.eq
-    (open_error_of_refusal open_errors_of_request_response) (create_error_of_refusal create_errors_of_request_response)
+    request_response_open_error_of_refusal request_response_create_error_of_refusal
 
 -- what the rounds of an open or create call its error
 abbrev pub request_response_refusal : RequestResponseOpenOrCreateError

@@ -3,8 +3,7 @@
 ghost use Rattle.std.specs.Prelude.{◌≡◌, Some};
 ghost use Rattle.iceoryx2_errors.specs.AnyError.{EventCreate, EventOpen, EventOpenOrCreate, text_of};
 ghost use Rattle.iceoryx2_errors.specs.Texts.{event_create_error_name, event_open_error_name};
-ghost use Rattle.iceoryx2_errors.specs.States.{create_error_of_state, create_errors_of_events};
-ghost use Rattle.iceoryx2_errors.specs.States.{open_error_of_state, open_errors_of_events};
+ghost use Rattle.iceoryx2_errors.specs.States.{event_create_error_of_state, event_open_error_of_state};
 ghost use Rattle.iceoryx2_errors.specs.declared.error.events.EventOpenOrCreateError.TheVariants as either;
 
 use super::ServiceState;
@@ -81,7 +80,7 @@ impl fmt::Display for EventOpenError {
 impl Error for EventOpenError {}
 
 impl From<ServiceState> for EventOpenError {
-    ghost from_gives = { λ state outcome. outcome ≡ open_error_of_state open_errors_of_events state };
+    ghost from_gives = { λ state outcome. outcome ≡ event_open_error_of_state state };
 
     fn from(state: ServiceState) -> EventOpenError {
         error_of!(state, EventOpenError, IncompatibleMessagingPattern)
@@ -131,7 +130,7 @@ impl fmt::Display for EventCreateError {
 impl Error for EventCreateError {}
 
 impl From<ServiceState> for EventCreateError {
-    ghost from_gives = { λ state outcome. outcome ≡ create_error_of_state create_errors_of_events state };
+    ghost from_gives = { λ state outcome. outcome ≡ event_create_error_of_state state };
 
     fn from(state: ServiceState) -> EventCreateError {
         error_of!(state, EventCreateError, AlreadyExists)
@@ -175,7 +174,7 @@ impl Error for EventOpenOrCreateError {}
 /// A look's outcome is an error of the open.
 impl From<ServiceState> for EventOpenOrCreateError {
     ghost from_gives = { λ state outcome.
-        outcome ≡ either.EventOpenError (open_error_of_state open_errors_of_events state) };
+        outcome ≡ either.EventOpenError (event_open_error_of_state state) };
 
     fn from(state: ServiceState) -> EventOpenOrCreateError {
         EventOpenOrCreateError::EventOpenError(EventOpenError::from(state))
