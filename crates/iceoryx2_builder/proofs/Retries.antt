@@ -19,92 +19,24 @@ use Rattle.iceoryx2_builder.specs.Retries.{event_open_is_retried, event_create_i
 
 pub event_opens : (error : EventOpenError) → event_retried.of_open error ≡ event_open_is_retried error
 event_opens opening.DoesNotExist = refl
-event_opens opening.InsufficientPermissions = refl
-event_opens opening.ServiceInCorruptedState = refl
-event_opens opening.IncompatibleMessagingPattern = refl
-event_opens opening.IncompatibleAttributes = refl
-event_opens opening.InternalFailure = refl
-event_opens opening.IncompatibleDeadline = refl
-event_opens opening.IncompatibleNotifierCreatedEvent = refl
-event_opens opening.IncompatibleNotifierDroppedEvent = refl
-event_opens opening.IncompatibleNotifierDeadEvent = refl
-event_opens opening.HangsInCreation = refl
-event_opens opening.DoesNotSupportRequestedAmountOfNotifiers = refl
-event_opens opening.DoesNotSupportRequestedAmountOfListeners = refl
-event_opens opening.DoesNotSupportRequestedMaxEventId = refl
-event_opens opening.DoesNotSupportRequestedAmountOfNodes = refl
-event_opens opening.ExceedsMaxNumberOfNodes = refl
-event_opens opening.IsMarkedForDestruction = refl
-event_opens opening.OutOfMemory = refl
+event_opens error = refl
 
 pub event_creates : (error : EventCreateError) → event_retried.of_create error ≡ event_create_is_retried error
 event_creates creating.ServiceInCorruptedState = refl
-event_creates creating.InternalFailure = refl
-event_creates creating.IsBeingCreatedByAnotherInstance = refl
-event_creates creating.AlreadyExists = refl
-event_creates creating.HangsInCreation = refl
-event_creates creating.InsufficientPermissions = refl
-event_creates creating.OutOfMemory = refl
+event_creates error = refl
 
 pub publish_subscribe_opens : (error : PublishSubscribeOpenError) → publish_subscribe_retried.of_open error ≡ publish_subscribe_open_is_retried error
 publish_subscribe_opens subscribe_opening.DoesNotExist = refl
-publish_subscribe_opens subscribe_opening.InternalFailure = refl
-publish_subscribe_opens subscribe_opening.IncompatibleTypes = refl
-publish_subscribe_opens subscribe_opening.IncompatibleMessagingPattern = refl
-publish_subscribe_opens subscribe_opening.IncompatibleAttributes = refl
-publish_subscribe_opens subscribe_opening.DoesNotSupportRequestedMinBufferSize = refl
-publish_subscribe_opens subscribe_opening.DoesNotSupportRequestedMinHistorySize = refl
-publish_subscribe_opens subscribe_opening.DoesNotSupportRequestedMinSubscriberBorrowedSamples = refl
-publish_subscribe_opens subscribe_opening.DoesNotSupportRequestedAmountOfPublishers = refl
-publish_subscribe_opens subscribe_opening.DoesNotSupportRequestedAmountOfSubscribers = refl
-publish_subscribe_opens subscribe_opening.DoesNotSupportRequestedAmountOfNodes = refl
-publish_subscribe_opens subscribe_opening.IncompatibleOverflowBehavior = refl
-publish_subscribe_opens subscribe_opening.InsufficientPermissions = refl
-publish_subscribe_opens subscribe_opening.ServiceInCorruptedState = refl
-publish_subscribe_opens subscribe_opening.HangsInCreation = refl
-publish_subscribe_opens subscribe_opening.ExceedsMaxNumberOfNodes = refl
-publish_subscribe_opens subscribe_opening.IsMarkedForDestruction = refl
-publish_subscribe_opens subscribe_opening.OutOfMemory = refl
+publish_subscribe_opens error = refl
 
 pub publish_subscribe_creates : (error : PublishSubscribeCreateError) → publish_subscribe_retried.of_create error ≡ publish_subscribe_create_is_retried error
 publish_subscribe_creates subscribe_creating.ServiceInCorruptedState = refl
-publish_subscribe_creates subscribe_creating.SubscriberBufferMustBeLargerThanHistorySize = refl
-publish_subscribe_creates subscribe_creating.AlreadyExists = refl
-publish_subscribe_creates subscribe_creating.InsufficientPermissions = refl
-publish_subscribe_creates subscribe_creating.InternalFailure = refl
-publish_subscribe_creates subscribe_creating.IsBeingCreatedByAnotherInstance = refl
-publish_subscribe_creates subscribe_creating.HangsInCreation = refl
-publish_subscribe_creates subscribe_creating.OutOfMemory = refl
+publish_subscribe_creates error = refl
 
 pub request_response_opens : (error : RequestResponseOpenError) → request_response_retried.of_open error ≡ request_response_open_is_retried error
 request_response_opens request_opening.DoesNotExist = refl
-request_response_opens request_opening.DoesNotSupportRequestedAmountOfClientRequestLoans = refl
-request_response_opens request_opening.DoesNotSupportRequestedAmountOfActiveRequestsPerClient = refl
-request_response_opens request_opening.DoesNotSupportRequestedResponseBufferSize = refl
-request_response_opens request_opening.DoesNotSupportRequestedAmountOfServers = refl
-request_response_opens request_opening.DoesNotSupportRequestedAmountOfClients = refl
-request_response_opens request_opening.DoesNotSupportRequestedAmountOfNodes = refl
-request_response_opens request_opening.DoesNotSupportRequestedAmountOfBorrowedResponsesPerPendingResponse = refl
-request_response_opens request_opening.ExceedsMaxNumberOfNodes = refl
-request_response_opens request_opening.HangsInCreation = refl
-request_response_opens request_opening.IncompatibleRequestType = refl
-request_response_opens request_opening.IncompatibleResponseType = refl
-request_response_opens request_opening.IncompatibleAttributes = refl
-request_response_opens request_opening.IncompatibleMessagingPattern = refl
-request_response_opens request_opening.IncompatibleOverflowBehaviorForRequests = refl
-request_response_opens request_opening.IncompatibleOverflowBehaviorForResponses = refl
-request_response_opens request_opening.IncompatibleBehaviorForFireAndForgetRequests = refl
-request_response_opens request_opening.InsufficientPermissions = refl
-request_response_opens request_opening.InternalFailure = refl
-request_response_opens request_opening.IsMarkedForDestruction = refl
-request_response_opens request_opening.ServiceInCorruptedState = refl
-request_response_opens request_opening.OutOfMemory = refl
+request_response_opens error = refl
 
 pub request_response_creates : (error : RequestResponseCreateError) → request_response_retried.of_create error ≡ request_response_create_is_retried error
 request_response_creates request_creating.AlreadyExists = refl
-request_response_creates request_creating.InternalFailure = refl
-request_response_creates request_creating.IsBeingCreatedByAnotherInstance = refl
-request_response_creates request_creating.InsufficientPermissions = refl
-request_response_creates request_creating.HangsInCreation = refl
-request_response_creates request_creating.ServiceInCorruptedState = refl
-request_response_creates request_creating.OutOfMemory = refl
+request_response_creates error = refl
