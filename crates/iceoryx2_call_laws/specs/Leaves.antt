@@ -1,5 +1,5 @@
 -- What a refused call leaves in the world.
-use Rattle.std.specs.Prelude.{◌≡◌, ◌≢◌, ◌⊎◌, ◌<◌, ℕ, Bool, true, false, List, [], ◌++◌, Some, Ok}
+use Rattle.std.specs.Prelude.{◌≡◌, ◌≢◌, ◌⊎◌, ◌<◌, ℕ, Bool, true, false, List, [], ◌++◌, Option, Some, None, Ok}
 use Rattle.iceoryx2_description.specs.declared.description.ServiceHash.{ServiceHash}
 use Rattle.iceoryx2_access.specs.Letter.{Letter}
 use Rattle.iceoryx2_access.specs.Letter as letter
@@ -12,7 +12,8 @@ use Rattle.iceoryx2_world.specs.World.{World, row_of, phase_of, begins, locked_n
 use Rattle.iceoryx2_world.specs.Agreement.{IsSpent}
 use Rattle.iceoryx2_access.specs.Run.{Each, Run}
 use Rattle.iceoryx2_world.specs.Interference.{LacksSegment, SameTickets, SameTags, IsFallibleUnder}
-use Rattle.iceoryx2_create_and_open.specs.TracksOwned.{OwnedLock, NoLock, GivenBack, GivesAllBack}
+use Rattle.iceoryx2_create_and_open.specs.GivesBack.{MadeByCall, OwnTag, OwnLock, OwnSegment}
+use Rattle.iceoryx2_create_and_open.specs.Fronts.{number_got, is_left, GivesAllBack}
 
 -- A removal is granted.
 abbrev pub IsGranted : Letter → Type 0
@@ -54,18 +55,17 @@ module _ (node : ℕ) (hash : ServiceHash) where
     pub locked : is_lock_left ≡ true → locked_number (phase_of v (Node node) hash) ≡ Some n
     pub segment : is_segment_left ≡ false → LacksSegment v hash n
 
-  -- A call that locked nothing has read at most.
-  abbrev pub LeavesOfLock : OwnedLock → (w v : World) → Type 0
-  LeavesOfLock NoLock w v = NodeHasRead w v
-  LeavesOfLock (GivenBack n is_lock_left is_segment_left) w v = LeavesGivenBack n is_lock_left is_segment_left w v
-  LeavesOfLock _ w v = ⊥
+  -- A call that got no lock has read at most.
+  abbrev pub LeavesOfLock : (got : Option ℕ) → (left : MadeByCall → Bool) → (w v : World) → Type 0
+  LeavesOfLock None left w v = NodeHasRead w v
+  LeavesOfLock (Some n) left w v = LeavesGivenBack n (left OwnLock) (left OwnSegment) w v
 
-  -- All that stays of a create, an open or a round of an open or create, whose removals left this of its tag and its
-  -- lock: of tickets and tags these are those of own nodes.
-  pub record Leaves (own : ℕ → Bool) (is_tag_left : Bool) (lock : OwnedLock) (w v : World) : Type 0 where
+  -- All that stays of a word that got the lock of this number, if any, and by which such things are left: of tickets
+  -- and tags these are those of own nodes.
+  pub record Leaves (own : ℕ → Bool) (got : Option ℕ) (left : MadeByCall → Bool) (w v : World) : Type 0 where
     pub tickets : SameTickets own w.tickets v.tickets
-    pub tags : SameTags own (tags_after is_tag_left w.tags (node, hash)) v.tags
-    pub of_lock : LeavesOfLock lock w v
+    pub tags : SameTags own (tags_after (left OwnTag) w.tags (node, hash)) v.tags
+    pub of_lock : LeavesOfLock got left w v
 
   -- Nothing of the call's own stays: the node has read at most, and the number of each lock that it got is spent.
   pub record LeavesNothing (own : ℕ → Bool) (word : List Letter) (w v : World) : Type 0 where
@@ -79,9 +79,9 @@ module _ (node : ℕ) (hash : ServiceHash) where
   IsGone n false v = IsSpent v hash n
   IsGone n true v = (n < v.counter) × LacksRow v hash n
 
-  abbrev pub StaysAway : OwnedLock → World → Type 0
-  StaysAway (GivenBack n false is_segment_left) v = IsGone n is_segment_left v
-  StaysAway _ v = Unit {0}
+  abbrev pub StaysAway : (got : Option ℕ) → (left : MadeByCall → Bool) → World → Type 0
+  StaysAway None left v = Unit {0}
+  StaysAway (Some n) left v = left OwnLock ≡ false → IsGone n (left OwnSegment) v
 
   -- What the rounds of an open or create leave, one after the other, of which the last ends in this world: each is a
   -- run, it leaves only that for which a removal was refused, and the numbers of the locks that it gave back whole are
@@ -89,5 +89,5 @@ module _ (node : ℕ) (hash : ServiceHash) where
   pub data LeavesByRounds (own : ℕ → Bool) (w end : World) : List Letter → World → Type 0 where
     no_round : LeavesByRounds own w end [] w
     one_more : {u v : List Letter} {x y : World} → LeavesByRounds own w end u x → Run (IsFallibleUnder own) x v y
-        → (g : GivesAllBack node hash v) → Leaves own g.is_tag_left g.lock x y → StaysAway g.lock end
-        → LeavesByRounds own w end (u ++ v) y
+        → (g : GivesAllBack node hash v) → Leaves own (number_got v) (is_left g.back) x y
+        → StaysAway (number_got v) (is_left g.back) end → LeavesByRounds own w end (u ++ v) y

@@ -1,12 +1,12 @@
--- What a call keeps along its words.
-use Rattle.std.proofs.Common.{◌≡◌, ℕ, zero, suc, Bool, false, List, ◌∷◌, ◌++◌, Ok, Err, refl}
-use Rattle.std.specs.Prelude.{is_err}
+-- What a call makes and gives back along its words.
+use Rattle.std.proofs.Common.{◌≡◌, ℕ, zero, suc, Bool, List, [], ◌∷◌, ◌++◌, Ok, Err, refl, sym, ap, subst, ◌∙◌}
+use mathlib.Core.List.{append_assoc, append-nil}
 use Rattle.iceoryx2_description.specs.declared.description.ServiceHash.{ServiceHash}
 use Rattle.iceoryx2_description.specs.Description.{Description}
 use Rattle.iceoryx2_access.specs.declared.storage.OpenSegmentError.{OpenSegmentError}
 use Rattle.iceoryx2_access.specs.declared.storage.Tag.{Tag}
 use Rattle.iceoryx2_access.specs.declared.storage.Tag.TheVariants.{Made, Found}
-use Rattle.iceoryx2_access.specs.Letter.{Letter}
+use Rattle.iceoryx2_access.specs.Letter.{Letter, MakeTag, Lock, Publish, OpenSegment}
 use Rattle.iceoryx2_create_and_open.specs.declared.create.TheConstants.{CLEARING_LIMIT}
 use Rattle.iceoryx2_create_and_open.specs.declared.look.Outcome.{Outcome}
 use Rattle.iceoryx2_pattern.specs.declared.pattern.CreateRefusal.{CreateRefusal}
@@ -14,172 +14,163 @@ use Rattle.iceoryx2_pattern.specs.declared.pattern.CreateRefusal.TheVariants.{Ou
 use Rattle.iceoryx2_pattern.specs.Meaning.{Meaning}
 use Rattle.iceoryx2_access.specs.Registered.{Registered}
 use Rattle.iceoryx2_create_and_open.specs.Looks.{IsLookWord, absent, broken, fetched}
-use Rattle.iceoryx2_create_and_open.specs.GivesBack.{GivesBack, OwnLock, OwnSegment, own_tag, nothing_left, segment_back, lock_back, tag_back}
+use Rattle.iceoryx2_create_and_open.specs.GivesBack.{MadeByCall, GivesBack, OwnLock, OwnSegment, own_tag, nothing_left}
 use Rattle.iceoryx2_create_and_open.specs.Segments as segments
 use Rattle.iceoryx2_create_and_open.specs.Segments.{clearings, IsSegmentWord, not_made, not_removed, still_there}
 use Rattle.iceoryx2_create_and_open.specs.Creates as creates
-use Rattle.iceoryx2_create_and_open.specs.Creates.{IsEntryWord, IsServiceWord, IsCreating, forbidden, not_entered, clock_fault, made, not_locked, no_segment, not_published, published, counted, no_copies, entered}
+use Rattle.iceoryx2_create_and_open.specs.Creates.{IsEntryWord, IsServiceWord, IsCreating, forbidden, not_entered, clock_fault, made as both_made, not_locked, no_segment, not_published, published, counted, no_copies, entered}
 use Rattle.iceoryx2_create_and_open.specs.Opens as opens
+use Rattle.iceoryx2_create_and_open.specs.Opens.{IsReady, ready, failed, IsLastRound, AreFailedRounds, IsOpenWord, ended, all_failed}
 use Rattle.iceoryx2_create_and_open.specs.Prepared.{IsPrepared, IsOpenCall}
 use Rattle.iceoryx2_create_and_open.proofs.Prepared.{refused_call}
-use Rattle.iceoryx2_create_and_open.specs.Opens.{IsReady, ready, IsFailedRound, failed, IsLastRound, AreFailedRounds, no_round, one_more, IsOpenWord, ended, all_failed}
-use Rattle.iceoryx2_create_and_open.specs.TracksOwned as keeps
-use Rattle.iceoryx2_create_and_open.specs.TracksOwned.{OwnedTag, OwnsNoTag, OwnedLock, NoLock, Locked, WithSegment, GivenBack, HasService, IsUnlocked, no_own_tag, with_tag, TracksOwned, ends, makes_tag, locks, makes_segment, publishes, removes_segment, unlocks, removes_tag, clears, goes_on, GivesAllBack, GivesTagBack, KeepsAll, KeepsLastTag}
+use Rattle.iceoryx2_create_and_open.specs.Fronts as may
+use Rattle.iceoryx2_create_and_open.specs.Fronts.{made_by, made_after, made, MayCome, IsFront, ends, goes_on, clears, GivesAllBack, GivesTagsBack, no_round, one_more, KeepsAll, KeepsLastTag}
+
+pub made_both : (a : List MadeByCall) (v w : List Letter) → made_after a (v ++ w) ≡ made_after (made_after a v) w
+made_both a [] w = refl
+made_both a (l ∷ v) w = made_both (made_by l ++ a) v w
 
 module _ (node : ℕ) (hash : ServiceHash) where
-  -- a word from here after which the tag is given back, or left
-  pub record Untags (s : OwnedTag) (j k : OwnedLock) (w : List Letter) : Type 0 where
-    pub is_left : Bool
-    pub keeps : TracksOwned node hash s j w (OwnsNoTag is_left) k
+  -- a front from what is made before it to what is made after it
+  pub record Goes (n : ℕ) (before : List MadeByCall) (w : List Letter) (after : List MadeByCall) : Type 0 where
+    pub front : IsFront node hash n before w
+    pub makes : made_after before w ≡ after
 
-  -- a word from here after which nothing is to be given back
-  pub record Returns (s : OwnedTag) (j : OwnedLock) (w : List Letter) : Type 0 where
-    pub lock : OwnedLock
-    pub is_unlocked : IsUnlocked lock
-    pub tag : Untags s j lock w
+  -- a word from here that gives back all that is made after its front
+  pub record Returns (before owned : List MadeByCall) (w : List Letter) : Type 0 where
+    pub number : ℕ
+    pub first : List Letter
+    pub back : List Letter
+    pub in_order : w ≡ first ++ back
+    pub goes : Goes number before first owned
+    pub gives_back : GivesBack node hash owned back
+
+  -- a round of an open gives its tag back, where it made one
+  abbrev GivesTagBack : List Letter → Type 0
+  GivesTagBack w = (tag : Tag) × Returns [] (own_tag tag) w
 
 module _ {node : ℕ} {hash : ServiceHash} where
-  -- who has the service keeps it
-  pub service_stays : {s t : OwnedTag} {n : ℕ} {k : OwnedLock} {w : List Letter} → TracksOwned node hash s (HasService n) w t k → k ≡ HasService n
-  service_stays ends = refl
-  service_stays (removes_tag answer free p) = absurd free
-  service_stays (goes_on l p) = service_stays p
+  then_front : {n : ℕ} {a : List MadeByCall} {v w : List Letter} → IsFront node hash n a v → IsFront node hash n (made_after a v) w → IsFront node hash n a (v ++ w)
+  then_front ends q = q
+  then_front (goes_on may_come p) q = goes_on may_come (then_front p q)
+  then_front (clears tag p) q = clears tag (then_front p q)
 
   -- one word after another
-  pub then_keeps : {r s t : OwnedTag} {i j k : OwnedLock} {v w : List Letter} → TracksOwned node hash r i v s j → TracksOwned node hash s j w t k → TracksOwned node hash r i (v ++ w) t k
-  then_keeps ends q = q
-  then_keeps (makes_tag p) q = makes_tag (then_keeps p q)
-  then_keeps (locks p) q = locks (then_keeps p q)
-  then_keeps (makes_segment p) q = makes_segment (then_keeps p q)
-  then_keeps (publishes p) q = publishes (then_keeps p q)
-  then_keeps (keeps.opens p) q = keeps.opens (then_keeps p q)
-  then_keeps (removes_segment answer p) q = removes_segment answer (then_keeps p q)
-  then_keeps (unlocks answer p) q = unlocks answer (then_keeps p q)
-  then_keeps (removes_tag answer free p) q = removes_tag answer free (then_keeps p q)
-  then_keeps (clears p) q = clears (then_keeps p q)
-  then_keeps (goes_on l p) q = goes_on l (then_keeps p q)
+  pub then_goes : {n : ℕ} {a b c : List MadeByCall} {v w : List Letter} → Goes node hash n a v b → Goes node hash n b w c → Goes node hash n a (v ++ w) c
+  then_goes {n} {a} {v = v} {w = w} p q = record { front = then_front p.front (subst (λ x. IsFront node hash n x w) (sym p.makes) q.front); makes = made_both a v w ∙ ap (λ x. made_after x w) p.makes ∙ q.makes }
 
-  -- a tag that was made is kept, and one that was there isn't the call's own
-  tag_kept : (tag : Tag) {is_left : Bool} {t : OwnedTag} {k : OwnedLock} {w : List Letter} → TracksOwned node hash (with_tag (OwnsNoTag is_left) tag) NoLock w t k → TracksOwned node hash (OwnsNoTag is_left) NoLock (Letter.MakeTag node hash (Ok tag) ∷ w) t k
-  tag_kept Made p = makes_tag p
-  tag_kept Found p = goes_on keeps.finds_tag p
+  stays : {n : ℕ} {a : List MadeByCall} → Goes node hash n a [] a
+  stays = record { front = ends; makes = refl }
 
-  then_untags : {s t : OwnedTag} {i j k : OwnedLock} {v w : List Letter} → TracksOwned node hash s i v t j → Untags node hash t j k w → Untags node hash s i k (v ++ w)
-  then_untags p r = record { is_left = r.is_left; keeps = then_keeps p r.keeps }
+  goes : {n : ℕ} {a : List MadeByCall} {l : Letter} {w : List Letter} {b : List MadeByCall} → MayCome node hash n a l → Goes node hash n (made_by l ++ a) w b → Goes node hash n a (l ∷ w) b
+  goes c p = record { front = goes_on c p.front; makes = p.makes }
 
-  tag_returns : (tag : Tag) (is_left : Bool) {j : OwnedLock} {w : List Letter} → IsUnlocked j → GivesBack node hash (own_tag tag) w → Untags node hash (with_tag (OwnsNoTag is_left) tag) j j w
-  tag_returns Made is_left free (tag_back answer nothing_left) = record { is_left = is_err answer; keeps = removes_tag answer free ends }
-  tag_returns Found is_left free nothing_left = record { is_left = is_left; keeps = ends }
+  then_returns : {a b c : List MadeByCall} {v w : List Letter} (r : Returns node hash b c w) → Goes node hash r.number a v b → Returns node hash a c (v ++ w)
+  then_returns {v = v} r p = record { number = r.number; first = v ++ r.first; back = r.back; in_order = ap (λ x. v ++ x) r.in_order ∙ sym (append_assoc v r.first r.back); goes = then_goes p r.goes; gives_back = r.gives_back }
 
-  clearings_keeps : (number max_nodes : ℕ) {t : OwnedTag} (k : ℕ) → TracksOwned node hash t (Locked number false) (clearings node hash number max_nodes k) t (Locked number false)
-  clearings_keeps number max_nodes zero = ends
-  clearings_keeps number max_nodes (suc k) = then_keeps (clearings_keeps number max_nodes k) (clears ends)
+  abbrev returns : {n : ℕ} {a b : List MadeByCall} {v w : List Letter} → Goes node hash n a v b → GivesBack node hash b w → Returns node hash a b (v ++ w)
+  returns p b = record { number = _; first = _; back = _; in_order = refl; goes = p; gives_back = b }
 
-  module _ {number max_nodes : ℕ} {t : OwnedTag} where
-    pub segment_kept : {w : List Letter} → IsSegmentWord node hash number max_nodes w (Ok tt) → TracksOwned node hash t (Locked number false) w t (WithSegment number)
-    segment_kept (segments.made k small) = then_keeps (clearings_keeps number max_nodes k) (makes_segment ends)
+  -- a word that makes nothing
+  keeps_nothing : {a : List MadeByCall} {w : List Letter} → Goes node hash 0 a w [] → Returns node hash a [] w
+  keeps_nothing {w = w} p = record { number = 0; first = w; back = []; in_order = sym (append-nil w); goes = p; gives_back = nothing_left }
 
-    segment_refused : {w : List Letter} {why : CreateRefusal} → IsSegmentWord node hash number max_nodes w (Err why) → TracksOwned node hash t (Locked number false) w t (Locked number false)
-    segment_refused (not_made k e small _) = then_keeps (clearings_keeps number max_nodes k) (goes_on keeps.gets_no_segment ends)
-    segment_refused (not_removed k e small) = then_keeps (clearings_keeps number max_nodes k) (clears ends)
-    segment_refused still_there = then_keeps (clearings_keeps number max_nodes CLEARING_LIMIT) (goes_on keeps.gets_no_segment ends)
+  abbrev pub all_back : {owned : List MadeByCall} {w : List Letter} → Returns node hash [] owned w → GivesAllBack node hash w
+  all_back r = record { number = r.number; front = r.first; back = r.back; in_order = r.in_order; is_front = r.goes.front; gives_back = subst (λ x. GivesBack node hash x r.back) (sym r.goes.makes) r.gives_back }
 
-  then_returns : {s t : OwnedTag} {j k : OwnedLock} {v w : List Letter} → TracksOwned node hash s j v t k → Returns node hash t k w → Returns node hash s j (v ++ w)
-  then_returns p r = record { lock = r.lock; is_unlocked = r.is_unlocked; tag = then_untags p r.tag }
+  looked : {w : List Letter} → Goes node hash 0 [] w [] → GivesTagBack node hash w
+  looked p = (Found, keeps_nothing p)
 
-  unlocked_returns : {s : OwnedTag} {j k : OwnedLock} {w : List Letter} → IsUnlocked k → Untags node hash s j k w → Returns node hash s j w
-  unlocked_returns {k = k} free u = record { lock = k; is_unlocked = free; tag = u }
+  then_round : {u v : List Letter} → GivesTagsBack node hash u → GivesTagBack node hash v → GivesTagsBack node hash (u ++ v)
+  then_round before round = one_more round.0 before (all_back round.1) round.1.goes.makes
 
-  -- what a refused round of an open leaves
-  leaves : {is_left : Bool} {w : List Letter} → TracksOwned node hash (OwnsNoTag is_left) NoLock w (OwnsNoTag is_left) NoLock → Untags node hash (OwnsNoTag is_left) NoLock NoLock w
-  leaves {is_left} p = record { is_left = is_left; keeps = p }
+  -- a tag that was there isn't the call's own
+  tagged : {n : ℕ} (tag : Tag) → Goes node hash n [] (MakeTag node hash (Ok tag) ∷ []) (own_tag tag)
+  tagged Made = goes may.makes_tag stays
+  tagged Found = goes may.makes_tag stays
 
-  nothing_returns : {w : List Letter} → TracksOwned node hash no_own_tag NoLock w no_own_tag NoLock → Returns node hash no_own_tag NoLock w
-  nothing_returns p = record { lock = NoLock; is_unlocked = tt; tag = leaves p }
+  module _ {number : ℕ} (tag : Tag) where
+    cleared : (max_nodes k : ℕ) → Goes node hash number (OwnLock ∷ own_tag tag) (clearings node hash number max_nodes k) (OwnLock ∷ own_tag tag)
+    cleared max_nodes zero = stays
+    cleared max_nodes (suc k) = then_goes (cleared max_nodes k) (record { front = clears tag ends; makes = refl })
 
-  lock_returns : (tag : Tag) {n : ℕ} {is_segment_left : Bool} {w : List Letter} → GivesBack node hash (OwnLock ∷ own_tag tag) w → Returns node hash (with_tag no_own_tag tag) (Locked n is_segment_left) w
-  lock_returns tag (lock_back answer b) = unlocked_returns tt (then_untags (unlocks answer ends) (tag_returns tag false tt b))
+    pub segment_made : {max_nodes : ℕ} {w : List Letter} → IsSegmentWord node hash number max_nodes w (Ok tt) → Goes node hash number (OwnLock ∷ own_tag tag) w (OwnSegment ∷ OwnLock ∷ own_tag tag)
+    segment_made (segments.made k small) = then_goes (cleared _ k) (goes (may.makes_segment tag) stays)
 
-  segment_returns : (tag : Tag) {n : ℕ} {w : List Letter} → GivesBack node hash (OwnSegment ∷ OwnLock ∷ own_tag tag) w → Returns node hash (with_tag no_own_tag tag) (WithSegment n) w
-  segment_returns tag (segment_back answer b) = then_returns (removes_segment answer ends) (lock_returns tag b)
+    segment_refused : {max_nodes : ℕ} {w : List Letter} {why : CreateRefusal} → IsSegmentWord node hash number max_nodes w (Err why) → Goes node hash number (OwnLock ∷ own_tag tag) w (OwnLock ∷ own_tag tag)
+    segment_refused (not_made k e small _) = then_goes (cleared _ k) (goes (may.makes_segment tag) stays)
+    segment_refused (not_removed k e small) = then_goes (cleared _ k) (record { front = clears tag ends; makes = refl })
+    segment_refused still_there = then_goes (cleared _ CLEARING_LIMIT) (goes (may.makes_segment tag) stays)
 
 module _ {E C : Type 0} {m : Meaning E C} {node : ℕ} {hash : ServiceHash} where
-  pub look_keeps : {t : OwnedTag} {k : OwnedLock} {w : List Letter} {o : Outcome E} → IsLookWord m node hash w o → TracksOwned node hash t k w t k
-  look_keeps absent = goes_on keeps.looks ends
-  look_keeps broken = goes_on keeps.looks ends
-  look_keeps (fetched there read) = goes_on keeps.looks (goes_on keeps.fetches ends)
+  pub look_goes : {n : ℕ} {a : List MadeByCall} {w : List Letter} {o : Outcome E} → IsLookWord m node hash w o → Goes node hash n a w a
+  look_goes absent = goes may.looks stays
+  look_goes broken = goes may.looks stays
+  look_goes (fetched there read) = goes may.looks (goes may.fetches stays)
 
-  pub entry_kept : {w : List Letter} {tag : Tag} → IsEntryWord m node hash w (Ok tag) → TracksOwned node hash no_own_tag NoLock w (with_tag no_own_tag tag) NoLock
-  entry_kept (entered tag l) = then_keeps (look_keeps l) (goes_on keeps.asks (tag_kept tag ends))
+  pub look_gives_back : {w : List Letter} {o : Outcome E} → IsLookWord m node hash w o → GivesAllBack node hash w
+  look_gives_back l = all_back (keeps_nothing (look_goes l))
 
-  entry_refused : {w : List Letter} {error : C} → IsEntryWord m node hash w (Err error) → TracksOwned node hash no_own_tag NoLock w no_own_tag NoLock
-  entry_refused (creates.look_faulty l) = look_keeps l
-  entry_refused (creates.look_found l) = look_keeps l
-  entry_refused (counted l) = then_keeps (look_keeps l) (goes_on keeps.asks ends)
-  entry_refused (no_copies l) = then_keeps (look_keeps l) (goes_on keeps.asks ends)
-  entry_refused (creates.no_tag e l) = then_keeps (look_keeps l) (goes_on keeps.asks (goes_on keeps.gets_no_tag ends))
+  pub entry_goes : {n : ℕ} {w : List Letter} {tag : Tag} → IsEntryWord m node hash w (Ok tag) → Goes node hash n [] w (own_tag tag)
+  entry_goes (entered tag l) = then_goes (look_goes l) (goes may.asks (tagged tag))
 
-  service_returns : {d : Description} {tag : Tag} {w : List Letter} {error : C} → IsServiceWord m node hash d tag w (Err error) → Returns node hash (with_tag no_own_tag tag) NoLock w
-  service_returns {tag = tag} (not_locked e b) = unlocked_returns tt (then_untags (goes_on keeps.gets_no_lock ends) (tag_returns tag false tt b))
-  service_returns {tag = tag} (no_segment s b) = then_returns (locks (segment_refused s)) (lock_returns tag b)
-  service_returns {tag = tag} (not_published e s b) = then_returns (locks (segment_kept s)) (then_returns (goes_on keeps.publishes_nothing ends) (segment_returns tag b))
+  entry_refused : {w : List Letter} {error : C} → IsEntryWord m node hash w (Err error) → Goes node hash 0 [] w []
+  entry_refused (creates.look_faulty l) = look_goes l
+  entry_refused (creates.look_found l) = look_goes l
+  entry_refused (counted l) = then_goes (look_goes l) (goes may.asks stays)
+  entry_refused (no_copies l) = then_goes (look_goes l) (goes may.asks stays)
+  entry_refused (creates.no_tag e l) = then_goes (look_goes l) (goes may.asks (goes may.makes_tag stays))
 
-  create_returns : {stops : Bool} {d : Description} {w : List Letter} {error : C} → IsCreating m node hash stops d w (Err error) → Returns node hash no_own_tag NoLock w
-  create_returns (forbidden _) = nothing_returns ends
-  create_returns (not_entered _ e) = nothing_returns (entry_refused e)
-  create_returns (clock_fault {tag} _ _ e b) = unlocked_returns tt (then_untags (entry_kept e) (tag_returns tag false tt b))
-  create_returns (made _ _ e s) = then_returns (entry_kept e) (service_returns s)
+  service_returns : {d : Description} {tag : Tag} {w : List Letter} {error : C} → IsServiceWord m node hash d tag w (Err error) → (owned : List MadeByCall) × Returns node hash (own_tag tag) owned w
+  service_returns (not_locked e b) = (_, returns {n = 0} (goes may.gets_no_lock stays) b)
+  service_returns {tag = tag} (no_segment s b) = (_, returns (goes (may.locks tag) (segment_refused tag s)) b)
+  service_returns {tag = tag} (not_published e s b) = (_, then_returns (returns (goes may.publishes_nothing stays) b) (goes (may.locks tag) (segment_made tag s)))
 
   -- a refused create gives back what it made
   pub refused_create_keeps : {stops : Bool} {d : Description} {w : List Letter} {error : C} → IsCreating m node hash stops d w (Err error) → GivesAllBack node hash w
-  refused_create_keeps is = let r = create_returns is in record { is_tag_left = r.tag.is_left; lock = r.lock; is_unlocked = r.is_unlocked; keeps = r.tag.keeps }
+  refused_create_keeps (forbidden _) = all_back (keeps_nothing stays)
+  refused_create_keeps (not_entered _ e) = all_back (keeps_nothing (entry_refused e))
+  refused_create_keeps (clock_fault _ _ e b) = all_back (returns {n = 0} (entry_goes e) b)
+  refused_create_keeps (both_made _ _ e s) = let r = service_returns s in all_back (then_returns r.1 (entry_goes e))
 
   -- a create that succeeds keeps what it made
-  service_kept : {d : Description} {tag : Tag} {w : List Letter} {r : Registered} {t : OwnedTag} → IsServiceWord m node hash d tag w (Ok r) → TracksOwned node hash t NoLock w t (HasService r.number)
-  service_kept (published n k s) = locks (then_keeps (segment_kept s) (publishes ends))
-
   pub created_keeps : {stops : Bool} {d : Description} {w : List Letter} {r : Registered} → IsCreating m node hash stops d w (Ok r) → KeepsAll node hash w r.number
-  created_keeps (made {tag} _ _ e s) = record { tag = tag; tracks = then_keeps (entry_kept e) (service_kept s) }
+  created_keeps {d = d} (both_made {tag = tag} {u = u} _ _ e (published {v = v} n t s)) =
+      let all = then_goes (entry_goes e) (goes (may.locks tag) (segment_made tag s)) in
+      record { front = _; tag = tag; d = d; ticket = t; in_order = sym (append_assoc u (Lock node hash (Ok n) ∷ v) (Publish node hash n d (Ok t) ∷ [])); is_front = all.front; makes = all.makes }
 
-  pub ready_kept : {n : ℕ} {d : Description} {tag : Tag} {w : List Letter} {is_left : Bool} → IsReady m node hash n d tag w → TracksOwned node hash (OwnsNoTag is_left) NoLock w (with_tag (OwnsNoTag is_left) tag) NoLock
-  ready_kept (ready tag l _) = then_keeps (look_keeps l) (tag_kept tag ends)
+  pub ready_goes : {n k : ℕ} {d : Description} {tag : Tag} {w : List Letter} → IsReady m node hash n d tag w → Goes node hash k [] w (own_tag tag)
+  ready_goes (ready tag l _) = then_goes (look_goes l) (tagged tag)
 
-  -- a second look, and the tag given back
-  looks_again : (tag : Tag) (is_left : Bool) {n : ℕ} {v w : List Letter} {o : Outcome E} {e : OpenSegmentError} → IsLookWord m node hash v o → GivesBack node hash (own_tag tag) w
-      → Untags node hash (with_tag (OwnsNoTag is_left) tag) NoLock NoLock (Letter.OpenSegment node hash n (Err e) ∷ (v ++ w))
-  looks_again tag is_left l b = then_untags (goes_on keeps.opens_nothing (look_keeps l)) (tag_returns tag is_left tt b)
+  looks_again : {tag : Tag} {d : Description} {n : ℕ} {u v w : List Letter} {o : Outcome E} (e : OpenSegmentError) → IsReady m node hash n d tag u → IsLookWord m node hash v o → GivesBack node hash (own_tag tag) w
+      → GivesTagBack node hash (u ++ OpenSegment node hash n (Err e) ∷ (v ++ w))
+  looks_again {tag = tag} e r l b = (tag, then_returns (returns (goes may.opens_nothing (look_goes l)) b) (ready_goes r))
 
-  failed_leaves : {w : List Letter} (is_left : Bool) → IsFailedRound m node hash w → Untags node hash (OwnsNoTag is_left) NoLock NoLock w
-  failed_leaves is_left (failed {tag = tag} r l b) = then_untags (ready_kept r) (looks_again tag is_left l b)
+  last_returns : {w : List Letter} {error : E} → IsLastRound m node hash w (Err error) → GivesTagBack node hash w
+  last_returns (opens.look_faulty l) = looked (look_goes l)
+  last_returns (opens.look_none l) = looked (look_goes l)
+  last_returns (opens.not_accepted l _) = looked (look_goes l)
+  last_returns (opens.no_tag e l _) = looked (then_goes (look_goes l) (goes may.makes_tag stays))
+  last_returns (opens.not_opened {tag = tag} e _ r b) = (tag, then_returns (returns (goes may.opens_nothing stays) b) (ready_goes r))
+  last_returns (opens.then_faulty r l b) = looks_again _ r l b
+  last_returns (opens.then_none r l b) = looks_again _ r l b
 
-  last_leaves : {w : List Letter} {error : E} (is_left : Bool) → IsLastRound m node hash w (Err error) → Untags node hash (OwnsNoTag is_left) NoLock NoLock w
-  last_leaves is_left (opens.look_faulty l) = leaves (look_keeps l)
-  last_leaves is_left (opens.look_none l) = leaves (look_keeps l)
-  last_leaves is_left (opens.not_accepted l _) = leaves (look_keeps l)
-  last_leaves is_left (opens.no_tag e l _) = leaves (then_keeps (look_keeps l) (goes_on keeps.gets_no_tag ends))
-  last_leaves is_left (opens.not_opened {tag = tag} e _ r b) = then_untags (ready_kept r) (then_untags (goes_on keeps.opens_nothing ends) (tag_returns tag is_left tt b))
-  last_leaves is_left (opens.then_faulty {tag = tag} r l b) = then_untags (ready_kept r) (looks_again tag is_left l b)
-  last_leaves is_left (opens.then_none {tag = tag} r l b) = then_untags (ready_kept r) (looks_again tag is_left l b)
-
-  pub rounds_leave : {k : ℕ} {w : List Letter} → AreFailedRounds m node hash k w → Untags node hash no_own_tag NoLock NoLock w
-  rounds_leave no_round = leaves ends
-  rounds_leave (one_more before r) = let first = rounds_leave before in then_untags first.keeps (failed_leaves first.is_left r)
+  pub rounds_give_back : {k : ℕ} {w : List Letter} → AreFailedRounds m node hash k w → GivesTagsBack node hash w
+  rounds_give_back opens.no_round = no_round
+  rounds_give_back (opens.one_more before (failed r l b)) = then_round (rounds_give_back before) (looks_again _ r l b)
 
   -- a refused open gives back what it made
-  pub refused_open_keeps : {w : List Letter} {error : E} → IsOpenWord m node hash w (Err error) → GivesTagBack node hash w
-  refused_open_keeps (ended small before l) = let first = rounds_leave before in let u = then_untags first.keeps (last_leaves first.is_left l) in record { is_tag_left = u.is_left; tracks = u.keeps }
-  refused_open_keeps (all_failed before) = let u = rounds_leave before in record { is_tag_left = u.is_left; tracks = u.keeps }
-
-  last_kept : {w : List Letter} {r : Registered} (is_left : Bool) → IsLastRound m node hash w (Ok r) → (tag : Tag) × TracksOwned node hash (OwnsNoTag is_left) NoLock w (with_tag (OwnsNoTag is_left) tag) (HasService r.number)
-  last_kept is_left (opens.opened {tag = tag} t r) = (tag, then_keeps (ready_kept r) (keeps.opens ends))
+  pub refused_open_keeps : {w : List Letter} {error : E} → IsOpenWord m node hash w (Err error) → GivesTagsBack node hash w
+  refused_open_keeps (ended small before l) = then_round (rounds_give_back before) (last_returns l)
+  refused_open_keeps (all_failed before) = rounds_give_back before
 
   -- an open that succeeds keeps at most the tag of its last round
   pub opened_keeps : {w : List Letter} {r : Registered} → IsOpenWord m node hash w (Ok r) → KeepsLastTag node hash w r.number
-  opened_keeps (ended small before l) = let first = rounds_leave before in let last = last_kept first.is_left l in record { is_tag_left = first.is_left; tag = last.0; tracks = then_keeps first.keeps last.1 }
+  opened_keeps (ended small before (opens.opened {tag = tag} t r)) = let all = ready_goes r in record { before = _; front = _; tag = tag; ticket = t; in_order = refl; gives_back = rounds_give_back before; is_front = all.front; makes = all.makes }
 
   -- and so it is where they may prepare their types first
   pub refused_create_call_keeps : {stops : Bool} {d : Description} {w : List Letter} {error : C} → IsPrepared (m.create_refusal OutOfMemory) (IsCreating m node hash stops d) w (Err error) → GivesAllBack node hash w
-  refused_create_call_keeps = refused_call (GivesAllBack node hash) (record { is_tag_left = false; lock = NoLock; is_unlocked = tt; keeps = ends }) (λ w error is. refused_create_keeps is)
+  refused_create_call_keeps = refused_call (GivesAllBack node hash) (all_back (keeps_nothing stays)) (λ w error is. refused_create_keeps is)
 
-  pub refused_open_call_keeps : {w : List Letter} {error : E} → IsOpenCall m node hash w (Err error) → GivesTagBack node hash w
-  refused_open_call_keeps = refused_call (GivesTagBack node hash) (record { is_tag_left = false; tracks = ends }) (λ w error is. refused_open_keeps is)
+  pub refused_open_call_keeps : {w : List Letter} {error : E} → IsOpenCall m node hash w (Err error) → GivesTagsBack node hash w
+  refused_open_call_keeps = refused_call (GivesTagsBack node hash) no_round (λ w error is. refused_open_keeps is)

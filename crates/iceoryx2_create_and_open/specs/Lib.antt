@@ -10,4 +10,4 @@ pub mod Answers
 pub mod Prepared
 pub mod OwnSettings
 pub mod Counts
-pub mod TracksOwned
+pub mod Fronts

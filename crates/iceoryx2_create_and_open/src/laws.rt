@@ -12,7 +12,7 @@ ghost use Rattle.iceoryx2_port_factory.specs.Closes.{IsCloseWord};
 ghost use Rattle.iceoryx2_create_and_open.specs.declared.caller.Caller.{Caller};
 ghost use Rattle.iceoryx2_create_and_open.specs.Counts.{IsWithin, create_limits, open_limits, segment_limits};
 ghost use Rattle.iceoryx2_create_and_open.specs.Creates.{description_of};
-ghost use Rattle.iceoryx2_create_and_open.specs.TracksOwned.{GivesAllBack, GivesTagBack, KeepsAll, KeepsLastTag};
+ghost use Rattle.iceoryx2_create_and_open.specs.Fronts.{GivesAllBack, GivesTagsBack, KeepsAll, KeepsLastTag};
 ghost use Rattle.iceoryx2_create_and_open.specs.Opens.{CarriesAccepted};
 ghost use Rattle.iceoryx2_create_and_open.specs.Prepared.{IsCreateCall, IsOpenCall};
 ghost use Rattle.iceoryx2_access.specs.Registered.{Registered};
@@ -42,24 +42,25 @@ pub fn open_is_short<E: Copy, C: Copy>()
         → IsOpenCall m node hash word answer → IsWithin word open_limits }
 {}
 
-/// A refused create has given back what it made: each tag that wasn't there, its lock and its
-/// segment have had one removal each, the last thing first. It leaves only that for which this
-/// removal was refused.
+/// A refused create has given back what it made: its word is a front, which makes its tag unless that
+/// was there, its lock and its segment, or fewer of them, and then one removal for each thing that the
+/// front made, the last first. It leaves only that for which this removal was refused (`is_left`).
 pub fn refused_create_gives_back<E: Copy, C: Copy>()
     ensures { (m : Meaning E C) (caller : Caller) (word : List Letter) (error : C)
         → IsCreateCall m caller word (Err error) → GivesAllBack caller.node caller.hash word }
 {}
 
-/// A refused open has given back each tag that it made, and took away none that was there. It
-/// leaves a tag only where the removal of its last one was refused, and locks nothing.
+/// A refused open has given back each tag that it made, round by round, and took away none that was
+/// there. It leaves a tag only where the last removal of one was refused, and locks nothing.
 pub fn refused_open_gives_back<E: Copy, C: Copy>()
     ensures { (m : Meaning E C) (node : ℕ) (hash : ServiceHash) (word : List Letter) (error : E)
         → IsOpenCall m node hash word (Err error)
-        → GivesTagBack node hash word }
+        → GivesTagsBack node hash word }
 {}
 
 /// A create that succeeds keeps its segment and its lock, under whose number the description now
-/// stands, and its tag, which may have been there. It has given back nothing of its own.
+/// stands, and its tag, which may have been there. It has given back nothing of its own: it is a front,
+/// and then it publishes.
 pub fn create_keeps_what_it_made<E: Copy, C: Copy>()
     ensures { (m : Meaning E C) (caller : Caller) (word : List Letter) (r : Registered)
         → IsCreateCall m caller word (Ok r)

@@ -11,7 +11,7 @@ use Rattle.iceoryx2_create_and_open.specs.Prepared.{IsCreateCall, IsOpenCall}
 use Rattle.iceoryx2_create_and_open.proofs.Prepared.{granted_call}
 use Rattle.iceoryx2_create_and_open.proofs.Kept.{refused_create_call_keeps, refused_open_call_keeps}
 use Rattle.iceoryx2_open_or_create.specs.declared.open_or_create.OpenOrCreateRefusal.{OpenOrCreateRefusal}
-use Rattle.iceoryx2_open_or_create.proofs.Left.{refused_call_gives_back}
+use Rattle.iceoryx2_open_or_create.proofs.Left.{refused_call_gives_back, tags_back}
 use Rattle.iceoryx2_open_or_create.specs.CallWords.{IsOpenOrCreateCall, IsWordOf}
 use Rattle.iceoryx2_open_or_create.specs.BuilderCalls.{BuilderCall, ErrorBy, Way, ToCreate, ToOpen, ToOpenOrCreate, creating, opening}
 use Rattle.iceoryx2_call_laws.specs.CallLeaves.{LeavesBy}
@@ -21,7 +21,7 @@ use Rattle.iceoryx2_call_laws.specs.Tickets.{tickets_after}
 use Rattle.iceoryx2_call_laws.proofs.calls.AnyCalls.{each_word}
 use Rattle.iceoryx2_call_laws.proofs.calls.Calm.{created_changes, opened_changes}
 use Rattle.iceoryx2_call_laws.proofs.calls.Prepared.{create_call_tickets, open_call_tickets, refused_create_call_calm, refused_open_call_calm}
-use Rattle.iceoryx2_call_laws.proofs.calls.Left.{only_tag, leaves_tag, gives_back, gives_all_back}
+use Rattle.iceoryx2_call_laws.proofs.calls.Left.{leaves_tag, gives_back, gives_all_back}
 use Rattle.iceoryx2_call_laws.proofs.calls.Turns.{granted_open_or_create_changes}
 use Rattle.iceoryx2_call_laws.proofs.calls.Rounds.{leaves_by_rounds, rounds_give_back}
 use Rattle.iceoryx2_call_laws.proofs.calls.Attempts.{attempt_tickets, refused_attempt_calm}
@@ -80,5 +80,5 @@ module _ {D E C : Type 0} (c : BuilderCall D E C) where
   pub any_gives_back : (nodes : ℕ → Bool) → nodes c.caller.node ≡ true → (w v : World) → Agrees w → (word : List Letter) (answer : Result Registered (ErrorBy E C c.way)) → IsWordOf c word answer → IfErr answer (λ e. Run (IsAccessUnder nodes) w word v → Each IsGranted word × LeavesNothing c.caller.node c.caller.hash nodes word w v)
   any_gives_back nodes mine w v old = each_refused (λ way word. Run (IsAccessUnder nodes) w word v → Each IsGranted word × LeavesNothing c.caller.node c.caller.hash nodes word w v)
       (λ word e is run. gives_all_back nodes c.caller.node mine c.caller.hash (refused_create_call_keeps is) run old)
-      (λ word e is run. gives_all_back nodes c.caller.node mine c.caller.hash (only_tag (refused_open_call_keeps is)) run old)
+      (λ word e is run. rounds_give_back nodes c.caller.node mine c.caller.hash (tags_back (refused_open_call_keeps is)) run old)
       (λ word e is run. rounds_give_back nodes c.caller.node mine c.caller.hash (refused_call_gives_back c is) run old)
