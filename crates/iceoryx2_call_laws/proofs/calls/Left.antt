@@ -23,7 +23,7 @@ use Rattle.iceoryx2_world.specs.World.{World, Segment, row_of, segment_of, phase
 use Rattle.iceoryx2_world.specs.Acts.{Act}
 use Rattle.iceoryx2_world.specs.Acts as act
 use Rattle.iceoryx2_world.specs.Steps.{ServiceView, world_after}
-use Rattle.iceoryx2_world.specs.Agreement.{IsSpent}
+use Rattle.iceoryx2_world.specs.Agreement.{IsSpent, Later}
 use Rattle.iceoryx2_world.specs.Across.{Agrees}
 use Rattle.iceoryx2_world.specs.Access.{Change, node_view, write, MakesTag, IsOwnPart}
 use Rattle.iceoryx2_world.specs.Interference.{LacksSegment, SameTickets, SameTags, KeepsOwn, IsAccessUnder, IsFallibleUnder}
@@ -43,7 +43,7 @@ use Rattle.iceoryx2_create_and_open.specs.Fronts.{made, number_got, left_by, lef
 use Rattle.iceoryx2_call_laws.specs.CallLeaves.{LeavesAtMostTag}
 use Rattle.iceoryx2_call_laws.specs.Leaves.{IsGranted, HasAtMostRead, NodeHasRead, Leaves, LeavesOfLock, LeavesGivenBack, LeavesNothing, IsGone, StaysAway, SpendsNumber, tags_after}
 use Rattle.iceoryx2_call_laws.proofs.calls.Tracked.{Front, ends, idles, makes_tag, locks, makes_segment, clears, MadeInOrder, up_to_tag, up_to_lock, up_to_segment, has_lock, no_lock, if_locked, each_removal, read_front, facts, all_got}
-use Rattle.iceoryx2_call_laws.proofs.calls.Plain.{IsPlain, Untouched, plain_untouched, read_both, step_tags, row_stays_away}
+use Rattle.iceoryx2_call_laws.proofs.calls.Plain.{IsPlain, plain_untouched, read_both, step_tags, row_stays_away}
 
 -- Where a call is with its lock: it has none, or it has that of this number still, or had it and gave it back. Of the
 -- number's segment nothing is known where one was made and not taken away.
@@ -54,16 +54,14 @@ data OwnedLock : Type 0 where
 
 -- where it is once it has made this, and whether there is a tag that it made then
 abbrev lock_in : ℕ → List MadeByCall → OwnedLock
-lock_in n [] = NoLock
-lock_in n (OwnTag ∷ owned) = NoLock
 lock_in n (OwnLock ∷ owned) = Held n false
 lock_in n (OwnSegment ∷ owned) = Held n true
+lock_in n _ = NoLock
 
 abbrev tag_in : (was_left : Bool) → List MadeByCall → Bool
 tag_in was_left [] = was_left
 tag_in was_left (OwnTag ∷ owned) = true
-tag_in was_left (OwnLock ∷ owned) = tag_in was_left owned
-tag_in was_left (OwnSegment ∷ owned) = tag_in was_left owned
+tag_in was_left (_ ∷ owned) = tag_in was_left owned
 
 -- and once it has given that back, but what is left
 abbrev given_back : ℕ → (is_lock_left is_segment_left : Bool) → OwnedLock
@@ -103,18 +101,16 @@ module _ (node : ℕ) (hash : ServiceHash) where
   HoldsLock (Held n has_segment) w = IsHeld n has_segment w
   HoldsLock (Gone n has_segment) w = IsGone node hash n has_segment w
 
+  -- what is gone stays away
+  pub gone_later : (n : ℕ) (b : Bool) {w v : World} → Later w v → (IsSpent w hash n → IsSpent v hash n) → IsGone node hash n b w → IsGone node hash n b v
+  gone_later n false later spent h = spent h
+  gone_later n true {w} {v} later spent h = (grind (arith, later.counter, h.0), row_stays_away w v hash n later h.0 h.1)
+
   -- along the own part of a plain access
-  held_plain : (n : ℕ) (l : Bool) {w v : World} → Untouched w v → IsHeld n l w → IsHeld n l v
-  held_plain n l u h = (read_locked (u.phases node hash) h.0, λ kept x is. h.1 kept x (sym (u.segments hash) ∙ is))
-
-  gone_own : (n : ℕ) (b : Bool) (w : World) (l : Letter) (v : World) → IsOwnPart w l v → Agrees w → IsGone node hash n b w → IsGone node hash n b v
-  gone_own n false w l v o old h = spent_own w l v hash n o old h
-  gone_own n true w l v o old h = let later = (own_keeps w l v o old).1 in (grind (arith, later.counter, h.0), row_stays_away w v hash n later h.0 h.1)
-
   holds_plain : (k : OwnedLock) (w : World) (l : Letter) (v : World) → IsPlain l → IsOwnPart w l v → Agrees w → HoldsLock k w → HoldsLock k v
   holds_plain NoLock w l v ok o old h = tt
-  holds_plain (Held n b) w l v ok o old h = held_plain n b (plain_untouched w l v ok o) h
-  holds_plain (Gone n b) w l v ok o old h = gone_own n b w l v o old h
+  holds_plain (Held n b) w l v ok o old h = let u = plain_untouched w l v ok o in (read_locked (u.phases node hash) h.0, λ kept x is. h.1 kept x (sym (u.segments hash) ∙ is))
+  holds_plain (Gone n b) w l v ok o old h = gone_later n b (own_keeps w l v o old).1 (spent_own w l v hash n o old) h
 
 -- where the node was and is
 abbrev IsAt : OwnedLock → (old new : Phase) → Type 0
@@ -150,17 +146,10 @@ module _ (own : ℕ → Bool) (node : ℕ) (hash : ServiceHash) where
 
 module _ (own : ℕ → Bool) (node : ℕ) (mine : own node ≡ true) (hash : ServiceHash) where
   -- along what keeps all that own nodes rely on
-  held_on : (n : ℕ) (l : Bool) {w v : World} → KeepsOwn own w v → IsHeld node hash n l w → IsHeld node hash n l v
-  held_on n l k h = (ap locked_number (k.phases node hash mine) ∙ h.0, λ kept. k.locked node hash n mine h.0 (h.1 kept))
-
-  gone_on : (n : ℕ) (l : Bool) {w v : World} → KeepsOwn own w v → IsGone node hash n l w → IsGone node hash n l v
-  gone_on n false k h = k.spent hash n h
-  gone_on n true {w} {v} k h = let later = k.later in (grind (arith, later.counter, h.0), row_stays_away w v hash n later h.0 h.1)
-
   holds_on : (k : OwnedLock) {w v : World} → KeepsOwn own w v → HoldsLock node hash k w → HoldsLock node hash k v
   holds_on NoLock k h = tt
-  holds_on (Held n l) k h = held_on n l k h
-  holds_on (Gone n l) k h = gone_on n l k h
+  holds_on (Held n l) k h = (ap locked_number (k.phases node hash mine) ∙ h.0, λ kept. k.locked node hash n mine h.0 (h.1 kept))
+  holds_on (Gone n l) k h = gone_later node hash n l k.later (k.spent hash n) h
 
   kept_on : {start w v : World} (t : Bool) (k : OwnedLock) → KeepsOwn own w v → Kept own node hash start t k w → Kept own node hash start t k v
   kept_on {start} {w} {v} t k keeps h = record {
@@ -515,19 +504,18 @@ module _ (own : ℕ → Bool) (node : ℕ) (mine : own node ≡ true) (hash : Se
       let now = cleared own node mine hash true n a w u (unrefused x) old h in
       (segment_ok n a w u old h.holds.0 x, (lock_ok n b u v (access_keeps w (letter.RemoveSegment node hash a) u x old).0 now.holds.0 y, (tag_ok c v last z, tt)))
 
-module _ {node : ℕ} {hash : ServiceHash} where
-  -- where each removal is granted nothing is left
-  none_left : {owned : List MadeByCall} {back : List Letter} (thing : MadeByCall) (left : Bool) → GivesBack node hash owned back → Each IsGranted back → left ≡ false → left_after left back thing ≡ false
-  none_left thing left nothing_left each e = e
-  none_left OwnTag left (tag_back a b) each e = none_left OwnTag (is_err a) b each.1 (ap is_err each.0)
-  none_left OwnTag left (lock_back a b) each e = none_left OwnTag left b each.1 e
-  none_left OwnTag left (segment_back a b) each e = none_left OwnTag left b each.1 e
-  none_left OwnLock left (tag_back a b) each e = none_left OwnLock left b each.1 e
-  none_left OwnLock left (lock_back a b) each e = none_left OwnLock (is_err a) b each.1 (ap is_err each.0)
-  none_left OwnLock left (segment_back a b) each e = none_left OwnLock left b each.1 e
-  none_left OwnSegment left (tag_back a b) each e = none_left OwnSegment left b each.1 e
-  none_left OwnSegment left (lock_back a b) each e = none_left OwnSegment left b each.1 e
-  none_left OwnSegment left (segment_back a b) each e = none_left OwnSegment (is_err a) b each.1 (ap is_err each.0)
+-- where each removal is granted nothing is left
+granted_by : (thing : MadeByCall) (l : Letter) → IsGranted l → (left : Bool) → left ≡ false → left_by thing l left ≡ false
+granted_by OwnTag (letter.RemoveTag i h a) is left e = ap is_err is
+granted_by OwnLock (letter.RemoveDescription i h a) is left e = ap is_err is
+granted_by OwnSegment (letter.RemoveSegment i h a) is left e = ap is_err is
+granted_by OwnTag _ is left e = e
+granted_by OwnLock _ is left e = e
+granted_by OwnSegment _ is left e = e
+
+none_left : (thing : MadeByCall) (word : List Letter) (left : Bool) → Each IsGranted word → left ≡ false → left_after left word thing ≡ false
+none_left thing [] left each e = e
+none_left thing (l ∷ word) left each e = none_left thing word (left_by thing l left) each.1 (granted_by thing l each.0 left e)
 
 -- what is known of the lock where nothing is left
 none_of_lock : (node : ℕ) (hash : ServiceHash) (got : Option ℕ) (left : MadeByCall → Bool) (w v : World) → left OwnLock ≡ false → left OwnSegment ≡ false → LeavesOfLock node hash got left w v → NodeHasRead node hash w v × ((n : ℕ) → got ≡ Some n → IsSpent v hash n)
@@ -544,7 +532,7 @@ gives_all_back own node mine hash {word = word} {w = w} {v = v} g run old =
     let granted_first = granted_front own node mine hash false front parts.first old begun in
     let granted_then = granted_back own node mine hash false g.number ((facts front).in_order (up_to_tag Found)) g.gives_back parts.second (run_keeps (unrefused_run parts.first) old).0 at_back in
     let left = gives_back own node mine hash g (unrefused_run run) old in
-    let none = λ (thing : MadeByCall). none_left thing false g.gives_back granted_then refl in
+    let none = λ (thing : MadeByCall). none_left thing g.back false granted_then refl in
     let o = none_of_lock node hash (number_got word) (is_left g.back) w v (none OwnLock) (none OwnSegment) left.of_lock in
     let all = λ (P : Letter → Type 0) (first : Each P g.front) (then : Each P g.back). subst (Each P) (sym g.in_order) (each_append P g.front g.back first then) in (
       all IsGranted granted_first granted_then,

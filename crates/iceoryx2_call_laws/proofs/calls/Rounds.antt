@@ -1,5 +1,5 @@
 -- What the rounds of a refused open or create leave.
-use Rattle.std.proofs.Common.{ℕ, true, false, inl, List, Option, Some, None, Ok, Err, refl, arith, ◌≡◌, Bool}
+use Rattle.std.proofs.Common.{ℕ, true, inl, List, Option, Some, None, Ok, Err, refl, ◌≡◌, Bool}
 use Rattle.iceoryx2_description.specs.declared.description.ServiceHash.{ServiceHash}
 use Rattle.iceoryx2_access.specs.Letter.{Letter}
 use Rattle.iceoryx2_access.specs.Letter as letter
@@ -16,9 +16,9 @@ use Rattle.iceoryx2_create_and_open.specs.GivesBack.{MadeByCall, OwnSegment}
 use Rattle.iceoryx2_create_and_open.specs.Fronts.{number_got, is_left}
 use Rattle.iceoryx2_open_or_create.specs.Leaves as rounds
 use Rattle.iceoryx2_open_or_create.specs.Leaves.{GivesBackByRounds}
-use Rattle.iceoryx2_call_laws.specs.Leaves.{IsGranted, LeavesByRounds, LeavesNothing, SpendsNumber, StaysAway, IsGone, no_round, one_more}
-use Rattle.iceoryx2_call_laws.proofs.calls.Left.{gives_back, gives_all_back, stays_away}
-use Rattle.iceoryx2_call_laws.proofs.calls.Plain.{read_both, row_stays_away}
+use Rattle.iceoryx2_call_laws.specs.Leaves.{IsGranted, LeavesByRounds, LeavesNothing, SpendsNumber, StaysAway, no_round, one_more}
+use Rattle.iceoryx2_call_laws.proofs.calls.Left.{gone_later, gives_back, gives_all_back, stays_away}
+use Rattle.iceoryx2_call_laws.proofs.calls.Plain.{read_both}
 
 -- a number that is spent stays so
 spent_run : {own : ℕ → Bool} {w v : World} {word : List Letter} (h : ServiceHash) (n : ℕ) → Run (IsFallibleUnder own) w word v → Agrees w → IsSpent w h n → IsSpent v h n
@@ -32,13 +32,9 @@ spends_on h run old _ is = tt
 
 module _ (own : ℕ → Bool) (node : ℕ) (mine : own node ≡ true) (hash : ServiceHash) where
   -- what was given back of a lock stays away
-  gone_on : (n : ℕ) (is_segment_left : Bool) {w v : World} {word : List Letter} → Run (IsFallibleUnder own) w word v → Agrees w → IsGone node hash n is_segment_left w → IsGone node hash n is_segment_left v
-  gone_on n false run old is = spent_run hash n run old is
-  gone_on n true {w} {v} run old is = let later = (run_keeps run old).1 in (grind (arith, later.counter, is.0), row_stays_away w v hash n later is.0 is.1)
-
   away_on : (got : Option ℕ) (left : MadeByCall → Bool) {w v : World} {word : List Letter} → Run (IsFallibleUnder own) w word v → Agrees w → StaysAway node hash got left w → StaysAway node hash got left v
   away_on None left run old is = tt
-  away_on (Some n) left run old is = λ e. gone_on n (left OwnSegment) run old (is e)
+  away_on (Some n) left run old is = λ e. gone_later node hash n (left OwnSegment) (run_keeps run old).1 (spent_run hash n run old) (is e)
 
   leaves_before : {word rest : List Letter} {w v end : World} → GivesBackByRounds node hash word → Run (IsFallibleUnder own) w word v → Run (IsFallibleUnder own) v rest end → Agrees w → LeavesByRounds node hash own w end word v
   leaves_before rounds.no_round done more old = no_round

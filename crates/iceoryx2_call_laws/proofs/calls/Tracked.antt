@@ -46,10 +46,9 @@ pub record IsIdle (l : Letter) : Type 0 where
 
 -- where the call has the lock
 abbrev pub has_lock : List MadeByCall → Bool
-has_lock [] = false
-has_lock (OwnTag ∷ owned) = false
 has_lock (OwnLock ∷ owned) = true
 has_lock (OwnSegment ∷ owned) = true
+has_lock _ = false
 
 pub no_lock : (tag : Tag) → has_lock (own_tag tag) ≡ false
 no_lock Made = refl
