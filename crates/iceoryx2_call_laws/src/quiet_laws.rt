@@ -27,7 +27,7 @@ ghost use Rattle.iceoryx2_call_laws.specs.OpensAgain.{CanOpen, IsOkOrOutOfMemory
 ghost use Rattle.iceoryx2_call_laws.specs.OpensAgain.{StandsAsAsked};
 ghost use Rattle.iceoryx2_call_laws.specs.Quiet.{Quiet, Shows, no_service, service_at};
 ghost use Rattle.iceoryx2_call_laws.specs.QuietPrepared.{OpensPrepared, CreatesAndCloses};
-ghost use Rattle.iceoryx2_call_laws.specs.QuietWays.{Answers, IsSteadyBy};
+ghost use Rattle.iceoryx2_call_laws.specs.QuietWays.{Answers};
 ghost use Rattle.iceoryx2_call_laws.specs.QuietLists.{listing};
 ghost use Rattle.iceoryx2_call_laws.specs.QuietLaws.{RunsQuietly, IsCall, IsClose, HasOpened, HasOpenedTimes};
 ghost use Rattle.iceoryx2_call_laws.specs.QuietLaws.{HasServiceOf, HoldsTheSame, HasNothingAt, SpendsOneNumber};
@@ -79,18 +79,18 @@ pub fn quiet_laws()
 
 /// What holds of the calls of each pattern over such a table.
 pub fn quiet_calls<D, E: Copy, C: Copy>()
-    // Every call of a steady builder over a world that shows the machine is the machine's, whichever it is. An open or
+    // Every lawful call over a world that shows the machine is the machine's, whichever it is. An open or
     // create is its create where there is no service, and else its open: its first round is its last, where the
     // refusals of that machine are not tried again. A call that prepares its types first may be out of memory there,
     // and then changes nothing.
     ensures call { (c : BuilderCall D E C) (w v : World) (q : Quiet) (word : List Letter)
         (answer : Result Registered (ErrorBy E C c.way))
-        → RunsQuietly w q word v → IsSteadyBy c c.way → IsWordOf c word answer
-        → IsCall w (Answers c q answer) answer v }
+        → RunsQuietly w q word v → IsLawfulCall c → IsWordOf c word answer
+        → IsCall w (Answers c c.way q answer) answer v }
 
     // A refused call changes no description, segment, tag or count.
     ensures refused { (c : BuilderCall D E C) (w v : World) (q p : Quiet) (refusal : ErrorBy E C c.way)
-        → Shows w q → Shows v p → Answers c q (Err refusal) p → HoldsTheSame w v }
+        → Shows w q → Shows v p → Answers c c.way q (Err refusal) p → HoldsTheSame w v }
 
     // What follows is said of calls that may prepare their types first; each call of the machine is one of these too.
     // A create and then the close of its factory leave nothing of that service and the rest as it

@@ -21,18 +21,21 @@ PreparedIf true no_memory IsWord = IsPrepared no_memory IsWord
 PreparedIf false no_memory IsWord = IsWord
 
 module _ {D E C : Type 0} (c : BuilderCall D E C) where
-  -- An open or create prepares its types once, before the first round. Out of memory there, it has an error of an open.
+  -- What it answers where its types found no memory. An open or create prepares them once, before the first round, and
+  -- has an error of an open there.
+  abbrev pub no_memory_by : (way : Way) → ErrorBy E C way
+  no_memory_by ToCreate = (creating c).create_refusal create_refusal.OutOfMemory
+  no_memory_by ToOpen = (opening c).open_refusal open_refusal.OutOfMemory
+  no_memory_by ToOpenOrCreate = refusal.Open ((opening c).open_refusal open_refusal.OutOfMemory)
+
   abbrev pub IsOpenOrCreateCall : List Letter → Result Registered (OpenOrCreateRefusal E C) → Type 0
-  IsOpenOrCreateCall = IsPrepared (refusal.Open ((opening c).open_refusal open_refusal.OutOfMemory))
-      (IsOpenOrCreateWord (rounds_of c))
+  IsOpenOrCreateCall = IsPrepared (no_memory_by ToOpenOrCreate) (IsOpenOrCreateWord (rounds_of c))
 
   abbrev pub IsWordBy : (way : Way) → List Letter → Result Registered (ErrorBy E C way) → Type 0
-  IsWordBy ToCreate = PreparedIf c.prepares ((creating c).create_refusal create_refusal.OutOfMemory)
-      (IsCreateWord (creating c) c.caller)
-  IsWordBy ToOpen = PreparedIf c.prepares ((opening c).open_refusal open_refusal.OutOfMemory)
-      (IsOpenWord (opening c) c.caller.node c.caller.hash)
-  IsWordBy ToOpenOrCreate = PreparedIf c.prepares (refusal.Open ((opening c).open_refusal open_refusal.OutOfMemory))
-      (IsOpenOrCreateWord (rounds_of c))
+  IsWordBy ToCreate = PreparedIf c.prepares (no_memory_by ToCreate) (IsCreateWord (creating c) c.caller)
+  IsWordBy ToOpen =
+      PreparedIf c.prepares (no_memory_by ToOpen) (IsOpenWord (opening c) c.caller.node c.caller.hash)
+  IsWordBy ToOpenOrCreate = PreparedIf c.prepares (no_memory_by ToOpenOrCreate) (IsOpenOrCreateWord (rounds_of c))
 
   abbrev pub IsWordOf : List Letter → Result Registered (ErrorBy E C c.way) → Type 0
   IsWordOf = IsWordBy c.way

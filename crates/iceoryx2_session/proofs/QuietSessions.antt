@@ -23,10 +23,11 @@ use Rattle.iceoryx2_session.specs.Sessions as goes
 use Rattle.iceoryx2_session.specs.StandingSlots.{SlotsStand, OwnsTickets}
 use Rattle.iceoryx2_session.specs.QuietSessions.{IsQuiet, AnswersCall, IsMoved, TellsNoChange, IsUnchanged}
 use Rattle.iceoryx2_session.specs.QuietSessions as moves
-use Rattle.iceoryx2_call_laws.specs.QuietWays.{Answers, IsSteadyBy}
+use Rattle.iceoryx2_open_or_create.specs.LawfulCalls.{IsLawfulCall}
+use Rattle.iceoryx2_call_laws.specs.QuietWays.{Answers}
 use Rattle.iceoryx2_call_laws.proofs.quiet.Ways.{call_follows, refused_call}
 use Rattle.iceoryx2_create_and_open.specs.Answers.{map_err}
-use Rattle.iceoryx2_session.proofs.Patterns.{call_is_steady}
+use Rattle.iceoryx2_session.proofs.Patterns.{call_is_lawful}
 
 -- what a builder call makes of the machine
 record IsBuilt (q : Quiet) (b : PatternCall) (w : World) (answer : Result Registered Refusal) (v : World) : Type 0 where
@@ -36,9 +37,9 @@ record IsBuilt (q : Quiet) (b : PatternCall) (w : World) (answer : Result Regist
   agrees : Agrees v
 
 built : (b : PatternCall) (answer : Result Registered Refusal) (s t : TableState) (q : Quiet)
-    → IsSteadyBy b.call b.call.way → Shows s.world q → Agrees s.world → s.waiting ≡ [] → Builds b s answer t → IsBuilt q b s.world answer t.world
-built b answer s t q steady shows agrees waiting is =
-    let c = call_follows b.call q steady shows agrees is.2.is_word (idle_run waiting is.2.run).0 in
+    → IsLawfulCall b.call → Shows s.world q → Agrees s.world → s.waiting ≡ [] → Builds b s answer t → IsBuilt q b s.world answer t.world
+built b answer s t q lawful shows agrees waiting is =
+    let c = call_follows b.call q b.call.way lawful shows agrees is.2.is_word (idle_run waiting is.2.run).0 in
     record { state = c.state; call = (is.0, is.1, c.call); shows = c.shows; agrees = c.agrees }
 
 -- ---- commands
@@ -56,10 +57,10 @@ pub moved : {s : SessionState} {c : Command} {a : Reply} {n : SessionState} (q :
 moved q old slots (goes.call_past le) = record { state = q; moves = moves.call_past le; quiet = old; configured = refl }
 moved q old slots (goes.call_taken t) = record { state = q; moves = moves.call_taken t; quiet = old; configured = refl }
 moved {s = s} q old slots (goes.called {call = call} f {t = t} free is) =
-    let c = built (builder_call s.config call) (Ok f) s.table t q (call_is_steady s.config call) old.shows old.agrees old.waiting is in
+    let c = built (builder_call s.config call) (Ok f) s.table t q (call_is_lawful s.config call) old.shows old.agrees old.waiting is in
     record { state = c.state; moves = moves.called f free c.call; quiet = quiet_after _ c.state c.shows c.agrees (none_waits (builder_call s.config call) (Ok f) s.table t old.waiting is); configured = refl }
 moved {s = s} q old slots (goes.refused {call = call} {e = e} {t = t} free is) =
-    let c = built (builder_call s.config call) (Err e) s.table t q (call_is_steady s.config call) old.shows old.agrees old.waiting is in
+    let c = built (builder_call s.config call) (Err e) s.table t q (call_is_lawful s.config call) old.shows old.agrees old.waiting is in
     record { state = c.state; moves = moves.refused free c.call; quiet = quiet_after _ c.state c.shows c.agrees (none_waits (builder_call s.config call) (Err e) s.table t old.waiting is); configured = refl }
 moved q old slots (goes.close_past le) = record { state = q; moves = moves.close_past le; quiet = old; configured = refl }
 moved q old slots (goes.close_empty free) = record { state = q; moves = moves.close_empty free; quiet = old; configured = refl }
@@ -84,7 +85,7 @@ refused_answer carry e (Err x) P is then = then x refl
 refusal_keeps : (b : PatternCall) (e : Refusal) (w v : World) (q p : Quiet)
     → Shows w q → Shows v p → AnswersCall q b (Err e) p → HoldsTheSame w v
 refusal_keeps b e w v q p s t is =
-    refused_answer b.refusal_of e is.0 (HoldsTheSame w v) is.1 (λ x same. refused_call b.call q x s t (subst (λ a. Answers b.call q a p) same is.2))
+    refused_answer b.refusal_of e is.0 (HoldsTheSame w v) is.1 (λ x same. refused_call b.call q x s t (subst (λ a. Answers b.call b.call.way q a p) same is.2))
 
 pub itself : (s : SessionState) → IsUnchanged s s
 itself s = record { slots = refl; services = record { rows = λ h. refl; segments = λ h. refl; tags = λ i h. refl; counts = λ i h. refl } }
@@ -96,7 +97,7 @@ unchanged_by {s = s} q old (goes.call_taken t) still = itself s
 unchanged_by q old (goes.called f free is) still = absurd still
 unchanged_by {s = s} q old (goes.refused {call = call} {e = e} {t = t} free is) still =
     let b = builder_call s.config call in
-    let c = built b (Err e) s.table t q (call_is_steady s.config call) old.shows old.agrees old.waiting is in
+    let c = built b (Err e) s.table t q (call_is_lawful s.config call) old.shows old.agrees old.waiting is in
     record { slots = refl; services = refusal_keeps b e s.table.world t.world q c.state old.shows c.shows c.call }
 unchanged_by {s = s} q old (goes.close_past le) still = itself s
 unchanged_by {s = s} q old (goes.close_empty free) still = itself s

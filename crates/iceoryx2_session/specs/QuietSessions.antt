@@ -40,7 +40,7 @@ pub record IsQuiet (s : SessionState) (q : Quiet) : Type 0 where
 abbrev pub AnswersCall : Quiet → PatternCall → Result Registered Refusal → Quiet → Type 0
 AnswersCall q b answer p =
     (own : Result Registered (ErrorBy b.open_error b.create_error b.call.way))
-    × (answer ≡ map_err b.refusal_of own) × Answers b.call q own p
+    × (answer ≡ map_err b.refusal_of own) × Answers b.call b.call.way q own p
 
 -- A command with its reply moves the machine and the slots.
 pub data Moves (config : Config) (q : Quiet) (slots : List (Option Registered))

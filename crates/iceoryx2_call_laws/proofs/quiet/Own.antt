@@ -21,7 +21,7 @@ use Rattle.iceoryx2_call_laws.specs.QuietPrepared.{PreparesFirstIf, prepared}
 use Rattle.iceoryx2_call_laws.proofs.quiet.After.{accepted}
 use Rattle.iceoryx2_call_laws.proofs.quiet.Prepared.{each_prepared}
 use Rattle.iceoryx2_call_laws.proofs.quiet.Tickets.{service_of}
-use Rattle.iceoryx2_call_laws.proofs.quiet.Ways.{call_follows}
+use Rattle.iceoryx2_call_laws.proofs.quiet.Ways.{opening_follows}
 
 module _ {D E C : Type 0} (c : BuilderCall D E C) (own : AcceptsOwn (creating c) (c.meaning c.asked) c.caller) (raises : OnlyRaises c.meaning c.adjusted) where
   -- what it publishes it accepts,
@@ -83,7 +83,7 @@ module _ {D E C : Type 0} (c : BuilderCall D E C) (lawful : IsLawfulCall c) wher
   pub opens_again : OpensAgain c
   opens_again required node f q w v word answer is met shows old room is_word run =
       let other = opening_again c node required in
-      let made = call_follows other q tt shows old is_word run in
+      let made = opening_follows other q shows old is_word run in
       opens_own_prepared c lawful.accepts_own lawful.only_raises required node q made.state f w answer is shows met room
       (may_prepare other.prepares made.call)
 

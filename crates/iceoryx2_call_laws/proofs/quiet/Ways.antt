@@ -22,10 +22,11 @@ use Rattle.iceoryx2_open_or_create.specs.declared.open_or_create.OpenOrCreateRef
 use Rattle.iceoryx2_open_or_create.specs.declared.open_or_create.OpenOrCreateRefusal.TheVariants as refusal
 use Rattle.iceoryx2_open_or_create.specs.OpenOrCreates.{IsMaking, IsOpening, IsRetriedTurn, open_retried, create_retried, IsLastTurn, look_faulty, not_opened, opened, not_created, created, AreRetriedTurns, no_turn, one_more, IsOpenOrCreateWord, ended, in_flux}
 use Rattle.iceoryx2_open_or_create.specs.BuilderCalls.{BuilderCall, Way, ToCreate, ToOpen, ToOpenOrCreate, ErrorBy, creating, opening, asking, rounds_of}
-use Rattle.iceoryx2_open_or_create.specs.CallWords.{PreparedIf, IsWordBy, IsWordOf}
+use Rattle.iceoryx2_open_or_create.specs.LawfulCalls.{IsLawfulCall}
+use Rattle.iceoryx2_open_or_create.specs.CallWords.{PreparedIf, IsWordBy}
 use Rattle.iceoryx2_call_laws.specs.Quiet.{QuietService, Quiet, Shows, service_at}
 use Rattle.iceoryx2_call_laws.specs.QuietWays as attempt
-use Rattle.iceoryx2_call_laws.specs.QuietWays.{OpensOrCreates, AnswersBy, Answers, IsSteady, IsSteadyBy}
+use Rattle.iceoryx2_call_laws.specs.QuietWays.{OpensOrCreates, Answers}
 use Rattle.iceoryx2_call_laws.specs.QuietPrepared.{PreparesFirstIf}
 use Rattle.iceoryx2_call_laws.specs.QuietCalls.{Creates, Opens}
 use Rattle.iceoryx2_call_laws.specs.QuietCalls as call
@@ -36,34 +37,34 @@ use Rattle.iceoryx2_call_laws.proofs.quiet.Prepared.{prepared_follows, refused_p
 use Rattle.iceoryx2_call_laws.proofs.quiet.Same.{holds_the_same}
 use Rattle.iceoryx2_call_laws.proofs.quiet.Looked.{after_rest, rest_shows, look_rests_absent, look_rests_there, never_nothing}
 
-module _ {D E C : Type 0} (a : BuilderCall D E C) (steady : IsSteady a) (q : Quiet) where
+module _ {D E C : Type 0} (a : BuilderCall D E C) (lawful : IsLawfulCall a) (q : Quiet) where
   abbrev IsIt : World → Result Registered (OpenOrCreateRefusal E C) → World → Type 0
   IsIt w answer v = IsCall w (OpensOrCreates a q answer) answer v
 
   -- ---- no refusal of the machine is tried again
 
   create_ends : {answer : Result Registered C} {p : Quiet} (error : C) → answer ≡ Err error → service_at q a.caller.hash ≡ None → Creates (creating a) q a.caller answer p → a.retried.of_create error ≡ false
-  create_ends error e gone (call.forbidden {error = f} bad) = let is : f ≡ error = cc in ap a.retried.of_create (sym is) ∙ steady.ends_at_once.forbidden f bad
+  create_ends error e gone (call.forbidden {error = f} bad) = let is : f ≡ error = cc in ap a.retried.of_create (sym is) ∙ lawful.ends_at_once.forbidden f bad
   create_ends error e gone (call.exists x fits there) = absurd (cc)
-  create_ends error e gone (call.no_time fits _ stops) = let is : (creating a).create_refusal _ ≡ error = cc in ap a.retried.of_create (sym is) ∙ steady.ends_at_once.not_created
-  create_ends error e gone (call.no_number fits _ runs end) = let is : (creating a).create_refusal _ ≡ error = cc in ap a.retried.of_create (sym is) ∙ steady.ends_at_once.not_created
+  create_ends error e gone (call.no_time fits _ stops) = let is : (creating a).create_refusal _ ≡ error = cc in ap a.retried.of_create (sym is) ∙ lawful.ends_at_once.not_created
+  create_ends error e gone (call.no_number fits _ runs end) = let is : (creating a).create_refusal _ ≡ error = cc in ap a.retried.of_create (sym is) ∙ lawful.ends_at_once.not_created
   create_ends error e gone (call.created fits _ runs room) = absurd (cc)
-  create_ends error e gone (call.no_memory fits) = let is : (creating a).create_refusal _ ≡ error = cc in ap a.retried.of_create (sym is) ∙ steady.ends_at_once.created_without_memory
-  create_ends error e gone (call.no_memory_locked fits _ runs room) = let is : (creating a).create_refusal _ ≡ error = cc in ap a.retried.of_create (sym is) ∙ steady.ends_at_once.created_without_memory
+  create_ends error e gone (call.no_memory fits) = let is : (creating a).create_refusal _ ≡ error = cc in ap a.retried.of_create (sym is) ∙ lawful.ends_at_once.created_without_memory
+  create_ends error e gone (call.no_memory_locked fits _ runs room) = let is : (creating a).create_refusal _ ≡ error = cc in ap a.retried.of_create (sym is) ∙ lawful.ends_at_once.created_without_memory
 
   open_ends : {answer : Result Registered E} {p : Quiet} (x : QuietService) (error : E) → answer ≡ Err error → service_at q a.caller.hash ≡ Some x → (a.meaning a.asked).misfit x.description ≡ None → Opens (opening a) q a.caller.node a.caller.hash answer p → a.retried.of_open error ≡ false
   open_ends x error e there fits (call.absent gone) = absurd (cc)
   open_ends x error e there fits (call.misfit y at bad) = let is : y ≡ x = cc in let none = ap (λ (z : QuietService). (a.meaning a.asked).misfit z.description) is ∙ fits in absurd (cc)
-  open_ends x error e there fits (call.not_accepted {error = f} y at good unfit) = let is : f ≡ error = cc in ap a.retried.of_open (sym is) ∙ steady.ends_at_once.not_accepted y.description f unfit
-  open_ends x error e there fits (call.no_place y at good met none) = let is : (opening a).open_refusal _ ≡ error = cc in ap a.retried.of_open (sym is) ∙ steady.ends_at_once.no_place
-  open_ends x error e there fits (call.no_number y at good met place end) = let is : (opening a).open_refusal _ ≡ error = cc in ap a.retried.of_open (sym is) ∙ steady.ends_at_once.not_opened
+  open_ends x error e there fits (call.not_accepted {error = f} y at good unfit) = let is : f ≡ error = cc in ap a.retried.of_open (sym is) ∙ lawful.ends_at_once.not_accepted y.description f unfit
+  open_ends x error e there fits (call.no_place y at good met none) = let is : (opening a).open_refusal _ ≡ error = cc in ap a.retried.of_open (sym is) ∙ lawful.ends_at_once.no_place
+  open_ends x error e there fits (call.no_number y at good met place end) = let is : (opening a).open_refusal _ ≡ error = cc in ap a.retried.of_open (sym is) ∙ lawful.ends_at_once.not_opened
   open_ends x error e there fits (call.opened y at good met place room) = absurd (cc)
-  open_ends x error e there fits (call.no_memory y at) = let is : (opening a).open_refusal _ ≡ error = cc in ap a.retried.of_open (sym is) ∙ steady.ends_at_once.opened_without_memory
+  open_ends x error e there fits (call.no_memory y at) = let is : (opening a).open_refusal _ ≡ error = cc in ap a.retried.of_open (sym is) ∙ lawful.ends_at_once.opened_without_memory
 
   -- ---- the part after the look of a round
 
   made_after : {word : List Letter} {w v : World} (answer : Result Registered C) → Shows w q → Agrees w → IsMaking a word answer → Run IsOwnPart w word v → IsCall w (Creates (creating a) q a.caller answer) answer v
-  made_after {word} {w} {v} answer s old is run = create_follows (creating a) a.caller.node a.caller.hash a.caller.name a.caller.clock w v q word answer (steady.takes_nodes (time_of a.caller.clock)) s old is run
+  made_after {word} {w} {v} answer s old is run = create_follows (creating a) a.caller.node a.caller.hash a.caller.name a.caller.clock w v q word answer (lawful.takes_nodes (time_of a.caller.clock)) s old is run
 
   opened_after : {word : List Letter} {w v : World} (answer : Result Registered E) → Shows w q → Agrees w → IsOpening a word answer → Run IsOwnPart w word v → IsCall w (Opens (opening a) q a.caller.node a.caller.hash answer) answer v
   opened_after {word} {w} {v} answer s old is run = open_follows (opening a) a.caller.node a.caller.hash w v q word answer s old is run
@@ -186,25 +187,26 @@ module _ {E : Type 0} (no_memory : E) (q : Quiet) (Calls : Result Registered E �
   refused_if true p error each c = refused_prepared (λ p. p.services ≡ q.services) refl each c
   refused_if false p error each c = each error p c
 
-steady_prepared : {D E C : Type 0} (a : BuilderCall D E C) → IsSteady a → IsSteady (rounds_of a)
-steady_prepared a s = record { takes_nodes = s.takes_nodes; ends_at_once = s.ends_at_once }
+lawful_prepared : {D E C : Type 0} (a : BuilderCall D E C) → IsLawfulCall a → IsLawfulCall (rounds_of a)
+lawful_prepared a l = record { takes_nodes = l.takes_nodes; only_raises = l.only_raises; accepts_own = l.accepts_own; ends_at_once = l.ends_at_once }
 
 -- Every call is the machine's, and a refused one keeps its services.
 module _ {D E C : Type 0} (a : BuilderCall D E C) (q : Quiet) where
-  follows_by : (way : Way) {word : List Letter} {answer : Result Registered (ErrorBy E C way)} {w v : World} → IsSteadyBy a way → Shows w q → Agrees w → IsWordBy a way word answer → Run IsOwnPart w word v → IsCall w (AnswersBy a way q answer) answer v
-  follows_by ToCreate {w = w} {v = v} steady s old = prepared_if _ q _ a.prepares _ s old
-      (λ word answer is run. create_follows (creating a) a.caller.node a.caller.hash a.caller.name a.caller.clock w v q word answer steady s old is run)
-  follows_by ToOpen {w = w} {v = v} steady s old = prepared_if _ q _ a.prepares _ s old
+  -- an open without what is asked of the other two
+  pub opening_follows : {word : List Letter} {answer : Result Registered E} {w v : World} → Shows w q → Agrees w → IsWordBy a ToOpen word answer → Run IsOwnPart w word v → IsCall w (Answers a ToOpen q answer) answer v
+  opening_follows {w = w} {v = v} s old = prepared_if _ q _ a.prepares _ s old
       (λ word answer is run. open_follows (opening a) a.caller.node a.caller.hash w v q word answer s old is run)
-  follows_by ToOpenOrCreate steady s old = prepared_if _ q _ a.prepares _ s old (λ word answer is run. attempt_follows (rounds_of a) (steady_prepared a steady) q s old is run)
 
-  pub call_follows : {word : List Letter} {answer : Result Registered (ErrorBy E C a.way)} {w v : World} → IsSteadyBy a a.way → Shows w q → Agrees w → IsWordOf a word answer → Run IsOwnPart w word v → IsCall w (Answers a q answer) answer v
-  call_follows steady s old is run = follows_by a.way steady s old is run
+  pub call_follows : (way : Way) {word : List Letter} {answer : Result Registered (ErrorBy E C way)} {w v : World} → IsLawfulCall a → Shows w q → Agrees w → IsWordBy a way word answer → Run IsOwnPart w word v → IsCall w (Answers a way q answer) answer v
+  call_follows ToCreate {w = w} {v = v} lawful s old = prepared_if _ q _ a.prepares _ s old
+      (λ word answer is run. create_follows (creating a) a.caller.node a.caller.hash a.caller.name a.caller.clock w v q word answer (lawful.takes_nodes (time_of a.caller.clock)) s old is run)
+  call_follows ToOpen lawful s old = opening_follows s old
+  call_follows ToOpenOrCreate lawful s old = prepared_if _ q _ a.prepares _ s old (λ word answer is run. attempt_follows (rounds_of a) (lawful_prepared a lawful) q s old is run)
 
-  services_by : (way : Way) (p : Quiet) (error : ErrorBy E C way) → AnswersBy a way q (Err error) p → p.services ≡ q.services
+  services_by : (way : Way) (p : Quiet) (error : ErrorBy E C way) → Answers a way q (Err error) p → p.services ≡ q.services
   services_by ToCreate p error c = refused_if _ q _ a.prepares p error (λ e p is. create_refused (creating a) a.caller.node a.caller.hash a.caller.name a.caller.clock q p e is) c
   services_by ToOpen p error c = refused_if _ q _ a.prepares p error (λ e p is. open_refused (opening a) a.caller.node a.caller.hash q p e is) c
   services_by ToOpenOrCreate p error c = refused_if _ q _ a.prepares p error (λ e p is. keeps_services (rounds_of a) q e refl is) c
 
-  pub refused_call : {w v : World} {p : Quiet} (error : ErrorBy E C a.way) → Shows w q → Shows v p → Answers a q (Err error) p → HoldsTheSame w v
+  pub refused_call : {w v : World} {p : Quiet} (error : ErrorBy E C a.way) → Shows w q → Shows v p → Answers a a.way q (Err error) p → HoldsTheSame w v
   refused_call {w} {v} {p} error s t c = holds_the_same w v q p s t (services_by a.way p error c)

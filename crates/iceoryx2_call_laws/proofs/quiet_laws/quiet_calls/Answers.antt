@@ -7,7 +7,7 @@ use Rattle.iceoryx2_call_laws.proofs.quiet.Own.{opens_own_prepared, opens_again,
 use Rattle.iceoryx2_call_laws.proofs.quiet_laws.quiet_calls.Goals as goal
 
 pub returns-clause-call : goal.returns-clause-call
-returns-clause-call g c = λ call w v q word answer quiet steady is. call_follows call q steady quiet.shows quiet.agrees is quiet.run
+returns-clause-call g c = λ call w v q word answer quiet lawful is. call_follows call q call.way lawful quiet.shows quiet.agrees is quiet.run
 
 pub returns-clause-refused : goal.returns-clause-refused
 returns-clause-refused g c = λ call w v q p refusal s t answers. refused_call call q refusal s t answers
