@@ -1,5 +1,6 @@
 -- Each call of a builder is one of which the laws over whole calls speak.
 use Rattle.std.proofs.Common.{ℕ, List, Result}
+use Rattle.iceoryx2_attribute.specs.Attributes.{Pair}
 use Rattle.iceoryx2_attribute.specs.Requirements.{Requirements, no_requirements}
 use Rattle.iceoryx2_types.specs.Types.{Message}
 use Rattle.iceoryx2_description.specs.declared.description.ServiceHash.{ServiceHash}
@@ -14,40 +15,40 @@ use Rattle.iceoryx2_event_builder.proofs.Builders.{event_builder, event_ends_at_
 use Rattle.iceoryx2_publish_subscribe_builder.specs.Builder.{PublishSubscribeBuilderState}
 use Rattle.iceoryx2_publish_subscribe_builder.specs.PublishSubscribeCalls.{publish_subscribe_call}
 use Rattle.iceoryx2_publish_subscribe_builder.proofs.Builders.{publish_subscribe_builder, publish_subscribe_ends_at_once}
-use Rattle.iceoryx2_request_response_builder.specs.Builder.{RequestResponseBuilderState, Messages, asked_with}
+use Rattle.iceoryx2_request_response_builder.specs.Builder.{RequestResponseBuilderState, Messages}
 use Rattle.iceoryx2_request_response_builder.specs.RequestResponseCalls.{request_response_call}
 use Rattle.iceoryx2_request_response_builder.proofs.Builders.{request_response_builder, request_response_ends_at_once}
 use Rattle.iceoryx2_builder.proofs.Adjusting.{events_only_raise, publish_subscribe_only_raises, request_response_only_raises}
 
-module _ (hash_of : ℕ → List ℕ → ServiceHash) (way : Way) (required : Requirements) where
-  pub event_call_is_lawful : (b : EventBuilderState) (now : Result Span ClockFault) → IsLawfulCall (event_call hash_of b way required now)
-  event_call_is_lawful b now =
-      let c = event_call hash_of b way required now in
-      let builder = event_builder b.demand in record {
-        takes_nodes = builder.takes_nodes required.pairs;
-        only_raises = events_only_raise;
-        ends_at_once = event_ends_at_once b.demand required;
-        accepts_own = own_without_attributes (creating c) (c.meaning c.asked) c.caller (builder.accepts_own required.pairs no_requirements c.caller (none_required required.pairs));
-      }
+pub event_call_is_lawful : (hash_of : ℕ → List ℕ → ServiceHash) (b : EventBuilderState) (way : Way) (defined : List Pair) (required : Requirements) (now : Result Span ClockFault)
+    → IsLawfulCall (event_call hash_of b way defined required now)
+event_call_is_lawful hash_of b way defined required now =
+    let c = event_call hash_of b way defined required now in
+    let builder = event_builder b.demand in record {
+      takes_nodes = builder.takes_nodes defined;
+      only_raises = events_only_raise;
+      ends_at_once = event_ends_at_once b.demand defined required;
+      accepts_own = own_without_attributes (creating c) (c.meaning c.asked) c.caller (builder.accepts_own defined no_requirements c.caller (none_required defined));
+    }
 
-  pub publish_subscribe_call_is_lawful : (b : PublishSubscribeBuilderState) (message : Message)
-      → IsLawfulCall (publish_subscribe_call hash_of b message way required)
-  publish_subscribe_call_is_lawful b message =
-      let c = publish_subscribe_call hash_of b message way required in
-      let builder = publish_subscribe_builder b.demand message in record {
-        takes_nodes = builder.takes_nodes required.pairs;
-        only_raises = publish_subscribe_only_raises;
-        ends_at_once = publish_subscribe_ends_at_once (record { demand = b.demand; message = message }) required;
-        accepts_own = own_without_attributes (creating c) (c.meaning c.asked) c.caller (builder.accepts_own required.pairs no_requirements c.caller (none_required required.pairs));
-      }
+pub publish_subscribe_call_is_lawful : (hash_of : ℕ → List ℕ → ServiceHash) (b : PublishSubscribeBuilderState) (message : Message) (way : Way) (defined : List Pair) (required : Requirements)
+    → IsLawfulCall (publish_subscribe_call hash_of b message way defined required)
+publish_subscribe_call_is_lawful hash_of b message way defined required =
+    let c = publish_subscribe_call hash_of b message way defined required in
+    let builder = publish_subscribe_builder b.demand message in record {
+      takes_nodes = builder.takes_nodes defined;
+      only_raises = publish_subscribe_only_raises;
+      ends_at_once = publish_subscribe_ends_at_once b.demand message defined required;
+      accepts_own = own_without_attributes (creating c) (c.meaning c.asked) c.caller (builder.accepts_own defined no_requirements c.caller (none_required defined));
+    }
 
-  pub request_response_call_is_lawful : (b : RequestResponseBuilderState) (messages : Messages)
-      → IsLawfulCall (request_response_call hash_of b messages way required)
-  request_response_call_is_lawful b messages =
-      let c = request_response_call hash_of b messages way required in
-      let builder = request_response_builder b.demand messages.request messages.response in record {
-        takes_nodes = builder.takes_nodes required.pairs;
-        only_raises = request_response_only_raises;
-        ends_at_once = request_response_ends_at_once (asked_with b.demand messages) required;
-        accepts_own = own_without_attributes (creating c) (c.meaning c.asked) c.caller (builder.accepts_own required.pairs no_requirements c.caller (none_required required.pairs));
-      }
+pub request_response_call_is_lawful : (hash_of : ℕ → List ℕ → ServiceHash) (b : RequestResponseBuilderState) (messages : Messages) (way : Way) (defined : List Pair) (required : Requirements)
+    → IsLawfulCall (request_response_call hash_of b messages way defined required)
+request_response_call_is_lawful hash_of b messages way defined required =
+    let c = request_response_call hash_of b messages way defined required in
+    let builder = request_response_builder b.demand messages.request messages.response in record {
+      takes_nodes = builder.takes_nodes defined;
+      only_raises = request_response_only_raises;
+      ends_at_once = request_response_ends_at_once b.demand messages.request messages.response defined required;
+      accepts_own = own_without_attributes (creating c) (c.meaning c.asked) c.caller (builder.accepts_own defined no_requirements c.caller (none_required defined));
+    }

@@ -1,6 +1,7 @@
 //! Nodes, and where their builders begin.
 
 ghost use Rattle.std.specs.Prelude.{◌≡◌, ℕ, List, Result};
+ghost use Rattle.iceoryx2_attribute.specs.Attributes.{Pair};
 ghost use Rattle.iceoryx2_attribute.specs.Requirements.{Requirements};
 ghost use Rattle.iceoryx2_builder.specs.Setters.{AreSetters, event_place, publish_subscribe_place, request_response_place};
 ghost use Rattle.iceoryx2_builder.specs.Weaker.{AreSomeOf};
@@ -10,7 +11,6 @@ ghost use Rattle.iceoryx2_open_or_create.specs.Adjusting.{Accepts, OnlyRaises};
 ghost use Rattle.iceoryx2_open_or_create.specs.BuilderCalls.{Way};
 ghost use Rattle.iceoryx2_open_or_create.specs.EndsAtOnce.{EndsAtOnce};
 ghost use Rattle.iceoryx2_open_or_create.specs.LawfulCalls.{IsLawfulCall};
-ghost use Rattle.iceoryx2_pattern.specs.OwnAttributes.{defining, requiring};
 ghost use Rattle.iceoryx2_description.specs.Description.{Description};
 ghost use Rattle.iceoryx2_description.specs.Span.{Span};
 ghost use Rattle.iceoryx2_description.specs.declared.description.ServiceHash.{ServiceHash};
@@ -236,16 +236,15 @@ pub fn laws_of_calls()
         → IsLawfulBuilder (publish_subscribe_creating demand message) (publish_subscribe_opening demand message) }
     ensures request_response { (demand : RequestResponseDemand) (request response : Message) → IsLawfulBuilder
         (request_response_creating demand request response) (request_response_opening demand request response) }
-    ensures events_end_at_once { (demand : EventDemand) (required : Requirements)
-        → EndsAtOnce event_retried (event_creating demand required.pairs) (event_opening demand required) }
-    ensures publish_subscribe_ends_at_once { (asked : PreparedPublishSubscribe) (required : Requirements)
-        → EndsAtOnce publish_subscribe_retried
-        (defining required.pairs (publish_subscribe_meaning (publish_subscribe_adjusted asked)))
-        (requiring required (publish_subscribe_meaning asked)) }
-    ensures request_response_ends_at_once { (asked : PreparedRequestResponse) (required : Requirements)
-        → EndsAtOnce request_response_retried
-        (defining required.pairs (request_response_meaning (request_response_adjusted asked)))
-        (requiring required (request_response_meaning asked)) }
+    ensures events_end_at_once { (demand : EventDemand) (defined : List Pair) (required : Requirements)
+        → EndsAtOnce event_retried (event_creating demand defined) (event_opening demand required) }
+    ensures publish_subscribe_ends_at_once { (demand : PublishSubscribeDemand) (message : Message)
+        (defined : List Pair) (required : Requirements) → EndsAtOnce publish_subscribe_retried
+        (publish_subscribe_creating demand message defined) (publish_subscribe_opening demand message required) }
+    ensures request_response_ends_at_once { (demand : RequestResponseDemand) (request response : Message)
+        (defined : List Pair) (required : Requirements) → EndsAtOnce request_response_retried
+        (request_response_creating demand request response defined)
+        (request_response_opening demand request response required) }
 {
     event::opens_what_it_creates();
     publish_subscribe::opens_what_it_creates();
@@ -278,14 +277,14 @@ pub fn laws_of_adjusting()
 /// else uses refuses is not tried again.
 pub fn lawful_calls()
     ensures events { (hash_of : ℕ → List ℕ → ServiceHash) (b : EventBuilderState) (way : Way)
-        (required : Requirements) (now : Result Span ClockFault)
-        → IsLawfulCall (event_call hash_of b way required now) }
+        (defined : List Pair) (required : Requirements) (now : Result Span ClockFault)
+        → IsLawfulCall (event_call hash_of b way defined required now) }
     ensures publish_subscribe { (hash_of : ℕ → List ℕ → ServiceHash) (b : PublishSubscribeBuilderState)
-        (message : Message) (way : Way) (required : Requirements)
-        → IsLawfulCall (publish_subscribe_call hash_of b message way required) }
+        (message : Message) (way : Way) (defined : List Pair) (required : Requirements)
+        → IsLawfulCall (publish_subscribe_call hash_of b message way defined required) }
     ensures request_response { (hash_of : ℕ → List ℕ → ServiceHash) (b : RequestResponseBuilderState)
-        (messages : Messages) (way : Way) (required : Requirements)
-        → IsLawfulCall (request_response_call hash_of b messages way required) }
+        (messages : Messages) (way : Way) (defined : List Pair) (required : Requirements)
+        → IsLawfulCall (request_response_call hash_of b messages way defined required) }
 {}
 
 /// What a call answers whose look finds something wrong.

@@ -1,6 +1,7 @@
 -- A builder of events is a builder like each other one.
-use Rattle.std.proofs.Common.{◌≡◌, false, refl}
+use Rattle.std.proofs.Common.{◌≡◌, false, List, refl}
 use Rattle.std.specs.Prelude.{map}
+use Rattle.iceoryx2_attribute.specs.Attributes.{Pair}
 use Rattle.iceoryx2_attribute.specs.Requirements.{Requirements}
 use Rattle.iceoryx2_description.specs.Description.{Description}
 use Rattle.iceoryx2_description.specs.declared.description.MessagingPattern.{MessagingPattern}
@@ -41,8 +42,8 @@ requirement_ends demand required d =
     both_err Ends (attribute_clauses opening.IncompatibleAttributes required d.attributes) (setting_clauses demand d.pattern)
     (attributes_err Ends opening.IncompatibleAttributes required d.attributes refl) (settings_end demand d.pattern)
 
-pub event_ends_at_once : (demand : EventDemand) (required : Requirements) → EndsAtOnce event_retried (event_creating demand required.pairs) (event_opening demand required)
-event_ends_at_once demand required = record {
+pub event_ends_at_once : (demand : EventDemand) (defined : List Pair) (required : Requirements) → EndsAtOnce event_retried (event_creating demand defined) (event_opening demand required)
+event_ends_at_once demand defined required = record {
   not_accepted = λ d error e. unmet_ends Ends ((event_opening demand required).requirement d) error (requirement_ends demand required d) e;
   no_place = refl;
   not_opened = refl;

@@ -1,5 +1,6 @@
 -- What a call of a builder of events is.
 use Rattle.std.specs.Prelude.{ℕ, List, Result, false}
+use Rattle.iceoryx2_attribute.specs.Attributes.{Pair}
 use Rattle.iceoryx2_attribute.specs.Requirements.{Requirements}
 use Rattle.iceoryx2_description.specs.declared.description.ServiceHash.{ServiceHash}
 use Rattle.iceoryx2_description.specs.declared.time.ClockFault.{ClockFault}
@@ -13,15 +14,16 @@ use Rattle.iceoryx2_event_builder.specs.Event.{event_adjusted, event_meaning, ev
 use Rattle.iceoryx2_event_builder.specs.Builder.{EventBuilderState, prefix_of_events}
 
 -- Its hash is made by this hasher; a create defines the pairs, and an open requires pairs and keys.
-abbrev pub event_call : (hash_of : ℕ → List ℕ → ServiceHash) → EventBuilderState → Way → Requirements
+abbrev pub event_call : (hash_of : ℕ → List ℕ → ServiceHash) → EventBuilderState → Way → List Pair → Requirements
     → Result Span ClockFault → BuilderCall EventDemand EventOpenError EventCreateError
-event_call hash_of b way required now = record {
+event_call hash_of b way defined required now = record {
   way = way;
   caller = caller_of hash_of prefix_of_events (record { node = b.node; name = b.name }) now;
   meaning = event_meaning;
   adjusted = event_adjusted;
   retried = event_retried;
   asked = b.demand;
+  defined = defined;
   required = required;
   prepares = false;
 }

@@ -1,10 +1,11 @@
 //! The builder of services of events.
 
-ghost use Rattle.std.specs.Prelude.{◌≡◌, Ok, Some, None};
+ghost use Rattle.std.specs.Prelude.{◌≡◌, List, [], Ok, Some, None};
+ghost use Rattle.iceoryx2_attribute.specs.Attributes.{Pair};
 ghost use Rattle.iceoryx2_attribute.specs.Requirements.{Requirements, no_requirements};
 ghost use Rattle.iceoryx2_description.specs.Span.{zero_span};
 ghost use Rattle.iceoryx2_create_and_open.specs.Answers.{map_err};
-ghost use Rattle.iceoryx2_open_or_create.specs.BuilderCalls.{ToCreate, ToOpen, ToOpenOrCreate, defines};
+ghost use Rattle.iceoryx2_open_or_create.specs.BuilderCalls.{ToCreate, ToOpen, ToOpenOrCreate};
 ghost use Rattle.iceoryx2_open_or_create.specs.CallWords.{Calls};
 ghost use Rattle.iceoryx2_open_or_create.specs.EndsAtOnce.{EndsAtOnce};
 ghost use Rattle.iceoryx2_builder_common.specs.Builders.{IsLawfulBuilder};
@@ -52,8 +53,8 @@ pub fn opens_what_it_creates()
 
 /// What a table that nobody else uses refuses is not tried again by an open or create.
 pub fn ends_at_once()
-    ensures { (demand : EventDemand) (required : Requirements) → EndsAtOnce event_retried
-        (event_creating demand required.pairs) (event_opening demand required) }
+    ensures { (demand : EventDemand) (defined : List Pair) (required : Requirements) → EndsAtOnce event_retried
+        (event_creating demand defined) (event_opening demand required) }
 {}
 
 /// A builder of a service of events.
@@ -206,7 +207,7 @@ impl<S: Service> Builder<S> {
         storage: &mut S::Storage,
         now: Result<Time, ClockFault>,
     ) -> Result<PortFactory<S>, EventCreateError>
-        ensures { Calls S.Storage.step (event_call S.ServiceNameHasher.hash_of self ToCreate no_requirements now)
+        ensures { Calls S.Storage.step (event_call S.ServiceNameHasher.hash_of self ToCreate [] no_requirements now)
             storage.old result storage.new }
     {
         let specifier = AttributeSpecifier::new(self.base.name().allocator());
@@ -231,7 +232,7 @@ impl<S: Service> Builder<S> {
         now: Result<Time, ClockFault>,
     ) -> Result<PortFactory<S>, EventCreateError>
         ensures { Calls S.Storage.step
-            (event_call S.ServiceNameHasher.hash_of self ToCreate (defines specifier.now) now)
+            (event_call S.ServiceNameHasher.hash_of self ToCreate specifier.now no_requirements now)
             storage.old result storage.new }
     {
         let Builder { base, mut demand } = self;
@@ -243,7 +244,7 @@ impl<S: Service> Builder<S> {
     /// requires none.
     pub fn open(self, storage: &mut S::Storage) -> Result<PortFactory<S>, EventOpenError>
         ensures { Calls S.Storage.step
-            (event_call S.ServiceNameHasher.hash_of self ToOpen no_requirements (Ok zero_span))
+            (event_call S.ServiceNameHasher.hash_of self ToOpen [] no_requirements (Ok zero_span))
             storage.old result storage.new }
     {
         let verifier = AttributeVerifier::new(self.base.name().allocator());
@@ -267,7 +268,8 @@ impl<S: Service> Builder<S> {
         verifier: &AttributeVerifier,
         storage: &mut S::Storage,
     ) -> Result<PortFactory<S>, EventOpenError>
-        ensures { Calls S.Storage.step (event_call S.ServiceNameHasher.hash_of self ToOpen verifier.now (Ok zero_span))
+        ensures { Calls S.Storage.step
+            (event_call S.ServiceNameHasher.hash_of self ToOpen [] verifier.now (Ok zero_span))
             storage.old result storage.new }
     {
         let Builder { base, demand } = self;
@@ -282,7 +284,8 @@ impl<S: Service> Builder<S> {
         storage: &mut S::Storage,
         now: Result<Time, ClockFault>,
     ) -> Result<PortFactory<S>, EventOpenOrCreateError>
-        ensures { Calls S.Storage.step (event_call S.ServiceNameHasher.hash_of self ToOpenOrCreate no_requirements now)
+        ensures { Calls S.Storage.step
+            (event_call S.ServiceNameHasher.hash_of self ToOpenOrCreate [] no_requirements now)
             storage.old (map_err event_refusal result) storage.new }
     {
         let verifier = AttributeVerifier::new(self.base.name().allocator());
@@ -304,7 +307,8 @@ impl<S: Service> Builder<S> {
         storage: &mut S::Storage,
         now: Result<Time, ClockFault>,
     ) -> Result<PortFactory<S>, EventOpenOrCreateError>
-        ensures { Calls S.Storage.step (event_call S.ServiceNameHasher.hash_of self ToOpenOrCreate verifier.now now)
+        ensures { Calls S.Storage.step
+            (event_call S.ServiceNameHasher.hash_of self ToOpenOrCreate verifier.now.pairs verifier.now now)
             storage.old (map_err event_refusal result) storage.new }
     {
         let Builder { base, mut demand } = self;

@@ -21,5 +21,5 @@ module _ {D E C : Type 0} {c : BuilderCall D E C} where
   pub carries_once : {d : Description} → OnlyRaises c.meaning c.adjusted → Carries c d → MeetsOrHolds c d
   carries_once {d} raises (accepted is same a) = meets same (first_accepts d raises is a)
   carries_once raises (published {asked = asked} is) =
-      let P : D → Type 0 = λ x. MeetsOrHolds c (description_of (defining c.required.pairs (c.meaning x)) c.caller) in
+      let P : D → Type 0 = λ x. MeetsOrHolds c (description_of (defining c.defined (c.meaning x)) c.caller) in
       subst P (sym (adjusted_once raises is)) holds

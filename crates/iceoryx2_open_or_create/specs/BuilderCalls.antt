@@ -1,5 +1,5 @@
 -- One call of a builder, whatever its pattern and whichever of its three calls it is.
-use Rattle.std.specs.Prelude.{Bool, false, List, []}
+use Rattle.std.specs.Prelude.{Bool, false, List}
 use Rattle.iceoryx2_attribute.specs.Attributes.{Pair}
 use Rattle.iceoryx2_attribute.specs.Requirements.{Requirements}
 use Rattle.iceoryx2_pattern.specs.Meaning.{Meaning}
@@ -30,19 +30,16 @@ pub record BuilderCall (D E C : Type 0) : Type 0 where
   pub adjusted : D → D
   pub retried : Retried E C
   pub asked : D
-  -- a create defines the pairs, and an open requires pairs and keys
+  -- the pairs that a create defines, and the pairs and keys that an open requires
+  pub defined : List Pair
   pub required : Requirements
   -- whether the types of messages are prepared before the first access
   pub prepares : Bool
 
--- what a create asks that defines these pairs
-abbrev pub defines : List Pair → Requirements
-defines given = record { pairs = given; keys = [] }
-
 module _ {D E C : Type 0} (c : BuilderCall D E C) where
   -- what a create publishes by: zeros are raised, and the pairs defined;
   abbrev pub creating : Meaning E C
-  creating = defining c.required.pairs (c.meaning (c.adjusted c.asked))
+  creating = defining c.defined (c.meaning (c.adjusted c.asked))
 
   -- what an open requires: the pairs and keys, and then the marked settings;
   abbrev pub opening : Meaning E C

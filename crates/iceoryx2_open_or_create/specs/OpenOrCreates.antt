@@ -24,7 +24,7 @@ module _ {D E C : Type 0} (c : BuilderCall D E C) where
   abbrev pub IsOpening : List Letter → Result Registered E → Type 0
   IsOpening word answer = IsOpenWord (opening c) c.caller.node c.caller.hash word answer
 
-  -- or creates with the required pairs, and no keys.
+  -- or creates with the defined pairs.
   abbrev pub IsMaking : List Letter → Result Registered C → Type 0
   IsMaking word answer = IsCreateWord (creating c) c.caller word answer
 

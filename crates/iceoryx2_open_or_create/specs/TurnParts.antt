@@ -10,7 +10,7 @@ use Rattle.iceoryx2_open_or_create.specs.BuilderCalls.{BuilderCall, ToOpenOrCrea
 use Rattle.iceoryx2_open_or_create.specs.OpenOrCreates.{IsLastTurn, IsRetriedTurn}
 use Rattle.iceoryx2_open_or_create.specs.declared.open_or_create.OpenOrCreateRefusal.{OpenOrCreateRefusal}
 
--- the call of this caller, of a pattern of such meanings that asks this
+-- the call of this caller, of a pattern of such meanings that asks this: a create defines the required pairs
 abbrev pub called_by : {D E C : Type 0} → (D → Meaning E C) → (D → D) → Retried E C → D → Requirements → Caller
     → BuilderCall D E C
 called_by meaning adjusted retried asked required caller = record {
@@ -20,6 +20,7 @@ called_by meaning adjusted retried asked required caller = record {
   adjusted = adjusted;
   retried = retried;
   asked = asked;
+  defined = required.pairs;
   required = required;
   prepares = false;
 }

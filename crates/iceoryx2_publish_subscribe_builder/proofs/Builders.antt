@@ -14,7 +14,7 @@ use Rattle.iceoryx2_create_and_open.specs.declared.caller.Caller.{Caller}
 use Rattle.iceoryx2_create_and_open.specs.Creates.{description_of}
 use Rattle.iceoryx2_create_and_open.specs.OwnSettings.{AcceptsOwn}
 use Rattle.iceoryx2_description.specs.Description.{Description}
-use Rattle.iceoryx2_pattern.specs.OwnAttributes.{attribute_clauses, defining, requiring}
+use Rattle.iceoryx2_pattern.specs.OwnAttributes.{attribute_clauses}
 use Rattle.iceoryx2_open_or_create.specs.EndsAtOnce.{EndsAtOnce}
 use Rattle.iceoryx2_open_or_create.proofs.OwnAttributes.{met_with_attributes}
 use Rattle.iceoryx2_open_or_create.proofs.Ends.{Errs, attributes_err, both_err, rows_err, unmet_ends}
@@ -23,8 +23,7 @@ use Rattle.iceoryx2_errors.specs.declared.error.publish_subscribe.PublishSubscri
 use Rattle.iceoryx2_errors.specs.declared.error.publish_subscribe.PublishSubscribeCreateError.{PublishSubscribeCreateError}
 use Rattle.iceoryx2_builder_common.specs.Builders.{IsLawfulBuilder}
 use Rattle.iceoryx2_builder_common.specs.Rows.{tested}
-use Rattle.iceoryx2_publish_subscribe_builder.specs.declared.publish_subscribe.demand.PreparedDemand.{PreparedDemand}
-use Rattle.iceoryx2_publish_subscribe_builder.specs.PublishSubscribe.{prepared_adjusted, prepared_meaning, publish_subscribe_retried, setting_clauses, setting_rows}
+use Rattle.iceoryx2_publish_subscribe_builder.specs.PublishSubscribe.{publish_subscribe_retried, setting_clauses, setting_rows}
 use Rattle.iceoryx2_builder_common.proofs.Misfits.{fits_itself}
 use Rattle.iceoryx2_builder_common.proofs.Raised.{not_below, raised_above}
 use Rattle.iceoryx2_publish_subscribe_builder.specs.declared.publish_subscribe.demand.PublishSubscribeDemand.{PublishSubscribeDemand}
@@ -66,19 +65,20 @@ settings_end demand (existing.PublishSubscribe s) =
     rows_err Ends (map tested (setting_rows demand.settings demand.marks s)) (refl, (refl, (refl, (refl, (refl, (refl, (refl, tt)))))))
 settings_end demand (existing.RequestResponse s) = tt
 
-requirement_ends : (asked : PreparedDemand) (required : Requirements) (d : Description) → Errs Ends ((requiring required (prepared_meaning asked)).requirement d)
-requirement_ends asked required d =
-    both_err Ends (attribute_clauses opening.IncompatibleAttributes required d.attributes) (setting_clauses asked.demand d.pattern)
-    (attributes_err Ends opening.IncompatibleAttributes required d.attributes refl) (settings_end asked.demand d.pattern)
+requirement_ends : (demand : PublishSubscribeDemand) (message : Message) (required : Requirements) (d : Description)
+    → Errs Ends ((publish_subscribe_opening demand message required).requirement d)
+requirement_ends demand message required d =
+    both_err Ends (attribute_clauses opening.IncompatibleAttributes required d.attributes) (setting_clauses demand d.pattern)
+    (attributes_err Ends opening.IncompatibleAttributes required d.attributes refl) (settings_end demand d.pattern)
 
 history_ends : (error : PublishSubscribeCreateError) (lacks : Bool) → cond lacks (Some creating.SubscriberBufferMustBeLargerThanHistorySize) None ≡ Some error → publish_subscribe_retried.of_create error ≡ false
 history_ends error true e = let is : creating.SubscriberBufferMustBeLargerThanHistorySize ≡ error = cc in ap publish_subscribe_retried.of_create (sym is)
 history_ends error false e = absurd (cc)
 
-pub publish_subscribe_ends_at_once : (asked : PreparedDemand) (required : Requirements)
-    → EndsAtOnce publish_subscribe_retried (defining required.pairs (prepared_meaning (prepared_adjusted asked))) (requiring required (prepared_meaning asked))
-publish_subscribe_ends_at_once asked required = record {
-  not_accepted = λ d error e. unmet_ends Ends ((requiring required (prepared_meaning asked)).requirement d) error (requirement_ends asked required d) e;
+pub publish_subscribe_ends_at_once : (demand : PublishSubscribeDemand) (message : Message) (defined : List Pair) (required : Requirements)
+    → EndsAtOnce publish_subscribe_retried (publish_subscribe_creating demand message defined) (publish_subscribe_opening demand message required)
+publish_subscribe_ends_at_once demand message defined required = record {
+  not_accepted = λ d error e. unmet_ends Ends ((publish_subscribe_opening demand message required).requirement d) error (requirement_ends demand message required d) e;
   no_place = refl;
   not_opened = refl;
   opened_without_memory = refl;

@@ -1,5 +1,6 @@
 -- What a call of a builder of publish-subscribe is.
 use Rattle.std.specs.Prelude.{ℕ, List, Ok, true}
+use Rattle.iceoryx2_attribute.specs.Attributes.{Pair}
 use Rattle.iceoryx2_attribute.specs.Requirements.{Requirements}
 use Rattle.iceoryx2_types.specs.Types.{Message}
 use Rattle.iceoryx2_description.specs.declared.description.ServiceHash.{ServiceHash}
@@ -16,15 +17,16 @@ use Rattle.iceoryx2_publish_subscribe_builder.specs.Builder.{PublishSubscribeBui
 -- Its hash is made by this hasher, and its messages are of these types. A create defines the pairs, and an open
 -- requires pairs and keys. It doesn't ask the clock: its time is zero.
 abbrev pub publish_subscribe_call : (hash_of : ℕ → List ℕ → ServiceHash) → PublishSubscribeBuilderState → Message → Way
-    → Requirements
+    → List Pair → Requirements
     → BuilderCall PreparedDemand PublishSubscribeOpenError PublishSubscribeCreateError
-publish_subscribe_call hash_of b message way required = record {
+publish_subscribe_call hash_of b message way defined required = record {
   way = way;
   caller = caller_of hash_of prefix_of_publish_subscribe (record { node = b.node; name = b.name }) (Ok zero_span);
   meaning = prepared_meaning;
   adjusted = prepared_adjusted;
   retried = publish_subscribe_retried;
   asked = record { demand = b.demand; message = message };
+  defined = defined;
   required = required;
   prepares = true;
 }

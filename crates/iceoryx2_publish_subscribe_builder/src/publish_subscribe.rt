@@ -1,20 +1,18 @@
 //! The builder of services of publish-subscribe.
 
-ghost use Rattle.std.specs.Prelude.{◌≡◌, Ok, IfOk};
+ghost use Rattle.std.specs.Prelude.{◌≡◌, List, [], Ok, IfOk};
+ghost use Rattle.iceoryx2_attribute.specs.Attributes.{Pair};
 ghost use Rattle.iceoryx2_attribute.specs.Requirements.{Requirements, no_requirements};
 ghost use Rattle.iceoryx2_types.specs.Types.{Message};
 ghost use Rattle.iceoryx2_description.specs.Span.{zero_span};
-ghost use Rattle.iceoryx2_pattern.specs.OwnAttributes.{defining, requiring};
 ghost use Rattle.iceoryx2_create_and_open.specs.Answers.{map_err};
-ghost use Rattle.iceoryx2_open_or_create.specs.BuilderCalls.{ToCreate, ToOpen, ToOpenOrCreate, defines};
+ghost use Rattle.iceoryx2_open_or_create.specs.BuilderCalls.{ToCreate, ToOpen, ToOpenOrCreate};
 ghost use Rattle.iceoryx2_open_or_create.specs.CallWords.{Calls};
 ghost use Rattle.iceoryx2_open_or_create.specs.EndsAtOnce.{EndsAtOnce};
 ghost use Rattle.iceoryx2_builder_common.specs.Builders.{IsLawfulBuilder};
 ghost use Rattle.iceoryx2_builder_common.specs.Facts.{ServiceFacts, caller_of};
 ghost use Rattle.iceoryx2_publish_subscribe_builder.specs.PublishSubscribe.{publish_subscribe_creating};
 ghost use Rattle.iceoryx2_publish_subscribe_builder.specs.PublishSubscribe.{publish_subscribe_opening};
-ghost use Rattle.iceoryx2_publish_subscribe_builder.specs.PublishSubscribe.{prepared_adjusted};
-ghost use Rattle.iceoryx2_publish_subscribe_builder.specs.PublishSubscribe.{prepared_meaning};
 ghost use Rattle.iceoryx2_publish_subscribe_builder.specs.PublishSubscribe.{publish_subscribe_refusal};
 ghost use Rattle.iceoryx2_publish_subscribe_builder.specs.PublishSubscribe.{publish_subscribe_retried};
 ghost use Rattle.iceoryx2_publish_subscribe_builder.specs.PublishSubscribeCalls.{publish_subscribe_call};
@@ -71,9 +69,9 @@ pub fn opens_what_it_creates()
 
 /// What a table that nobody else uses refuses is not tried again by an open or create.
 pub fn ends_at_once()
-    ensures { (asked : PreparedDemand) (required : Requirements) → EndsAtOnce publish_subscribe_retried
-        (defining required.pairs (prepared_meaning (prepared_adjusted asked)))
-        (requiring required (prepared_meaning asked)) }
+    ensures { (demand : PublishSubscribeDemand) (message : Message) (defined : List Pair) (required : Requirements)
+        → EndsAtOnce publish_subscribe_retried
+        (publish_subscribe_creating demand message defined) (publish_subscribe_opening demand message required) }
 {}
 
 /// A builder of a service of publish-subscribe with payloads `P` and user headers `U`.
@@ -319,7 +317,7 @@ impl<P: ZeroCopySend, U: ZeroCopySend, S: Service> Builder<P, U, S> {
     ) -> Result<PortFactory<S, P, U>, PublishSubscribeCreateError>
         ensures { let message = message_for P.detail U.detail self.types in
             Calls S.Storage.step
-            (publish_subscribe_call S.ServiceNameHasher.hash_of self message ToCreate no_requirements)
+            (publish_subscribe_call S.ServiceNameHasher.hash_of self message ToCreate [] no_requirements)
             storage.old result storage.new }
     {
         let specifier = AttributeSpecifier::new(self.base.name().allocator());
@@ -345,7 +343,7 @@ impl<P: ZeroCopySend, U: ZeroCopySend, S: Service> Builder<P, U, S> {
     ) -> Result<PortFactory<S, P, U>, PublishSubscribeCreateError>
         ensures { let message = message_for P.detail U.detail self.types in
             Calls S.Storage.step
-            (publish_subscribe_call S.ServiceNameHasher.hash_of self message ToCreate (defines specifier.now))
+            (publish_subscribe_call S.ServiceNameHasher.hash_of self message ToCreate specifier.now no_requirements)
             storage.old result storage.new }
     {
         let Ok((caller, mut asked)) = self.into_prepared() else {
@@ -362,7 +360,7 @@ impl<P: ZeroCopySend, U: ZeroCopySend, S: Service> Builder<P, U, S> {
     ) -> Result<PortFactory<S, P, U>, PublishSubscribeOpenError>
         ensures { let message = message_for P.detail U.detail self.types in
             Calls S.Storage.step
-            (publish_subscribe_call S.ServiceNameHasher.hash_of self message ToOpen no_requirements)
+            (publish_subscribe_call S.ServiceNameHasher.hash_of self message ToOpen [] no_requirements)
             storage.old result storage.new }
     {
         let verifier = AttributeVerifier::new(self.base.name().allocator());
@@ -389,7 +387,8 @@ impl<P: ZeroCopySend, U: ZeroCopySend, S: Service> Builder<P, U, S> {
         storage: &mut S::Storage,
     ) -> Result<PortFactory<S, P, U>, PublishSubscribeOpenError>
         ensures { let message = message_for P.detail U.detail self.types in
-            Calls S.Storage.step (publish_subscribe_call S.ServiceNameHasher.hash_of self message ToOpen verifier.now)
+            Calls S.Storage.step
+            (publish_subscribe_call S.ServiceNameHasher.hash_of self message ToOpen [] verifier.now)
             storage.old result storage.new }
     {
         let Ok((caller, asked)) = self.into_prepared() else {
@@ -406,7 +405,7 @@ impl<P: ZeroCopySend, U: ZeroCopySend, S: Service> Builder<P, U, S> {
     ) -> Result<PortFactory<S, P, U>, PublishSubscribeOpenOrCreateError>
         ensures { let message = message_for P.detail U.detail self.types in
             Calls S.Storage.step
-            (publish_subscribe_call S.ServiceNameHasher.hash_of self message ToOpenOrCreate no_requirements)
+            (publish_subscribe_call S.ServiceNameHasher.hash_of self message ToOpenOrCreate [] no_requirements)
             storage.old (map_err publish_subscribe_refusal result) storage.new }
     {
         let verifier = AttributeVerifier::new(self.base.name().allocator());
@@ -431,7 +430,8 @@ impl<P: ZeroCopySend, U: ZeroCopySend, S: Service> Builder<P, U, S> {
     ) -> Result<PortFactory<S, P, U>, PublishSubscribeOpenOrCreateError>
         ensures { let message = message_for P.detail U.detail self.types in
             Calls S.Storage.step
-            (publish_subscribe_call S.ServiceNameHasher.hash_of self message ToOpenOrCreate verifier.now)
+            (publish_subscribe_call S.ServiceNameHasher.hash_of self message ToOpenOrCreate
+            verifier.now.pairs verifier.now)
             storage.old (map_err publish_subscribe_refusal result) storage.new }
     {
         let Ok((caller, mut asked)) = self.into_prepared() else {

@@ -13,7 +13,7 @@ use Rattle.iceoryx2_create_and_open.specs.declared.caller.Caller.{Caller}
 use Rattle.iceoryx2_create_and_open.specs.Creates.{description_of}
 use Rattle.iceoryx2_create_and_open.specs.OwnSettings.{AcceptsOwn}
 use Rattle.iceoryx2_description.specs.Description.{Description}
-use Rattle.iceoryx2_pattern.specs.OwnAttributes.{attribute_clauses, defining, requiring}
+use Rattle.iceoryx2_pattern.specs.OwnAttributes.{attribute_clauses}
 use Rattle.iceoryx2_open_or_create.specs.EndsAtOnce.{EndsAtOnce}
 use Rattle.iceoryx2_open_or_create.proofs.OwnAttributes.{met_with_attributes}
 use Rattle.iceoryx2_open_or_create.proofs.Ends.{Errs, attributes_err, both_err, rows_err, unmet_ends}
@@ -21,8 +21,7 @@ use Rattle.iceoryx2_errors.specs.declared.error.request_response.RequestResponse
 use Rattle.iceoryx2_errors.specs.declared.error.request_response.RequestResponseOpenError.TheVariants as opening
 use Rattle.iceoryx2_builder_common.specs.Builders.{IsLawfulBuilder}
 use Rattle.iceoryx2_builder_common.specs.Rows.{tested}
-use Rattle.iceoryx2_request_response_builder.specs.declared.request_response.demand.PreparedDemand.{PreparedDemand}
-use Rattle.iceoryx2_request_response_builder.specs.RequestResponse.{prepared_adjusted, prepared_meaning, request_response_retried, setting_clauses, setting_rows}
+use Rattle.iceoryx2_request_response_builder.specs.RequestResponse.{request_response_retried, setting_clauses, setting_rows}
 use Rattle.iceoryx2_builder_common.proofs.Misfits.{fits_itself}
 use Rattle.iceoryx2_builder_common.proofs.Raised.{not_below, raised_above}
 use Rattle.iceoryx2_request_response_builder.specs.declared.request_response.demand.RequestResponseDemand.{RequestResponseDemand}
@@ -65,15 +64,16 @@ settings_end demand (existing.PublishSubscribe s) = tt
 settings_end demand (existing.RequestResponse s) =
     rows_err Ends (map tested (setting_rows demand.settings demand.marks s)) (refl, (refl, (refl, (refl, (refl, (refl, (refl, (refl, (refl, (refl, tt))))))))))
 
-requirement_ends : (asked : PreparedDemand) (required : Requirements) (d : Description) → Errs Ends ((requiring required (prepared_meaning asked)).requirement d)
-requirement_ends asked required d =
-    both_err Ends (attribute_clauses opening.IncompatibleAttributes required d.attributes) (setting_clauses asked.demand d.pattern)
-    (attributes_err Ends opening.IncompatibleAttributes required d.attributes refl) (settings_end asked.demand d.pattern)
+requirement_ends : (demand : RequestResponseDemand) (request response : Message) (required : Requirements) (d : Description)
+    → Errs Ends ((request_response_opening demand request response required).requirement d)
+requirement_ends demand request response required d =
+    both_err Ends (attribute_clauses opening.IncompatibleAttributes required d.attributes) (setting_clauses demand d.pattern)
+    (attributes_err Ends opening.IncompatibleAttributes required d.attributes refl) (settings_end demand d.pattern)
 
-pub request_response_ends_at_once : (asked : PreparedDemand) (required : Requirements)
-    → EndsAtOnce request_response_retried (defining required.pairs (prepared_meaning (prepared_adjusted asked))) (requiring required (prepared_meaning asked))
-request_response_ends_at_once asked required = record {
-  not_accepted = λ d error e. unmet_ends Ends ((requiring required (prepared_meaning asked)).requirement d) error (requirement_ends asked required d) e;
+pub request_response_ends_at_once : (demand : RequestResponseDemand) (request response : Message) (defined : List Pair) (required : Requirements)
+    → EndsAtOnce request_response_retried (request_response_creating demand request response defined) (request_response_opening demand request response required)
+request_response_ends_at_once demand request response defined required = record {
+  not_accepted = λ d error e. unmet_ends Ends ((request_response_opening demand request response required).requirement d) error (requirement_ends demand request response required d) e;
   no_place = refl;
   not_opened = refl;
   opened_without_memory = refl;

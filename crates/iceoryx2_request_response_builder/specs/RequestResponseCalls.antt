@@ -1,5 +1,6 @@
 -- What a call of a builder of request-response is.
 use Rattle.std.specs.Prelude.{ℕ, List, Ok, true}
+use Rattle.iceoryx2_attribute.specs.Attributes.{Pair}
 use Rattle.iceoryx2_attribute.specs.Requirements.{Requirements}
 use Rattle.iceoryx2_description.specs.declared.description.ServiceHash.{ServiceHash}
 use Rattle.iceoryx2_description.specs.Span.{zero_span}
@@ -16,15 +17,16 @@ use Rattle.iceoryx2_request_response_builder.specs.Builder.{prefix_of_request_re
 -- Its hash is made by this hasher, and its requests and responses are of these types. A create defines the pairs, and
 -- an open requires pairs and keys. It doesn't ask the clock: its time is zero.
 abbrev pub request_response_call : (hash_of : ℕ → List ℕ → ServiceHash) → RequestResponseBuilderState → Messages → Way
-    → Requirements
+    → List Pair → Requirements
     → BuilderCall PreparedDemand RequestResponseOpenError RequestResponseCreateError
-request_response_call hash_of b messages way required = record {
+request_response_call hash_of b messages way defined required = record {
   way = way;
   caller = caller_of hash_of prefix_of_request_response (record { node = b.node; name = b.name }) (Ok zero_span);
   meaning = prepared_meaning;
   adjusted = prepared_adjusted;
   retried = request_response_retried;
   asked = asked_with b.demand messages;
+  defined = defined;
   required = required;
   prepares = true;
 }

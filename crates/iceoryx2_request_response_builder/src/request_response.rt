@@ -1,20 +1,18 @@
 //! The builder of services of request-response.
 
-ghost use Rattle.std.specs.Prelude.{◌≡◌, Ok, IfOk};
+ghost use Rattle.std.specs.Prelude.{◌≡◌, List, [], Ok, IfOk};
+ghost use Rattle.iceoryx2_attribute.specs.Attributes.{Pair};
 ghost use Rattle.iceoryx2_attribute.specs.Requirements.{Requirements, no_requirements};
 ghost use Rattle.iceoryx2_types.specs.Types.{Message};
 ghost use Rattle.iceoryx2_description.specs.Span.{zero_span};
-ghost use Rattle.iceoryx2_pattern.specs.OwnAttributes.{defining, requiring};
 ghost use Rattle.iceoryx2_create_and_open.specs.Answers.{map_err};
-ghost use Rattle.iceoryx2_open_or_create.specs.BuilderCalls.{ToCreate, ToOpen, ToOpenOrCreate, defines};
+ghost use Rattle.iceoryx2_open_or_create.specs.BuilderCalls.{ToCreate, ToOpen, ToOpenOrCreate};
 ghost use Rattle.iceoryx2_open_or_create.specs.CallWords.{Calls};
 ghost use Rattle.iceoryx2_open_or_create.specs.EndsAtOnce.{EndsAtOnce};
 ghost use Rattle.iceoryx2_builder_common.specs.Builders.{IsLawfulBuilder};
 ghost use Rattle.iceoryx2_builder_common.specs.Facts.{ServiceFacts, caller_of};
 ghost use Rattle.iceoryx2_request_response_builder.specs.RequestResponse.{request_response_creating};
 ghost use Rattle.iceoryx2_request_response_builder.specs.RequestResponse.{request_response_opening};
-ghost use Rattle.iceoryx2_request_response_builder.specs.RequestResponse.{prepared_adjusted};
-ghost use Rattle.iceoryx2_request_response_builder.specs.RequestResponse.{prepared_meaning};
 ghost use Rattle.iceoryx2_request_response_builder.specs.RequestResponse.{request_response_refusal};
 ghost use Rattle.iceoryx2_request_response_builder.specs.RequestResponse.{request_response_retried};
 ghost use Rattle.iceoryx2_request_response_builder.specs.RequestResponseCalls.{request_response_call};
@@ -72,9 +70,10 @@ pub fn opens_what_it_creates()
 
 /// What a table that nobody else uses refuses is not tried again by an open or create.
 pub fn ends_at_once()
-    ensures { (asked : PreparedDemand) (required : Requirements) → EndsAtOnce request_response_retried
-        (defining required.pairs (prepared_meaning (prepared_adjusted asked)))
-        (requiring required (prepared_meaning asked)) }
+    ensures { (demand : RequestResponseDemand) (request response : Message) (defined : List Pair)
+        (required : Requirements) → EndsAtOnce request_response_retried
+        (request_response_creating demand request response defined)
+        (request_response_opening demand request response required) }
 {}
 
 /// A builder of a service of request-response whose requests have payloads `Q` and user headers
@@ -386,7 +385,7 @@ impl<Q: ZeroCopySend, QU: ZeroCopySend, R: ZeroCopySend, RU: ZeroCopySend, S: Se
     ) -> Result<PortFactory<S, Q, QU, R, RU>, RequestResponseCreateError>
         ensures { let messages = messages_for Q.detail QU.detail R.detail RU.detail self.types in
             Calls S.Storage.step
-            (request_response_call S.ServiceNameHasher.hash_of self messages ToCreate no_requirements)
+            (request_response_call S.ServiceNameHasher.hash_of self messages ToCreate [] no_requirements)
             storage.old result storage.new }
     {
         let specifier = AttributeSpecifier::new(self.base.name().allocator());
@@ -411,7 +410,7 @@ impl<Q: ZeroCopySend, QU: ZeroCopySend, R: ZeroCopySend, RU: ZeroCopySend, S: Se
     ) -> Result<PortFactory<S, Q, QU, R, RU>, RequestResponseCreateError>
         ensures { let messages = messages_for Q.detail QU.detail R.detail RU.detail self.types in
             Calls S.Storage.step
-            (request_response_call S.ServiceNameHasher.hash_of self messages ToCreate (defines specifier.now))
+            (request_response_call S.ServiceNameHasher.hash_of self messages ToCreate specifier.now no_requirements)
             storage.old result storage.new }
     {
         let Ok((caller, mut asked)) = self.into_prepared() else {
@@ -428,7 +427,7 @@ impl<Q: ZeroCopySend, QU: ZeroCopySend, R: ZeroCopySend, RU: ZeroCopySend, S: Se
     ) -> Result<PortFactory<S, Q, QU, R, RU>, RequestResponseOpenError>
         ensures { let messages = messages_for Q.detail QU.detail R.detail RU.detail self.types in
             Calls S.Storage.step
-            (request_response_call S.ServiceNameHasher.hash_of self messages ToOpen no_requirements)
+            (request_response_call S.ServiceNameHasher.hash_of self messages ToOpen [] no_requirements)
             storage.old result storage.new }
     {
         let verifier = AttributeVerifier::new(self.base.name().allocator());
@@ -456,7 +455,8 @@ impl<Q: ZeroCopySend, QU: ZeroCopySend, R: ZeroCopySend, RU: ZeroCopySend, S: Se
         storage: &mut S::Storage,
     ) -> Result<PortFactory<S, Q, QU, R, RU>, RequestResponseOpenError>
         ensures { let messages = messages_for Q.detail QU.detail R.detail RU.detail self.types in
-            Calls S.Storage.step (request_response_call S.ServiceNameHasher.hash_of self messages ToOpen verifier.now)
+            Calls S.Storage.step
+            (request_response_call S.ServiceNameHasher.hash_of self messages ToOpen [] verifier.now)
             storage.old result storage.new }
     {
         let Ok((caller, asked)) = self.into_prepared() else {
@@ -473,7 +473,7 @@ impl<Q: ZeroCopySend, QU: ZeroCopySend, R: ZeroCopySend, RU: ZeroCopySend, S: Se
     ) -> Result<PortFactory<S, Q, QU, R, RU>, RequestResponseOpenOrCreateError>
         ensures { let messages = messages_for Q.detail QU.detail R.detail RU.detail self.types in
             Calls S.Storage.step
-            (request_response_call S.ServiceNameHasher.hash_of self messages ToOpenOrCreate no_requirements)
+            (request_response_call S.ServiceNameHasher.hash_of self messages ToOpenOrCreate [] no_requirements)
             storage.old (map_err request_response_refusal result) storage.new }
     {
         let verifier = AttributeVerifier::new(self.base.name().allocator());
@@ -498,7 +498,8 @@ impl<Q: ZeroCopySend, QU: ZeroCopySend, R: ZeroCopySend, RU: ZeroCopySend, S: Se
     ) -> Result<PortFactory<S, Q, QU, R, RU>, RequestResponseOpenOrCreateError>
         ensures { let messages = messages_for Q.detail QU.detail R.detail RU.detail self.types in
             Calls S.Storage.step
-            (request_response_call S.ServiceNameHasher.hash_of self messages ToOpenOrCreate verifier.now)
+            (request_response_call S.ServiceNameHasher.hash_of self messages ToOpenOrCreate
+            verifier.now.pairs verifier.now)
             storage.old (map_err request_response_refusal result) storage.new }
     {
         let Ok((caller, mut asked)) = self.into_prepared() else {

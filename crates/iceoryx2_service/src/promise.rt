@@ -1,6 +1,7 @@
 //! What the calls of each builder come to, with nothing asked of the builder.
 
 ghost use Rattle.std.specs.Prelude.{ℕ, List, Result};
+ghost use Rattle.iceoryx2_attribute.specs.Attributes.{Pair};
 ghost use Rattle.iceoryx2_attribute.specs.Requirements.{Requirements};
 ghost use Rattle.iceoryx2_types.specs.Types.{Message};
 ghost use Rattle.iceoryx2_description.specs.Span.{Span};
@@ -26,14 +27,14 @@ ghost use Rattle.iceoryx2_call_laws.specs.Promise.{Promise};
 /// and attributes. Where other nodes act too, it is so of own nodes' factories, the caller's among them.
 pub fn promise_of_builders()
     ensures events { (hash_of : ℕ → List ℕ → ServiceHash) (b : EventBuilderState) (way : Way)
-        (required : Requirements) (now : Result Span ClockFault)
-        → Promise (event_call hash_of b way required now) }
+        (defined : List Pair) (required : Requirements) (now : Result Span ClockFault)
+        → Promise (event_call hash_of b way defined required now) }
     ensures publish_subscribe { (hash_of : ℕ → List ℕ → ServiceHash) (b : PublishSubscribeBuilderState)
-        (message : Message) (way : Way) (required : Requirements)
-        → Promise (publish_subscribe_call hash_of b message way required) }
+        (message : Message) (way : Way) (defined : List Pair) (required : Requirements)
+        → Promise (publish_subscribe_call hash_of b message way defined required) }
     ensures request_response { (hash_of : ℕ → List ℕ → ServiceHash) (b : RequestResponseBuilderState)
-        (messages : Messages) (way : Way) (required : Requirements)
-        → Promise (request_response_call hash_of b messages way required) }
+        (messages : Messages) (way : Way) (defined : List Pair) (required : Requirements)
+        → Promise (request_response_call hash_of b messages way defined required) }
 {}
 
 /// What a call of a builder has given, whichever of its three, an open with the same settings and
@@ -45,12 +46,12 @@ pub fn promise_of_builders()
 /// requires none, or some of them.
 pub fn opens_again()
     ensures events { (hash_of : ℕ → List ℕ → ServiceHash) (b : EventBuilderState) (way : Way)
-        (required : Requirements) (now : Result Span ClockFault)
-        → OpensAgain (event_call hash_of b way required now) }
+        (defined : List Pair) (required : Requirements) (now : Result Span ClockFault)
+        → OpensAgain (event_call hash_of b way defined required now) }
     ensures publish_subscribe { (hash_of : ℕ → List ℕ → ServiceHash) (b : PublishSubscribeBuilderState)
-        (message : Message) (way : Way) (required : Requirements)
-        → OpensAgain (publish_subscribe_call hash_of b message way required) }
+        (message : Message) (way : Way) (defined : List Pair) (required : Requirements)
+        → OpensAgain (publish_subscribe_call hash_of b message way defined required) }
     ensures request_response { (hash_of : ℕ → List ℕ → ServiceHash) (b : RequestResponseBuilderState)
-        (messages : Messages) (way : Way) (required : Requirements)
-        → OpensAgain (request_response_call hash_of b messages way required) }
+        (messages : Messages) (way : Way) (defined : List Pair) (required : Requirements)
+        → OpensAgain (request_response_call hash_of b messages way defined required) }
 {}

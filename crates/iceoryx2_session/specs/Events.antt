@@ -14,7 +14,7 @@ use Rattle.iceoryx2_event_builder.specs.EventCalls.{event_call}
 use Rattle.iceoryx2_event_builder.specs.Builder.{EventBuilderState}
 use Rattle.iceoryx2_commands.specs.declared.command.Refusal.{Refusal}
 use Rattle.iceoryx2_commands.specs.declared.command.Refusal.TheVariants as refusal
-use Rattle.iceoryx2_session.specs.PatternCalls.{PatternCall, hash_for, refusal_by}
+use Rattle.iceoryx2_session.specs.PatternCalls.{PatternCall, defined_by, hash_for, refusal_by, required_by}
 
 -- how the refusals of the rounds are carried
 abbrev pub event_rounds : OpenOrCreateRefusal EventOpenError EventCreateError → Refusal
@@ -27,6 +27,6 @@ event_pattern_call b way attributes now = record {
   asks = EventDemand;
   open_error = EventOpenError;
   create_error = EventCreateError;
-  call = event_call hash_for b way attributes now;
+  call = event_call hash_for b way (defined_by way attributes) (required_by way attributes) now;
   refusal_of = refusal_by refusal.EventCreate refusal.EventOpen event_rounds way;
 }

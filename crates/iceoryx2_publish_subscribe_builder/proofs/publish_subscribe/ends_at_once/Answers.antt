@@ -2,4 +2,4 @@ use Rattle.iceoryx2_publish_subscribe_builder.proofs.Builders.{publish_subscribe
 use Rattle.iceoryx2_publish_subscribe_builder.proofs.publish_subscribe.ends_at_once.Goals as goal
 
 pub returns : goal.returns
-returns c = λ asked required. publish_subscribe_ends_at_once asked required
+returns c = publish_subscribe_ends_at_once

@@ -2,4 +2,4 @@ use Rattle.iceoryx2_request_response_builder.proofs.Builders.{request_response_e
 use Rattle.iceoryx2_request_response_builder.proofs.request_response.ends_at_once.Goals as goal
 
 pub returns : goal.returns
-returns c = λ asked required. request_response_ends_at_once asked required
+returns c = request_response_ends_at_once

@@ -7,9 +7,10 @@ use Rattle.iceoryx2_service.proofs.promise.opens_again.Goals as goal
 
 pub returns : goal.returns
 returns c = record {
-  events = λ hash_of b way required now. opens_again (event_call hash_of b way required now) (event_call_is_lawful hash_of way required b now);
-  publish_subscribe = λ hash_of b message way required.
-      opens_again (publish_subscribe_call hash_of b message way required) (publish_subscribe_call_is_lawful hash_of way required b message);
-  request_response = λ hash_of b messages way required.
-      opens_again (request_response_call hash_of b messages way required) (request_response_call_is_lawful hash_of way required b messages);
+  events = λ hash_of b way defined required now.
+      opens_again (event_call hash_of b way defined required now) (event_call_is_lawful hash_of b way defined required now);
+  publish_subscribe = λ hash_of b message way defined required.
+      opens_again (publish_subscribe_call hash_of b message way defined required) (publish_subscribe_call_is_lawful hash_of b message way defined required);
+  request_response = λ hash_of b messages way defined required.
+      opens_again (request_response_call hash_of b messages way defined required) (request_response_call_is_lawful hash_of b messages way defined required);
 }
