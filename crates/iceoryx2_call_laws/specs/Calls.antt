@@ -1,5 +1,5 @@
 -- What is said of whole calls: of the worlds that their accesses lead through, and of each access.
-use Rattle.std.specs.Prelude.{◌≡◌, ◌+◌, ℕ, Bool, List, [], ◌∷◌, ◌++◌}
+use Rattle.std.specs.Prelude.{◌≡◌, ◌+◌, ℕ, Bool, List, [], ◌∷◌}
 use Rattle.iceoryx2_description.specs.declared.description.ServiceHash.{ServiceHash}
 use Rattle.iceoryx2_world.specs.declared.world.Participant.TheVariants.{Node}
 use Rattle.iceoryx2_world.specs.World.{World, count_of}
@@ -24,11 +24,11 @@ AtEach step P w (l ∷ word) = (v : World) → step w l v → P w l v × AtEach 
 abbrev pub ActsCalmly : (own : ℕ → Bool) → World → Letter → World → Type 0
 ActsCalmly own w l v = (u : World) → Rely own w u → IsOwnPart u l v → SameServices u v
 
--- Only the last access of the word changes what is published or counted: it counts the node once more.
-pub record ChangesLast (own : ℕ → Bool) (node : ℕ) (hash : ServiceHash) (w : World) (word : List Letter)
-    : Type 0 where
-  pub front : List Letter
-  pub final : Letter
-  pub in_order : word ≡ front ++ final ∷ []
-  pub calm : AtEach (IsFallibleUnder own) (ActsCalmly own) w front
-  pub change : (u v : World) → IsOwnPart u final v → count_of v (Node node) hash ≡ count_of u (Node node) hash + 1
+-- Only the last access of the word changes what is published or counted: whatever worlds lead to it, and after what
+-- others do there, its own part counts the node once more.
+abbrev pub ChangesLast : (own : ℕ → Bool) (node : ℕ) (hash : ServiceHash) → World → List Letter → Type 0
+ChangesLast own node hash w [] = ⊥
+ChangesLast own node hash w (final ∷ []) = (u v : World) → Rely own w u → IsOwnPart u final v
+    → count_of v (Node node) hash ≡ count_of u (Node node) hash + 1
+ChangesLast own node hash w (l ∷ word) = (v : World) → IsFallibleUnder own w l v
+    → ActsCalmly own w l v × ChangesLast own node hash v word

@@ -1,12 +1,13 @@
 -- Which accesses of a call change what is published, or a count.
-use Rattle.std.proofs.Common.{◌∷◌, ◌++◌, [], ℕ, Bool, true, false, inl, inr, List, Ok, Err, sym, ap, subst, ◌∙◌, append_assoc, ◌≡◌}
+use Rattle.std.proofs.Common.{◌∷◌, ◌++◌, [], ◌+◌, ℕ, Bool, true, false, inl, inr, List, Ok, Err, ap, subst, ◌∙◌, append_assoc, ◌≡◌}
 use Rattle.iceoryx2_description.specs.declared.description.ServiceHash.{ServiceHash}
 use Rattle.iceoryx2_description.specs.Description.{Description}
 use Rattle.iceoryx2_world.specs.declared.world.Participant.TheVariants.{Node}
 use Rattle.iceoryx2_access.specs.declared.storage.Tag.{Tag}
-use Rattle.iceoryx2_world.specs.World.{World, phase_of, locked_number}
+use Rattle.iceoryx2_world.specs.World.{World, count_of, phase_of, locked_number}
 use Rattle.iceoryx2_access.specs.Letter.{Letter}
 use Rattle.iceoryx2_access.specs.Letter as letter
+use Rattle.iceoryx2_world.specs.Access.{IsOwnPart}
 use Rattle.iceoryx2_world.specs.Across.{Agrees}
 use Rattle.iceoryx2_world.specs.Interference.{IsFallibleUnder}
 use Rattle.iceoryx2_world.specs.Calm.{IsCalmLetter}
@@ -49,6 +50,13 @@ calm_at_each nodes {node} mine {hash} w (unlocks x more) has old = λ v s. (
   calm_at_each nodes mine v more tt (faulty_keeps {own = nodes} w (letter.RemoveDescription node hash x) v s old).0,
 )
 
+-- A word whose front is calm and whose last access counts the node once more.
+changes_last : (nodes : ℕ → Bool) (node : ℕ) (hash : ServiceHash) (w : World) (front : List Letter) (final : Letter) → AtEach (IsFallibleUnder nodes) (ActsCalmly nodes) w front
+    → ((u v : World) → IsOwnPart u final v → count_of v (Node node) hash ≡ count_of u (Node node) hash + 1) → ChangesLast nodes node hash w (front ++ final ∷ [])
+changes_last nodes node hash w [] final calm counts = λ u v between o. counts u v o
+changes_last nodes node hash w (l ∷ []) final calm counts = λ v s. ((calm v s).0, λ u t between o. counts u t o)
+changes_last nodes node hash w (l ∷ (k ∷ front)) final calm counts = λ v s. ((calm v s).0, changes_last nodes node hash v (k ∷ front) final (calm v s).1 counts)
+
 module _ {E C : Type 0} {m : Meaning E C} {node : ℕ} {hash : ServiceHash} where
   -- A refused call changes nothing.
   pub refused_create_calm : (nodes : ℕ → Bool) → nodes node ≡ true → {stops : Bool} {d : Description} {word : List Letter} {error : C} (w : World) → IsCreating m node hash stops d word (Err error) → Agrees w → AtEach (IsFallibleUnder nodes) (ActsCalmly nodes) w word
@@ -59,13 +67,10 @@ module _ {E C : Type 0} {m : Meaning E C} {node : ℕ} {hash : ServiceHash} wher
 
   -- A granted create changes something where it publishes.
   service_changes : (nodes : ℕ → Bool) → nodes node ≡ true → {d : Description} {tag : Tag} {x z : List Letter} {r : Registered} (w : World) → Tame node hash false x false → IsServiceWord m node hash d tag z (Ok r) → Agrees w → ChangesLast nodes node hash w (x ++ z)
-  service_changes nodes mine {d} {x = x} w before (published {v = y} n t segment) old = record {
-    front = x ++ letter.Lock node hash (Ok n) ∷ y;
-    final = letter.Publish node hash n d (Ok t);
-    in_order = sym (append_assoc x (letter.Lock node hash (Ok n) ∷ y) (letter.Publish node hash n d (Ok t) ∷ []));
-    calm = calm_at_each nodes mine {b = false} w (tame_both before (locks (making_tame segment))) tt old;
-    change = λ m v o. publishing_counts m v node hash n d t o;
-  }
+  service_changes nodes mine {d} {x = x} w before (published {v = y} n t segment) old =
+      let front = letter.Lock node hash (Ok n) ∷ y in
+      subst (ChangesLast nodes node hash w) (append_assoc x front (letter.Publish node hash n d (Ok t) ∷ []))
+      (changes_last nodes node hash w (x ++ front) _ (calm_at_each nodes mine {b = false} w (tame_both before (locks (making_tame segment))) tt old) (λ u v o. publishing_counts u v node hash n d t o))
 
   created_changes_after : (nodes : ℕ → Bool) → nodes node ≡ true → {stops : Bool} {d : Description} {x z : List Letter} {r : Registered} (w : World) → Tame node hash false x false → IsCreating m node hash stops d z (Ok r) → Agrees w → ChangesLast nodes node hash w (x ++ z)
   created_changes_after nodes mine {x = x} w before (creates.made {u} {v} _ _ entry service) old =
@@ -79,13 +84,9 @@ module _ {E C : Type 0} {m : Meaning E C} {node : ℕ} {hash : ServiceHash} wher
   creates_after nodes mine x u v w before is old = subst (ChangesLast nodes node hash w) (append_assoc x u v) (created_changes_after nodes mine w before is old)
 
   round_changes : (nodes : ℕ → Bool) → nodes node ≡ true → {x y : List Letter} {r : Registered} (w : World) → Tame node hash false x false → IsLastRound m node hash y (Ok r) → Agrees w → ChangesLast nodes node hash w (x ++ y)
-  round_changes nodes mine {x = x} w before (opens.opened {u = y} {n = n} t r) old = record {
-    front = x ++ y;
-    final = letter.OpenSegment node hash n (Ok t);
-    in_order = sym (append_assoc x y (letter.OpenSegment node hash n (Ok t) ∷ []));
-    calm = calm_at_each nodes mine w (tame_both before (ready_tame r)) tt old;
-    change = λ m v o. joining_counts m v node hash n t o;
-  }
+  round_changes nodes mine {x = x} w before (opens.opened {u = y} {n = n} t r) old =
+      subst (ChangesLast nodes node hash w) (append_assoc x y (letter.OpenSegment node hash n (Ok t) ∷ []))
+      (changes_last nodes node hash w (x ++ y) _ (calm_at_each nodes mine w (tame_both before (ready_tame r)) tt old) (λ u v o. joining_counts u v node hash n t o))
 
   -- A granted open changes something where it opens.
   opened_changes_after : (nodes : ℕ → Bool) → nodes node ≡ true → {x z : List Letter} {r : Registered} (w : World) → Tame node hash false x false → IsOpenWord m node hash z (Ok r) → Agrees w → ChangesLast nodes node hash w (x ++ z)
