@@ -8,26 +8,31 @@ ghost use Rattle.iceoryx2_builder.specs.Weaker.{AreSomeOf};
 ghost use Rattle.iceoryx2_builder.specs.Weaker.{IsWeakerEvent, IsWeakerPublishSubscribe, IsWeakerRequestResponse};
 ghost use Rattle.iceoryx2_builder_common.specs.Builders.{IsLawfulBuilder};
 ghost use Rattle.iceoryx2_open_or_create.specs.Adjusting.{Accepts, OnlyRaises};
-ghost use Rattle.iceoryx2_open_or_create.specs.BuilderCalls.{Way};
+ghost use Rattle.iceoryx2_create_and_open.specs.Creates.{IsCreateWord};
+ghost use Rattle.iceoryx2_create_and_open.specs.Opens.{IsOpenWord};
+ghost use Rattle.iceoryx2_create_and_open.specs.Prepared.{IsCreateCall, IsOpenCall};
+ghost use Rattle.iceoryx2_open_or_create.specs.BuilderCalls.{Way, ToCreate, ToOpen, ToOpenOrCreate};
+ghost use Rattle.iceoryx2_open_or_create.specs.CallWords.{IsOpenOrCreateCall, IsWordOf, SameWords};
 ghost use Rattle.iceoryx2_open_or_create.specs.EndsAtOnce.{EndsAtOnce};
 ghost use Rattle.iceoryx2_open_or_create.specs.LawfulCalls.{IsLawfulCall};
+ghost use Rattle.iceoryx2_open_or_create.specs.OpenOrCreates.{IsOpenOrCreateWord};
 ghost use Rattle.iceoryx2_description.specs.Description.{Description};
 ghost use Rattle.iceoryx2_description.specs.Span.{Span};
 ghost use Rattle.iceoryx2_description.specs.declared.description.ServiceHash.{ServiceHash};
 ghost use Rattle.iceoryx2_description.specs.declared.time.ClockFault.{ClockFault};
 ghost use Rattle.iceoryx2_event_builder.specs.Event.{event_adjusted, event_creating, event_meaning, event_opening, event_retried};
 ghost use Rattle.iceoryx2_event_builder.specs.Builder.{EventBuilderState, fresh_builder, with_setting as with_event_setting};
-ghost use Rattle.iceoryx2_event_builder.specs.EventCalls.{event_call};
+ghost use Rattle.iceoryx2_event_builder.specs.EventCalls.{event_call, event_caller};
 ghost use Rattle.iceoryx2_event_builder.specs.declared.event.demand.EventDemand.{EventDemand};
 ghost use Rattle.iceoryx2_types.specs.Types.{IsCompatible, Message};
 ghost use Rattle.iceoryx2_publish_subscribe_builder.specs.PublishSubscribe.{publish_subscribe_creating, publish_subscribe_opening, publish_subscribe_retried};
 ghost use Rattle.iceoryx2_publish_subscribe_builder.specs.PublishSubscribe.{publish_subscribe_adjusted as raised_publish_subscribe};
 ghost use Rattle.iceoryx2_publish_subscribe_builder.specs.PublishSubscribe.{prepared_meaning as publish_subscribe_meaning, prepared_adjusted as publish_subscribe_adjusted};
-ghost use Rattle.iceoryx2_publish_subscribe_builder.specs.PublishSubscribeCalls.{publish_subscribe_call};
+ghost use Rattle.iceoryx2_publish_subscribe_builder.specs.PublishSubscribeCalls.{publish_subscribe_call, publish_subscribe_caller};
 ghost use Rattle.iceoryx2_publish_subscribe_builder.specs.Builder.{PublishSubscribeBuilderState, fresh_builder as fresh_publish_subscribe, with_setting as with_publish_subscribe_setting};
 ghost use Rattle.iceoryx2_publish_subscribe_builder.specs.declared.publish_subscribe.demand.PublishSubscribeDemand.{PublishSubscribeDemand};
 ghost use Rattle.iceoryx2_publish_subscribe_builder.specs.declared.publish_subscribe.demand.PreparedDemand.{PreparedDemand as PreparedPublishSubscribe};
-ghost use Rattle.iceoryx2_request_response_builder.specs.RequestResponseCalls.{request_response_call};
+ghost use Rattle.iceoryx2_request_response_builder.specs.RequestResponseCalls.{request_response_call, request_response_caller};
 ghost use Rattle.iceoryx2_request_response_builder.specs.Builder.{Messages, RequestResponseBuilderState, fresh_builder as fresh_request_response, with_setting as with_request_response_setting};
 ghost use Rattle.iceoryx2_request_response_builder.specs.RequestResponse.{request_response_creating, request_response_opening, request_response_retried};
 ghost use Rattle.iceoryx2_request_response_builder.specs.RequestResponse.{request_response_adjusted as raised_request_response};
@@ -274,7 +279,8 @@ pub fn laws_of_adjusting()
 /// Each call of a builder, whichever of its three it is, is one of which the laws over whole calls
 /// speak: its create publishes for one node or more, only raises minima, and publishes what an open
 /// takes that has the same settings and types and requires no attributes; and what a table that nobody
-/// else uses refuses is not tried again.
+/// else uses refuses is not tried again. The words of which those laws speak are those of the builder's own
+/// clauses: a create's, an open's, and an open or create's.
 pub fn lawful_calls()
     ensures events { (hash_of : ℕ → List ℕ → ServiceHash) (b : EventBuilderState) (way : Way)
         (defined : List Pair) (required : Requirements) (now : Result Span ClockFault)
@@ -285,6 +291,35 @@ pub fn lawful_calls()
     ensures request_response { (hash_of : ℕ → List ℕ → ServiceHash) (b : RequestResponseBuilderState)
         (messages : Messages) (way : Way) (defined : List Pair) (required : Requirements)
         → IsLawfulCall (request_response_call hash_of b messages way defined required) }
+    ensures event_words { (hash_of : ℕ → List ℕ → ServiceHash) (b : EventBuilderState)
+        (defined : List Pair) (required : Requirements) (now : Result Span ClockFault)
+        → let caller = event_caller hash_of b now in
+        let either = event_call hash_of b ToOpenOrCreate defined required now in
+        SameWords (IsCreateWord (event_creating b.demand defined) caller)
+        (IsWordOf (event_call hash_of b ToCreate defined required now))
+        × SameWords (IsOpenWord (event_opening b.demand required) caller.node caller.hash)
+        (IsWordOf (event_call hash_of b ToOpen defined required now))
+        × SameWords (IsOpenOrCreateWord either) (IsWordOf either) }
+    ensures publish_subscribe_words { (hash_of : ℕ → List ℕ → ServiceHash) (b : PublishSubscribeBuilderState)
+        (message : Message) (defined : List Pair) (required : Requirements)
+        → let caller = publish_subscribe_caller hash_of b in
+        let either = publish_subscribe_call hash_of b message ToOpenOrCreate defined required in
+        SameWords (IsCreateCall (publish_subscribe_creating b.demand message defined) caller)
+        (IsWordOf (publish_subscribe_call hash_of b message ToCreate defined required))
+        × SameWords (IsOpenCall (publish_subscribe_opening b.demand message required) caller.node caller.hash)
+        (IsWordOf (publish_subscribe_call hash_of b message ToOpen defined required))
+        × SameWords (IsOpenOrCreateCall either) (IsWordOf either) }
+    ensures request_response_words { (hash_of : ℕ → List ℕ → ServiceHash) (b : RequestResponseBuilderState)
+        (messages : Messages) (defined : List Pair) (required : Requirements)
+        → let caller = request_response_caller hash_of b in
+        let creating = request_response_creating b.demand messages.request messages.response defined in
+        let opening = request_response_opening b.demand messages.request messages.response required in
+        let either = request_response_call hash_of b messages ToOpenOrCreate defined required in
+        SameWords (IsCreateCall creating caller)
+        (IsWordOf (request_response_call hash_of b messages ToCreate defined required))
+        × SameWords (IsOpenCall opening caller.node caller.hash)
+        (IsWordOf (request_response_call hash_of b messages ToOpen defined required))
+        × SameWords (IsOpenOrCreateCall either) (IsWordOf either) }
 {}
 
 /// What a call answers whose look finds something wrong.

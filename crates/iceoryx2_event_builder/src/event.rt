@@ -4,14 +4,17 @@ ghost use Rattle.std.specs.Prelude.{◌≡◌, List, [], Ok, Some, None};
 ghost use Rattle.iceoryx2_attribute.specs.Attributes.{Pair};
 ghost use Rattle.iceoryx2_attribute.specs.Requirements.{Requirements, no_requirements};
 ghost use Rattle.iceoryx2_description.specs.Span.{zero_span};
+ghost use Rattle.iceoryx2_access.specs.Run.{Joins};
 ghost use Rattle.iceoryx2_create_and_open.specs.Answers.{map_err};
-ghost use Rattle.iceoryx2_open_or_create.specs.BuilderCalls.{ToCreate, ToOpen, ToOpenOrCreate};
-ghost use Rattle.iceoryx2_open_or_create.specs.CallWords.{Calls};
+ghost use Rattle.iceoryx2_create_and_open.specs.Creates.{IsCreateWord};
+ghost use Rattle.iceoryx2_create_and_open.specs.Opens.{IsOpenWord};
+ghost use Rattle.iceoryx2_open_or_create.specs.BuilderCalls.{ToOpenOrCreate};
 ghost use Rattle.iceoryx2_open_or_create.specs.EndsAtOnce.{EndsAtOnce};
+ghost use Rattle.iceoryx2_open_or_create.specs.OpenOrCreates.{IsOpenOrCreateWord};
 ghost use Rattle.iceoryx2_builder_common.specs.Builders.{IsLawfulBuilder};
 ghost use Rattle.iceoryx2_event_builder.specs.declared.event.demand.EventDemand.{EventDemand};
 ghost use Rattle.iceoryx2_event_builder.specs.Event.{event_creating, event_opening, event_refusal, event_retried};
-ghost use Rattle.iceoryx2_event_builder.specs.EventCalls.{event_call};
+ghost use Rattle.iceoryx2_event_builder.specs.EventCalls.{event_call, event_caller};
 ghost use Rattle.iceoryx2_event_builder.specs.Builder.{fresh_builder, with_setting};
 
 pub mod demand;
@@ -207,8 +210,9 @@ impl<S: Service> Builder<S> {
         storage: &mut S::Storage,
         now: Result<Time, ClockFault>,
     ) -> Result<PortFactory<S>, EventCreateError>
-        ensures { Calls S.Storage.step (event_call S.ServiceNameHasher.hash_of self ToCreate [] no_requirements now)
-            storage.old result storage.new }
+        ensures { let caller = event_caller S.ServiceNameHasher.hash_of self now in
+            Joins S.Storage.step storage.old
+            (λ word. IsCreateWord (event_creating self.demand []) caller word result) storage.new }
     {
         let specifier = AttributeSpecifier::new(self.base.name().allocator());
         self.create_with_attributes(&specifier, storage, now)
@@ -231,9 +235,9 @@ impl<S: Service> Builder<S> {
         storage: &mut S::Storage,
         now: Result<Time, ClockFault>,
     ) -> Result<PortFactory<S>, EventCreateError>
-        ensures { Calls S.Storage.step
-            (event_call S.ServiceNameHasher.hash_of self ToCreate specifier.now no_requirements now)
-            storage.old result storage.new }
+        ensures { let caller = event_caller S.ServiceNameHasher.hash_of self now in
+            Joins S.Storage.step storage.old
+            (λ word. IsCreateWord (event_creating self.demand specifier.now) caller word result) storage.new }
     {
         let Builder { base, mut demand } = self;
         let caller = base.into_caller(PREFIX, now);
@@ -243,9 +247,10 @@ impl<S: Service> Builder<S> {
     /// Opens the service, whatever its attributes: `open_with_attributes` of a verifier that
     /// requires none.
     pub fn open(self, storage: &mut S::Storage) -> Result<PortFactory<S>, EventOpenError>
-        ensures { Calls S.Storage.step
-            (event_call S.ServiceNameHasher.hash_of self ToOpen [] no_requirements (Ok zero_span))
-            storage.old result storage.new }
+        ensures { let caller = event_caller S.ServiceNameHasher.hash_of self (Ok zero_span) in
+            Joins S.Storage.step storage.old
+            (λ word. IsOpenWord (event_opening self.demand no_requirements) caller.node caller.hash word result)
+            storage.new }
     {
         let verifier = AttributeVerifier::new(self.base.name().allocator());
         self.open_with_attributes(&verifier, storage)
@@ -268,9 +273,10 @@ impl<S: Service> Builder<S> {
         verifier: &AttributeVerifier,
         storage: &mut S::Storage,
     ) -> Result<PortFactory<S>, EventOpenError>
-        ensures { Calls S.Storage.step
-            (event_call S.ServiceNameHasher.hash_of self ToOpen [] verifier.now (Ok zero_span))
-            storage.old result storage.new }
+        ensures { let caller = event_caller S.ServiceNameHasher.hash_of self (Ok zero_span) in
+            Joins S.Storage.step storage.old
+            (λ word. IsOpenWord (event_opening self.demand verifier.now) caller.node caller.hash word result)
+            storage.new }
     {
         let Builder { base, demand } = self;
         let caller = base.into_caller(PREFIX, Ok(Time::default()));
@@ -284,9 +290,9 @@ impl<S: Service> Builder<S> {
         storage: &mut S::Storage,
         now: Result<Time, ClockFault>,
     ) -> Result<PortFactory<S>, EventOpenOrCreateError>
-        ensures { Calls S.Storage.step
-            (event_call S.ServiceNameHasher.hash_of self ToOpenOrCreate [] no_requirements now)
-            storage.old (map_err event_refusal result) storage.new }
+        ensures { let call = event_call S.ServiceNameHasher.hash_of self ToOpenOrCreate [] no_requirements now in
+            Joins S.Storage.step storage.old
+            (λ word. IsOpenOrCreateWord call word (map_err event_refusal result)) storage.new }
     {
         let verifier = AttributeVerifier::new(self.base.name().allocator());
         self.open_or_create_with_attributes(&verifier, storage, now)
@@ -307,9 +313,10 @@ impl<S: Service> Builder<S> {
         storage: &mut S::Storage,
         now: Result<Time, ClockFault>,
     ) -> Result<PortFactory<S>, EventOpenOrCreateError>
-        ensures { Calls S.Storage.step
-            (event_call S.ServiceNameHasher.hash_of self ToOpenOrCreate verifier.now.pairs verifier.now now)
-            storage.old (map_err event_refusal result) storage.new }
+        ensures { let required = verifier.now in
+            let call = event_call S.ServiceNameHasher.hash_of self ToOpenOrCreate required.pairs required now in
+            Joins S.Storage.step storage.old
+            (λ word. IsOpenOrCreateWord call word (map_err event_refusal result)) storage.new }
     {
         let Builder { base, mut demand } = self;
         let caller = base.into_caller(PREFIX, now);

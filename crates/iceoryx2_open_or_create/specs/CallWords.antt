@@ -1,5 +1,5 @@
 -- The words of every call of a builder, with their answers.
-use Rattle.std.specs.Prelude.{Bool, true, false, List, Result}
+use Rattle.std.specs.Prelude.{◌↔◌, Bool, true, false, List, Result}
 use Rattle.iceoryx2_access.specs.Registered.{Registered}
 use Rattle.iceoryx2_access.specs.Letter.{Letter}
 use Rattle.iceoryx2_access.specs.Run.{Joins}
@@ -39,6 +39,10 @@ module _ {D E C : Type 0} (c : BuilderCall D E C) where
 
   abbrev pub IsWordOf : List Letter → Result Registered (ErrorBy E C c.way) → Type 0
   IsWordOf = IsWordBy c.way
+
+-- Both are grammars of the same words, with the same answers.
+abbrev pub SameWords : {A : Type 0} (IsOne IsOther : List Letter → A → Type 0) → Type 0
+SameWords {A} IsOne IsOther = (word : List Letter) (answer : A) → IsOne word answer ↔ IsOther word answer
 
 -- The call leads a storage from one state to another, with this answer: along a word of it.
 abbrev pub Calls : {S D E C : Type 0} (step : S → Letter → S → Type 0) (c : BuilderCall D E C)

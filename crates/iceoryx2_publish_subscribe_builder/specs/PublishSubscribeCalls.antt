@@ -7,6 +7,7 @@ use Rattle.iceoryx2_description.specs.declared.description.ServiceHash.{ServiceH
 use Rattle.iceoryx2_description.specs.Span.{zero_span}
 use Rattle.iceoryx2_errors.specs.declared.error.publish_subscribe.PublishSubscribeOpenError.{PublishSubscribeOpenError}
 use Rattle.iceoryx2_errors.specs.declared.error.publish_subscribe.PublishSubscribeCreateError.{PublishSubscribeCreateError}
+use Rattle.iceoryx2_create_and_open.specs.declared.caller.Caller.{Caller}
 use Rattle.iceoryx2_open_or_create.specs.BuilderCalls.{BuilderCall, Way}
 use Rattle.iceoryx2_builder_common.specs.Facts.{caller_of}
 use Rattle.iceoryx2_publish_subscribe_builder.specs.declared.publish_subscribe.demand.PreparedDemand.{PreparedDemand}
@@ -14,14 +15,18 @@ use Rattle.iceoryx2_publish_subscribe_builder.specs.PublishSubscribe.{prepared_a
 use Rattle.iceoryx2_publish_subscribe_builder.specs.PublishSubscribe.{publish_subscribe_retried}
 use Rattle.iceoryx2_publish_subscribe_builder.specs.Builder.{PublishSubscribeBuilderState, prefix_of_publish_subscribe}
 
--- Its hash is made by this hasher, and its messages are of these types. A create defines the pairs, and an open
--- requires pairs and keys. It doesn't ask the clock: its time is zero.
+-- Who calls: the service's hash is made by this hasher. It doesn't ask the clock: its time is zero.
+abbrev pub publish_subscribe_caller : (hash_of : ℕ → List ℕ → ServiceHash) → PublishSubscribeBuilderState → Caller
+publish_subscribe_caller hash_of b =
+    caller_of hash_of prefix_of_publish_subscribe (record { node = b.node; name = b.name }) (Ok zero_span)
+
+-- Its messages are of these types. A create defines the pairs, and an open requires pairs and keys.
 abbrev pub publish_subscribe_call : (hash_of : ℕ → List ℕ → ServiceHash) → PublishSubscribeBuilderState → Message → Way
     → List Pair → Requirements
     → BuilderCall PreparedDemand PublishSubscribeOpenError PublishSubscribeCreateError
 publish_subscribe_call hash_of b message way defined required = record {
   way = way;
-  caller = caller_of hash_of prefix_of_publish_subscribe (record { node = b.node; name = b.name }) (Ok zero_span);
+  caller = publish_subscribe_caller hash_of b;
   meaning = prepared_meaning;
   adjusted = prepared_adjusted;
   retried = publish_subscribe_retried;

@@ -4,19 +4,19 @@ ghost use Rattle.std.specs.Prelude.{◌≡◌, List, [], Ok, IfOk};
 ghost use Rattle.iceoryx2_attribute.specs.Attributes.{Pair};
 ghost use Rattle.iceoryx2_attribute.specs.Requirements.{Requirements, no_requirements};
 ghost use Rattle.iceoryx2_types.specs.Types.{Message};
-ghost use Rattle.iceoryx2_description.specs.Span.{zero_span};
+ghost use Rattle.iceoryx2_access.specs.Run.{Joins};
 ghost use Rattle.iceoryx2_create_and_open.specs.Answers.{map_err};
-ghost use Rattle.iceoryx2_open_or_create.specs.BuilderCalls.{ToCreate, ToOpen, ToOpenOrCreate};
-ghost use Rattle.iceoryx2_open_or_create.specs.CallWords.{Calls};
+ghost use Rattle.iceoryx2_create_and_open.specs.Prepared.{IsCreateCall, IsOpenCall};
+ghost use Rattle.iceoryx2_open_or_create.specs.BuilderCalls.{ToOpenOrCreate};
+ghost use Rattle.iceoryx2_open_or_create.specs.CallWords.{IsOpenOrCreateCall};
 ghost use Rattle.iceoryx2_open_or_create.specs.EndsAtOnce.{EndsAtOnce};
 ghost use Rattle.iceoryx2_builder_common.specs.Builders.{IsLawfulBuilder};
-ghost use Rattle.iceoryx2_builder_common.specs.Facts.{ServiceFacts, caller_of};
 ghost use Rattle.iceoryx2_publish_subscribe_builder.specs.PublishSubscribe.{publish_subscribe_creating};
 ghost use Rattle.iceoryx2_publish_subscribe_builder.specs.PublishSubscribe.{publish_subscribe_opening};
 ghost use Rattle.iceoryx2_publish_subscribe_builder.specs.PublishSubscribe.{publish_subscribe_refusal};
 ghost use Rattle.iceoryx2_publish_subscribe_builder.specs.PublishSubscribe.{publish_subscribe_retried};
-ghost use Rattle.iceoryx2_publish_subscribe_builder.specs.PublishSubscribeCalls.{publish_subscribe_call};
-ghost use Rattle.iceoryx2_publish_subscribe_builder.specs.Builder.{fresh_builder, prefix_of_publish_subscribe};
+ghost use Rattle.iceoryx2_publish_subscribe_builder.specs.PublishSubscribeCalls.{publish_subscribe_call, publish_subscribe_caller};
+ghost use Rattle.iceoryx2_publish_subscribe_builder.specs.Builder.{fresh_builder};
 ghost use Rattle.iceoryx2_publish_subscribe_builder.specs.Builder.{message_for, with_setting};
 
 pub mod demand;
@@ -292,9 +292,7 @@ impl<P: ZeroCopySend, U: ZeroCopySend, S: Service> Builder<P, U, S> {
     /// no memory for their names.
     fn into_prepared(self) -> Result<(Caller, PreparedDemand), AllocError>
         ensures { let message = message_for P.detail U.detail self.types in
-            let base : ServiceFacts = record { node = self.node; name = self.name } in
-            let caller = caller_of S.ServiceNameHasher.hash_of prefix_of_publish_subscribe base (Ok zero_span) in
-            IfOk result (λ made. (made.0 ≡ caller)
+            IfOk result (λ made. (made.0 ≡ publish_subscribe_caller S.ServiceNameHasher.hash_of self)
             × (made.1 ≡ record { demand = self.demand; message = message })) }
     {
         let Builder {
@@ -316,9 +314,10 @@ impl<P: ZeroCopySend, U: ZeroCopySend, S: Service> Builder<P, U, S> {
         storage: &mut S::Storage,
     ) -> Result<PortFactory<S, P, U>, PublishSubscribeCreateError>
         ensures { let message = message_for P.detail U.detail self.types in
-            Calls S.Storage.step
-            (publish_subscribe_call S.ServiceNameHasher.hash_of self message ToCreate [] no_requirements)
-            storage.old result storage.new }
+            let caller = publish_subscribe_caller S.ServiceNameHasher.hash_of self in
+            Joins S.Storage.step storage.old
+            (λ word. IsCreateCall (publish_subscribe_creating self.demand message []) caller word result)
+            storage.new }
     {
         let specifier = AttributeSpecifier::new(self.base.name().allocator());
         self.create_with_attributes(&specifier, storage)
@@ -342,9 +341,10 @@ impl<P: ZeroCopySend, U: ZeroCopySend, S: Service> Builder<P, U, S> {
         storage: &mut S::Storage,
     ) -> Result<PortFactory<S, P, U>, PublishSubscribeCreateError>
         ensures { let message = message_for P.detail U.detail self.types in
-            Calls S.Storage.step
-            (publish_subscribe_call S.ServiceNameHasher.hash_of self message ToCreate specifier.now no_requirements)
-            storage.old result storage.new }
+            let caller = publish_subscribe_caller S.ServiceNameHasher.hash_of self in
+            Joins S.Storage.step storage.old
+            (λ word. IsCreateCall (publish_subscribe_creating self.demand message specifier.now) caller word result)
+            storage.new }
     {
         let Ok((caller, mut asked)) = self.into_prepared() else {
             return Err(PublishSubscribeCreateError::OutOfMemory);
@@ -359,9 +359,10 @@ impl<P: ZeroCopySend, U: ZeroCopySend, S: Service> Builder<P, U, S> {
         storage: &mut S::Storage,
     ) -> Result<PortFactory<S, P, U>, PublishSubscribeOpenError>
         ensures { let message = message_for P.detail U.detail self.types in
-            Calls S.Storage.step
-            (publish_subscribe_call S.ServiceNameHasher.hash_of self message ToOpen [] no_requirements)
-            storage.old result storage.new }
+            let caller = publish_subscribe_caller S.ServiceNameHasher.hash_of self in
+            let opening = publish_subscribe_opening self.demand message no_requirements in
+            Joins S.Storage.step storage.old
+            (λ word. IsOpenCall opening caller.node caller.hash word result) storage.new }
     {
         let verifier = AttributeVerifier::new(self.base.name().allocator());
         self.open_with_attributes(&verifier, storage)
@@ -387,9 +388,10 @@ impl<P: ZeroCopySend, U: ZeroCopySend, S: Service> Builder<P, U, S> {
         storage: &mut S::Storage,
     ) -> Result<PortFactory<S, P, U>, PublishSubscribeOpenError>
         ensures { let message = message_for P.detail U.detail self.types in
-            Calls S.Storage.step
-            (publish_subscribe_call S.ServiceNameHasher.hash_of self message ToOpen [] verifier.now)
-            storage.old result storage.new }
+            let caller = publish_subscribe_caller S.ServiceNameHasher.hash_of self in
+            let opening = publish_subscribe_opening self.demand message verifier.now in
+            Joins S.Storage.step storage.old
+            (λ word. IsOpenCall opening caller.node caller.hash word result) storage.new }
     {
         let Ok((caller, asked)) = self.into_prepared() else {
             return Err(PublishSubscribeOpenError::OutOfMemory);
@@ -404,9 +406,10 @@ impl<P: ZeroCopySend, U: ZeroCopySend, S: Service> Builder<P, U, S> {
         storage: &mut S::Storage,
     ) -> Result<PortFactory<S, P, U>, PublishSubscribeOpenOrCreateError>
         ensures { let message = message_for P.detail U.detail self.types in
-            Calls S.Storage.step
-            (publish_subscribe_call S.ServiceNameHasher.hash_of self message ToOpenOrCreate [] no_requirements)
-            storage.old (map_err publish_subscribe_refusal result) storage.new }
+            let call = publish_subscribe_call S.ServiceNameHasher.hash_of self message ToOpenOrCreate
+            [] no_requirements in
+            Joins S.Storage.step storage.old
+            (λ word. IsOpenOrCreateCall call word (map_err publish_subscribe_refusal result)) storage.new }
     {
         let verifier = AttributeVerifier::new(self.base.name().allocator());
         self.open_or_create_with_attributes(&verifier, storage)
@@ -429,10 +432,11 @@ impl<P: ZeroCopySend, U: ZeroCopySend, S: Service> Builder<P, U, S> {
         storage: &mut S::Storage,
     ) -> Result<PortFactory<S, P, U>, PublishSubscribeOpenOrCreateError>
         ensures { let message = message_for P.detail U.detail self.types in
-            Calls S.Storage.step
-            (publish_subscribe_call S.ServiceNameHasher.hash_of self message ToOpenOrCreate
-            verifier.now.pairs verifier.now)
-            storage.old (map_err publish_subscribe_refusal result) storage.new }
+            let required = verifier.now in
+            let call = publish_subscribe_call S.ServiceNameHasher.hash_of self message ToOpenOrCreate
+            required.pairs required in
+            Joins S.Storage.step storage.old
+            (λ word. IsOpenOrCreateCall call word (map_err publish_subscribe_refusal result)) storage.new }
     {
         let Ok((caller, mut asked)) = self.into_prepared() else {
             return Err(

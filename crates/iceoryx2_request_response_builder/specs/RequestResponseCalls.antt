@@ -6,6 +6,7 @@ use Rattle.iceoryx2_description.specs.declared.description.ServiceHash.{ServiceH
 use Rattle.iceoryx2_description.specs.Span.{zero_span}
 use Rattle.iceoryx2_errors.specs.declared.error.request_response.RequestResponseOpenError.{RequestResponseOpenError}
 use Rattle.iceoryx2_errors.specs.declared.error.request_response.RequestResponseCreateError.{RequestResponseCreateError}
+use Rattle.iceoryx2_create_and_open.specs.declared.caller.Caller.{Caller}
 use Rattle.iceoryx2_open_or_create.specs.BuilderCalls.{BuilderCall, Way}
 use Rattle.iceoryx2_builder_common.specs.Facts.{caller_of}
 use Rattle.iceoryx2_request_response_builder.specs.declared.request_response.demand.PreparedDemand.{PreparedDemand}
@@ -14,14 +15,18 @@ use Rattle.iceoryx2_request_response_builder.specs.RequestResponse.{request_resp
 use Rattle.iceoryx2_request_response_builder.specs.Builder.{RequestResponseBuilderState, Messages, asked_with}
 use Rattle.iceoryx2_request_response_builder.specs.Builder.{prefix_of_request_response}
 
--- Its hash is made by this hasher, and its requests and responses are of these types. A create defines the pairs, and
--- an open requires pairs and keys. It doesn't ask the clock: its time is zero.
+-- Who calls: the service's hash is made by this hasher. It doesn't ask the clock: its time is zero.
+abbrev pub request_response_caller : (hash_of : ℕ → List ℕ → ServiceHash) → RequestResponseBuilderState → Caller
+request_response_caller hash_of b =
+    caller_of hash_of prefix_of_request_response (record { node = b.node; name = b.name }) (Ok zero_span)
+
+-- Its requests and responses are of these types. A create defines the pairs, and an open requires pairs and keys.
 abbrev pub request_response_call : (hash_of : ℕ → List ℕ → ServiceHash) → RequestResponseBuilderState → Messages → Way
     → List Pair → Requirements
     → BuilderCall PreparedDemand RequestResponseOpenError RequestResponseCreateError
 request_response_call hash_of b messages way defined required = record {
   way = way;
-  caller = caller_of hash_of prefix_of_request_response (record { node = b.node; name = b.name }) (Ok zero_span);
+  caller = request_response_caller hash_of b;
   meaning = prepared_meaning;
   adjusted = prepared_adjusted;
   retried = request_response_retried;

@@ -4,19 +4,19 @@ ghost use Rattle.std.specs.Prelude.{◌≡◌, List, [], Ok, IfOk};
 ghost use Rattle.iceoryx2_attribute.specs.Attributes.{Pair};
 ghost use Rattle.iceoryx2_attribute.specs.Requirements.{Requirements, no_requirements};
 ghost use Rattle.iceoryx2_types.specs.Types.{Message};
-ghost use Rattle.iceoryx2_description.specs.Span.{zero_span};
+ghost use Rattle.iceoryx2_access.specs.Run.{Joins};
 ghost use Rattle.iceoryx2_create_and_open.specs.Answers.{map_err};
-ghost use Rattle.iceoryx2_open_or_create.specs.BuilderCalls.{ToCreate, ToOpen, ToOpenOrCreate};
-ghost use Rattle.iceoryx2_open_or_create.specs.CallWords.{Calls};
+ghost use Rattle.iceoryx2_create_and_open.specs.Prepared.{IsCreateCall, IsOpenCall};
+ghost use Rattle.iceoryx2_open_or_create.specs.BuilderCalls.{ToOpenOrCreate};
+ghost use Rattle.iceoryx2_open_or_create.specs.CallWords.{IsOpenOrCreateCall};
 ghost use Rattle.iceoryx2_open_or_create.specs.EndsAtOnce.{EndsAtOnce};
 ghost use Rattle.iceoryx2_builder_common.specs.Builders.{IsLawfulBuilder};
-ghost use Rattle.iceoryx2_builder_common.specs.Facts.{ServiceFacts, caller_of};
 ghost use Rattle.iceoryx2_request_response_builder.specs.RequestResponse.{request_response_creating};
 ghost use Rattle.iceoryx2_request_response_builder.specs.RequestResponse.{request_response_opening};
 ghost use Rattle.iceoryx2_request_response_builder.specs.RequestResponse.{request_response_refusal};
 ghost use Rattle.iceoryx2_request_response_builder.specs.RequestResponse.{request_response_retried};
-ghost use Rattle.iceoryx2_request_response_builder.specs.RequestResponseCalls.{request_response_call};
-ghost use Rattle.iceoryx2_request_response_builder.specs.Builder.{fresh_builder, prefix_of_request_response};
+ghost use Rattle.iceoryx2_request_response_builder.specs.RequestResponseCalls.{request_response_call, request_response_caller};
+ghost use Rattle.iceoryx2_request_response_builder.specs.Builder.{fresh_builder};
 ghost use Rattle.iceoryx2_request_response_builder.specs.Builder.{asked_with, messages_for, with_setting};
 
 pub mod demand;
@@ -362,9 +362,7 @@ impl<Q: ZeroCopySend, QU: ZeroCopySend, R: ZeroCopySend, RU: ZeroCopySend, S: Se
     /// no memory for their names.
     fn into_prepared(self) -> Result<(Caller, PreparedDemand), AllocError>
         ensures { let messages = messages_for Q.detail QU.detail R.detail RU.detail self.types in
-            let base : ServiceFacts = record { node = self.node; name = self.name } in
-            let caller = caller_of S.ServiceNameHasher.hash_of prefix_of_request_response base (Ok zero_span) in
-            IfOk result (λ made. (made.0 ≡ caller)
+            IfOk result (λ made. (made.0 ≡ request_response_caller S.ServiceNameHasher.hash_of self)
             × (made.1 ≡ asked_with self.demand messages)) }
     {
         let Builder {
@@ -384,9 +382,9 @@ impl<Q: ZeroCopySend, QU: ZeroCopySend, R: ZeroCopySend, RU: ZeroCopySend, S: Se
         storage: &mut S::Storage,
     ) -> Result<PortFactory<S, Q, QU, R, RU>, RequestResponseCreateError>
         ensures { let messages = messages_for Q.detail QU.detail R.detail RU.detail self.types in
-            Calls S.Storage.step
-            (request_response_call S.ServiceNameHasher.hash_of self messages ToCreate [] no_requirements)
-            storage.old result storage.new }
+            let caller = request_response_caller S.ServiceNameHasher.hash_of self in
+            let creating = request_response_creating self.demand messages.request messages.response [] in
+            Joins S.Storage.step storage.old (λ word. IsCreateCall creating caller word result) storage.new }
     {
         let specifier = AttributeSpecifier::new(self.base.name().allocator());
         self.create_with_attributes(&specifier, storage)
@@ -409,9 +407,9 @@ impl<Q: ZeroCopySend, QU: ZeroCopySend, R: ZeroCopySend, RU: ZeroCopySend, S: Se
         storage: &mut S::Storage,
     ) -> Result<PortFactory<S, Q, QU, R, RU>, RequestResponseCreateError>
         ensures { let messages = messages_for Q.detail QU.detail R.detail RU.detail self.types in
-            Calls S.Storage.step
-            (request_response_call S.ServiceNameHasher.hash_of self messages ToCreate specifier.now no_requirements)
-            storage.old result storage.new }
+            let caller = request_response_caller S.ServiceNameHasher.hash_of self in
+            let creating = request_response_creating self.demand messages.request messages.response specifier.now in
+            Joins S.Storage.step storage.old (λ word. IsCreateCall creating caller word result) storage.new }
     {
         let Ok((caller, mut asked)) = self.into_prepared() else {
             return Err(RequestResponseCreateError::OutOfMemory);
@@ -426,9 +424,10 @@ impl<Q: ZeroCopySend, QU: ZeroCopySend, R: ZeroCopySend, RU: ZeroCopySend, S: Se
         storage: &mut S::Storage,
     ) -> Result<PortFactory<S, Q, QU, R, RU>, RequestResponseOpenError>
         ensures { let messages = messages_for Q.detail QU.detail R.detail RU.detail self.types in
-            Calls S.Storage.step
-            (request_response_call S.ServiceNameHasher.hash_of self messages ToOpen [] no_requirements)
-            storage.old result storage.new }
+            let caller = request_response_caller S.ServiceNameHasher.hash_of self in
+            let opening = request_response_opening self.demand messages.request messages.response no_requirements in
+            Joins S.Storage.step storage.old
+            (λ word. IsOpenCall opening caller.node caller.hash word result) storage.new }
     {
         let verifier = AttributeVerifier::new(self.base.name().allocator());
         self.open_with_attributes(&verifier, storage)
@@ -455,9 +454,10 @@ impl<Q: ZeroCopySend, QU: ZeroCopySend, R: ZeroCopySend, RU: ZeroCopySend, S: Se
         storage: &mut S::Storage,
     ) -> Result<PortFactory<S, Q, QU, R, RU>, RequestResponseOpenError>
         ensures { let messages = messages_for Q.detail QU.detail R.detail RU.detail self.types in
-            Calls S.Storage.step
-            (request_response_call S.ServiceNameHasher.hash_of self messages ToOpen [] verifier.now)
-            storage.old result storage.new }
+            let caller = request_response_caller S.ServiceNameHasher.hash_of self in
+            let opening = request_response_opening self.demand messages.request messages.response verifier.now in
+            Joins S.Storage.step storage.old
+            (λ word. IsOpenCall opening caller.node caller.hash word result) storage.new }
     {
         let Ok((caller, asked)) = self.into_prepared() else {
             return Err(RequestResponseOpenError::OutOfMemory);
@@ -472,9 +472,10 @@ impl<Q: ZeroCopySend, QU: ZeroCopySend, R: ZeroCopySend, RU: ZeroCopySend, S: Se
         storage: &mut S::Storage,
     ) -> Result<PortFactory<S, Q, QU, R, RU>, RequestResponseOpenOrCreateError>
         ensures { let messages = messages_for Q.detail QU.detail R.detail RU.detail self.types in
-            Calls S.Storage.step
-            (request_response_call S.ServiceNameHasher.hash_of self messages ToOpenOrCreate [] no_requirements)
-            storage.old (map_err request_response_refusal result) storage.new }
+            let call = request_response_call S.ServiceNameHasher.hash_of self messages ToOpenOrCreate
+            [] no_requirements in
+            Joins S.Storage.step storage.old
+            (λ word. IsOpenOrCreateCall call word (map_err request_response_refusal result)) storage.new }
     {
         let verifier = AttributeVerifier::new(self.base.name().allocator());
         self.open_or_create_with_attributes(&verifier, storage)
@@ -497,10 +498,11 @@ impl<Q: ZeroCopySend, QU: ZeroCopySend, R: ZeroCopySend, RU: ZeroCopySend, S: Se
         storage: &mut S::Storage,
     ) -> Result<PortFactory<S, Q, QU, R, RU>, RequestResponseOpenOrCreateError>
         ensures { let messages = messages_for Q.detail QU.detail R.detail RU.detail self.types in
-            Calls S.Storage.step
-            (request_response_call S.ServiceNameHasher.hash_of self messages ToOpenOrCreate
-            verifier.now.pairs verifier.now)
-            storage.old (map_err request_response_refusal result) storage.new }
+            let required = verifier.now in
+            let call = request_response_call S.ServiceNameHasher.hash_of self messages ToOpenOrCreate
+            required.pairs required in
+            Joins S.Storage.step storage.old
+            (λ word. IsOpenOrCreateCall call word (map_err request_response_refusal result)) storage.new }
     {
         let Ok((caller, mut asked)) = self.into_prepared() else {
             return Err(RequestResponseOpenOrCreateError::RequestResponseOpenError(

@@ -14,7 +14,7 @@ use Rattle.iceoryx2_event_builder.specs.EventCalls.{event_call}
 use Rattle.iceoryx2_event_builder.specs.Builder.{EventBuilderState}
 use Rattle.iceoryx2_commands.specs.declared.command.Refusal.{Refusal}
 use Rattle.iceoryx2_commands.specs.declared.command.Refusal.TheVariants as refusal
-use Rattle.iceoryx2_session.specs.PatternCalls.{PatternCall, defined_by, hash_for, refusal_by, required_by}
+use Rattle.iceoryx2_session.specs.PatternCalls.{PatternCall, hash_for, refusal_by}
 
 -- how the refusals of the rounds are carried
 abbrev pub event_rounds : OpenOrCreateRefusal EventOpenError EventCreateError → Refusal
@@ -22,11 +22,12 @@ event_rounds (rounds.Open error) = refusal.EventOpenOrCreate (either.EventOpenEr
 event_rounds (rounds.Create error) = refusal.EventOpenOrCreate (either.EventCreateError error)
 event_rounds rounds.SystemInFlux = refusal.EventOpenOrCreate either.SystemInFlux
 
+-- Of a command's attributes a create defines the pairs, and an open requires all.
 abbrev pub event_pattern_call : EventBuilderState → Way → Requirements → Result Span ClockFault → PatternCall
 event_pattern_call b way attributes now = record {
   asks = EventDemand;
   open_error = EventOpenError;
   create_error = EventCreateError;
-  call = event_call hash_for b way (defined_by way attributes) (required_by way attributes) now;
+  call = event_call hash_for b way attributes.pairs attributes now;
   refusal_of = refusal_by refusal.EventCreate refusal.EventOpen event_rounds way;
 }

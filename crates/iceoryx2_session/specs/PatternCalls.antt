@@ -1,8 +1,6 @@
 -- A call of some pattern's builder, and how a session's refusal carries its errors.
-use Rattle.std.specs.Prelude.{ℕ, List, [], ◌∷◌}
+use Rattle.std.specs.Prelude.{ℕ, List, ◌∷◌}
 use Rattle.sha1.specs.Sha1.{sha1}
-use Rattle.iceoryx2_attribute.specs.Attributes.{Pair}
-use Rattle.iceoryx2_attribute.specs.Requirements.{Requirements, no_requirements}
 use Rattle.iceoryx2_description.specs.declared.description.ServiceHash.{ServiceHash}
 use Rattle.iceoryx2_open_or_create.specs.BuilderCalls.{BuilderCall, ErrorBy, Way, ToCreate, ToOpen, ToOpenOrCreate}
 use Rattle.iceoryx2_open_or_create.specs.declared.open_or_create.OpenOrCreateRefusal.{OpenOrCreateRefusal}
@@ -22,15 +20,6 @@ abbrev pub way_of : How → Way
 way_of how.Create = ToCreate
 way_of how.Open = ToOpen
 way_of how.OpenOrCreate = ToOpenOrCreate
-
--- what a command's call defines of its attributes, and what it requires
-abbrev pub defined_by : Way → Requirements → List Pair
-defined_by ToOpen attributes = []
-defined_by _ attributes = attributes.pairs
-
-abbrev pub required_by : Way → Requirements → Requirements
-required_by ToCreate attributes = no_requirements
-required_by _ attributes = attributes
 
 -- the refusal of a create, of an open, and of the rounds of an open or create
 abbrev pub refusal_by : {E C : Type 0} → (C → Refusal) → (E → Refusal) → (OpenOrCreateRefusal E C → Refusal)

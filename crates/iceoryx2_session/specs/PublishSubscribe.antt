@@ -13,7 +13,7 @@ use Rattle.iceoryx2_publish_subscribe_builder.specs.Builder.{PublishSubscribeBui
 use Rattle.iceoryx2_commands.specs.declared.command.Refusal.{Refusal}
 use Rattle.iceoryx2_commands.specs.declared.command.Refusal.TheVariants as refusal
 use Rattle.iceoryx2_session.specs.Markers.{payload_marker, user_header_marker}
-use Rattle.iceoryx2_session.specs.PatternCalls.{PatternCall, defined_by, hash_for, refusal_by, required_by}
+use Rattle.iceoryx2_session.specs.PatternCalls.{PatternCall, hash_for, refusal_by}
 
 -- the message of this builder, whose types are those that setters named
 abbrev pub named_message : PublishSubscribeBuilderState → Message
@@ -28,12 +28,12 @@ publish_subscribe_rounds (rounds.Create error) =
     refusal.PublishSubscribeOpenOrCreate (either.PublishSubscribeCreateError error)
 publish_subscribe_rounds rounds.SystemInFlux = refusal.PublishSubscribeOpenOrCreate either.SystemInFlux
 
+-- Of a command's attributes a create defines the pairs, and an open requires all.
 abbrev pub publish_subscribe_pattern_call : PublishSubscribeBuilderState → Way → Requirements → PatternCall
 publish_subscribe_pattern_call b way attributes = record {
   asks = PreparedDemand;
   open_error = PublishSubscribeOpenError;
   create_error = PublishSubscribeCreateError;
-  call = publish_subscribe_call hash_for b (named_message b) way
-      (defined_by way attributes) (required_by way attributes);
+  call = publish_subscribe_call hash_for b (named_message b) way attributes.pairs attributes;
   refusal_of = refusal_by refusal.PublishSubscribeCreate refusal.PublishSubscribeOpen publish_subscribe_rounds way;
 }

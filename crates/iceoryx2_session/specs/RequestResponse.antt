@@ -12,7 +12,7 @@ use Rattle.iceoryx2_request_response_builder.specs.Builder.{RequestResponseBuild
 use Rattle.iceoryx2_commands.specs.declared.command.Refusal.{Refusal}
 use Rattle.iceoryx2_commands.specs.declared.command.Refusal.TheVariants as refusal
 use Rattle.iceoryx2_session.specs.Markers.{payload_marker, user_header_marker}
-use Rattle.iceoryx2_session.specs.PatternCalls.{PatternCall, defined_by, hash_for, refusal_by, required_by}
+use Rattle.iceoryx2_session.specs.PatternCalls.{PatternCall, hash_for, refusal_by}
 
 -- the request and the response of this builder, whose types are those that setters named
 abbrev pub named_messages : RequestResponseBuilderState → Messages
@@ -27,12 +27,12 @@ request_response_rounds (rounds.Create error) =
     refusal.RequestResponseOpenOrCreate (either.RequestResponseCreateError error)
 request_response_rounds rounds.SystemInFlux = refusal.RequestResponseOpenOrCreate either.SystemInFlux
 
+-- Of a command's attributes a create defines the pairs, and an open requires all.
 abbrev pub request_response_pattern_call : RequestResponseBuilderState → Way → Requirements → PatternCall
 request_response_pattern_call b way attributes = record {
   asks = PreparedDemand;
   open_error = RequestResponseOpenError;
   create_error = RequestResponseCreateError;
-  call = request_response_call hash_for b (named_messages b) way
-      (defined_by way attributes) (required_by way attributes);
+  call = request_response_call hash_for b (named_messages b) way attributes.pairs attributes;
   refusal_of = refusal_by refusal.RequestResponseCreate refusal.RequestResponseOpen request_response_rounds way;
 }

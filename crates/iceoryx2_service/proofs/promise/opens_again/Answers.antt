@@ -1,16 +1,10 @@
 use Rattle.iceoryx2_builder.proofs.LawfulCalls.{event_call_is_lawful, publish_subscribe_call_is_lawful, request_response_call_is_lawful}
-use Rattle.iceoryx2_event_builder.specs.EventCalls.{event_call}
-use Rattle.iceoryx2_publish_subscribe_builder.specs.PublishSubscribeCalls.{publish_subscribe_call}
-use Rattle.iceoryx2_request_response_builder.specs.RequestResponseCalls.{request_response_call}
 use Rattle.iceoryx2_call_laws.proofs.quiet.Own.{opens_again}
 use Rattle.iceoryx2_service.proofs.promise.opens_again.Goals as goal
 
 pub returns : goal.returns
 returns c = record {
-  events = λ hash_of b way defined required now.
-      opens_again (event_call hash_of b way defined required now) (event_call_is_lawful hash_of b way defined required now);
-  publish_subscribe = λ hash_of b message way defined required.
-      opens_again (publish_subscribe_call hash_of b message way defined required) (publish_subscribe_call_is_lawful hash_of b message way defined required);
-  request_response = λ hash_of b messages way defined required.
-      opens_again (request_response_call hash_of b messages way defined required) (request_response_call_is_lawful hash_of b messages way defined required);
+  events = λ hash_of b way defined required now. opens_again _ (event_call_is_lawful hash_of b way defined required now);
+  publish_subscribe = λ hash_of b message way defined required. opens_again _ (publish_subscribe_call_is_lawful hash_of b message way defined required);
+  request_response = λ hash_of b messages way defined required. opens_again _ (request_response_call_is_lawful hash_of b messages way defined required);
 }

@@ -1,16 +1,10 @@
 use Rattle.iceoryx2_builder.proofs.LawfulCalls.{event_call_is_lawful, publish_subscribe_call_is_lawful, request_response_call_is_lawful}
-use Rattle.iceoryx2_event_builder.specs.EventCalls.{event_call}
-use Rattle.iceoryx2_publish_subscribe_builder.specs.PublishSubscribeCalls.{publish_subscribe_call}
-use Rattle.iceoryx2_request_response_builder.specs.RequestResponseCalls.{request_response_call}
 use Rattle.iceoryx2_call_laws.proofs.calls.Promise.{keeps_promise}
 use Rattle.iceoryx2_service.proofs.promise.promise_of_builders.Goals as goal
 
 pub returns : goal.returns
 returns c = record {
-  events = λ hash_of b way defined required now.
-      keeps_promise (event_call hash_of b way defined required now) (event_call_is_lawful hash_of b way defined required now);
-  publish_subscribe = λ hash_of b message way defined required.
-      keeps_promise (publish_subscribe_call hash_of b message way defined required) (publish_subscribe_call_is_lawful hash_of b message way defined required);
-  request_response = λ hash_of b messages way defined required.
-      keeps_promise (request_response_call hash_of b messages way defined required) (request_response_call_is_lawful hash_of b messages way defined required);
+  events = λ hash_of b way defined required now. keeps_promise _ (event_call_is_lawful hash_of b way defined required now);
+  publish_subscribe = λ hash_of b message way defined required. keeps_promise _ (publish_subscribe_call_is_lawful hash_of b message way defined required);
+  request_response = λ hash_of b messages way defined required. keeps_promise _ (request_response_call_is_lawful hash_of b messages way defined required);
 }
