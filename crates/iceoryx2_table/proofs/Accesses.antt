@@ -1,6 +1,6 @@
 -- The own parts of accesses, from what was tested and done.
 use Rattle.std.proofs.Common.{◌≡◌, ℕ, ◌+◌, Bool, true, false, Option, Some, None, refl, sym, ap, subst, ◌∙◌}
-use Rattle.std.specs.Prelude.{Result, Ok, Err, nat_lt, ◌&&◌, ◌==◌, if◌then◌else◌}
+use Rattle.std.specs.Prelude.{Result, Ok, Err, is_some, ◌&&◌, ◌==◌, if◌then◌else◌}
 use Rattle.iceoryx2_description.specs.declared.description.ServiceHash.{ServiceHash}
 use Rattle.iceoryx2_description.specs.Description.{Description}
 use Rattle.iceoryx2_world.specs.Sets as set
@@ -17,7 +17,7 @@ use Rattle.iceoryx2_world.specs.Acts as act
 use Rattle.iceoryx2_world.specs.Steps.{ServiceView, view_after, to_view, row_for}
 use Rattle.iceoryx2_access.specs.Letter.{Letter, caller_of, service_of}
 use Rattle.iceoryx2_access.specs.declared.storage.OpenSegmentError.{OpenSegmentError}
-use Rattle.iceoryx2_world.specs.Access.{NodeView, Change, view_becomes_with, with_ticket, opening_of, read_change, publishing_of, has_made, has_lock, make_of, view_becomes, or_refused, IsNodeAnswer, IsOwnPart, node_view, write}
+use Rattle.iceoryx2_world.specs.Access.{NodeView, Change, view_becomes_with, with_ticket, opening_of, read_change, publishing_of, has_made, make_of, view_becomes, or_refused, IsNodeAnswer, IsOwnPart, node_view, write}
 use Rattle.iceoryx2_table.proofs.Views.{both_true}
 use Rattle.iceoryx2_table.specs.Book.{Book, StepsOrStays, step_at, world_with, segment_fits}
 
@@ -67,16 +67,10 @@ pub opens_by : (i : ℕ) (h : ServiceHash) (n : ℕ) (s : NodeView) (r : Option 
     → opening_of i h n s r o ≡ Ok (s.view.counter, view_becomes_with (record x { counter = s.view.counter + 1 }) (with_ticket i h s.tickets s.view.counter n))
 opens_by i h n s r o x e f = ap (λ (q : Option OpenSegmentError). opening_of i h n s q o) e ∙ ap (opening_of i h n s None) f
 
--- who holds the lock is refused a segment only because there is one
-pub make_refused : (i : ℕ) (h : ServiceHash) (n m : ℕ) (x : Phase) (r : Option Row) (s : Option Segment) (c : ℕ) → (has_lock n x && nat_lt 0 m) ≡ true → view_after (Node i) h (act.Make m) x r s c ≡ None
-    → make_of i h m (record { phase = x; row = r; segment = s; counter = c }) s ≡ Err Making.AlreadyExists
-make_refused i h n m x r (Some s) c may e = refl
-make_refused i h n m (at.Locked k) r None c may e = absurd (allowed (nat_lt 0 m) _ (both_true _ _ may).1 e)
-  where
-    allowed : (b : Bool) (y : ServiceView) → b ≡ true → (if b then Some y else None) ≡ None → ⊥
-    allowed true y is e = cc
-    allowed false y is e = cc
-make_refused i h n m x r None c may e = absurd (cc)
+-- where there is a segment none is made
+pub make_refused : (i : ℕ) (h : ServiceHash) (m : ℕ) (x : ServiceView) (o : Option Segment) → is_some o ≡ true → make_of i h m x o ≡ Err Making.AlreadyExists
+make_refused i h m x (Some s) e = refl
+make_refused i h m x None e = absurd (cc)
 
 -- a segment is made only where there is none
 pub make_done : (i : ℕ) (h : ServiceHash) (m : ℕ) (x : Phase) (r : Option Row) (s : Option Segment) (c : ℕ) (y : ServiceView) → view_after (Node i) h (act.Make m) x r s c ≡ Some y

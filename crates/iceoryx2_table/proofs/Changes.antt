@@ -1,6 +1,6 @@
 -- What each step of a participant makes of the book, from what was tested and from the maps that it wrote.
-use Rattle.std.proofs.Common.{◌≡◌, ℕ, ◌+◌, ◌-◌, ◌<◌, Bool, true, false, Option, Some, None, arith, refl, sym, ap, subst, ◌∙◌}
-use Rattle.std.specs.Prelude.{Ok, Err, is_some, nat_lt, ◌==◌, if◌then◌else◌}
+use Rattle.std.proofs.Common.{◌≡◌, ℕ, ◌+◌, ◌-◌, ◌<◌, Bool, true, false, Option, Some, None, inl, inr, arith, refl, sym, ap, subst, ◌∙◌}
+use Rattle.std.specs.Prelude.{Result, Ok, Err, is_ok, is_some, nat_lt, ◌==◌, if◌then◌else◌}
 use Rattle.std.specs.FinMap as map
 use Rattle.std.specs.Option.{option_map}
 use Rattle.std.specs.declared.alloc.AllocError.{AllocError}
@@ -19,10 +19,12 @@ use Rattle.iceoryx2_world.specs.Acts.{Act}
 use Rattle.iceoryx2_world.specs.Acts as act
 use Rattle.iceoryx2_world.specs.Batches.{needs_room}
 use Rattle.iceoryx2_world.specs.Steps.{ServiceView, view_after, to_view, last_number, has_room, has_others, leave_of, new_segment, row_for, with_one, without_one, without_any}
+use Rattle.sorted_map.specs.Places.{place_in}
 use Rattle.sorted_map.proofs.Maps.{insert_same}
 use Rattle.iceoryx2_table.specs.declared.services.Position.{Position}
-use Rattle.iceoryx2_table.specs.Book.{Book, Admits, Dismisses, StepsTo, Starves, TakesDescription, TakesLeave, TakesSegment, position_in, published_number, segment_fits, step_at}
-use Rattle.iceoryx2_table.proofs.Views.{kept, none_of}
+use Rattle.iceoryx2_table.specs.Book.{Book, Admits, Dismisses, StepsTo, StepsOrStays, Starves, TakesDescription, TakesLeave, TakesSegment, position_in, published_number, segment_fits, step_at}
+use Rattle.iceoryx2_table.specs.Recorded.{RecordsAdmission, RecordsStep}
+use Rattle.iceoryx2_table.proofs.Views.{kept, none_of, there_by_place}
 use Rattle.iceoryx2_table.proofs.ServiceViews.{by_phase, by_both, did, refused, starved, left, fitting, lock_tried, publish_tried, published_row, read_tried}
 
 abbrev Rows : Type 0
@@ -35,6 +37,10 @@ abbrev Phases : Type 0
 Phases = map.FinMap place_cmp Phase
 
 -- In each section a is the book as it is read in the fields, and b is its value.
+
+-- whether there is a segment, by its place
+pub segment_there : {a b : Book} (h : ServiceHash) → a ≡ b → {place : Result ℕ ℕ} → place ≡ place_in b.segments h → {y : Bool} → is_ok place ≡ y → is_some (map.get a.segments h) ≡ y
+segment_there {b = b} h is e test = ap (λ (x : Book). is_some (map.get x.segments h)) is ∙ there_by_place b.segments h e test
 
 -- who holds nothing locks what is absent, while a number is left
 module _ {a b : Book} (p : Participant) (h : ServiceHash) (is : a ≡ b) {q : Position} (found : q ≡ position_in a.phases (p, h)) (free : begins q.phase ≡ true) (absent : map.get b.rows h ≡ None) (more : a.counter < last_number) where
@@ -71,6 +77,14 @@ module _ {a b : Book} (p : Participant) (h : ServiceHash) (is : a ≡ b) {q : Po
         phases = (phase ∙ ap (λ m. map.insert m (p, h) (at.Read n)) same) i;
         counter = a.counter;
       })
+
+-- who holds the lock makes no segment where there is one
+pub no_make : (b : Book) (p : Participant) (h : ServiceHash) (m n : ℕ) {q : Position} → q ≡ position_in b.phases (p, h) → q.phase ≡ at.Locked n → is_some (map.get b.segments h) ≡ true → step_at b p h (act.Make m) ≡ None
+no_make b p h m n found locked there = by (map.get b.segments h) refl there
+  where
+    by : (o : Option Segment) → map.get b.segments h ≡ o → is_some o ≡ true → step_at b p h (act.Make m) ≡ None
+    by (Some s) e t = by_both b p h (act.Make m) (at.Locked n) (Some s) (sym (ap (λ (x : Position). x.phase) found) ∙ locked) e
+    by None e t = absurd (cc)
 
 -- who holds the lock makes a segment where there is none, for at least one node
 module _ {a b : Book} (p : Participant) (h : ServiceHash) (m n : ℕ) (is : a ≡ b) {q : Position} (found : q ≡ position_in b.phases (p, h)) (locked : q.phase ≡ at.Locked n) (absent : is_some (map.get a.segments h) ≡ false) (some : 0 < m) where
@@ -134,6 +148,9 @@ module _ {a b : Book} (p : Participant) (h : ServiceHash) (is : a ≡ b) {q : Po
         counter = a.counter;
       })
 
+  pub joins_nothing : {n : ℕ} → q.phase ≡ at.Read n → map.get a.segments h ≡ None → StepsOrStays b p h act.Join false a
+  joins_nothing {n} read none = refused p h act.Join is (by_both a p h act.Join (at.Read n) None (phase_is read) none) refl
+
 -- who has read joins where the segment takes it: t is what becomes of the segment s
 module _ {a b : Book} (p : Participant) (h : ServiceHash) (is : a ≡ b) {q : Position} (found : q ≡ position_in b.phases (p, h)) {n : ℕ} (read : q.phase ≡ at.Read n) (s t : Segment) (there : map.get a.segments h ≡ Some s) {g : Segments} (segment : g ≡ map.insert a.segments h t) where
   join_tries : (y : Bool) → has_room n s ≡ y → step_at a p h act.Join ≡ (if y then to_view (at.Joined n 1) (map.get a.rows h) (Some (with_one p s)) a.counter else None)
@@ -143,9 +160,8 @@ module _ {a b : Book} (p : Participant) (h : ServiceHash) (is : a ≡ b) {q : Po
   as_before : t ≡ s → record a { segments = g } ≡ a
   as_before same = λ i. record a { segments = (segment ∙ ap (map.insert a.segments h) same ∙ insert_same hash_total hash_exact a.segments h s there) i }
 
-  pub joins : {admitted : Bool} {f : Phases} → admitted ≡ true → Admits n p s (Ok admitted) t → f ≡ set_to a.phases (p, h) (Some (at.Joined n 1)) → StepsTo b p h act.Join (record a { segments = g; phases = f })
-  joins told admits phase =
-      let ad = subst (λ (y : Bool). Admits n p s (Ok y) t) told admits in
+  joins : {f : Phases} → Admits n p s (Ok true) t → f ≡ set_to a.phases (p, h) (Some (at.Joined n 1)) → StepsTo b p h act.Join (record a { segments = g; phases = f })
+  joins ad phase =
       did p h act.Join (record { phase = at.Joined n 1; row = _; segment = Some (with_one p s); counter = _ }) is (join_tries true ad.0)
       (λ i. record {
         rows = kept hash_total hash_exact a.rows h i;
@@ -154,13 +170,25 @@ module _ {a b : Book} (p : Participant) (h : ServiceHash) (is : a ≡ b) {q : Po
         counter = a.counter;
       })
 
-  pub join_refused : {admitted : Bool} → admitted ≡ false → Admits n p s (Ok admitted) t → (step_at b p h act.Join ≡ None) × (record a { segments = g } ≡ b)
-  join_refused told admits =
-      let ad = subst (λ (y : Bool). Admits n p s (Ok y) t) told admits in
-      refused p h act.Join is (join_tries false ad.0) (as_before ad.1)
+  join_refused : Admits n p s (Ok false) t → StepsOrStays b p h act.Join false (record a { segments = g })
+  join_refused ad = refused p h act.Join is (join_tries false ad.0) (as_before ad.1)
 
   pub join_starves : (e : AllocError) → Admits n p s (Err e) t → Starves b p h act.Join (record a { segments = g })
   join_starves e ad = starved p h act.Join _ is (join_tries true ad.0) (ap (needs_room act.Join) (phase_is p h is found read)) (as_before ad.1)
+
+  -- the same, with what writes it down
+  module _ {R : Type 0} (wrote declines : R → R → Type 0) (before after : R) {admitted : Bool} where
+    pub join_recorded : {f : Phases} → admitted ≡ true → RecordsAdmission wrote declines n p s (Ok admitted) t before after → f ≡ set_to a.phases (p, h) (Some (at.Joined n 1)) → RecordsStep wrote declines b p h act.Join true (record a { segments = g; phases = f }) before after
+    join_recorded told admits phase =
+        let ad = subst (λ (y : Bool). RecordsAdmission wrote declines n p s (Ok y) t before after) told admits in
+        (joins ad.0 phase, ad.1)
+
+    pub join_unrecorded : admitted ≡ false → RecordsAdmission wrote declines n p s (Ok admitted) t before after → RecordsStep wrote declines b p h act.Join false (record a { segments = g }) before after
+    join_unrecorded told admits = by (subst (λ (y : Bool). RecordsAdmission wrote declines n p s (Ok y) t before after) told admits)
+      where
+        by : RecordsAdmission wrote declines n p s (Ok false) t before after → RecordsStep wrote declines b p h act.Join false (record a { segments = g }) before after
+        by (inl x) = inl (join_refused x.0, x.1)
+        by (inr x) = inr (as_before x.0 ∙ is, x.1)
 
 -- who has joined leaves
 module _ {a b : Book} (p : Participant) (h : ServiceHash) (is : a ≡ b) {q : Position} (found : q ≡ position_in a.phases (p, h)) {n k : ℕ} (joined : q.phase ≡ at.Joined n k) where
@@ -216,6 +244,10 @@ module _ {a b : Book} (p : Participant) (h : ServiceHash) (is : a ≡ b) {q : Po
       let d = subst (λ (x : Bool). Dismisses p s x t) told gone in
       left p h _ (record { phase = at.Leaving n; row = _; segment = Some (without_any s); counter = _ }) is (leave_comes false d.0) refl
       (λ i. record { rows = kept hash_total hash_exact a.rows h i; segments = (segment ∙ ap (map.insert a.segments h) d.1) i; phases = phase i; counter = a.counter })
+
+-- what was found in a segment's place stands there as before
+pub found_again : {a b : Book} (h : ServiceHash) → a ≡ b → (s : Segment) → map.get a.segments h ≡ Some s → {g : Segments} → g ≡ map.insert a.segments h s → record a { segments = g } ≡ b
+found_again {a} h is s there segment = (λ i. record a { segments = (segment ∙ insert_same hash_total hash_exact a.segments h s there) i }) ∙ is
 
 -- who may takes the segment or the description away, whatever else there is
 module _ {a b : Book} (p : Participant) (h : ServiceHash) (is : a ≡ b) {q : Position} (found : q ≡ position_in a.phases (p, h)) where

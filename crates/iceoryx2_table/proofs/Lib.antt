@@ -6,3 +6,4 @@ pub mod Accesses
 pub mod OwnParts
 pub mod PeerSteps
 pub mod States
+pub mod Recording

@@ -1,6 +1,6 @@
 -- The own part of each access of a node, from what was read, what a test said and what a step did.
 use Rattle.std.proofs.Common.{◌≡◌, ℕ, ◌+◌, List, Bool, true, false, Option, Some, None, inl, inr, refl, sym, ap, subst, ◌∙◌}
-use Rattle.std.specs.Prelude.{Result, Ok, Err, nat_lt, ◌&&◌, if◌then◌else◌}
+use Rattle.std.specs.Prelude.{Result, Ok, Err, is_some, nat_lt, ◌&&◌, if◌then◌else◌}
 use Rattle.std.specs.FinMap as map
 use Rattle.std.specs.declared.alloc.AllocError.{AllocError}
 use Rattle.iceoryx2_description.specs.declared.description.ServiceHash.{ServiceHash}
@@ -37,7 +37,8 @@ use Rattle.iceoryx2_world.specs.Steps.{ServiceView}
 use Rattle.iceoryx2_world.specs.World.{World, Tickets, phase_of, tag_of}
 use Rattle.iceoryx2_world.proofs.AccessCases.{answered, starved, refused, surely_answered, surely_refused}
 use Rattle.iceoryx2_table.specs.declared.services.Position.{Position}
-use Rattle.iceoryx2_table.specs.Book.{Book, StepsOrStays, Starves, TakesLeave, position_in, segment_fits, step_at, world_with}
+use Rattle.iceoryx2_table.specs.Book.{Book, StepsTo, StepsOrStays, Starves, TakesLeave, position_in, segment_fits, step_at, world_with}
+use Rattle.iceoryx2_table.proofs.Views.{none_of}
 use Rattle.iceoryx2_table.proofs.ServiceViews.{may_join, join_counter}
 use Rattle.iceoryx2_table.proofs.Accesses.{part, no_publish, may_publish, publishes_by, opens_by, make_refused, make_done}
 
@@ -81,14 +82,10 @@ module _ {a w : World} (i : ℕ) (h : ServiceHash) (is : a ≡ w) where
       let s = subst (λ (y : Bool). StepsOrStays (services_of a) (Node i) h act.Lock y b) told step in
       lock_part _ None (view_becomes s.0) absent (answered _ (ap (or_refused Locking.Other a.counter) s.1 ∙ ap (λ (u : ℕ). Ok (u, view_becomes s.0)) (sym e))) (services_become a s.2)
 
--- the answers of a removal and of a making that are done or not
+-- the answer of a removal that is done or not
 abbrev pub removal : Bool → Result (Unit {0}) RemoveError
 removal true = Ok tt
 removal false = Err Removing.Other
-
-abbrev pub making : Bool → Result (Unit {0}) MakeSegmentError
-making true = Ok tt
-making false = Err Making.AlreadyExists
 
 -- a removal that was done or forbidden
 module _ {a w : World} (i : ℕ) (h : ServiceHash) (is : a ≡ w) (b : Book) (done : Bool) {told : Bool} (e : told ≡ done) where
@@ -119,12 +116,17 @@ module _ {a w : World} (i : ℕ) (h : ServiceHash) (is : a ≡ w) (n m : ℕ) {q
   pub make_starved : {b : Book} → may ≡ true → Starves (services_of a) (Node i) h (act.Make m) b → IsOwnPart w (letter.MakeSegment i h n m (Err Making.OutOfMemory)) (world_with b a.tags a.tickets)
   make_starved e s = make_part _ nothing true e (starved _ (make_done i h m _ _ _ _ s.0 s.1)) (services_become a s.3)
 
-  pub makes : (b : Book) {y : Bool} (done : Bool) → may ≡ true → y ≡ done → StepsOrStays (services_of a) (Node i) h (act.Make m) y b → IsOwnPart w (letter.MakeSegment i h n m (making done)) (world_with b a.tags a.tickets)
-  makes b done e told s = by done (subst (λ (x : Bool). StepsOrStays (services_of a) (Node i) h (act.Make m) x b) told s)
-    where
-      by : (y : Bool) → StepsOrStays (services_of a) (Node i) h (act.Make m) y b → IsOwnPart w (letter.MakeSegment i h n m (making y)) (world_with b a.tags a.tickets)
-      by true s = make_part _ (view_becomes s.0) true e (answered _ (make_done i h m _ _ _ _ s.0 s.1)) (services_become a s.2)
-      by false s = make_part _ nothing true e (refused _ (make_refused i h n m _ _ _ _ (allowed true e) s.0)) (services_become a s.1)
+  pub makes : (b : Book) → may ≡ true → StepsTo (services_of a) (Node i) h (act.Make m) b → IsOwnPart w (letter.MakeSegment i h n m (Ok tt)) (world_with b a.tags a.tickets)
+  makes b e s = make_part _ (view_becomes s.0) true e (answered _ (make_done i h m _ _ _ _ s.0 s.1)) (services_become a s.2)
+
+  -- the segment is there
+  pub make_exists : may ≡ true → is_some (map.get a.segments h) ≡ true → IsOwnPart w (letter.MakeSegment i h n m (Err Making.AlreadyExists)) w
+  make_exists e there = make_part _ nothing true e (refused _ (make_refused i h m (node_view a i h).view (map.get a.segments h) there)) (sym is)
+
+  -- none is there, and the step is forbidden all the same
+  pub make_forbidden : {b : Book} → may ≡ true → is_some (map.get a.segments h) ≡ false → StepsOrStays (services_of a) (Node i) h (act.Make m) false b → IsOwnPart w (letter.MakeSegment i h n m (Err Making.Other)) (world_with b a.tags a.tickets)
+  make_forbidden e absent s = make_part _ nothing true e
+      (refused _ (ap (make_of i h m (node_view a i h).view) (none_of _ absent) ∙ ap (or_refused Making.Other tt) s.0)) (services_become a s.1)
 
 -- a description is published, by whether the node has made a segment under the lock of this number
 module _ {a w : World} (i : ℕ) (h : ServiceHash) (is : a ≡ w) (n : ℕ) (d : Description) {q : Position} (found : q ≡ position_in a.phases (Node i, h)) {made : Bool} (test : made ≡ has_made n q.phase) where
@@ -152,6 +154,12 @@ module _ {a w : World} (i : ℕ) (h : ServiceHash) (is : a ≡ w) (n : ℕ) (d :
       part (letter.Publish i h n d (Err Publishing.OutOfMemory)) nothing is
       (tt, starved _ (publishes_by i h n d a.tickets _ _ _ _ _ (has true e) s.1))
       (λ j. world_with (s.3 j) a.tags (same j))
+
+  pub publish_forbidden : (b : Book) {k : Tickets} → made ≡ true → StepsOrStays (services_of a) (Node i) h (act.Publish d) false b → k ≡ a.tickets → IsOwnPart w (letter.Publish i h n d (Err Publishing.Other)) (world_with b a.tags k)
+  publish_forbidden b e s same =
+      part (letter.Publish i h n d (Err Publishing.Other)) nothing is
+      (tt, refused _ (publishes_by i h n d a.tickets _ _ _ _ _ (has true e) s.0))
+      (λ j. world_with (s.1 j) a.tags (same j))
 
   pub published : (b : Book) {done : Bool} {k m : Tickets} {x : Ticket} → made ≡ true → done ≡ true → StepsOrStays (services_of a) (Node i) h (act.Publish d) done b → (◌≡◌ {A = Result Bool AllocError} (Ok done) (Ok true) → IsDescription d) → k ≡ map.insert m n x → x ≡ record { node = i; hash = h; number = n } → m ≡ a.tickets → IsOwnPart w (letter.Publish i h n d (Ok n)) (world_with b a.tags k)
   published b e told step limits kept held same =
@@ -185,6 +193,12 @@ module _ {a w : World} (i : ℕ) (h : ServiceHash) (is : a ≡ w) (n : ℕ) {q :
       part (letter.OpenSegment i h n (Err Opening.OutOfMemory)) nothing is
       (starved _ (opens _ _ e s.1))
       (λ j. world_with (s.3 j) a.tags (same j))
+
+  pub open_forbidden : (b : Book) {k : Tickets} → refusal ≡ None → StepsOrStays (services_of a) (Node i) h act.Join false b → k ≡ a.tickets → IsOwnPart w (letter.OpenSegment i h n (Err Opening.Failed)) (world_with b a.tags k)
+  open_forbidden b e s same =
+      part (letter.OpenSegment i h n (Err Opening.Failed)) nothing is
+      (refused _ (ap (λ (r : Option OpenSegmentError). opening_of i h n (node_view a i h) r (step_at (services_of a) (Node i) h act.Join)) (against None e) ∙ ap (opening_of i h n (node_view a i h) None) s.0))
+      (λ j. world_with (s.1 j) a.tags (same j))
 
   -- the ticket is the number that is handed out behind the join
   pub opened : (b : Book) {done : Bool} {v : Book} {u : ℕ} {k m : Tickets} {t : Ticket} → refusal ≡ None → done ≡ true → StepsOrStays (services_of a) (Node i) h act.Join done b → u ≡ b.counter → v ≡ record b { counter = b.counter + 1 } → k ≡ map.insert m u t → t ≡ record { node = i; hash = h; number = n } → m ≡ a.tickets → IsOwnPart w (letter.OpenSegment i h n (Ok u)) (world_with v a.tags k)

@@ -1,11 +1,13 @@
 -- What stands already is set to no effect, and what a test says of a value.
 use Rattle.std.proofs.Common.{◌≡◌, Bool, true, false, cond, Option, Some, None, ℕ, List, refl, sym, ap, subst, ◌∙◌}
-use Rattle.std.specs.Prelude.{is_some, is_err, ◌&&◌, Result, Ok, Err, OnErr}
+use Rattle.std.specs.Prelude.{is_ok, is_some, is_err, ◌&&◌, Result, Ok, Err, OnErr}
 use Rattle.std.specs.FinMap as map
 use Rattle.std.specs.FinMap.{same_map, IsAntisymmetric}
 use Rattle.std.specs.Ordering.{eq_by_cmp}
 use Rattle.std.specs.declared.cmp.Ordering.{Ordering}
 use Rattle.std.specs.Cmp.{IsTotalOrder, Equal-is}
+use Rattle.sorted_map.specs.Places.{place_in}
+use Rattle.sorted_map.proofs.Ranks.{place_there}
 use Rattle.iceoryx2_world.specs.declared.world.Row.{Row}
 use Rattle.iceoryx2_world.specs.declared.world.Row.TheVariants as row
 use Rattle.iceoryx2_world.specs.World.{set_to}
@@ -22,6 +24,10 @@ module _ {K X : Type 0} {R : K → K → Ordering} (o : IsTotalOrder R) (exact :
         | true ↦ λ e. ap (λ x. map.get m x) (sym (exact q k ((Equal-is (R q k)).0 e)))
         | false ↦ λ e. refl
       ] refl))
+
+-- whether a key is there, by its place
+pub there_by_place : {K X : Type 0} {R : K → K → Ordering} (m : map.FinMap R X) (k : K) {place : Result ℕ ℕ} {y : Bool} → place ≡ place_in m k → is_ok place ≡ y → is_some (map.get m k) ≡ y
+there_by_place m k e test = sym (place_there m k) ∙ ap is_ok (sym e) ∙ test
 
 pub none_of : {A : Type 0} (o : Option A) → is_some o ≡ false → o ≡ None
 none_of None e = refl

@@ -3,6 +3,7 @@
 
 pub mod local;
 pub mod merge;
+pub mod recorder;
 pub mod rows;
 pub mod segments;
 pub mod services;

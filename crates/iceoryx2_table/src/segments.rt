@@ -2,10 +2,12 @@
 
 ghost use Rattle.std.specs.Prelude.{◌≡◌, IfOk};
 ghost use Rattle.iceoryx2_world.specs.Access.{segment_refusal};
-ghost use Rattle.iceoryx2_table.specs.Book.{Admits, Dismisses};
+ghost use Rattle.iceoryx2_table.specs.Book.{Dismisses};
+ghost use Rattle.iceoryx2_table.specs.Recorded.{RecordsAdmission};
 ghost use Rattle.iceoryx2_world.specs.Listing.{listed_segment};
 ghost use Rattle.iceoryx2_world.specs.Steps.{new_segment, fits as fits_spec, has_room as has_room_spec};
 
+use crate::recorder::Recorder;
 use iceoryx2_access::storage::OpenSegmentError;
 use iceoryx2_description::description::{ServiceHash, StaticConfig};
 use iceoryx2_world::listing::ListedSegment;
@@ -126,9 +128,15 @@ impl StoredSegment {
         }
     }
 
-    /// It takes one more with this number. True where it has.
-    pub fn admit(&mut self, number: u64, participant: Participant) -> Result<bool, AllocError>
-        ensures { Admits number participant self.old result self.new }
+    /// It takes one more with this number, which is written down before. True where it has.
+    pub fn admit<R: Recorder>(
+        &mut self,
+        recorder: &mut R,
+        number: u64,
+        participant: Participant,
+    ) -> Result<bool, AllocError>
+        ensures { RecordsAdmission R.written R.refused number participant self.old result self.new
+            recorder.old recorder.new }
     {
         if !self.has_room(number) {
             return Ok(false);
@@ -137,6 +145,9 @@ impl StoredSegment {
         if self.participants.reserve_at(&participant, place).is_err() {
             return Err(AllocError);
         }
+        let Ok(_) = recorder.write_down() else {
+            return Ok(false);
+        };
         self.participants.insert_at(participant, place, ());
         Ok(true)
     }

@@ -12,10 +12,12 @@ ghost use Rattle.iceoryx2_world.specs.Acts as act;
 ghost use Rattle.iceoryx2_world.specs.Steps.{last_number};
 ghost use Rattle.iceoryx2_world.specs.Access.{open_refusal};
 ghost use Rattle.iceoryx2_world.specs.Listing.{ListsAll};
-ghost use Rattle.iceoryx2_table.specs.Book.{TakesLeave, MayTakeStep, TakesDescription, TakesSegment, StepsOrStays};
+ghost use Rattle.iceoryx2_table.specs.Book.{MayTakeStep, TakesDescription, TakesSegment};
+ghost use Rattle.iceoryx2_table.specs.Recorded.{MayRecordStep, RecordsLeave, RecordsStep};
 ghost use Rattle.iceoryx2_table.specs.Book.{position_in, published_number, segment_fits};
 
 use crate::merge::merge_entries;
+use crate::recorder::Recorder;
 use crate::rows::StoredRow;
 use crate::segments::StoredSegment;
 use iceoryx2_access::storage::{OpenSegmentError, Release};
@@ -129,7 +131,9 @@ fn may_remove_description(phase: Phase) -> bool
 
 /// Each step is a method. It answers true where the step was allowed and has had its effect, and false
 /// where it is forbidden, and then nothing has changed. `AllocError` comes only where it was allowed and
-/// found no memory, and nothing has changed then either.
+/// found no memory, and nothing has changed then either. Each step but a read is written down by a
+/// `Recorder`, once, after its tests and what it asks of memory and before its change. Where the recorder refuses, the
+/// step answers as where it is forbidden.
 impl Services {
     /// Nothing yet, with the counter's first value. Takes no memory.
     pub fn starting_at(alloc: Global, counter: u64) -> Services
@@ -260,15 +264,17 @@ impl Services {
     }
 
     /// Locks what has no row, whose place was found.
-    pub fn lock(
+    pub fn lock<R: Recorder>(
         &mut self,
+        recorder: &mut R,
         participant: Participant,
         hash: &ServiceHash,
         row: Place,
     ) -> Result<bool, AllocError>
         requires row { row ≡ place_in self.old.rows hash.now }
         requires absent { map.get self.old.rows hash.now ≡ None }
-        ensures { MayTakeStep self.old participant hash.now act.Lock result self.new }
+        ensures { MayRecordStep R.written R.refused self.old participant hash.now act.Lock result self.new
+            recorder.old recorder.new }
     {
         let key = (participant, *hash);
         let position = position_of(&self.phases, &key);
@@ -285,6 +291,9 @@ impl Services {
         if self.phases.reserve_at(&key, position.place).is_err() {
             return Err(AllocError);
         }
+        let Ok(_) = recorder.write_down() else {
+            return Ok(false);
+        };
         let locked = StoredRow::locked(self.rows.allocator(), number);
         self.rows.insert_at(*hash, row, locked);
         self.phases
@@ -294,12 +303,21 @@ impl Services {
     }
 
     /// Takes the segment away. Takes no memory.
-    pub fn remove_segment(&mut self, participant: Participant, hash: &ServiceHash) -> bool
-        ensures { StepsOrStays self.old participant hash.now act.RemoveSegment result self.new }
+    pub fn remove_segment<R: Recorder>(
+        &mut self,
+        recorder: &mut R,
+        participant: Participant,
+        hash: &ServiceHash,
+    ) -> bool
+        ensures { RecordsStep R.written R.refused self.old participant hash.now act.RemoveSegment result self.new
+            recorder.old recorder.new }
     {
         let key = (participant, *hash);
         let position = position_of(&self.phases, &key);
         let Some(next) = without_segment(position.phase) else {
+            return false;
+        };
+        let Ok(_) = recorder.write_down() else {
             return false;
         };
         set_phase(&mut self.phases, key, position.place, next);
@@ -308,29 +326,42 @@ impl Services {
     }
 
     /// Takes the row away, whatever the segment. Takes no memory.
-    pub fn remove_description(&mut self, participant: Participant, hash: &ServiceHash) -> bool
-        ensures { StepsOrStays self.old participant hash.now act.RemoveDescription result self.new }
+    pub fn remove_description<R: Recorder>(
+        &mut self,
+        recorder: &mut R,
+        participant: Participant,
+        hash: &ServiceHash,
+    ) -> bool
+        ensures { RecordsStep R.written R.refused self.old participant hash.now act.RemoveDescription result self.new
+            recorder.old recorder.new }
     {
         let key = (participant, *hash);
         let position = position_of(&self.phases, &key);
         if !may_remove_description(position.phase) {
             return false;
         }
+        let Ok(_) = recorder.write_down() else {
+            return false;
+        };
         set_phase(&mut self.phases, key, position.place, Phase::Idle);
         let _ = self.rows.remove(hash);
         true
     }
 
-    /// Makes a segment for so many nodes, at the position that was found.
-    pub fn make(
+    /// Makes a segment for so many nodes, at the position and the place that were found.
+    pub fn make<R: Recorder>(
         &mut self,
+        recorder: &mut R,
         participant: Participant,
         hash: &ServiceHash,
         max_nodes: u64,
         position: Position,
+        segment: Place,
     ) -> Result<bool, AllocError>
-        requires { position ≡ position_in self.old.phases (participant, hash.now) }
-        ensures { MayTakeStep self.old participant hash.now (act.Make max_nodes) result self.new }
+        requires position { position ≡ position_in self.old.phases (participant, hash.now) }
+        requires segment { segment ≡ place_in self.old.segments hash.now }
+        ensures { MayRecordStep R.written R.refused self.old participant hash.now (act.Make max_nodes) result self.new
+            recorder.old recorder.new }
     {
         let Phase::Locked(number) = position.phase else {
             return Ok(false);
@@ -338,26 +369,29 @@ impl Services {
         if max_nodes == 0 {
             return Ok(false);
         }
-        let place = self.segments.place_of(hash);
-        if place.is_ok() {
+        if segment.is_ok() {
             return Ok(false);
         }
         let alloc = self.segments.allocator();
-        let Ok(segment) = StoredSegment::new(alloc, participant, number, max_nodes) else {
+        let Ok(made) = StoredSegment::new(alloc, participant, number, max_nodes) else {
             return Err(AllocError);
         };
-        if self.segments.reserve_at(hash, place).is_err() {
+        if self.segments.reserve_at(hash, segment).is_err() {
             return Err(AllocError);
         }
-        self.segments.insert_at(*hash, place, segment);
+        let Ok(_) = recorder.write_down() else {
+            return Ok(false);
+        };
+        self.segments.insert_at(*hash, segment, made);
         let key = (participant, *hash);
         set_phase(&mut self.phases, key, position.place, Phase::Made(number));
         Ok(true)
     }
 
     /// Publishes a description that fits the segment, at the position that was found.
-    pub fn publish(
+    pub fn publish<R: Recorder>(
         &mut self,
+        recorder: &mut R,
         participant: Participant,
         hash: &ServiceHash,
         description: &StaticConfig,
@@ -365,7 +399,8 @@ impl Services {
     ) -> Result<bool, AllocError>
         requires position { position ≡ position_in self.old.phases (participant, hash.now) }
         requires fits { segment_fits hash.now (map.get self.old.segments hash.now) description.now ≡ true }
-        ensures effect { MayTakeStep self.old participant hash.now (act.Publish description.now) result self.new }
+        ensures effect { MayRecordStep R.written R.refused self.old participant hash.now (act.Publish description.now)
+            result self.new recorder.old recorder.new }
         ensures limits { result ≡ Ok true → IsDescription description.now }
     {
         let Phase::Made(number) = position.phase else {
@@ -378,6 +413,9 @@ impl Services {
         if self.rows.reserve_at(hash, row).is_err() {
             return Err(AllocError);
         }
+        let Ok(_) = recorder.write_down() else {
+            return Ok(false);
+        };
         self.rows
             .insert_at(*hash, row, StoredRow::published(number, bytes));
         let key = (participant, *hash);
@@ -391,8 +429,9 @@ impl Services {
     }
 
     /// Registers the participant once more, at the position and with the segment that were found.
-    pub fn join(
+    pub fn join<R: Recorder>(
         &mut self,
+        recorder: &mut R,
         participant: Participant,
         hash: &ServiceHash,
         position: Position,
@@ -400,7 +439,8 @@ impl Services {
     ) -> Result<bool, AllocError>
         requires position { position ≡ position_in self.old.phases (participant, hash.now) }
         requires segment { segment ≡ place_in self.old.segments hash.now }
-        ensures { MayTakeStep self.old participant hash.now act.Join result self.new }
+        ensures { MayRecordStep R.written R.refused self.old participant hash.now act.Join result self.new
+            recorder.old recorder.new }
     {
         let key = (participant, *hash);
         match position.phase {
@@ -408,6 +448,9 @@ impl Services {
                 if count >= u64::MAX {
                     return Ok(false);
                 }
+                let Ok(_) = recorder.write_down() else {
+                    return Ok(false);
+                };
                 let phase = Phase::Joined(number, count + 1);
                 set_phase(&mut self.phases, key, position.place, phase);
                 Ok(true)
@@ -416,7 +459,7 @@ impl Services {
                 let Some(segment) = self.segments.get_mut_at(hash, segment) else {
                     return Ok(false);
                 };
-                match segment.admit(number, participant) {
+                match segment.admit(recorder, number, participant) {
                     Ok(admitted) => {
                         if admitted {
                             let phase = Phase::Joined(number, 1);
@@ -433,8 +476,14 @@ impl Services {
     }
 
     /// Leaves once, and tells what is left, or `None` where it is forbidden. Takes no memory.
-    pub fn leave(&mut self, participant: Participant, hash: &ServiceHash) -> Option<Release>
-        ensures { TakesLeave self.old participant hash.now result self.new }
+    pub fn leave<R: Recorder>(
+        &mut self,
+        recorder: &mut R,
+        participant: Participant,
+        hash: &ServiceHash,
+    ) -> Option<Release>
+        ensures { RecordsLeave R.written R.refused self.old participant hash.now result self.new
+            recorder.old recorder.new }
     {
         let key = (participant, *hash);
         let position = position_of(&self.phases, &key);
@@ -442,6 +491,9 @@ impl Services {
             return None;
         };
         if count > 1 {
+            let Ok(_) = recorder.write_down() else {
+                return None;
+            };
             let phase = Phase::Joined(number, count - 1);
             set_phase(&mut self.phases, key, position.place, phase);
             return Some(Release::StillCounted);
@@ -450,6 +502,9 @@ impl Services {
             return None;
         }
         let Some(segment) = self.segments.get_mut(hash) else {
+            return None;
+        };
+        let Ok(_) = recorder.write_down() else {
             return None;
         };
         if segment.dismiss(participant) {

@@ -7,6 +7,7 @@ ghost use Rattle.iceoryx2_world.specs.Acts.{IsAct};
 ghost use Rattle.iceoryx2_world.specs.Batches.{act_of};
 ghost use Rattle.iceoryx2_table.specs.Book.{MayTakeStep};
 
+use crate::recorder::Unrecorded;
 use crate::rows::RowState;
 use crate::services::Services;
 use iceoryx2_description::description::{ServiceHash, StaticConfig};
@@ -31,19 +32,29 @@ impl Services {
         match act {
             Act::Read => self.take_read(participant, hash),
             Act::Lock => self.take_lock(participant, hash),
-            Act::RemoveSegment => Ok(self.remove_segment(participant, hash)),
-            Act::RemoveDescription => Ok(self.remove_description(participant, hash)),
+            Act::RemoveSegment => Ok(self.remove_segment(&mut Unrecorded, participant, hash)),
+            Act::RemoveDescription => {
+                Ok(self.remove_description(&mut Unrecorded, participant, hash))
+            }
             Act::Make { max_nodes } => {
                 let position = self.position(participant, hash);
-                self.make(participant, hash, *max_nodes, position)
+                let segment = self.segment_place(hash);
+                self.make(
+                    &mut Unrecorded,
+                    participant,
+                    hash,
+                    *max_nodes,
+                    position,
+                    segment,
+                )
             }
             Act::Publish(description) => self.take_publish(participant, hash, description),
             Act::Join => {
                 let position = self.position(participant, hash);
                 let segment = self.segment_place(hash);
-                self.join(participant, hash, position, segment)
+                self.join(&mut Unrecorded, participant, hash, position, segment)
             }
-            Act::Leave => Ok(self.leave(participant, hash).is_some()),
+            Act::Leave => Ok(self.leave(&mut Unrecorded, participant, hash).is_some()),
         }
     }
 
@@ -76,7 +87,7 @@ impl Services {
         if self.row_at(hash, row).is_some() {
             return Ok(false);
         }
-        self.lock(participant, hash, row)
+        self.lock(&mut Unrecorded, participant, hash, row)
     }
 
     /// Publishes what fits the segment.
@@ -93,6 +104,6 @@ impl Services {
             return Ok(false);
         }
         let position = self.position(participant, hash);
-        self.publish(participant, hash, description, position)
+        self.publish(&mut Unrecorded, participant, hash, description, position)
     }
 }

@@ -6,9 +6,10 @@ ghost use Rattle.iceoryx2_world.specs.Across.{Agrees};
 ghost use Rattle.iceoryx2_world.specs.Listing.{Lists};
 ghost use Rattle.iceoryx2_world.specs.Tables.{batch_items, IsBatchRun};
 
-mod stored;
+pub mod stored;
 
 use self::stored::StoredWorld;
+use crate::recorder::Unrecorded;
 use iceoryx2_access::storage::{
     Existence, FetchError, LockError, MakeSegmentError, OpenSegmentError, PublishError, Release,
     ReleaseError, RemoveError, Storage, Tag, TagError,
@@ -195,7 +196,7 @@ impl Storage for Table {
         ensures later { Agrees self.old.world → Later self.old.world self.new.world }
     {
         self.run_batch();
-        self.world.make_tag(node, hash)
+        self.world.make_tag(&mut Unrecorded, node, hash)
     }
 
     fn remove_tag(&mut self, node: u64, hash: &ServiceHash) -> Result<(), RemoveError>
@@ -204,7 +205,7 @@ impl Storage for Table {
         ensures later { Agrees self.old.world → Later self.old.world self.new.world }
     {
         self.run_batch();
-        self.world.remove_tag(node, hash)
+        self.world.remove_tag(&mut Unrecorded, node, hash)
     }
 
     fn lock(&mut self, node: u64, hash: &ServiceHash) -> Result<u64, LockError>
@@ -213,7 +214,7 @@ impl Storage for Table {
         ensures later { Agrees self.old.world → Later self.old.world self.new.world }
     {
         self.run_batch();
-        self.world.lock(node, hash)
+        self.world.lock(&mut Unrecorded, node, hash)
     }
 
     fn make_segment(
@@ -228,7 +229,8 @@ impl Storage for Table {
         ensures later { Agrees self.old.world → Later self.old.world self.new.world }
     {
         self.run_batch();
-        self.world.make_segment(node, hash, number, max_nodes)
+        self.world
+            .make_segment(&mut Unrecorded, node, hash, number, max_nodes)
     }
 
     fn remove_segment(&mut self, node: u64, hash: &ServiceHash) -> Result<(), RemoveError>
@@ -237,7 +239,7 @@ impl Storage for Table {
         ensures later { Agrees self.old.world → Later self.old.world self.new.world }
     {
         self.run_batch();
-        self.world.remove_segment(node, hash)
+        self.world.remove_segment(&mut Unrecorded, node, hash)
     }
 
     fn remove_description(&mut self, node: u64, hash: &ServiceHash) -> Result<(), RemoveError>
@@ -246,7 +248,7 @@ impl Storage for Table {
         ensures later { Agrees self.old.world → Later self.old.world self.new.world }
     {
         self.run_batch();
-        self.world.remove_description(node, hash)
+        self.world.remove_description(&mut Unrecorded, node, hash)
     }
 
     fn publish(
@@ -261,7 +263,8 @@ impl Storage for Table {
         ensures later { Agrees self.old.world → Later self.old.world self.new.world }
     {
         self.run_batch();
-        self.world.publish(node, hash, number, description)
+        self.world
+            .publish(&mut Unrecorded, node, hash, number, description)
     }
 
     fn open_segment(
@@ -275,7 +278,7 @@ impl Storage for Table {
         ensures later { Agrees self.old.world → Later self.old.world self.new.world }
     {
         self.run_batch();
-        self.world.open_segment(node, hash, number)
+        self.world.open_segment(&mut Unrecorded, node, hash, number)
     }
 
     fn release(
@@ -290,6 +293,7 @@ impl Storage for Table {
         ensures later { Agrees self.old.world → Later self.old.world self.new.world }
     {
         self.run_batch();
-        self.world.release(ticket, node, hash, number)
+        self.world
+            .release(&mut Unrecorded, ticket, node, hash, number)
     }
 }

@@ -1,4 +1,4 @@
-//! What a table keeps, and the own part of each access of a node.
+//! What a storage keeps of all nodes, the own part of each access of one, and what writes it down.
 
 ghost use Rattle.std.specs.Prelude.{◌≡◌, ◌&&◌, IfOk, nat_lt, filter, length};
 ghost use Rattle.iceoryx2_world.specs.World.{belongs, empty_world, ticket_count, tag_of};
@@ -8,7 +8,9 @@ ghost use Rattle.iceoryx2_world.specs.Batches.{IsBatch, IsPeerStep, skipped_afte
 ghost use Rattle.iceoryx2_access.specs.Letter as letter;
 ghost use Rattle.iceoryx2_access.specs.Letter.{fetch_answer};
 ghost use Rattle.iceoryx2_world.specs.Access.{IsOwnPart, has_lock, has_made as has_made_spec, is_ticket};
+ghost use Rattle.iceoryx2_table.specs.Recorded.{IsRecordedPart};
 
+use crate::recorder::Recorder;
 use crate::rows::RowState;
 use crate::services::Services;
 use iceoryx2_access::storage::{
@@ -24,6 +26,12 @@ use std::alloc::{AllocError, Global};
 use std::marker::Model;
 
 /// The services, the tags and the tickets.
+///
+/// Nine of a node's accesses change what others may have to know, and take a `Recorder`. One that is granted and
+/// changes something asks it once, after all tests and all that it asks of memory, and before the first change,
+/// which can't fail then. One that is refused, finds no memory or changes nothing doesn't ask. Where the recorder
+/// refuses, the access answers its general fault, which each of them names, and nothing has changed. With
+/// `Unrecorded` each is the node's own part alone.
 #[derive(Drop)]
 pub struct StoredWorld {
     services: Services,
@@ -129,6 +137,7 @@ impl StoredWorld {
         count
     }
 
+    /// Nothing yet, with the counter's first value. Takes no memory.
     pub fn starting_at(alloc: Global, counter: u64) -> StoredWorld
         ensures { result ≡ empty_world counter }
     {
@@ -139,12 +148,14 @@ impl StoredWorld {
         }
     }
 
+    /// Each service with a row or a segment, in the order of the hashes' bytes.
     pub fn list(&self) -> Result<Vec<Entry>, AllocError>
         ensures { IfOk result (λ entries. Lists self.now entries.items) }
     {
         self.services.list()
     }
 
+    /// Whether the node has a tag for the service.
     pub fn has_tag(&self, node: u64, hash: &ServiceHash) -> bool
         ensures { result ≡ tag_of self.now node hash.now }
     {
@@ -154,18 +165,22 @@ impl StoredWorld {
         }
     }
 
+    /// How many tickets the node has for the service.
     pub fn tickets(&self, node: u64, hash: &ServiceHash) -> u64
         ensures { result ≡ ticket_count self.now.tickets node hash.now }
     {
         count_held(self.tickets.entries(), node, hash) as u64
     }
 
+    /// The next number or ticket: what `lock` and `open_segment` hand out where they are granted.
     pub fn counter(&self) -> u64
         ensures { result ≡ self.now.counter }
     {
         self.services.counter()
     }
 
+    /// `No` where nothing is written under the hash, `BeingSetUp` where somebody holds its lock, and `Yes` where it is
+    /// published.
     pub fn exists(&self, hash: &ServiceHash) -> Existence
         ensures { IsOwnPart self.now (letter.Exists hash.now result) self.now }
     {
@@ -178,6 +193,8 @@ impl StoredWorld {
         }
     }
 
+    /// The number and the bytes of what is published. The node has read them then, which nobody else has to know, so
+    /// nothing is written down. `DoesNotExist`, `NotFinalized` while it is being set up, `OutOfMemory`.
     pub fn fetch(&mut self, node: u64, hash: &ServiceHash) -> Result<(u64, Vec<u8>), FetchError>
         ensures { IsOwnPart self.old (letter.Fetch node hash.now (fetch_answer result)) self.new }
     {
@@ -196,6 +213,7 @@ impl StoredWorld {
         Ok((number, copy))
     }
 
+    /// Whether the node is registered in the service's segment.
     pub fn counts(&self, node: u64, hash: &ServiceHash) -> bool
         ensures { IsOwnPart self.now (letter.Counts node hash.now result) self.now }
     {
@@ -205,8 +223,15 @@ impl StoredWorld {
         }
     }
 
-    pub fn make_tag(&mut self, node: u64, hash: &ServiceHash) -> Result<Tag, TagError>
-        ensures { IsOwnPart self.old (letter.MakeTag node hash.now result) self.new }
+    /// `Found` where the node's tag is there, else `Made`. `OutOfMemory`, and `Fault` where the recorder refuses.
+    pub fn make_tag<R: Recorder>(
+        &mut self,
+        recorder: &mut R,
+        node: u64,
+        hash: &ServiceHash,
+    ) -> Result<Tag, TagError>
+        ensures { IsRecordedPart R.written R.refused self.old (letter.MakeTag node hash.now result) self.new
+            recorder.old recorder.new }
     {
         let key = (node, *hash);
         let place = self.tags.place_of(&key);
@@ -216,19 +241,46 @@ impl StoredWorld {
         if self.tags.reserve().is_err() {
             return Err(TagError::OutOfMemory);
         }
+        let Ok(_) = recorder.write_down() else {
+            return Err(TagError::Fault);
+        };
         self.tags.insert_at(key, place, ());
         Ok(Tag::Made)
     }
 
-    pub fn remove_tag(&mut self, node: u64, hash: &ServiceHash) -> Result<(), RemoveError>
-        ensures { IsOwnPart self.old (letter.RemoveTag node hash.now result) self.new }
+    /// The node's tag isn't there any more. `Other` where the recorder refuses.
+    pub fn remove_tag<R: Recorder>(
+        &mut self,
+        recorder: &mut R,
+        node: u64,
+        hash: &ServiceHash,
+    ) -> Result<(), RemoveError>
+        ensures { IsRecordedPart R.written R.refused self.old (letter.RemoveTag node hash.now result) self.new
+            recorder.old recorder.new }
     {
-        let _ = self.tags.remove(&(node, *hash));
+        let key = (node, *hash);
+        let place = self.tags.place_of(&key);
+        if !place.is_ok() {
+            return Ok(());
+        }
+        let Ok(_) = recorder.write_down() else {
+            return Err(RemoveError::Other);
+        };
+        let _ = self.tags.remove_at(&key, place);
         Ok(())
     }
 
-    pub fn lock(&mut self, node: u64, hash: &ServiceHash) -> Result<u64, LockError>
-        ensures { IsOwnPart self.old (letter.Lock node hash.now result) self.new }
+    /// The node holds the service's lock, whose number is the counter before. `Creation` while another holds it,
+    /// `AlreadyExists` where it is published, `OutOfMemory`, and `Other` where no number is left, where the node holds
+    /// something there, and where the recorder refuses.
+    pub fn lock<R: Recorder>(
+        &mut self,
+        recorder: &mut R,
+        node: u64,
+        hash: &ServiceHash,
+    ) -> Result<u64, LockError>
+        ensures { IsRecordedPart R.written R.refused self.old (letter.Lock node hash.now result) self.new
+            recorder.old recorder.new }
     {
         let row = self.services.row_place(hash);
         if let Some(standing) = self.services.row_at(hash, row) {
@@ -238,7 +290,10 @@ impl StoredWorld {
             }
         }
         let number = self.services.counter();
-        let Ok(locked) = self.services.lock(Participant::Node(node), hash, row) else {
+        let Ok(locked) = self
+            .services
+            .lock(recorder, Participant::Node(node), hash, row)
+        else {
             return Err(LockError::OutOfMemory);
         };
         if !locked {
@@ -247,58 +302,92 @@ impl StoredWorld {
         Ok(number)
     }
 
-    pub fn make_segment(
+    /// There is a segment for so many nodes, and the node is in it. `AlreadyExists`, `OutOfMemory`, and `Other`
+    /// where the node doesn't hold the lock of that number, for no nodes, and where the recorder refuses.
+    pub fn make_segment<R: Recorder>(
         &mut self,
+        recorder: &mut R,
         node: u64,
         hash: &ServiceHash,
         number: u64,
         max_nodes: u64,
     ) -> Result<(), MakeSegmentError>
-        ensures { IsOwnPart self.old (letter.MakeSegment node hash.now number max_nodes result) self.new }
+        ensures { IsRecordedPart R.written R.refused self.old (letter.MakeSegment node hash.now number max_nodes result)
+            self.new recorder.old recorder.new }
     {
         let participant = Participant::Node(node);
         let position = self.services.position(participant, hash);
         if !may_make(position.phase, number, max_nodes) {
             return Err(MakeSegmentError::Other);
         }
-        let Ok(made) = self.services.make(participant, hash, max_nodes, position) else {
+        let segment = self.services.segment_place(hash);
+        if segment.is_ok() {
+            return Err(MakeSegmentError::AlreadyExists);
+        }
+        let Ok(made) = self
+            .services
+            .make(recorder, participant, hash, max_nodes, position, segment)
+        else {
             return Err(MakeSegmentError::OutOfMemory);
         };
         if !made {
-            return Err(MakeSegmentError::AlreadyExists);
+            return Err(MakeSegmentError::Other);
         }
         Ok(())
     }
 
-    pub fn remove_segment(&mut self, node: u64, hash: &ServiceHash) -> Result<(), RemoveError>
-        ensures { IsOwnPart self.old (letter.RemoveSegment node hash.now result) self.new }
-    {
-        if self.services.remove_segment(Participant::Node(node), hash) {
-            return Ok(());
-        }
-        Err(RemoveError::Other)
-    }
-
-    pub fn remove_description(&mut self, node: u64, hash: &ServiceHash) -> Result<(), RemoveError>
-        ensures { IsOwnPart self.old (letter.RemoveDescription node hash.now result) self.new }
+    /// The segment isn't there any more. `Other` where the node may not take it away, and where the recorder refuses.
+    pub fn remove_segment<R: Recorder>(
+        &mut self,
+        recorder: &mut R,
+        node: u64,
+        hash: &ServiceHash,
+    ) -> Result<(), RemoveError>
+        ensures { IsRecordedPart R.written R.refused self.old (letter.RemoveSegment node hash.now result) self.new
+            recorder.old recorder.new }
     {
         if self
             .services
-            .remove_description(Participant::Node(node), hash)
+            .remove_segment(recorder, Participant::Node(node), hash)
         {
             return Ok(());
         }
         Err(RemoveError::Other)
     }
 
-    pub fn publish(
+    /// Nothing is written under the hash any more. `Other` where the node may not take it away, and where the recorder
+    /// refuses.
+    pub fn remove_description<R: Recorder>(
         &mut self,
+        recorder: &mut R,
+        node: u64,
+        hash: &ServiceHash,
+    ) -> Result<(), RemoveError>
+        ensures { IsRecordedPart R.written R.refused self.old (letter.RemoveDescription node hash.now result) self.new
+            recorder.old recorder.new }
+    {
+        if self
+            .services
+            .remove_description(recorder, Participant::Node(node), hash)
+        {
+            return Ok(());
+        }
+        Err(RemoveError::Other)
+    }
+
+    /// The description is published under the number, which is the ticket of the node, registered then.
+    /// `OutOfMemory`, and `Other` where the node hasn't made a segment of that number which the description fits,
+    /// and where the recorder refuses.
+    pub fn publish<R: Recorder>(
+        &mut self,
+        recorder: &mut R,
         node: u64,
         hash: &ServiceHash,
         number: u64,
         description: &StaticConfig,
     ) -> Result<u64, PublishError>
-        ensures { IsOwnPart self.old (letter.Publish node hash.now number description.now result) self.new }
+        ensures { IsRecordedPart R.written R.refused self.old
+            (letter.Publish node hash.now number description.now result) self.new recorder.old recorder.new }
     {
         let participant = Participant::Node(node);
         let position = self.services.position(participant, hash);
@@ -313,7 +402,7 @@ impl StoredWorld {
         }
         let Ok(published) = self
             .services
-            .publish(participant, hash, description, position)
+            .publish(recorder, participant, hash, description, position)
         else {
             return Err(PublishError::OutOfMemory);
         };
@@ -325,13 +414,19 @@ impl StoredWorld {
         Ok(ticket)
     }
 
-    pub fn open_segment(
+    /// The node is registered in the segment of that number, and has a ticket, which is the counter before.
+    /// `DoesNotExist`, `Marked` where all have left, `Full`, `OutOfNumbers`, `OutOfMemory`, and `Failed` where the
+    /// segment or what the node has read has another number, where the node can't join, and where the recorder
+    /// refuses.
+    pub fn open_segment<R: Recorder>(
         &mut self,
+        recorder: &mut R,
         node: u64,
         hash: &ServiceHash,
         number: u64,
     ) -> Result<u64, OpenSegmentError>
-        ensures { IsOwnPart self.old (letter.OpenSegment node hash.now number result) self.new }
+        ensures { IsRecordedPart R.written R.refused self.old (letter.OpenSegment node hash.now number result) self.new
+            recorder.old recorder.new }
     {
         let participant = Participant::Node(node);
         let segment = self.services.segment_place(hash);
@@ -345,7 +440,10 @@ impl StoredWorld {
         if self.tickets.reserve().is_err() {
             return Err(OpenSegmentError::OutOfMemory);
         }
-        let Ok(joined) = self.services.join(participant, hash, position, segment) else {
+        let Ok(joined) = self
+            .services
+            .join(recorder, participant, hash, position, segment)
+        else {
             return Err(OpenSegmentError::OutOfMemory);
         };
         if !joined {
@@ -356,20 +454,25 @@ impl StoredWorld {
         Ok(ticket)
     }
 
-    pub fn release(
+    /// The ticket isn't there any more: `StillCounted` where the node has others, `Left`, and `Last` where nobody
+    /// stays, whose segment is marked then, with the same entry. `NoSuchTicket` where the node has no such ticket
+    /// for the service and number, and where the recorder refuses.
+    pub fn release<R: Recorder>(
         &mut self,
+        recorder: &mut R,
         ticket: u64,
         node: u64,
         hash: &ServiceHash,
         number: u64,
     ) -> Result<Release, ReleaseError>
-        ensures { IsOwnPart self.old (letter.Release ticket node hash.now number result) self.new }
+        ensures { IsRecordedPart R.written R.refused self.old (letter.Release ticket node hash.now number result)
+            self.new recorder.old recorder.new }
     {
         let place = self.tickets.place_of(&ticket);
         if !is_held(self.tickets.get_at(&ticket, place), node, hash, number) {
             return Err(ReleaseError::NoSuchTicket);
         }
-        let Some(release) = self.services.leave(Participant::Node(node), hash) else {
+        let Some(release) = self.services.leave(recorder, Participant::Node(node), hash) else {
             return Err(ReleaseError::NoSuchTicket);
         };
         let _ = self.tickets.remove_at(&ticket, place);

@@ -1,15 +1,20 @@
-use Rattle.std.proofs.Common.{ap, ◌∙◌}
+use Rattle.std.proofs.Common.{inr, refl, ap, ◌∙◌}
 use Rattle.iceoryx2_world.specs.declared.world.Row.TheVariants as row
 use Rattle.iceoryx2_table.proofs.Changes.{publish_starves, publish_starves_room, publishes}
 use Rattle.iceoryx2_table.proofs.services.Services.publish.Goals as goal
 
 pub returns-in_default-encode-clause-effect : goal.returns-in_default-encode-clause-effect
-returns-in_default-encode-clause-effect c = publish_starves c.args.participant c.args.hash.now c.args.description.now c.in-Made.number c.self.view_is c.requires.position c.in-Made.is c.requires.fits
+returns-in_default-encode-clause-effect g c = (publish_starves c.args.participant c.args.hash.now c.args.description.now c.in-Made.number c.self.view_is c.requires.position c.in-Made.is c.requires.fits, refl)
 
 pub returns-then-is_err-clause-effect : goal.returns-then-is_err-clause-effect
-returns-then-is_err-clause-effect c = publish_starves_room c.args.participant c.args.hash.now c.args.description.now c.in-Made.number c.self.view_is c.requires.position c.in-Made.is c.requires.fits c.reserve_at.ensures.same
+returns-then-is_err-clause-effect g c = (publish_starves_room c.args.participant c.args.hash.now c.args.description.now c.in-Made.number c.self.view_is c.requires.position c.in-Made.is c.requires.fits c.reserve_at.ensures.same, refl)
+
+pub returns-in_default-write_down-clause-effect : goal.returns-in_default-write_down-clause-effect
+returns-in_default-write_down-clause-effect g c = inr ((publish_starves_room c.args.participant c.args.hash.now c.args.description.now c.in-Made.number c.self.view_is c.requires.position c.in-Made.is c.requires.fits c.reserve_at.ensures.same).3, c.in_default-write_down.ensures.refused)
 
 pub returns-clause-effect : goal.returns-clause-effect
-returns-clause-effect c =
-    publishes c.args.participant c.args.hash.now c.args.description.now c.in-Made.number c.self.view_is c.requires.position c.in-Made.is c.requires.fits
-    c.insert_at.ensures.effect c.reserve_at.ensures.same (c.published.ensures ∙ ap (row.Published c.in-Made.number) c.in-Ok.ensures.1) c.set_phase.ensures
+returns-clause-effect g c = (
+  publishes c.args.participant c.args.hash.now c.args.description.now c.in-Made.number c.self.view_is c.requires.position c.in-Made.is c.requires.fits
+      c.insert_at.ensures.effect c.reserve_at.ensures.same (c.published.ensures ∙ ap (row.Published c.in-Made.number) c.in-Ok.ensures.1) c.set_phase.ensures,
+  c.in-Ok-write_down.ensures.written,
+)

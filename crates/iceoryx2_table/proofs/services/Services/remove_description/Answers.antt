@@ -1,9 +1,10 @@
+use Rattle.std.proofs.Common.{inl, refl}
 use Rattle.iceoryx2_world.specs.Orders.{hash_exact}
 use Rattle.iceoryx2_table.proofs.Changes.{description_stays, description_goes}
 use Rattle.iceoryx2_table.proofs.services.Services.remove_description.Goals as goal
 
 pub returns-then-not-may_remove_description : goal.returns-then-not-may_remove_description
-returns-then-not-may_remove_description c = description_stays c.args.participant c.args.hash.now c.self.view_is c.position_of-position.ensures c.may_remove_description.ensures.effect c.if-not-may_remove_description.true
+returns-then-not-may_remove_description g c = inl (description_stays c.args.participant c.args.hash.now c.self.view_is c.position_of-position.ensures c.may_remove_description.ensures.effect c.if-not-may_remove_description.true, refl)
 
 pub returns : goal.returns
-returns c = description_goes c.args.participant c.args.hash.now c.self.view_is c.position_of-position.ensures c.may_remove_description.ensures.effect c.if-not-may_remove_description.false (c.remove.ensures.effect hash_exact) c.set_phase.ensures
+returns g c = (description_goes c.args.participant c.args.hash.now c.self.view_is c.position_of-position.ensures c.may_remove_description.ensures.effect c.if-not-may_remove_description.false (c.remove.ensures.effect hash_exact) c.set_phase.ensures, c.in-Ok.ensures.written)

@@ -1,9 +1,10 @@
+use Rattle.std.proofs.Common.{inl, refl}
 use Rattle.iceoryx2_world.specs.Orders.{hash_exact}
 use Rattle.iceoryx2_table.proofs.Changes.{segment_stays, segment_goes}
 use Rattle.iceoryx2_table.proofs.services.Services.remove_segment.Goals as goal
 
 pub returns-in_default : goal.returns-in_default
-returns-in_default c = segment_stays c.args.participant c.args.hash.now c.self.view_is c.position_of-position.ensures _ c.without_segment.ensures.effect c.in_default.is
+returns-in_default g c = inl (segment_stays c.args.participant c.args.hash.now c.self.view_is c.position_of-position.ensures _ c.without_segment.ensures.effect c.in_default.is, refl)
 
 pub returns : goal.returns
-returns c = segment_goes c.args.participant c.args.hash.now c.self.view_is c.position_of-position.ensures _ c.without_segment.ensures.effect c.in-Some.is (c.remove.ensures.effect hash_exact) c.set_phase.ensures
+returns g c = (segment_goes c.args.participant c.args.hash.now c.self.view_is c.position_of-position.ensures _ c.without_segment.ensures.effect c.in-Some.is (c.remove.ensures.effect hash_exact) c.set_phase.ensures, c.in-Ok.ensures.written)
