@@ -2,48 +2,32 @@
 #![tactic(auto)]
 
 #[cfg(test)]
-mod accesses;
+mod calls;
 #[cfg(test)]
-mod ample_memory;
+mod factories;
 #[cfg(test)]
-mod attributes;
+mod faults;
 #[cfg(test)]
-mod clones;
-#[cfg(test)]
-mod creators;
-#[cfg(test)]
-mod deadlines;
-#[cfg(test)]
-mod events;
-#[cfg(test)]
-mod names;
-#[cfg(test)]
-mod open_or_create;
-#[cfg(test)]
-mod out_of_memory;
+mod maps;
 #[cfg(test)]
 mod paths;
 #[cfg(test)]
-mod publish_subscribe;
-#[cfg(test)]
-mod reached;
-#[cfg(test)]
 mod readme;
 #[cfg(test)]
-mod request_response;
+mod scripts;
 #[cfg(test)]
-mod runs;
+mod services;
 #[cfg(test)]
 mod sessions;
 #[cfg(test)]
-mod storages;
-#[cfg(test)]
-mod subjects;
-#[cfg(test)]
 mod support;
+#[cfg(test)]
+mod tables;
 #[cfg(test)]
 mod texts;
 #[cfg(test)]
 mod traced;
+#[cfg(test)]
+mod typed;
 #[cfg(test)]
 mod types;

@@ -1,6 +1,6 @@
 //! The example of the README, word for word.
 
-use crate::support::{assert_same, drop_table, listed};
+use crate::support::{assert_same, drop_table, entries};
 use iceoryx2_service::builder::Node;
 use iceoryx2_service::builder::event::EventOpenError;
 use iceoryx2_service::description::{Config, ServiceName, Time};
@@ -46,7 +46,7 @@ fn the_example_creates_and_closes_a_service(rt: HostRuntime) -> Result<(), Fail>
     assert_same(&rt, found, Ok(4));
     let wanted = Err(EventOpenError::DoesNotSupportRequestedAmountOfListeners);
     assert_same(&rt, refused, wanted);
-    assert_same(&rt, listed(&rt, &table), 0);
+    assert_same(&rt, entries(&rt, &table).len(), 0);
     drop_table(table);
     Ok(())
 }

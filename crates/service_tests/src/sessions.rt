@@ -1,253 +1,436 @@
 //! Commands of a session.
 
+use crate::calls::{
+    Ask, Asks, EventCreateError, EventOpenError, EventOpenOrCreateError, How, Refusal,
+};
 use crate::support::*;
-use iceoryx2_attribute::attribute::AttributeVerifier;
-use iceoryx2_commands::command::{Command, EventSetter, How, Refusal, Reply};
+use crate::traced::traced;
+use iceoryx2_commands::command::{Command, EventSetter, Reply, Settings};
 use iceoryx2_description::config::Config;
 use iceoryx2_description::time::{ClockFault, Duration, Time};
-use iceoryx2_errors::error::{EventCreateError, EventOpenError};
 use iceoryx2_session::session::{Session, TableSession};
 use iceoryx2_session::table_storage::TableStorage;
 use iceoryx2_table::table::Table;
 use iceoryx2_traced::traced::Traced;
+use iceoryx2_world::listing::Entry;
 use std::alloc::Global;
 use std::process::Abort;
+use test_support::calls::command;
+use test_support::listing;
+
+/// A call for the service of events of this name, by this node and into this slot, with these settings, these
+/// pairs and this key if one is named, at time zero or without a clock; or another command.
+#[derive(Clone, Copy)]
+enum Said {
+    Call(How, u64, usize, &'static str, Asks, Pairs, Keys),
+    /// A create by node 1 into slot 1, by the default settings, where there is no clock.
+    Untimed(&'static str),
+    Close(usize),
+    List,
+}
+
+/// What a reply is, without hashes and bytes.
+#[derive(Clone, Copy, Debug, PartialEq, Eq)]
+enum Told {
+    Opened(usize, u64),
+    Refused(Refusal),
+    Closed(usize),
+    /// How many services are listed, and for how many nodes the segment of the only one is.
+    Listed(usize, Option<u64>),
+    NoSlot,
+    Empty,
+    InUse,
+    NoMemory,
+}
+
+/// For how many nodes the only service is.
+fn nodes_of(entries: &[Entry]) -> Option<u64> {
+    match listing::only_one(entries) {
+        Some((_, Some((_, max_nodes, _, _)))) => Some(max_nodes),
+        _ => None,
+    }
+}
+
+fn in_short(reply: &Reply) -> Told {
+    match reply {
+        Reply::Opened { slot, number } => Told::Opened(*slot, *number),
+        Reply::Refused(refusal) => Told::Refused(*refusal),
+        Reply::Closed { slot } => Told::Closed(*slot),
+        Reply::Listing(entries) => Told::Listed(entries.len(), nodes_of(entries.as_slice())),
+        Reply::NoSuchSlot => Told::NoSlot,
+        Reply::SlotEmpty => Told::Empty,
+        Reply::SlotInUse => Told::InUse,
+        Reply::OutOfMemory => Told::NoMemory,
+    }
+}
+
+/// The setters of what is asked, in their order.
+fn settings_of(rt: &impl Abort, alloc: Global, asks: Asks) -> Vec<EventSetter> {
+    let mut settings = Vec::new(alloc);
+    for ask in asks {
+        let setter = match *ask {
+            Ask::Nodes(value) => EventSetter::MaxNodes(value),
+            Ask::Notifiers(value) => EventSetter::MaxNotifiers(value),
+            Ask::Listeners(value) => EventSetter::MaxListeners(value),
+            Ask::EventIds(value) => EventSetter::EventIdMaxValue(value),
+            _ => panic!(rt; "these tests set no other"),
+        };
+        push(rt, &mut settings, setter);
+    }
+    settings
+}
+
+/// The command of a row.
+fn command_of(rt: &impl Abort, alloc: Global, said: Said) -> Command {
+    let none: Asks = &[];
+    let (place, text, settings, attributes, now) = match said {
+        Said::Call(how, node, slot, text, settings, pairs, keys) => (
+            (how, node, slot),
+            text,
+            settings,
+            verifier(alloc, pairs, keys),
+            Ok(Time::default()),
+        ),
+        Said::Untimed(text) => (
+            (How::Create, 1, 1),
+            text,
+            none,
+            verifier(alloc, &[], &[]),
+            Err(ClockFault),
+        ),
+        Said::Close(slot) => return Command::Close { slot },
+        Said::List => return Command::List,
+    };
+    let settings = Settings::Event(settings_of(rt, alloc, settings));
+    command(place, name(rt, alloc, text), settings, attributes, now)
+}
+
+/// How many services are listed once a session is finished, what nodes 1 and 2 hold of `a`, and the counter.
+type End = (usize, Holdings, u64);
+
+/// Whether events have a deadline by default, the commands of a session over a new table, its replies, and the
+/// end.
+type Row = (bool, &'static [Said], &'static [Told], End);
+
+/// A call without settings and attributes.
+macro_rules! call {
+    ($how:ident $node:literal $slot:literal $text:literal) => {
+        call!($how $node $slot $text, [])
+    };
+    ($how:ident $node:literal $slot:literal $text:literal, $settings:expr) => {
+        Said::Call(How::$how, $node, $slot, $text, &$settings, &[], &[])
+    };
+}
+
+/// A call for `a` with these pairs and this key.
+macro_rules! requiring {
+    ($how:ident $node:literal $slot:literal, $key:literal $value:literal $other:literal) => {
+        Said::Call(How::$how, $node, $slot, "a", &[], &[($key, $value)], &[$other])
+    };
+}
+
+/// The refusals of a create and of an open.
+macro_rules! not_created {
+    ($value:ident) => {
+        Told::Refused(Refusal::EventCreate(EventCreateError::$value))
+    };
+}
+
+macro_rules! not_opened {
+    ($value:ident) => {
+        Told::Refused(Refusal::EventOpen(EventOpenError::$value))
+    };
+}
+
+/// What an open or create answers that lacks an attribute.
+const LACKING: Told = Told::Refused(Refusal::EventOpenOrCreate(
+    EventOpenOrCreateError::EventOpenError(EventOpenError::IncompatibleAttributes),
+));
+
+/// Sessions.
+const ROWS: &[Row] = &[
+    (false, &[], &[], (0, UNHELD, 0)),
+    // slots are tested before anything is called
+    (
+        false,
+        &[
+            Said::Close(64),
+            Said::Close(63),
+            call!(Create 1 64 "a"),
+            call!(Create 1 63 "a"),
+            call!(Create 1 63 "b"),
+        ],
+        &[
+            Told::NoSlot,
+            Told::Empty,
+            Told::NoSlot,
+            Told::Opened(63, 0),
+            Told::InUse,
+        ],
+        (0, UNHELD, 1),
+    ),
+    // finishing closes every slot
+    (
+        false,
+        &[
+            call!(Create 1 0 "a"),
+            call!(Open 2 1 "a"),
+            call!(Open 2 2 "a"),
+            Said::Close(1),
+            Said::Close(1),
+        ],
+        &[
+            Told::Opened(0, 0),
+            Told::Opened(1, 0),
+            Told::Opened(2, 0),
+            Told::Closed(1),
+            Told::Empty,
+        ],
+        (0, UNHELD, 3),
+    ),
+    // settings are set in order, and the last one counts
+    (
+        false,
+        &[
+            call!(Create 1 0 "a", [
+                Ask::Nodes(9), Ask::Notifiers(3), Ask::Listeners(4), Ask::EventIds(5), Ask::Nodes(2),
+            ]),
+            Said::List,
+            call!(Create 1 1 "a"),
+            call!(Open 1 1 "b"),
+        ],
+        &[
+            Told::Opened(0, 0),
+            Told::Listed(1, Some(2)),
+            not_created!(AlreadyExists),
+            not_opened!(DoesNotExist),
+        ],
+        (0, UNHELD, 1),
+    ),
+    // each refusal has its own name
+    (
+        true,
+        &[
+            call!(Open 1 0 "a"),
+            Said::Untimed("a"),
+            call!(Create 2 0 "a", [Ask::Nodes(1)]),
+            call!(Create 1 1 "a"),
+            call!(Open 2 1 "a", [Ask::Nodes(2)]),
+            call!(Open 1 1 "a"),
+        ],
+        &[
+            not_opened!(DoesNotExist),
+            not_created!(InternalFailure),
+            Told::Opened(0, 0),
+            not_created!(AlreadyExists),
+            not_opened!(DoesNotSupportRequestedAmountOfNodes),
+            not_opened!(ExceedsMaxNumberOfNodes),
+        ],
+        (0, UNHELD, 1),
+    ),
+    // commands are carried out one after the other
+    (
+        false,
+        &[
+            Said::List,
+            Said::Call(How::Create, 1, 9, "a", &[], &[], &["k"]),
+            Said::List,
+            Said::Close(9),
+            Said::List,
+            Said::Close(9),
+        ],
+        &[
+            Told::Listed(0, None),
+            Told::Opened(9, 0),
+            Told::Listed(1, Some(36)),
+            Told::Closed(9),
+            Told::Listed(0, None),
+            Told::Empty,
+        ],
+        (0, UNHELD, 1),
+    ),
+    // a refusal does not stop a run; a create ignores its key
+    (
+        false,
+        &[
+            requiring!(Create 1 0, "k" "v" "i"),
+            requiring!(Create 2 1, "k" "v" "k"),
+            requiring!(Open 2 64, "k" "v" "k"),
+            requiring!(Open 2 1, "k" "w" "k"),
+            requiring!(Open 2 1, "k" "v" "i"),
+            requiring!(Open 2 1, "k" "v" "k"),
+            Said::List,
+            Said::Close(64),
+            Said::Close(1),
+        ],
+        &[
+            Told::Opened(0, 0),
+            not_created!(AlreadyExists),
+            Told::NoSlot,
+            not_opened!(IncompatibleAttributes),
+            not_opened!(IncompatibleAttributes),
+            Told::Opened(1, 0),
+            Told::Listed(1, Some(36)),
+            Told::NoSlot,
+            Told::Closed(1),
+        ],
+        (0, UNHELD, 2),
+    ),
+    // a run opens what it has created; the first one's key is not created
+    (
+        false,
+        &[
+            requiring!(OpenOrCreate 1 0, "k" "v" "i"),
+            requiring!(OpenOrCreate 2 64, "k" "v" "k"),
+            requiring!(OpenOrCreate 2 0, "k" "v" "k"),
+            requiring!(OpenOrCreate 2 1, "k" "w" "k"),
+            requiring!(OpenOrCreate 2 1, "k" "v" "i"),
+            requiring!(OpenOrCreate 2 1, "k" "v" "k"),
+            Said::List,
+            Said::Close(64),
+            Said::Close(1),
+        ],
+        &[
+            Told::Opened(0, 0),
+            Told::NoSlot,
+            Told::InUse,
+            LACKING,
+            LACKING,
+            Told::Opened(1, 0),
+            Told::Listed(1, Some(36)),
+            Told::NoSlot,
+            Told::Closed(1),
+        ],
+        (0, UNHELD, 2),
+    ),
+];
 
 /// A session over a new table.
-fn started(alloc: Global, config: Config) -> TableSession {
-    Session::new(config, table_from(alloc, 0))
+fn started(alloc: Global, has_deadline: bool) -> TableSession {
+    let mut config = Config::default();
+    if has_deadline {
+        config.event.deadline = Duration::new(1, 0);
+    }
+    Session::new(config, Table::new(alloc))
 }
 
-/// The table of a session, which has no factory any more.
-fn finished(session: TableSession) -> Table {
-    session.finish()
-}
-
-/// Carries out one command. What its contract says of the table is not wanted here.
-fn apply<S: TableStorage>(session: &mut Session<S>, command: Command) -> Reply {
-    session.apply(command)
-}
-
-fn close<S: TableStorage>(session: &mut Session<S>, slot: usize) -> Reply {
-    apply(session, Command::Close { slot })
-}
-
-/// Calls with these settings at time zero.
-fn call<S: TableStorage>(
+/// What a session answers to commands one by one.
+fn replies<S: TableStorage>(
     rt: &impl Abort,
     alloc: Global,
     session: &mut Session<S>,
-    called: Called,
-    settings: &[EventSetter],
-) -> Reply {
-    let attributes = AttributeVerifier::new(alloc);
-    let now = Ok(Time::default());
-    apply(
-        session,
-        command(rt, alloc, called, settings, attributes, now),
-    )
+    said: &[Said],
+) -> Vec<Reply> {
+    let mut replies = Vec::new(alloc);
+    for each in said {
+        push(
+            rt,
+            &mut replies,
+            session.apply(command_of(rt, alloc, *each)),
+        );
+    }
+    replies
 }
 
-/// The counter of a table, and how many services it lists.
-fn left(rt: &impl Abort, table: Table) -> (u64, usize) {
-    let left = (table.counter(), listed(rt, &table));
-    drop_table(table);
-    left
+/// What it answers to them in one go.
+fn replies_at_once(
+    rt: &impl Abort,
+    alloc: Global,
+    session: &mut TableSession,
+    said: &[Said],
+) -> Vec<Reply> {
+    let mut commands = Vec::new(alloc);
+    for each in said {
+        push(rt, &mut commands, command_of(rt, alloc, *each));
+    }
+    granted(rt, session.run(commands))
 }
 
-/// What commands answer whose slot is past the last one, empty, free and taken, and the counter
-/// after them.
-fn answers_of_slots(rt: &impl Abort, alloc: Global) -> ([Reply; 5], u64, usize) {
-    let mut session = started(alloc, Config::default());
-    let past = close(&mut session, 64);
-    let empty = close(&mut session, 63);
-    let past_call = call(rt, alloc, &mut session, (How::Create, 1, 64, "a"), &[]);
-    let made = call(rt, alloc, &mut session, (How::Create, 1, 63, "a"), &[]);
-    let taken = call(rt, alloc, &mut session, (How::Create, 1, 63, "b"), &[]);
-    let (counter, listed) = left(rt, finished(session));
-    ([past, empty, past_call, made, taken], counter, listed)
-}
-
-#[test]
-fn slots_are_tested_before_anything_is_called(rt: HostRuntime) {
-    let wanted = [
-        Reply::NoSuchSlot,
-        Reply::SlotEmpty,
-        Reply::NoSuchSlot,
-        Reply::Opened {
-            slot: 63,
-            number: 0,
-        },
-        Reply::SlotInUse,
-    ];
-    assert_same(&rt, answers_of_slots(&rt, rt.alloc()), (wanted, 1, 0));
-}
-
-/// What a session answers that creates and opens a service and closes one slot twice, and the table
-/// behind it.
-fn answers_before_the_end(rt: &impl Abort, alloc: Global) -> ([Reply; 5], Table) {
-    let mut session = started(alloc, Config::default());
-    let first = call(rt, alloc, &mut session, (How::Create, 1, 0, "a"), &[]);
-    let second = call(rt, alloc, &mut session, (How::Open, 2, 1, "a"), &[]);
-    let third = call(rt, alloc, &mut session, (How::Open, 2, 2, "a"), &[]);
-    let closed = close(&mut session, 1);
-    let again = close(&mut session, 1);
-    ([first, second, third, closed, again], finished(session))
-}
-
-/// Those answers, how many services the table lists, what nodes 1 and 2 hold, and its counter.
-fn after_the_end(rt: &impl Abort, alloc: Global) -> ([Reply; 5], usize, [(bool, u64); 2], u64) {
-    let (answers, table) = answers_before_the_end(rt, alloc);
+/// The end of a session, by whose table its counter is the same before.
+fn end(rt: &impl Abort, alloc: Global, session: TableSession) -> End {
     let hash = hash_of_events(rt, alloc, "a");
-    let holds = [held(&table, 1, &hash), held(&table, 2, &hash)];
-    let (counter, listed) = left(rt, table);
-    (answers, listed, holds, counter)
+    let counter = session.table().counter();
+    let table = session.finish();
+    let holds = holdings(&table, &hash);
+    let listed = entries(rt, &table).len();
+    drop_table(table);
+    (listed, holds, counter)
 }
 
-#[test]
-fn finishing_closes_every_slot(rt: HostRuntime) {
-    let wanted = [
-        Reply::Opened { slot: 0, number: 0 },
-        Reply::Opened { slot: 1, number: 0 },
-        Reply::Opened { slot: 2, number: 0 },
-        Reply::Closed { slot: 1 },
-        Reply::SlotEmpty,
-    ];
-    let nothing = (false, 0);
-    assert_same(
-        &rt,
-        after_the_end(&rt, rt.alloc()),
-        (wanted, 0, [nothing, nothing], 3),
+/// What replies are.
+fn shortened(rt: &impl Abort, alloc: Global, replies: &[Reply]) -> Vec<Told> {
+    granted(rt, replies.iter().map(in_short).collect(alloc))
+}
+
+/// What a session answers to a row, and its end: one by one, and in one go.
+fn both(
+    rt: &impl Abort,
+    alloc: Global,
+    &(has_deadline, said, _, _): &Row,
+) -> [(Vec<Told>, End); 2] {
+    let mut session = started(alloc, has_deadline);
+    let one_by_one = shortened(rt, alloc, replies(rt, alloc, &mut session, said).as_slice());
+    let first = end(rt, alloc, session);
+    let mut session = started(alloc, has_deadline);
+    let at_once = shortened(
+        rt,
+        alloc,
+        replies_at_once(rt, alloc, &mut session, said).as_slice(),
     );
+    [(one_by_one, first), (at_once, end(rt, alloc, session))]
 }
 
-/// Settings, the last of which counts.
-const SETTINGS: [EventSetter; 5] = [
-    EventSetter::MaxNodes(9),
-    EventSetter::MaxNotifiers(3),
-    EventSetter::MaxListeners(4),
-    EventSetter::EventIdMaxValue(5),
-    EventSetter::MaxNodes(2),
-];
-
-/// What a create with several settings answers, a second one, and an open of what is missing; and
-/// for how many nodes the service is.
-fn answers_of_settings(rt: &impl Abort, alloc: Global) -> ([Reply; 3], u64) {
-    let mut session = started(alloc, Config::default());
-    let made = call(rt, alloc, &mut session, (How::Create, 1, 0, "a"), &SETTINGS);
-    let (max_nodes, _) = node_views(rt, session.table());
-    let refused = call(rt, alloc, &mut session, (How::Create, 1, 1, "a"), &[]);
-    let missing = call(rt, alloc, &mut session, (How::Open, 1, 1, "b"), &[]);
-    drop_table(finished(session));
-    ([made, refused, missing], max_nodes)
+/// What it is to answer, and its end.
+fn wanted(rt: &impl Abort, alloc: Global, &(_, _, told, end): &Row) -> (Vec<Told>, End) {
+    (granted(rt, told.to_vec(alloc)), end)
 }
 
 #[test]
-fn settings_are_set_in_order(rt: HostRuntime) {
-    let wanted = [
-        Reply::Opened { slot: 0, number: 0 },
-        Reply::Refused(Refusal::EventCreate(EventCreateError::AlreadyExists)),
-        Reply::Refused(Refusal::EventOpen(EventOpenError::DoesNotExist)),
-    ];
-    assert_same(&rt, answers_of_settings(&rt, rt.alloc()), (wanted, 2));
-}
-
-/// A configuration with a deadline of one second.
-fn with_deadline() -> Config {
-    let mut config = Config::default();
-    config.event.deadline = Duration::new(1, 0);
-    config
-}
-
-/// What creates and opens answer that are refused, each for its own reason.
-fn refusals(rt: &impl Abort, alloc: Global) -> [Reply; 6] {
-    let mut session = started(alloc, with_deadline());
-    let one = [EventSetter::MaxNodes(1)];
-    let two = [EventSetter::MaxNodes(2)];
-    let missing = call(rt, alloc, &mut session, (How::Open, 1, 0, "a"), &[]);
-    let attributes = AttributeVerifier::new(alloc);
-    let create = (How::Create, 1, 1, "a");
-    let create = command(rt, alloc, create, &[], attributes, Err(ClockFault));
-    let untimed = apply(&mut session, create);
-    let made = call(rt, alloc, &mut session, (How::Create, 2, 0, "a"), &one);
-    let there = call(rt, alloc, &mut session, (How::Create, 1, 1, "a"), &[]);
-    let small = call(rt, alloc, &mut session, (How::Open, 2, 1, "a"), &two);
-    let full = call(rt, alloc, &mut session, (How::Open, 1, 1, "a"), &[]);
-    drop_table(finished(session));
-    [missing, untimed, made, there, small, full]
-}
-
-#[test]
-fn each_refusal_has_its_own_name(rt: HostRuntime) {
-    let wanted = [
-        Reply::Refused(Refusal::EventOpen(EventOpenError::DoesNotExist)),
-        Reply::Refused(Refusal::EventCreate(EventCreateError::InternalFailure)),
-        Reply::Opened { slot: 0, number: 0 },
-        Reply::Refused(Refusal::EventCreate(EventCreateError::AlreadyExists)),
-        Reply::Refused(Refusal::EventOpen(EventOpenError::DoesNotSupportRequestedAmountOfNodes)),
-        Reply::Refused(Refusal::EventOpen(EventOpenError::ExceedsMaxNumberOfNodes)),
-    ];
-    assert_same(&rt, refusals(&rt, rt.alloc()), wanted);
+fn a_session_answers_commands_one_by_one_as_in_one_go(rt: HostRuntime) {
+    let alloc = rt.alloc();
+    for (row, each) in ROWS.iter().enumerate() {
+        let both_wanted = [wanted(&rt, alloc, each), wanted(&rt, alloc, each)];
+        assert_same(&rt, (row, both(&rt, alloc, each)), (row, both_wanted));
+    }
 }
 
 /// A create, an open into a slot that is taken, one into a free slot, a list and a close, in that order.
-fn command_at(rt: &impl Abort, alloc: Global, index: u8) -> Command {
-    let called = match index {
-        0 => (How::Create, 1, 0, "a"),
-        1 => (How::Open, 2, 0, "a"),
-        2 => (How::Open, 2, 1, "a"),
-        3 => return Command::List,
-        _ => return Command::Close { slot: 1 },
-    };
-    let attributes = AttributeVerifier::new(alloc);
-    command(rt, alloc, called, &[], attributes, Ok(Time::default()))
-}
-
-/// What a session answers to them.
-fn answers_over<S: TableStorage>(
-    rt: &impl Abort,
-    alloc: Global,
-    session: &mut Session<S>,
-) -> Vec<Reply> {
-    let mut answers = Vec::new(alloc);
-    for index in 0..5u8 {
-        let command = command_at(rt, alloc, index);
-        push(rt, &mut answers, apply(session, command));
-    }
-    answers
-}
+const COMMANDS: &[Said] = &[
+    call!(Create 1 0 "a"),
+    call!(Open 2 0 "a"),
+    call!(Open 2 1 "a"),
+    Said::List,
+    Said::Close(1),
+];
 
 /// A session over a new table that is traced.
-fn traced(rt: &impl Abort, alloc: Global) -> Session<Traced<Table>> {
-    match Traced::new(alloc, table_from(alloc, 0), 64) {
-        Ok(storage) => Session::new(Config::default(), storage),
-        Err(_) => panic!(rt; "no memory"),
-    }
+fn over_traced(rt: &impl Abort, alloc: Global) -> Session<Traced<Table>> {
+    Session::new(Config::default(), traced(rt, alloc, Table::new(alloc), 64))
 }
 
-/// Those answers over a table, and over one that is traced.
-fn answers_over_both(rt: &impl Abort, alloc: Global) -> (Vec<Reply>, Vec<Reply>) {
-    let mut session = started(alloc, Config::default());
-    let answers = answers_over(rt, alloc, &mut session);
-    drop_table(finished(session));
-    let mut session = traced(rt, alloc);
-    let same = answers_over(rt, alloc, &mut session);
+/// What sessions answer to them over a table and over one that is traced.
+fn answers_over_both(rt: &impl Abort, alloc: Global) -> [Vec<Reply>; 2] {
+    let mut session = started(alloc, false);
+    let answers = replies(rt, alloc, &mut session, COMMANDS);
+    drop_table(session.finish());
+    let mut session = over_traced(rt, alloc);
+    let same = replies(rt, alloc, &mut session, COMMANDS);
     drop_table(session.finish().into_inner());
-    (answers, same)
+    [answers, same]
 }
 
 #[test]
 fn over_a_traced_table_a_session_answers_as_over_a_table(rt: HostRuntime) {
-    let (answers, same) = answers_over_both(&rt, rt.alloc());
+    let [answers, same] = answers_over_both(&rt, rt.alloc());
     assert_same(&rt, same, answers);
 }
 
 /// How many accesses there were after each of those commands, and after the end.
 fn accesses_of_commands(rt: &impl Abort, alloc: Global) -> Vec<u64> {
-    let mut session = traced(rt, alloc);
+    let mut session = over_traced(rt, alloc);
     let mut counts = Vec::new(alloc);
-    for index in 0..5u8 {
-        let _answer = apply(&mut session, command_at(rt, alloc, index));
+    for said in COMMANDS {
+        let _reply = session.apply(command_of(rt, alloc, *said));
         push(rt, &mut counts, session.storage().total());
     }
     let storage = session.finish();

@@ -1,7 +1,7 @@
-//! The text of each value of the nine enums that tell why a call is refused, made from the lists of their
+//! The text of each value of the nine enums of refusals of a call, made from the lists of their
 //! names.
 
-use crate::support::assert_same;
+use crate::support::{assert_same, granted};
 use iceoryx2_errors::error::publish_subscribe::ServiceAvailabilityState as Availability;
 use iceoryx2_errors::error::request_response::ServiceAvailabilityState as Readiness;
 use iceoryx2_errors::error::{
@@ -12,32 +12,17 @@ use iceoryx2_errors::error::{
 };
 use iceoryx2_types::types::TypeDetailError;
 use std::alloc::Global;
-use std::fmt::Display;
+use std::fmt::{Debug, Display};
 use std::process::Abort;
 
-/// What is printed for a value.
-fn printed<D: Display>(rt: &impl Abort, alloc: Global, value: &D) -> String {
-    match format!(in alloc; "{value}") {
-        Ok(text) => text,
-        Err(_) => panic!(rt; "no memory"),
-    }
-}
-
-/// Texts, one behind the other.
-fn joined(rt: &impl Abort, alloc: Global, parts: &[&str]) -> String {
-    let mut text = String::new(alloc);
-    for part in parts {
-        if text.push_str(part).is_err() {
-            panic!(rt; "no memory")
-        }
-    }
-    text
-}
-
-/// Ends a test that finds another text printed for an error than these parts make.
+/// Ends a test that finds another text printed for an error than these parts make, one after the other.
 fn assert_text<D: Display>(rt: &impl Abort, alloc: Global, error: &D, parts: &[&str]) {
-    let wanted = joined(rt, alloc, parts);
-    assert_same(rt, printed(rt, alloc, error).as_str(), wanted.as_str());
+    let mut wanted = String::new(alloc);
+    for part in parts {
+        granted(rt, wanted.push_str(part));
+    }
+    let found = granted(rt, format!(in alloc; "{error}"));
+    assert_same(rt, found.as_str(), wanted.as_str());
 }
 
 /// Values of an error, each with the value of an open or create that holds it and with its name.
@@ -132,67 +117,88 @@ fn assert_named<'name, E: Copy + Display + Drop, R: Copy + Display + Drop>(
     values.len()
 }
 
-/// Ends a test where an error of a pattern's open, of its create or of its open or create has another text,
-/// or there are other numbers of texts.
-macro_rules! assert_errors {
-    ($rt:ident, $rounds:ident: $open:ident $opens:ident, $create:ident $creates:ident, $numbers:expr) => {{
-        let (rounds, alloc) = (stringify!($rounds), $rt.alloc());
-        let opens = assert_named(&$rt, alloc, (rounds, stringify!($open)), $opens);
-        let creates = assert_named(&$rt, alloc, (rounds, stringify!($create)), $creates);
-        assert_same(&$rt, (opens, creates), $numbers);
-        assert_text(&$rt, alloc, &$rounds::SystemInFlux, &[rounds, "::SystemInFlux"]);
-    }};
+/// Ends a test where an error of a pattern's open, of its create or of its open or create has another text.
+/// Gives how many values an open's and a create's error have.
+fn assert_errors<'name, O, C, R>(
+    rt: &impl Abort,
+    alloc: Global,
+    [rounds, open, create]: [&'name str; 3],
+    (opens, creates): (Named<O, R>, Named<C, R>),
+    flux: R,
+) -> (usize, usize)
+where
+    O: Copy + Display + Drop + 'static,
+    C: Copy + Display + Drop + 'static,
+    R: Copy + Display + Drop + 'static,
+{
+    assert_text(rt, alloc, &flux, &[rounds, "::SystemInFlux"]);
+    (
+        assert_named(rt, alloc, (rounds, open), opens),
+        assert_named(rt, alloc, (rounds, create), creates),
+    )
 }
 
 #[test]
-fn errors_of_event_have_texts(rt: HostRuntime) {
-    assert_errors! {
-        rt, EventOpenOrCreateError:
-        EventOpenError EVENT_OPENS, EventCreateError EVENT_CREATES, (18, 7)
-    }
+fn errors_of_calls_have_texts(rt: HostRuntime) {
+    let alloc = rt.alloc();
+    let names = [
+        "EventOpenOrCreateError",
+        "EventOpenError",
+        "EventCreateError",
+    ];
+    let flux = EventOpenOrCreateError::SystemInFlux;
+    let events = assert_errors(&rt, alloc, names, (EVENT_OPENS, EVENT_CREATES), flux);
+    let names = [
+        "PublishSubscribeOpenOrCreateError",
+        "PublishSubscribeOpenError",
+        "PublishSubscribeCreateError",
+    ];
+    let all = (PUBLISH_SUBSCRIBE_OPENS, PUBLISH_SUBSCRIBE_CREATES);
+    let flux = PublishSubscribeOpenOrCreateError::SystemInFlux;
+    let publishing = assert_errors(&rt, alloc, names, all, flux);
+    let names = [
+        "RequestResponseOpenOrCreateError",
+        "RequestResponseOpenError",
+        "RequestResponseCreateError",
+    ];
+    let all = (REQUEST_RESPONSE_OPENS, REQUEST_RESPONSE_CREATES);
+    let flux = RequestResponseOpenOrCreateError::SystemInFlux;
+    let requesting = assert_errors(&rt, alloc, names, all, flux);
+    assert_same(
+        &rt,
+        [events, publishing, requesting],
+        [(18, 7), (18, 8), (22, 7)],
+    );
 }
 
-#[test]
-fn errors_of_publish_subscribe_have_texts(rt: HostRuntime) {
-    assert_errors! {
-        rt, PublishSubscribeOpenOrCreateError:
-        PublishSubscribeOpenError PUBLISH_SUBSCRIBE_OPENS,
-        PublishSubscribeCreateError PUBLISH_SUBSCRIBE_CREATES, (18, 8)
-    }
-}
-
-#[test]
-fn errors_of_request_response_have_texts(rt: HostRuntime) {
-    assert_errors! {
-        rt, RequestResponseOpenOrCreateError:
-        RequestResponseOpenError REQUEST_RESPONSE_OPENS,
-        RequestResponseCreateError REQUEST_RESPONSE_CREATES, (22, 7)
-    }
-}
-
-/// States of a look, and the errors of an open and of a create for each.
-type States<S, O, C> = &'static [(S, O, C)];
+/// States of a look, and the errors of an open, of a create and of an open or create for each.
+type States<S, O, C, R> = &'static [(S, O, C, R)];
 
 /// States with the names of the values of these errors.
 macro_rules! states {
-    ($open:ident, $create:ident: $($state:expr => $opened:ident, $created:ident;)*) => {
-        &[$(($state, $open::$opened, $create::$created)),*]
+    ($open:ident, $create:ident, $rounds:ident: $($state:expr => $opened:ident, $created:ident;)*) => {
+        &[$(($state, $open::$opened, $create::$created, $rounds::$open($open::$opened))),*]
     };
 }
 
 /// Ends a test where one of these states is another error of one of the three calls than it wants.
-macro_rules! assert_states {
-    ($rt:ident, $states:ident: $open:ident, $create:ident, $rounds:ident) => {
-        for &(state, opened, created) in $states {
-            let found = ($open::from(state), $create::from(state), $rounds::from(state));
-            assert_same(&$rt, found, (opened, created, $rounds::$open(opened)));
-        }
-    };
+fn assert_states<S, O, C, R>(rt: &impl Abort, states: States<S, O, C, R>)
+where
+    S: Copy + Drop + 'static,
+    O: From<S> + Copy + Debug + PartialEq + Drop + 'static,
+    C: From<S> + Copy + Debug + PartialEq + Drop + 'static,
+    R: From<S> + Copy + Debug + PartialEq + Drop + 'static,
+{
+    for &(state, opened, created, either) in states {
+        let found = (O::from(state), C::from(state), R::from(state));
+        assert_same(rt, found, (opened, created, either));
+    }
 }
 
 /// What a look finds of events.
-const EVENT_STATES: States<ServiceState, EventOpenError, EventCreateError> = states! {
-    EventOpenError, EventCreateError:
+const EVENT_STATES: States<ServiceState, EventOpenError, EventCreateError, EventOpenOrCreateError> =
+    states! {
+    EventOpenError, EventCreateError, EventOpenOrCreateError:
     ServiceState::IncompatibleMessagingPattern => IncompatibleMessagingPattern, AlreadyExists;
     ServiceState::InsufficientPermissions => InsufficientPermissions, InsufficientPermissions;
     ServiceState::HangsInCreation => HangsInCreation, HangsInCreation;
@@ -200,42 +206,32 @@ const EVENT_STATES: States<ServiceState, EventOpenError, EventCreateError> = sta
     ServiceState::OutOfMemory => OutOfMemory, OutOfMemory;
 };
 
-#[test]
-fn what_a_look_finds_of_events_has_its_names(rt: HostRuntime) {
-    assert_states! {
-        rt, EVENT_STATES: EventOpenError, EventCreateError, EventOpenOrCreateError
-    }
-}
-
 /// What a look finds of publish-subscribe.
 const PUBLISH_SUBSCRIBE_STATES: States<
     Availability,
     PublishSubscribeOpenError,
     PublishSubscribeCreateError,
+    PublishSubscribeOpenOrCreateError,
 > = states! {
-    PublishSubscribeOpenError, PublishSubscribeCreateError:
-    Availability::ServiceState(ServiceState::IncompatibleMessagingPattern) => IncompatibleMessagingPattern, AlreadyExists;
-    Availability::ServiceState(ServiceState::InsufficientPermissions) => InsufficientPermissions, InsufficientPermissions;
+    PublishSubscribeOpenError, PublishSubscribeCreateError, PublishSubscribeOpenOrCreateError:
+    Availability::ServiceState(ServiceState::IncompatibleMessagingPattern)
+        => IncompatibleMessagingPattern, AlreadyExists;
+    Availability::ServiceState(ServiceState::InsufficientPermissions)
+        => InsufficientPermissions, InsufficientPermissions;
     Availability::ServiceState(ServiceState::HangsInCreation) => HangsInCreation, HangsInCreation;
     Availability::ServiceState(ServiceState::Corrupted) => ServiceInCorruptedState, ServiceInCorruptedState;
     Availability::ServiceState(ServiceState::OutOfMemory) => OutOfMemory, OutOfMemory;
     Availability::IncompatibleTypes => IncompatibleTypes, AlreadyExists;
 };
 
-#[test]
-fn what_a_look_finds_of_publish_subscribe_has_its_names(rt: HostRuntime) {
-    assert_states! {
-        rt, PUBLISH_SUBSCRIBE_STATES: PublishSubscribeOpenError, PublishSubscribeCreateError, PublishSubscribeOpenOrCreateError
-    }
-}
-
 /// What a look finds of request-response.
 const REQUEST_RESPONSE_STATES: States<
     Readiness,
     RequestResponseOpenError,
     RequestResponseCreateError,
+    RequestResponseOpenOrCreateError,
 > = states! {
-    RequestResponseOpenError, RequestResponseCreateError:
+    RequestResponseOpenError, RequestResponseCreateError, RequestResponseOpenOrCreateError:
     Readiness::ServiceState(ServiceState::IncompatibleMessagingPattern) => IncompatibleMessagingPattern, AlreadyExists;
     Readiness::ServiceState(ServiceState::InsufficientPermissions) => InsufficientPermissions, InsufficientPermissions;
     Readiness::ServiceState(ServiceState::HangsInCreation) => HangsInCreation, HangsInCreation;
@@ -246,10 +242,10 @@ const REQUEST_RESPONSE_STATES: States<
 };
 
 #[test]
-fn what_a_look_finds_of_request_response_has_its_names(rt: HostRuntime) {
-    assert_states! {
-        rt, REQUEST_RESPONSE_STATES: RequestResponseOpenError, RequestResponseCreateError, RequestResponseOpenOrCreateError
-    }
+fn what_a_look_finds_has_its_names(rt: HostRuntime) {
+    assert_states(&rt, EVENT_STATES);
+    assert_states(&rt, PUBLISH_SUBSCRIBE_STATES);
+    assert_states(&rt, REQUEST_RESPONSE_STATES);
 }
 
 #[test]
@@ -302,11 +298,6 @@ const CLOSES: &[(CloseError<u64>, &str)] = &[
     ),
 ];
 
-#[test]
-fn errors_of_a_close_have_texts(rt: HostRuntime) {
-    assert_texts(&rt, rt.alloc(), CLOSES);
-}
-
 /// Why there are no details of a type, and what is printed for it.
 const DETAILS: &[(TypeDetailError, &str)] = &[
     (
@@ -321,6 +312,7 @@ const DETAILS: &[(TypeDetailError, &str)] = &[
 ];
 
 #[test]
-fn errors_of_details_have_texts(rt: HostRuntime) {
+fn errors_of_a_close_and_of_details_have_texts(rt: HostRuntime) {
+    assert_texts(&rt, rt.alloc(), CLOSES);
     assert_texts(&rt, rt.alloc(), DETAILS);
 }

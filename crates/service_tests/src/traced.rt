@@ -1,12 +1,10 @@
 //! Calls over traced storages: which accesses they make, as their words demand, and what is kept of them.
 
-use crate::storages::scripts::{self, AccessAnswer, Parts};
-use crate::storages::support::Answer::*;
-use crate::storages::support::Call::*;
-use crate::storages::support::*;
+use crate::calls::*;
+use crate::faults::faulty_over;
+use crate::scripts::{Letter, Parts, script};
 use iceoryx2_access::storage::{Existence, PublishError, Release, Storage, Tag};
-use iceoryx2_errors::error::EventCreateError;
-use iceoryx2_script::script::{Faulty, FaultyService, Scripted};
+use iceoryx2_script::script::{FaultyService, Scripted};
 use iceoryx2_table::local::Local;
 use iceoryx2_table::table::Table;
 use iceoryx2_traced::traced::{Entry, Fetched, Traced, TracedService};
@@ -126,7 +124,7 @@ const REMOVED: &[Entry] = &[
 ];
 
 /// A storage that is traced, with this room.
-fn traced<S: Drop>(rt: &impl Abort, alloc: Global, inner: S, room: usize) -> Traced<S> {
+pub fn traced<S: Drop>(rt: &impl Abort, alloc: Global, inner: S, room: usize) -> Traced<S> {
     match Traced::new(alloc, inner, room) {
         Ok(traced) => traced,
         Err(_) => panic!(rt; "no memory"),
@@ -137,9 +135,7 @@ fn traced<S: Drop>(rt: &impl Abort, alloc: Global, inner: S, room: usize) -> Tra
 fn joined(rt: &impl Abort, alloc: Global, parts: &[&[Entry]]) -> Vec<Entry> {
     let mut entries = Vec::new(alloc);
     for part in parts {
-        if entries.extend_from_slice(part).is_err() {
-            panic!(rt; "no memory")
-        }
+        granted(rt, entries.extend_from_slice(part));
     }
     entries
 }
@@ -154,46 +150,26 @@ fn seen<S>(rt: &impl Abort, alloc: Global, traced: &Traced<S>) -> Trace {
     (entries, traced.total(), traced.forgotten())
 }
 
-/// Ends a test that finds another trace than of these parts, of as many accesses, of which as many are
-/// forgotten.
-fn assert_traced<S>(
-    rt: &impl Abort,
-    alloc: Global,
-    traced: &Traced<S>,
-    parts: &[&[Entry]],
-    (total, forgotten): (u64, u64),
-) {
-    let wanted = (joined(rt, alloc, parts), total, forgotten);
-    assert_same(rt, seen(rt, alloc, traced), wanted);
-}
-
 /// A room, calls with their answers, the parts of the trace after them, how many accesses there were, and
 /// how many of them are forgotten.
-type Run = (
-    usize,
-    &'static [(Call, Answer)],
-    &'static [&'static [Entry]],
-    (u64, u64),
-);
+type Run = (usize, Steps, &'static [&'static [Entry]], (u64, u64));
 
-/// Carries out runs, each over a new table that is traced.
-fn assert_runs(rt: &impl Abort, alloc: Global, runs: &[Run]) {
-    for &(room, calls, parts, counts) in runs {
-        let mut traced = traced(rt, alloc, Table::new(alloc), room);
-        drive::<TracedService<Local>>(rt, alloc, &mut traced, calls);
-        assert_traced(rt, alloc, &traced, parts, counts);
-        drop_table(traced.into_inner());
-    }
+/// The trace of a run over a new table.
+fn of_table(rt: &impl Abort, alloc: Global, (row, &(room, steps, _, _)): (usize, &Run)) -> Trace {
+    let mut traced = traced(rt, alloc, Table::new(alloc), room);
+    drive::<TracedService<Local>>(rt, alloc, &mut traced, (row, steps));
+    let trace = seen(rt, alloc, &traced);
+    drop_table(traced.into_inner());
+    trace
 }
 
-const CREATED: (Call, Answer) = (Create(1), Granted(0));
+const CREATED: (Step, Answer) = (step!(Event Create 1 []), gives!(0));
 
-const OPENED: (Call, Answer) = (Open(2), Granted(0));
+const OPENED: (Step, Answer) = (step!(Event Open 2 []), gives!(0));
 
-const CLOSED: (Call, Answer) = (Close, Closed);
-
-/// A create alone, with an open by a second node and its close, and with its own close.
-const WHOLE: &[Run] = &[
+/// Calls by one node and by two in room enough, and a create and its close, which make ten accesses, in less and
+/// less room.
+const RUNS: &[Run] = &[
     (64, &[CREATED], &[CREATING, PUBLISHED], (6, 0)),
     (
         64,
@@ -207,36 +183,36 @@ const WHOLE: &[Run] = &[
         &[CREATING, PUBLISHED, RELEASED, UNTAGGED, REMOVED],
         (10, 0),
     ),
-];
-
-#[test]
-fn calls_over_a_traced_table_make_the_accesses_of_their_words(rt: HostRuntime) {
-    assert_runs(&rt, rt.alloc(), WHOLE);
-}
-
-/// A create and its close, which make ten accesses, in less and less room.
-const BOUNDED: &[Run] = &[
     (
         10,
         &[CREATED, CLOSED],
         &[CREATING, PUBLISHED, RELEASED, UNTAGGED, REMOVED],
         (10, 0),
     ),
+    // the oldest accesses are forgotten
     (3, &[CREATED, CLOSED], &[UNTAGGED, REMOVED], (10, 7)),
     (2, &[CREATED, CLOSED], &[REMOVED], (10, 8)),
     (0, &[CREATED, CLOSED], &[], (10, 10)),
 ];
 
 #[test]
-fn the_oldest_accesses_are_forgotten_where_there_is_no_room(rt: HostRuntime) {
-    assert_runs(&rt, rt.alloc(), BOUNDED);
+fn the_last_accesses_of_calls_for_which_there_is_room_are_those_of_their_words(rt: HostRuntime) {
+    for (row, run) in RUNS.iter().enumerate() {
+        let (total, forgotten) = run.3;
+        let wanted = (joined(&rt, rt.alloc(), run.2), total, forgotten);
+        assert_same(
+            &rt,
+            (row, of_table(&rt, rt.alloc(), (row, run))),
+            (row, wanted),
+        );
+    }
 }
 
 /// A create whose publishing is refused, which gives back what it made.
-const NOT_PUBLISHED: (Call, Answer) = (
-    Create(1),
-    CreateRefused(EventCreateError::ServiceInCorruptedState),
-);
+const NOT_PUBLISHED: Steps = &[(
+    step!(Event Create 1 []),
+    refused!(Event Create ServiceInCorruptedState),
+)];
 
 /// The refused publishing.
 const REFUSED: &[Entry] = &[Entry::Publish {
@@ -246,49 +222,32 @@ const REFUSED: &[Entry] = &[Entry::Publish {
     answer: Err(PublishError::Other),
 }];
 
-/// A new table of which the sixth access is refused.
-fn faulty<S: Drop>(rt: &impl Abort, alloc: Global, inner: S) -> Faulty<S> {
-    match [6].to_vec(alloc) {
-        Ok(refused) => Faulty::new(inner, refused),
-        Err(_) => panic!(rt; "no memory"),
-    }
-}
-
-/// The trace behind a storage that refuses an access.
-fn of_refused(rt: &impl Abort, alloc: Global) -> Trace {
-    let mut storage = traced(rt, alloc, faulty(rt, alloc, Table::new(alloc)), 64);
-    drive::<TracedService<FaultyService<Local>>>(rt, alloc, &mut storage, &[NOT_PUBLISHED]);
-    seen(rt, alloc, &storage)
-}
-
-/// The trace before one, which that access doesn't reach.
-fn of_reached(rt: &impl Abort, alloc: Global) -> Trace {
-    let mut storage = faulty(rt, alloc, traced(rt, alloc, Table::new(alloc), 64));
-    drive::<FaultyService<TracedService<Local>>>(rt, alloc, &mut storage, &[NOT_PUBLISHED]);
-    seen(rt, alloc, storage.inner())
+/// The traces of a storage that refuses the sixth access, and of one inside it, which that access doesn't reach.
+fn of_refused(rt: &impl Abort, alloc: Global) -> [Trace; 2] {
+    let inner = faulty_over(rt, alloc, Table::new(alloc), &[6]);
+    let mut behind = traced(rt, alloc, inner, 64);
+    drive::<TracedService<FaultyService<Local>>>(rt, alloc, &mut behind, (0, NOT_PUBLISHED));
+    let inner = traced(rt, alloc, Table::new(alloc), 64);
+    let mut before = faulty_over(rt, alloc, inner, &[6]);
+    drive::<FaultyService<TracedService<Local>>>(rt, alloc, &mut before, (1, NOT_PUBLISHED));
+    [seen(rt, alloc, &behind), seen(rt, alloc, before.inner())]
 }
 
 #[test]
 fn a_refused_access_is_traced_where_it_comes_by(rt: HostRuntime) {
     let alloc = rt.alloc();
     let all = joined(&rt, alloc, &[CREATING, REFUSED, REMOVED, UNTAGGED]);
-    assert_same(&rt, of_refused(&rt, alloc), (all, 9, 0));
     let reached = joined(&rt, alloc, &[CREATING, REMOVED, UNTAGGED]);
-    assert_same(&rt, of_reached(&rt, alloc), (reached, 8, 0));
+    assert_same(&rt, of_refused(&rt, alloc), [(all, 9, 0), (reached, 8, 0)]);
 }
 
-/// The texts of the entries that are kept, each behind the one before on a line of its own.
+/// The texts of the entries that are kept, each after the one before on a line of its own.
 fn texts<S>(rt: &impl Abort, alloc: Global, traced: &Traced<S>) -> String {
     let mut all = String::new(alloc);
     for index in 0..traced.len() {
-        let line = match traced.get(index) {
-            Some(entry) => format!(in alloc; "{entry}\n"),
-            None => panic!(rt; "no entry"),
-        };
-        match line {
-            Ok(line) if all.push_str(line.as_str()).is_ok() => {}
-            _ => panic!(rt; "no memory"),
-        }
+        let entry = there(rt, traced.get(index));
+        let line = granted(rt, format!(in alloc; "{entry}\n"));
+        granted(rt, all.push_str(line.as_str()));
     }
     all
 }
@@ -309,41 +268,44 @@ release Left
 remove_tag Ok
 ";
 
-/// Those texts.
-fn texts_over_a_table(rt: &impl Abort, alloc: Global) -> String {
-    let mut storage = traced(rt, alloc, Table::new(alloc), 64);
-    drive::<TracedService<Local>>(rt, alloc, &mut storage, &[CREATED, OPENED, CLOSED]);
-    texts(rt, alloc, &storage)
-}
-
 /// A create that finds the hash locked by somebody else.
 const LOCK_TAKEN: Parts = &[&[
-    AccessAnswer::Exists(Existence::No),
-    AccessAnswer::Counts(false),
-    AccessAnswer::MakeTag(Tag::Found),
-    AccessAnswer::LockTaken,
+    Letter::NotThere,
+    Letter::NotCounted,
+    Letter::TagFound,
+    Letter::LockTaken,
 ]];
+
+const TOO_LATE: Steps = &[(
+    step!(Event Create 1 []),
+    refused!(Event Create IsBeingCreatedByAnotherInstance),
+)];
 
 /// What it asks of a script and hears.
 const OVER_A_SCRIPT: &str = "exists No\ncounts false\nmake_tag Found\nlock Creation\n";
 
 /// Those texts.
-fn texts_over_a_script(rt: &impl Abort, alloc: Global) -> String {
-    let mut storage = traced(rt, alloc, scripts::script(rt, alloc, LOCK_TAKEN), 64);
-    let refused = CreateRefused(EventCreateError::IsBeingCreatedByAnotherInstance);
-    drive::<TracedService<Scripted>>(rt, alloc, &mut storage, &[(Create(1), refused)]);
-    texts(rt, alloc, &storage)
+fn texts_of_both(rt: &impl Abort, alloc: Global) -> [String; 2] {
+    let mut table = traced(rt, alloc, Table::new(alloc), 64);
+    drive::<TracedService<Local>>(rt, alloc, &mut table, (0, &[CREATED, OPENED, CLOSED]));
+    let inner = script(rt, alloc, Pattern::Event, LOCK_TAKEN);
+    let mut script = traced(rt, alloc, inner, 64);
+    drive::<TracedService<Scripted>>(rt, alloc, &mut script, (1, TOO_LATE));
+    [texts(rt, alloc, &table), texts(rt, alloc, &script)]
 }
 
 #[test]
 fn an_entry_is_printed_as_its_access_and_its_answer(rt: HostRuntime) {
-    let alloc = rt.alloc();
-    assert_same(&rt, texts_over_a_table(&rt, alloc).as_str(), OVER_A_TABLE);
-    assert_same(&rt, texts_over_a_script(&rt, alloc).as_str(), OVER_A_SCRIPT);
+    let [over_table, over_script] = texts_of_both(&rt, rt.alloc());
+    assert_same(&rt, over_table.as_str(), OVER_A_TABLE);
+    assert_same(&rt, over_script.as_str(), OVER_A_SCRIPT);
 }
 
 /// How many entries are kept of how many accesses, and how many are forgotten.
-fn counts<S>(traced: &Traced<S>) -> (usize, bool, u64, u64) {
+type Counts = (usize, bool, u64, u64);
+
+/// Those counts.
+fn counts<S>(traced: &Traced<S>) -> Counts {
     (
         traced.len(),
         traced.is_empty(),
@@ -352,12 +314,11 @@ fn counts<S>(traced: &Traced<S>) -> (usize, bool, u64, u64) {
     )
 }
 
-/// The counts after a create, after an access of the table inside, and after what was kept is cleared; and how
-/// much room there is then.
-fn counts_before_and_after(rt: &impl Abort, alloc: Global) -> [(usize, bool, u64, u64); 4] {
+/// The counts before and after a create, after an access of the table inside, and after what was kept is cleared.
+fn counts_before_and_after(rt: &impl Abort, alloc: Global) -> [Counts; 4] {
     let mut storage = traced(rt, alloc, Table::new(alloc), 8);
     let new = counts(&storage);
-    drive::<TracedService<Local>>(rt, alloc, &mut storage, &[CREATED]);
+    drive::<TracedService<Local>>(rt, alloc, &mut storage, (0, &[CREATED]));
     let created = counts(&storage);
     let _there = storage.inner_mut().exists(&HASH);
     let same = counts(&storage);

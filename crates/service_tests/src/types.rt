@@ -6,7 +6,8 @@ ghost use Rattle.iceoryx2_types.proofs.Powers.{powers};
 ghost use Rattle.iceoryx2_types.specs.Types.{fixed_size};
 
 use self::TypeVariant::*;
-use crate::support::assert_same;
+use crate::support::{assert_same, granted};
+use iceoryx2_description::description::MessagingPattern;
 use iceoryx2_types::types::publish_subscribe::Header;
 use iceoryx2_types::types::request_response::{RequestHeader, ResponseHeader};
 use iceoryx2_types::types::{
@@ -121,18 +122,6 @@ impl ZeroCopySend for MyPayload {
     }
 }
 
-/// The types of a message.
-fn from<H: ZeroCopySend, U: ZeroCopySend, P: ZeroCopySend>(
-    rt: &impl Abort,
-    alloc: Global,
-    variant: TypeVariant,
-) -> MessageTypeDetails {
-    match MessageTypeDetails::from::<H, U, P>(alloc, variant) {
-        Ok(message) => message,
-        Err(_) => panic!(rt; "no memory"),
-    }
-}
-
 /// What is told of a type.
 fn told(detail: &TypeDetail) -> Told {
     (
@@ -167,21 +156,30 @@ const MANY: [Told<'static>; 3] = [
     (Dynamic, "i64", 8, 8),
 ];
 
-/// Whether a message of these types is made of this.
-fn is_made_of<H: ZeroCopySend, U: ZeroCopySend, P: ZeroCopySend>(
-    rt: &impl Abort,
-    alloc: Global,
-    variant: TypeVariant,
-    wanted: [Told; 3],
-) -> bool {
-    consists_of(&from::<H, U, P>(rt, alloc, variant), wanted)
+/// What a message of publish-subscribe, or a request and then a response, is made of.
+pub type Messages = &'static [[Told<'static>; 3]];
+
+/// Whether this is told of a service's messages, or of its requests and responses.
+pub fn are_of(pattern: &MessagingPattern, messages: Messages) -> bool {
+    match (pattern, messages) {
+        (MessagingPattern::PublishSubscribe(settings), [message]) => {
+            consists_of(&settings.message_type_details, *message)
+        }
+        (MessagingPattern::RequestResponse(settings), [request, response]) => {
+            consists_of(&settings.request_message_type_details, *request)
+                && consists_of(&settings.response_message_type_details, *response)
+        }
+        _ => false,
+    }
 }
 
 #[test]
 fn a_message_holds_what_its_types_say(rt: HostRuntime) {
+    let own = MessageTypeDetails::from::<i32, i64, MyPayload>(rt.alloc(), FixedSize);
+    let many = MessageTypeDetails::from::<i32, bool, i64>(rt.alloc(), Dynamic);
     let found = (
-        is_made_of::<i32, i64, MyPayload>(&rt, rt.alloc(), FixedSize, OWN),
-        is_made_of::<i32, bool, i64>(&rt, rt.alloc(), Dynamic, MANY),
+        consists_of(&granted(&rt, own), OWN),
+        consists_of(&granted(&rt, many), MANY),
     );
     assert_same(&rt, found, (true, true));
 }
@@ -189,44 +187,8 @@ fn a_message_holds_what_its_types_say(rt: HostRuntime) {
 /// The details of a type.
 pub fn detail(rt: &impl Abort, alloc: Global, told: Told) -> TypeDetail {
     let (variant, name, size, alignment) = told;
-    match TypeDetail::new(alloc, variant, name, size, alignment) {
-        Ok(detail) => detail,
-        Err(_) => panic!(rt; "no details, or no memory"),
-    }
+    granted(rt, TypeDetail::new(alloc, variant, name, size, alignment))
 }
-
-/// An alignment.
-pub fn alignment(rt: &impl Abort, value: u64) -> Alignment {
-    match Alignment::new(value) {
-        Some(alignment) => alignment,
-        None => panic!(rt; "no alignment"),
-    }
-}
-
-/// The setter that an ask means: of a plain value, of an alignment, or of a type.
-macro_rules! setter {
-    (
-        $rt:ident, $alloc:ident, $ask:ident => $setter:ident:
-        ($($plain:ident $sets:ident),*) ($($aligned:ident $aligns:ident),*) ($($typed:ident $types:ident),*)
-    ) => {
-        match $ask {
-            $(Ask::$plain(value) => $setter::$sets(value),)*
-            $(Ask::$aligned(value) => $setter::$aligns(alignment($rt, value)),)*
-            $(Ask::$typed(told) => $setter::$types(detail($rt, $alloc, told)),)*
-        }
-    };
-}
-
-pub(crate) use setter;
-
-/// Rows of what is asked, and of the value of an error that refuses it.
-macro_rules! refused {
-    ($error:ident: $($asks:expr => $value:ident;)*) => {
-        &[$((&$asks, $error::$value)),*]
-    };
-}
-
-pub(crate) use refused;
 
 /// The types of a message with these alignments.
 fn of_i64(rt: &impl Abort, alloc: Global, alignments: [u64; 3]) -> MessageTypeDetails {
@@ -248,15 +210,11 @@ const COMPATIBLE: &[([u64; 3], [u64; 3], bool)] = &[
     ([8, 8, 8], [16, 8, 8], false),
 ];
 
-/// Whether the message of some alignments is compatible to that of others.
-fn is_compatible(rt: &impl Abort, alloc: Global, own: [u64; 3], other: [u64; 3]) -> bool {
-    of_i64(rt, alloc, own).is_compatible_to(&of_i64(rt, alloc, other))
-}
-
 #[test]
 fn a_message_fits_one_that_is_aligned_further(rt: HostRuntime) {
     for &(own, other, wanted) in COMPATIBLE {
-        let found = is_compatible(&rt, rt.alloc(), own, other);
+        let message = of_i64(&rt, rt.alloc(), own);
+        let found = message.is_compatible_to(&of_i64(&rt, rt.alloc(), other));
         assert_same(&rt, (own, other, found), (own, other, wanted));
     }
 }
@@ -286,8 +244,8 @@ fn overrides_to(
         Some(told) => Some(detail(rt, alloc, told)),
         None => None,
     };
-    let message = from::<Header, (), i64>(rt, alloc, FixedSize);
-    let overridden = message.with_overrides(None, payload, Alignment::new(alignment));
+    let message = MessageTypeDetails::from::<Header, (), i64>(alloc, FixedSize);
+    let overridden = granted(rt, message).with_overrides(None, payload, Alignment::new(alignment));
     consists_of(&overridden, [said::<Header>(), said::<()>(), wanted])
 }
 
@@ -322,10 +280,7 @@ fn refusal(
     length: usize,
     alignment: u64,
 ) -> (bool, Result<(), TypeDetailError>) {
-    let name = match "n".repeat(alloc, length) {
-        Ok(name) => name,
-        Err(_) => panic!(rt; "no memory"),
-    };
+    let name = granted(rt, "n".repeat(alloc, length));
     let refusal = match TypeDetail::new(alloc, FixedSize, &name, 8, alignment) {
         Ok(_) => Ok(()),
         Err(error) => Err(error),

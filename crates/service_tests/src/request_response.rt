@@ -1,5 +1,0 @@
-//! Services of request-response.
-
-mod calls;
-pub mod support;
-mod typed;
