@@ -1,4 +1,4 @@
-//! Tests of attributes, names, settings and the byte form, with values from outside the program.
+//! Tests of attributes, names, settings, the byte forms and logs, with values from outside the program.
 #![tactic(auto)]
 
 #[cfg(test)]
@@ -7,5 +7,9 @@ mod attributes;
 mod descriptions;
 #[cfg(test)]
 mod forms;
+#[cfg(test)]
+mod log_forms;
+#[cfg(test)]
+mod memory_logs;
 #[cfg(test)]
 mod support;

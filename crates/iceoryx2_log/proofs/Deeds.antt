@@ -1,0 +1,157 @@
+-- What a deed's kind, numbers and bytes are, read and written.
+use Rattle.std.proofs.Common.{◌≡◌, ℕ, ◌^◌, ◌<◌, Bool, true, false, cond, eqb, List, [], ◌∷◌, ◌++◌, get_or, Option, Some, None, refl, sym, ap, subst, ◌∙◌, arith}
+use Rattle.std.specs.Prelude.{All}
+use Rattle.std.specs.Int.{w64}
+use Rattle.std.proofs.lemmas.Bool.{eqb-true}
+use Rattle.std.proofs.lemmas.List.{append-nil, get_or_default}
+use Rattle.iceoryx2_byte_form.specs.PartForm.{number}
+use Rattle.iceoryx2_byte_form.specs.PartReading.{◌>>=◌, number_at}
+use Rattle.iceoryx2_byte_form.proofs.PartForms.{IsBytes, bind_some, some_is, Reads-number64}
+use Rattle.iceoryx2_log.specs.declared.entry.Deed.{Deed}
+use Rattle.iceoryx2_log.specs.declared.entry.Deed.TheVariants.{MakeTag, RemoveTag, Lock, MakeSegment, RemoveSegment, RemoveDescription, Publish, OpenSegment, Release}
+use Rattle.iceoryx2_log.specs.Form.{IsDeed, kind, details}
+use Rattle.iceoryx2_log.specs.Reading.{none_in, number_in, numbers_in, publish_in, plain_deed_in, deed_in}
+
+-- the deed whose kind and details these are
+pub record IsRead (k : ℕ) (bytes : List ℕ) (d : Deed) : Type 0 where
+  pub is_kind : k ≡ kind d
+  pub parts : bytes ≡ details d
+  pub fits : IsDeed d
+
+-- ---- nothing, a number, two numbers, a number and bytes
+
+pub record Nothing (d x : Deed) (bytes : List ℕ) : Type 0 where
+  pub none : bytes ≡ []
+  pub same : d ≡ x
+
+none_takes : (d x : Deed) (bytes : List ℕ) → none_in d bytes ≡ Some x → Nothing d x bytes
+unfolding none_in
+none_takes d x [] e = record { none = refl; same = some_is d x e }
+none_takes d x (b ∷ bytes) e = absurd cc
+
+pub record OneNumber (to : ℕ → Deed) (x : Deed) (bytes : List ℕ) : Type 0 where
+  pub one : ℕ
+  pub small : one < 2 ^ 64
+  pub parts : bytes ≡ number one
+  pub same : to one ≡ x
+
+number_takes : (to : ℕ → Deed) (x : Deed) (bytes : List ℕ) → IsBytes bytes → number_in to bytes ≡ Some x → OneNumber to x bytes
+unfolding number_in
+number_takes to x bytes fits e =
+    let a = bind_some (number_at w64 bytes) (λ y. none_in (to y.0) y.1) x e in
+    let t = Reads-number64.takes bytes a.0 fits a.1 in
+    let end = none_takes (to a.0.0) x a.0.1 a.2 in
+    record { one = a.0.0; small = t.1; parts = t.0.parts ∙ ap (λ (r : List ℕ). number a.0.0 ++ r) end.none; same = end.same }
+
+pub record TwoNumbers (to : ℕ → ℕ → Deed) (x : Deed) (bytes : List ℕ) : Type 0 where
+  pub one : ℕ
+  pub two : ℕ
+  pub small : (one < 2 ^ 64) × (two < 2 ^ 64)
+  pub parts : bytes ≡ number one ++ number two
+  pub same : to one two ≡ x
+
+numbers_takes : (to : ℕ → ℕ → Deed) (x : Deed) (bytes : List ℕ) → IsBytes bytes → numbers_in to bytes ≡ Some x → TwoNumbers to x bytes
+unfolding numbers_in
+numbers_takes to x bytes fits e =
+    let a = bind_some (number_at w64 bytes) (λ y. number_in (to y.0) y.1) x e in
+    let t = Reads-number64.takes bytes a.0 fits a.1 in
+    let last = number_takes (to a.0.0) x a.0.1 t.0.rest_fits a.2 in
+    record { one = a.0.0; two = last.one; small = (t.1, last.small); parts = t.0.parts ∙ ap (λ (r : List ℕ). number a.0.0 ++ r) last.parts; same = last.same }
+
+-- ---- each of them as a deed's kind
+
+none_read : (d x : Deed) (k : ℕ) (bytes : List ℕ) → k ≡ kind d → [] ≡ details d → IsDeed d → none_in d bytes ≡ Some x → IsRead k bytes x
+none_read d x k bytes is nothing fits e =
+    let t = none_takes d x bytes e in
+    subst (λ (y : Deed). IsRead k bytes y) t.same (record { is_kind = is; parts = t.none ∙ nothing; fits = fits })
+
+lock_read : (x : Deed) (k : ℕ) (bytes : List ℕ) → IsBytes bytes → k ≡ 3 → number_in Lock bytes ≡ Some x → IsRead k bytes x
+lock_read x k bytes fits is e =
+    let t = number_takes Lock x bytes fits e in
+    subst (λ (y : Deed). IsRead k bytes y) t.same (record { is_kind = is; parts = t.parts; fits = t.small })
+
+make_segment_read : (x : Deed) (k : ℕ) (bytes : List ℕ) → IsBytes bytes → k ≡ 4 → numbers_in MakeSegment bytes ≡ Some x → IsRead k bytes x
+make_segment_read x k bytes fits is e =
+    let t = numbers_takes MakeSegment x bytes fits e in
+    subst (λ (y : Deed). IsRead k bytes y) t.same (record { is_kind = is; parts = t.parts; fits = t.small })
+
+open_segment_read : (x : Deed) (k : ℕ) (bytes : List ℕ) → IsBytes bytes → k ≡ 8 → numbers_in OpenSegment bytes ≡ Some x → IsRead k bytes x
+open_segment_read x k bytes fits is e =
+    let t = numbers_takes OpenSegment x bytes fits e in
+    subst (λ (y : Deed). IsRead k bytes y) t.same (record { is_kind = is; parts = t.parts; fits = t.small })
+
+release_read : (x : Deed) (k : ℕ) (bytes : List ℕ) → IsBytes bytes → k ≡ 9 → numbers_in Release bytes ≡ Some x → IsRead k bytes x
+release_read x k bytes fits is e =
+    let t = numbers_takes Release x bytes fits e in
+    subst (λ (y : Deed). IsRead k bytes y) t.same (record { is_kind = is; parts = t.parts; fits = t.small })
+
+publish_read : (x : Deed) (k : ℕ) (bytes : List ℕ) → IsBytes bytes → k ≡ 7 → publish_in bytes ≡ Some x → IsRead k bytes x
+unfolding publish_in
+publish_read x k bytes fits is e =
+    let a = bind_some (number_at w64 bytes) (λ y. Some (Publish y.0 y.1)) x e in
+    let t = Reads-number64.takes bytes a.0 fits a.1 in
+    let each : All (λ b. b < 256) a.0.1 = λ i d lt. rw (get_or_default a.0.1 i d 0 lt) (t.0.rest_fits i) in
+    subst (λ (y : Deed). IsRead k bytes y) (some_is (Publish a.0.0 a.0.1) x a.2) (record { is_kind = is; parts = t.0.parts; fits = (t.1, each) })
+
+-- ---- one of the kinds
+
+either : {A P : Type 0} {r s : Option A} {x : A} (b : Bool) → cond b r s ≡ Some x → (b ≡ true → r ≡ Some x → P) → (s ≡ Some x → P) → P
+either true e first other = first refl e
+either false e first other = other e
+
+plain_takes : (k : ℕ) (bytes : List ℕ) (x : Deed) → IsBytes bytes → plain_deed_in k bytes ≡ Some x → IsRead k bytes x
+unfolding plain_deed_in
+plain_takes k bytes x fits e =
+    either (eqb k 1) e (λ is h. none_read MakeTag x k bytes (eqb-true k 1 is) refl tt h) (λ e2.
+    either (eqb k 2) e2 (λ is h. none_read RemoveTag x k bytes (eqb-true k 2 is) refl tt h) (λ e3.
+    either (eqb k 3) e3 (λ is h. lock_read x k bytes fits (eqb-true k 3 is) h) (λ e4.
+    either (eqb k 4) e4 (λ is h. make_segment_read x k bytes fits (eqb-true k 4 is) h) (λ e5.
+    either (eqb k 5) e5 (λ is h. none_read RemoveSegment x k bytes (eqb-true k 5 is) refl tt h) (λ e6.
+    either (eqb k 6) e6 (λ is h. none_read RemoveDescription x k bytes (eqb-true k 6 is) refl tt h) (λ e8.
+    either (eqb k 8) e8 (λ is h. open_segment_read x k bytes fits (eqb-true k 8 is) h) (λ e9.
+    either (eqb k 9) e9 (λ is h. release_read x k bytes fits (eqb-true k 9 is) h) (λ none. absurd cc))))))))
+
+pub deed_takes : (k : ℕ) (bytes : List ℕ) (x : Deed) → IsBytes bytes → deed_in k bytes ≡ Some x → IsRead k bytes x
+unfolding deed_in
+deed_takes k bytes x fits e =
+    either (eqb k 7) e (λ is h. publish_read x k bytes fits (eqb-true k 7 is) h) (λ other. plain_takes k bytes x fits other)
+
+-- ---- what was written is read again
+
+abbrev Numbered : Type 0
+Numbered = Option (ℕ × List ℕ)
+
+number_again : (to : ℕ → Deed) (n : ℕ) → n < 2 ^ 64 → number_in to (number n) ≡ Some (to n)
+unfolding number_in none_in
+number_again to n small = ap (λ (r : Numbered). r >>= λ y. none_in (to y.0) y.1) (Reads-number64.again n [] small)
+
+numbers_again : (to : ℕ → ℕ → Deed) (n m : ℕ) → n < 2 ^ 64 → m < 2 ^ 64 → numbers_in to (number n ++ number m) ≡ Some (to n m)
+unfolding numbers_in
+numbers_again to n m small other = ap (λ (r : Numbered). r >>= λ y. number_in (to y.0) y.1) (Reads-number64.again n (number m) small) ∙ number_again (to n) m other
+
+publish_again : (n : ℕ) (bytes : List ℕ) → n < 2 ^ 64 → publish_in (number n ++ bytes) ≡ Some (Publish n bytes)
+unfolding publish_in
+publish_again n bytes small = ap (λ (r : Numbered). r >>= λ y. Some (Publish y.0 y.1)) (Reads-number64.again n bytes small)
+
+pub deed_again : (d : Deed) → IsDeed d → deed_in (kind d) (details d) ≡ Some d
+unfolding deed_in plain_deed_in none_in
+deed_again MakeTag fits = refl
+deed_again RemoveTag fits = refl
+deed_again (Lock n) fits = number_again Lock n fits
+deed_again (MakeSegment n nodes) fits = numbers_again MakeSegment n nodes fits.0 fits.1
+deed_again RemoveSegment fits = refl
+deed_again RemoveDescription fits = refl
+deed_again (Publish n bytes) fits = publish_again n bytes fits.0
+deed_again (OpenSegment n ticket) fits = numbers_again OpenSegment n ticket fits.0 fits.1
+deed_again (Release ticket n) fits = numbers_again Release ticket n fits.0 fits.1
+
+pub kind_below : (d : Deed) → kind d < 256
+kind_below MakeTag = omega arith
+kind_below RemoveTag = omega arith
+kind_below (Lock n) = omega arith
+kind_below (MakeSegment n nodes) = omega arith
+kind_below RemoveSegment = omega arith
+kind_below RemoveDescription = omega arith
+kind_below (Publish n bytes) = omega arith
+kind_below (OpenSegment n ticket) = omega arith
+kind_below (Release ticket n) = omega arith

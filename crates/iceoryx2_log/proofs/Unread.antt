@@ -1,0 +1,46 @@
+-- What of a list is taken, and what is unread.
+use Rattle.std.proofs.Common.{◌≡◌, ℕ, zero, suc, ◌+◌, ◌<◌, ◌≤◌, Bool, true, false, ltb, List, [], ◌∷◌, ◌++◌, length, take, drop, refl, sym, ap, subst, ◌∙◌, arith}
+use Rattle.std.proofs.lemmas.Bool.{ltb-true, ltb-false}
+use Rattle.iceoryx2_log.specs.declared.entry.Entry.{Entry}
+use Rattle.iceoryx2_log.specs.Log.{Contents, accepted}
+use Rattle.iceoryx2_log.specs.Memory.{LogState, none_unread}
+
+pub some_unread : (n : ℕ) (xs : List Entry) → n < length xs → none_unread (drop n xs) ≡ false
+some_unread zero [] lt = absurd (omega arith)
+some_unread (suc n) [] lt = absurd (omega arith)
+some_unread zero (x ∷ xs) lt = refl
+some_unread (suc n) (x ∷ xs) lt = some_unread n xs (omega arith)
+
+pub all_read : (n : ℕ) (xs : List Entry) → length xs ≤ n → none_unread (drop n xs) ≡ true
+all_read zero [] le = refl
+all_read (suc n) [] le = refl
+all_read zero (x ∷ xs) le = absurd (omega arith)
+all_read (suc n) (x ∷ xs) le = all_read n xs (omega arith)
+
+abbrev pub split_at : ℕ → List Entry → Contents
+split_at n xs = record { taken = take n xs; unread = drop n xs }
+
+abbrev behind : Entry → Contents → Contents
+behind x c = record { taken = x ∷ c.taken; unread = c.unread }
+
+accepted_behind : (x : Entry) (taken unread : List Entry) → behind x (accepted taken unread) ≡ accepted (x ∷ taken) unread
+accepted_behind x taken [] = refl
+accepted_behind x taken (e ∷ unread) = refl
+
+accepted_suc : (n : ℕ) (xs : List Entry) → n < length xs → split_at (suc n) xs ≡ accepted (take n xs) (drop n xs)
+accepted_suc zero [] lt = absurd (omega arith)
+accepted_suc (suc n) [] lt = absurd (omega arith)
+accepted_suc zero (x ∷ xs) lt = refl
+accepted_suc (suc n) (x ∷ xs) lt = ap (behind x) (accepted_suc n xs (omega arith)) ∙ accepted_behind x (take n xs) (drop n xs)
+
+pub accepted_one : (n : ℕ) (xs : List Entry) → n < length xs → split_at (n + 1) xs ≡ accepted (take n xs) (drop n xs)
+accepted_one n xs lt =
+    let next : n + 1 ≡ suc n = omega arith in
+    ap (λ (k : ℕ). split_at k xs) next ∙ accepted_suc n xs lt
+
+-- with other contents, and all else the same
+abbrev pub with_contents : LogState → Contents → LogState
+with_contents s c = record s { contents = c }
+
+abbrev pub with_accepted : LogState → LogState
+with_accepted s = with_contents s (accepted s.contents.taken s.contents.unread)

@@ -1,0 +1,10 @@
+use Rattle.std.proofs.Common.{ap, ◌∙◌, arith}
+use Rattle.std.proofs.lemmas.Bool.{ltb-true}
+use Rattle.iceoryx2_log.specs.contracts.memory.MemoryLog.{the_view}
+use Rattle.iceoryx2_log.proofs.Unread.{accepted_one, with_contents, with_accepted}
+use Rattle.iceoryx2_log.proofs.memory.MemoryLogLog.accept.Goals as goal
+
+pub returns-then-self-len : goal.returns-then-self-len
+returns-then-self-len c =
+    ap (with_contents (the_view c.self.inside)) (accepted_one c.self.inside.taken c.self.inside.entries.items (omega (arith, c.if-self-len.true, c.len.ensures)))
+    ∙ ap with_accepted c.self.view_is

@@ -1,0 +1,102 @@
+-- The byte form of an entry. All numbers are big-endian.
+use Rattle.std.specs.Prelude.{ℕ, ◌≡◌, ◌+◌, ◌^◌, ◌<◌, ◌≤◌, ◌⊎◌, List, [], ◌∷◌, ◌++◌, length, take, All}
+use Rattle.std.specs.Int.{w32, to_be_bytes, bit_not}
+use Rattle.sha1.specs.Sha1.{sha1}
+use Rattle.iceoryx2_byte_form.specs.PartForm.{number}
+use Rattle.iceoryx2_description.specs.Description.{IsHash}
+use Rattle.iceoryx2_log.specs.declared.entry.Deed.{Deed}
+use Rattle.iceoryx2_log.specs.declared.entry.Deed.TheVariants.{MakeTag, RemoveTag, Lock, MakeSegment, RemoveSegment}
+use Rattle.iceoryx2_log.specs.declared.entry.Deed.TheVariants.{RemoveDescription, Publish, OpenSegment, Release}
+use Rattle.iceoryx2_log.specs.declared.entry.Entry.{Entry}
+use Rattle.iceoryx2_log.specs.declared.form.TheConstants.{HEADER_LENGTH, SUM_LENGTH, MIN_BODY_LENGTH, MAX_BODY_LENGTH}
+
+-- ---- what has a form
+
+-- Its numbers are of 64 bits, and its bytes are bytes.
+abbrev pub IsDeed : Deed → Type 0
+IsDeed MakeTag = Unit {0}
+IsDeed RemoveTag = Unit {0}
+IsDeed (Lock n) = n < 2 ^ 64
+IsDeed (MakeSegment n nodes) = (n < 2 ^ 64) × (nodes < 2 ^ 64)
+IsDeed RemoveSegment = Unit {0}
+IsDeed RemoveDescription = Unit {0}
+IsDeed (Publish n bytes) = (n < 2 ^ 64) × All (λ b. b < 256) bytes
+IsDeed (OpenSegment n ticket) = (n < 2 ^ 64) × (ticket < 2 ^ 64)
+IsDeed (Release ticket n) = (ticket < 2 ^ 64) × (n < 2 ^ 64)
+
+pub record IsEntry (e : Entry) : Type 0 where
+  pub node : e.node < 2 ^ 64
+  pub hash : IsHash e.hash
+  pub deed : IsDeed e.deed
+
+-- ---- the body
+
+abbrev pub kind : Deed → ℕ
+kind MakeTag = 1
+kind RemoveTag = 2
+kind (Lock n) = 3
+kind (MakeSegment n nodes) = 4
+kind RemoveSegment = 5
+kind RemoveDescription = 6
+kind (Publish n bytes) = 7
+kind (OpenSegment n ticket) = 8
+kind (Release ticket n) = 9
+
+-- the deed's numbers in order, and a description's bytes
+abbrev pub details : Deed → List ℕ
+details MakeTag = []
+details RemoveTag = []
+details (Lock n) = number n
+details (MakeSegment n nodes) = number n ++ number nodes
+details RemoveSegment = []
+details RemoveDescription = []
+details (Publish n bytes) = number n ++ bytes
+details (OpenSegment n ticket) = number n ++ number ticket
+details (Release ticket n) = number ticket ++ number n
+
+abbrev pub body : Entry → List ℕ
+body e = kind e.deed ∷ number e.node ++ e.hash.0 ++ details e.deed
+
+-- ---- what stands before the body
+
+-- its length, and the same with its bits inverted
+abbrev pub header : ℕ → List ℕ
+header n = to_be_bytes w32 n ++ to_be_bytes w32 (bit_not w32 n)
+
+-- the first bytes of the SHA-1 of length and body
+abbrev pub sum_of : List ℕ → List ℕ
+sum_of bytes = take SUM_LENGTH (sha1 (to_be_bytes w32 (length bytes) ++ bytes))
+
+abbrev pub sealed : List ℕ → List ℕ
+sealed bytes = header (length bytes) ++ sum_of bytes ++ bytes
+
+abbrev pub IsLength : ℕ → Type 0
+IsLength n = (MIN_BODY_LENGTH ≤ n) × (n ≤ MAX_BODY_LENGTH)
+
+-- The bytes are the byte form of the entry, nothing before them or behind.
+pub record IsForm (e : Entry) (bytes : List ℕ) : Type 0 where
+  pub limits : IsEntry e
+  pub short : length (body e) ≤ MAX_BODY_LENGTH
+  pub is : bytes ≡ sealed (body e)
+
+-- The bytes begin with the form of the entry, which has so many bytes. Anything may stand behind it.
+pub record Begins (bytes : List ℕ) (e : Entry) (count : ℕ) : Type 0 where
+  pub form : List ℕ
+  pub rest : List ℕ
+  pub is_form : IsForm e form
+  pub parts : bytes ≡ form ++ rest
+  pub counted : count ≡ length form
+
+-- ---- cut short
+
+-- A whole header is there, and fewer bytes behind it than it says.
+pub record LacksBody (bytes : List ℕ) : Type 0 where
+  pub announced : ℕ
+  pub rest : List ℕ
+  pub is_length : IsLength announced
+  pub parts : bytes ≡ header announced ++ rest
+  pub lacks : length rest < SUM_LENGTH + announced
+
+-- The bytes end before an entry does: within its header, or behind one that says that more is to come.
+abbrev pub IsCutShort : List ℕ → Type 0
+IsCutShort bytes = (length bytes < HEADER_LENGTH) ⊎ LacksBody bytes

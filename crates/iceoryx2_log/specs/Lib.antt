@@ -1,0 +1,7 @@
+-- What a contract sees of a log.
+pub mod Form
+pub mod FormLaws
+pub mod Reading
+pub mod Log
+pub mod Memory
+pub mod Errors

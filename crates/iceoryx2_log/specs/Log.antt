@@ -1,0 +1,44 @@
+-- What a handle of a log knows of it, and what each call makes of that.
+use Rattle.std.specs.Prelude.{◌≡◌, List, [], ◌∷◌, ◌++◌, Option, Some, None}
+use Rattle.iceoryx2_log.specs.declared.entry.Entry.{Entry}
+
+-- The entries that a handle has taken over or appended, in order, and those that stand behind them.
+pub record Contents : Type 0 where
+  pub taken : List Entry
+  pub unread : List Entry
+
+-- The contents are related so, where they are known. What is known stays known, and a file's never are.
+abbrev pub WhereKnown : (Contents → Contents → Type 0) → Option Contents → Option Contents → Type 0
+WhereKnown step (Some old) (Some new) = step old new
+WhereKnown step None None = Unit {0}
+WhereKnown step (Some old) None = ⊥
+WhereKnown step None (Some new) = ⊥
+
+-- Entries of others have come behind the unread ones.
+pub record Grows (old new : Contents) : Type 0 where
+  pub come : List Entry
+  pub taken : new.taken ≡ old.taken
+  pub unread : new.unread ≡ old.unread ++ come
+
+-- the first one, where there is one
+abbrev pub first : List Entry → Option Entry
+first [] = None
+first (e ∷ entries) = Some e
+
+-- The first of the unread entries was found, and stays where it is.
+abbrev pub Shows : Option Entry → Contents → Contents → Type 0
+Shows found old new = (found ≡ first old.unread) × (new ≡ old)
+
+-- with the first of the unread entries taken over, where there is one
+abbrev pub accepted : List Entry → List Entry → Contents
+accepted taken [] = record { taken = taken; unread = [] }
+accepted taken (e ∷ unread) = record { taken = taken ++ e ∷ []; unread = unread }
+
+abbrev pub Accepts : Contents → Contents → Type 0
+Accepts old new = new ≡ accepted old.taken old.unread
+
+-- Nothing was unread, and the entry is the last one now.
+pub record Appends (e : Entry) (old new : Contents) : Type 0 where
+  pub none_unread : old.unread ≡ []
+  pub taken : new.taken ≡ old.taken ++ e ∷ []
+  pub unread : new.unread ≡ []

@@ -1,0 +1,78 @@
+-- A log in memory.
+use Rattle.std.specs.Prelude.{◌≡◌, ℕ, Bool, true, false, ◌&&◌, List, [], ◌∷◌, ◌++◌, nat_eq, not}
+use Rattle.std.specs.Prelude.{Result, Ok, Err}
+use Rattle.std.specs.List.{list_any}
+use Rattle.iceoryx2_access.specs.Counts.{one_more}
+use Rattle.iceoryx2_log.specs.declared.entry.Entry.{Entry}
+use Rattle.iceoryx2_log.specs.declared.log.LogError.{LogError}
+use Rattle.iceoryx2_log.specs.declared.log.LogError.TheVariants.{Busy, OutOfMemory, Failed, Damaged}
+use Rattle.iceoryx2_log.specs.Log.{Contents, first, accepted}
+
+pub record LogState : Type 0 where
+  pub contents : Contents
+  -- what this handle has appended, in order
+  pub appended : List Entry
+  -- what others append before the next holds, a batch for each
+  pub batches : List (List Entry)
+  pub held : Bool
+  -- how often was asked to hold it, and which of these find it busy, counted from 1
+  pub holds : ℕ
+  pub busy : List ℕ
+  -- how often was asked to append, and which of these are refused, counted from 1
+  pub appends : ℕ
+  pub refused : List ℕ
+
+-- The number is one of these.
+abbrev pub is_listed : ℕ → List ℕ → Bool
+is_listed number numbers = list_any (nat_eq number) numbers
+
+abbrev pub none_unread : List Entry → Bool
+none_unread [] = true
+none_unread (e ∷ entries) = false
+
+-- ---- hold
+
+-- one more hold was asked for
+abbrev pub hold_counted : LogState → LogState
+hold_counted s = record s { holds = one_more s.holds }
+
+-- Others have appended these.
+abbrev pub grown : LogState → List Entry → LogState
+grown s come = record s { contents = record s.contents { unread = s.contents.unread ++ come } }
+
+-- The next batch has come, where one waits.
+abbrev pub with_batch : LogState → List (List Entry) → LogState
+with_batch s [] = s
+with_batch s (batch ∷ batches) = record (grown s batch) { batches = batches }
+
+-- What each answer of a hold says of the log before, and what it leaves. It is refused where the log is held already,
+-- which is tested first.
+abbrev pub Holds : LogState → Result (Unit {0}) LogError → LogState → Type 0
+Holds old (Ok _) new = (old.held ≡ false) × (is_listed (one_more old.holds) old.busy ≡ false)
+    × (new ≡ record (with_batch (hold_counted old) old.batches) { held = true })
+Holds old (Err Failed) new = (old.held ≡ true) × (new ≡ hold_counted old)
+Holds old (Err Busy) new = (old.held ≡ false) × (is_listed (one_more old.holds) old.busy ≡ true)
+    × (new ≡ hold_counted old)
+Holds old (Err OutOfMemory) new = (old.held ≡ false) × (is_listed (one_more old.holds) old.busy ≡ false)
+    × (new ≡ hold_counted old)
+Holds old (Err Damaged) new = ⊥
+
+-- ---- append
+
+abbrev pub append_counted : LogState → LogState
+append_counted s = record s { appends = one_more s.appends }
+
+-- It is held, nothing is unread, and this append isn't one of those that are refused.
+abbrev pub may_append : LogState → Bool
+may_append s = s.held && none_unread s.contents.unread && not (is_listed (one_more s.appends) s.refused)
+
+-- What each answer of an append says of the log before, and what it leaves.
+abbrev pub AppendsOne : LogState → Entry → Result (Unit {0}) LogError → LogState → Type 0
+AppendsOne old e (Ok _) new = (may_append old ≡ true) × (new ≡ record (append_counted old) {
+  contents = record old.contents { taken = old.contents.taken ++ e ∷ [] };
+  appended = old.appended ++ e ∷ [];
+})
+AppendsOne old e (Err OutOfMemory) new = (may_append old ≡ true) × (new ≡ append_counted old)
+AppendsOne old e (Err Failed) new = (may_append old ≡ false) × (new ≡ append_counted old)
+AppendsOne old e (Err Busy) new = ⊥
+AppendsOne old e (Err Damaged) new = ⊥

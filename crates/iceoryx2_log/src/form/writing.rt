@@ -1,0 +1,210 @@
+//! Writing an entry, part by part, at the end of what was written.
+
+ghost use Rattle.std.specs.Prelude.{◌≡◌, ◌<◌, ◌^◌, ◌↔◌, ◌++◌, ◌+◌, Err, IfOk, OnOk, IsTrue, All, length};
+ghost use Rattle.iceoryx2_log.specs.declared.form.writing.EncodeError.TheVariants.{OutOfMemory};
+ghost use Rattle.iceoryx2_byte_form.specs.PartForm as part;
+ghost use Rattle.iceoryx2_log.specs.Form as form;
+
+use super::{HEADER_LENGTH, MAX_BODY_LENGTH, MIN_BODY_LENGTH, SUM_LENGTH};
+use crate::entry::{Deed, Entry};
+use sha1::Sha1;
+use std::alloc::{AllocError, Global};
+use std::error::Error;
+use std::fmt;
+
+/// Why an entry was not written.
+#[derive(Clone, Copy, Debug, PartialEq, Eq)]
+pub enum EncodeError {
+    /// Its body is longer than the longest.
+    TooLong,
+    /// There was no memory for the bytes.
+    OutOfMemory,
+}
+
+impl fmt::Display for EncodeError {
+    ghost use Rattle.std.specs.Prelude.{Some};
+    ghost use Rattle.iceoryx2_log.specs.Errors.{encode_error_text};
+
+    ghost output = { λ error. Some (encode_error_text error) };
+
+    fn fmt<W: fmt::Write>(&self, f: &mut fmt::Formatter<W>) -> fmt::Result {
+        match self {
+            EncodeError::TooLong => write!(f, "an entry's body has at most 1048576 bytes"),
+            EncodeError::OutOfMemory => write!(f, "out of memory"),
+        }
+    }
+}
+
+impl Error for EncodeError {}
+
+impl From<AllocError> for EncodeError {
+    ghost from_gives = { λ _ e. e ≡ OutOfMemory };
+
+    fn from(_: AllocError) -> Self {
+        Self::OutOfMemory
+    }
+}
+
+fn put_number(out: &mut Vec<u8>, number: u64) -> Result<(), AllocError>
+    ensures { OnOk result (out.new.items ≡ out.old.items ++ part.number number) }
+{
+    out.extend_from_slice(&number.to_be_bytes())
+}
+
+/// The byte of a deed's kind.
+fn kind(deed: &Deed) -> u8
+    ensures { result ≡ form.kind deed.now }
+{
+    match deed {
+        Deed::MakeTag => 1,
+        Deed::RemoveTag => 2,
+        Deed::Lock { .. } => 3,
+        Deed::MakeSegment { .. } => 4,
+        Deed::RemoveSegment => 5,
+        Deed::RemoveDescription => 6,
+        Deed::Publish { .. } => 7,
+        Deed::OpenSegment { .. } => 8,
+        Deed::Release { .. } => 9,
+    }
+}
+
+/// The deed's numbers in order, and a description's bytes.
+fn put_details(out: &mut Vec<u8>, deed: &Deed) -> Result<(), AllocError>
+    ensures { OnOk result (out.new.items ≡ out.old.items ++ form.details deed.now) }
+{
+    match deed {
+        Deed::MakeTag | Deed::RemoveTag | Deed::RemoveSegment | Deed::RemoveDescription => Ok(()),
+        Deed::Lock { number } => put_number(out, *number),
+        Deed::MakeSegment { number, max_nodes } => put_two(out, *number, *max_nodes),
+        Deed::Publish { number, bytes } => put_bytes(out, *number, bytes.as_slice()),
+        Deed::OpenSegment { number, ticket } => put_two(out, *number, *ticket),
+        Deed::Release { ticket, number } => put_two(out, *ticket, *number),
+    }
+}
+
+fn put_two(out: &mut Vec<u8>, first: u64, second: u64) -> Result<(), AllocError>
+    ensures { OnOk result (out.new.items ≡ out.old.items ++ part.number first ++ part.number second) }
+{
+    put_number(out, first)?;
+    put_number(out, second)
+}
+
+fn put_bytes(out: &mut Vec<u8>, number: u64, bytes: &[u8]) -> Result<(), AllocError>
+    ensures { OnOk result (out.new.items ≡ out.old.items ++ part.number number ++ bytes.now) }
+{
+    put_number(out, number)?;
+    out.extend_from_slice(bytes)
+}
+
+/// The kind, the node, the hash, and the deed's details.
+fn put_body(out: &mut Vec<u8>, entry: &Entry) -> Result<(), AllocError>
+    ensures { OnOk result (out.new.items ≡ out.old.items ++ form.body entry.now) }
+{
+    out.push(kind(&entry.deed))?;
+    put_number(out, entry.node)?;
+    out.extend_from_slice(entry.hash.as_bytes())?;
+    put_details(out, &entry.deed)
+}
+
+/// Whether a body with this deed is longer than the longest.
+fn is_too_long(deed: &Deed) -> bool
+    ensures { IsTrue result ↔ (MAX_BODY_LENGTH < MIN_BODY_LENGTH + length (form.details deed.now)) }
+{
+    match deed {
+        Deed::Publish { bytes, .. } => {
+            MAX_BODY_LENGTH - (MIN_BODY_LENGTH + 8) < bytes.as_slice().len()
+        }
+        Deed::MakeTag => false,
+        Deed::RemoveTag => false,
+        Deed::Lock { .. } => false,
+        Deed::MakeSegment { .. } => false,
+        Deed::RemoveSegment => false,
+        Deed::RemoveDescription => false,
+        Deed::OpenSegment { .. } => false,
+        Deed::Release { .. } => false,
+    }
+}
+
+/// Each of them is a byte.
+fn are_bytes(bytes: &[u8])
+    ensures { All (λ b. b < 256) bytes.now }
+{
+    let _length = bytes.len();
+}
+
+/// Its numbers are within the limits of their types.
+fn deed_fits(deed: &Deed)
+    ensures { form.IsDeed deed.now }
+{
+    match deed {
+        Deed::MakeTag | Deed::RemoveTag | Deed::RemoveSegment | Deed::RemoveDescription => {}
+        Deed::Lock { number } => {
+            let _number = *number;
+        }
+        Deed::MakeSegment { number, max_nodes } => {
+            let _numbers = (*number, *max_nodes);
+        }
+        Deed::Publish { number, bytes } => {
+            let _number = *number;
+            are_bytes(bytes.as_slice());
+        }
+        Deed::OpenSegment { number, ticket } => {
+            let _numbers = (*number, *ticket);
+        }
+        Deed::Release { ticket, number } => {
+            let _numbers = (*ticket, *number);
+        }
+    }
+}
+
+/// It is within the limits of its types.
+fn fits(entry: &Entry)
+    ensures { form.IsEntry entry.now }
+{
+    let _node = entry.node;
+    let _hash = entry.hash.as_bytes();
+    deed_fits(&entry.deed);
+}
+
+/// The first bytes of the SHA-1 of length and body.
+pub fn sum_of(body: &[u8]) -> [u8; SUM_LENGTH]
+    requires { length body.now < 2 ^ 32 }
+    ensures { result ≡ form.sum_of body.now }
+{
+    let mut hasher = Sha1::new();
+    hasher.update(&(body.len() as u32).to_be_bytes());
+    hasher.update(body);
+    let digest = hasher.finalize();
+    let mut sum = [0; SUM_LENGTH];
+    sum.copy_from_slice(&digest[..SUM_LENGTH]);
+    sum
+}
+
+/// The length, the same with its bits inverted, the sum, and the body.
+fn put_sealed(out: &mut Vec<u8>, body: &[u8]) -> Result<(), AllocError>
+    requires { length body.now < 2 ^ 32 }
+    ensures { OnOk result (out.new.items ≡ out.old.items ++ form.sealed body.now) }
+{
+    let length = body.len() as u32;
+    out.extend_from_slice(&length.to_be_bytes())?;
+    out.extend_from_slice(&(!length).to_be_bytes())?;
+    out.extend_from_slice(&sum_of(body))?;
+    out.extend_from_slice(body)
+}
+
+/// The byte form of the entry. `TooLong` where its body is longer than `MAX_BODY_LENGTH`, which is tested first, and
+/// `OutOfMemory` where the bytes found no memory.
+pub fn encode(alloc: Global, entry: &Entry) -> Result<Vec<u8>, EncodeError>
+    ensures form { IfOk result (λ bytes. form.IsForm entry.now bytes.items) }
+    ensures too_long { (result ≡ Err EncodeError.TooLong) ↔ (MAX_BODY_LENGTH < length (form.body entry.now)) }
+{
+    fits(entry);
+    if is_too_long(&entry.deed) {
+        return Err(EncodeError::TooLong);
+    }
+    let mut body = Vec::new(alloc);
+    put_body(&mut body, entry)?;
+    let mut out = Vec::with_capacity(alloc, HEADER_LENGTH + SUM_LENGTH + body.len())?;
+    put_sealed(&mut out, &body)?;
+    Ok(out)
+}

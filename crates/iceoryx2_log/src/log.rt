@@ -1,0 +1,90 @@
+//! A log that processes share.
+
+ghost use Rattle.std.specs.Prelude.{◌≡◌, Option, IfOk, OnOk, OnErr};
+ghost use Rattle.iceoryx2_log.specs.declared.log.LogError.TheVariants.{OutOfMemory};
+ghost use Rattle.iceoryx2_log.specs.Log.{Contents, WhereKnown, Grows, Shows, Accepts, Appends};
+
+use crate::entry::Entry;
+use std::alloc::{AllocError, AllocFailed};
+use std::error::Error;
+use std::fmt;
+
+/// Why a log did not do what it was asked for.
+#[derive(Clone, Copy, Debug, PartialEq, Eq)]
+pub enum LogError {
+    /// Others held the log all the time.
+    Busy,
+    /// There was no memory.
+    OutOfMemory,
+    /// The log isn't held, entries of others are unread, or what it is kept in refused.
+    Failed,
+    /// What stands in the log is no list of entries.
+    Damaged,
+}
+
+impl fmt::Display for LogError {
+    ghost use Rattle.std.specs.Prelude.{Some};
+    ghost use Rattle.iceoryx2_log.specs.Errors.{log_error_text};
+
+    ghost output = { λ error. Some (log_error_text error) };
+
+    fn fmt<W: fmt::Write>(&self, f: &mut fmt::Formatter<W>) -> fmt::Result {
+        match self {
+            LogError::Busy => write!(f, "others hold the log"),
+            LogError::OutOfMemory => write!(f, "out of memory"),
+            LogError::Failed => write!(f, "the log refused"),
+            LogError::Damaged => write!(f, "the log is damaged"),
+        }
+    }
+}
+
+impl Error for LogError {}
+
+impl From<AllocError> for LogError {
+    ghost from_gives = { λ _ e. e ≡ OutOfMemory };
+
+    fn from(_: AllocError) -> Self {
+        Self::OutOfMemory
+    }
+}
+
+impl<T: Drop> From<AllocFailed<T>> for LogError {
+    ghost from_gives = { λ _ e. e ≡ OutOfMemory };
+
+    fn from(_: AllocFailed<T>) -> Self {
+        Self::OutOfMemory
+    }
+}
+
+/// A log of entries that processes share, by one of its handles. A handle takes the entries of all others over in order,
+/// one at a time by `next` and `accept`, and appends its own behind them. Between `hold` and `let_go` no other handle
+/// appends.
+pub trait Log {
+    /// What this handle has taken over or appended, in order, and what stands behind that, where it is known.
+    ghost contents: { Self → Option Contents };
+
+    /// Holds the log, until `let_go`. `Busy` where others held it all of a bounded time.
+    fn hold(&mut self) -> Result<(), LogError>
+        // What others appended stands behind what was unread before.
+        ensures ok { OnOk result (WhereKnown Grows (contents self.old) (contents self.new)) }
+        ensures err { OnErr result (contents self.new ≡ contents self.old) };
+
+    /// The next entry of another, which stays unread. `Failed` where the log isn't held.
+    fn next(&mut self) -> Result<Option<Entry>, LogError>
+        ensures shows { IfOk result (λ found. WhereKnown (Shows found) (contents self.old) (contents self.new)) }
+        ensures same { contents self.new ≡ contents self.old };
+
+    /// The next entry has had its effect, and is read. Nothing changes where there is none.
+    fn accept(&mut self)
+        ensures { WhereKnown Accepts (contents self.old) (contents self.new) };
+
+    /// Appends an entry, all of it or nothing. From then on it stands, whatever becomes of this handle. `Failed` where
+    /// the log isn't held, and where an entry is unread.
+    fn append(&mut self, entry: &Entry) -> Result<(), LogError>
+        ensures ok { OnOk result (WhereKnown (Appends entry.now) (contents self.old) (contents self.new)) }
+        ensures err { OnErr result (contents self.new ≡ contents self.old) };
+
+    /// Lets go of the log.
+    fn let_go(&mut self)
+        ensures { contents self.new ≡ contents self.old };
+}

@@ -1,0 +1,330 @@
+//! A log in memory, for tests.
+
+ghost use Rattle.std.specs.Prelude.{◌≡◌, ℕ, ◌≤◌, ◌++◌, Bool, ◌&&◌, not, false, List, [], ◌∷◌, length, take, drop, Err, IfOk, IfErr, OnOk, OnErr, ◌↔◌, true};
+ghost use Rattle.iceoryx2_access.specs.Counts.{one_more};
+ghost use Rattle.iceoryx2_log.specs.Log.{accepted, first};
+ghost use Rattle.iceoryx2_log.specs.declared.log.LogError.TheVariants.{OutOfMemory};
+ghost use Rattle.iceoryx2_log.specs.Memory.{is_listed, none_unread, with_batch};
+
+use crate::entry::Entry;
+use crate::log::{Log, LogError};
+use std::alloc::{AllocError, Global};
+use std::marker::Model;
+
+/// Entries that others append, one behind the other.
+#[derive(Debug)]
+pub struct Batch {
+    entries: Vec<Entry>,
+}
+
+// Written out, so that a proof of what lets one go doesn't take its fields apart.
+impl Drop for Batch {
+    fn drop(self) {
+        let Batch { entries: _ } = self;
+    }
+}
+
+impl Model for Batch {
+    ghost use Rattle.std.specs.Prelude.{List};
+    ghost use Rattle.iceoryx2_log.specs.declared.entry.Entry.{Entry};
+
+    ghost Value = { List Entry };
+
+    ghost view = { λ batch. batch.entries.items };
+}
+
+impl Batch {
+    pub fn new(entries: Vec<Entry>) -> Batch
+        ensures { result ≡ entries.items }
+    {
+        Batch { entries }
+    }
+
+    fn copies(&self, alloc: Global) -> Result<Vec<Entry>, AllocError>
+        ensures { IfOk result (λ copies. copies.items ≡ self.now) }
+    {
+        copies_of(alloc, &self.entries)
+    }
+}
+
+fn copies_of(alloc: Global, entries: &[Entry]) -> Result<Vec<Entry>, AllocError>
+    ensures { IfOk result (λ copies. copies.items ≡ entries.now) }
+{
+    let mut copies = Vec::new(alloc);
+    for entry in entries {
+        copies.push(entry.clone()?)?;
+    }
+    Ok(copies)
+}
+
+fn has(numbers: &[u64], number: u64) -> bool
+    ensures { result ≡ is_listed number numbers.now }
+{
+    numbers.iter().any(|k| number == *k)
+}
+
+/// A handle of a log in memory. What others append is handed in as batches: before each hold that is granted the next
+/// one comes. Holds and appends are counted from 1, refused ones too; one past `u64::MAX` counts as the `u64::MAX`-th.
+/// Holds of chosen numbers find the log busy, and appends of chosen numbers are refused.
+pub struct MemoryLog {
+    // all that stands, and how much of it this handle has taken
+    entries: Vec<Entry>,
+    taken: usize,
+    appended: Vec<Entry>,
+    // all batches, and how many of them have come
+    batches: Vec<Batch>,
+    came: usize,
+    held: bool,
+    holds: u64,
+    busy: Vec<u64>,
+    appends: u64,
+    refused: Vec<u64>,
+}
+
+// Written out, so that a proof of what lets one go doesn't take its fields apart.
+impl Drop for MemoryLog {
+    fn drop(self) {
+        let MemoryLog {
+            entries: _,
+            taken: _,
+            appended: _,
+            batches: _,
+            came: _,
+            held: _,
+            holds: _,
+            busy: _,
+            appends: _,
+            refused: _,
+        } = self;
+    }
+}
+
+impl Model for MemoryLog {
+    ghost use Rattle.std.specs.Prelude.{◌≤◌, length, take, drop};
+    ghost use Rattle.iceoryx2_log.specs.Memory.{LogState};
+
+    ghost Value = { LogState };
+
+    ghost view = { λ l. record {
+      contents = record { taken = take l.taken l.entries.items; unread = drop l.taken l.entries.items };
+      appended = l.appended.items;
+      batches = drop l.came l.batches.items;
+      held = l.held;
+      holds = l.holds;
+      busy = l.busy.items;
+      appends = l.appends;
+      refused = l.refused.items;
+    } };
+
+    ghost invariant = { λ l. (l.taken ≤ length l.entries.items) × (l.came ≤ length l.batches.items) };
+}
+
+impl MemoryLog {
+    /// A handle of a log in which these entries stand, of which it has taken so many. Nothing is refused.
+    pub fn from_entries(alloc: Global, entries: Vec<Entry>, taken: usize) -> MemoryLog
+        requires { taken ≤ length entries.items }
+        ensures { result ≡ record {
+          contents = record { taken = take taken entries.items; unread = drop taken entries.items };
+          appended = [];
+          batches = [];
+          held = false;
+          holds = 0;
+          busy = [];
+          appends = 0;
+          refused = [];
+        } }
+    {
+        MemoryLog {
+            entries,
+            taken,
+            appended: Vec::new(alloc),
+            batches: Vec::new(alloc),
+            came: 0,
+            held: false,
+            holds: 0,
+            busy: Vec::new(alloc),
+            appends: 0,
+            refused: Vec::new(alloc),
+        }
+    }
+
+    /// All that stands, for another handle.
+    pub fn into_entries(self) -> Vec<Entry>
+        ensures { result.items ≡ self.contents.taken ++ self.contents.unread }
+    {
+        let MemoryLog {
+            entries,
+            taken: _,
+            appended: _,
+            batches: _,
+            came: _,
+            held: _,
+            holds: _,
+            busy: _,
+            appends: _,
+            refused: _,
+        } = self;
+        entries
+    }
+
+    /// Lets a batch come behind those that wait. An `Err` changes nothing.
+    pub fn schedule(&mut self, batch: Batch) -> Result<(), AllocError>
+        ensures ok { OnOk result (self.new ≡ record self.old { batches = self.old.batches ++ batch ∷ [] }) }
+        ensures err { OnErr result (self.new ≡ self.old) }
+    {
+        self.batches.push(batch)?;
+        Ok(())
+    }
+
+    /// From now on the holds of these numbers find the log busy, and no others.
+    pub fn set_busy(&mut self, busy: Vec<u64>)
+        ensures { self.new ≡ record self.old { busy = busy.items } }
+    {
+        self.busy = busy;
+    }
+
+    /// From now on the appends of these numbers are refused, and no others.
+    pub fn set_refused(&mut self, refused: Vec<u64>)
+        ensures { self.new ≡ record self.old { refused = refused.items } }
+    {
+        self.refused = refused;
+    }
+
+    /// All that stands, in order.
+    pub fn entries(&self) -> &[Entry]
+        ensures { result.now ≡ self.now.contents.taken ++ self.now.contents.unread }
+    {
+        &self.entries
+    }
+
+    /// How many of the entries this handle has taken over or appended.
+    pub fn taken(&self) -> usize
+        ensures { result ≡ length self.now.contents.taken }
+    {
+        self.taken
+    }
+
+    /// What this handle has appended, in order.
+    pub fn appended(&self) -> &[Entry]
+        ensures { result.now ≡ self.now.appended }
+    {
+        &self.appended
+    }
+
+    /// How many batches wait.
+    pub fn pending(&self) -> usize
+        ensures { result ≡ length self.now.batches }
+    {
+        self.batches.len() - self.came
+    }
+
+    /// Lets the next batch come, where one waits. An `Err` changes nothing.
+    fn take_batch(&mut self) -> Result<(), LogError>
+        ensures ok { OnOk result (self.new ≡ with_batch self.old self.old.batches) }
+        ensures err { OnErr result (self.new ≡ self.old) }
+        ensures memory { IfErr result (λ e. e ≡ OutOfMemory) }
+    {
+        if self.came < self.batches.len() {
+            let mut copies = self.batches[self.came].copies(*self.batches.allocator())?;
+            self.entries.append(&mut copies)?;
+            self.came += 1;
+        }
+        Ok(())
+    }
+
+    /// Whether this handle has taken all.
+    #[tactic(auto, using(crate::proofs::Unread::some_unread, crate::proofs::Unread::all_read))]
+    fn is_read(&self) -> bool
+        ensures { result ≡ none_unread self.now.contents.unread }
+    {
+        if self.taken < self.entries.len() {
+            return false;
+        }
+        true
+    }
+
+    /// Whether the append of this number goes through.
+    fn may_append(&self) -> bool
+        ensures { result ≡ (self.now.held && none_unread self.now.contents.unread
+            && not (is_listed self.now.appends self.now.refused)) }
+    {
+        let is_read = self.is_read();
+        let is_refused = has(&self.refused, self.appends);
+        self.held && is_read && !is_refused
+    }
+}
+
+impl Log for MemoryLog {
+    ghost use Rattle.std.specs.Prelude.{Some};
+    ghost use Rattle.iceoryx2_log.specs.Memory.{Holds, AppendsOne};
+
+    ghost contents = { λ s. Some s.contents };
+
+    /// The next batch comes. `Failed` where the log is held already, which is tested first.
+    fn hold(&mut self) -> Result<(), LogError>
+        ensures { Holds self.old result self.new }
+    {
+        self.holds = self.holds.saturating_add(1);
+        if self.held {
+            return Err(LogError::Failed);
+        }
+        if has(&self.busy, self.holds) {
+            return Err(LogError::Busy);
+        }
+        self.take_batch()?;
+        self.held = true;
+        Ok(())
+    }
+
+    fn next(&mut self) -> Result<Option<Entry>, LogError>
+        ensures shows { IfOk result (λ found. (self.old.held ≡ true) × (found ≡ first self.old.contents.unread)) }
+        ensures failed { (result ≡ Err LogError.Failed) ↔ (self.old.held ≡ false) }
+        ensures same { self.new ≡ self.old }
+    {
+        if !self.held {
+            return Err(LogError::Failed);
+        }
+        match self.entries.get(self.taken) {
+            None => Ok(None),
+            Some(entry) => match entry.clone() {
+                Ok(copy) => Ok(Some(copy)),
+                Err(_) => Err(LogError::OutOfMemory),
+            },
+        }
+    }
+
+    fn accept(&mut self)
+        ensures { self.new ≡ record self.old { contents = accepted self.old.contents.taken self.old.contents.unread } }
+    {
+        if self.taken < self.entries.len() {
+            self.taken += 1;
+        }
+    }
+
+    fn append(&mut self, entry: &Entry) -> Result<(), LogError>
+        ensures { AppendsOne self.old entry.now result self.new }
+    {
+        self.appends = self.appends.saturating_add(1);
+        if !self.may_append() {
+            return Err(LogError::Failed);
+        }
+        let copy = entry.clone()?;
+        self.appended.push(entry.clone()?)?;
+        match self.entries.push(copy) {
+            Ok(()) => {
+                self.taken = self.entries.len();
+                Ok(())
+            }
+            Err(_) => {
+                let _ = self.appended.pop();
+                Err(LogError::OutOfMemory)
+            }
+        }
+    }
+
+    fn let_go(&mut self)
+        ensures { self.new ≡ record self.old { held = false } }
+    {
+        self.held = false;
+    }
+}
