@@ -1,5 +1,5 @@
 -- What the rounds of an open or create leave.
-use Rattle.std.proofs.Common.{ℕ, List, [], ◌++◌, Ok, Err, sym, subst, inl, inr}
+use Rattle.std.proofs.Common.{ℕ, List, ◌++◌, Ok, Err, sym, subst, inl, inr}
 use mathlib.Core.List.{append_assoc, append-nil}
 use Rattle.iceoryx2_description.specs.declared.description.ServiceHash.{ServiceHash}
 use Rattle.iceoryx2_access.specs.Registered.{Registered}
@@ -7,7 +7,6 @@ use Rattle.iceoryx2_access.specs.Letter.{Letter}
 use Rattle.iceoryx2_pattern.specs.Meaning.{Meaning}
 use Rattle.iceoryx2_create_and_open.specs.declared.look.Outcome.{Outcome}
 use Rattle.iceoryx2_create_and_open.specs.Looks.{IsLookWord}
-use Rattle.iceoryx2_create_and_open.specs.Opens.{IsOpenWord}
 use Rattle.iceoryx2_create_and_open.proofs.Prepared.{refused_call}
 use Rattle.iceoryx2_create_and_open.specs.Fronts as fronts
 use Rattle.iceoryx2_create_and_open.specs.Fronts.{GivesTagsBack}

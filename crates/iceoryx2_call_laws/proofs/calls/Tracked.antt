@@ -24,7 +24,7 @@ use Rattle.iceoryx2_create_and_open.specs.Creates.{IsEntryWord, IsCreating}
 use Rattle.iceoryx2_create_and_open.specs.Opens.{IsReady, AreFailedRounds, IsOpenWord}
 use Rattle.iceoryx2_create_and_open.specs.GivesBack.{MadeByCall, OwnTag, OwnLock, OwnSegment, own_tag, GivesBack, nothing_left, segment_back, lock_back, tag_back}
 use Rattle.iceoryx2_create_and_open.specs.Fronts as may
-use Rattle.iceoryx2_create_and_open.specs.Fronts.{IsFront, made, made_after, number_got, left_by, left_after, GivesAllBack, GivesTagsBack, KeepsAll, KeepsLastTag}
+use Rattle.iceoryx2_create_and_open.specs.Fronts.{IsFront, made, made_after, number_got, left_by, left_after, GivesAllBack, KeepsAll, KeepsLastTag}
 use Rattle.iceoryx2_create_and_open.proofs.Kept.{Goes, look_goes, segment_made, entry_goes, refused_create_keeps, created_keeps, ready_goes, rounds_give_back, refused_open_keeps, opened_keeps}
 use Rattle.iceoryx2_open_or_create.specs.Leaves as rounds
 use Rattle.iceoryx2_open_or_create.specs.Leaves.{GivesBackByRounds, KeepsInTheEnd}
