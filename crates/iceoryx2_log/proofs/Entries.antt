@@ -1,15 +1,14 @@
 -- An entry in front of bytes, read and written.
-use Rattle.std.proofs.Common.{◌≡◌, ℕ, ◌+◌, ◌^◌, ◌<◌, ◌≤◌, List, [], ◌∷◌, ◌++◌, length, Option, Some, None, refl, sym, ap, subst, ◌∙◌, length-append, arith}
+use Rattle.std.proofs.Common.{◌≡◌, ℕ, ◌+◌, ◌^◌, ◌<◌, ◌≤◌, List, [], ◌∷◌, ◌++◌, length, Option, Some, refl, ap, subst, ◌∙◌, length-append, arith}
 use Rattle.std.specs.Prelude.{All}
-use Rattle.std.specs.Int.{w64}
 use Rattle.iceoryx2_description.specs.declared.description.TheConstants.{HASH_LENGTH}
 use Rattle.iceoryx2_byte_form.specs.PartForm.{number}
-use Rattle.iceoryx2_byte_form.specs.PartReading.{◌>>=◌, Part, then_at, number_at, bytes_at}
+use Rattle.iceoryx2_byte_form.specs.PartReading.{◌>>=◌}
 use Rattle.iceoryx2_byte_form.proofs.PartForms.{IsBytes, IsBytes-rest, bind_some, some_is, Takes, Reads, Reads-then, Reads-number64, Reads-each_byte}
 use Rattle.iceoryx2_log.specs.declared.entry.Deed.{Deed}
 use Rattle.iceoryx2_log.specs.declared.entry.Entry.{Entry}
 use Rattle.iceoryx2_log.specs.declared.form.TheConstants.{MIN_BODY_LENGTH, MAX_BODY_LENGTH}
-use Rattle.iceoryx2_log.specs.Form.{IsEntry, kind, details, body, sealed, IsLength, IsForm}
+use Rattle.iceoryx2_log.specs.Form.{IsEntry, kind, details, body, sealed, IsLength}
 use Rattle.iceoryx2_log.specs.Reading.{kind_at, front_at, entry_from, deed_in, body_in, sealed_at, entry_at}
 use Rattle.iceoryx2_log.proofs.Deeds.{deed_takes, deed_again, kind_below}
 use Rattle.iceoryx2_log.proofs.Parts.{sealed_takes, sealed_again}

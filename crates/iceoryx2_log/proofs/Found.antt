@@ -1,8 +1,7 @@
 -- What decode returns, and the laws of the byte form.
-use Rattle.std.proofs.Common.{◌≡◌, ℕ, ◌+◌, ◌-◌, ◌^◌, ◌<◌, ◌≤◌, Bool, true, false, cond, ltb, List, [], ◌∷◌, ◌++◌, length, take, drop, Option, Some, None, refl, sym, ap, subst, ◌∙◌, append_assoc, length-append, arith, inl, inr}
-use Rattle.std.specs.Prelude.{All, Result, Ok, Err, IfOk, MatchResult, IsErrOf, IsSome, ◌↔◌}
-use Rattle.std.specs.Int.{w32, bit_not, to_be_bytes}
-use Rattle.std.proofs.lemmas.Bool.{ltb-true, lt-ltb, ltb-false, le-ltb}
+use Rattle.std.proofs.Common.{◌≡◌, ℕ, ◌+◌, ◌-◌, ◌<◌, ◌≤◌, Bool, true, false, cond, ltb, List, [], ◌∷◌, ◌++◌, length, take, drop, Option, Some, None, refl, sym, ap, ◌∙◌, length-append, arith, inl, inr}
+use Rattle.std.specs.Prelude.{Result, Ok, Err, IsErrOf, IsSome, ◌↔◌}
+use Rattle.std.proofs.lemmas.Bool.{ltb-true, lt-ltb, le-ltb}
 use Rattle.std.proofs.lemmas.List.{append-nil}
 use Rattle.std.proofs.lemmas.Option.{none-some}
 use Rattle.iceoryx2_byte_form.proofs.PartForms.{IsBytes, some_is}
@@ -10,7 +9,7 @@ use Rattle.iceoryx2_log.specs.declared.entry.Entry.{Entry}
 use Rattle.iceoryx2_log.specs.declared.form.TheConstants.{HEADER_LENGTH, SUM_LENGTH}
 use Rattle.iceoryx2_log.specs.declared.form.reading.EntryError.{EntryError}
 use Rattle.iceoryx2_log.specs.declared.form.reading.EntryError.TheVariants.{CutShort, Malformed, OutOfMemory}
-use Rattle.iceoryx2_log.specs.Form.{header, body, sum_of, sealed, IsLength, IsForm, Begins, LacksBody, IsCutShort}
+use Rattle.iceoryx2_log.specs.Form.{body, sum_of, sealed, IsLength, IsForm, Begins, LacksBody, IsCutShort}
 use Rattle.iceoryx2_log.specs.Reading.{header_at, entry_at, lacks_body, is_cut_short, Fails}
 use Rattle.iceoryx2_log.proofs.Parts.{header_takes, header_again, header_of_sealed, sum_length}
 use Rattle.iceoryx2_log.proofs.Entries.{whole, HasForm, long_body, entry_takes, entry_again}

@@ -6,7 +6,7 @@ use Rattle.iceoryx2_access.specs.Counts.{one_more}
 use Rattle.iceoryx2_log.specs.declared.entry.Entry.{Entry}
 use Rattle.iceoryx2_log.specs.declared.log.LogError.{LogError}
 use Rattle.iceoryx2_log.specs.declared.log.LogError.TheVariants.{Busy, OutOfMemory, Failed, Damaged}
-use Rattle.iceoryx2_log.specs.Log.{Contents, first, accepted}
+use Rattle.iceoryx2_log.specs.Log.{Contents}
 
 pub record LogState : Type 0 where
   pub contents : Contents

@@ -63,8 +63,8 @@ body_in bytes = front_at bytes >>= λ front. deed_in front.0.0 front.1 >>= λ d.
 unfoldable pub header_at : Part ℕ
 header_at bytes = number_at w32 bytes >>= λ n. number_at w32 n.1 >>= λ inverted.
     if inverted.0 == bit_not w32 n.0
-    then if nat_lt n.0 MIN_BODY_LENGTH then None else if nat_lt MAX_BODY_LENGTH n.0 then None else Some (n.0, inverted.1)
-    else None
+    then if nat_lt n.0 MIN_BODY_LENGTH then None else if nat_lt MAX_BODY_LENGTH n.0 then None
+    else Some (n.0, inverted.1) else None
 
 -- so many bytes behind their sum
 unfoldable pub summed_at : ℕ → Part (List ℕ)

@@ -4,7 +4,8 @@ ghost use Rattle.std.specs.Prelude.{◌≡◌, ◌↔◌, ℕ, List, All, Err, I
 ghost use Rattle.iceoryx2_log.specs.declared.entry.Entry as declared;
 ghost use Rattle.iceoryx2_log.specs.declared.form.reading.EntryError.TheVariants as errors;
 ghost use Rattle.iceoryx2_log.specs.Form.{IsForm, Begins, IsCutShort};
-ghost use Rattle.iceoryx2_log.specs.FormLaws.{EachFormIsBytes, OneFormEach, OneEntryEach, NoFrontOfAnother, EachCutIsShort};
+ghost use Rattle.iceoryx2_log.specs.FormLaws.{EachFormIsBytes, OneFormEach, OneEntryEach};
+ghost use Rattle.iceoryx2_log.specs.FormLaws.{NoFrontOfAnother, EachCutIsShort};
 
 mod reading;
 mod writing;

@@ -56,9 +56,9 @@ impl<T: Drop> From<AllocFailed<T>> for LogError {
     }
 }
 
-/// A log of entries that processes share, by one of its handles. A handle takes the entries of all others over in order,
-/// one at a time by `next` and `accept`, and appends its own behind them. Between `hold` and `let_go` no other handle
-/// appends.
+/// A log of entries that processes share, by one of its handles. A handle takes the entries of all others over in
+/// order, one at a time by `next` and `accept`, and appends its own behind them. Between `hold` and `let_go` no other
+/// handle appends.
 pub trait Log {
     /// What this handle has taken over or appended, in order, and what stands behind that, where it is known.
     ghost contents: { Self → Option Contents };

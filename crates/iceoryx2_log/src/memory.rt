@@ -1,6 +1,7 @@
 //! A log in memory, for tests.
 
-ghost use Rattle.std.specs.Prelude.{◌≡◌, ℕ, ◌≤◌, ◌++◌, Bool, ◌&&◌, not, false, List, [], ◌∷◌, length, take, drop, Err, IfOk, IfErr, OnOk, OnErr, ◌↔◌, true};
+ghost use Rattle.std.specs.Prelude.{◌≡◌, ◌≤◌, ◌↔◌, ◌++◌, ◌&&◌, not, true, false, [], ◌∷◌};
+ghost use Rattle.std.specs.Prelude.{length, take, drop, Err, IfOk, IfErr, OnOk, OnErr};
 ghost use Rattle.iceoryx2_access.specs.Counts.{one_more};
 ghost use Rattle.iceoryx2_log.specs.Log.{accepted, first};
 ghost use Rattle.iceoryx2_log.specs.declared.log.LogError.TheVariants.{OutOfMemory};

@@ -8,9 +8,10 @@ ghost use Rattle.std.specs.Int.{w32, w64};
 ghost use Rattle.iceoryx2_byte_form.specs.PartReading.{number_at, bytes_at};
 ghost use Rattle.iceoryx2_log.specs.declared.entry.Deed.TheVariants as deed;
 ghost use Rattle.iceoryx2_log.specs.Form.{sum_of as sum_at};
-ghost use Rattle.iceoryx2_log.specs.Reading.{IsPart, IsReadBy, none_in, number_in, numbers_in, plain_deed_in, publish_in};
-ghost use Rattle.iceoryx2_log.specs.Reading.{deed_in, kind_at, front_at, body_in, header_at, summed_at, sealed_at, entry_at};
-ghost use Rattle.iceoryx2_log.specs.Reading.{is_cut_short};
+ghost use Rattle.iceoryx2_log.specs.Reading.{IsPart, IsReadBy};
+ghost use Rattle.iceoryx2_log.specs.Reading.{none_in, number_in, numbers_in, plain_deed_in, publish_in};
+ghost use Rattle.iceoryx2_log.specs.Reading.{deed_in, kind_at, front_at, body_in};
+ghost use Rattle.iceoryx2_log.specs.Reading.{header_at, summed_at, sealed_at, entry_at, is_cut_short};
 
 use super::writing::sum_of;
 use super::{HEADER_LENGTH, MAX_BODY_LENGTH, MIN_BODY_LENGTH, SUM_LENGTH};
@@ -25,7 +26,8 @@ use std::fmt;
 pub enum EntryError {
     /// They end within the header, or sooner than the header says.
     CutShort,
-    /// The length and its inverse don't fit, no body has this length, the sum is wrong, or the body is that of no entry.
+    /// The length and the same inverted don't fit, no body has this length, the sum is wrong, or the body is that of
+    /// no entry.
     Malformed,
     /// They begin with an entry, and there was no memory for it.
     OutOfMemory,

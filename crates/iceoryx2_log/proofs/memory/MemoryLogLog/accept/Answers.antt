@@ -1,5 +1,4 @@
 use Rattle.std.proofs.Common.{ap, ◌∙◌, arith}
-use Rattle.std.proofs.lemmas.Bool.{ltb-true}
 use Rattle.iceoryx2_log.specs.contracts.memory.MemoryLog.{the_view}
 use Rattle.iceoryx2_log.proofs.Unread.{accepted_one, with_contents, with_accepted}
 use Rattle.iceoryx2_log.proofs.memory.MemoryLogLog.accept.Goals as goal
