@@ -280,6 +280,7 @@ impl Log for MemoryLog {
     fn next(&mut self) -> Result<Option<Entry>, LogError>
         ensures shows { IfOk result (λ found. (self.old.held ≡ true) × (found ≡ first self.old.contents.unread)) }
         ensures failed { (result ≡ Err LogError.Failed) ↔ (self.old.held ≡ false) }
+        ensures memory { self.old.held ≡ true → IfErr result (λ e. e ≡ OutOfMemory) }
         ensures same { self.new ≡ self.old }
     {
         if !self.held {
