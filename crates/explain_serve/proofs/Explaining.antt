@@ -16,7 +16,7 @@ use Rattle.iceoryx2_commands.specs.declared.command.Reply.TheVariants as reply
 use Rattle.iceoryx2_session.specs.declared.session.Session.{Session}
 use Rattle.iceoryx2_session.specs.CommandWords.{GoesAlong}
 use Rattle.iceoryx2_session.specs.QuietSessions.{IsQuiet, IsMoved}
-use Rattle.iceoryx2_session.specs.Sessions.{GoesBy, close_past, close_empty, closed, listed, not_listed}
+use Rattle.iceoryx2_session.specs.Sessions.{GoesBy, shown_world, close_past, close_empty, closed, listed, not_listed}
 use Rattle.iceoryx2_session.specs.SessionStates.{own_state}
 use Rattle.iceoryx2_session.specs.StandingSlots.{SlotsStand, OwnsTickets, ClosesTaken}
 use Rattle.negotiate_serve.specs.declared.ending.Ending.{Ending}
@@ -42,7 +42,7 @@ use Rattle.explain_serve.proofs.Traces.{goes_traced, still_room, still_kept}
 abbrev pub explainer_answers : Explainer → (line : List ℕ) → Command → (text : List ℕ) → Explainer → Type 0
 explainer_answers old line c text new = (new.format ≡ old.format) × AnswersAs old.format (own_state old.session) line c text (own_state new.session)
 
-module _ (x y : Explainer) (c : Command) (r : Reply) (own : GoesBy IsAccess table_inside (own_state x.session) c r (own_state y.session))
+module _ (x y : Explainer) (c : Command) (r : Reply) (own : GoesBy IsAccess (shown_world table_inside) (own_state x.session) c r (own_state y.session))
     (along : GoesAlong IsAccess (own_state x.session) c r (own_state y.session))
     (quiet : (q : Quiet) → IsQuiet (session_inside (own_state x.session)) q → SlotsStand (session_inside (own_state x.session))
     → IsMoved (session_inside (own_state x.session)) q c r (session_inside (own_state y.session)))
@@ -108,7 +108,7 @@ module _ (x y : Explainer) (c : Command) (r : Reply) (own : GoesBy IsAccess tabl
     says_drawing node node_is is (Err e) told = tt
 
 -- a refused reply is one to a call, which the line says
-pub may_tell : {s t : TracedSession} (line : List ℕ) (c : Command) (r : Reply) → IsLine line (kind.Command c) → GoesBy IsAccess table_inside s c r t → MayTellWhy line (refusal_of r)
+pub may_tell : {s t : TracedSession} (line : List ℕ) (c : Command) (r : Reply) → IsLine line (kind.Command c) → GoesBy IsAccess (shown_world table_inside) s c r t → MayTellWhy line (refusal_of r)
 may_tell line (command.Call call) r is goes = at r
   where
     at : (r : Reply) → MayTellWhy line (refusal_of r)

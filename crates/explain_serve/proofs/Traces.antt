@@ -19,7 +19,7 @@ use Rattle.iceoryx2_commands.specs.declared.command.Reply.TheVariants as reply
 use Rattle.iceoryx2_session.specs.CommandWords.{IsBuilderWord, IsCommandWord, GoesAlong}
 use Rattle.iceoryx2_session.specs.PatternCalls.{PatternCall}
 use Rattle.iceoryx2_session.specs.Patterns.{builder_call}
-use Rattle.iceoryx2_session.specs.Sessions.{GoesBy}
+use Rattle.iceoryx2_session.specs.Sessions.{GoesBy, shown_world}
 use Rattle.explain_serve.specs.Traces.{IsAccess, table_inside, TracedSession, room_kept, GoesTraced}
 
 module _ {A : Type 0} where
@@ -60,7 +60,7 @@ made_is : (before after n : ℕ) → before + n ≤ 2 ^ 64 - 1 → after ≡ min
 made_is before after n fits is = omega (arith, fits, is)
 
 pub goes_traced : (old new : TracedSession) (c : Command) (r : Reply) → old.table.room ≡ room_kept → length old.table.entries ≤ room_kept
-    → GoesBy IsAccess table_inside old c r new → GoesAlong IsAccess old c r new → GoesTraced old c r new
+    → GoesBy IsAccess (shown_world table_inside) old c r new → GoesAlong IsAccess old c r new → GoesTraced old c r new
 goes_traced old new c r room kept goes along = record {
   goes = goes;
   word = along.word;

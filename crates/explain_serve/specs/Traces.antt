@@ -11,7 +11,7 @@ use Rattle.iceoryx2_commands.specs.Commands.{slot_count}
 use Rattle.iceoryx2_commands.specs.declared.command.Command.{Command}
 use Rattle.iceoryx2_commands.specs.declared.command.Reply.{Reply}
 use Rattle.iceoryx2_session.specs.CommandWords.{IsCommandWord}
-use Rattle.iceoryx2_session.specs.Sessions.{SessionOver, SessionState, GoesBy, shown_session}
+use Rattle.iceoryx2_session.specs.Sessions.{SessionOver, SessionState, GoesBy, shown_session, shown_world}
 
 -- what a table makes of an access, with its entry kept
 abbrev pub IsAccess : TracedState TableState → Letter → TracedState TableState → Type 0
@@ -51,7 +51,7 @@ made_between old new = new.table.total - old.table.total
 -- A command goes as it does over any storage, along its word. There is room for all accesses of this word: they are the
 -- latest that are kept, and as many as were made, up to the greatest number that is counted.
 pub record GoesTraced (old : TracedSession) (c : Command) (reply : Reply) (new : TracedSession) : Type 0 where
-  pub goes : GoesBy IsAccess table_inside old c reply new
+  pub goes : GoesBy IsAccess (shown_world table_inside) old c reply new
   pub word : List Letter
   pub is_word : IsCommandWord old.config old.slots c reply word
   pub run : Run IsAccess old.table word new.table

@@ -10,10 +10,9 @@ use Rattle.iceoryx2_session.specs.Sessions.{SessionState, Goes}
 use Rattle.iceoryx2_session.specs.CommandLists.{CarriesOut, none, first}
 use Rattle.iceoryx2_session.specs.StandingSlots.{GoesStanding, SlotsStand, OwnsTickets}
 use Rattle.iceoryx2_session.specs.QuietSessions.{IsQuiet, IsMoved, QuietState, MovesTogether, AreMoved, TellsNoChange, IsUnchanged}
-use Rattle.iceoryx2_session.proofs.StandingSlots.{stand_after, closes_taken}
+use Rattle.iceoryx2_session.proofs.StandingSlots.{goes_standing}
 use Rattle.iceoryx2_session.proofs.QuietSessions.{moved, itself, unchanged_by}
-use Rattle.iceoryx2_session.proofs.OwnedTickets.{owns_after}
-use Rattle.iceoryx2_session.proofs.Promised.{calls_as_promised}
+use Rattle.iceoryx2_session.proofs.OwnedTickets.{table_owns}
 
 -- one more command after those
 pub one_more : {S C A : Type 0} {step : S → C → A → S → Type 0} {u v w : S} {commands : List C} {replies : List A} {c : C} {a : A}
@@ -21,24 +20,27 @@ pub one_more : {S C A : Type 0} {step : S → C → A → S → Type 0} {u v w :
 one_more none s = first s none
 one_more (first s rest) t = first s (one_more rest t)
 
+-- commands that each go in a further way from a state with a property, and keep that
+pub carried_where : {S C A : Type 0} {step also : S → C → A → S → Type 0} (P : S → Type 0)
+    → ((s n : S) (c : C) (a : A) → step s c a n → P s → also s c a n × P n) → {s n : S} {commands : List C} {replies : List A}
+    → CarriesOut step s commands replies n → P s → CarriesOut also s commands replies n × P n
+carried_where P each none p = (none, p)
+carried_where P each (first {old = s} {mid = m} {c = c} {a = a} one rest) p =
+    let now = each s m c a one p in
+    let later = carried_where P each rest now.1 in
+    (first now.0 later.0, later.1)
+
 -- ---- over any table whose world agrees
 
 pub all_stand : {s n : SessionState} {commands : List Command} {replies : List Reply} → CarriesOut Goes s commands replies n
-    → Agrees s.table.world → SlotsStand s → Agrees n.table.world × SlotsStand n
-all_stand none agrees old = (agrees, old)
-all_stand (first one rest) agrees old = let after = stand_after one agrees old in all_stand rest after.0 after.1
+    → Agrees s.table.world → SlotsStand s → CarriesOut GoesStanding s commands replies n × (Agrees n.table.world × SlotsStand n)
+all_stand goes agrees old = carried_where (λ (u : SessionState). Agrees u.table.world × SlotsStand u)
+    (λ s n c a one p. let after = goes_standing one p.0 p.1 in (after, (after.0.1, after.0.2))) goes (agrees, old)
 
-pub stand_between : {s n : SessionState} {commands : List Command} {replies : List Reply} → CarriesOut Goes s commands replies n
-    → Agrees s.table.world → SlotsStand s → CarriesOut GoesStanding s commands replies n
-stand_between none agrees old = none
-stand_between (first one rest) agrees old =
-    let after = stand_after one agrees old in first (one, after.0, after.1, closes_taken one agrees old, calls_as_promised one) (stand_between rest after.0 after.1)
-
-pub all_own : {s n : SessionState} {commands : List Command} {replies : List Reply} → CarriesOut Goes s commands replies n
+pub all_own : {s n : SessionState} {commands : List Command} {replies : List Reply} → CarriesOut GoesStanding s commands replies n
     → Agrees s.table.world → SlotsStand s → OwnsTickets s → OwnsTickets n
 all_own none agrees old owned = owned
-all_own (first one rest) agrees old owned =
-    let after = stand_after one agrees old in all_own rest after.0 after.1 (owns_after one agrees old owned)
+all_own (first one rest) agrees old owned = all_own rest one.0.1 one.0.2 (table_owns one.0.0 agrees old owned)
 
 -- ---- over a table that nobody else uses
 
@@ -52,7 +54,7 @@ all_moved q quiet old (none {s = s}) =
     record { state = q; moves = none; quiet = quiet; tags = λ node hash. tags_counted s.table.world q node hash quiet.shows; configured = refl }
 all_moved q {n = n} quiet old (first {old = s} {mid = m} {c = c} {a = a} one rest) =
     let now = moved q quiet old one in
-    let after = all_moved now.state now.quiet (stand_after one quiet.agrees old).1 rest in
+    let after = all_moved now.state now.quiet (goes_standing one quiet.agrees old).0.2 rest in
     let mid : QuietState = record { session = m; machine = now.state } in
     record {
       state = after.state;
@@ -79,4 +81,4 @@ all_unchanged q quiet old (none {s = s}) still = itself s
 all_unchanged q {n = n} quiet old (first {old = s} {mid = m} one rest) still =
     let now = moved q quiet old one in
     then_unchanged s m n (unchanged_by q quiet one still.0)
-    (all_unchanged now.state now.quiet (stand_after one quiet.agrees old).1 rest still.1)
+    (all_unchanged now.state now.quiet (goes_standing one quiet.agrees old).0.2 rest still.1)

@@ -1,65 +1,105 @@
--- The table's tickets are those of a session's slots, over any table whose world agrees.
-use Rattle.std.proofs.Common.{◌≡◌, Some, None, Ok, Err, inl, inr, refl, sym, ap, ◌∙◌}
+-- The tickets of own nodes are those of a session's slots, over any world that agrees.
+use Rattle.std.proofs.Common.{◌≡◌, ◌≢◌, ℕ, Bool, true, List, Option, Some, None, Result, Ok, Err, inl, inr, refl, sym, ap, subst, ◌∙◌}
+use Rattle.std.specs.Prelude.{slice_set}
 use Rattle.std.specs.FinMap as map
 use Rattle.std.proofs.lemmas.Cmp.{nat_cmp_total}
 use Rattle.std.proofs.lemmas.Map.Lookups.{exact_unsigned}
+use Rattle.iceoryx2_world.specs.declared.world.Ticket.{Ticket}
+use Rattle.iceoryx2_world.specs.World.{World, ticket_of}
 use Rattle.iceoryx2_world.specs.Across.{Agrees}
-use Rattle.iceoryx2_world.specs.Interference.{everyone}
-use Rattle.iceoryx2_world.proofs.agreement.Interference.{all_tickets}
-use Rattle.iceoryx2_world.specs.Tables.{TableState}
+use Rattle.iceoryx2_world.specs.Interference.{everyone, IsAccessUnder, IsFallibleUnder, SameTickets}
 use Rattle.iceoryx2_world.specs.Standing.{Stands, ticket_for}
+use Rattle.iceoryx2_world.specs.Tables.{IsTableAccess}
+use Rattle.iceoryx2_world.proofs.agreement.Accesses.{unrefused}
 use Rattle.iceoryx2_world.proofs.agreement.Maps.{set_cases}
+use Rattle.iceoryx2_access.specs.Letter.{Letter}
 use Rattle.iceoryx2_access.specs.Registered.{Registered}
-use Rattle.iceoryx2_call_laws.proofs.calls.Closed.{close_ok}
+use Rattle.iceoryx2_create_and_open.specs.Answers.{map_err}
+use Rattle.iceoryx2_call_laws.specs.Tickets.{tickets_after}
+use Rattle.iceoryx2_call_laws.proofs.calls.AnyLeft.{any_tickets}
 use Rattle.iceoryx2_call_laws.proofs.calls.Tickets.{closed_tickets}
 use Rattle.iceoryx2_commands.specs.declared.command.Command.{Command}
+use Rattle.iceoryx2_commands.specs.declared.command.Refusal.{Refusal}
 use Rattle.iceoryx2_commands.specs.declared.command.Reply.{Reply}
+use Rattle.iceoryx2_session.specs.PatternCalls.{PatternCall}
 use Rattle.iceoryx2_session.specs.Patterns.{builder_call}
-use Rattle.iceoryx2_session.specs.Sessions.{SessionState, ClosesFactory, Goes}
+use Rattle.iceoryx2_session.specs.Sessions.{SessionOver, SessionState, BuildsBy, ClosesFactoryBy, GoesBy, Goes}
 use Rattle.iceoryx2_session.specs.Sessions as goes
-use Rattle.iceoryx2_session.specs.StandingSlots.{SlotsStand, OwnsTickets}
+use Rattle.iceoryx2_session.specs.StandingSlots.{HasTicket, OwnsTicketsUnder, SlotsStandUnder, OwnsTickets, SlotsStand}
 use Rattle.iceoryx2_session.proofs.SlotLists.{set_here, set_there, not_free, same_slot}
-use Rattle.iceoryx2_session.proofs.StandingSlots.{accesses, faulty, leaves}
+use Rattle.iceoryx2_session.proofs.StandingSlots.{close_is_ok, worlds, unrefused_table}
 
--- the close of a standing factory takes its ticket out
-pub taken_by_close : (u v : TableState) (f : Registered) → Agrees u.world → Stands u.world f → ClosesFactory u f v
-    → v.world.tickets ≡ map.remove u.world.tickets f.ticket
-taken_by_close u v f agrees stands is =
-    let ok = close_ok {own = everyone} refl is.1.is_word (accesses is.1.run) agrees stands in
-    all_tickets (map.remove u.world.tickets f.ticket) v.world.tickets (closed_tickets ok is.1.is_word (faulty is.1.run) agrees)
+-- the tickets after what a session sees of a call's own answer
+seen_tickets : {E : Type 0} {own : ℕ → Bool} (w v : World) (carry : E → Refusal) (a : Result Registered E) (answer : Result Registered Refusal)
+    → answer ≡ map_err carry a → SameTickets own (tickets_after w.tickets a) v.tickets → SameTickets own (tickets_after w.tickets answer) v.tickets
+seen_tickets {own = own} w v carry (Ok f) answer e same = subst (λ (x : Result Registered Refusal). SameTickets own (tickets_after w.tickets x) v.tickets) (sym e) same
+seen_tickets {own = own} w v carry (Err r) answer e same = subst (λ (x : Result Registered Refusal). SameTickets own (tickets_after w.tickets x) v.tickets) (sym e) same
 
--- ---- commands
+module _ (own : ℕ → Bool) (w v : World) (slots : List (Option Registered)) (owned : OwnsTicketsUnder own w slots) where
+  -- a ticket after one was put in is that one, or is that of a slot's factory
+  put_owns : (f : Registered) (k : ℕ) → SameTickets own (map.insert w.tickets f.ticket (ticket_for f)) v.tickets
+      → HasTicket (slice_set slots k (Some f)) f.ticket → ((t : ℕ) → HasTicket slots t → HasTicket (slice_set slots k (Some f)) t)
+      → OwnsTicketsUnder own v (slice_set slots k (Some f))
+  put_owns f k same new others t x mine at = elim (set_cases nat_cmp_total exact_unsigned w.tickets f.ticket (Some (ticket_for f)) t) [
+    | inl e ↦ subst (λ u. HasTicket (slice_set slots k (Some f)) u) (sym e.0) new
+    | inr e ↦ others t (owned t x mine (sym e.1 ∙ same.no_other t x mine at))
+  ]
 
-pub owns_after : {s : SessionState} {c : Command} {a : Reply} {n : SessionState} → Goes s c a n → Agrees s.table.world → SlotsStand s
-    → OwnsTickets s → OwnsTickets n
-owns_after (goes.call_past le) agrees old owned = owned
-owns_after (goes.call_taken t) agrees old owned = owned
-owns_after {s = s} (goes.called {call = call} f {t = t} free is) agrees old owned =
-    let c = leaves (builder_call s.config call) (Ok f) s.table t agrees is in
-    λ i x e. elim (set_cases nat_cmp_total exact_unsigned s.table.world.tickets f.ticket (Some (ticket_for f)) i) [
-      | inl k ↦ record { slot = call.slot; factory = f; holds = set_here s.slots call.slot (Some f) None free; ticket = sym k.0 }
-      | inr k ↦
-          let o = owned i x (sym k.1 ∙ sym (ap (λ m. map.get m i) c.tickets) ∙ e) in
-          record {
-            slot = o.slot;
-            factory = o.factory;
-            holds = set_there s.slots call.slot o.slot (Some f) (not_free s.slots call.slot o.slot o.factory free o.holds) ∙ o.holds;
-            ticket = o.ticket;
-          }
-    ]
-owns_after {s = s} (goes.refused {call = call} {e = err} {t = t} free is) agrees old owned =
-    let c = leaves (builder_call s.config call) (Err err) s.table t agrees is in
-    λ i x e. owned i x (sym (ap (λ m. map.get m i) c.tickets) ∙ e)
-owns_after (goes.close_past le) agrees old owned = owned
-owns_after (goes.close_empty free) agrees old owned = owned
-owns_after {s = s} (goes.closed {slot = slot} f {t = t} at is) agrees old owned =
-    let tickets = taken_by_close s.table t f agrees (old.stand slot f at) is in
-    λ i x e. elim (set_cases nat_cmp_total exact_unsigned s.table.world.tickets f.ticket None i) [
-      | inl k ↦ let here = sym e ∙ ap (λ m. map.get m i) tickets ∙ k.1 in absurd cc
-      | inr k ↦
-          let o = owned i x (sym k.1 ∙ sym (ap (λ m. map.get m i) tickets) ∙ e) in
-          let elsewhere : (o.slot ≡ slot) → ⊥ = λ same. k.0 (sym o.ticket ∙ ap (λ u. u.ticket) (same_slot s.slots o.slot slot o.factory f o.holds at same)) in
-          record { slot = o.slot; factory = o.factory; holds = set_there s.slots slot o.slot None elsewhere ∙ o.holds; ticket = o.ticket }
-    ]
-owns_after (goes.listed lists) agrees old owned = owned
-owns_after goes.not_listed agrees old owned = owned
+  -- a ticket after one was taken out is another one, and that of a slot's factory
+  pub take_owns : (k : ℕ) → SameTickets own (map.remove w.tickets k) v.tickets
+      → (t : ℕ) (x : Ticket) → own x.node ≡ true → ticket_of v t ≡ Some x → (t ≢ k) × HasTicket slots t
+  take_owns k same t x mine at =
+      let left = same.no_other t x mine at in
+      elim (set_cases nat_cmp_total exact_unsigned w.tickets k None t) [
+        | inl e ↦ let gone = sym left ∙ e.1 in absurd cc
+        | inr e ↦ (e.0, owned t x mine (sym e.1 ∙ left))
+      ]
+
+-- over a storage whose accesses are accesses of its world under interference, of which none is refused
+module _ (own : ℕ → Bool) {S : Type 0} (step : S → Letter → S → Type 0) (world : S → World)
+    (of_world : (s t : S) (l : Letter) → step s l t → IsAccessUnder own (world s) l (world t)) where
+  pub may_refuse : (s t : S) (l : Letter) → step s l t → IsFallibleUnder own (world s) l (world t)
+  may_refuse s t l a = unrefused (of_world s t l a)
+
+  -- the close of a standing factory takes its ticket out
+  pub taken_by_close : (f : Registered) {s t : S} → own f.node ≡ true → Agrees (world s) → Stands (world s) f → ClosesFactoryBy step s f t
+      → SameTickets own (map.remove (world s).tickets f.ticket) (world t).tickets
+  taken_by_close f {s = s} {t = t} mine agrees stands is =
+      let closed = close_is_ok own step world of_world f mine agrees stands is in
+      closed_tickets {own = own} refl closed.is_word (worlds own step world may_refuse closed.run) agrees
+
+  after_call : (b : PatternCall) (answer : Result Registered Refusal) {s t : S} → Agrees (world s) → BuildsBy step b s answer t
+      → SameTickets own (tickets_after (world s).tickets answer) (world t).tickets
+  after_call b answer {s = s} {t = t} agrees is =
+      seen_tickets (world s) (world t) b.refusal_of is.0 answer is.1
+      (any_tickets b.call (world s) (world t) is.2.word is.0 is.2.is_word (worlds own step world may_refuse is.2.run) agrees)
+
+  pub owns_after : {s : SessionOver S} {c : Command} {a : Reply} {n : SessionOver S} → GoesBy step world s c a n → Agrees (world s.table)
+      → SlotsStandUnder own (world s.table) s.slots → OwnsTicketsUnder own (world s.table) s.slots → OwnsTicketsUnder own (world n.table) n.slots
+  owns_after (goes.call_past le) agrees old owned = owned
+  owns_after (goes.call_taken t) agrees old owned = owned
+  owns_after {s = s} (goes.called {call = call} f {t = t} free is) agrees old owned =
+      let k = call.slot in
+      put_owns own (world s.table) (world t) s.slots owned f k (after_call (builder_call s.config call) (Ok f) agrees is)
+      (record { slot = k; factory = f; holds = set_here s.slots k (Some f) None free; ticket = refl })
+      (λ t o. record {
+        slot = o.slot;
+        factory = o.factory;
+        holds = set_there s.slots k o.slot (Some f) (not_free s.slots k o.slot o.factory free o.holds) ∙ o.holds;
+        ticket = o.ticket;
+      })
+  owns_after {s = s} (goes.refused {call = call} {e = e} free is) agrees old owned = λ t x mine at.
+      owned t x mine ((after_call (builder_call s.config call) (Err e) agrees is).no_other t x mine at)
+  owns_after (goes.close_past le) agrees old owned = owned
+  owns_after (goes.close_empty free) agrees old owned = owned
+  owns_after {s = s} (goes.closed {slot = k} f {t = u} at is) agrees old owned = λ t x mine has.
+      let left = take_owns own (world s.table) (world u) s.slots owned f.ticket (taken_by_close f (old.of_own k f at) agrees (old.stand k f at) is) t x mine has in
+      let o = left.1 in
+      let elsewhere : (o.slot ≡ k) → ⊥ = λ same. left.0 (sym o.ticket ∙ ap (λ u. u.ticket) (same_slot s.slots o.slot k o.factory f o.holds at same)) in
+      record { slot = o.slot; factory = o.factory; holds = set_there s.slots k o.slot None elsewhere ∙ o.holds; ticket = o.ticket }
+  owns_after (goes.listed lists) agrees old owned = owned
+  owns_after goes.not_listed agrees old owned = owned
+
+-- over a table, at which every node is one's own
+pub table_owns : {s n : SessionState} {c : Command} {a : Reply} → Goes s c a n → Agrees s.table.world → SlotsStand s → OwnsTickets s → OwnsTickets n
+table_owns goes agrees old owned = owns_after everyone IsTableAccess (λ table. table.world) unrefused_table goes agrees old owned

@@ -1,17 +1,20 @@
 -- A session's builder calls are calls.
-use Rattle.std.proofs.Common.{◌≡◌, ℕ, List, Option, Some, None, Result, Ok, Err, refl, ap, subst, arith}
+use Rattle.std.proofs.Common.{◌≡◌, ℕ, Bool, true, List, Option, Some, None, Result, Ok, Err, refl, ap, subst, arith}
 use Rattle.std.specs.Prelude.{slice_set}
+use Rattle.iceoryx2_access.specs.Letter.{Letter}
 use Rattle.iceoryx2_access.specs.Registered.{Registered}
 use Rattle.iceoryx2_attribute.specs.Requirements.{Requirements}
 use Rattle.iceoryx2_description.specs.declared.config.Config.{Config}
 use Rattle.iceoryx2_description.specs.declared.time.ClockFault.{ClockFault}
 use Rattle.iceoryx2_description.specs.Span.{Span}
-use Rattle.iceoryx2_world.specs.Interference.{everyone}
-use Rattle.iceoryx2_world.specs.Tables.{TableState, IsTableAccess}
+use Rattle.iceoryx2_world.specs.World.{World}
+use Rattle.iceoryx2_world.specs.Across.{Agrees}
+use Rattle.iceoryx2_world.specs.Interference.{IsFallibleUnder}
 use Rattle.iceoryx2_create_and_open.specs.Answers.{map_err}
 use Rattle.iceoryx2_open_or_create.specs.Adjusting.{OnlyRaises}
 use Rattle.iceoryx2_open_or_create.specs.BuilderCalls.{Way}
-use Rattle.iceoryx2_call_laws.proofs.calls.Headline.{as_promised, of_table}
+use Rattle.iceoryx2_call_laws.specs.Headline.{IsAsPromised}
+use Rattle.iceoryx2_call_laws.proofs.calls.Headline.{as_promised}
 use Rattle.iceoryx2_builder.proofs.Adjusting.{events_only_raise, publish_subscribe_only_raises, request_response_only_raises}
 use Rattle.iceoryx2_commands.specs.declared.command.Settings.{Settings}
 use Rattle.iceoryx2_commands.specs.declared.command.Settings.TheVariants as settings
@@ -22,10 +25,10 @@ use Rattle.iceoryx2_commands.specs.declared.command.Reply.{Reply}
 use Rattle.iceoryx2_commands.specs.declared.command.Reply.TheVariants as reply
 use Rattle.iceoryx2_session.specs.PatternCalls.{PatternCall, way_of}
 use Rattle.iceoryx2_session.specs.Patterns.{call_by, builder_call}
-use Rattle.iceoryx2_session.specs.Sessions.{SessionState, Builds, Goes}
+use Rattle.iceoryx2_session.specs.Sessions.{SessionOver, BuildsBy, GoesBy}
 use Rattle.iceoryx2_session.specs.Sessions as goes
 use Rattle.iceoryx2_session.specs.Slots.{FreeAt, HoldsAt}
-use Rattle.iceoryx2_session.specs.Promised.{AnswerTo, IsRepliedBy, IsPromised, CallsAsPromised}
+use Rattle.iceoryx2_session.specs.Promised.{AnswerTo, IsRepliedBy, IsPromisedBy, CallsAsPromisedBy}
 use Rattle.iceoryx2_session.proofs.SlotLists.{not_free, set_here}
 
 -- the reply to a call that answers Ok, and what its slot holds then
@@ -43,38 +46,40 @@ refused_by : (b : PatternCall) (own : AnswerTo b) (slot : ℕ) (e : Refusal) (sl
 refused_by b (Ok g) slot e slots is free = absurd cc
 refused_by b (Err x) slot e slots is free = let same : e ≡ b.refusal_of x = cc in (ap (λ (y : Refusal). reply.Refused y) same, free)
 
-promised : (b : PatternCall) (slot : ℕ) (s : TableState) (answer : Result Registered Refusal) (a : Reply) (n : SessionState) → OnlyRaises b.call.meaning b.call.adjusted
-    → (is : Builds b s answer n.table) → IsRepliedBy b is.0 slot a n.slots → IsPromised b slot s a n
-promised b slot s answer a n raises is replied = record {
-  own = is.0;
-  replied = replied;
-  word = is.2.word;
-  is_word = is.2.is_word;
-  run = is.2.run;
-  only_raises = raises;
-  promised = λ agrees. as_promised everyone IsTableAccess (λ u. u.world) (of_table everyone) b.call refl is.2.word is.0 s n.table is.2.is_word is.2.run agrees;
-}
-
 raises_by : (config : Config) (node : ℕ) (name : List ℕ) (way : Way) (attributes : Requirements) (now : Result Span ClockFault) (x : Settings)
     → let b = call_by config node name way attributes now x in OnlyRaises b.call.meaning b.call.adjusted
 raises_by config node name way attributes now (settings.Event xs) = events_only_raise
 raises_by config node name way attributes now (settings.PublishSubscribe xs) = publish_subscribe_only_raises
 raises_by config node name way attributes now (settings.RequestResponse xs) = request_response_only_raises
 
-call_promised : (config : Config) (call : Call) (s : TableState) (answer : Result Registered Refusal) (a : Reply) (n : SessionState)
-    → (is : Builds (builder_call config call) s answer n.table) → IsRepliedBy (builder_call config call) is.0 call.slot a n.slots → IsPromised (builder_call config call) call.slot s a n
-call_promised config call s answer a n is replied =
-    promised (builder_call config call) call.slot s answer a n (raises_by config call.node call.name (way_of call.how) call.attributes call.now call.settings) is replied
+-- over a storage whose accesses are accesses of its world under interference, of which any may be refused
+module _ (own : ℕ → Bool) {S : Type 0} (step : S → Letter → S → Type 0) (world : S → World)
+    (of_world : (s t : S) (l : Letter) → step s l t → IsFallibleUnder own (world s) l (world t)) where
+  pub promise : (b : PatternCall) {s t : S} {answer : Result Registered Refusal} → own b.call.caller.node ≡ true → Agrees (world s)
+      → (is : BuildsBy step b s answer t) → IsAsPromised step world b.call own s is.2.word is.0 t
+  promise b {s = s} {t = t} mine agrees is = as_promised own step world of_world b.call mine is.2.word is.0 s t is.2.is_word is.2.run agrees
 
-pub calls_as_promised : {s : SessionState} {c : Command} {a : Reply} {n : SessionState} → Goes s c a n → CallsAsPromised s c a n
-calls_as_promised (goes.call_past le) = λ few free. absurd (omega (arith, le, few))
-calls_as_promised {s = s} (goes.call_taken {call = call} taken) = λ few free. absurd (not_free s.slots call.slot call.slot taken.0 free taken.1 refl)
-calls_as_promised {s = s} {a = a} {n = n} (goes.called {call = call} f free is) = λ few _.
-    call_promised s.config call s.table (Ok f) a n is (opened_by (builder_call s.config call) is.0 call.slot f s.slots is.1 free)
-calls_as_promised {s = s} {a = a} {n = n} (goes.refused {call = call} {e = e} free is) = λ few _.
-    call_promised s.config call s.table (Err e) a n is (refused_by (builder_call s.config call) is.0 call.slot e s.slots is.1 free)
-calls_as_promised (goes.close_past le) = tt
-calls_as_promised (goes.close_empty free) = tt
-calls_as_promised (goes.closed f at is) = tt
-calls_as_promised (goes.listed lists) = tt
-calls_as_promised goes.not_listed = tt
+  promised : (config : Config) (call : Call) (s : S) (answer : Result Registered Refusal) (a : Reply) (n : SessionOver S) → let b = builder_call config call in
+      (is : BuildsBy step b s answer n.table) → IsRepliedBy b is.0 call.slot a n.slots → IsPromisedBy step world own b call.slot s a n
+  promised config call s answer a n is replied = record {
+    answered = is.0;
+    replied = replied;
+    word = is.2.word;
+    is_word = is.2.is_word;
+    run = is.2.run;
+    only_raises = raises_by config call.node call.name (way_of call.how) call.attributes call.now call.settings;
+    promised = λ mine agrees. promise (builder_call config call) mine agrees is;
+  }
+
+  pub calls_as_promised : {s : SessionOver S} {c : Command} {a : Reply} {n : SessionOver S} → GoesBy step world s c a n → CallsAsPromisedBy step world own s c a n
+  calls_as_promised (goes.call_past le) = λ few free. absurd (omega (arith, le, few))
+  calls_as_promised {s = s} (goes.call_taken {call = call} taken) = λ few free. absurd (not_free s.slots call.slot call.slot taken.0 free taken.1 refl)
+  calls_as_promised {s = s} {a = a} {n = n} (goes.called {call = call} f free is) = λ few _.
+      promised s.config call s.table (Ok f) a n is (opened_by (builder_call s.config call) is.0 call.slot f s.slots is.1 free)
+  calls_as_promised {s = s} {a = a} {n = n} (goes.refused {call = call} {e = e} free is) = λ few _.
+      promised s.config call s.table (Err e) a n is (refused_by (builder_call s.config call) is.0 call.slot e s.slots is.1 free)
+  calls_as_promised (goes.close_past le) = tt
+  calls_as_promised (goes.close_empty free) = tt
+  calls_as_promised (goes.closed f at is) = tt
+  calls_as_promised (goes.listed lists) = tt
+  calls_as_promised goes.not_listed = tt

@@ -117,5 +117,5 @@ is_fresh s n e waiting = (
     agrees = subst (λ w. Agrees w) (sym e) (empty_agrees n);
     waiting = waiting;
   },
-  λ t x at. absurd (no_ticket t x (sym at ∙ ap (λ w. ticket_of w t) e ∙ map.get-empty nat_cmp t)),
+  λ t x mine at. absurd (no_ticket t x (sym at ∙ ap (λ w. ticket_of w t) e ∙ map.get-empty nat_cmp t)),
 )

@@ -6,6 +6,7 @@ use Rattle.iceoryx2_description.specs.declared.config.Config.{Config}
 use Rattle.iceoryx2_world.specs.declared.listing.Entry.{Entry}
 use Rattle.iceoryx2_world.specs.Listing.{Lists}
 use Rattle.iceoryx2_world.specs.Tables.{TableState, IsTableAccess}
+use Rattle.iceoryx2_world.specs.World.{World}
 use Rattle.iceoryx2_access.specs.Letter.{Letter}
 use Rattle.iceoryx2_access.specs.Run.{Run, Joins}
 use Rattle.iceoryx2_errors.specs.declared.error.CloseError.{CloseError}
@@ -35,9 +36,13 @@ pub record SessionOver (S : Type 0) : Type 0 where
 abbrev pub SessionState : Type 0
 SessionState = SessionOver TableState
 
--- What a session has, over the table that its storage shows.
-abbrev pub shown_session : {S : Type 0} → (S → TableState) → SessionOver S → SessionState
+-- What a session has, over what its storage is seen as: the table that it shows, or the world inside.
+abbrev pub shown_session : {S T : Type 0} → (S → T) → SessionOver S → SessionOver T
 shown_session shown s = record { config = s.config; table = shown s.table; slots = s.slots }
+
+-- the world of the table that a storage shows
+abbrev pub shown_world : {S : Type 0} → (S → TableState) → S → World
+shown_world shown s = (shown s).world
 
 -- ---- by the steps of any storage
 
@@ -69,56 +74,52 @@ abbrev pub ClosesSlotsBy : {S : Type 0} (step : S → Letter → S → Type 0)
     → S → List (Option Registered) → S → Type 0
 ClosesSlotsBy step s slots t = Run (ClosesPlaceBy step) s slots t
 
+-- what a slot holds is closed, and that is Ok
+abbrev pub IsClosedPlaceBy : {S : Type 0} (step : S → Letter → S → Type 0)
+    → S → Option Registered → S → Type 0
+IsClosedPlaceBy step s None t = t ≡ s
+IsClosedPlaceBy step s (Some f) t = Joins step s (λ word. IsCloseWord f word (Ok tt)) t
+
+-- Slot after slot is closed, in ascending order, and no factory comes back.
+abbrev pub AreClosedBy : {S : Type 0} (step : S → Letter → S → Type 0)
+    → S → List (Option Registered) → S → Type 0
+AreClosedBy step s slots t = Run (IsClosedPlaceBy step) s slots t
+
 -- A command leads from one state to another, with this reply. The slot is tested before any access,
--- and the other slots keep what they hold.
-pub data GoesBy {S : Type 0} (step : S → Letter → S → Type 0) (shown : S → TableState) (old : SessionOver S)
+-- and the other slots keep what they hold. What is listed is in the storage's world.
+pub data GoesBy {S : Type 0} (step : S → Letter → S → Type 0) (world : S → World) (old : SessionOver S)
     : Command → Reply → SessionOver S → Type 0 where
   call_past : {call : Call} → slot_count ≤ call.slot
-      → GoesBy step shown old (command.Call call) reply.NoSuchSlot old
+      → GoesBy step world old (command.Call call) reply.NoSuchSlot old
   call_taken : {call : Call} → TakenAt old.slots call.slot
-      → GoesBy step shown old (command.Call call) reply.SlotInUse old
+      → GoesBy step world old (command.Call call) reply.SlotInUse old
   called : {call : Call} (f : Registered) {t : S} → FreeAt old.slots call.slot
       → BuildsBy step (builder_call old.config call) old.table (Ok f) t
-      → GoesBy step shown old (command.Call call) (reply.Opened call.slot f.number)
+      → GoesBy step world old (command.Call call) (reply.Opened call.slot f.number)
       (record old { table = t; slots = slice_set old.slots call.slot (Some f) })
   refused : {call : Call} {e : Refusal} {t : S} → FreeAt old.slots call.slot
       → BuildsBy step (builder_call old.config call) old.table (Err e) t
-      → GoesBy step shown old (command.Call call) (reply.Refused e) (record old { table = t })
-  close_past : {slot : ℕ} → slot_count ≤ slot → GoesBy step shown old (command.Close slot) reply.NoSuchSlot old
+      → GoesBy step world old (command.Call call) (reply.Refused e) (record old { table = t })
+  close_past : {slot : ℕ} → slot_count ≤ slot → GoesBy step world old (command.Close slot) reply.NoSuchSlot old
   close_empty : {slot : ℕ} → FreeAt old.slots slot
-      → GoesBy step shown old (command.Close slot) reply.SlotEmpty old
+      → GoesBy step world old (command.Close slot) reply.SlotEmpty old
   closed : {slot : ℕ} (f : Registered) {t : S} → HoldsAt old.slots slot f → ClosesFactoryBy step old.table f t
-      → GoesBy step shown old (command.Close slot) (reply.Closed slot)
+      → GoesBy step world old (command.Close slot) (reply.Closed slot)
       (record old { table = t; slots = slice_set old.slots slot None })
-  listed : {entries : Vec Entry Global} → Lists (shown old.table).world entries.items
-      → GoesBy step shown old command.List (reply.Listing entries) old
-  not_listed : GoesBy step shown old command.List reply.OutOfMemory old
+  listed : {entries : Vec Entry Global} → Lists (world old.table) entries.items
+      → GoesBy step world old command.List (reply.Listing entries) old
+  not_listed : GoesBy step world old command.List reply.OutOfMemory old
 
 -- ---- over a table
 
 abbrev pub Builds : PatternCall → TableState → Result Registered Refusal → TableState → Type 0
 Builds = BuildsBy IsTableAccess
 
-abbrev pub ClosesFactory : TableState → Registered → TableState → Type 0
-ClosesFactory = ClosesFactoryBy IsTableAccess
-
-abbrev pub ClosesPlace : TableState → Option Registered → TableState → Type 0
-ClosesPlace = ClosesPlaceBy IsTableAccess
-
-abbrev pub ClosesSlot : TableState → List (Option Registered) → ℕ → TableState → Type 0
-ClosesSlot = ClosesSlotBy IsTableAccess
-
 abbrev pub ClosesSlots : TableState → List (Option Registered) → TableState → Type 0
 ClosesSlots = ClosesSlotsBy IsTableAccess
 
--- what a slot holds is closed, and that is Ok
-abbrev pub IsClosedPlace : TableState → Option Registered → TableState → Type 0
-IsClosedPlace s None t = t ≡ s
-IsClosedPlace s (Some f) t = Joins IsTableAccess s (λ word. IsCloseWord f word (Ok tt)) t
-
--- Slot after slot is closed, in ascending order, and no factory comes back.
 abbrev pub AreClosed : TableState → List (Option Registered) → TableState → Type 0
-AreClosed s slots t = Run IsClosedPlace s slots t
+AreClosed = AreClosedBy IsTableAccess
 
 abbrev pub Goes : SessionState → Command → Reply → SessionState → Type 0
-Goes = GoesBy IsTableAccess (λ table. table)
+Goes = GoesBy IsTableAccess (λ table. table.world)

@@ -6,7 +6,7 @@ ghost use Rattle.iceoryx2_access.specs.Run.{Run};
 ghost use Rattle.iceoryx2_commands.specs.declared.command.Command.{Command};
 ghost use Rattle.iceoryx2_commands.specs.declared.command.Reply.{Reply};
 ghost use Rattle.iceoryx2_session.specs.CommandWords.{GoesAlong};
-ghost use Rattle.iceoryx2_session.specs.Sessions.{Goes, GoesBy, SessionOver, shown_session};
+ghost use Rattle.iceoryx2_session.specs.Sessions.{Goes, GoesBy, SessionOver, shown_session, shown_world};
 ghost use Rattle.iceoryx2_world.specs.Tables.{IsTableAccess};
 
 use crate::table_storage::TableStorage;
@@ -19,10 +19,10 @@ pub fn sessions<S: TableStorage>()
 
     // so each command goes in the same way over that table.
     ensures shown { (old new : SessionOver S) (command : Command) (answer : Reply)
-        → GoesBy S.step S.shown old command answer new
+        → GoesBy S.step (shown_world S.shown) old command answer new
         → Goes (shown_session S.shown old) command answer (shown_session S.shown new) }
 
     // What the storage is asked is the word of the builder call or of the close, and nothing where there is none.
     ensures along { (old new : SessionOver S) (command : Command) (answer : Reply)
-        → GoesBy S.step S.shown old command answer new → GoesAlong S.step old command answer new }
+        → GoesBy S.step (shown_world S.shown) old command answer new → GoesAlong S.step old command answer new }
 {}

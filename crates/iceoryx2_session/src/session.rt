@@ -83,6 +83,7 @@ impl<S: TableStorage> Session<S> {
     ghost use Rattle.iceoryx2_world.specs.World.{empty_world, ticket_of};
     ghost use Rattle.iceoryx2_session.specs.SessionStates.{own_state, state_of};
     ghost use Rattle.iceoryx2_session.specs.Sessions.{AreClosed, ClosesSlots, ClosesSlotsBy, Goes, GoesBy};
+    ghost use Rattle.iceoryx2_session.specs.Sessions.{shown_world};
     ghost use Rattle.iceoryx2_session.specs.CommandWords.{GoesAlong};
     ghost use Rattle.iceoryx2_session.specs.CommandLists.{CarriesOut};
     ghost use Rattle.iceoryx2_session.specs.StandingSlots.{ClosesTaken, GoesStanding, OwnsTickets, SlotsStand};
@@ -116,7 +117,7 @@ impl<S: TableStorage> Session<S> {
     /// Carries out one command. The slot is tested before anything is called.
     pub fn apply(&mut self, command: Command) -> Reply
         // Over any storage it is the builder call or the close that it names, along a word of it,
-        ensures own { GoesBy S.step S.shown (own_state self.old) command result (own_state self.new) }
+        ensures own { GoesBy S.step (shown_world S.shown) (own_state self.old) command result (own_state self.new) }
 
         // so the storage's accesses are those of the command's word, and without a call or a close there are none,
         ensures along { GoesAlong S.step (own_state self.old) command result (own_state self.new) }
@@ -148,11 +149,7 @@ impl<S: TableStorage> Session<S> {
             → SlotsStand (state_of S.shown self.old)
             → TellsNoChange result → IsUnchanged (state_of S.shown self.old) (state_of S.shown self.new) }
     {
-        match command {
-            Command::Call(call) => self.call(call),
-            Command::Close { slot } => self.close(slot),
-            Command::List => self.list(),
-        }
+        self.carry_out(command)
     }
 
     /// Carries out commands in order, and gives as many replies, each the one to its command. Room for
@@ -162,7 +159,7 @@ impl<S: TableStorage> Session<S> {
         ensures refused { OnErr result (own_state self.new ≡ own_state self.old) }
 
         // Over any storage each command goes as it does by itself, from the state that the one before it left,
-        ensures own { IfOk result (λ replies. CarriesOut (GoesBy S.step S.shown)
+        ensures own { IfOk result (λ replies. CarriesOut (GoesBy S.step (shown_world S.shown))
             (own_state self.old) commands.items replies.items (own_state self.new)) }
 
         // and so it is over the table that the storage shows.
@@ -203,8 +200,19 @@ impl<S: TableStorage> Session<S> {
         Ok(replies)
     }
 
+    fn carry_out(&mut self, command: Command) -> Reply
+        ensures { GoesBy S.step (shown_world S.shown) (own_state self.old) command result (own_state self.new) }
+    {
+        match command {
+            Command::Call(call) => self.call(call),
+            Command::Close { slot } => self.close(slot),
+            Command::List => self.list(),
+        }
+    }
+
     fn call(&mut self, call: Call) -> Reply
-        ensures { GoesBy S.step S.shown (own_state self.old) (command.Call call) result (own_state self.new) }
+        ensures { GoesBy S.step (shown_world S.shown)
+            (own_state self.old) (command.Call call) result (own_state self.new) }
     {
         let slot = call.slot;
         if slot >= SLOTS {
@@ -224,7 +232,8 @@ impl<S: TableStorage> Session<S> {
     }
 
     fn close(&mut self, slot: usize) -> Reply
-        ensures { GoesBy S.step S.shown (own_state self.old) (command.Close slot) result (own_state self.new) }
+        ensures { GoesBy S.step (shown_world S.shown)
+            (own_state self.old) (command.Close slot) result (own_state self.new) }
     {
         if slot >= SLOTS {
             return Reply::NoSuchSlot;
@@ -239,7 +248,8 @@ impl<S: TableStorage> Session<S> {
     }
 
     fn list(&self) -> Reply
-        ensures { GoesBy S.step S.shown (own_state self.now) command.List result (own_state self.now) }
+        ensures { GoesBy S.step (shown_world S.shown)
+            (own_state self.now) command.List result (own_state self.now) }
     {
         match self.storage.list() {
             Ok(entries) => Reply::Listing(entries),

@@ -1,9 +1,10 @@
+use Rattle.iceoryx2_world.specs.Interference.{everyone}
 use Rattle.iceoryx2_session.proofs.StandingSlots.{none_stand}
 use Rattle.iceoryx2_session.proofs.QuietSessions.{is_fresh}
 use Rattle.iceoryx2_session.proofs.session.Session.new.Goals as goal
 
 pub returns-clause-stands : goal.returns-clause-stands
-returns-clause-stands g c = none_stand _ c.new.ensures
+returns-clause-stands g c = none_stand everyone _ _ c.new.ensures
 
 pub returns-clause-fresh : goal.returns-clause-fresh
 returns-clause-fresh g c = λ n e waiting. is_fresh _ n e waiting

@@ -1,10 +1,11 @@
 use Rattle.std.proofs.Common.{◌≡◌, ℕ, List, [], ◌∷◌, ◌++◌, length, refl, sym, ap, subst, ◌∙◌, append_assoc, append-nil, arith}
 use Rattle.std.specs.Vec.Iter.{into_iter_items}
+use Rattle.iceoryx2_world.specs.Tables.{IsTableAccess}
 use Rattle.iceoryx2_commands.specs.declared.command.Command.{Command}
 use Rattle.iceoryx2_commands.specs.declared.command.Reply.{Reply}
 use Rattle.iceoryx2_session.specs.SessionStates.{own_state}
 use Rattle.iceoryx2_session.specs.CommandLists.{CarriesOut, none}
-use Rattle.iceoryx2_session.proofs.CommandLists.{one_more, all_stand, stand_between, all_moved, all_own, all_unchanged}
+use Rattle.iceoryx2_session.proofs.CommandLists.{one_more, all_stand, all_moved, all_own, all_unchanged}
 use Rattle.iceoryx2_session.proofs.Shown.{all_shown}
 use Rattle.iceoryx2_session.proofs.session.Session.run.Goals as goal
 
@@ -63,19 +64,19 @@ returns-clause-own g c =
     at.invariant.so_far (at.invariant.in_order ∙ c.into_iter-command-iterator.ensures.into_iter_gives.0) at.invariant.left c.in-None.ensures.steps.0
 
 pub returns-clause-goes : goal.returns-clause-goes
-returns-clause-goes g c = all_shown g.S.Storage.step g.S.TableStorage.shown g.met.S.TableStorage.accesses (returns-clause-own g c)
+returns-clause-goes g c = all_shown g.S.Storage.step IsTableAccess g.S.TableStorage.shown (λ table. table.world) g.met.S.TableStorage.accesses (returns-clause-own g c)
 
 pub returns-clause-stands : goal.returns-clause-stands
-returns-clause-stands g c = λ agrees old. all_stand (returns-clause-goes g c) agrees old
+returns-clause-stands g c = λ agrees old. (all_stand (returns-clause-goes g c) agrees old).1
 
 pub returns-clause-between : goal.returns-clause-between
-returns-clause-between g c = λ agrees old. stand_between (returns-clause-goes g c) agrees old
+returns-clause-between g c = λ agrees old. (all_stand (returns-clause-goes g c) agrees old).0
 
 pub returns-clause-quiet : goal.returns-clause-quiet
 returns-clause-quiet g c = λ q quiet old. all_moved q quiet old (returns-clause-goes g c)
 
 pub returns-clause-owns : goal.returns-clause-owns
-returns-clause-owns g c = λ agrees old owned. all_own (returns-clause-goes g c) agrees old owned
+returns-clause-owns g c = λ agrees old owned. all_own (returns-clause-between g c agrees old) agrees old owned
 
 pub returns-clause-unchanged : goal.returns-clause-unchanged
 returns-clause-unchanged g c = λ q quiet old still. all_unchanged q quiet old (returns-clause-goes g c) still
