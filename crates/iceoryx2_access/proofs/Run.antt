@@ -1,4 +1,4 @@
-use Rattle.std.proofs.Common.{List, [], ◌∷◌, ◌++◌}
+use Rattle.std.proofs.Common.{◌≡◌, List, [], ◌∷◌, ◌++◌, refl, ◌∙◌}
 use Rattle.iceoryx2_access.specs.Run.{Run, done, next, Joins}
 
 pub one : {S L : Type 0} {step : S → L → S → Type 0} {a b : S} {l : L} → step a l b → Run step a (l ∷ []) b
@@ -32,3 +32,19 @@ joins {w} p r = record { word = w; is_word = p; run = r }
 -- the step of a word of one letter
 pub last : {S L : Type 0} {step : S → L → S → Type 0} {a b : S} {l : L} → Run step a (l ∷ []) b → step a l b
 last (next h done) = h
+
+-- a run is one of what each state is seen as, where each step is one of what its states are seen as
+pub run_map : {S T L : Type 0} {big : S → L → S → Type 0} {small : T → L → T → Type 0} (f : S → T) → ((a b : S) (l : L) → big a l b → small (f a) l (f b))
+    → {a b : S} {word : List L} → Run big a word b → Run small (f a) word (f b)
+run_map f each done = done
+run_map f each (next h rest) = next (each _ _ _ h) (run_map f each rest)
+
+module _ {S L : Type 0} {step : S → L → S → Type 0} where
+  -- what is so before a step and after it, is so after a run
+  pub run_keeps : (P : S → Type 0) → ((a b : S) (l : L) → step a l b → P a → P b) → {a b : S} {word : List L} → Run step a word b → P a → P b
+  run_keeps P each done p = p
+  run_keeps P each (next h rest) p = run_keeps P each rest (each _ _ _ h p)
+
+  -- what a step leaves as it is, a run leaves
+  pub run_leaves : {A : Type 0} (f : S → A) → ((a b : S) (l : L) → step a l b → f b ≡ f a) → {a b : S} {word : List L} → Run step a word b → f b ≡ f a
+  run_leaves f each {a = a} run = run_keeps (λ s. f s ≡ f a) (λ s t l h e. each s t l h ∙ e) run refl
