@@ -2,7 +2,8 @@
 use Rattle.std.specs.Prelude.{◌≡◌, ◌≤◌, ◌+◌, ℕ, Bool, true, false, List, length, nat_eq}
 use Rattle.std.specs.List.{list_any}
 use Rattle.iceoryx2_access.specs.Letter.{Letter}
-use Rattle.iceoryx2_access.specs.MayRefuse.{IsFault}
+use Rattle.iceoryx2_access.specs.MayRefuse.{IsFault, MayRefuse}
+use Rattle.iceoryx2_access.specs.Run.{Run}
 use Rattle.iceoryx2_script.specs.declared.script.counters.Counters.{Counters}
 use Rattle.iceoryx2_access.specs.Counts.{one_more}
 use Rattle.iceoryx2_script.specs.Counters.{counters_after}
@@ -36,3 +37,12 @@ pub record IsInjectedFault {S : Type 0} (step : S → Letter → S → Type 0) (
   pub inside : Reaches (is_refused new.accesses old.refused) step old.inner l new.inner
   pub refused : new.refused ≡ old.refused
   pub counters : new.counters ≡ counters_after l old.counters
+
+module _ {S : Type 0} (step : S → Letter → S → Type 0) (a b : FaultyState S) (word : List Letter) where
+  -- A word is one of the storage inside of which any access may be refused,
+  abbrev pub IsRefusableInside : Type 0
+  IsRefusableInside = Run (IsInjectedFault step) a word b → Run (MayRefuse step) a.inner word b.inner
+
+  -- and where none of its accesses is refused it is one of the storage inside, whatever was refused before.
+  abbrev pub IsFaultlessInside : Type 0
+  IsFaultlessInside = Run (IsInjectedFault step) a word b → RefusesNone a word → Run step a.inner word b.inner

@@ -2,8 +2,9 @@
 use Rattle.std.specs.Prelude.{◌≡◌, false, List, [], ◌∷◌, ◌++◌}
 use Rattle.iceoryx2_access.specs.Letter.{Letter}
 use Rattle.iceoryx2_access.specs.MayRefuse.{IsFault}
+use Rattle.iceoryx2_access.specs.Run.{Run}
 use Rattle.iceoryx2_script.specs.declared.script.Answer.{Answer}
-use Rattle.iceoryx2_script.specs.Script.{Carries, is_for}
+use Rattle.iceoryx2_script.specs.Script.{ScriptState, IsScriptAccess, Carries, is_for}
 
 -- No answer is left, or the front is of another kind.
 abbrev pub Lacks : Letter → List Answer → Type 0
@@ -24,3 +25,9 @@ pub record PlaysFront (old : List Answer) (word : List Letter) (remaining : List
   pub taken : List Answer
   pub front : old ≡ taken ++ remaining
   pub plays : Plays remaining word taken
+
+-- The answers that a run takes are a front of those before it, in the order of the accesses that answered them, and the
+-- rest is left.
+abbrev pub EachRunPlays : Type 0
+EachRunPlays = (a b : ScriptState) (word : List Letter)
+    → Run IsScriptAccess a word b → PlaysFront a.remaining word b.remaining
