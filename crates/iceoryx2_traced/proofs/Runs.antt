@@ -1,10 +1,12 @@
 -- What a run makes of the entries and the counts.
-use Rattle.std.proofs.Common.{◌≡◌, ℕ, suc, ◌+◌, ◌-◌, ◌^◌, ◌≤◌, min, List, [], ◌∷◌, ◌++◌, length, map, drop, length-append, length-drop, append_assoc, refl, sym, ap, ◌∙◌, subst, arith}
-use Rattle.std.proofs.lemmas.List.{append-nil, drop-drop, drop-append-le, length-map}
+use Rattle.std.proofs.Common.{◌≡◌, ℕ, ◌+◌, ◌-◌, ◌≤◌, List, [], ◌∷◌, ◌++◌, length, map, drop, length-append, length-drop, append_assoc, sym, ap, ◌∙◌, subst, arith}
+use Rattle.std.proofs.lemmas.List.{append-nil, drop-drop, drop-append-le}
 use Rattle.iceoryx2_access.specs.Letter.{Letter}
-use Rattle.iceoryx2_access.specs.Run.{Run, done, next}
+use Rattle.iceoryx2_access.specs.Run.{done, next}
+use Rattle.iceoryx2_access.proofs.Run.{run_keeps, run_leaves}
+use Rattle.iceoryx2_access.proofs.Counts.{counted}
 use Rattle.iceoryx2_traced.specs.Entries.{entry_of}
-use Rattle.iceoryx2_traced.specs.Trace.{TracedState, IsTracedAccess, latest}
+use Rattle.iceoryx2_traced.specs.Trace.{TracedState, IsTracedAccess, latest, KeepsLatest, KeepsItsLatest, StaysWithinRoom, KeepsItsRoom, CountsAccesses}
 
 module _ {A : Type 0} where
   -- the latest of a list that is short enough
@@ -25,59 +27,30 @@ module _ {A : Type 0} where
       ap (latest n) (sym moved) ∙ drop-drop (length (drop a (xs ++ ys)) - n) a (xs ++ ys)
       ∙ ap (λ i. drop i (xs ++ ys)) k
 
-min_twice : (n k : ℕ) → min (min (n + 1) (2 ^ 64 - 1) + k) (2 ^ 64 - 1) ≡ min (n + suc k) (2 ^ 64 - 1)
-min_twice n k = omega arith
-
-stops : (n : ℕ) → min (n + 1) (2 ^ 64 - 1) ≤ 2 ^ 64 - 1
-stops n = omega arith
-
-stopped : (n : ℕ) → n ≤ 2 ^ 64 - 1 → n ≡ min (n + 0) (2 ^ 64 - 1)
-stopped n h = omega arith
-
 module _ {S : Type 0} {step : S → Letter → S → Type 0} where
-  pub inside : {a b : TracedState S} {word : List Letter} → Run (IsTracedAccess step) a word b → Run step a.inner word b.inner
-  inside done = done
-  inside (next h run) = next h.inside (inside run)
+  pub same_room : {a b : TracedState S} {word : List Letter} → KeepsItsRoom step a b word
+  same_room run = run_leaves (λ s. s.room) (λ s t l h. h.room) run
 
-  pub same_room : {a b : TracedState S} {word : List Letter} → Run (IsTracedAccess step) a word b → b.room ≡ a.room
-  same_room done = refl
-  same_room (next h run) = same_room run ∙ h.room
+  pub total : {a b : TracedState S} {word : List Letter} → CountsAccesses step a b word
+  total run = counted (λ s. s.total) (λ s t l h. h.total) run
 
   -- one access keeps the entries within the room
-  kept_within : {old new : TracedState S} {l : Letter} → IsTracedAccess step old l new → length new.entries ≤ old.room
-  kept_within {old} {l} h =
-      subst (λ xs. length xs ≤ old.room) (sym h.entries) (length_latest old.room (old.entries ++ entry_of l ∷ []))
+  kept_within : (old new : TracedState S) (l : Letter) → IsTracedAccess step old l new → length new.entries ≤ new.room
+  kept_within old new l h = let few = length_latest old.room (old.entries ++ entry_of l ∷ []) in omega (arith, few, ap length h.entries, h.room)
 
-  pub bound : {a b : TracedState S} {word : List Letter} → Run (IsTracedAccess step) a word b → length a.entries ≤ a.room → length b.entries ≤ a.room
-  bound done le = le
-  bound (next {mid} {new} h run) le =
-      subst (λ n. length new.entries ≤ n) h.room
-      (bound run (subst (λ n. length mid.entries ≤ n) (sym h.room) (kept_within h)))
+  pub bound : {a b : TracedState S} {word : List Letter} → StaysWithinRoom step a b word
+  bound {b} run le = subst (λ n. length b.entries ≤ n) (same_room run) (run_keeps (λ s. length s.entries ≤ s.room) (λ s t l h few. kept_within s t l h) run le)
 
-  pub latest_entries : {a b : TracedState S} {word : List Letter} → Run (IsTracedAccess step) a word b → length a.entries ≤ a.room → b.entries ≡ latest a.room (a.entries ++ map entry_of word)
+  pub latest_entries : {a b : TracedState S} {word : List Letter} → KeepsLatest step a b word
   latest_entries (done {s}) le = sym (ap (latest s.room) (append-nil s.entries) ∙ latest_all s.room s.entries le)
   latest_entries (next {old} {mid} {letter} {word} h run) le =
-      latest_entries run (subst (λ n. length mid.entries ≤ n) (sym h.room) (kept_within h))
+      latest_entries run (kept_within old mid letter h)
       ∙ ap (λ n. latest n (mid.entries ++ map entry_of word)) h.room
       ∙ ap (λ xs. latest old.room (xs ++ map entry_of word)) h.entries
       ∙ latest_twice old.room (old.entries ++ entry_of letter ∷ []) (map entry_of word)
       ∙ ap (latest old.room) (append_assoc old.entries (entry_of letter ∷ []) (map entry_of word))
 
-  pub from_none : {a b : TracedState S} {word : List Letter} → Run (IsTracedAccess step) a word b → a.entries ≡ [] → b.entries ≡ latest a.room (map entry_of word)
+  pub from_none : {a b : TracedState S} {word : List Letter} → KeepsItsLatest step a b word
   from_none {a} {word} run none =
       let few : length a.entries ≤ a.room = omega (arith, ap length none) in
       latest_entries run few ∙ ap (λ xs. latest a.room (xs ++ map entry_of word)) none
-
-  pub total : {a b : TracedState S} {word : List Letter} → Run (IsTracedAccess step) a word b → a.total ≤ 2 ^ 64 - 1 → b.total ≡ min (a.total + length word) (2 ^ 64 - 1)
-  total (done {s}) h = stopped s.total h
-  total (next {old} {word} h run) le =
-      total run (subst (λ n. n ≤ 2 ^ 64 - 1) (sym h.total) (stops old.total))
-      ∙ ap (λ n. min (n + length word) (2 ^ 64 - 1)) h.total ∙ min_twice old.total (length word)
-
-  pub forgotten : {a b : TracedState S} {word : List Letter} → Run (IsTracedAccess step) a word b → a.entries ≡ [] → a.total ≡ 0 → length word ≤ 2 ^ 64 - 1 → b.total - length b.entries ≡ length word - a.room
-  forgotten {a} {b} {word} run none zero few =
-      let all = total run (omega arith) in
-      let kept = ap length (from_none run none) in
-      let dropped = length-drop (length (map entry_of word) - a.room) (map entry_of word) in
-      let same = length-map word entry_of in
-      omega arith

@@ -1,7 +1,8 @@
 -- A storage that keeps the latest accesses of another.
-use Rattle.std.specs.Prelude.{◌≡◌, ℕ, ◌-◌, List, [], ◌∷◌, ◌++◌, length, drop}
-use Rattle.iceoryx2_access.specs.Counts.{one_more}
+use Rattle.std.specs.Prelude.{◌≡◌, ℕ, ◌-◌, ◌≤◌, List, [], ◌∷◌, ◌++◌, length, map, drop}
+use Rattle.iceoryx2_access.specs.Counts.{one_more, CountsEach}
 use Rattle.iceoryx2_access.specs.Letter.{Letter}
+use Rattle.iceoryx2_access.specs.Run.{Run}
 use Rattle.iceoryx2_traced.specs.Entries.{entry_of}
 use Rattle.iceoryx2_traced.specs.declared.traced.entry.Entry.{Entry}
 
@@ -34,3 +35,27 @@ pub record IsTracedAccess {S : Type 0} (step : S → Letter → S → Type 0) (o
   pub entries : new.entries ≡ latest old.room (old.entries ++ entry_of l ∷ [])
   pub room : new.room ≡ old.room
   pub total : new.total ≡ one_more old.total
+
+-- What a word makes of a traced storage.
+module _ {S : Type 0} (step : S → Letter → S → Type 0) (a b : TracedState S) (word : List Letter) where
+  -- Its entries follow upon those that were there, and the latest of them all are kept.
+  abbrev pub KeepsLatest : Type 0
+  KeepsLatest = Run (IsTracedAccess step) a word b
+      → length a.entries ≤ a.room → b.entries ≡ latest a.room (a.entries ++ map entry_of word)
+
+  -- From a new storage, or one that was cleared, they are those of the latest accesses.
+  abbrev pub KeepsItsLatest : Type 0
+  KeepsItsLatest = Run (IsTracedAccess step) a word b
+      → a.entries ≡ [] → b.entries ≡ latest a.room (map entry_of word)
+
+  -- Never are there more than there is room for,
+  abbrev pub StaysWithinRoom : Type 0
+  StaysWithinRoom = Run (IsTracedAccess step) a word b → length a.entries ≤ a.room → length b.entries ≤ a.room
+
+  -- the room stays,
+  abbrev pub KeepsItsRoom : Type 0
+  KeepsItsRoom = Run (IsTracedAccess step) a word b → b.room ≡ a.room
+
+  -- and each access counts.
+  abbrev pub CountsAccesses : Type 0
+  CountsAccesses = Run (IsTracedAccess step) a word b → CountsEach a.total word b.total
