@@ -1,5 +1,5 @@
 use Rattle.std.proofs.Common.{◌≡◌, List, [], ◌∷◌, ◌++◌, refl, ◌∙◌}
-use Rattle.iceoryx2_access.specs.Run.{Run, done, next, Joins}
+use Rattle.iceoryx2_access.specs.Run.{Run, done, next, Joins, Each}
 
 pub one : {S L : Type 0} {step : S → L → S → Type 0} {a b : S} {l : L} → step a l b → Run step a (l ∷ []) b
 one h = next h done
@@ -48,3 +48,7 @@ module _ {S L : Type 0} {step : S → L → S → Type 0} where
   -- what a step leaves as it is, a run leaves
   pub run_leaves : {A : Type 0} (f : S → A) → ((a b : S) (l : L) → step a l b → f b ≡ f a) → {a b : S} {word : List L} → Run step a word b → f b ≡ f a
   run_leaves f each {a = a} run = run_keeps (λ s. f s ≡ f a) (λ s t l h e. each s t l h ∙ e) run refl
+
+pub each_append : {L : Type 0} (P : L → Type 0) (u v : List L) → Each P u → Each P v → Each P (u ++ v)
+each_append P [] v a b = b
+each_append P (l ∷ u) v a b = (a.0, each_append P u v a.1 b)
