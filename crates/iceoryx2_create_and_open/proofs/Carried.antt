@@ -2,23 +2,16 @@
 use Rattle.std.proofs.Common.{◌≡◌, ℕ, Bool, List, Ok, refl}
 use Rattle.iceoryx2_description.specs.declared.description.ServiceHash.{ServiceHash}
 use Rattle.iceoryx2_description.specs.Description.{Description}
-use Rattle.iceoryx2_access.specs.declared.storage.Tag.{Tag}
 use Rattle.iceoryx2_access.specs.Letter.{Letter}
 use Rattle.iceoryx2_pattern.specs.Meaning.{Meaning}
 use Rattle.iceoryx2_access.specs.Registered.{Registered}
 use Rattle.iceoryx2_create_and_open.specs.Looks.{fetched, fits}
-use Rattle.iceoryx2_create_and_open.specs.Creates.{IsServiceWord, IsCreating, made, published}
-use Rattle.iceoryx2_create_and_open.specs.Opens.{IsLastRound, ready, opened, IsOpenWord, ended, CarriesAccepted}
+use Rattle.iceoryx2_create_and_open.specs.Creates.{IsCreating, made, published}
+use Rattle.iceoryx2_create_and_open.specs.Opens.{ready, opened, IsOpenWord, ended, CarriesAccepted}
 
 module _ {E C : Type 0} {m : Meaning E C} {node : ℕ} {hash : ServiceHash} where
-  service_carries : {d : Description} {tag : Tag} {w : List Letter} {r : Registered} → IsServiceWord m node hash d tag w (Ok r) → (r.node ≡ node) × (r.description ≡ d)
-  service_carries (published n t s) = (refl, refl)
-
   pub created_carries : {stops : Bool} {d : Description} {w : List Letter} {r : Registered} → IsCreating m node hash stops d w (Ok r) → (r.node ≡ node) × (r.description ≡ d)
-  created_carries (made _ _ e s) = service_carries s
-
-  round_carries : {w : List Letter} {r : Registered} → IsLastRound m node hash w (Ok r) → CarriesAccepted m node hash r
-  round_carries (opened t (ready tag (fetched there (fits form same misfit)) accepted)) = record { node_is = refl; hash_is = same; fits = misfit; accepted = accepted }
+  created_carries (made _ _ e (published n t s)) = (refl, refl)
 
   pub opened_carries : {w : List Letter} {r : Registered} → IsOpenWord m node hash w (Ok r) → CarriesAccepted m node hash r
-  opened_carries (ended small before l) = round_carries l
+  opened_carries (ended small before (opened t (ready tag (fetched there (fits form same misfit)) accepted))) = record { node_is = refl; hash_is = same; fits = misfit; accepted = accepted }

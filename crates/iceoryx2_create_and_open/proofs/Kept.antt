@@ -21,7 +21,7 @@ use Rattle.iceoryx2_create_and_open.specs.Creates as creates
 use Rattle.iceoryx2_create_and_open.specs.Creates.{IsEntryWord, IsServiceWord, IsCreating, forbidden, not_entered, clock_fault, made as both_made, not_locked, no_segment, not_published, published, counted, no_copies, entered}
 use Rattle.iceoryx2_create_and_open.specs.Opens as opens
 use Rattle.iceoryx2_create_and_open.specs.Opens.{IsReady, ready, failed, IsLastRound, AreFailedRounds, IsOpenWord, ended, all_failed}
-use Rattle.iceoryx2_create_and_open.specs.Prepared.{IsPrepared, IsOpenCall}
+use Rattle.iceoryx2_create_and_open.specs.Prepared.{IsPrepared, RefusedOpenGivesBack}
 use Rattle.iceoryx2_create_and_open.proofs.Prepared.{refused_call}
 use Rattle.iceoryx2_create_and_open.specs.Fronts as may
 use Rattle.iceoryx2_create_and_open.specs.Fronts.{made_by, made_after, made, MayCome, IsFront, ends, goes_on, clears, GivesAllBack, GivesTagsBack, no_round, one_more, KeepsAll, KeepsLastTag}
@@ -172,5 +172,5 @@ module _ {E C : Type 0} {m : Meaning E C} {node : ℕ} {hash : ServiceHash} wher
   pub refused_create_call_keeps : {stops : Bool} {d : Description} {w : List Letter} {error : C} → IsPrepared (m.create_refusal OutOfMemory) (IsCreating m node hash stops d) w (Err error) → GivesAllBack node hash w
   refused_create_call_keeps = refused_call (GivesAllBack node hash) (all_back (keeps_nothing stays)) (λ w error is. refused_create_keeps is)
 
-  pub refused_open_call_keeps : {w : List Letter} {error : E} → IsOpenCall m node hash w (Err error) → GivesTagsBack node hash w
-  refused_open_call_keeps = refused_call (GivesTagsBack node hash) no_round (λ w error is. refused_open_keeps is)
+  pub refused_open_call_keeps : {w : List Letter} {error : E} → RefusedOpenGivesBack m node hash w error
+  refused_open_call_keeps call = refused_call (GivesTagsBack node hash) no_round (λ w error is. refused_open_keeps is) call

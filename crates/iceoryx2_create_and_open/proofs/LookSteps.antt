@@ -1,11 +1,11 @@
-use Rattle.std.proofs.Common.{◌≡◌, ◌⊎◌, ◌≢◌, ◌∙◌, ℕ, List, Option, Ok, Some, None, Bool, true, false, not, nat_eq, inl, inr, refl, ap, subst, sym}
+use Rattle.std.proofs.Common.{◌≡◌, ◌⊎◌, ◌≢◌, ◌∙◌, ℕ, List, Bool, true, false, not, nat_eq, inl, inr, ap, subst, sym}
 use Rattle.std.specs.Cmp.Lexicographic.{pointwise, same_text, other_text}
+use Rattle.std.proofs.lemmas.Bool.{not-true, not-false}
 use Rattle.iceoryx2_description.specs.declared.description.ServiceHash.{ServiceHash}
 use Rattle.iceoryx2_access.specs.declared.storage.Existence.{Existence}
 use Rattle.iceoryx2_access.specs.declared.storage.Existence.TheVariants as existence
 use Rattle.iceoryx2_description.specs.Description.{Description}
 use Rattle.iceoryx2_access.specs.Letter.{Letter}
-use Rattle.iceoryx2_byte_form.specs.Form.{IsForm}
 use Rattle.iceoryx2_pattern.specs.Meaning.{Meaning}
 use Rattle.iceoryx2_create_and_open.specs.declared.look.Fault.{Fault}
 use Rattle.iceoryx2_create_and_open.specs.declared.look.Outcome.{Outcome}
@@ -17,20 +17,12 @@ pub may_be_there : (there : Existence) → (there ≡ existence.Yes) ⊎ (there 
 may_be_there there (inl e) = subst MayBeThere (sym e) yes
 may_be_there there (inr e) = subst MayBeThere (sym e) being_set_up
 
-is_false : (b : Bool) → not b ≡ true → false ≡ b
-is_false true h = h
-is_false false h = refl
-
-is_true : (b : Bool) → not b ≡ false → true ≡ b
-is_true true h = refl
-is_true false h = h
-
 -- what the comparison of two hashes tells
 pub other_hashes : (a b : ServiceHash) (r : Bool) → r ≡ not (pointwise nat_eq a.0 b.0) → r ≡ true → a ≢ b
-other_hashes a b r e h s = other_text a.0 b.0 (is_false (pointwise nat_eq a.0 b.0) (sym e ∙ h)) (ap (λ (x : ServiceHash). x.0) s)
+other_hashes a b r e h s = other_text a.0 b.0 (sym (not-true (pointwise nat_eq a.0 b.0) (sym e ∙ h))) (ap (λ (x : ServiceHash). x.0) s)
 
 pub same_hashes : (a b : ServiceHash) (r : Bool) → r ≡ not (pointwise nat_eq a.0 b.0) → r ≡ false → a ≡ b
-same_hashes a b r e h = let same = same_text a.0 b.0 (is_true (pointwise nat_eq a.0 b.0) (sym e ∙ h)) in λ i. record { 0 = same i }
+same_hashes a b r e h = let same = same_text a.0 b.0 (sym (not-false (pointwise nat_eq a.0 b.0) (sym e ∙ h))) in λ i. record { 0 = same i }
 
 -- some service is found by this word
 pub record Finds {E C : Type 0} (m : Meaning E C) (node : ℕ) (hash : ServiceHash) (word : List Letter) : Type 0 where

@@ -9,9 +9,7 @@ use Rattle.iceoryx2_access.specs.Letter.{Letter, MakeTag, OpenSegment}
 use Rattle.iceoryx2_pattern.specs.declared.pattern.OpenRefusal.TheVariants as refusal
 use Rattle.iceoryx2_pattern.specs.Meaning.{Meaning}
 use Rattle.iceoryx2_pattern.specs.Verdict.{verdict}
-use Rattle.iceoryx2_create_and_open.specs.declared.look.Outcome.TheVariants.{Found}
-use Rattle.iceoryx2_create_and_open.specs.Looks.{IsLookWord}
-use Rattle.iceoryx2_create_and_open.specs.Refusals.{of_opening, of_tag_opening, open_error_of}
+use Rattle.iceoryx2_create_and_open.specs.Refusals.{of_opening, open_error_of}
 use Rattle.iceoryx2_create_and_open.specs.Opens.{IsReady, IsLastRound, IsFailedRound, ready, no_tag, not_accepted, not_opened, opened, then_faulty, then_none, failed}
 use Rattle.iceoryx2_create_and_open.specs.OpenParts.{IsSecondLook, second_faulty, second_none, second_found}
 use Rattle.iceoryx2_create_and_open.specs.OpenParts.{IsTaggedOpening, untagged, got, refused, looked, again, IsRestOfRound, round_registration}
@@ -26,26 +24,18 @@ only_failed segment.OutOfNumbers h = cc
 only_failed segment.OutOfMemory h = cc
 
 -- the second look ends the call
-ends_by : {E C : Type 0} {m : Meaning E C} {node : ℕ} {hash : ServiceHash} {n : ℕ} {d : Description} {tag : Tag} {u v : List Letter} {asked : Option E} {error : E}
+ends : {E C : Type 0} {m : Meaning E C} {node : ℕ} {hash : ServiceHash} {n : ℕ} {d : Description} {tag : Tag} {u v : List Letter} {asked : Option E} {error : E}
     → asked ≡ Some error → IsReady m node hash n d tag u → IsSecondLook m node hash tag asked v → IsLastRound m node hash (u ++ OpenSegment node hash n (Err segment.Failed) ∷ v) (Err error)
-ends_by {m} {error} h r (second_faulty {fault} look back) = let e : open_error_of m fault ≡ error = cc in rw (← e) (then_faulty r look back)
-ends_by {m} {error} h r (second_none look back) = let e : m.open_refusal refusal.DoesNotExist ≡ error = cc in rw (← e) (then_none r look back)
-ends_by h r (second_found look back) = cc
-
-pub ends : {E C : Type 0} {m : Meaning E C} {node : ℕ} {hash : ServiceHash} {n : ℕ} {d : Description} {tag : Tag} {u v : List Letter} {error : E}
-    → IsReady m node hash n d tag u → IsSecondLook m node hash tag (Some error) v → IsLastRound m node hash (u ++ OpenSegment node hash n (Err segment.Failed) ∷ v) (Err error)
-ends r s = ends_by refl r s
+ends {m} {error} h r (second_faulty {fault} look back) = let e : open_error_of m fault ≡ error = cc in rw (← e) (then_faulty r look back)
+ends {m} {error} h r (second_none look back) = let e : m.open_refusal refusal.DoesNotExist ≡ error = cc in rw (← e) (then_none r look back)
+ends h r (second_found look back) = cc
 
 -- the second look asks for another round
-goes_on_by : {E C : Type 0} {m : Meaning E C} {node : ℕ} {hash : ServiceHash} {n : ℕ} {d : Description} {tag : Tag} {u v : List Letter} {asked : Option E}
+goes_on : {E C : Type 0} {m : Meaning E C} {node : ℕ} {hash : ServiceHash} {n : ℕ} {d : Description} {tag : Tag} {u v : List Letter} {asked : Option E}
     → asked ≡ None → IsReady m node hash n d tag u → IsSecondLook m node hash tag asked v → IsFailedRound m node hash (u ++ OpenSegment node hash n (Err segment.Failed) ∷ v)
-goes_on_by h r (second_faulty look back) = cc
-goes_on_by h r (second_none look back) = cc
-goes_on_by h r (second_found look back) = failed r look back
-
-pub goes_on : {E C : Type 0} {m : Meaning E C} {node : ℕ} {hash : ServiceHash} {n : ℕ} {d : Description} {tag : Tag} {u v : List Letter}
-    → IsReady m node hash n d tag u → IsSecondLook m node hash tag None v → IsFailedRound m node hash (u ++ OpenSegment node hash n (Err segment.Failed) ∷ v)
-goes_on r s = goes_on_by refl r s
+goes_on h r (second_faulty look back) = cc
+goes_on h r (second_none look back) = cc
+goes_on h r (second_found look back) = failed r look back
 
 -- ---- the rest of a round, behind a look whose service is accepted
 
@@ -62,9 +52,9 @@ module _ {E C : Type 0} {m : Meaning E C} {node : ℕ} {hash : ServiceHash} {n :
   round_of accepted (refused {v} {tag} e is back) u look =
       rw (← behind u (MakeTag node hash (Ok tag)) (OpenSegment node hash n (Err e)) v) (not_opened e is (ready tag look accepted) back)
   round_of accepted (looked {v} {tag} more) u look =
-      rw (← behind u (MakeTag node hash (Ok tag)) (OpenSegment node hash n (Err segment.Failed)) v) (ends (ready tag look accepted) more)
+      rw (← behind u (MakeTag node hash (Ok tag)) (OpenSegment node hash n (Err segment.Failed)) v) (ends refl (ready tag look accepted) more)
   round_of accepted (again {v} {tag} more) u look =
-      rw (← behind u (MakeTag node hash (Ok tag)) (OpenSegment node hash n (Err segment.Failed)) v) (goes_on (ready tag look accepted) more)
+      rw (← behind u (MakeTag node hash (Ok tag)) (OpenSegment node hash n (Err segment.Failed)) v) (goes_on refl (ready tag look accepted) more)
 
   -- a service that isn't accepted
   pub not_met : {error : E} → verdict (m.requirement d) ≡ Err error → IsRestOfRound m node hash n d [] (Some (Err error))

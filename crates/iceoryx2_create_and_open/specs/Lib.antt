@@ -1,6 +1,8 @@
 pub mod Looks
 pub mod GivesBack
 pub mod Refusals
+pub mod Counts
+pub mod Fronts
 pub mod Segments
 pub mod Creates
 pub mod CreateParts
@@ -9,5 +11,3 @@ pub mod OpenParts
 pub mod Answers
 pub mod Prepared
 pub mod OwnSettings
-pub mod Counts
-pub mod Fronts

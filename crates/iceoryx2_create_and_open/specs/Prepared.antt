@@ -7,7 +7,9 @@ use Rattle.iceoryx2_pattern.specs.declared.pattern.OpenRefusal.TheVariants as op
 use Rattle.iceoryx2_pattern.specs.declared.pattern.CreateRefusal.TheVariants as create_refusal
 use Rattle.iceoryx2_pattern.specs.Meaning.{Meaning}
 use Rattle.iceoryx2_create_and_open.specs.declared.caller.Caller.{Caller}
+use Rattle.iceoryx2_create_and_open.specs.Counts.{IsWithin, open_limits}
 use Rattle.iceoryx2_create_and_open.specs.Creates.{IsCreateWord}
+use Rattle.iceoryx2_create_and_open.specs.Fronts.{GivesTagsBack}
 use Rattle.iceoryx2_create_and_open.specs.Opens.{IsOpenWord}
 
 -- A call that prepares its types first goes along a word of it, or makes no access where the types found no memory.
@@ -26,3 +28,12 @@ IsCreateCall m caller = IsPrepared (m.create_refusal create_refusal.OutOfMemory)
 abbrev pub IsOpenCall
     : {E C : Type 0} → Meaning E C → ℕ → ServiceHash → List Letter → Result Registered E → Type 0
 IsOpenCall m node hash = IsPrepared (m.open_refusal open_refusal.OutOfMemory) (IsOpenWord m node hash)
+
+module _ {E C : Type 0} (m : Meaning E C) (node : ℕ) (hash : ServiceHash) (word : List Letter) where
+  -- A word of an open is short,
+  abbrev pub OpenIsShort : Result Registered E → Type 0
+  OpenIsShort answer = IsOpenCall m node hash word answer → IsWithin word open_limits
+
+  -- and one of an open that is refused gives its tags back.
+  abbrev pub RefusedOpenGivesBack : E → Type 0
+  RefusedOpenGivesBack error = IsOpenCall m node hash word (Err error) → GivesTagsBack node hash word

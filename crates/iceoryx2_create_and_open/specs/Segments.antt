@@ -8,6 +8,7 @@ use Rattle.iceoryx2_access.specs.Letter.{Letter, MakeSegment, RemoveSegment}
 use Rattle.iceoryx2_create_and_open.specs.declared.create.TheConstants.{CLEARING_LIMIT}
 use Rattle.iceoryx2_pattern.specs.declared.pattern.CreateRefusal.{CreateRefusal}
 use Rattle.iceoryx2_pattern.specs.declared.pattern.CreateRefusal.TheVariants as create_refusal
+use Rattle.iceoryx2_create_and_open.specs.Counts.{IsWithin, segment_limits}
 use Rattle.iceoryx2_create_and_open.specs.Refusals.{of_make, of_remove}
 
 module _ (node : ℕ) (hash : ServiceHash) (number max_nodes : ℕ) where
@@ -28,3 +29,9 @@ module _ (node : ℕ) (hash : ServiceHash) (number max_nodes : ℕ) where
     not_removed : (k : ℕ) (e : RemoveError) → k < CLEARING_LIMIT
         → IsSegmentWord (clearings k ++ finds ∷ RemoveSegment node hash (Err e) ∷ []) (Err (of_remove e))
     still_there : IsSegmentWord (clearings CLEARING_LIMIT ++ finds ∷ []) (Err create_refusal.ServiceInCorruptedState)
+
+-- Each of them is short.
+abbrev pub SegmentPartIsShort : Type 0
+SegmentPartIsShort = (node : ℕ) (hash : ServiceHash) (number max_nodes : ℕ) (word : List Letter)
+    (answer : Result (Unit {0}) CreateRefusal)
+    → IsSegmentWord node hash number max_nodes word answer → IsWithin word segment_limits

@@ -6,17 +6,16 @@
 ghost use Rattle.std.specs.Prelude.{◌≡◌, ℕ, List, Result, Ok, Err};
 ghost use Rattle.iceoryx2_description.specs.declared.description.ServiceHash.{ServiceHash};
 ghost use Rattle.iceoryx2_access.specs.Letter.{Letter};
-ghost use Rattle.iceoryx2_pattern.specs.declared.pattern.CreateRefusal.{CreateRefusal};
 ghost use Rattle.iceoryx2_errors.specs.declared.error.CloseError.TheVariants.{NotHere};
 ghost use Rattle.iceoryx2_port_factory.specs.Closes.{IsCloseWord};
 ghost use Rattle.iceoryx2_create_and_open.specs.declared.caller.Caller.{Caller};
-ghost use Rattle.iceoryx2_create_and_open.specs.Counts.{IsWithin, create_limits, open_limits, segment_limits};
+ghost use Rattle.iceoryx2_create_and_open.specs.Counts.{IsWithin, create_limits};
 ghost use Rattle.iceoryx2_create_and_open.specs.Creates.{description_of};
-ghost use Rattle.iceoryx2_create_and_open.specs.Fronts.{GivesAllBack, GivesTagsBack, KeepsAll, KeepsLastTag};
+ghost use Rattle.iceoryx2_create_and_open.specs.Fronts.{GivesAllBack, KeepsAll, KeepsLastTag};
 ghost use Rattle.iceoryx2_create_and_open.specs.Opens.{CarriesAccepted};
-ghost use Rattle.iceoryx2_create_and_open.specs.Prepared.{IsCreateCall, IsOpenCall};
+ghost use Rattle.iceoryx2_create_and_open.specs.Prepared.{IsCreateCall, IsOpenCall, OpenIsShort, RefusedOpenGivesBack};
+ghost use Rattle.iceoryx2_create_and_open.specs.Segments.{SegmentPartIsShort};
 ghost use Rattle.iceoryx2_access.specs.Registered.{Registered};
-ghost use Rattle.iceoryx2_create_and_open.specs.Segments.{IsSegmentWord};
 ghost use Rattle.iceoryx2_pattern.specs.Meaning.{Meaning};
 
 /// A create makes at most 20 accesses. It looks at most once and opens nothing. It makes a segment
@@ -29,9 +28,7 @@ pub fn create_is_short<E: Copy, C: Copy>()
 /// The part of a create that makes its segment does so in at most six attempts, with at most five
 /// removals between them: eleven accesses at most.
 pub fn segment_part_is_short()
-    ensures { (node : ℕ) (hash : ServiceHash) (number max_nodes : ℕ)
-        (word : List Letter) (answer : Result (Unit {0}) CreateRefusal)
-        → IsSegmentWord node hash number max_nodes word answer → IsWithin word segment_limits }
+    ensures { SegmentPartIsShort }
 {}
 
 /// An open makes at most 42 accesses. It looks at most twelve times and opens at most six times. It
@@ -39,7 +36,7 @@ pub fn segment_part_is_short()
 pub fn open_is_short<E: Copy, C: Copy>()
     ensures { (m : Meaning E C) (node : ℕ) (hash : ServiceHash)
         (word : List Letter) (answer : Result Registered E)
-        → IsOpenCall m node hash word answer → IsWithin word open_limits }
+        → OpenIsShort m node hash word answer }
 {}
 
 /// A refused create has given back what it made: its word is a front, which makes its tag unless that
@@ -54,8 +51,7 @@ pub fn refused_create_gives_back<E: Copy, C: Copy>()
 /// there. It leaves a tag only where the last removal of one was refused, and locks nothing.
 pub fn refused_open_gives_back<E: Copy, C: Copy>()
     ensures { (m : Meaning E C) (node : ℕ) (hash : ServiceHash) (word : List Letter) (error : E)
-        → IsOpenCall m node hash word (Err error)
-        → GivesTagsBack node hash word }
+        → RefusedOpenGivesBack m node hash word error }
 {}
 
 /// A create that succeeds keeps its segment and its lock, under whose number the description now

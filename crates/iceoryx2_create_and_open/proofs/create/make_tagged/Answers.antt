@@ -1,4 +1,3 @@
-use Rattle.std.proofs.Common.{sym}
 use Rattle.iceoryx2_access.proofs.Run.{joins, one}
 use Rattle.iceoryx2_access.specs.Run.{next}
 use Rattle.iceoryx2_create_and_open.proofs.CreateSteps.{untagged, stopped, served}

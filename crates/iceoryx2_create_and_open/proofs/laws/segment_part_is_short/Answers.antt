@@ -2,4 +2,4 @@ use Rattle.iceoryx2_create_and_open.proofs.Counts.{segment_within}
 use Rattle.iceoryx2_create_and_open.proofs.laws.segment_part_is_short.Goals as goal
 
 pub returns : goal.returns
-returns c = λ node hash number max_nodes word answer w. segment_within node hash number max_nodes w
+returns c = segment_within
