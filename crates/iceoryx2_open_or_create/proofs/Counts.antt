@@ -2,12 +2,13 @@
 use Rattle.std.proofs.Common.{◌*◌, ℕ, List, Result, arith}
 use Rattle.iceoryx2_access.specs.Registered.{Registered}
 use Rattle.iceoryx2_access.specs.Letter.{Letter}
+use Rattle.iceoryx2_create_and_open.specs.Counts.{IsWithin}
 use Rattle.iceoryx2_create_and_open.proofs.Prepared.{each_call}
 use Rattle.iceoryx2_create_and_open.proofs.Counts.{Within, within_append, within_more, none_within, look_within, create_within, open_within}
-use Rattle.iceoryx2_open_or_create.specs.BuilderCalls.{BuilderCall}
+use Rattle.iceoryx2_open_or_create.specs.BuilderCalls.{BuilderCall, open_or_create_limits}
 use Rattle.iceoryx2_open_or_create.specs.declared.open_or_create.OpenOrCreateRefusal.{OpenOrCreateRefusal}
 use Rattle.iceoryx2_open_or_create.specs.OpenOrCreates.{IsRetriedTurn, open_retried, create_retried, IsLastTurn, look_faulty, not_opened, opened, not_created, created, AreRetriedTurns, no_turn, one_more, IsOpenOrCreateWord, ended, in_flux}
-use Rattle.iceoryx2_open_or_create.specs.CallWords.{IsOpenOrCreateCall}
+use Rattle.iceoryx2_open_or_create.specs.CallWords.{OpenOrCreateIsShort}
 
 module _ {D E C : Type 0} {c : BuilderCall D E C} where
   last_within : {w : List Letter} {r : Result Registered (OpenOrCreateRefusal E C)} → IsLastTurn c w r → Within w 44 13 6 6 6
@@ -27,10 +28,11 @@ module _ {D E C : Type 0} {c : BuilderCall D E C} where
   turns_within (one_more before t) = within_more (omega arith) (omega arith) (omega arith) (omega arith) (omega arith) (within_append (turns_within before) (retried_within t))
 
   -- six rounds, of which each looks once more than its open or its create
-  pub open_or_create_within : {w : List Letter} {r : Result Registered (OpenOrCreateRefusal E C)} → IsOpenOrCreateWord c w r → Within w 264 78 36 36 36
+  pub open_or_create_within : {w : List Letter} {r : Result Registered (OpenOrCreateRefusal E C)} → IsOpenOrCreateWord c w r → IsWithin w open_or_create_limits
   open_or_create_within (ended small before t) = within_more (omega arith) (omega arith) (omega arith) (omega arith) (omega arith) (within_append (turns_within before) (last_within t))
   open_or_create_within (in_flux before) = turns_within before
 
 module _ {D E C : Type 0} (c : BuilderCall D E C) where
-  pub open_or_create_call_within : {w : List Letter} {r : Result Registered (OpenOrCreateRefusal E C)} → IsOpenOrCreateCall c w r → Within w 264 78 36 36 36
-  open_or_create_call_within = each_call (λ w r. Within w 264 78 36 36 36) (within_more (omega arith) (omega arith) (omega arith) (omega arith) (omega arith) none_within) (λ w r is. open_or_create_within is)
+  pub open_or_create_call_within : {w : List Letter} {r : Result Registered (OpenOrCreateRefusal E C)} → OpenOrCreateIsShort c w r
+  open_or_create_call_within call = each_call (λ w r. IsWithin w open_or_create_limits) (within_more (omega arith) (omega arith) (omega arith) (omega arith) (omega arith) none_within)
+      (λ w r is. open_or_create_within is) call

@@ -1,49 +1,43 @@
 -- With which error a verdict refuses: with that of a clause.
 use Rattle.std.proofs.Common.{◌≡◌, Bool, true, false, List, [], ◌∷◌, ◌++◌, Err, refl, subst}
-use Rattle.std.specs.Prelude.{ℕ, map}
+use Rattle.std.specs.Prelude.{map}
 use Rattle.iceoryx2_attribute.specs.Attributes.{Pair}
 use Rattle.iceoryx2_attribute.specs.Requirements.{Requirements}
+use Rattle.iceoryx2_access.specs.Run.{Each}
+use Rattle.iceoryx2_access.proofs.Run.{each_append}
 use Rattle.iceoryx2_pattern.specs.OwnAttributes.{attribute_clauses, pair_clause, key_clause}
-use Rattle.iceoryx2_pattern.specs.Verdict.{Clause, SettingRow, marked_clauses, verdict}
+use Rattle.iceoryx2_pattern.specs.Verdict.{Clause, SettingRow, marked_clauses, verdict, IsFirstUnmet, IsVerdict}
+use Rattle.iceoryx2_pattern.proofs.Verdicts.{verdict_is}
 
 -- each clause has such an error, and each row
 abbrev pub Errs : {E : Type 0} → (E → Type 0) → List (Clause E) → Type 0
-Errs P [] = Unit {0}
-Errs P (c ∷ clauses) = P c.error × Errs P clauses
+Errs P clauses = Each (λ c. P c.error) clauses
 
 abbrev pub RowsErr : {E : Type 0} → (E → Type 0) → List (SettingRow E) → Type 0
-RowsErr P [] = Unit {0}
-RowsErr P (r ∷ rows) = P r.clause.error × RowsErr P rows
+RowsErr P rows = Each (λ r. P r.clause.error) rows
 
-none_ends : {E : Type 0} (error : E) → verdict [] ≡ Err error → ⊥
-unfolding verdict
-none_ends error e = cc
-
-clause_ends : {E : Type 0} (P : E → Type 0) (c : Clause E) (clauses : List (Clause E)) (error : E) (met : Bool) → c.is_met ≡ met → P c.error → (verdict clauses ≡ Err error → P error) → verdict (c ∷ clauses) ≡ Err error → P error
-unfolding verdict
-clause_ends P c clauses error true e p later h = let k = rw e at h in later k
-clause_ends P c clauses error false e p later h = let k = rw e at h in let is : c.error ≡ error = cc in subst P is p
+among : {A : Type 0} (P : A → Type 0) (front : List A) (x : A) (back : List A) → Each P (front ++ x ∷ back) → P x
+among P [] x back each = each.0
+among P (y ∷ front) x back each = among P front x back each.1
 
 -- so what is so of each clause's error is so of the verdict's
 pub unmet_ends : {E : Type 0} (P : E → Type 0) (clauses : List (Clause E)) (error : E) → Errs P clauses → verdict clauses ≡ Err error → P error
-unmet_ends P [] error each e = absurd (none_ends error e)
-unmet_ends P (c ∷ clauses) error each e = clause_ends P c clauses error c.is_met refl each.0 (unmet_ends P clauses error each.1) e
+unmet_ends P clauses error each e =
+    let first : IsFirstUnmet clauses error = subst (IsVerdict clauses) e (verdict_is clauses) in
+    subst P first.its_error (among (λ c. P c.error) first.front first.unmet first.back (subst (Errs P) first.in_order each))
 
 pub both_err : {E : Type 0} (P : E → Type 0) (front back : List (Clause E)) → Errs P front → Errs P back → Errs P (front ++ back)
-both_err P [] back a b = b
-both_err P (c ∷ front) back a b = (a.0, both_err P front back a.1 b)
+both_err P front back a b = each_append (λ c. P c.error) front back a b
 
-pairs_err : {E : Type 0} (P : E → Type 0) (error : E) (existing pairs : List Pair) → P error → Errs P (map (pair_clause error existing) pairs)
-pairs_err P error existing [] p = tt
-pairs_err P error existing (pair ∷ pairs) p = (p, pairs_err P error existing pairs p)
-
-keys_err : {E : Type 0} (P : E → Type 0) (error : E) (existing : List Pair) (keys : List (List ℕ)) → P error → Errs P (map (key_clause error existing) keys)
-keys_err P error existing [] p = tt
-keys_err P error existing (key ∷ keys) p = (p, keys_err P error existing keys p)
+all_err : {A E : Type 0} (P : E → Type 0) (clause : A → Clause E) → ((x : A) → P (clause x).error) → (xs : List A) → Errs P (map clause xs)
+all_err P clause each [] = tt
+all_err P clause each (x ∷ xs) = (each x, all_err P clause each xs)
 
 -- attributes have one error,
 pub attributes_err : {E : Type 0} (P : E → Type 0) (error : E) (required : Requirements) (existing : List Pair) → P error → Errs P (attribute_clauses error required existing)
-attributes_err P error required existing p = both_err P (map (pair_clause error existing) required.pairs) (map (key_clause error existing) required.keys) (pairs_err P error existing required.pairs p) (keys_err P error existing required.keys p)
+attributes_err P error required existing p =
+    both_err P (map (pair_clause error existing) required.pairs) (map (key_clause error existing) required.keys)
+    (all_err P (pair_clause error existing) (λ pair. p) required.pairs) (all_err P (key_clause error existing) (λ key. p) required.keys)
 
 row_errs : {E : Type 0} (P : E → Type 0) (r : SettingRow E) (rows : List (SettingRow E)) (marked : Bool) → r.is_marked ≡ marked → P r.clause.error → Errs P (marked_clauses rows) → Errs P (marked_clauses (r ∷ rows))
 unfolding marked_clauses

@@ -9,7 +9,7 @@ use Rattle.iceoryx2_access.specs.Run.{Joins}
 use Rattle.iceoryx2_create_and_open.specs.Creates.{description_of, time_of}
 use Rattle.iceoryx2_create_and_open.proofs.Carried.{created_carries, opened_carries}
 use Rattle.iceoryx2_open_or_create.specs.BuilderCalls.{BuilderCall, creating, asking, rounds_of}
-use Rattle.iceoryx2_open_or_create.specs.OpenOrCreates.{IsRetriedTurn, open_retried, create_retried, IsLastTurn, opened, created, AreRetriedTurns, no_turn, one_more, IsOpenOrCreateWord, ended}
+use Rattle.iceoryx2_open_or_create.specs.OpenOrCreates.{IsRetriedTurn, open_retried, create_retried, opened, created, AreRetriedTurns, no_turn, one_more, IsOpenOrCreateWord, ended}
 use Rattle.iceoryx2_open_or_create.specs.Grants.{IsAsked, at_first, after_create, Carries, accepted, published}
 
 module _ {D E C : Type 0} {c : BuilderCall D E C} where
@@ -24,12 +24,10 @@ module _ {D E C : Type 0} {c : BuilderCall D E C} where
   are_asked no_turn = at_first
   are_asked (one_more before t) = then_asked (are_asked before) t
 
-  turn_carries : {asked : D} {w : List Letter} {r : Registered} → IsAsked c asked → IsLastTurn (asking c asked) w (Ok r) → (r.node ≡ c.caller.node) × Carries c r.description
-  turn_carries is (opened l o) = let k = opened_carries o in (k.node_is, accepted is k.hash_is (record { fits = k.fits; meets = k.accepted }))
-  turn_carries is (created l m) = let k = created_carries m in (k.0, is_published is k.1)
-
   pub granted_carries : {w : List Letter} {r : Registered} → IsOpenOrCreateWord c w (Ok r) → (r.node ≡ c.caller.node) × Carries c r.description
-  granted_carries (ended small before t) = turn_carries (are_asked before) t
+  granted_carries (ended small before (opened l o)) =
+      let k = opened_carries o in (k.node_is, accepted (are_asked before) k.hash_is (record { fits = k.fits; meets = k.accepted }))
+  granted_carries (ended small before (created l m)) = let k = created_carries m in (k.0, is_published (are_asked before) k.1)
 
   -- and so does one whose word joins two states of its storage
   pub joined_carries : {S : Type 0} {step : S → Letter → S → Type 0} {old new : S} {r : Registered} → Joins step old (λ word. IsOpenOrCreateWord c word (Ok r)) new → Carries c r.description

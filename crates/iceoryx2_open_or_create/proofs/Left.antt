@@ -15,7 +15,7 @@ use Rattle.iceoryx2_open_or_create.specs.declared.open_or_create.OpenOrCreateRef
 use Rattle.iceoryx2_open_or_create.specs.OpenOrCreates as words
 use Rattle.iceoryx2_open_or_create.specs.OpenOrCreates.{IsRetriedTurn, open_retried, create_retried, IsLastTurn, look_faulty, not_opened, opened, not_created, created, AreRetriedTurns, no_turn, IsOpenOrCreateWord, ended, in_flux}
 use Rattle.iceoryx2_open_or_create.specs.BuilderCalls.{BuilderCall}
-use Rattle.iceoryx2_open_or_create.specs.CallWords.{IsOpenOrCreateCall}
+use Rattle.iceoryx2_open_or_create.specs.CallWords.{RefusedOpenOrCreateGivesBack}
 use Rattle.iceoryx2_open_or_create.specs.Leaves.{GivesBackByRounds, no_round, one_more, KeepsInTheEnd}
 
 module _ {node : ℕ} {hash : ServiceHash} where
@@ -58,5 +58,5 @@ module _ {D E C : Type 0} {c : BuilderCall D E C} where
   granted_keeps (ended small before t) = then_ends (turns_give_back before) t
 
 module _ {D E C : Type 0} (c : BuilderCall D E C) where
-  pub refused_call_gives_back : {w : List Letter} {refusal : OpenOrCreateRefusal E C} → IsOpenOrCreateCall c w (Err refusal) → GivesBackByRounds c.caller.node c.caller.hash w
-  refused_call_gives_back = refused_call (GivesBackByRounds c.caller.node c.caller.hash) no_round (λ w refusal is. refused_gives_back is)
+  pub refused_call_gives_back : {w : List Letter} {refusal : OpenOrCreateRefusal E C} → RefusedOpenOrCreateGivesBack c w refusal
+  refused_call_gives_back call = refused_call (GivesBackByRounds c.caller.node c.caller.hash) no_round (λ w refusal is. refused_gives_back is) call

@@ -1,15 +1,17 @@
 -- The words of every call of a builder, with their answers.
-use Rattle.std.specs.Prelude.{◌↔◌, Bool, true, false, List, Result}
+use Rattle.std.specs.Prelude.{◌↔◌, Bool, true, false, List, Result, Err}
 use Rattle.iceoryx2_access.specs.Registered.{Registered}
 use Rattle.iceoryx2_access.specs.Letter.{Letter}
 use Rattle.iceoryx2_access.specs.Run.{Joins}
 use Rattle.iceoryx2_pattern.specs.declared.pattern.OpenRefusal.TheVariants as open_refusal
 use Rattle.iceoryx2_pattern.specs.declared.pattern.CreateRefusal.TheVariants as create_refusal
+use Rattle.iceoryx2_create_and_open.specs.Counts.{IsWithin}
 use Rattle.iceoryx2_create_and_open.specs.Creates.{IsCreateWord}
 use Rattle.iceoryx2_create_and_open.specs.Opens.{IsOpenWord}
 use Rattle.iceoryx2_create_and_open.specs.Prepared.{IsPrepared}
 use Rattle.iceoryx2_open_or_create.specs.BuilderCalls.{BuilderCall, Way, ToCreate, ToOpen, ToOpenOrCreate, ErrorBy}
-use Rattle.iceoryx2_open_or_create.specs.BuilderCalls.{creating, opening, rounds_of}
+use Rattle.iceoryx2_open_or_create.specs.BuilderCalls.{creating, opening, rounds_of, open_or_create_limits}
+use Rattle.iceoryx2_open_or_create.specs.Leaves.{GivesBackByRounds}
 use Rattle.iceoryx2_open_or_create.specs.OpenOrCreates.{IsOpenOrCreateWord}
 use Rattle.iceoryx2_open_or_create.specs.declared.open_or_create.OpenOrCreateRefusal.{OpenOrCreateRefusal}
 use Rattle.iceoryx2_open_or_create.specs.declared.open_or_create.OpenOrCreateRefusal.TheVariants as refusal
@@ -30,6 +32,15 @@ module _ {D E C : Type 0} (c : BuilderCall D E C) where
 
   abbrev pub IsOpenOrCreateCall : List Letter → Result Registered (OpenOrCreateRefusal E C) → Type 0
   IsOpenOrCreateCall = IsPrepared (no_memory_by ToOpenOrCreate) (IsOpenOrCreateWord (rounds_of c))
+
+  -- A word of an open or create is short,
+  abbrev pub OpenOrCreateIsShort : List Letter → Result Registered (OpenOrCreateRefusal E C) → Type 0
+  OpenOrCreateIsShort word answer = IsOpenOrCreateCall word answer → IsWithin word open_or_create_limits
+
+  -- and one that is refused gives back what it made, round by round.
+  abbrev pub RefusedOpenOrCreateGivesBack : List Letter → OpenOrCreateRefusal E C → Type 0
+  RefusedOpenOrCreateGivesBack word error =
+      IsOpenOrCreateCall word (Err error) → GivesBackByRounds c.caller.node c.caller.hash word
 
   abbrev pub IsWordBy : (way : Way) → List Letter → Result Registered (ErrorBy E C way) → Type 0
   IsWordBy ToCreate = PreparedIf c.prepares (no_memory_by ToCreate) (IsCreateWord (creating c) c.caller)

@@ -2,9 +2,9 @@ pub mod Retried
 pub mod BuilderCalls
 pub mod OpenOrCreates
 pub mod TurnParts
+pub mod Leaves
 pub mod CallWords
 pub mod EndsAtOnce
 pub mod Adjusting
 pub mod Grants
 pub mod LawfulCalls
-pub mod Leaves

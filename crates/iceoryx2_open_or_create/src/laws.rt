@@ -3,15 +3,15 @@
 //! It may prepare the types of its messages first. One that doesn't goes along a word of its grammar, which is a word
 //! of such a call too.
 
-ghost use Rattle.std.specs.Prelude.{◌≡◌, List, Result, Ok, Err};
+ghost use Rattle.std.specs.Prelude.{◌≡◌, List, Result, Ok};
 ghost use Rattle.iceoryx2_access.specs.Registered.{Registered};
 ghost use Rattle.iceoryx2_access.specs.Letter.{Letter};
-ghost use Rattle.iceoryx2_create_and_open.specs.Counts.{IsWithin};
 ghost use Rattle.iceoryx2_open_or_create.specs.Adjusting.{MeetsOrHolds, OnlyRaises};
-ghost use Rattle.iceoryx2_open_or_create.specs.BuilderCalls.{BuilderCall, open_or_create_limits};
-ghost use Rattle.iceoryx2_open_or_create.specs.CallWords.{IsOpenOrCreateCall};
+ghost use Rattle.iceoryx2_open_or_create.specs.BuilderCalls.{BuilderCall};
+ghost use Rattle.iceoryx2_open_or_create.specs.CallWords.{IsOpenOrCreateCall, OpenOrCreateIsShort};
+ghost use Rattle.iceoryx2_open_or_create.specs.CallWords.{RefusedOpenOrCreateGivesBack};
 ghost use Rattle.iceoryx2_open_or_create.specs.Grants.{Carries};
-ghost use Rattle.iceoryx2_open_or_create.specs.Leaves.{GivesBackByRounds, KeepsInTheEnd};
+ghost use Rattle.iceoryx2_open_or_create.specs.Leaves.{KeepsInTheEnd};
 ghost use Rattle.iceoryx2_open_or_create.specs.declared.open_or_create.OpenOrCreateRefusal.{OpenOrCreateRefusal};
 
 /// An open or create makes at most 264 accesses. It looks at most 78 times and opens at most 36 times.
@@ -19,8 +19,7 @@ ghost use Rattle.iceoryx2_open_or_create.specs.declared.open_or_create.OpenOrCre
 pub fn open_or_create_is_short<D, E: Copy, C: Copy>()
     ensures { (c : BuilderCall D E C) (word : List Letter)
         (answer : Result Registered (OpenOrCreateRefusal E C))
-        → IsOpenOrCreateCall c word answer
-        → IsWithin word open_or_create_limits }
+        → OpenOrCreateIsShort c word answer }
 {}
 
 /// A refused open or create has given back what it made, round by round. Each round leaves only that
@@ -28,8 +27,7 @@ pub fn open_or_create_is_short<D, E: Copy, C: Copy>()
 pub fn refused_open_or_create_gives_back<D, E: Copy, C: Copy>()
     ensures { (c : BuilderCall D E C) (word : List Letter)
         (refusal : OpenOrCreateRefusal E C)
-        → IsOpenOrCreateCall c word (Err refusal)
-        → GivesBackByRounds c.caller.node c.caller.hash word }
+        → RefusedOpenOrCreateGivesBack c word refusal }
 {}
 
 /// An open or create that succeeds keeps what its last round made, and each round before has given
