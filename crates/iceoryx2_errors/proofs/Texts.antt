@@ -1,5 +1,5 @@
--- An error is read from its text, so no two have the same one.
-use Rattle.std.proofs.Common.{◌≡◌, ℕ, List, [], ◌∷◌, ◌++◌, Option, Some, None, refl, sym, ◌∙◌, ap}
+-- An error is read from its text.
+use Rattle.std.proofs.Common.{◌≡◌, ℕ, List, [], ◌∷◌, ◌++◌, Option, Some, None, refl}
 use Rattle.std.specs.Prelude.{bytes_eq, map, if◌then◌else◌}
 use Rattle.iceoryx2_errors.specs.AnyError.{AnyError, text_of}
 use Rattle.iceoryx2_errors.specs.AnyError.{EventOpen, EventCreate, EventOpenOrCreate}
@@ -156,10 +156,10 @@ abbrev find_text : List ℕ → List AnyError → Option AnyError
 find_text text [] = None
 find_text text (e ∷ es) = if bytes_eq (text_of e) text then Some e else find_text text es
 
-abbrev read : List ℕ → Option AnyError
+abbrev pub read : List ℕ → Option AnyError
 read text = find_text text all_errors
 
-is_read : (e : AnyError) → read (text_of e) ≡ Some e
+pub is_read : (e : AnyError) → read (text_of e) ≡ Some e
 is_read (EventOpen opening.DoesNotExist) = refl
 is_read (EventCreate creating.ServiceInCorruptedState) = refl
 is_read (EventOpenOrCreate (event_either.EventOpenError opening.DoesNotExist)) = refl
@@ -173,8 +173,3 @@ is_read (RequestResponseCreate request_creating.AlreadyExists) = refl
 is_read (RequestResponseOpenOrCreate (request_either.RequestResponseOpenError request_opening.DoesNotExist)) = refl
 is_read (RequestResponseOpenOrCreate (request_either.RequestResponseCreateError request_creating.AlreadyExists)) = refl
 is_read _ = refl
-
--- two with one text are one
-pub text_tells : (one other : AnyError) → text_of one ≡ text_of other → one ≡ other
-text_tells one other same =
-    let both : Some one ≡ Some other = sym (is_read one) ∙ ap read same ∙ is_read other in cc
