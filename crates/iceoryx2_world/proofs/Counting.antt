@@ -10,6 +10,7 @@ use Rattle.iceoryx2_access.specs.Run.{Run}
 use Rattle.iceoryx2_world.specs.declared.batches.Step.{Step}
 use Rattle.iceoryx2_world.specs.Batches.{effect, may_starve, IsPeerStep, forbidden, acts, starves}
 use Rattle.iceoryx2_world.specs.Tables.{TableState, IsTableAccess}
+use Rattle.iceoryx2_world.specs.Laws.{CountsSkipped, HasItsEffect}
 use Rattle.iceoryx2_world.proofs.Runs as runs
 
 -- at least k, and at most the last number
@@ -28,10 +29,10 @@ access_counts : (k : ℕ) (s t : TableState) (l : Letter) → MayRefuse IsTableA
 access_counts k s t l (inl a) c = runs.run_keeps (λ p. IsCount k p.1) (step_counts k) a.batch c
 access_counts k s t l (inr e) c = subst (λ u. IsCount k u.skipped) (sym e.1) c
 
-pub run_counts : {s t : TableState} {word : List Letter} → Run (MayRefuse IsTableAccess) s word t → s.skipped ≤ last_number → (s.skipped ≤ t.skipped) × (t.skipped ≤ last_number)
+pub run_counts : {s t : TableState} {word : List Letter} → CountsSkipped s t word
 run_counts {s = s} r small = runs.run_keeps (λ u. IsCount s.skipped u.skipped) (access_counts s.skipped) r (omega arith, small)
 
-pub sure_step : (s t : World × ℕ) (x : Step) → may_starve s.0 x ≡ false → IsPeerStep s x t → t ≡ (unwrap_or (effect s.0 x) s.0, s.1)
+pub sure_step : HasItsEffect
 sure_step s t x free (forbidden e is) = is ∙ ap (λ o. (unwrap_or o s.0, s.1)) (sym e)
 sure_step s t x free (acts ok e same) = (λ j. (unwrap_or (sym e j) s.0, same j))
 sure_step s t x free (starves v e wants is) = absurd (grind (arith, wants, free))

@@ -2,9 +2,9 @@
 use Rattle.std.proofs.Common.{◌≡◌, ℕ, Bool, zero, suc, List, [], ◌∷◌, length, drop, refl, sym, ap, subst, ◌∙◌}
 use Rattle.iceoryx2_world.specs.World.{World}
 use Rattle.iceoryx2_world.specs.Access.{IsOwnPart}
-use Rattle.iceoryx2_world.specs.Agreement.{Later}
-use Rattle.iceoryx2_world.specs.Across.{Agrees}
+use Rattle.iceoryx2_world.specs.Across.{KeepsAgreement}
 use Rattle.iceoryx2_world.specs.Interference.{Others, nobody, peer_acts, After, everyone}
+use Rattle.iceoryx2_world.specs.Laws.{BatchIsOfOthers, RunsInWorld, RunsRefusablyInWorld, RunsAlone, OwnPartIsAccess, TakesBatchesOff}
 use Rattle.iceoryx2_world.proofs.agreement.Accesses.{access_keeps, refusable}
 use Rattle.iceoryx2_world.proofs.agreement.Interference.{among_others}
 use Rattle.iceoryx2_access.specs.Letter.{Letter}
@@ -21,20 +21,20 @@ module _ {own : ℕ → Bool} where
   step_others {x = x} (acts ok e same) more = peer_acts x.peer x.hash (act_of x.act) ok e more
   step_others {w = w} (starves v e wants is) more = subst (λ p. Others own p w) (ap (λ p. p.0) is) more
 
-  pub batch_others : {s t : World × ℕ} {batch : List Step} → IsBatch s batch t → Others own s.0 t.0
+  pub batch_others : {s t : World × ℕ} {batch : List Step} → BatchIsOfOthers own s t batch
   batch_others done = nobody
   batch_others (next h more) = step_others h (batch_others more)
 
   pub table_access : (s t : TableState) (l : Letter) → IsTableAccess s l t → After (Others own) IsOwnPart s.world l t.world
   table_access s t l a = record { between = a.between; before = batch_others a.batch; part = a.own }
 
-  pub table_run : {s t : TableState} {word : List Letter} → Run IsTableAccess s word t → Run (After (Others own) IsOwnPart) s.world word t.world
+  pub table_run : {s t : TableState} {word : List Letter} → RunsInWorld own s t word
   table_run r = run_map (λ s. s.world) table_access r
 
   pub refusable_access : (s t : TableState) (l : Letter) → MayRefuse IsTableAccess s l t → After (Others own) (MayRefuse IsOwnPart) s.world l t.world
   refusable_access s t l a = refusable (λ w. nobody) s.world l t.world (refusable_map IsTableAccess (After (Others own) IsOwnPart) (λ s. s.world) table_access s t l a)
 
-  pub refusable_run : {s t : TableState} {word : List Letter} → Run (MayRefuse IsTableAccess) s word t → Run (After (Others own) (MayRefuse IsOwnPart)) s.world word t.world
+  pub refusable_run : {s t : TableState} {word : List Letter} → RunsRefusablyInWorld own s t word
   refusable_run r = run_map (λ s. s.world) refusable_access r
 
 -- no step changes nothing
@@ -50,7 +50,7 @@ idle_access k s t l idle a =
     let same = no_steps (subst (λ b. IsBatch (s.world, s.skipped) (next_batch b) (a.between, t.skipped)) idle.0 a.batch) in
     (subst (λ w. IsOwnPart w l t.world) (ap (λ p. p.0) same) a.own, (a.rest ∙ ap later_batches idle.0, ap (λ p. p.1) same ∙ idle.1))
 
-pub idle_run : {s t : TableState} {word : List Letter} → s.waiting ≡ [] → Run IsTableAccess s word t → Run IsOwnPart s.world word t.world × IsIdle s.skipped t
+pub idle_run : {s t : TableState} {word : List Letter} → RunsAlone s t word
 idle_run {s = s} e r = run_map_where (λ s. s.world) (IsIdle s.skipped) (idle_access s.skipped) (e, refl) r
 
 -- where nothing waits the next batch changes nothing
@@ -70,7 +70,7 @@ access_after s u t l r own waiting skipped = record {
 }
 
 -- an own part alone is an access where nothing waits
-pub own_access : (s : TableState) (l : Letter) (w : World) → s.waiting ≡ [] → IsOwnPart s.world l w → IsTableAccess s l (record s { world = w })
+pub own_access : OwnPartIsAccess
 own_access s l w e own = record {
   between = s.world;
   batch = subst (λ b. IsBatch (s.world, s.skipped) (next_batch b) (s.world, s.skipped)) (sym e) done;
@@ -84,9 +84,9 @@ drop_later (suc n) [] = refl
 drop_later n (x ∷ more) = refl
 
 -- each access takes one batch off
-pub waiting_after : {s t : TableState} {word : List Letter} → Run IsTableAccess s word t → t.waiting ≡ drop (length word) s.waiting
+pub waiting_after : {s t : TableState} {word : List Letter} → TakesBatchesOff s t word
 waiting_after done = refl
 waiting_after {s = s} (next {word = word} a rest) = waiting_after rest ∙ ap (drop (length word)) a.rest ∙ drop_later (length word) s.waiting
 
-pub table_keeps : (s t : TableState) (l : Letter) → IsTableAccess s l t → Agrees s.world → Agrees t.world × Later s.world t.world
+pub table_keeps : (s t : TableState) (l : Letter) → IsTableAccess s l t → KeepsAgreement s.world t.world
 table_keeps s t l a old = access_keeps s.world l t.world (among_others everyone s.world l t.world (table_access s t l a)) old

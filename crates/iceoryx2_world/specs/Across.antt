@@ -5,7 +5,7 @@ use Rattle.iceoryx2_world.specs.declared.world.Participant.TheVariants.{Node}
 use Rattle.iceoryx2_world.specs.declared.world.Ticket.{Ticket}
 use Rattle.iceoryx2_world.specs.declared.world.Row.TheVariants as row
 use Rattle.iceoryx2_world.specs.World.{World, row_of, phase_of, ticket_of, ticket_count, joined_number, join_count}
-use Rattle.iceoryx2_world.specs.Agreement.{AgreesEverywhere}
+use Rattle.iceoryx2_world.specs.Agreement.{AgreesEverywhere, Later}
 
 -- What crosses services. That no ticket is there twice is the form of a world: tickets are a map's keys.
 pub record AgreesOnNumbers (w : World) : Type 0 where
@@ -28,3 +28,7 @@ pub record Agrees (w : World) : Type 0 where
   pub everywhere : AgreesEverywhere w
   pub numbered : AgreesOnNumbers w
   pub held : AgreesOnTickets w
+
+-- The agreement is kept, and the new world is a later one.
+abbrev pub KeepsAgreement : World → World → Type 0
+KeepsAgreement w v = Agrees w → Agrees v × Later w v

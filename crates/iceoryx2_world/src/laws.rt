@@ -1,38 +1,34 @@
 //! What is true of every world of a table, whatever its nodes do and whatever steps peers take, and of a
 //! table at which batches of these steps wait.
 
-ghost use Rattle.std.specs.Prelude.{◌≡◌, ◌↔◌, ℕ, ◌≤◌, List, []};
-ghost use Rattle.std.specs.Prelude.{Option, Some, None, Ok, length, drop, unwrap_or};
-ghost use Rattle.std.specs.Prelude.{Bool, true, false};
+ghost use Rattle.std.specs.Prelude.{◌≡◌, ◌↔◌, ℕ, ◌≤◌, Bool, List, Option, Some};
 ghost use Rattle.iceoryx2_description.specs.declared.description.ServiceHash.{ServiceHash};
 ghost use Rattle.iceoryx2_world.specs.declared.world.Participant.{Participant};
-ghost use Rattle.iceoryx2_world.specs.World.{World, Segment, empty_world, ticket_of};
-ghost use Rattle.iceoryx2_world.specs.World.{ticket_count, Tickets};
-ghost use Rattle.iceoryx2_world.specs.Sets.{FinSet};
-ghost use Rattle.iceoryx2_world.specs.Orders.{tag_cmp};
+ghost use Rattle.iceoryx2_world.specs.World.{World, Segment, empty_world, ticket_count};
 ghost use Rattle.iceoryx2_world.specs.Acts.{Act};
-ghost use Rattle.iceoryx2_world.specs.Steps.{ServiceView, view_after, last_number};
+ghost use Rattle.iceoryx2_world.specs.Steps.{ServiceView, view_after};
 ghost use Rattle.iceoryx2_world.specs.StepCases.{IsStep};
 ghost use Rattle.iceoryx2_world.specs.declared.world.Phase.{Phase};
 ghost use Rattle.iceoryx2_world.specs.declared.world.Row.{Row};
 ghost use Rattle.iceoryx2_access.specs.declared.storage.Release.{Release as Released};
 ghost use Rattle.iceoryx2_world.specs.Access.{IsOwnPart};
 ghost use Rattle.iceoryx2_world.specs.AccessCases.{IsOwnCase};
-ghost use Rattle.iceoryx2_access.specs.Letter.{Letter, Release};
+ghost use Rattle.iceoryx2_access.specs.Letter.{Letter};
 ghost use Rattle.iceoryx2_access.specs.Registered.{Registered};
 ghost use Rattle.iceoryx2_access.specs.Run.{Run};
-ghost use Rattle.iceoryx2_world.specs.Agreement.{AgreesEverywhere, Later, IsSpent};
-ghost use Rattle.iceoryx2_world.specs.Across.{Agrees};
-ghost use Rattle.iceoryx2_world.specs.Interference.{Rely, Others, After, IsAccessUnder, IsFallibleUnder};
-ghost use Rattle.iceoryx2_world.specs.Interference.{SameTickets, SameTags, everyone};
+ghost use Rattle.iceoryx2_world.specs.Across.{Agrees, KeepsAgreement};
+ghost use Rattle.iceoryx2_world.specs.Interference.{Rely, IsAccessUnder, IsFallibleUnder};
 ghost use Rattle.iceoryx2_world.specs.Calm.{SameServices, IsCalmLetter};
 ghost use Rattle.iceoryx2_access.specs.MayRefuse.{MayRefuse};
 ghost use Rattle.iceoryx2_world.specs.Laws.{EachStepKeeps, EachTicketStands, StandsAfterOthers, StandsUntilReleased};
 ghost use Rattle.iceoryx2_world.specs.Laws.{IsReleased, StandsAsCreated, StandsAsOpened};
 ghost use Rattle.iceoryx2_world.specs.Laws.{UnlocksCalmly, PublishingCounts, OpeningCounts, ReleasingCounts};
+ghost use Rattle.iceoryx2_world.specs.Laws.{StaysLater, OthersKeepOwn, BothKeepOwn, KeepsOfMore, StaysSpent};
+ghost use Rattle.iceoryx2_world.specs.Laws.{SameTicketsOfAll, SameTagsOfAll, ReleaseTakesTicketOut, HasItsEffect};
+ghost use Rattle.iceoryx2_world.specs.Laws.{BatchIsOfOthers, RunsInWorld, RunsRefusablyInWorld, RunsAlone};
+ghost use Rattle.iceoryx2_world.specs.Laws.{OwnPartIsAccess, TakesBatchesOff, CountsSkipped};
 ghost use Rattle.iceoryx2_world.specs.declared.batches.Step.{Step};
-ghost use Rattle.iceoryx2_world.specs.Batches.{effect, may_starve, IsPeerStep, IsBatch};
-ghost use Rattle.iceoryx2_world.specs.Tables.{TableState, IsTableAccess};
+ghost use Rattle.iceoryx2_world.specs.Tables.{TableState};
 
 /// Steps, of anyone: each is one of the fourteen, and what it makes of a world that agrees is later and agrees
 /// again, but for the tickets of nodes. A world agrees where at each service its row, its segment and the phases
@@ -51,7 +47,7 @@ pub fn laws_of_steps()
     ensures step { EachStepKeeps }
 
     // What is later than a later world is later, where the first one agrees at each service.
-    ensures later { (u v w : World) → AgreesEverywhere u → Later u v → Later v w → Later u w }
+    ensures later { (u v w : World) → StaysLater u v w }
 {}
 
 /// Accesses of own nodes, whatever others do before each of them. Between two of these anything may happen that
@@ -60,19 +56,18 @@ pub fn laws_of_steps()
 pub fn laws_of_accesses()
     // Peers, and nodes that aren't one's own, keep all that own nodes rely on, whatever they do and in any order. So an
     // access after what others do is one under interference, and one that may be refused is one that may be there.
-    ensures others { (own : ℕ → Bool) (w v : World) → Others own w v → Rely own w v }
+    ensures others { (own : ℕ → Bool) (w v : World) → OthersKeepOwn own w v }
 
     // So does nothing that happens, and one such thing after another.
     ensures nothing { (own : ℕ → Bool) (w : World) → Rely own w w }
-    ensures both { (own : ℕ → Bool) (u v w : World) → Rely own u v → Rely own v w → Rely own u w }
+    ensures both { (own : ℕ → Bool) (u v w : World) → BothKeepOwn own u v w }
 
     // What keeps all that some nodes rely on keeps what fewer do.
-    ensures fewer { (own more : ℕ → Bool) (w v : World)
-        → ((i : ℕ) → own i ≡ true → more i ≡ true) → Rely more w v → Rely own w v }
+    ensures fewer { (own more : ℕ → Bool) (w v : World) → KeepsOfMore own more w v }
 
     // Where every node is one's own, the same tickets and the same tags of own nodes are all the same.
-    ensures all_tickets { (j k : Tickets) → SameTickets everyone j k → k ≡ j }
-    ensures all_tags { (s t : FinSet tag_cmp) → SameTags everyone s t → t ≡ s }
+    ensures all_tickets { SameTicketsOfAll }
+    ensures all_tags { SameTagsOfAll }
 
     // An access under interference that is refused, with nothing before it, is one that may be refused.
     ensures may_refuse { (own : ℕ → Bool) (w v : World) (l : Letter)
@@ -80,11 +75,10 @@ pub fn laws_of_accesses()
 
     // Any run of accesses under interference keeps the agreement and gives a later world, whichever are refused.
     ensures run { (own : ℕ → Bool) (w v : World) (word : List Letter)
-        → Run (IsFallibleUnder own) w word v → Agrees w → Agrees v × Later w v }
+        → Run (IsFallibleUnder own) w word v → KeepsAgreement w v }
 
     // A number that is spent at a service never comes back there.
-    ensures spent { (own : ℕ → Bool) (w v : World) (l : Letter) (h : ServiceHash) (n : ℕ)
-        → IsFallibleUnder own w l v → Agrees w → IsSpent w h n → IsSpent v h n }
+    ensures spent { (own : ℕ → Bool) (w v : World) (l : Letter) (h : ServiceHash) (n : ℕ) → StaysSpent own w l v h n }
 {}
 
 /// Standing factories: which stand, which accesses leave them so, and what gives one.
@@ -104,7 +98,7 @@ pub fn laws_of_standing()
 
     // A granted release takes the ticket out.
     ensures taken_out { (own : ℕ → Bool) (w v : World) (node number ticket : ℕ) (h : ServiceHash) (left : Released)
-        → IsFallibleUnder own w (Release ticket node h number (Ok left)) v → ticket_of v ticket ≡ None }
+        → ReleaseTakesTicketOut own w v node number ticket h left }
 
     // Who locks and publishes under the lock's number has a factory that stands, with a new ticket.
     ensures created { (own : ℕ → Bool) → StandsAsCreated own }
@@ -147,38 +141,28 @@ pub fn accesses()
 /// of runs of a table with batches: a batch and each access keep the agreement and give a later world.
 pub fn batches()
     // A batch is steps of peers: others take them, whichever nodes are one's own.
-    ensures batch { (own : ℕ → Bool) (s t : World × ℕ) (batch : List Step) → IsBatch s batch t → Others own s.0 t.0 }
+    ensures batch { (own : ℕ → Bool) (s t : World × ℕ) (batch : List Step) → BatchIsOfOthers own s t batch }
 
     // Each access of a run, with its batch, is one of the world, after what others do.
-    ensures run { (own : ℕ → Bool) (s t : TableState) (word : List Letter)
-        → Run IsTableAccess s word t → Run (After (Others own) IsOwnPart) s.world word t.world }
+    ensures run { (own : ℕ → Bool) (s t : TableState) (word : List Letter) → RunsInWorld own s t word }
 
     // A run of which any access may be refused is such a run of the world.
-    ensures refusable { (own : ℕ → Bool) (s t : TableState) (word : List Letter)
-        → Run (MayRefuse IsTableAccess) s word t
-        → Run (After (Others own) (MayRefuse IsOwnPart)) s.world word t.world }
+    ensures refusable { (own : ℕ → Bool) (s t : TableState) (word : List Letter) → RunsRefusablyInWorld own s t word }
 
     // Where nothing waits there are the nodes' own parts alone, nothing waits afterwards, and
     // nothing was skipped.
-    ensures quiet { (s t : TableState) (word : List Letter)
-        → s.waiting ≡ [] → Run IsTableAccess s word t
-        → Run IsOwnPart s.world word t.world × (t.waiting ≡ []) × (t.skipped ≡ s.skipped) }
+    ensures quiet { (s t : TableState) (word : List Letter) → RunsAlone s t word }
 
     // And each own part is an access there.
-    ensures own { (s : TableState) (l : Letter) (w : World)
-        → s.waiting ≡ [] → IsOwnPart s.world l w → IsTableAccess s l (record s { world = w }) }
+    ensures own { OwnPartIsAccess }
 
     // Each access takes one batch off, in order.
-    ensures taken { (s t : TableState) (word : List Letter)
-        → Run IsTableAccess s word t → t.waiting ≡ drop (length word) s.waiting }
+    ensures taken { (s t : TableState) (word : List Letter) → TakesBatchesOff s t word }
 
     // The count of skipped steps never falls, and stops at the last number.
-    ensures counts { (s t : TableState) (word : List Letter)
-        → Run (MayRefuse IsTableAccess) s word t → s.skipped ≤ last_number
-        → (s.skipped ≤ t.skipped) × (t.skipped ≤ last_number) }
+    ensures counts { (s t : TableState) (word : List Letter) → CountsSkipped s t word }
 
     // A step that keeps nothing new is never skipped: where it is allowed it has its effect. Such is each that takes
     // something away, reads once more or joins once more.
-    ensures sure { (s t : World × ℕ) (x : Step)
-        → may_starve s.0 x ≡ false → IsPeerStep s x t → t ≡ (unwrap_or (effect s.0 x) s.0, s.1) }
+    ensures sure { HasItsEffect }
 {}

@@ -14,10 +14,11 @@ use Rattle.iceoryx2_world.specs.Acts.{Act, IsAct}
 use Rattle.iceoryx2_world.specs.Acts as act
 use Rattle.iceoryx2_world.specs.Steps.{ServiceView, world_after}
 use Rattle.iceoryx2_world.specs.Agreement.{AgreesAt, AgreesEverywhere, Later, IsPublished}
-use Rattle.iceoryx2_world.specs.Across.{Agrees}
+use Rattle.iceoryx2_world.specs.Across.{Agrees, KeepsAgreement}
 use Rattle.iceoryx2_access.specs.Letter.{Letter}
 use Rattle.iceoryx2_world.specs.Access.{IsOwnPart}
 use Rattle.iceoryx2_world.specs.Interference.{After, IsAccessUnder, IsFallibleUnder}
+use Rattle.iceoryx2_world.specs.Laws.{StaysLater}
 use Rattle.iceoryx2_access.specs.MayRefuse.{IsFault, MayRefuse}
 use Rattle.iceoryx2_access.specs.Run.{Run, done, next}
 use Rattle.iceoryx2_world.proofs.agreement.Whole.{after_keeps}
@@ -35,7 +36,7 @@ published_or_locked : (r : Row) → ((b : List ℕ) × (r ≡ row.Published (row
 published_or_locked (row.Locked n) = inr refl
 published_or_locked (row.Published n b) = inl (b, refl)
 
-pub later_trans : (u v w : World) → AgreesEverywhere u → Later u v → Later v w → Later u w
+pub later_trans : (u v w : World) → StaysLater u v w
 later_trans u v w each a b = record {
   counter = grind (arith, a.counter, b.counter);
   rows = λ h. record {
@@ -60,10 +61,10 @@ later_trans u v w each a b = record {
   };
 }
 
-pub same_keeps : (w v : World) → v ≡ w → Agrees w → Agrees v × Later w v
+pub same_keeps : (w v : World) → v ≡ w → KeepsAgreement w v
 same_keeps w v e old = subst (λ u. Agrees u × Later w u) (sym e) (old, later_refl w)
 
-tags_keep : (w : World) (t : set.FinSet tag_cmp) → Agrees w → Agrees (record w { tags = t }) × Later w (record w { tags = t })
+tags_keep : (w : World) (t : set.FinSet tag_cmp) → KeepsAgreement w (record w { tags = t })
 tags_keep w t old = (record { everywhere = old.everywhere; numbered = record { below = old.numbered.below; apart = old.numbered.apart; free = old.numbered.free }; held = record { number = old.held.number; count = old.held.count } }, record { counter = omega arith; rows = λ h. later_same _ _ })
 
 -- a Join changes neither row nor counter
@@ -78,7 +79,7 @@ joined_means _ n e = absurd (cc)
 joined_published : (u : World) (id : ℕ) (h : ServiceHash) (n : ℕ) → AgreesAt u.counter h (row_of u h) (segment_of u h) (λ q. phase_of u q h) → joined_number (phase_of u (Node id) h) ≡ Some n → IsPublished n (row_of u h)
 joined_published u id h n a e = let j = joined_means _ n e in (a.joined (Node id) n j.0 j.1).1
 
-published_keeps : (w v : World) (id : ℕ) (h : ServiceHash) (n : ℕ) (d : _) (t : ℕ) → Publishing w id h n d t v → Agrees w → Agrees v × Later w v
+published_keeps : (w v : World) (id : ℕ) (h : ServiceHash) (n : ℕ) (d : _) (t : ℕ) → Publishing w id h n d t v → KeepsAgreement w v
 published_keeps w v id h n d t p old =
     let u = p.mid in
     let locked : row_of w h ≡ Some (row.Locked n) = (old.everywhere h).locked (Node id) n (ap locked_number p.phase) in
@@ -94,7 +95,7 @@ published_keeps w v id h n d t p old =
     ] in
     subst (λ z. Agrees z × Later w z) (sym (p.is ∙ ap (λ s. ticket_put u s (mine id h n)) p.ticket)) (gain_keeps w u id h (act.Publish d) n n u.counter p.limits (λ x y g. g) p.step (ap phase_number p.phase) (old.numbered.free h n locked) (grind (arith, below, kept.1.counter)) (omega arith) free old)
 
-opened_keeps : (w v : World) (id : ℕ) (h : ServiceHash) (n t : ℕ) → Joining w id h n t v → Agrees w → Agrees v × Later w v
+opened_keeps : (w v : World) (id : ℕ) (h : ServiceHash) (n t : ℕ) → Joining w id h n t v → KeepsAgreement w v
 opened_keeps w v id h n t p old =
     let u = p.mid in
     let st = allowed_step w u (Node id) h act.Join p.step in
@@ -104,7 +105,7 @@ opened_keeps w v id h n t p old =
     let fresh : ticket_of w w.counter ≡ None = is_none _ (λ x i. grind (arith, old.numbered.below w.counter x i)) in
     subst (λ z. Agrees z × Later w z) (sym (p.is ∙ ap (λ s. ticket_put (record u { counter = w.counter + 1 }) s (mine id h n)) p.ticket)) (gain_keeps w u id h act.Join n w.counter (w.counter + 1) tt (λ x y g. g) p.step p.number fresh (omega arith) (omega (arith, still)) free old)
 
-calm_keeps : (w v : World) (id : ℕ) (h : ServiceHash) (a : Act) → IsCalm a → world_after w (Node id) h a ≡ Some v → Agrees w → Agrees v × Later w v
+calm_keeps : (w v : World) (id : ℕ) (h : ServiceHash) (a : Act) → IsCalm a → world_after w (Node id) h a ≡ Some v → KeepsAgreement w v
 calm_keeps w v id h act.Read ok e old = idle_keeps w v id h act.Read tt (λ x y i. i) e old
 calm_keeps w v id h act.Lock ok e old = idle_keeps w v id h act.Lock tt (λ x y i. i) e old
 calm_keeps w v id h act.RemoveSegment ok e old = idle_keeps w v id h act.RemoveSegment tt (λ x y i. i) e old
@@ -114,7 +115,7 @@ calm_keeps w v id h (act.Publish d) ok e old = absurd ok
 calm_keeps w v id h act.Join ok e old = absurd ok
 calm_keeps w v id h act.Leave ok e old = absurd ok
 
-part_keeps : (w : World) (l : Letter) (v : World) → Part w l v → Agrees w → Agrees v × Later w v
+part_keeps : (w : World) (l : Letter) (v : World) → Part w l v → KeepsAgreement w v
 part_keeps w l v (stays e) old = same_keeps w v e old
 part_keeps w l v (tagged t e) old = subst (λ u. Agrees u × Later w u) (sym e) (tags_keep w t old)
 part_keeps w l v (calm i h a who ok e) old = calm_keeps w v i h a ok e old
@@ -123,11 +124,11 @@ part_keeps w l v (publishes i h n d t is p) old = published_keeps w v i h n d t 
 part_keeps w l v (joins i h n t is p) old = opened_keeps w v i h n t p old
 part_keeps w l v (releases t i h n a is p) old = subst (λ z. Agrees z × Later w z) (sym p.is) (lose_keeps w p.mid i h n t p.step p.ticket old)
 
-pub own_keeps : (w : World) (l : Letter) (v : World) → IsOwnPart w l v → Agrees w → Agrees v × Later w v
+pub own_keeps : (w : World) (l : Letter) (v : World) → IsOwnPart w l v → KeepsAgreement w v
 own_keeps w l v o old = part_keeps w l v (own_part w l v o) old
 
 -- what each step keeps a run keeps
-pub keeps_along : {step : World → Letter → World → Type 0} → ((w : World) (l : Letter) (v : World) → step w l v → Agrees w → Agrees v × Later w v) → {w v : World} {word : List Letter} → Run step w word v → Agrees w → Agrees v × Later w v
+pub keeps_along : {step : World → Letter → World → Type 0} → ((w : World) (l : Letter) (v : World) → step w l v → KeepsAgreement w v) → {w v : World} {word : List Letter} → Run step w word v → KeepsAgreement w v
 keeps_along keeps done old = (old, later_refl _)
 keeps_along keeps {w = u} {v = w} (next {mid = v} {letter = l} a rest) old =
     let one = keeps u l v a old in
@@ -143,7 +144,7 @@ pub refusable : {happens : World → World → Type 0} {step : World → Letter 
 refusable still w l v (inl a) = unrefused a
 refusable still w l v (inr e) = record { between = w; before = still w; part = inr e }
 
-pub faulty_keeps : {own : ℕ → Bool} (w : World) (l : Letter) (v : World) → IsFallibleUnder own w l v → Agrees w → Agrees v × Later w v
+pub faulty_keeps : {own : ℕ → Bool} (w : World) (l : Letter) (v : World) → IsFallibleUnder own w l v → KeepsAgreement w v
 faulty_keeps w l v a old =
     let first = a.before old in
     let second : Agrees v × Later a.between v = elim a.part [
@@ -152,10 +153,10 @@ faulty_keeps w l v a old =
     ] in
     (second.0, later_trans w a.between v old.everywhere first.later second.1)
 
-pub access_keeps : {own : ℕ → Bool} (w : World) (l : Letter) (v : World) → IsAccessUnder own w l v → Agrees w → Agrees v × Later w v
+pub access_keeps : {own : ℕ → Bool} (w : World) (l : Letter) (v : World) → IsAccessUnder own w l v → KeepsAgreement w v
 access_keeps w l v a old = faulty_keeps w l v (unrefused a) old
 
-pub run_keeps : {own : ℕ → Bool} {w v : World} {word : List Letter} → Run (IsFallibleUnder own) w word v → Agrees w → Agrees v × Later w v
+pub run_keeps : {own : ℕ → Bool} {w v : World} {word : List Letter} → Run (IsFallibleUnder own) w word v → KeepsAgreement w v
 run_keeps = keeps_along faulty_keeps
 
 -- an answer that isn't the general fault is the table's own

@@ -24,6 +24,7 @@ use Rattle.iceoryx2_world.specs.Standing.{Spares}
 use Rattle.iceoryx2_world.proofs.agreement.Stands.{ticket_stands, step_ticket, part_ticket}
 use Rattle.iceoryx2_world.specs.Access.{put_view, set_tag, IsOwnPart}
 use Rattle.iceoryx2_world.specs.Interference.{SameTickets, SameTags, everyone, LacksSegment, Rely, Others, nobody, peer_acts, node_acts, After, IsFallibleUnder}
+use Rattle.iceoryx2_world.specs.Laws.{OthersKeepOwn, BothKeepOwn, KeepsOfMore, StaysSpent, SameTicketsOfAll, SameTagsOfAll}
 use Rattle.iceoryx2_world.proofs.agreement.Maps.{set_cases, either}
 use Rattle.iceoryx2_world.proofs.agreement.Effects.{allowed_step}
 use Rattle.iceoryx2_world.proofs.agreement.Worlds.{ticket_put, ticket_removed, same_node, not_peer, place_cases, peer_places, peer_keeps, step_tickets}
@@ -76,7 +77,7 @@ same_option None None f g = refl
 same_option None (Some x) f g = sym (g x refl)
 same_option (Some x) p f g = f x refl
 
-pub all_tickets : (j k : Tickets) → SameTickets everyone j k → k ≡ j
+pub all_tickets : SameTicketsOfAll
 all_tickets j k a = map.same_map nat_cmp_total exact_unsigned k j (λ q. same_option (map.get j q) (map.get k q) (λ x e. a.kept q x refl e) (λ x e. a.no_other q x refl e))
 
 same_there : (o p : Option (Unit {0})) → is_some p ≡ is_some o → p ≡ o
@@ -85,7 +86,7 @@ same_there None (Some x) e = absurd (cc)
 same_there (Some x) None e = absurd (cc)
 same_there (Some x) (Some y) e = refl
 
-pub all_tags : (s t : set.FinSet tag_cmp) → SameTags everyone s t → t ≡ s
+pub all_tags : SameTagsOfAll
 all_tags s t a = map.same_map tag_total tag_exact t s (λ q. same_there (map.get s q) (map.get t q) (a q.0 q.1 refl))
 
 -- ---- what is relied on is kept where nothing happens, and by one thing after another
@@ -100,7 +101,7 @@ rely_same own w old = record {
   locked = λ i h n mine lock lacks. lacks;
 }
 
-pub rely_both : (own : ℕ → Bool) (u v w : World) → Rely own u v → Rely own v w → Rely own u w
+pub rely_both : (own : ℕ → Bool) (u v w : World) → BothKeepOwn own u v w
 rely_both own u v w first second old =
     let a = first old in
     let b = second a.agrees in
@@ -223,13 +224,12 @@ module _ (own : ℕ → Bool) where
       }
 
   -- So does whatever others do.
-  pub others_keep_own : {w v : World} → Others own w v → Rely own w v
+  pub others_keep_own : {w v : World} → OthersKeepOwn own w v
   others_keep_own {w} nobody = rely_same own w
   others_keep_own {w = u} {v = w} (peer_acts {v = v} id h a ok e rest) = rely_both own u v w (peer_keeps_own own u v id h a ok e) (others_keep_own rest)
   others_keep_own {w = u} {v = w} (node_acts {v = v} l other o rest) = rely_both own u v w (node_keeps_own u l v other o) (others_keep_own rest)
 
--- What keeps all that some nodes rely on keeps what fewer do.
-pub rely_fewer : (own more : ℕ → Bool) (w v : World) → ((i : ℕ) → own i ≡ true → more i ≡ true) → Rely more w v → Rely own w v
+pub rely_fewer : (own more : ℕ → Bool) (w v : World) → KeepsOfMore own more w v
 rely_fewer own more w v among rely old =
     let k = rely old in
     record {
@@ -246,12 +246,8 @@ rely_fewer own more w v among rely old =
 pub among_others : {step : World → Letter → World → Type 0} (own : ℕ → Bool) (w : World) (l : Letter) (v : World) → After (Others own) step w l v → After (Rely own) step w l v
 among_others own w l v a = record { between = a.between; before = others_keep_own own a.before; part = a.part }
 
--- and so is one that keeps what more nodes rely on
-pub under_fewer : {step : World → Letter → World → Type 0} (own more : ℕ → Bool) → ((i : ℕ) → own i ≡ true → more i ≡ true) → (w : World) (l : Letter) (v : World) → After (Rely more) step w l v → After (Rely own) step w l v
-under_fewer own more among w l v a = record { between = a.between; before = rely_fewer own more w a.between among a.before; part = a.part }
-
 -- a number that is spent stays so
-pub spent_access : {own : ℕ → Bool} (w : World) (l : Letter) (v : World) (h : ServiceHash) (n : ℕ) → IsFallibleUnder own w l v → Agrees w → IsSpent w h n → IsSpent v h n
+pub spent_access : {own : ℕ → Bool} (w : World) (l : Letter) (v : World) (h : ServiceHash) (n : ℕ) → StaysSpent own w l v h n
 spent_access w l v h n a old s =
     let left = a.before old in
     let now = left.spent h n s in

@@ -30,7 +30,7 @@ use Rattle.iceoryx2_access.specs.Run.{Each, done, next}
 use Rattle.iceoryx2_access.proofs.Run.{split, head, last}
 use Rattle.iceoryx2_world.proofs.agreement.Whole.{after_keeps}
 use Rattle.iceoryx2_world.specs.StepCases.{IsStep, publishes as row_publishes}
-use Rattle.iceoryx2_world.specs.Laws.{EachTicketStands, StandsAfterOthers, StandsUntilReleased, StandsAsCreated, StandsAsOpened}
+use Rattle.iceoryx2_world.specs.Laws.{EachTicketStands, StandsAfterOthers, StandsUntilReleased, StandsAsCreated, StandsAsOpened, ReleaseTakesTicketOut}
 use Rattle.iceoryx2_world.proofs.agreement.StepCases.{step_case}
 use Rattle.iceoryx2_world.proofs.agreement.Maps.{set_cases}
 use Rattle.iceoryx2_world.proofs.agreement.Effects.{AllowedStep, allowed_step}
@@ -160,9 +160,8 @@ opened_stands u w v i h n d t later each was limits hash e old =
     let ticket : ticket_of v t ≡ Some (ticket_for f) = ap (λ z. ticket_of z t) p.is ∙ ticket_there (record p.mid { counter = a.between.counter + 1 }) t (mine i h n) ∙ (λ j. Some (record { node = i; hash = sym hash j; number = n })) in
     (stands_by_ticket u v f (later_trans u w v each later new.1) limits (ap (row_of u) hash ∙ was) new.0 ticket, grind (arith, between.later.counter, p.ticket))
 
--- a granted release takes its ticket out
-pub released_gone : {own : ℕ → Bool} (w v : World) (t i : ℕ) (h : ServiceHash) (n : ℕ) (a : Released) → IsFallibleUnder own w (letter.Release t i h n (Ok a)) v → ticket_of v t ≡ None
-released_gone w v t i h n a e =
+pub released_gone : {own : ℕ → Bool} (w v : World) (i n t : ℕ) (h : ServiceHash) (a : Released) → ReleaseTakesTicketOut own w v i n t h a
+released_gone w v i n t h a e =
     let b = granted w (letter.Release t i h n (Ok a)) v (λ x. cc) e in
     let p = releasing b.between v t i h n a b.part in
     ap (λ z. ticket_of z t) p.is ∙ elim (set_cases nat_cmp_total exact_unsigned (p.mid).tickets t None t) [ inl k ↦ k.1 | inr k ↦ absurd (k.0 refl) ]

@@ -16,7 +16,7 @@ use Rattle.iceoryx2_world.specs.Acts as act
 use Rattle.iceoryx2_world.specs.Steps.{ServiceView, put, world_after}
 use Rattle.iceoryx2_world.specs.Agreement.{AgreesEverywhere, Later}
 use Rattle.iceoryx2_world.proofs.agreement.Whole.{AgreesAt-later, after_keeps, stored}
-use Rattle.iceoryx2_world.specs.Across.{AgreesOnNumbers, Agrees}
+use Rattle.iceoryx2_world.specs.Across.{AgreesOnNumbers, Agrees, KeepsAgreement}
 use Rattle.iceoryx2_world.specs.Laws.{EachStepKeeps}
 use Rattle.iceoryx2_world.proofs.agreement.Maps.{set_cases}
 use Rattle.iceoryx2_world.proofs.agreement.Effects.{Gains, Idles, PhaseChange, AllowedStep, allowed_step, step_effect}
@@ -134,7 +134,7 @@ bare_keeps w v p h a ok e each numbered =
     (kept.0, step_numbered w v p h a (allowed_step w v p h a e) each numbered, kept.1)
 
 -- a step of a peer keeps all
-pub peer_keeps : (w v : World) (id : ℕ) (h : ServiceHash) (a : Act) → IsAct a → world_after w (Peer id) h a ≡ Some v → Agrees w → Agrees v × Later w v
+pub peer_keeps : (w v : World) (id : ℕ) (h : ServiceHash) (a : Act) → IsAct a → world_after w (Peer id) h a ≡ Some v → KeepsAgreement w v
 peer_keeps w v id h a ok e old =
     let st = allowed_step w v (Peer id) h a e in
     let kept = after_keeps w v (Peer id) h a ok e old.everywhere in (
@@ -147,7 +147,7 @@ peer_keeps w v id h a ok e old =
     )
 
 -- a node's step that counts nothing
-pub idle_keeps : (w v : World) (id : ℕ) (h : ServiceHash) (a : Act) → IsAct a → ((x y : Phase) → PhaseChange a x y → Idles x y) → world_after w (Node id) h a ≡ Some v → Agrees w → Agrees v × Later w v
+pub idle_keeps : (w v : World) (id : ℕ) (h : ServiceHash) (a : Act) → IsAct a → ((x y : Phase) → PhaseChange a x y → Idles x y) → world_after w (Node id) h a ≡ Some v → KeepsAgreement w v
 idle_keeps w v id h a ok idle e old =
     let st = allowed_step w v (Node id) h a e in
     let kept = after_keeps w v (Node id) h a ok e old.everywhere in
@@ -164,7 +164,7 @@ idle_keeps w v id h a ok idle e old =
     )
 
 -- a node's step by which it gains a use, with a new ticket
-pub gain_keeps : (w u : World) (id : ℕ) (h : ServiceHash) (a : Act) (n t c : ℕ) → IsAct a → ((x y : Phase) → PhaseChange a x y → Gains x y) → world_after w (Node id) h a ≡ Some u → phase_number (phase_of w (Node id) h) ≡ Some n → ticket_of w t ≡ None → t < c → u.counter ≤ c → ((g : ServiceHash) → row_of u g ≢ Some (row.Locked t)) → Agrees w → Agrees (ticket_put (record u { counter = c }) t (record { node = id; hash = h; number = n })) × Later w (ticket_put (record u { counter = c }) t (record { node = id; hash = h; number = n }))
+pub gain_keeps : (w u : World) (id : ℕ) (h : ServiceHash) (a : Act) (n t c : ℕ) → IsAct a → ((x y : Phase) → PhaseChange a x y → Gains x y) → world_after w (Node id) h a ≡ Some u → phase_number (phase_of w (Node id) h) ≡ Some n → ticket_of w t ≡ None → t < c → u.counter ≤ c → ((g : ServiceHash) → row_of u g ≢ Some (row.Locked t)) → KeepsAgreement w (ticket_put (record u { counter = c }) t (record { node = id; hash = h; number = n }))
 gain_keeps w u id h a n t c ok gain e is fresh below rises free old =
     let st = allowed_step w u (Node id) h a e in
     let kept = after_keeps w u (Node id) h a ok e old.everywhere in
@@ -182,7 +182,7 @@ gain_keeps w u id h a n t c ok gain e is fresh below rises free old =
       record { counter = grind (arith, kept.1.counter, rises); rows = kept.1.rows },
     )
 
-pub lose_keeps : (w u : World) (id : ℕ) (h : ServiceHash) (n t : ℕ) → world_after w (Node id) h act.Leave ≡ Some u → ticket_of w t ≡ Some (record { node = id; hash = h; number = n }) → Agrees w → Agrees (ticket_removed u t) × Later w (ticket_removed u t)
+pub lose_keeps : (w u : World) (id : ℕ) (h : ServiceHash) (n t : ℕ) → world_after w (Node id) h act.Leave ≡ Some u → ticket_of w t ≡ Some (record { node = id; hash = h; number = n }) → KeepsAgreement w (ticket_removed u t)
 lose_keeps w u id h n t e there old =
     let st = allowed_step w u (Node id) h act.Leave e in
     let kept = after_keeps w u (Node id) h act.Leave tt e old.everywhere in

@@ -15,7 +15,7 @@ pub returns-clause-released : goal.returns-clause-released
 returns-clause-released g = λ own. release_granted {own = own}
 
 pub returns-clause-taken_out : goal.returns-clause-taken_out
-returns-clause-taken_out g = λ own w v i n t h a e. released_gone {own = own} w v t i h n a e
+returns-clause-taken_out g = λ own. released_gone {own = own}
 
 pub returns-clause-created : goal.returns-clause-created
 returns-clause-created g = λ own. created_stands {own = own}

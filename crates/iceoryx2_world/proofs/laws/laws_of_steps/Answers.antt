@@ -14,4 +14,4 @@ pub returns-clause-step : goal.returns-clause-step
 returns-clause-step g = bare_keeps
 
 pub returns-clause-later : goal.returns-clause-later
-returns-clause-later g = λ u v w each a b. later_trans u v w each a b
+returns-clause-later g = later_trans
