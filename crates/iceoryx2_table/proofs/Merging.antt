@@ -4,7 +4,7 @@ use Rattle.std.specs.Prelude.{T, ◌&&◌}
 use Rattle.std.proofs.lemmas.List.{drop_more, append_assoc, append-nil}
 use Rattle.std.specs.FinMap as finite
 use Rattle.std.specs.FinMap.Entries.{find, is_sorted, below_all}
-use Rattle.std.specs.Ordering.{eq_by_cmp, is_lt, ordering_reverse, match_ordering}
+use Rattle.std.specs.Ordering.{eq_by_cmp, is_lt, match_ordering}
 use Rattle.std.specs.Cmp.{Equal-is}
 use Rattle.std.specs.declared.cmp.Ordering.{Ordering}
 use Rattle.std.specs.declared.cmp.Ordering.TheVariants.{Less, Equal, Greater}
@@ -14,6 +14,7 @@ use Rattle.iceoryx2_world.specs.declared.listing.Entry.{Entry}
 use Rattle.iceoryx2_world.specs.Orders.{hash_cmp, hash_total, hash_exact}
 use Rattle.iceoryx2_world.specs.World.{Segment}
 use Rattle.iceoryx2_world.specs.Listing.{entry_of, entry_at, by_hash, ListsAll}
+use Rattle.sorted_map.proofs.Edits.{back}
 use Rattle.iceoryx2_table.specs.Merge.{RowEntries, SegmentEntries, merge, Advances}
 
 less_of : (o : Ordering) → T (is_lt o) → o ≡ Less
@@ -42,9 +43,6 @@ below_first x y v es e h = both _ _ (subst (λ o. T (is_lt o)) (sym e) tt) (belo
 none_below : {X : Type 0} (q : ServiceHash) (es : List (ServiceHash × X)) → T (below_all hash_cmp q es) → find hash_cmp q es ≡ None
 none_below q [] h = refl
 none_below q (e ∷ es) h = let p = parts _ _ h in rw (less_of (hash_cmp q e.0) p.0) (none_below q es p.1)
-
-back : (x y : ServiceHash) → hash_cmp x y ≡ Greater → hash_cmp y x ≡ Less
-back x y e = hash_total.antisymm y x ∙ ap ordering_reverse e
 
 below : (h : ServiceHash) (rs : RowEntries) (ss : SegmentEntries) → T (below_all hash_cmp h rs) → T (below_all hash_cmp h ss) → T (below_all hash_cmp h (by_hash (merge rs ss)))
 unfolding merge
@@ -77,7 +75,7 @@ ascends (r ∷ rs) (s ∷ ss) a b =
     (entry_of s.0 None (Some s.1) ∷ merge (r ∷ rs) ss))))) [
       | Less ↦ λ e. both _ _ (below r.0 rs (s ∷ ss) p.0 (below_first r.0 s.0 s.1 ss e q.0)) (ascends rs (s ∷ ss) p.1 b)
       | Equal ↦ λ e. both _ _ (below r.0 rs ss p.0 (subst (λ h. T (below_all hash_cmp h ss)) (sym (hash_exact r.0 s.0 e)) q.0)) (ascends rs ss p.1 q.1)
-      | Greater ↦ λ e. both _ _ (below s.0 (r ∷ rs) ss (below_first s.0 r.0 r.1 rs (back r.0 s.0 e) p.0) q.0) (ascends (r ∷ rs) ss a q.1)
+      | Greater ↦ λ e. both _ _ (below s.0 (r ∷ rs) ss (below_first s.0 r.0 r.1 rs (back hash_cmp hash_total r.0 s.0 e) p.0) q.0) (ascends (r ∷ rs) ss a q.1)
     ] refl
 
 -- the key that is found is the key that was sought
@@ -129,7 +127,7 @@ finds q (r ∷ rs) (s ∷ ss) a b =
     (entry_of s.0 None (Some s.1) ∷ merge (r ∷ rs) ss))) ≡ entry_at q (find hash_cmp q (r ∷ rs)) (find hash_cmp q (s ∷ ss))) [
       | Less ↦ λ e. find_row q r rs (s ∷ ss) _ (below_first r.0 s.0 s.1 ss e z.0) (finds q rs (s ∷ ss) p.1 b)
       | Equal ↦ λ e. find_both q r s rs ss _ (hash_exact r.0 s.0 e) (finds q rs ss p.1 z.1)
-      | Greater ↦ λ e. find_segment q s (r ∷ rs) ss _ (below_first s.0 r.0 r.1 rs (back r.0 s.0 e) p.0) (finds q (r ∷ rs) ss a z.1)
+      | Greater ↦ λ e. find_segment q s (r ∷ rs) ss _ (below_first s.0 r.0 r.1 rs (back hash_cmp hash_total r.0 s.0 e) p.0) (finds q (r ∷ rs) ss a z.1)
     ] refl
 
 -- the entries of all hashes with a row or a segment
