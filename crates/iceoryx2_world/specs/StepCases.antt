@@ -10,7 +10,8 @@ use Rattle.iceoryx2_world.specs.declared.world.Row.{Row}
 use Rattle.iceoryx2_world.specs.declared.world.Row.TheVariants as row
 use Rattle.iceoryx2_world.specs.World.{Segment, begins, locked_number, is_last}
 use Rattle.iceoryx2_world.specs.Acts.{Act, Read, Lock, RemoveSegment, RemoveDescription, Make, Publish, Join, Leave}
-use Rattle.iceoryx2_world.specs.Steps.{ServiceView, new_segment, with_one, without_one, without_any, row_for, last_number}
+use Rattle.iceoryx2_world.specs.Steps.{ServiceView, new_segment, with_one, without_one, without_any, row_for}
+use Rattle.iceoryx2_world.specs.Steps.{last_number}
 
 abbrev view : Phase → Option Row → Option Segment → ℕ → ServiceView
 view x r s c = record { phase = x; row = r; segment = s; counter = c }
