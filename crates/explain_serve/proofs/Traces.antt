@@ -6,8 +6,8 @@ use Rattle.iceoryx2_access.specs.Registered.{Registered}
 use Rattle.iceoryx2_description.specs.declared.config.Config.{Config}
 use Rattle.iceoryx2_open_or_create.specs.BuilderCalls.{Way, ToCreate, ToOpen, ToOpenOrCreate}
 use Rattle.iceoryx2_call_laws.specs.AnyCalls.{IsShortBy}
-use Rattle.iceoryx2_call_laws.proofs.calls.AnyCalls.{any_short}
-use Rattle.iceoryx2_call_laws.proofs.calls.Words.{close_within}
+use Rattle.iceoryx2_call_laws.proofs.calls.AnyCalls.{each_is_short}
+use Rattle.iceoryx2_call_laws.proofs.calls.Words.{close_is_short}
 use Rattle.iceoryx2_traced.specs.Entries.{entry_of}
 use Rattle.iceoryx2_traced.specs.Trace.{latest}
 use Rattle.iceoryx2_traced.proofs.Runs.{latest_entries, bound, same_room, total}
@@ -44,7 +44,7 @@ longest ToOpen w s = omega (arith, s.few_accesses)
 longest ToOpenOrCreate w s = s.few_accesses
 
 builder_short : (b : PatternCall) (answer : Result Registered Refusal) (w : List Letter) → IsBuilderWord b answer w → length w ≤ 264
-builder_short b answer w is = longest b.call.way w (any_short b.call w is.0 is.2)
+builder_short b answer w is = longest b.call.way w (each_is_short b.call b.call.way w is.0 is.2)
 
 no_access : (w : List Letter) → w ≡ [] → length w ≤ 264
 no_access w is = omega (arith, ap length is)
@@ -53,7 +53,7 @@ no_access w is = omega (arith, ap length is)
 word_short : (config : Config) (slots : List (Option Registered)) (c : Command) (r : Reply) (w : List Letter) → IsCommandWord config slots c r w → length w ≤ 264
 word_short config slots (command.Call call) (reply.Opened slot number) w is = builder_short (builder_call config call) _ w is.2
 word_short config slots (command.Call call) (reply.Refused refused) w is = builder_short (builder_call config call) _ w is
-word_short config slots (command.Close slot) (reply.Closed same) w is = let few = close_within is.2.1 in omega (arith, few.few_accesses)
+word_short config slots (command.Close slot) (reply.Closed same) w is = let few = close_is_short _ _ _ is.2.1 in omega (arith, few.few_accesses)
 word_short config slots _ _ w is = no_access w is
 
 made_is : (before after n : ℕ) → before + n ≤ 2 ^ 64 - 1 → after ≡ min (before + n) (2 ^ 64 - 1) → after - before ≡ n

@@ -1,7 +1,6 @@
 pub mod Callers
 pub mod Words
-pub mod Created
-pub mod Opened
+pub mod Removals
 pub mod Closed
 pub mod Calm
 pub mod Standing
@@ -11,10 +10,8 @@ pub mod Left
 pub mod CloseLeft
 pub mod NoRow
 pub mod Tickets
-pub mod Prepared
-pub mod Turns
+pub mod Granted
 pub mod Rounds
-pub mod Attempts
 pub mod AnyCalls
 pub mod Headline
 pub mod Promise

@@ -78,3 +78,9 @@ pub record IsOpenAsAsked {D E C : Type 0} (c : BuilderCall D E C) (w : World) (f
   pub node : f.node ≡ c.caller.node
   pub hash : f.description.hash ≡ c.caller.hash
   pub carries : MayCarryBy c c.way f.description
+
+module _ {S : Type 0} (step : S → Letter → S → Type 0) (world : S → World)
+    {D E C : Type 0} (c : BuilderCall D E C) (own : ℕ → Bool) where
+  -- So is each since the call has answered Ok with it, until it is released.
+  abbrev pub IsOpenUntilReleased : Type 0
+  IsOpenUntilReleased = (f : Registered) (s : S) → IsOpenSince step world c own f s → IsOpenAsAsked c (world s) f

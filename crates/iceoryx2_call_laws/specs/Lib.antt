@@ -7,6 +7,7 @@ pub mod QuietLists
 pub mod QuietLaws
 pub mod AnyCalls
 pub mod Headline
+pub mod Laws
 pub mod Promise
 pub mod OpensAgain
 pub mod CallLeaves

@@ -13,8 +13,16 @@ abbrev pub tickets_after : {E : Type 0} → Tickets → Result Registered E → 
 tickets_after k (Ok r) = map.insert k r.ticket (ticket_for r)
 tickets_after k (Err e) = k
 
+-- what a close answers
+abbrev pub CloseAnswer : Type 0
+CloseAnswer = Result (Unit {0}) (CloseError Registered)
+
+-- It doesn't hand its factory back.
+abbrev pub HandsNothingBack : CloseAnswer → Type 0
+HandsNothingBack answer = (s : Registered) → answer ≢ Err (NotHere s)
+
 -- the tickets after the close of a factory: without its own, unless that wasn't there
-abbrev pub tickets_after_close : Tickets → Registered → Result (Unit {0}) (CloseError Registered) → Tickets
+abbrev pub tickets_after_close : Tickets → Registered → CloseAnswer → Tickets
 tickets_after_close k r (Err (NotHere s)) = k
 tickets_after_close k r _ = map.remove k r.ticket
 

@@ -1,18 +1,16 @@
 //! What is true of whole calls over a table of which any access may be refused.
 
-ghost use Rattle.std.specs.Prelude.{ℕ, Bool, List, Result};
+ghost use Rattle.std.specs.Prelude.{List, Result};
 ghost use Rattle.iceoryx2_access.specs.Letter.{Letter};
-ghost use Rattle.iceoryx2_access.specs.MayRefuse.{MayRefuse};
-ghost use Rattle.iceoryx2_access.specs.Run.{Run};
-ghost use Rattle.iceoryx2_world.specs.Access.{IsOwnPart};
-ghost use Rattle.iceoryx2_world.specs.Interference.{Others, After, IsFallibleUnder, everyone};
+ghost use Rattle.iceoryx2_world.specs.Interference.{everyone};
 ghost use Rattle.iceoryx2_world.specs.Tables.{TableState, IsTableAccess};
 ghost use Rattle.iceoryx2_script.specs.Faults.{FaultyState, IsInjectedFault};
 ghost use Rattle.iceoryx2_access.specs.Registered.{Registered};
 ghost use Rattle.iceoryx2_create_and_open.specs.declared.caller.Caller.{Caller};
 ghost use Rattle.iceoryx2_pattern.specs.Meaning.{Meaning};
 ghost use Rattle.iceoryx2_open_or_create.specs.BuilderCalls.{BuilderCall};
-ghost use Rattle.iceoryx2_call_laws.specs.Headline.{EachIsAsPromised, IsOpenAsAsked, IsOpenSince};
+ghost use Rattle.iceoryx2_call_laws.specs.Headline.{EachIsAsPromised, IsOpenUntilReleased};
+ghost use Rattle.iceoryx2_call_laws.specs.Laws.{FaultyRunsOverWorld};
 ghost use Rattle.iceoryx2_call_laws.specs.OverNoRow.{CreatesOverNoRow, AnswersOverNoRow};
 
 /// What such a storage adds to `agreement`, whichever accesses are refused, those by which a call gives
@@ -27,10 +25,7 @@ pub fn agreement_under_faults<D, E: Copy, C: Copy>()
     // wait, are accesses of the table's world of which any may be refused, after what others do and so under
     // interference, whichever nodes are own. So what is said of runs over worlds is true of each run over such a
     // storage.
-    ensures of_tables { (own : ℕ → Bool) (s t : FaultyState TableState) (word : List Letter)
-        → Run (IsInjectedFault IsTableAccess) s word t
-        → Run (After (Others own) (MayRefuse IsOwnPart)) s.inner.world word t.inner.world
-        × Run (IsFallibleUnder own) s.inner.world word t.inner.world }
+    ensures of_tables { FaultyRunsOverWorld }
 
     // Every open factory stands. Of every call, whichever it is, whichever accesses are refused and whatever it
     // answers: it is within fixed counts; after each of its accesses, whatever steps peers take, each factory that
@@ -44,9 +39,8 @@ pub fn agreement_under_faults<D, E: Copy, C: Copy>()
     // The same by history: at any state that such a table comes to, by accesses, refused or not, and by accesses of the
     // table inside and scheduling at it, after some call answered Ok with a factory, and before the release of its
     // ticket, this factory is open, with what that call asked.
-    ensures open_until_released { (c : BuilderCall D E C) (f : Registered) (s : FaultyState TableState)
-        → IsOpenSince (IsInjectedFault IsTableAccess) (λ u. u.inner.world) c everyone f s
-        → IsOpenAsAsked c s.inner.world f }
+    ensures open_until_released { (c : BuilderCall D E C)
+        → IsOpenUntilReleased (IsInjectedFault IsTableAccess) (λ u. u.inner.world) c everyone }
 
     // Where the service has no row, whatever segment earlier refusals left there, a create of which no access is
     // refused, over a table at which no batch waits, is Ok, or one of four things stops it. Adjusted settings

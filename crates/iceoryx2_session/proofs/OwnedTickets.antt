@@ -16,8 +16,8 @@ use Rattle.iceoryx2_access.specs.Letter.{Letter}
 use Rattle.iceoryx2_access.specs.Registered.{Registered}
 use Rattle.iceoryx2_create_and_open.specs.Answers.{map_err}
 use Rattle.iceoryx2_call_laws.specs.Tickets.{tickets_after}
-use Rattle.iceoryx2_call_laws.proofs.calls.AnyLeft.{any_tickets}
-use Rattle.iceoryx2_call_laws.proofs.calls.Tickets.{closed_tickets}
+use Rattle.iceoryx2_call_laws.proofs.calls.AnyLeft.{adds_its_ticket}
+use Rattle.iceoryx2_call_laws.proofs.calls.Tickets.{takes_its_ticket}
 use Rattle.iceoryx2_commands.specs.declared.command.Command.{Command}
 use Rattle.iceoryx2_commands.specs.declared.command.Refusal.{Refusal}
 use Rattle.iceoryx2_commands.specs.declared.command.Reply.{Reply}
@@ -66,13 +66,13 @@ module _ (own : ℕ → Bool) {S : Type 0} (step : S → Letter → S → Type 0
       → SameTickets own (map.remove (world s).tickets f.ticket) (world t).tickets
   taken_by_close f {s = s} {t = t} mine agrees stands is =
       let closed = close_is_ok own step world of_world f mine agrees stands is in
-      closed_tickets {own = own} refl closed.is_word (worlds own step world may_refuse closed.run) agrees
+      takes_its_ticket own f closed.word (Ok tt) (world s) (world t) closed.is_word (worlds own step world may_refuse closed.run) agrees
 
   after_call : (b : PatternCall) (answer : Result Registered Refusal) {s t : S} → Agrees (world s) → BuildsBy step b s answer t
       → SameTickets own (tickets_after (world s).tickets answer) (world t).tickets
   after_call b answer {s = s} {t = t} agrees is =
       seen_tickets (world s) (world t) b.refusal_of is.0 answer is.1
-      (any_tickets b.call (world s) (world t) is.2.word is.0 is.2.is_word (worlds own step world may_refuse is.2.run) agrees)
+      (adds_its_ticket own b.call is.2.word is.0 (world s) (world t) is.2.is_word (worlds own step world may_refuse is.2.run) agrees)
 
   pub owns_after : {s : SessionOver S} {c : Command} {a : Reply} {n : SessionOver S} → GoesBy step world s c a n → Agrees (world s.table)
       → SlotsStandUnder own (world s.table) s.slots → OwnsTicketsUnder own (world s.table) s.slots → OwnsTicketsUnder own (world n.table) n.slots

@@ -15,8 +15,8 @@ use Rattle.iceoryx2_world.proofs.agreement.Accesses.{run_keeps}
 use Rattle.iceoryx2_world.proofs.agreement.Interference.{among_others}
 use Rattle.iceoryx2_call_laws.specs.Calls.{Throughout}
 use Rattle.iceoryx2_call_laws.specs.Headline.{IsOpen, IsGiven}
-use Rattle.iceoryx2_call_laws.proofs.calls.Words.{stands_throughout, close_spares}
-use Rattle.iceoryx2_call_laws.proofs.calls.Closed.{close_ok}
+use Rattle.iceoryx2_call_laws.proofs.calls.Words.{close_spares}
+use Rattle.iceoryx2_call_laws.proofs.calls.Closed.{closes_what_stands}
 use Rattle.iceoryx2_call_laws.proofs.calls.Headline.{of_table}
 use Rattle.iceoryx2_port_factory.specs.Closes.{IsCloseWord}
 use Rattle.iceoryx2_commands.specs.declared.command.Command.{Command}
@@ -133,7 +133,7 @@ module _ (own : ℕ → Bool) {S : Type 0} (step : S → Letter → S → Type 0
   pub kept_by_close : (f : Registered) {s t : S} → Agrees (world s) → ClosesFactoryBy step s f t
       → (g : Registered) → own g.node ≡ true → g.ticket ≢ f.ticket → Stands (world s) g → Stands (world t) g
   kept_by_close f {s = s} agrees is g mine apart at =
-      at_end (λ u. Stands u g) (stands_throughout own (world s) is.1.word g mine (close_spares g apart is.1.is_word) agrees at) (worlds is.1.run)
+      at_end (λ u. Stands u g) (close_spares own f is.1.word is.0 (world s) g mine is.1.is_word agrees apart at) (worlds is.1.run)
 
   pub stand_after : {s : SessionOver S} {c : Command} {a : Reply} {n : SessionOver S} → GoesBy step world s c a n → IsOfOwn own s.config c → Agrees (world s.table)
       → SlotsStandUnder own (world s.table) s.slots → Agrees (world n.table) × SlotsStandUnder own (world n.table) n.slots
@@ -159,8 +159,8 @@ module _ (own : ℕ → Bool) {S : Type 0} (step : S → Letter → S → Type 0
     (of_world : (s t : S) (l : Letter) → step s l t → IsAccessUnder own (world s) l (world t)) where
   -- a taken slot is closed with Ok
   pub close_is_ok : {s t : S} (f : Registered) → own f.node ≡ true → Agrees (world s) → Stands (world s) f → ClosesFactoryBy step s f t → IsClosedPlaceBy step s (Some f) t
-  close_is_ok f mine agrees stood is =
-      let ok = close_ok {own = own} mine is.1.is_word (run_map world of_world is.1.run) agrees stood in
+  close_is_ok {s} {t} f mine agrees stood is =
+      let ok = (closes_what_stands own f is.1.word is.0 (world s) (world t) mine is.1.is_word (run_map world of_world is.1.run) agrees stood).0 in
       record { word = is.1.word; is_word = subst (λ a. IsCloseWord f is.1.word a) ok is.1.is_word; run = is.1.run }
 
   pub closes_taken : {s : SessionOver S} {c : Command} {a : Reply} {n : SessionOver S} → GoesBy step world s c a n → Agrees (world s.table)

@@ -1,13 +1,11 @@
 -- What a close leaves, whatever peers do within it and whichever of its removals are refused.
-use Rattle.std.proofs.Common.{◌≡◌, ◌≢◌, ℕ, ◌-◌, ◌<◌, inl, inr, List, Option, Some, Result, Ok, Err, refl, sym, ap, subst, ◌∙◌, Bool, true}
-use Rattle.std.specs.FinMap as map
+use Rattle.std.proofs.Common.{◌≡◌, ℕ, ◌-◌, ◌<◌, inl, inr, Option, Some, Result, Ok, Err, refl, sym, ap, subst, ◌∙◌, Bool, true}
 use Rattle.iceoryx2_description.specs.declared.description.ServiceHash.{ServiceHash}
 use Rattle.iceoryx2_access.specs.declared.storage.RemoveError.{RemoveError}
 use Rattle.iceoryx2_access.specs.declared.storage.Release.{Release as Released}
 use Rattle.iceoryx2_access.specs.declared.storage.Release.TheVariants as leave
 use Rattle.iceoryx2_access.specs.Letter.{Letter}
 use Rattle.iceoryx2_access.specs.Letter as letter
-use Rattle.iceoryx2_access.specs.Run.{Run}
 use Rattle.iceoryx2_access.specs.Registered.{Registered}
 use Rattle.iceoryx2_access.proofs.Run.{head, last}
 use Rattle.iceoryx2_world.specs.Sets as set
@@ -24,24 +22,22 @@ use Rattle.iceoryx2_world.specs.Agreement.{Later, IsPublished}
 use Rattle.iceoryx2_world.specs.Across.{Agrees}
 use Rattle.iceoryx2_world.specs.Access.{write, release_answer}
 use Rattle.iceoryx2_world.specs.Orders.{tag_cmp}
-use Rattle.iceoryx2_world.specs.Interference.{SameTickets, SameTags, IsFallibleUnder}
-use Rattle.iceoryx2_world.proofs.agreement.Interference.{tickets_trans, tickets_equal, tickets_remove, tags_trans, tags_equal, tags_remove}
+use Rattle.iceoryx2_world.specs.Interference.{SameTags, IsFallibleUnder}
+use Rattle.iceoryx2_world.proofs.agreement.Interference.{tags_trans, tags_equal, tags_remove}
 use Rattle.iceoryx2_world.specs.StepCases.{IsStep, leaves_once, leaves, leaves_last}
 use Rattle.iceoryx2_world.proofs.agreement.StepCases.{step_case}
 use Rattle.iceoryx2_world.proofs.agreement.Effects.{allowed_step}
-use Rattle.iceoryx2_world.proofs.agreement.Worlds.{step_tickets}
 use Rattle.iceoryx2_world.proofs.agreement.Parts.{mine, clearing, unlocking, releasing}
 use Rattle.iceoryx2_world.proofs.agreement.Accesses.{joined_means, later_trans, faulty_keeps, granted}
 use Rattle.iceoryx2_world.proofs.agreement.Stands.{own_row, own_phase, own_segment}
 use Rattle.iceoryx2_world.proofs.agreement.Granted.{tag_granted, segment_granted, description_granted, MayClear, MayEnd}
 use Rattle.iceoryx2_world.proofs.agreement.Closing.{released_as, tag_removed_phase, segment_removed_phase}
-use Rattle.iceoryx2_errors.specs.declared.error.CloseError.{CloseError}
-use Rattle.iceoryx2_errors.specs.declared.error.CloseError.TheVariants as closing
-use Rattle.iceoryx2_port_factory.specs.Closes.{IsCloseWord, not_here, still_counted, left, last as last_left}
-use Rattle.iceoryx2_call_laws.specs.CloseLeaves.{tags_without, SegmentAfter, RowAfter, last_phase, phase_after, CloseLeaves, counts_less, leaves_others, leaves_nobody}
+use Rattle.iceoryx2_port_factory.specs.Closes.{not_here, still_counted, left, last as last_left}
+use Rattle.iceoryx2_call_laws.specs.Laws.{CloseLeavesWhatIsRefused}
+use Rattle.iceoryx2_call_laws.specs.CloseLeaves.{tags_without, SegmentAfter, RowAfter, last_phase, phase_after, counts_less, leaves_others, leaves_nobody}
 use Rattle.iceoryx2_call_laws.proofs.calls.Plain.{step_tags}
 use Rattle.iceoryx2_call_laws.proofs.calls.Left.{unlock_row}
-use Rattle.iceoryx2_call_laws.proofs.calls.Tickets.{same_tickets}
+use Rattle.iceoryx2_call_laws.proofs.calls.Tickets.{removes_ticket}
 
 -- where a release leads from where, by its answer
 abbrev LeadsTo : ℕ → Released → (old new : Phase) → Type 0
@@ -60,7 +56,6 @@ row_stays w v h n later was is = is.1 ∙ ap (λ b. Some (row.Published n b)) (s
 
 -- A release that is granted.
 record ReleasedTo (own : ℕ → Bool) (r : Registered) (a : Released) (w v : World) : Type 0 where
-  pub tickets : SameTickets own (map.remove w.tickets r.ticket) v.tickets
   pub tags : SameTags own w.tags v.tags
   pub phase : LeadsTo r.number a (phase_of w (Node r.node) r.description.hash) (phase_of v (Node r.node) r.description.hash)
   pub row : IsPublished r.number (row_of w r.description.hash)
@@ -84,10 +79,8 @@ release_to own r is_own a w v x old =
     let to : LeadsTo n (release_answer (phase_of v (Node i) h)) (phase_of u (Node i) h) (phase_of v (Node i) h) = subst (λ y. LeadsTo n (release_answer y) (phase_of u (Node i) h) y) (sym view) leads in
     let answered : LeadsTo n a (phase_of u (Node i) h) (phase_of v (Node i) h) = subst (λ y. LeadsTo n y (phase_of u (Node i) h) (phase_of v (Node i) h)) (sym (released_as u v t i h n a b.part)) to in
     let j = joined_means _ n joined in
-    let tickets_is : v.tickets ≡ map.remove u.tickets t = ap (λ (z : World). z.tickets) rel.is ∙ ap (λ k. map.remove k t) (step_tickets u rel.mid (Node i) h act.Leave st) in
     let tags_is : v.tags ≡ u.tags = ap (λ (z : World). z.tags) rel.is ∙ step_tags u rel.mid (Node i) h act.Leave rel.step in
     record {
-      tickets = tickets_trans own (map.remove w.tickets t) (map.remove u.tickets t) v.tickets (tickets_remove own w.tickets u.tickets t alone.tickets) (tickets_equal own (map.remove u.tickets t) v.tickets tickets_is);
       tags = tags_trans own w.tags u.tags v.tags alone.tags (tags_equal own u.tags v.tags tags_is);
       phase = subst (λ y. LeadsTo n a y (phase_of v (Node i) h)) still answered;
       row = ((old.everywhere h).joined (Node i) n j.0 j.1).1;
@@ -185,14 +178,14 @@ module _ (own : ℕ → Bool) (i : ℕ) (is_own : own i ≡ true) (h : ServiceHa
   row_from u w v n (Err e) later was is k = (k.0, k.1 ∙ row_stays u w h n later was is)
 
 -- What each close leaves.
-pub close_leaves : {own : ℕ → Bool} {r : Registered} {word : List Letter} {answer : Result (Unit {0}) (CloseError Registered)} {w v : World} → own r.node ≡ true → IsCloseWord r word answer → ((s : Registered) → answer ≢ Err (closing.NotHere s)) → Run (IsFallibleUnder own) w word v → Agrees w → CloseLeaves own r w v word
-close_leaves is_own not_here here run old = absurd (here _ refl)
-close_leaves {own} {r = r} {w = w} {v = v} is_own still_counted here run old =
+pub close_leaves : (own : ℕ → Bool) → CloseLeavesWhatIsRefused own
+close_leaves own r word answer w v is_own not_here here run old = absurd (here _ refl)
+close_leaves own r word answer w v is_own still_counted here run old =
     let k = release_to own r is_own leave.StillCounted w v (last run) old in
     let kept = faulty_keeps {own = own} w (letter.Release r.ticket r.node r.description.hash r.number (Ok leave.StillCounted)) v (last run) old in
     let now = (kept.0.everywhere r.description.hash).joined (Node r.node) r.number (k.phase.0 - 1) k.phase.3 in
     counts_less (record {
-      tickets = k.tickets;
+      tickets = removes_ticket r still_counted here run old;
       tags = k.tags;
       count = k.phase.0;
       more = k.phase.1;
@@ -201,7 +194,7 @@ close_leaves {own} {r = r} {w = w} {v = v} is_own still_counted here run old =
       row = row_stays w v r.description.hash r.number kept.1 k.row now.1;
       member = now.2;
     })
-close_leaves {own} {r = r} {w = w} {v = v} is_own (left tag) here run old =
+close_leaves own r word answer w v is_own (left tag) here run old =
     let i = r.node in
     let h = r.description.hash in
     let first = head run in
@@ -209,11 +202,11 @@ close_leaves {own} {r = r} {w = w} {v = v} is_own (left tag) here run old =
     let old_1 = (faulty_keeps {own = own} w (letter.Release r.ticket i h r.number (Ok leave.Left)) first.mid first.first old).0 in
     let x = last first.rest in
     leaves_others (record {
-      tickets = tickets_trans own (map.remove w.tickets r.ticket) first.mid.tickets v.tickets k.tickets (same_tickets first.mid (letter.RemoveTag i h tag) v tt x old_1);
+      tickets = removes_ticket r (left tag) here run old;
       tags = tags_trans own (tags_without tag w.tags (i, h)) (tags_without tag first.mid.tags (i, h)) v.tags (tags_without_same own tag w.tags first.mid.tags (i, h) k.tags) (tags_after own i is_own h first.mid v tag x old_1);
       phase = tag_removed_phase {own = own} first.mid v i h tag is_own old_1 x ∙ k.phase;
     })
-close_leaves {own} {r = r} {w = w} {v = v} is_own (last_left tag segment description) here run old =
+close_leaves own r word answer w v is_own (last_left tag segment description) here run old =
     let i = r.node in
     let h = r.description.hash in
     let n = r.number in
@@ -228,13 +221,9 @@ close_leaves {own} {r = r} {w = w} {v = v} is_own (last_left tag segment descrip
     let later = later_trans w second.mid third.mid old.everywhere (later_trans w first.mid second.mid old.everywhere kept_1.1 kept_2.1) kept_3.1 in
     let cleared = segment_removed own i is_own h second.mid third.mid n segment kept_2.0 (tag_removed_phase {own = own} first.mid second.mid i h tag is_own kept_1.0 second.first ∙ k.phase) third.first in
     let e = ended own i is_own h third.mid v n segment description kept_3.0 cleared.phase x in
-    let gone = map.remove w.tickets r.ticket in
     let without = tags_without tag w.tags (i, h) in
     leaves_nobody (record {
-      tickets = tickets_trans own gone third.mid.tickets v.tickets (tickets_trans own gone second.mid.tickets third.mid.tickets (tickets_trans own gone first.mid.tickets second.mid.tickets k.tickets
-          (same_tickets first.mid (letter.RemoveTag i h tag) second.mid tt second.first kept_1.0))
-          (same_tickets second.mid (letter.RemoveSegment i h segment) third.mid tt third.first kept_2.0))
-          (same_tickets third.mid (letter.RemoveDescription i h description) v tt x kept_3.0);
+      tickets = removes_ticket r (last_left tag segment description) here run old;
       tags = tags_trans own without third.mid.tags v.tags (tags_trans own without second.mid.tags third.mid.tags
           (tags_trans own without (tags_without tag first.mid.tags (i, h)) second.mid.tags (tags_without_same own tag w.tags first.mid.tags (i, h) k.tags) (tags_after own i is_own h first.mid second.mid tag second.first kept_1.0))
           cleared.tags) e.tags;

@@ -14,23 +14,24 @@ use Rattle.iceoryx2_access.specs.Run.{Run, Each}
 use Rattle.iceoryx2_world.specs.World.{World}
 use Rattle.iceoryx2_world.specs.Access.{IsOwnPart}
 use Rattle.iceoryx2_world.specs.Across.{Agrees}
-use Rattle.iceoryx2_world.specs.Interference.{Others, After, IsAccessUnder, IsFallibleUnder}
+use Rattle.iceoryx2_world.specs.Interference.{Others, After, IsFallibleUnder}
 use Rattle.iceoryx2_world.proofs.agreement.Interference.{among_others}
 use Rattle.iceoryx2_world.specs.Standing.{Spares, Stands}
-use Rattle.iceoryx2_world.proofs.agreement.Accesses.{faulty_keeps, run_keeps, unrefused}
+use Rattle.iceoryx2_world.proofs.agreement.Accesses.{faulty_keeps, run_keeps, unrefused, unrefused_run}
 use Rattle.iceoryx2_world.proofs.agreement.Stands.{faulty_stands, older_ticket}
 use Rattle.iceoryx2_call_laws.specs.Calls.{Throughout}
 use Rattle.iceoryx2_open_or_create.specs.BuilderCalls.{BuilderCall, ErrorBy}
-use Rattle.iceoryx2_call_laws.specs.AnyCalls.{MayCarryBy}
-use Rattle.iceoryx2_call_laws.specs.Headline.{IsOpen, IsOpenAsAsked, IsOpenSince, IsGiven, EachIsAsPromised, answered, spared, inside, same_world}
+use Rattle.iceoryx2_open_or_create.specs.CallWords.{IsWordOf}
+use Rattle.iceoryx2_call_laws.specs.Laws.{RunsOverWorld, FaultyRunsOverWorld}
+use Rattle.iceoryx2_call_laws.specs.Headline.{IsOpen, IsOpenSince, IsOpenUntilReleased, IsGiven, EachIsAsPromised, answered, spared, inside, same_world}
 use Rattle.iceoryx2_call_laws.proofs.calls.Words.{throughout_map, both_throughout, all_spared}
-use Rattle.iceoryx2_call_laws.proofs.calls.Standing.{stands_among, one_service}
-use Rattle.iceoryx2_call_laws.proofs.calls.AnyCalls.{Given, any_letters, any_short, any_given}
+use Rattle.iceoryx2_call_laws.proofs.calls.Standing.{stands_among, carry_the_same}
+use Rattle.iceoryx2_call_laws.proofs.calls.AnyCalls.{IsOfCall, each_is_short, any_letters, any_gives, any_carries}
 
 is_open : (w : World) (f : Registered) → Agrees w → Stands w f → IsOpen w f
-is_open w f old s = record { stands = s; one_description = λ g t same. (one_service w g f t s same).1; among = stands_among w f old s }
+is_open w f old s = record { stands = s; one_description = λ g t same. (carry_the_same w g f t s same).1; among = stands_among w f old s }
 
-pub open_throughout : (own : ℕ → Bool) (w : World) (word : List Letter) (f : Registered) → own f.node ≡ true → Each (Spares f) word → Agrees w → Stands w f → Throughout (IsFallibleUnder own) (λ v. IsOpen v f) w word
+open_throughout : (own : ℕ → Bool) (w : World) (word : List Letter) (f : Registered) → own f.node ≡ true → Each (Spares f) word → Agrees w → Stands w f → Throughout (IsFallibleUnder own) (λ v. IsOpen v f) w word
 open_throughout own w word f mine each old s =
     throughout_map own (λ v. Agrees v × Stands v f) (λ v. IsOpen v f) (λ v k. is_open v f k.0 k.1) w word (both_throughout own w word f mine each old s)
 
@@ -41,26 +42,28 @@ module _ (own : ℕ → Bool) {S : Type 0} (step : S → Letter → S → Type 0
   along P s (l ∷ word) p = (p.0, λ u a. along P u word (p.1 (world u) (of_world s u l a)))
 
   module _ {D E C : Type 0} (c : BuilderCall D E C) (mine : own c.caller.node ≡ true) where
-    gives : (s t : S) (answer : Result Registered (ErrorBy E C c.way)) → Agrees (world s) → Agrees (world t) → IfOk answer (Given c c.way (world s) (world t)) → IfOk answer (IsGiven step world c s t)
-    gives s t (Err e) old new g = tt
-    gives s t (Ok r) old new g = record {
-      node = g.node;
-      hash = g.hash;
-      carries = g.carries;
-      ticket = g.ticket;
-      new_ticket = λ f stood. older_ticket (world s) f r.ticket old stood g.ticket;
-      stays_open = λ more spares. along (λ u. IsOpen u r) t more (open_throughout own (world t) more r (ap own g.node ∙ mine) spares new g.stands);
-    }
+    gives : (s t : S) (word : List Letter) (answer : Result Registered (ErrorBy E C c.way)) → IsWordOf c word answer → Run (IsFallibleUnder own) (world s) word (world t) → Agrees (world s) → IfOk answer (IsGiven step world c s t)
+    gives s t word (Err e) is run old = tt
+    gives s t word (Ok r) is run old =
+        let of = any_carries c c.way word r is in
+        let g = any_gives c c.way word r is (world s) (world t) run old in
+        record {
+          node = of.node;
+          hash = of.hash;
+          carries = of.carries;
+          ticket = g.ticket;
+          new_ticket = λ f stood. older_ticket (world s) f r.ticket old stood g.ticket;
+          stays_open = λ more spares. along (λ u. IsOpen u r) t more (open_throughout own (world t) more r (ap own of.node ∙ mine) spares (run_keeps run old).0 g.stands);
+        }
 
     pub as_promised : EachIsAsPromised step world c own
     as_promised word answer s t is run old =
         let worlds : Run (IsFallibleUnder own) (world s) word (world t) = run_map world of_world run in
-        let new = (run_keeps worlds old).0 in
         record {
-          counts = any_short c word answer is;
-          stay_open = λ f own_node stood. along (λ u. IsOpen u f) s word (open_throughout own (world s) word f own_node (all_spared f word (any_letters c word answer is)) old stood);
-          given = gives s t answer old new (any_given c (world s) (world t) word answer is worlds old);
-          agrees = new;
+          counts = each_is_short c c.way word answer is;
+          stay_open = λ f own_node stood. along (λ u. IsOpen u f) s word (open_throughout own (world s) word f own_node (all_spared f word (any_letters c c.way word answer is)) old stood);
+          given = gives s t word answer is worlds old;
+          agrees = (run_keeps worlds old).0;
         }
 
 -- Every open factory stands.
@@ -68,47 +71,40 @@ module _ (own : ℕ → Bool) {S : Type 0} (step : S → Letter → S → Type 0
   record StillOpen (f : Registered) (s : S) : Type 0 where
     pub agrees : Agrees (world s)
     pub stands : Stands (world s) f
-    pub node : f.node ≡ c.caller.node
-    pub hash : f.description.hash ≡ c.caller.hash
-    pub carries : MayCarryBy c c.way f.description
+    pub of : IsOfCall c c.way f
 
   goes_on : {f : Registered} (l : Letter) (s t : S) → Spares f l → IsFallibleUnder own (world s) l (world t) → StillOpen f s → StillOpen f t
   goes_on {f} l s t spares a o = record {
     agrees = (faulty_keeps {own = own} (world s) l (world t) a o.agrees).0;
-    stands = faulty_stands {own = own} (world s) l (world t) f (ap own o.node ∙ mine) a spares o.agrees o.stands;
-    node = o.node;
-    hash = o.hash;
-    carries = o.carries;
+    stands = faulty_stands {own = own} (world s) l (world t) f (ap own o.of.node ∙ mine) a spares o.agrees o.stands;
+    of = o.of;
   }
 
   still_open : {f : Registered} {s : S} → IsOpenSince step world c own f s → StillOpen f s
   still_open {f} (answered {word = word} {s = s} {t = t} old is run) =
       let worlds : Run (IsFallibleUnder own) (world s) word (world t) = run_map world of_world run in
-      let g = any_given c (world s) (world t) word (Ok f) is worlds old in
-      record { agrees = (run_keeps worlds old).0; stands = g.stands; node = g.node; hash = g.hash; carries = g.carries }
+      record { agrees = (run_keeps worlds old).0; stands = (any_gives c c.way word f is (world s) (world t) worlds old).stands; of = any_carries c c.way word f is }
   still_open (spared {letter = l} {s = s} {t = t} before spares a) = goes_on l s t spares (of_world s t l a) (still_open before)
   still_open (inside {letter = l} {s = s} {t = t} before spares a) = goes_on l s t spares a (still_open before)
-  still_open {f} (same_world before e) =
-      let o = still_open before in record {
-        agrees = subst Agrees (sym e) o.agrees;
-        stands = subst (λ u. Stands u f) (sym e) o.stands;
-        node = o.node;
-        hash = o.hash;
-        carries = o.carries;
-      }
+  still_open {f} (same_world before e) = let o = still_open before in record { agrees = subst Agrees (sym e) o.agrees; stands = subst (λ u. Stands u f) (sym e) o.stands; of = o.of }
 
-  pub open_as_asked : {f : Registered} {s : S} → IsOpenSince step world c own f s → IsOpenAsAsked c (world s) f
-  open_as_asked {f} {s} is = let o = still_open is in record { is_open = is_open (world s) f o.agrees o.stands; node = o.node; hash = o.hash; carries = o.carries }
+  pub open_until_released : IsOpenUntilReleased step world c own
+  open_until_released f s is = let o = still_open is in record { is_open = is_open (world s) f o.agrees o.stands; node = o.of.node; hash = o.of.hash; carries = o.of.carries }
 
 -- a table's accesses, and those of a faulty storage with a table inside
-pub table_accesses : (own : ℕ → Bool) {s t : TableState} {word : List Letter} → Run IsTableAccess s word t → Run (IsAccessUnder own) s.world word t.world
-table_accesses own run = run_map (λ u. u.world) (λ s t l a. among_others own s.world l t.world (table_access s t l a)) run
-
 pub of_table : (own : ℕ → Bool) (s t : TableState) (l : Letter) → IsTableAccess s l t → IsFallibleUnder own s.world l t.world
 of_table own s t l a = unrefused (among_others own s.world l t.world (table_access s t l a))
 
-pub faulty_access : (own : ℕ → Bool) (s t : FaultyState TableState) (l : Letter) → IsInjectedFault IsTableAccess s l t → After (Others own) (MayRefuse IsOwnPart) s.inner.world l t.inner.world
+pub runs_over_world : RunsOverWorld
+runs_over_world own s t word run =
+    let accesses = run_map (λ u. u.world) (λ s t l a. among_others own s.world l t.world (table_access s t l a)) run in
+    (accesses, unrefused_run accesses)
+
+faulty_access : (own : ℕ → Bool) (s t : FaultyState TableState) (l : Letter) → IsInjectedFault IsTableAccess s l t → After (Others own) (MayRefuse IsOwnPart) s.inner.world l t.inner.world
 faulty_access own s t l a = refusable_access s.inner t.inner l (last (refusable (one a)))
 
 pub of_faulty_table : (own : ℕ → Bool) (s t : FaultyState TableState) (l : Letter) → IsInjectedFault IsTableAccess s l t → IsFallibleUnder own s.inner.world l t.inner.world
 of_faulty_table own s t l a = among_others own s.inner.world l t.inner.world (faulty_access own s t l a)
+
+pub faulty_runs_over_world : FaultyRunsOverWorld
+faulty_runs_over_world own s t word run = (run_map (λ u. u.inner.world) (faulty_access own) run, run_map (λ u. u.inner.world) (of_faulty_table own) run)

@@ -35,7 +35,7 @@ use Rattle.iceoryx2_world.proofs.agreement.Effects.{allowed_step}
 use Rattle.iceoryx2_world.proofs.agreement.Worlds.{step_counter, step_tickets}
 use Rattle.iceoryx2_world.proofs.agreement.Parts.{making, clearing, unlocking, locking}
 use Rattle.iceoryx2_world.proofs.agreement.Accesses.{own_keeps, access_keeps, faulty_keeps, granted, run_keeps, unrefused, unrefused_run}
-use Rattle.iceoryx2_world.proofs.agreement.Granted.{tag_granted, segment_granted, description_granted, MayClear, MayEnd}
+use Rattle.iceoryx2_world.proofs.agreement.Granted.{MayClear, MayEnd}
 use Rattle.iceoryx2_world.proofs.agreement.Spent.{world_segment, spent_own}
 use Rattle.iceoryx2_world.proofs.agreement.Stands.{own_row, own_phase, own_segment, each_append}
 use Rattle.iceoryx2_create_and_open.specs.GivesBack.{MadeByCall, OwnTag, OwnLock, OwnSegment, own_tag, GivesBack, nothing_left, segment_back, lock_back, tag_back}
@@ -43,6 +43,7 @@ use Rattle.iceoryx2_create_and_open.specs.Fronts.{made, number_got, left_by, lef
 use Rattle.iceoryx2_call_laws.specs.CallLeaves.{LeavesAtMostTag}
 use Rattle.iceoryx2_call_laws.specs.Leaves.{IsGranted, HasAtMostRead, NodeHasRead, Leaves, LeavesOfLock, LeavesGivenBack, LeavesNothing, IsGone, StaysAway, SpendsNumber, tags_after}
 use Rattle.iceoryx2_call_laws.proofs.calls.Tracked.{Front, ends, idles, makes_tag, locks, makes_segment, clears, MadeInOrder, up_to_tag, up_to_lock, up_to_segment, has_lock, no_lock, if_locked, each_removal, read_front, facts, all_got}
+use Rattle.iceoryx2_call_laws.proofs.calls.Removals.{tag_ok, segment_ok, description_ok}
 use Rattle.iceoryx2_call_laws.proofs.calls.Plain.{IsPlain, plain_untouched, read_both, step_tags, row_stays_away}
 
 -- Where a call is with its lock: it has none, or it has that of this number still, or had it and gave it back. Of the
@@ -461,18 +462,6 @@ may_end (at.Made m) n l = tt
 may_end _ n l = absurd (cc)
 
 module _ (own : ℕ → Bool) (node : ℕ) (mine : own node ≡ true) (hash : ServiceHash) where
-  segment_ok : (n : ℕ) (answer : Result (Unit {0}) RemoveError) (w v : World) → Agrees w → locked_number (phase_of w (Node node) hash) ≡ Some n → IsAccessUnder own w (letter.RemoveSegment node hash answer) v → answer ≡ Ok tt
-  segment_ok n (Ok y) w v old lock a = refl
-  segment_ok n (Err e) w v old lock a = absurd (segment_granted w v node hash e mine old (may_clear _ n lock) a)
-
-  lock_ok : (n : ℕ) (answer : Result (Unit {0}) RemoveError) (w v : World) → Agrees w → locked_number (phase_of w (Node node) hash) ≡ Some n → IsAccessUnder own w (letter.RemoveDescription node hash answer) v → answer ≡ Ok tt
-  lock_ok n (Ok y) w v old lock a = refl
-  lock_ok n (Err e) w v old lock a = absurd (description_granted w v node hash e mine old (may_end _ n lock) a)
-
-  tag_ok : (answer : Result (Unit {0}) RemoveError) (w v : World) → IsAccessUnder own w (letter.RemoveTag node hash answer) v → answer ≡ Ok tt
-  tag_ok (Ok y) w v a = refl
-  tag_ok (Err e) w v a = absurd (tag_granted w v node hash e a)
-
   granted_front : {start : World} (left : Bool) {n : ℕ} {a b : List MadeByCall} {word : List Letter} {w v : World} → Front node hash n a word b → Run (IsAccessUnder own) w word v → Agrees w → Kept own node hash start (tag_in left a) (lock_in n a) w → Each IsGranted word
   granted_front left ends done old h = tt
   granted_front left {n} {a = a} {w = w} (idles {l = l} is p) (next {mid = mid} x rest) old h =
@@ -490,19 +479,19 @@ module _ (own : ℕ → Bool) (node : ℕ) (mine : own node ≡ true) (hash : Se
       let t = tag_in left (own_tag tag) in
       let old_2 = (access_keeps w first mid x old).0 in
       let now = kept_plain own node mine hash t (Held n false) w first mid tt (unrefused x) old h in
-      (tt, (segment_ok n answer mid last old_2 now.holds.0 z, granted_front left p rest (access_keeps mid (letter.RemoveSegment node hash answer) last z old_2).0 (other_cleared own node mine hash t n m answer w mid last (unrefused x) (unrefused z) old h)))
+      (tt, (segment_ok mid last node hash answer mine old_2 (may_clear _ n now.holds.0) z, granted_front left p rest (access_keeps mid (letter.RemoveSegment node hash answer) last z old_2).0 (other_cleared own node mine hash t n m answer w mid last (unrefused x) (unrefused z) old h)))
 
   granted_back : {start : World} (left : Bool) (n : ℕ) {owned : List MadeByCall} {word : List Letter} {w v : World} → MadeInOrder owned → GivesBack node hash owned word → Run (IsAccessUnder own) w word v → Agrees w → Kept own node hash start (tag_in left owned) (lock_in n owned) w → Each IsGranted word
-  granted_back left n {w = w} (up_to_tag Made) (tag_back a nothing_left) (next {mid = u} x done) old h = (tag_ok a w u x, tt)
+  granted_back left n {w = w} (up_to_tag Made) (tag_back a nothing_left) (next {mid = u} x done) old h = (tag_ok w u node hash a x, tt)
   granted_back left n (up_to_tag Found) nothing_left done old h = tt
-  granted_back left n {w = w} (up_to_lock Found) (lock_back a nothing_left) (next {mid = u} x done) old h = (lock_ok n a w u old h.holds.0 x, tt)
-  granted_back left n {w = w} (up_to_lock Made) (lock_back a (tag_back b nothing_left)) (next {mid = u} x (next {mid = v} y done)) old h = (lock_ok n a w u old h.holds.0 x, (tag_ok b u v y, tt))
+  granted_back left n {w = w} (up_to_lock Found) (lock_back a nothing_left) (next {mid = u} x done) old h = (description_ok w u node hash a mine old (may_end _ n h.holds.0) x, tt)
+  granted_back left n {w = w} (up_to_lock Made) (lock_back a (tag_back b nothing_left)) (next {mid = u} x (next {mid = v} y done)) old h = (description_ok w u node hash a mine old (may_end _ n h.holds.0) x, (tag_ok u v node hash b y, tt))
   granted_back left n {w = w} (up_to_segment Found) (segment_back a (lock_back b nothing_left)) (next {mid = u} x (next {mid = v} y done)) old h =
       let now = cleared own node mine hash left n a w u (unrefused x) old h in
-      (segment_ok n a w u old h.holds.0 x, (lock_ok n b u v (access_keeps w (letter.RemoveSegment node hash a) u x old).0 now.holds.0 y, tt))
+      (segment_ok w u node hash a mine old (may_clear _ n h.holds.0) x, (description_ok u v node hash b mine (access_keeps w (letter.RemoveSegment node hash a) u x old).0 (may_end _ n now.holds.0) y, tt))
   granted_back left n {w = w} (up_to_segment Made) (segment_back a (lock_back b (tag_back c nothing_left))) (next {mid = u} x (next {mid = v} y (next {mid = last} z done))) old h =
       let now = cleared own node mine hash true n a w u (unrefused x) old h in
-      (segment_ok n a w u old h.holds.0 x, (lock_ok n b u v (access_keeps w (letter.RemoveSegment node hash a) u x old).0 now.holds.0 y, (tag_ok c v last z, tt)))
+      (segment_ok w u node hash a mine old (may_clear _ n h.holds.0) x, (description_ok u v node hash b mine (access_keeps w (letter.RemoveSegment node hash a) u x old).0 (may_end _ n now.holds.0) y, (tag_ok v last node hash c z, tt)))
 
 -- where each removal is granted nothing is left
 granted_by : (thing : MadeByCall) (l : Letter) → IsGranted l → (left : Bool) → left ≡ false → left_by thing l left ≡ false

@@ -4,9 +4,7 @@ use Rattle.std.specs.Prelude.{nat_lt}
 use mathlib.Core.Bool.{true≢false}
 use Rattle.std.proofs.lemmas.Bool.Decides.{nat_tests}
 use Rattle.iceoryx2_description.specs.declared.description.ServiceHash.{ServiceHash}
-use Rattle.iceoryx2_description.specs.declared.time.ClockFault.{ClockFault}
 use Rattle.iceoryx2_description.specs.Description.{Description, max_nodes_of}
-use Rattle.iceoryx2_description.specs.Span.{Span}
 use Rattle.iceoryx2_access.specs.declared.storage.Tag.{Tag}
 use Rattle.iceoryx2_access.specs.declared.storage.Tag.TheVariants.{Made, Found}
 use Rattle.iceoryx2_access.specs.declared.storage.TagError.{TagError}
@@ -40,7 +38,8 @@ use Rattle.iceoryx2_create_and_open.specs.Segments.{IsSegmentWord, clearings}
 use Rattle.iceoryx2_create_and_open.specs.Segments as segment
 use Rattle.iceoryx2_create_and_open.specs.Creates.{IsEntryWord, IsServiceWord, IsCreating, IsCreateWord, clock_stops, description_of, time_of}
 use Rattle.iceoryx2_create_and_open.specs.Creates as create
-use Rattle.iceoryx2_call_laws.proofs.calls.Callers.{called}
+use Rattle.iceoryx2_create_and_open.specs.Prepared.{unprepared, prepared, IsCreateCall}
+use Rattle.iceoryx2_create_and_open.specs.declared.caller.Caller.{Caller}
 use Rattle.iceoryx2_call_laws.specs.OverNoRow.{AnswersOverNoRow, made, forbidden, no_time, no_number, no_memory}
 use Rattle.iceoryx2_call_laws.proofs.quiet.NodeViews.{AtNode, move_all}
 use Rattle.iceoryx2_call_laws.proofs.quiet.Here.{create_here}
@@ -96,15 +95,21 @@ module _ (i : ℕ) (h : ServiceHash) where
   any_part n m c k None positive is r = segment_part i h n m c k positive is r
   any_part n m c k (Some y) positive is r = left_part n m c k y positive is r
 
-module _ {E C : Type 0} (m : Meaning E C) (i : ℕ) (h : ServiceHash) (name : List ℕ) (now : Result Span ClockFault) (x : Phase) (s : Option Segment) (c : ℕ) (k : Tickets) (b : begins x ≡ true) where
+module _ {E C : Type 0} (m : Meaning E C) (caller : Caller) (x : Phase) (s : Option Segment) (c : ℕ) (k : Tickets) (b : begins x ≡ true) where
+  abbrev i : ℕ
+  i = caller.node
+
+  abbrev h : ServiceHash
+  h = caller.hash
+
   abbrev d : Description
-  d = description_of m (called i h name now)
+  d = description_of m caller
 
   abbrev stops : Bool
-  stops = clock_stops m.needs_clock now
+  stops = clock_stops m.needs_clock caller.clock
 
   abbrev Answers : Result Registered C → Type 0
-  Answers a = AnswersOverNoRow m (called i h name now) c a
+  Answers a = AnswersOverNoRow m caller c a
 
   answers : {e : CreateRefusal} → e ≡ refusal.OutOfMemory → Answers (Err (m.create_refusal e))
   answers is = subst (λ z. Answers (Err (m.create_refusal z))) (sym is) no_memory
@@ -182,7 +187,7 @@ module _ {E C : Type 0} (m : Meaning E C) (i : ℕ) (h : ServiceHash) (name : Li
           | inr y ↦ absurd (grind (arith, y.0))
         ]
 
-    answering : (g : Bool) {a : Result Registered C} {w : List Letter} {t : NodeView} → IsCreateWord m (called i h name now) w a → Run (AtNode i h) (over x s c g k) w t → Answers a
+    answering : (g : Bool) {a : Result Registered C} {w : List Letter} {t : NodeView} → IsCreateWord m caller w a → Run (AtNode i h) (over x s c g k) w t → Answers a
     answering g (create.forbidden bad) r = forbidden bad
     answering g (create.not_entered fits e) r = subst (λ z. Answers (Err z)) (sym (entry_refused (entry g e r))) no_memory
     answering g (create.clock_fault fits stopped e back) r = no_time fits stopped
@@ -190,11 +195,14 @@ module _ {E C : Type 0} (m : Meaning E C) (i : ℕ) (h : ServiceHash) (name : Li
         let p = split u _ r in
         serving fits runs is (from (entry_made (entry g e p.first)) p.second)
 
-module _ {E C : Type 0} (m : Meaning E C) (i : ℕ) (h : ServiceHash) (name : List ℕ) (now : Result Span ClockFault) where
-  -- In the world.
-  pub create_over_no_row : {word : List Letter} {answer : Result Registered C} {w v : World} → 0 < max_nodes_of (m.published (time_of now)) → Agrees w → row_of w h ≡ None → IsCreateWord m (called i h name now) word answer → Run IsOwnPart w word v → AnswersOverNoRow m (called i h name now) w.counter answer
-  create_over_no_row {w = w} room old gone is run =
+module _ {E C : Type 0} (m : Meaning E C) (caller : Caller) where
+  -- In the world, also where the types are prepared first.
+  pub create_over_no_row : {word : List Letter} {answer : Result Registered C} {w v : World} → 0 < max_nodes_of (m.published (time_of caller.clock)) → Agrees w → row_of w caller.hash ≡ None → IsCreateCall m caller word answer → Run IsOwnPart w word v → AnswersOverNoRow m caller w.counter answer
+  create_over_no_row room old gone unprepared run = no_memory
+  create_over_no_row {w = w} room old gone (prepared is) run =
+      let i = caller.node in
+      let h = caller.hash in
       let all = move_all i h (create_here is) run in
       let b = begins_without w.counter h (row_of w h) (segment_of w h) (λ p. phase_of w p h) (old.everywhere h) gone (Node i) (phase_of w (Node i) h) refl in
       let start : node_view w i h ≡ over (phase_of w (Node i) h) (segment_of w h) w.counter (tag_of w i h) w.tickets = λ j. record { view = record { phase = phase_of w (Node i) h; row = gone j; segment = segment_of w h; counter = w.counter }; tag = tag_of w i h; tickets = w.tickets } in
-      answering m i h name now (phase_of w (Node i) h) (segment_of w h) w.counter w.tickets b (grind (arith, nat_tests, room)) (tag_of w i h) is (from start all.at)
+      answering m caller (phase_of w (Node i) h) (segment_of w h) w.counter w.tickets b (grind (arith, nat_tests, room)) (tag_of w i h) is (from start all.at)

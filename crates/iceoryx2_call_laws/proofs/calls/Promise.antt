@@ -17,7 +17,7 @@ use Rattle.iceoryx2_world.specs.Tables.{IsTableAccess}
 use Rattle.iceoryx2_call_laws.specs.AnyCalls.{Meets, Holds, MayCarryBy}
 use Rattle.iceoryx2_call_laws.specs.Headline.{IsGiven}
 use Rattle.iceoryx2_call_laws.specs.Promise.{PromiseOver, Promise}
-use Rattle.iceoryx2_call_laws.proofs.calls.Headline.{as_promised, open_as_asked, of_table, of_faulty_table}
+use Rattle.iceoryx2_call_laws.proofs.calls.Headline.{as_promised, open_until_released, of_table, of_faulty_table}
 
 module _ {D E C : Type 0} (c : BuilderCall D E C) (raises : OnlyRaises c.meaning c.adjusted) where
   either : {d : Description} → Meets c d ⊎ Holds c d → MeetsOrHolds c d
@@ -38,7 +38,7 @@ module _ {D E C : Type 0} (c : BuilderCall D E C) (raises : OnlyRaises c.meaning
     promise_over = record {
       kept = λ word answer s t is run old.
           let p = as_promised own step world of_world c mine word answer s t is run old in (p, if_given s t answer p.given);
-      until_released = λ f s is. let o = open_as_asked own step world of_world c mine is in (o, decided c.way f.description o.carries);
+      until_released = λ f s is. let o = open_until_released own step world of_world c mine f s is in (o, decided c.way f.description o.carries);
     }
 
 pub keeps_promise : {D E C : Type 0} (c : BuilderCall D E C) → IsLawfulCall c → Promise c

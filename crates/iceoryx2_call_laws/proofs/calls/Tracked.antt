@@ -8,7 +8,6 @@ use Rattle.iceoryx2_access.specs.declared.storage.Tag.{Tag}
 use Rattle.iceoryx2_access.specs.declared.storage.Tag.TheVariants.{Made, Found}
 use Rattle.iceoryx2_access.specs.Letter.{Letter}
 use Rattle.iceoryx2_access.specs.Letter as letter
-use Rattle.iceoryx2_access.specs.Registered.{Registered}
 use Rattle.iceoryx2_access.specs.Run.{Each}
 use Rattle.iceoryx2_world.specs.World.{World}
 use Rattle.iceoryx2_world.specs.Agreement.{IsSpent}
@@ -20,12 +19,12 @@ use Rattle.iceoryx2_pattern.specs.Meaning.{Meaning}
 use Rattle.iceoryx2_create_and_open.specs.declared.look.Outcome.{Outcome}
 use Rattle.iceoryx2_create_and_open.specs.Looks.{IsLookWord}
 use Rattle.iceoryx2_create_and_open.specs.Segments.{IsSegmentWord}
-use Rattle.iceoryx2_create_and_open.specs.Creates.{IsEntryWord, IsCreating}
-use Rattle.iceoryx2_create_and_open.specs.Opens.{IsReady, AreFailedRounds, IsOpenWord}
+use Rattle.iceoryx2_create_and_open.specs.Creates.{IsEntryWord}
+use Rattle.iceoryx2_create_and_open.specs.Opens.{IsReady, AreFailedRounds}
 use Rattle.iceoryx2_create_and_open.specs.GivesBack.{MadeByCall, OwnTag, OwnLock, OwnSegment, own_tag, GivesBack, nothing_left, segment_back, lock_back, tag_back}
 use Rattle.iceoryx2_create_and_open.specs.Fronts as may
 use Rattle.iceoryx2_create_and_open.specs.Fronts.{IsFront, made, made_after, number_got, left_by, left_after, GivesAllBack, KeepsAll, KeepsLastTag}
-use Rattle.iceoryx2_create_and_open.proofs.Kept.{Goes, look_goes, segment_made, entry_goes, refused_create_keeps, created_keeps, ready_goes, rounds_give_back, refused_open_keeps, opened_keeps}
+use Rattle.iceoryx2_create_and_open.proofs.Kept.{Goes, look_goes, segment_made, entry_goes, ready_goes, rounds_give_back}
 use Rattle.iceoryx2_open_or_create.specs.Leaves as rounds
 use Rattle.iceoryx2_open_or_create.specs.Leaves.{GivesBackByRounds, KeepsInTheEnd}
 use Rattle.iceoryx2_open_or_create.proofs.Left.{tags_back}
@@ -142,6 +141,9 @@ module _ {node : ℕ} {hash : ServiceHash} where
   all_back_letters : {w : List Letter} → GivesAllBack node hash w → Each IsNoRelease w
   all_back_letters g = subst (Each IsNoRelease) (sym g.in_order) (each_append IsNoRelease g.front g.back (facts (read_front g.is_front)).spares (each_removal IsNoRelease (λ a. tt) (λ a. tt) (λ a. tt) g.gives_back))
 
+  pub front_tame : {n : ℕ} {w : List Letter} → IsFront node hash n [] w → Tame node hash false w (has_lock (made w))
+  front_tame is = (facts (read_front is)).tame
+
   all_back_tame : {w : List Letter} → GivesAllBack node hash w → Tame node hash false w false
   all_back_tame g = let f = facts (read_front g.is_front) in subst (λ u. Tame node hash false u false) (sym g.in_order) (tame_both f.tame (back_tame (f.in_order (up_to_tag Found)) g.gives_back))
 
@@ -185,22 +187,8 @@ module _ {E C : Type 0} {m : Meaning E C} {node : ℕ} {hash : ServiceHash} wher
   pub entry_tame : {w : List Letter} {tag : Tag} → IsEntryWord m node hash w (Ok tag) → Tame node hash false w false
   entry_tame {tag = tag} e = tagged_tame tag (entry_goes e)
 
-  pub create_tame : {stops : Bool} {d : Description} {w : List Letter} {error : C} → IsCreating m node hash stops d w (Err error) → Tame node hash false w false
-  create_tame is = all_back_tame (refused_create_keeps is)
-
   pub ready_tame : {n : ℕ} {d : Description} {tag : Tag} {w : List Letter} → IsReady m node hash n d tag w → Tame node hash false w false
   ready_tame {tag = tag} r = tagged_tame tag (ready_goes r)
 
   pub rounds_tame : {k : ℕ} {w : List Letter} → AreFailedRounds m node hash k w → Tame node hash false w false
   rounds_tame before = rounds_back_tame (tags_back (rounds_give_back before))
-
-  pub open_tame : {w : List Letter} {error : E} → IsOpenWord m node hash w (Err error) → Tame node hash false w false
-  open_tame is = rounds_back_tame (tags_back (refused_open_keeps is))
-
-  pub create_letters : {stops : Bool} {d : Description} {w : List Letter} (r : Result Registered C) → IsCreating m node hash stops d w r → Each IsNoRelease w
-  create_letters (Ok r) is = created_letters (created_keeps is)
-  create_letters (Err e) is = all_back_letters (refused_create_keeps is)
-
-  pub open_letters : {w : List Letter} (r : Result Registered E) → IsOpenWord m node hash w r → Each IsNoRelease w
-  open_letters (Ok r) is = opened_letters (opened_keeps is)
-  open_letters (Err e) is = rounds_back_letters (tags_back (refused_open_keeps is))

@@ -1,7 +1,7 @@
 -- What is so of the calls of the machine is so where they may prepare their types first.
-use Rattle.std.proofs.Common.{List, [], Result, Ok, Err, sym, ap, subst}
+use Rattle.std.proofs.Common.{◌≡◌, List, [], Result, Ok, Err, refl, sym, ap, subst}
 use Rattle.iceoryx2_access.specs.Letter.{Letter}
-use Rattle.iceoryx2_access.specs.Run.{Run}
+use Rattle.iceoryx2_access.specs.Run.{Run, done}
 use Rattle.iceoryx2_access.specs.Registered.{Registered}
 use Rattle.iceoryx2_world.specs.World.{World}
 use Rattle.iceoryx2_world.specs.Access.{IsOwnPart}
@@ -12,7 +12,10 @@ use Rattle.iceoryx2_create_and_open.proofs.Prepared.{each_call}
 use Rattle.iceoryx2_call_laws.specs.Quiet.{Quiet, Shows}
 use Rattle.iceoryx2_call_laws.specs.QuietLaws.{IsCall}
 use Rattle.iceoryx2_call_laws.specs.QuietPrepared.{PreparesFirst, unprepared, prepared}
-use Rattle.iceoryx2_call_laws.proofs.calls.Prepared.{nowhere}
+
+-- without an access nothing changes
+nowhere : {step : World → Letter → World → Type 0} {w v : World} → Run step w [] v → v ≡ w
+nowhere done = refl
 
 module _ {E : Type 0} {no_memory : E} {q : Quiet} {Calls : Result Registered E → Quiet → Type 0} where
   -- whatever it answers, where it is also so of an answer out of memory that changes nothing

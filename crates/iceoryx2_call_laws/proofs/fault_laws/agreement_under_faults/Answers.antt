@@ -3,20 +3,19 @@ use Rattle.iceoryx2_world.specs.Interference.{everyone}
 use Rattle.iceoryx2_world.proofs.Waiting.{idle_run}
 use Rattle.iceoryx2_script.proofs.Runs.{faultless}
 use Rattle.iceoryx2_world.specs.Tables.{IsTableAccess}
-use Rattle.iceoryx2_world.proofs.Runs.{run_map}
 use Rattle.iceoryx2_script.specs.Faults.{IsInjectedFault}
-use Rattle.iceoryx2_call_laws.proofs.calls.Headline.{open_as_asked, as_promised, faulty_access, of_faulty_table}
-use Rattle.iceoryx2_call_laws.proofs.calls.Prepared.{create_call_over_no_row}
+use Rattle.iceoryx2_call_laws.proofs.calls.Headline.{open_until_released, as_promised, faulty_runs_over_world, of_faulty_table}
+use Rattle.iceoryx2_call_laws.proofs.calls.NoRow.{create_over_no_row}
 use Rattle.iceoryx2_call_laws.proofs.fault_laws.agreement_under_faults.Goals as goal
 
 pub returns-clause-of_tables : goal.returns-clause-of_tables
-returns-clause-of_tables g c = λ own s t word run. (run_map (λ u. u.inner.world) (faulty_access own) run, run_map (λ u. u.inner.world) (of_faulty_table own) run)
+returns-clause-of_tables g c = faulty_runs_over_world
 
 pub returns-clause-every_open_factory_stands : goal.returns-clause-every_open_factory_stands
 returns-clause-every_open_factory_stands g c = λ call. as_promised everyone (IsInjectedFault IsTableAccess) (λ u. u.inner.world) (of_faulty_table everyone) call refl
 
 pub returns-clause-open_until_released : goal.returns-clause-open_until_released
-returns-clause-open_until_released g c = λ call f s is. open_as_asked everyone (IsInjectedFault IsTableAccess) (λ u. u.inner.world) (of_faulty_table everyone) call refl is
+returns-clause-open_until_released g c = λ call. open_until_released everyone (IsInjectedFault IsTableAccess) (λ u. u.inner.world) (of_faulty_table everyone) call refl
 
 pub returns-clause-over_no_row : goal.returns-clause-over_no_row
-returns-clause-over_no_row g c = λ m caller word answer s t c. create_call_over_no_row caller.name caller.clock c.some_nodes c.agrees c.no_row c.is_word (idle_run c.idle (faultless c.run c.unrefused)).0
+returns-clause-over_no_row g c = λ m caller word answer s t c. create_over_no_row m caller c.some_nodes c.agrees c.no_row c.is_word (idle_run c.idle (faultless c.run c.unrefused)).0

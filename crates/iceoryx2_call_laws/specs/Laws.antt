@@ -1,0 +1,134 @@
+-- The laws over whole calls, whatever others do. Each stands here once, for its clause and for the lemma that proves
+-- it; those that stand over any storage with a world inside are in Headline.
+use Rattle.std.specs.Prelude.{◌≡◌, ◌≢◌, ℕ, Bool, true, List, Result, Ok, Err}
+use Rattle.iceoryx2_access.specs.Letter.{Letter}
+use Rattle.iceoryx2_access.specs.MayRefuse.{MayRefuse}
+use Rattle.iceoryx2_access.specs.Registered.{Registered}
+use Rattle.iceoryx2_access.specs.Run.{Run, Each}
+use Rattle.iceoryx2_script.specs.Faults.{FaultyState, IsInjectedFault}
+use Rattle.iceoryx2_world.specs.World.{World, phase_of}
+use Rattle.iceoryx2_world.specs.Access.{IsOwnPart}
+use Rattle.iceoryx2_world.specs.Agreement.{IsSegmentOf}
+use Rattle.iceoryx2_world.specs.Across.{Agrees}
+use Rattle.iceoryx2_world.specs.Interference.{Others, After, IsAccessUnder, IsFallibleUnder, SameTickets}
+use Rattle.iceoryx2_world.specs.Standing.{Stands}
+use Rattle.iceoryx2_world.specs.Tables.{TableState, IsTableAccess}
+use Rattle.iceoryx2_errors.specs.declared.error.CloseError.TheVariants.{NotHere}
+use Rattle.iceoryx2_port_factory.specs.Closes.{IsCloseWord}
+use Rattle.iceoryx2_create_and_open.specs.Counts.{IsWithin, close_limits}
+use Rattle.iceoryx2_open_or_create.specs.BuilderCalls.{BuilderCall, Way, ErrorBy}
+use Rattle.iceoryx2_open_or_create.specs.CallWords.{IsWordBy, IsWordOf}
+use Rattle.iceoryx2_call_laws.specs.AnyCalls.{IsShortBy}
+use Rattle.iceoryx2_call_laws.specs.Calls.{Throughout, AtEach, ActsCalmly, ChangesLast}
+use Rattle.iceoryx2_call_laws.specs.CallLeaves.{LeavesBy}
+use Rattle.iceoryx2_call_laws.specs.CloseLeaves.{CloseLeaves}
+use Rattle.iceoryx2_call_laws.specs.Leaves.{IsGranted, LeavesNothing}
+use Rattle.iceoryx2_call_laws.specs.Tickets.{CloseAnswer, HandsNothingBack}
+use Rattle.iceoryx2_call_laws.specs.Tickets.{tickets_after, tickets_after_close, HasNoTicket}
+
+-- ---- runs over tables
+-- A run over a table is one over its world.
+abbrev pub RunsOverWorld : Type 0
+RunsOverWorld = (own : ℕ → Bool) (s t : TableState) (word : List Letter)
+    → Run IsTableAccess s word t
+    → Run (IsAccessUnder own) s.world word t.world × Run (IsFallibleUnder own) s.world word t.world
+
+-- So is a run over a storage that refuses accesses of a table.
+abbrev pub FaultyRunsOverWorld : Type 0
+FaultyRunsOverWorld = (own : ℕ → Bool) (s t : FaultyState TableState) (word : List Letter)
+    → Run (IsInjectedFault IsTableAccess) s word t
+    → Run (After (Others own) (MayRefuse IsOwnPart)) s.inner.world word t.inner.world
+    × Run (IsFallibleUnder own) s.inner.world word t.inner.world
+
+-- ---- what stands
+-- A standing factory's segment is one for its description.
+abbrev pub StandsAmong : Type 0
+StandsAmong = (w : World) (f : Registered)
+    → Agrees w → (s : Stands w f)
+    → IsSegmentOf f.description f.number (λ p. phase_of w p f.description.hash) s.segment.segment
+
+-- Two standing factories of one service carry the same.
+abbrev pub CarryTheSame : Type 0
+CarryTheSame = (w : World) (f g : Registered)
+    → Stands w f → Stands w g → f.description.hash ≡ g.description.hash
+    → (f.number ≡ g.number) × (f.description ≡ g.description)
+
+-- ---- a create, an open and an open or create
+-- Each word of a call is short.
+abbrev pub EachIsShort : {D E C : Type 0} → BuilderCall D E C → Way → Type 0
+EachIsShort {E = E} {C = C} c way = (word : List Letter) (answer : Result Registered (ErrorBy E C way))
+    → IsWordBy c way word answer → IsShortBy way word
+
+module _ {D E C : Type 0} (own : ℕ → Bool) (c : BuilderCall D E C) where
+  -- Of tickets of own nodes a call adds that of the factory that it gave, and nothing else.
+  abbrev pub AddsItsTicket : Type 0
+  AddsItsTicket = (word : List Letter) (answer : Result Registered (ErrorBy E C c.way)) (w v : World)
+      → IsWordOf c word answer → Run (IsFallibleUnder own) w word v → Agrees w
+      → SameTickets own (tickets_after w.tickets answer) v.tickets
+
+  -- No access of a refused call changes what is published or counted,
+  abbrev pub RefusesCalmly : Type 0
+  RefusesCalmly = (word : List Letter) (refusal : ErrorBy E C c.way) (w : World)
+      → own c.caller.node ≡ true → IsWordOf c word (Err refusal) → Agrees w
+      → AtEach (IsFallibleUnder own) (ActsCalmly own) w word
+
+  -- and of a granted call only the last one does.
+  abbrev pub GrantsAtLast : Type 0
+  GrantsAtLast = (word : List Letter) (r : Registered) (w : World)
+      → own c.caller.node ≡ true → IsWordOf c word (Ok r) → Agrees w
+      → ChangesLast own c.caller.node c.caller.hash w word
+
+  -- A refused call leaves nothing but that for which a removal was refused,
+  abbrev pub LeavesWhatIsRefused : Way → Type 0
+  LeavesWhatIsRefused way = (word : List Letter) (refusal : ErrorBy E C way) (w v : World)
+      → own c.caller.node ≡ true → IsWordBy c way word (Err refusal) → Run (IsFallibleUnder own) w word v → Agrees w
+      → LeavesBy own c way w word v
+
+  -- and where nothing is refused by a fault it gives everything back.
+  abbrev pub GivesEverythingBack : Type 0
+  GivesEverythingBack = (word : List Letter) (refusal : ErrorBy E C c.way) (w v : World)
+      → own c.caller.node ≡ true → IsWordOf c word (Err refusal) → Run (IsAccessUnder own) w word v → Agrees w
+      → Each IsGranted word × LeavesNothing c.caller.node c.caller.hash own word w v
+
+-- ---- a close
+-- It is short.
+abbrev pub CloseIsShort : Type 0
+CloseIsShort = (r : Registered) (word : List Letter) (answer : CloseAnswer)
+    → IsCloseWord r word answer → IsWithin word close_limits
+
+module _ (own : ℕ → Bool) where
+  -- A factory with another ticket stands throughout it.
+  abbrev pub CloseSpares : Type 0
+  CloseSpares = (r : Registered) (word : List Letter) (answer : CloseAnswer) (w : World) (f : Registered)
+      → own f.node ≡ true → IsCloseWord r word answer → Agrees w → f.ticket ≢ r.ticket
+      → Stands w f → Throughout (IsFallibleUnder own) (λ v. Stands v f) w word
+
+  -- What it hands back is its own factory, which stands throughout it too.
+  abbrev pub HandsBackItsOwn : Type 0
+  HandsBackItsOwn = (r s : Registered) (word : List Letter) (w : World)
+      → own r.node ≡ true → IsCloseWord r word (Err (NotHere s)) → Agrees w
+      → (s ≡ r) × (Stands w r → Throughout (IsFallibleUnder own) (λ v. Stands v r) w word)
+
+  -- Of tickets of own nodes it takes its factory's out, unless it hands that back, and nothing else.
+  abbrev pub TakesItsTicket : Type 0
+  TakesItsTicket = (r : Registered) (word : List Letter) (answer : CloseAnswer) (w v : World)
+      → IsCloseWord r word answer → Run (IsFallibleUnder own) w word v → Agrees w
+      → SameTickets own (tickets_after_close w.tickets r answer) v.tickets
+
+  -- Where nothing is refused by a fault what stands is closed with Ok.
+  abbrev pub ClosesWhatStands : Type 0
+  ClosesWhatStands = (r : Registered) (word : List Letter) (answer : CloseAnswer) (w v : World)
+      → own r.node ≡ true → IsCloseWord r word answer → Run (IsAccessUnder own) w word v → Agrees w → Stands w r
+      → (answer ≡ Ok tt) × HasNoTicket own v r.ticket
+
+  -- Where its factory isn't handed back the ticket is gone,
+  abbrev pub TakesTicketOut : Type 0
+  TakesTicketOut = (r : Registered) (word : List Letter) (answer : CloseAnswer) (w v : World)
+      → IsCloseWord r word answer → HandsNothingBack answer → Run (IsFallibleUnder own) w word v → Agrees w
+      → HasNoTicket own v r.ticket
+
+  -- and nothing stays but that for which a removal was refused.
+  abbrev pub CloseLeavesWhatIsRefused : Type 0
+  CloseLeavesWhatIsRefused = (r : Registered) (word : List Letter) (answer : CloseAnswer) (w v : World)
+      → own r.node ≡ true → IsCloseWord r word answer → HandsNothingBack answer
+      → Run (IsFallibleUnder own) w word v → Agrees w → CloseLeaves own r w v word
