@@ -1,4 +1,3 @@
-pub mod Callers
 pub mod Words
 pub mod Removals
 pub mod Closed

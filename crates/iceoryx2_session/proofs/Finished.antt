@@ -124,7 +124,7 @@ all_left config q quiet old (next {old = u} {mid = v} {letter = None} {word = sl
     let more = all_left config q after (past_free everyone IsTableAccess world_of unrefused_table is old) rest in
     record { state = more.state; moves = next refl more.moves; shows = more.shows; agrees = more.agrees; waiting = more.waiting }
 all_left config q quiet old (next {old = u} {mid = v} {letter = Some f} {word = slots} is rest) =
-    let c = close_follows f u.world v.world q is.1.word is.0 quiet.shows quiet.agrees (old.stand 0 f refl).ticket is.1.is_word (idle_run quiet.waiting is.1.run).0 in
+    let c = close_follows f u.world v.world q is.1.word is.0 (record { shows = quiet.shows; agrees = quiet.agrees; run = (idle_run quiet.waiting is.1.run).0 }) is.1.is_word (old.stand 0 f refl).ticket in
     let after : IsQuiet (state config v slots) c.1.state = record { shows = c.1.shows; agrees = c.1.agrees; waiting = (idle_run quiet.waiting is.1.run).1.0 } in
     let more = all_left config c.1.state after (past_taken everyone IsTableAccess world_of unrefused_table f quiet.agrees is old) rest in
     record { state = more.state; moves = next c.1.call more.moves; shows = more.shows; agrees = more.agrees; waiting = more.waiting }

@@ -39,7 +39,7 @@ record IsBuilt (q : Quiet) (b : PatternCall) (w : World) (answer : Result Regist
 built : (b : PatternCall) (answer : Result Registered Refusal) (s t : TableState) (q : Quiet)
     → IsLawfulCall b.call → Shows s.world q → Agrees s.world → s.waiting ≡ [] → Builds b s answer t → IsBuilt q b s.world answer t.world
 built b answer s t q lawful shows agrees waiting is =
-    let c = call_follows b.call q b.call.way lawful shows agrees is.2.is_word (idle_run waiting is.2.run).0 in
+    let c = call_follows b.call b.call.way lawful s.world t.world q is.2.word is.0 (record { shows = shows; agrees = agrees; run = (idle_run waiting is.2.run).0 }) is.2.is_word in
     record { state = c.state; call = (is.0, is.1, c.call); shows = c.shows; agrees = c.agrees }
 
 -- ---- commands
@@ -65,7 +65,7 @@ moved {s = s} q old slots (goes.refused {call = call} {e = e} {t = t} free is) =
 moved q old slots (goes.close_past le) = record { state = q; moves = moves.close_past le; quiet = old; configured = refl }
 moved q old slots (goes.close_empty free) = record { state = q; moves = moves.close_empty free; quiet = old; configured = refl }
 moved {s = s} q old slots (goes.closed {slot = k} f {t = t} at is) =
-    let c = close_follows f s.table.world t.world q is.1.word is.0 old.shows old.agrees (slots.stand k f at).ticket is.1.is_word (idle_run old.waiting is.1.run).0 in
+    let c = close_follows f s.table.world t.world q is.1.word is.0 (record { shows = old.shows; agrees = old.agrees; run = (idle_run old.waiting is.1.run).0 }) is.1.is_word (slots.stand k f at).ticket in
     record { state = c.1.state; moves = moves.closed f at c.1.call; quiet = quiet_after _ c.1.state c.1.shows c.1.agrees (idle_run old.waiting is.1.run).1.0; configured = refl }
 moved {s = s} q old slots (goes.listed {entries = entries} lists) =
     record { state = q; moves = moves.listed (lists_the_machine s.table.world q entries.items old.shows lists); quiet = old; configured = refl }
@@ -85,7 +85,7 @@ refused_answer carry e (Err x) P is then = then x refl
 refusal_keeps : (b : PatternCall) (e : Refusal) (w v : World) (q p : Quiet)
     → Shows w q → Shows v p → AnswersCall q b (Err e) p → HoldsTheSame w v
 refusal_keeps b e w v q p s t is =
-    refused_answer b.refusal_of e is.0 (HoldsTheSame w v) is.1 (λ x same. refused_call b.call q x s t (subst (λ a. Answers b.call b.call.way q a p) same is.2))
+    refused_answer b.refusal_of e is.0 (HoldsTheSame w v) is.1 (λ x same. refused_call b.call w v q p x s t (subst (λ a. Answers b.call b.call.way q a p) same is.2))
 
 pub itself : (s : SessionState) → IsUnchanged s s
 itself s = record { slots = refl; services = record { rows = λ h. refl; segments = λ h. refl; tags = λ i h. refl; counts = λ i h. refl } }

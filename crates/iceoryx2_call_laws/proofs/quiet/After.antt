@@ -1,50 +1,48 @@
 -- What follows of calls: refused ones, a create and its close, a node's second factory, an open that is accepted.
-use Rattle.std.proofs.Common.{◌≡◌, ℕ, ◌+◌, inl, inr, true, false, cond, List, Some, None, Result, Ok, Err, refl, sym, ap, subst, ◌∙◌, arith}
+use Rattle.std.proofs.Common.{◌≡◌, ℕ, ◌+◌, inl, inr, true, false, cond, Some, None, Ok, Err, refl, sym, ap, subst, ◌∙◌, arith}
 use Rattle.std.specs.Prelude.{nat_lt, is_some, unwrap_or}
 use Rattle.std.specs.FinMap as map
 use Rattle.std.specs.FinMap.{same_map, get-insert, get-remove}
 use Rattle.std.specs.Ordering.{is_eq}
 use Rattle.std.proofs.lemmas.Bool.Decides.{nat_tests}
 use Rattle.iceoryx2_description.specs.declared.description.ServiceHash.{ServiceHash}
-use Rattle.iceoryx2_description.specs.declared.time.ClockFault.{ClockFault}
 use Rattle.iceoryx2_description.specs.Description.{Description}
-use Rattle.iceoryx2_description.specs.Span.{Span}
 use Rattle.iceoryx2_world.specs.declared.world.Participant.{Participant}
 use Rattle.iceoryx2_world.specs.declared.world.Participant.TheVariants.{Node, Peer}
 use Rattle.iceoryx2_world.specs.Orders.{hash_cmp, hash_total, hash_exact}
-use Rattle.iceoryx2_world.specs.World.{World}
 use Rattle.iceoryx2_world.proofs.agreement.Whole.{same_hash}
 use Rattle.iceoryx2_pattern.specs.Meaning.{Meaning}
 use Rattle.iceoryx2_pattern.specs.Verdict.{verdict}
 use Rattle.iceoryx2_access.specs.Registered.{Registered}
-use Rattle.iceoryx2_call_laws.proofs.calls.Callers.{called}
-use Rattle.iceoryx2_call_laws.specs.Quiet.{QuietService, Quiet, ShowsService, Shows, service_at, times_counted, is_counted}
+use Rattle.iceoryx2_call_laws.specs.Quiet.{QuietService, Quiet, ShowsService, service_at, times_counted, is_counted}
 use Rattle.iceoryx2_call_laws.specs.QuietCalls.{Creates, Opens, Closes, closed, HasPlace, first_counts, created_by, opened_by, closed_by, more_counts, fewer_counts, with_service, spend}
 use Rattle.iceoryx2_call_laws.specs.QuietCalls as call
-use Rattle.iceoryx2_call_laws.specs.OpensAgain.{CanOpen, IsOkOrOutOfMemory}
-use Rattle.iceoryx2_call_laws.specs.QuietLaws.{HasOpenedTimes, SpendsOneNumber, OpensOnceMore}
+use Rattle.iceoryx2_call_laws.specs.QuietLaws.{CreateAndCloseSpend, TakesNoFurtherPlace, OpensWhatItCan}
+use Rattle.iceoryx2_call_laws.specs.QuietPrepared.{unprepared, prepared}
+use Rattle.iceoryx2_create_and_open.specs.declared.caller.Caller.{Caller}
+use Rattle.iceoryx2_call_laws.proofs.quiet.Prepared.{granted_prepared}
 use Rattle.iceoryx2_call_laws.proofs.quiet.Lift.{equal_or_not}
 use Rattle.iceoryx2_call_laws.proofs.quiet.Counts.{get_first_own, len_first, len_fewer_less, get_more_own, get_more_other}
 use Rattle.iceoryx2_call_laws.proofs.quiet.Same.{same_segment, joined_times, holds_the_same, nothing_at}
 use Rattle.iceoryx2_call_laws.proofs.quiet.Calls.{with_service_has}
 
-module _ {E C : Type 0} (m : Meaning E C) (i : ℕ) (h : ServiceHash) where
+module _ {E C : Type 0} (m : Meaning E C) where
   -- a refused call keeps the services
-  pub create_refused : (name : List ℕ) (now : Result Span ClockFault) (q p : Quiet) (e : C) → Creates m q (called i h name now) (Err e) p → p.services ≡ q.services
-  create_refused name now q p e (call.forbidden bad) = refl
-  create_refused name now q p e (call.exists x fits there) = refl
-  create_refused name now q p e (call.no_time fits gone stops) = refl
-  create_refused name now q p e (call.no_number fits gone runs end) = refl
-  create_refused name now q p e (call.no_memory fits) = refl
-  create_refused name now q p e (call.no_memory_locked fits gone runs room) = refl
+  pub create_refused : (caller : Caller) (q p : Quiet) (e : C) → Creates m q caller (Err e) p → p.services ≡ q.services
+  create_refused caller q p e (call.forbidden bad) = refl
+  create_refused caller q p e (call.exists x fits there) = refl
+  create_refused caller q p e (call.no_time fits gone stops) = refl
+  create_refused caller q p e (call.no_number fits gone runs end) = refl
+  create_refused caller q p e (call.no_memory fits) = refl
+  create_refused caller q p e (call.no_memory_locked fits gone runs room) = refl
 
-  pub open_refused : (q p : Quiet) (e : E) → Opens m q i h (Err e) p → p.services ≡ q.services
-  open_refused q p e (call.absent gone) = refl
-  open_refused q p e (call.misfit x there bad) = refl
-  open_refused q p e (call.not_accepted x there good unfit) = refl
-  open_refused q p e (call.no_place x there good fits none) = refl
-  open_refused q p e (call.no_number x there good fits place end) = refl
-  open_refused q p e (call.no_memory x there) = refl
+  pub open_refused : (i : ℕ) (h : ServiceHash) (q p : Quiet) (e : E) → Opens m q i h (Err e) p → p.services ≡ q.services
+  open_refused i h q p e (call.absent gone) = refl
+  open_refused i h q p e (call.misfit x there bad) = refl
+  open_refused i h q p e (call.not_accepted x there good unfit) = refl
+  open_refused i h q p e (call.no_place x there good fits none) = refl
+  open_refused i h q p e (call.no_number x there good fits place end) = refl
+  open_refused i h q p e (call.no_memory x there) = refl
 
 -- the one node of a new service has closed it
 closed_again : (i : ℕ) (d : Description) (n : ℕ) → closed_by i 1 (created_by i d n) ≡ None
@@ -69,27 +67,31 @@ close_of_new q i h d z gone (closed x k there counted) =
     let none : closed_by i k x ≡ None = (λ j. closed_by i (one j) (same j)) ∙ closed_again i d q.counter in
     (refl, ap (λ o. (with_service (spend (with_service q h (Some y))) h o).services) none ∙ put_and_taken q h y gone)
 
-module _ {E C : Type 0} (m : Meaning E C) (i : ℕ) (h : ServiceHash) where
+-- a node that had opened it is counted still
+still_counted : (i : ℕ) (x : QuietService) (k : ℕ) → times_counted x i ≡ Some k → (p : Participant) → is_counted (opened_by i x) p ≡ is_counted x p
+still_counted i x k e (Node j) = elim (equal_or_not j i) [
+  | inl is ↦ ap is_some (ap (times_counted (opened_by i x)) is ∙ get_more_own x.counts i) ∙ sym (ap is_some (ap (times_counted x) is ∙ e))
+  | inr other ↦ ap is_some (get_more_other x.counts i j other)
+]
+still_counted i x k e (Peer j) = refl
+
+module _ {E C : Type 0} (m : Meaning E C) where
+  made_and_gone : (caller : Caller) (q p z : Quiet) (r : Registered) → Creates m q caller (Ok r) p → Closes p r.node r.description.hash z → (service_at q caller.hash ≡ None) × (z.counter ≡ q.counter + 1) × (z.services ≡ q.services)
+  made_and_gone caller q p z r (call.created fits gone runs room) c = let back = close_of_new q caller.node caller.hash r.description z gone c in (gone, back.0, back.1)
+
   -- A create and then the close of its factory leave nothing of the service, and one number is spent.
-  pub create_and_close : (name : List ℕ) (now : Result Span ClockFault) (w v : World) (q p z : Quiet) (r : Registered) → Shows w q → Shows v z → Creates m q (called i h name now) (Ok r) p → Closes p r.node r.description.hash z → SpendsOneNumber w v h
-  create_and_close name now w v q p z r s t (call.created fits gone runs room) c =
-      let back = close_of_new q i h r.description z gone c in
+  pub create_and_close : CreateAndCloseSpend m
+  create_and_close caller w v q z r s t c =
+      let back = made_and_gone caller q c.between z r (granted_prepared c.creates) c.closes in
       record {
-        nothing = nothing_at v z h t (ap (λ k. map.get k h) back.1 ∙ gone);
-        same = holds_the_same w v q z s t back.1;
-        spent = t.counter ∙ back.0 ∙ ap (λ n. n + 1) (sym s.counter);
+        nothing = nothing_at v z caller.hash t (ap (λ k. map.get k caller.hash) back.2 ∙ back.0);
+        same = holds_the_same w v q z s t back.2;
+        spent = t.counter ∙ back.1 ∙ ap (λ n. n + 1) (sym s.counter);
       }
 
-  still_counted : (x : QuietService) (k : ℕ) → times_counted x i ≡ Some k → (p : Participant) → is_counted (opened_by i x) p ≡ is_counted x p
-  still_counted x k e (Node j) = elim (equal_or_not j i) [
-    | inl is ↦ ap is_some (ap (times_counted (opened_by i x)) is ∙ get_more_own x.counts i) ∙ sym (ap is_some (ap (times_counted x) is ∙ e))
-    | inr other ↦ ap is_some (get_more_other x.counts i j other)
-  ]
-  still_counted x k e (Peer j) = refl
-
   -- A further factory of a node takes no further place: the segment stays as it is, and the node's count rises by one.
-  pub opened_again : (w v : World) (q p : Quiet) (r : Registered) (k : ℕ) → Shows w q → Shows v p → HasOpenedTimes q i h k → Opens m q i h (Ok r) p → OpensOnceMore w v i h k
-  opened_again w v q p r k s t has (call.opened y is_y good fits place room) =
+  pub opened_again : TakesNoFurtherPlace m
+  opened_again i h w v q p r k s t has (prepared (call.opened y is_y good fits place room)) =
       let x = has.service in
       let there = has.there in
       let counted = has.counted in
@@ -98,22 +100,23 @@ module _ {E C : Type 0} (m : Meaning E C) (i : ℕ) (h : ServiceHash) where
       let before = subst (λ o. ShowsService w h o) there (s.services h) in
       let after = subst (λ o. ShowsService v h o) now (t.services h) in
       let times = ap (λ o. unwrap_or o 0) (get_more_own x.counts i) ∙ ap (λ o. unwrap_or o 0 + 1) counted in record {
-        segment = same_segment w v h x (more_counts x.counts i) before after (still_counted x k counted);
+        segment = same_segment w v h x (more_counts x.counts i) before after (still_counted i x k counted);
         before = joined_times x.number _ (times_counted x i) (before.phases i) ∙ ap (λ o. unwrap_or o 0) counted;
         after = joined_times x.number _ (times_counted (opened_by i x) i) (after.phases i) ∙ times;
       }
 
   -- An open that the requirement accepts, with a place and a number left, is Ok or out of memory.
-  pub accepted : (q p : Quiet) (r : Result Registered E) → CanOpen m q i h → Opens m q i h r p → IsOkOrOutOfMemory m r
-  accepted q p r can (call.absent gone) = let is = sym gone ∙ can.there in absurd (cc)
-  accepted q p r can (call.misfit y is_y bad) = let same : y ≡ can.service = let is = sym is_y ∙ can.there in cc in let is = sym can.accepted.fits ∙ ap (λ z. m.misfit z.description) (sym same) ∙ bad in absurd (cc)
-  accepted q p r can (call.not_accepted y is_y _ unfit) = let same : y ≡ can.service = let is = sym is_y ∙ can.there in cc in let is = sym can.accepted.meets ∙ ap (λ z. verdict (m.requirement z.description)) (sym same) ∙ unfit in absurd (cc)
-  accepted q p r can (call.no_place y is_y _ _ none) =
+  pub accepted : OpensWhatItCan m
+  accepted i h q p r can unprepared = refl
+  accepted i h q p r can (prepared (call.absent gone)) = let is = sym gone ∙ can.there in absurd (cc)
+  accepted i h q p r can (prepared (call.misfit y is_y bad)) = let same : y ≡ can.service = let is = sym is_y ∙ can.there in cc in let is = sym can.accepted.fits ∙ ap (λ z. m.misfit z.description) (sym same) ∙ bad in absurd (cc)
+  accepted i h q p r can (prepared (call.not_accepted y is_y _ unfit)) = let same : y ≡ can.service = let is = sym is_y ∙ can.there in cc in let is = sym can.accepted.meets ∙ ap (λ z. verdict (m.requirement z.description)) (sym same) ∙ unfit in absurd (cc)
+  accepted i h q p r can (prepared (call.no_place y is_y _ _ none)) =
       let same : can.service ≡ y = let is = sym can.there ∙ is_y in cc in
       elim (subst (λ z. HasPlace z i) same can.place) [
         | inl e ↦ let is = sym e ∙ ap is_some none.0 in absurd (cc)
         | inr e ↦ absurd (omega (arith, e, none.1))
       ]
-  accepted q p r can (call.no_number y is_y _ _ _ end) = absurd (omega (arith, end, can.number))
-  accepted q p r can (call.opened y is_y _ _ _ _) = tt
-  accepted q p r can (call.no_memory y is_y) = refl
+  accepted i h q p r can (prepared (call.no_number y is_y _ _ _ end)) = absurd (omega (arith, end, can.number))
+  accepted i h q p r can (prepared (call.opened y is_y _ _ _ _)) = tt
+  accepted i h q p r can (prepared (call.no_memory y is_y)) = refl

@@ -4,12 +4,10 @@ use Rattle.std.specs.Prelude.{nat_lt, IfOk}
 use Rattle.std.specs.FinMap as map
 use Rattle.std.proofs.lemmas.Bool.Decides.{nat_tests}
 use Rattle.iceoryx2_description.specs.declared.description.ServiceHash.{ServiceHash}
-use Rattle.iceoryx2_description.specs.declared.time.ClockFault.{ClockFault}
 use Rattle.iceoryx2_description.specs.Description.{max_nodes_of}
-use Rattle.iceoryx2_description.specs.Span.{Span}
 use Rattle.iceoryx2_world.specs.Orders.{hash_cmp, hash_total, place_cmp, tag_cmp}
 use Rattle.iceoryx2_world.specs.Sets as set
-use Rattle.iceoryx2_world.specs.World.{World, or_idle, begins, empty_world, ticket_of}
+use Rattle.iceoryx2_world.specs.World.{World, or_idle, begins}
 use Rattle.iceoryx2_world.specs.declared.world.Participant.TheVariants.{Node}
 use Rattle.iceoryx2_access.specs.Letter.{Letter}
 use Rattle.iceoryx2_access.specs.Run.{Run, done, next}
@@ -19,17 +17,15 @@ use Rattle.iceoryx2_world.specs.Across.{Agrees}
 use Rattle.iceoryx2_world.specs.Standing.{ticket_for}
 use Rattle.iceoryx2_world.proofs.agreement.Whole.{own_hash}
 use Rattle.iceoryx2_world.proofs.agreement.Accesses.{own_keeps, later_refl, later_trans}
-use Rattle.iceoryx2_errors.specs.declared.error.CloseError.{CloseError}
-use Rattle.iceoryx2_port_factory.specs.Closes.{IsCloseWord}
 use Rattle.iceoryx2_pattern.specs.Meaning.{Meaning}
 use Rattle.iceoryx2_access.specs.Registered.{Registered}
-use Rattle.iceoryx2_call_laws.proofs.calls.Callers.{called}
+use Rattle.iceoryx2_create_and_open.specs.declared.caller.Caller.{Caller}
 use Rattle.iceoryx2_create_and_open.specs.Creates.{IsCreateWord, time_of, description_of}
 use Rattle.iceoryx2_create_and_open.specs.Opens.{IsOpenWord}
-use Rattle.iceoryx2_call_laws.specs.Quiet.{QuietService, Quiet, ShowsService, Shows, no_service, service_at}
+use Rattle.iceoryx2_call_laws.specs.Quiet.{QuietService, Quiet, ShowsService, Shows, service_at}
 use Rattle.iceoryx2_call_laws.specs.QuietCalls.{Creates, Opens, created_by, opened_by, with_service, spend}
 use Rattle.iceoryx2_call_laws.specs.QuietCalls as call
-use Rattle.iceoryx2_call_laws.specs.QuietLaws.{IsCall, IsClose}
+use Rattle.iceoryx2_call_laws.specs.QuietLaws.{IsCall, EmptyShows, Follows, ClosesQuietly}
 use Rattle.iceoryx2_call_laws.specs.Tickets.{tickets_after}
 use Rattle.iceoryx2_call_laws.proofs.quiet.NodeViews.{move_all}
 use Rattle.iceoryx2_call_laws.proofs.quiet.Here.{create_here, open_here, close_here}
@@ -75,28 +71,28 @@ is_call {E = E} {w = w} {v = v} (Ok r) made gives run old =
 pub with_service_has : (q : Quiet) (h : ServiceHash) (x : QuietService) → service_at (spend (with_service q h (Some x))) h ≡ Some x
 with_service_has q h x = map.get-insert hash_total q.services h x h ∙ ap (λ b. cond b (Some x) (service_at q h)) (own_hash h)
 
-module _ {E C : Type 0} (m : Meaning E C) (q : Quiet) (i : ℕ) (h : ServiceHash) (w : World) (s : Shows w q) where
-  create_gives : (name : List ℕ) (now : Result Span ClockFault) (r : Result Registered C) (p : Quiet) → Creates m q (called i h name now) r p → IfOk r (λ x. GivesIn w p x)
-  create_gives name now r p (call.created fits gone runs room) = record { service = created_by i (description_of m (called i h name now)) q.counter; there = with_service_has q h (created_by i (description_of m (called i h name now)) q.counter); number = refl; description = refl; ticket = sym s.counter }
-  create_gives name now r p (call.forbidden bad) = tt
-  create_gives name now r p (call.exists x fits there) = tt
-  create_gives name now r p (call.no_time fits gone stops) = tt
-  create_gives name now r p (call.no_number fits gone runs end) = tt
-  create_gives name now r p (call.no_memory fits) = tt
-  create_gives name now r p (call.no_memory_locked fits gone runs room) = tt
+module _ {E C : Type 0} (m : Meaning E C) (q : Quiet) (w : World) (s : Shows w q) where
+  create_gives : (caller : Caller) (r : Result Registered C) (p : Quiet) → Creates m q caller r p → IfOk r (λ x. GivesIn w p x)
+  create_gives caller r p (call.created fits gone runs room) = let x = created_by caller.node (description_of m caller) q.counter in record { service = x; there = with_service_has q caller.hash x; number = refl; description = refl; ticket = sym s.counter }
+  create_gives caller r p (call.forbidden bad) = tt
+  create_gives caller r p (call.exists x fits there) = tt
+  create_gives caller r p (call.no_time fits gone stops) = tt
+  create_gives caller r p (call.no_number fits gone runs end) = tt
+  create_gives caller r p (call.no_memory fits) = tt
+  create_gives caller r p (call.no_memory_locked fits gone runs room) = tt
 
-  open_gives : (r : Result Registered E) (p : Quiet) → Opens m q i h r p → IfOk r (λ x. GivesIn w p x)
-  open_gives r p (call.opened x there good fits place room) =
+  open_gives : (i : ℕ) (h : ServiceHash) (r : Result Registered E) (p : Quiet) → Opens m q i h r p → IfOk r (λ x. GivesIn w p x)
+  open_gives i h r p (call.opened x there good fits place room) =
       let at_h = subst (λ o. ShowsService w h o) there (s.services h) in
       record { service = opened_by i x; there = ap (service_at (spend (with_service q h (Some (opened_by i x))))) at_h.hash ∙ with_service_has q h (opened_by i x); number = refl; description = refl; ticket = sym s.counter }
-  open_gives r p (call.absent gone) = tt
-  open_gives r p (call.misfit x there bad) = tt
-  open_gives r p (call.not_accepted x there good unfit) = tt
-  open_gives r p (call.no_place x there good fits none) = tt
-  open_gives r p (call.no_number x there good fits place end) = tt
-  open_gives r p (call.no_memory x there) = tt
+  open_gives i h r p (call.absent gone) = tt
+  open_gives i h r p (call.misfit x there bad) = tt
+  open_gives i h r p (call.not_accepted x there good unfit) = tt
+  open_gives i h r p (call.no_place x there good fits none) = tt
+  open_gives i h r p (call.no_number x there good fits place end) = tt
+  open_gives i h r p (call.no_memory x there) = tt
 
-pub empty_shows : (c : ℕ) → Shows (empty_world c) (no_service c)
+pub empty_shows : EmptyShows
 empty_shows c = record {
   counter = refl;
   services = λ h. rw (map.get-empty {X = QuietService} hash_cmp h) (record {
@@ -107,33 +103,36 @@ empty_shows c = record {
   });
 }
 
-module _ {E C : Type 0} (m : Meaning E C) (i : ℕ) (h : ServiceHash) where
+module _ {E C : Type 0} (m : Meaning E C) where
   -- A create over a world that shows q is the machine's.
-  pub create_follows : (name : List ℕ) (now : Result Span ClockFault) (w v : World) (q : Quiet) (word : List Letter) (r : Result Registered C) → 0 < max_nodes_of (m.published (time_of now)) → Shows w q → Agrees w
-      → IsCreateWord m (called i h name now) word r → Run IsOwnPart w word v → IsCall w (Creates m q (called i h name now) r) r v
-  create_follows name now w v q word r room s old is_word run =
-      let all = move_all i h (create_here is_word) run in
-      let positive : nat_lt 0 (max_nodes_of (m.published (time_of now))) ≡ true = grind (arith, nat_tests, room) in
-      let made : Made (Creates m q (called i h name now) r) (tickets_after w.tickets r) v = elim (service_at q h) as (λ o. service_at q h ≡ o → Made (Creates m q (called i h name now) r) (tickets_after w.tickets r) v) [
-        | None ↦ λ e. create_absent m i h name now w v q all.apart s e r word positive is_word all.at
-        | Some x ↦ λ e. create_there m i h w v q all.apart s x e name now r word is_word all.at
+  pub create_follows : (caller : Caller) → 0 < max_nodes_of (m.published (time_of caller.clock)) → Follows (IsCreateWord m caller) (λ q. Creates m q caller)
+  create_follows caller room w v q word r quiet is_word =
+      let s = quiet.shows in
+      let all = move_all caller.node caller.hash (create_here is_word) quiet.run in
+      let positive : nat_lt 0 (max_nodes_of (m.published (time_of caller.clock))) ≡ true = grind (arith, nat_tests, room) in
+      let made : Made (Creates m q caller r) (tickets_after w.tickets r) v = elim (service_at q caller.hash) as (λ o. service_at q caller.hash ≡ o → Made (Creates m q caller r) (tickets_after w.tickets r) v) [
+        | None ↦ λ e. create_absent m caller w v q all.apart s e r word positive is_word all.at
+        | Some x ↦ λ e. create_there m caller w v q all.apart s x e r word is_word all.at
       ] refl in
-      is_call r made (create_gives m q i h w s name now r made.state made.call) run old
+      is_call r made (create_gives m q w s caller r made.state made.call) quiet.run quiet.agrees
 
   -- So is an open.
-  pub open_follows : (w v : World) (q : Quiet) (word : List Letter) (r : Result Registered E) → Shows w q → Agrees w → IsOpenWord m i h word r → Run IsOwnPart w word v → IsCall w (Opens m q i h r) r v
-  open_follows w v q word r s old is_word run =
-      let all = move_all i h (open_here is_word) run in
+  pub open_follows : (i : ℕ) (h : ServiceHash) → Follows (IsOpenWord m i h) (λ q. Opens m q i h)
+  open_follows i h w v q word r quiet is_word =
+      let s = quiet.shows in
+      let all = move_all i h (open_here is_word) quiet.run in
       let made : Made (Opens m q i h r) (tickets_after w.tickets r) v = elim (service_at q h) as (λ o. service_at q h ≡ o → Made (Opens m q i h r) (tickets_after w.tickets r) v) [
         | None ↦ λ e. open_absent m i h w v q all.apart s e r word is_word all.at
-        | Some x ↦ λ e. open_there m i h w v q all.apart s old x e r word is_word all.at
+        | Some x ↦ λ e. open_there m i h w v q all.apart s quiet.agrees x e r word is_word all.at
       ] refl in
-      is_call r made (open_gives m q i h w s r made.state made.call) run old
+      is_call r made (open_gives m q w s i h r made.state made.call) quiet.run quiet.agrees
 
 -- A close of a factory whose ticket is there is Ok, and the machine's.
-pub close_follows : (f : Registered) (w v : World) (q : Quiet) (word : List Letter) (r : Result (Unit {0}) (CloseError Registered)) → Shows w q → Agrees w → ticket_of w f.ticket ≡ Some (ticket_for f)
-    → IsCloseWord f word r → Run IsOwnPart w word v → (r ≡ Ok tt) × IsClose w q f v
-close_follows f w v q word r s old here is_word run =
+pub close_follows : ClosesQuietly
+close_follows f w v q word r quiet is_word here =
+    let s = quiet.shows in
+    let old = quiet.agrees in
+    let run = quiet.run in
     let all = move_all f.node f.description.hash (close_here is_word) run in
     let o = has_opened w q f.ticket (ticket_for f) s old here in
     let closed = close_counted f w v q all.apart s o.service o.there o.number o.count o.counted here word r is_word all.at in

@@ -4,10 +4,8 @@ use Rattle.std.specs.Prelude.{nat_lt, is_some}
 use Rattle.std.specs.FinMap.{get-insert}
 use Rattle.std.proofs.lemmas.Bool.Decides.{nat_tests}
 use Rattle.iceoryx2_description.specs.declared.description.ServiceHash.{ServiceHash}
-use Rattle.iceoryx2_description.specs.declared.time.ClockFault.{ClockFault}
 use Rattle.iceoryx2_description.specs.Description.{Description, IsDescription, max_nodes_of}
 use Rattle.iceoryx2_byte_form.specs.Form as form
-use Rattle.iceoryx2_description.specs.Span.{Span}
 use Rattle.iceoryx2_world.specs.declared.world.Participant.{Participant}
 use Rattle.iceoryx2_world.specs.declared.world.Participant.TheVariants.{Node, Peer}
 use Rattle.iceoryx2_world.specs.declared.world.Phase.{Phase}
@@ -21,7 +19,7 @@ use Rattle.iceoryx2_world.proofs.agreement.Moved.{same_self, contains_alone, len
 use Rattle.iceoryx2_world.proofs.agreement.Whole.{own_hash}
 use Rattle.iceoryx2_pattern.specs.Meaning.{Meaning}
 use Rattle.iceoryx2_access.specs.Registered.{Registered}
-use Rattle.iceoryx2_call_laws.proofs.calls.Callers.{called}
+use Rattle.iceoryx2_create_and_open.specs.declared.caller.Caller.{Caller}
 use Rattle.iceoryx2_create_and_open.specs.Creates.{IsCreateWord, clock_stops, description_of}
 use Rattle.iceoryx2_call_laws.specs.Quiet.{Quiet, IsAbsent, ShowsService, Shows, service_at, is_counted}
 use Rattle.iceoryx2_call_laws.specs.QuietCalls.{Creates, created_by, with_service, spend}
@@ -89,12 +87,18 @@ module _ (i : ℕ) (h : ServiceHash) (w v : World) (q : Quiet) (a : Apart i h w 
       ]
       members n d (Peer j) = contains_alone (Node i) (Peer j) ∙ not_same (Peer j) (Node i) (no_node j i)
 
-module _ {E C : Type 0} (m : Meaning E C) (i : ℕ) (h : ServiceHash) (name : List ℕ) (now : Result Span ClockFault) (w v : World) (q : Quiet) (a : Apart i h w v) (s : Shows w q) (gone : service_at q h ≡ None) where
+module _ {E C : Type 0} (m : Meaning E C) (caller : Caller) (w v : World) (q : Quiet) (a : Apart caller.node caller.hash w v) (s : Shows w q) (gone : service_at q caller.hash ≡ None) where
+  abbrev i : ℕ
+  i = caller.node
+
+  abbrev h : ServiceHash
+  h = caller.hash
+
   abbrev d : Description
-  d = description_of m (called i h name now)
+  d = description_of m caller
 
   abbrev MadeHere : Result Registered C → Type 0
-  MadeHere r = Made (Creates m q (called i h name now) r) (tickets_after w.tickets r) v
+  MadeHere r = Made (Creates m q caller r) (tickets_after w.tickets r) v
 
   has_number : nat_lt q.counter last_number ≡ true → q.counter < last_number
   has_number e = grind (arith, nat_tests, e)
@@ -102,7 +106,7 @@ module _ {E C : Type 0} (m : Meaning E C) (i : ℕ) (h : ServiceHash) (name : Li
   has_no_number : nat_lt q.counter last_number ≡ false → last_number ≤ q.counter
   has_no_number e = grind (arith, nat_tests, e)
 
-  made : (r : Result Registered C) (x : NodeView) → Founds m i h (clock_stops m.needs_clock now) d q.counter w.tickets r x → node_view v i h ≡ x → MadeHere r
+  made : (r : Result Registered C) (x : NodeView) → Founds m i h (clock_stops m.needs_clock caller.clock) d q.counter w.tickets r x → node_view v i h ≡ x → MadeHere r
   made r x (forbids b bad) is = record { state = q; call = call.forbidden bad; shows = stays_absent i h w v q a s gone _ q.counter b is; tickets = ap (λ (z : NodeView). z.tickets) is }
   made r x (no_time b fits stops) is = record { state = q; call = call.no_time fits gone stops; shows = stays_absent i h w v q a s gone _ q.counter b is; tickets = ap (λ (z : NodeView). z.tickets) is }
   made r x (no_number b fits runs end) is = record { state = q; call = call.no_number fits gone runs (has_no_number end); shows = stays_absent i h w v q a s gone _ q.counter b is; tickets = ap (λ (z : NodeView). z.tickets) is }
@@ -110,5 +114,5 @@ module _ {E C : Type 0} (m : Meaning E C) (i : ℕ) (h : ServiceHash) (name : Li
   made r x (forgets_locked b fits runs room) is = record { state = spend q; call = call.no_memory_locked fits gone runs (has_number room); shows = stays_absent i h w v q a s gone _ (q.counter + 1) b is; tickets = ap (λ (z : NodeView). z.tickets) is }
   made r x (founds limits fits runs room) is = record { state = spend (with_service q h (Some (created_by i d q.counter))); call = call.created fits gone runs (has_number room); shows = stands i h w v q a s gone d limits refl is; tickets = ap (λ (z : NodeView). z.tickets) is }
 
-  pub create_absent : (r : Result Registered C) (word : List Letter) → nat_lt 0 (max_nodes_of d.pattern) ≡ true → IsCreateWord m (called i h name now) word r → Run (AtNode i h) (node_view w i h) word (node_view v i h) → MadeHere r
-  create_absent r word positive is_word run = made r _ (founding m i h (clock_stops m.needs_clock now) d (phase_of w (Node i) h) q.counter w.tickets ((was_absent i h w v q a s gone).phases i) positive (own_hash h) is_word (from (begin_absent i h w v q a s gone) run)) refl
+  pub create_absent : (r : Result Registered C) (word : List Letter) → nat_lt 0 (max_nodes_of d.pattern) ≡ true → IsCreateWord m caller word r → Run (AtNode i h) (node_view w i h) word (node_view v i h) → MadeHere r
+  create_absent r word positive is_word run = made r _ (founding m i h (clock_stops m.needs_clock caller.clock) d (phase_of w (Node i) h) q.counter w.tickets ((was_absent i h w v q a s gone).phases i) positive (own_hash h) is_word (from (begin_absent i h w v q a s gone) run)) refl

@@ -10,9 +10,10 @@ use Rattle.iceoryx2_description.specs.declared.description.ServiceHash.{ServiceH
 use Rattle.iceoryx2_world.specs.declared.listing.Entry.{Entry}
 use Rattle.iceoryx2_world.specs.Orders.{hash_cmp, hash_total, hash_exact}
 use Rattle.iceoryx2_world.specs.World.{World, row_of, segment_of}
-use Rattle.iceoryx2_world.specs.Listing.{Lists, entry_at, by_hash}
+use Rattle.iceoryx2_world.specs.Listing.{entry_at, by_hash}
 use Rattle.iceoryx2_world.proofs.agreement.Whole.{same_hash}
-use Rattle.iceoryx2_call_laws.specs.Quiet.{QuietService, Quiet, ShowsService, Shows, service_at}
+use Rattle.iceoryx2_call_laws.specs.Quiet.{QuietService, ShowsService, service_at}
+use Rattle.iceoryx2_call_laws.specs.QuietLaws.{ListsItsServices}
 use Rattle.iceoryx2_call_laws.specs.QuietLists.{listed_service, listing}
 
 abbrev entries_of : List (ServiceHash × QuietService) → List Entry
@@ -41,7 +42,7 @@ keyed_back : (es : List Entry) → map (λ (e : ServiceHash × Entry). e.1) (by_
 keyed_back [] = refl
 keyed_back (e ∷ es) = ap (λ l. e ∷ l) (keyed_back es)
 
-pub lists_the_machine : (w : World) (q : Quiet) (es : List Entry) → Shows w q → Lists w es → es ≡ listing q
+pub lists_the_machine : ListsItsServices
 lists_the_machine w q es s l =
     let same : by_hash es ≡ by_hash (listing q) = same_entries hash_cmp hash_total hash_exact (by_hash es) (by_hash (listing q)) l.ascends (subst (λ b. T b) (sym (sorted_entries (finite.entries q.services))) (entries_sorted q.services)) (λ h.
     l.each h ∙ shown_entry w h (service_at q h) (s.services h) ∙ ap (option_map (listed_service h)) (get-entries q.services h) ∙ sym (find_entries h (finite.entries q.services))) in

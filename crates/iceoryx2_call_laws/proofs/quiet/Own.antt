@@ -1,6 +1,5 @@
 -- A builder that accepts what it creates opens what its calls have given.
-use Rattle.std.proofs.Common.{◌≡◌, ℕ, Some, Result, ◌⊎◌, inl, inr, Bool, true, false, refl, sym, ap, subst, ◌∙◌}
-use Rattle.iceoryx2_attribute.specs.Requirements.{Requirements, AreMetBy}
+use Rattle.std.proofs.Common.{◌≡◌, Some, Result, ◌⊎◌, inl, inr, Bool, true, false, sym, ap, subst, ◌∙◌}
 use Rattle.iceoryx2_description.specs.Description.{Description}
 use Rattle.iceoryx2_access.specs.Registered.{Registered}
 use Rattle.iceoryx2_pattern.specs.OwnAttributes.{requiring}
@@ -9,17 +8,13 @@ use Rattle.iceoryx2_create_and_open.specs.OwnSettings.{AcceptsOwn}
 use Rattle.iceoryx2_open_or_create.specs.Adjusting.{Accepts, OnlyRaises}
 use Rattle.iceoryx2_open_or_create.specs.LawfulCalls.{IsLawfulCall}
 use Rattle.iceoryx2_open_or_create.proofs.OwnAttributes.{accepts_with_attributes, accepts_without_attributes}
-use Rattle.iceoryx2_world.specs.Standing.{Stands}
-use Rattle.iceoryx2_world.specs.World.{World}
-use Rattle.iceoryx2_open_or_create.specs.BuilderCalls.{BuilderCall, Way, ToCreate, ToOpen, ToOpenOrCreate, creating, opening}
+use Rattle.iceoryx2_open_or_create.specs.BuilderCalls.{BuilderCall, Way, ToCreate, ToOpen, ToOpenOrCreate, creating}
 use Rattle.iceoryx2_call_laws.specs.AnyCalls.{Meets, Holds, MayCarryBy}
-use Rattle.iceoryx2_call_laws.specs.Headline.{IsOpenAsAsked}
-use Rattle.iceoryx2_call_laws.specs.OpensAgain.{StandsAsAsked, opening_again, HasRoomFor, IsOkOrOutOfMemory, OpensOwnSettings, OpensAgain}
-use Rattle.iceoryx2_call_laws.specs.Quiet.{Quiet, Shows, service_at}
-use Rattle.iceoryx2_call_laws.specs.QuietCalls.{Opens}
+use Rattle.iceoryx2_call_laws.specs.OpensAgain.{opening_again, OpensOwnSettings, OpensAgain}
+use Rattle.iceoryx2_call_laws.specs.QuietLaws.{CarriesAsAsked}
+use Rattle.iceoryx2_call_laws.specs.Quiet.{Quiet, service_at}
 use Rattle.iceoryx2_call_laws.specs.QuietPrepared.{PreparesFirstIf, prepared}
 use Rattle.iceoryx2_call_laws.proofs.quiet.After.{accepted}
-use Rattle.iceoryx2_call_laws.proofs.quiet.Prepared.{each_prepared}
 use Rattle.iceoryx2_call_laws.proofs.quiet.Tickets.{service_of}
 use Rattle.iceoryx2_call_laws.proofs.quiet.Ways.{opening_follows}
 
@@ -45,32 +40,22 @@ module _ {D E C : Type 0} (c : BuilderCall D E C) (own : AcceptsOwn (creating c)
   given_accepted ToOpen d meets = meets_accepted d meets
   given_accepted ToOpenOrCreate d carries = either_accepted d (carries raises)
 
-  module _ (required : Requirements) where
-    opens_own : (node : ℕ) (q p : Quiet) (f : Registered) (w : World) (answer : Result Registered E)
-        → StandsAsAsked c w f → Shows w q → AreMetBy required f.description.attributes
-        → HasRoomFor q node c.caller.hash
-        → Opens (requiring required (c.meaning c.asked)) q node c.caller.hash answer p
-        → IsOkOrOutOfMemory (opening c) answer
-    opens_own node q p f w answer is s met room opened =
-        let other = requiring required (c.meaning c.asked) in
-        let has = service_of w q f s is.stands in
-        let there : service_at q c.caller.hash ≡ Some has.service = ap (λ h. service_at q h) (sym is.hash) ∙ has.there in
-        let taken = accepts_with_attributes (c.meaning c.asked) required f.description met (given_accepted c.way f.description is.carries) in
-        accepted other node c.caller.hash q p answer (record {
-          service = has.service;
-          there = there;
-          accepted = record {
-            fits = ap (λ d. other.misfit d) has.description ∙ taken.fits;
-            meets = ap (λ d. verdict (other.requirement d)) has.description ∙ taken.meets;
-          };
-          place = room.place has.service there;
-          number = room.number;
-        }) opened
-
-  -- also where it may prepare its types first
-  pub opens_own_prepared : OpensOwnSettings c
-  opens_own_prepared required node q p f w answer is s met room opened =
-      each_prepared (λ answer p. IsOkOrOutOfMemory (opening c) answer) refl (λ answer p made. opens_own required node q p f w answer is s met room made) opened
+  pub opens_own : OpensOwnSettings c
+  opens_own required node q p f w answer is s met room opened =
+      let other = requiring required (c.meaning c.asked) in
+      let has = service_of w q f s is.stands in
+      let there : service_at q c.caller.hash ≡ Some has.service = ap (λ h. service_at q h) (sym is.hash) ∙ has.there in
+      let taken = accepts_with_attributes (c.meaning c.asked) required f.description met (given_accepted c.way f.description is.carries) in
+      accepted other node c.caller.hash q p answer (record {
+        service = has.service;
+        there = there;
+        accepted = record {
+          fits = ap (λ d. other.misfit d) has.description ∙ taken.fits;
+          meets = ap (λ d. verdict (other.requirement d)) has.description ∙ taken.meets;
+        };
+        place = room.place has.service there;
+        number = room.number;
+      }) opened
 
 -- a call that doesn't prepare is one that may
 may_prepare : {E : Type 0} (b : Bool) {no_memory : E} {q : Quiet} {Calls : Result Registered E → Quiet → Type 0} {answer : Result Registered E} {p : Quiet}
@@ -83,13 +68,11 @@ module _ {D E C : Type 0} (c : BuilderCall D E C) (lawful : IsLawfulCall c) wher
   pub opens_again : OpensAgain c
   opens_again required node f q w v word answer is met shows old room is_word run =
       let other = opening_again c node required in
-      let made = opening_follows other q shows old is_word run in
-      opens_own_prepared c lawful.accepts_own lawful.only_raises required node q made.state f w answer is shows met room
-      (may_prepare other.prepares made.call)
+      let made = opening_follows other w v q word answer (record { shows = shows; agrees = old; run = run }) is_word in
+      opens_own c lawful.accepts_own lawful.only_raises required node q made.state f w answer is shows met room (may_prepare other.prepares made.call)
 
 -- where a factory is open as its call asked, each of its service carries the same
-pub stands_as_asked : {D E C : Type 0} (c : BuilderCall D E C) (w : World) (f g : Registered)
-    → IsOpenAsAsked c w f → Stands w g → g.description.hash ≡ f.description.hash → StandsAsAsked c w g
+pub stands_as_asked : {D E C : Type 0} (c : BuilderCall D E C) → CarriesAsAsked c
 stands_as_asked c w f g is there same = record {
   stands = there;
   hash = same ∙ is.hash;

@@ -20,7 +20,7 @@ use Rattle.iceoryx2_world.specs.World.{World, Segment, row_of, segment_of, phase
 use Rattle.iceoryx2_world.specs.Across.{Agrees}
 use Rattle.iceoryx2_world.proofs.agreement.Empty.{no_count}
 use Rattle.iceoryx2_call_laws.specs.Quiet.{NodeCounts, QuietService, Quiet, ShowsService, Shows, CountIs, service_at, times_counted, is_counted}
-use Rattle.iceoryx2_call_laws.specs.QuietLaws.{HoldsTheSame, HasNothingAt, times_at, times_opened}
+use Rattle.iceoryx2_call_laws.specs.QuietLaws.{times_at, times_opened, CountsTickets, CountsTags, SameServicesHoldTheSame, NothingWithoutService, NothingWithoutTicket}
 
 same_unit : (a b : Option (Unit {0})) → is_some a ≡ is_some b → a ≡ b
 same_unit None None e = refl
@@ -73,18 +73,18 @@ same_at w v h (Some x) s t = record {
   counts = λ i. joined_times x.number _ (times_counted x i) (t.phases i) ∙ sym (joined_times x.number _ (times_counted x i) (s.phases i));
 }
 
-pub holds_the_same : (w v : World) (q p : Quiet) → Shows w q → Shows v p → p.services ≡ q.services → HoldsTheSame w v
+pub holds_the_same : SameServicesHoldTheSame
 holds_the_same w v q p s t services =
     let each : (h : ServiceHash) → SameAt w v h = λ h. same_at w v h (service_at q h) (s.services h) (subst (λ o. ShowsService v h o) (ap (λ k. map.get k h) services) (t.services h)) in
     record { rows = λ h. (each h).row; segments = λ h. (each h).segment; tags = λ i h. (each h).tags i; counts = λ i h. (each h).counts i }
 
-pub nothing_at : (w : World) (q : Quiet) (h : ServiceHash) → Shows w q → service_at q h ≡ None → HasNothingAt w h
+pub nothing_at : NothingWithoutService
 nothing_at w q h s gone =
     let here = subst (λ o. ShowsService w h o) gone (s.services h) in
     record { row = here.row; segment = here.segment; tags = here.tags; counts = λ i. none_joined _ (here.phases i) }
 
 -- each count is the tickets of its node
-pub tickets_counted : (w : World) (q : Quiet) (i : ℕ) (h : ServiceHash) → Shows w q → Agrees w → ticket_count w.tickets i h ≡ times_opened q i h
+pub tickets_counted : CountsTickets
 tickets_counted w q i h s a = a.held.count i h ∙ times_joined w h (service_at q h) i (s.services h)
 
 tag_by : (x : Phase) (n : ℕ) (o : Option ℕ) → CountIs n x o → IsTrue (is_some o) ↔ (1 ≤ unwrap_or o 0)
@@ -96,7 +96,7 @@ tag_at w h None i s = (λ e. absurd (true≢false (sym e ∙ s.tags i)), λ e. a
 tag_at w h (Some x) i s = let by = tag_by _ x.number (times_counted x i) (s.phases i) in (λ e. by.0 (sym (s.tags i) ∙ e), λ e. s.tags i ∙ by.1 e)
 
 -- a node has a tag where it has opened the service
-pub tags_counted : (w : World) (q : Quiet) (i : ℕ) (h : ServiceHash) → Shows w q → IsTrue (tag_of w i h) ↔ (1 ≤ times_opened q i h)
+pub tags_counted : CountsTags
 tags_counted w q i h s = tag_at w h (service_at q h) i (s.services h)
 
 no_tickets : (w : World) → ((t : ℕ) → ticket_of w t ≡ None) → w.tickets ≡ map.empty
@@ -127,5 +127,5 @@ unused w q s a none h = gone (service_at q h) refl (s.services h)
 no_services : (q : Quiet) → ((h : ServiceHash) → service_at q h ≡ None) → q.services ≡ map.empty
 no_services q none = same_map hash_total hash_exact q.services map.empty (λ h. none h ∙ sym (map.get-empty {X = QuietService} hash_cmp h))
 
-pub all_gone : (w : World) (q : Quiet) → Shows w q → Agrees w → ((t : ℕ) → ticket_of w t ≡ None) → (q.services ≡ map.empty) × ((h : ServiceHash) → HasNothingAt w h)
+pub all_gone : NothingWithoutTicket
 all_gone w q s a none = (no_services q (unused w q s a none), λ h. nothing_at w q h s (unused w q s a none h))

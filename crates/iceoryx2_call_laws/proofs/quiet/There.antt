@@ -1,10 +1,8 @@
 -- A look at a service that stands, and create beside it.
 use Rattle.std.proofs.Common.{◌≡◌, ℕ, Bool, true, false, List, ◌++◌, Option, Some, None, Result, Ok, Err, inl, inr, refl, sym, ap, subst, ◌∙◌, arith}
 use Rattle.iceoryx2_description.specs.declared.description.ServiceHash.{ServiceHash}
-use Rattle.iceoryx2_description.specs.declared.time.ClockFault.{ClockFault}
 use Rattle.iceoryx2_description.specs.Description.{Description, IsDescription}
 use Rattle.iceoryx2_byte_form.specs.Form as form
-use Rattle.iceoryx2_description.specs.Span.{Span}
 use Rattle.iceoryx2_byte_form.proofs.Fields.{one_description}
 use Rattle.iceoryx2_world.specs.declared.world.Participant.TheVariants.{Node}
 use Rattle.iceoryx2_world.specs.declared.world.Phase.{Phase}
@@ -19,7 +17,7 @@ use Rattle.iceoryx2_access.specs.Letter as letter
 use Rattle.iceoryx2_access.specs.Run.{Run}
 use Rattle.iceoryx2_world.specs.Access.{NodeView, node_view, node_view_after}
 use Rattle.iceoryx2_access.proofs.Run.{head, split, last}
-use Rattle.iceoryx2_call_laws.proofs.calls.Callers.{called}
+use Rattle.iceoryx2_create_and_open.specs.declared.caller.Caller.{Caller}
 use Rattle.iceoryx2_create_and_open.specs.declared.look.Fault.{Fault}
 use Rattle.iceoryx2_create_and_open.specs.declared.look.Fault.TheVariants as at_fault
 use Rattle.iceoryx2_create_and_open.specs.declared.look.Outcome.{Outcome}
@@ -152,7 +150,13 @@ still_counts None (keeps e) count = count
 still_counts (Some k) (reads e) count = absurd (cc)
 still_counts (Some k) (keeps e) count = count
 
-module _ {E C : Type 0} (m : Meaning E C) (i : ℕ) (h : ServiceHash) (w v : World) (q : Quiet) (a : Apart i h w v) (s : Shows w q) (x : QuietService) (is_there : service_at q h ≡ Some x) where
+module _ {E C : Type 0} (m : Meaning E C) (caller : Caller) (w v : World) (q : Quiet) (a : Apart caller.node caller.hash w v) (s : Shows w q) (x : QuietService) (is_there : service_at q caller.hash ≡ Some x) where
+  abbrev i : ℕ
+  i = caller.node
+
+  abbrev h : ServiceHash
+  h = caller.hash
+
   abbrev was : IsThere h x (row_of w h) (segment_of w h) (λ j. phase_of w (Node j) h) (λ j. tag_of w j h)
   was = was_there i h w v q a s x is_there
 
@@ -168,27 +172,26 @@ module _ {E C : Type 0} (m : Meaning E C) (i : ℕ) (h : ServiceHash) (w v : Wor
   never_enters : {u : List Letter} {tag : Tag} {t : NodeView} → IsEntryWord m i h u (Ok tag) → Run (AtNode i h) (node_view w i h) u t → ⊥
   never_enters (create.entered tag l) r = never _ l r
 
-  module _ (name : List ℕ) (now : Result Span ClockFault) where
-    abbrev MadeHere : Result Registered C → Type 0
-    MadeHere r = Made (Creates m q (called i h name now) r) (tickets_after w.tickets r) v
+  abbrev MadeHere : Result Registered C → Type 0
+  MadeHere r = Made (Creates m q caller r) (tickets_after w.tickets r) v
 
-    kept : (r : Result Registered C) (y : Phase) → Creates m q (called i h name now) r q → tickets_after w.tickets r ≡ w.tickets → CountIs x.number y (times_counted x i) → node_view v i h ≡ over_here i h w v q a s x is_there y → MadeHere r
-    kept r y call no_ticket count is = record { state = q; call = call; shows = stays_there i h w v q a s x is_there y count is; tickets = ap (λ (z : NodeView). z.tickets) is ∙ sym no_ticket }
+  kept : (r : Result Registered C) (y : Phase) → Creates m q caller r q → tickets_after w.tickets r ≡ w.tickets → CountIs x.number y (times_counted x i) → node_view v i h ≡ over_here i h w v q a s x is_there y → MadeHere r
+  kept r y call no_ticket count is = record { state = q; call = call; shows = stays_there i h w v q a s x is_there y count is; tickets = ap (λ (z : NodeView). z.tickets) is ∙ sym no_ticket }
 
-    faulty : {fault : Fault E} {t : NodeView} → m.history_refusal ≡ None → Looks (outcome.Faulty fault) t → node_view v i h ≡ t → MadeHere (Err (create_error_of m fault))
-    faulty fits (misfits p bad) is = kept _ _ (call.exists x fits is_there) refl (still_counts _ p (was.phases i)) is
-    faulty fits (forgets p) is = kept _ _ (call.no_memory fits) refl (still_counts _ p (was.phases i)) is
-    faulty fits starved is = kept _ _ (call.no_memory fits) refl (was.phases i) is
+  faulty : {fault : Fault E} {t : NodeView} → m.history_refusal ≡ None → Looks (outcome.Faulty fault) t → node_view v i h ≡ t → MadeHere (Err (create_error_of m fault))
+  faulty fits (misfits p bad) is = kept _ _ (call.exists x fits is_there) refl (still_counts _ p (was.phases i)) is
+  faulty fits (forgets p) is = kept _ _ (call.no_memory fits) refl (still_counts _ p (was.phases i)) is
+  faulty fits starved is = kept _ _ (call.no_memory fits) refl (was.phases i) is
 
-    found : {n : ℕ} {d : Description} {t : NodeView} → m.history_refusal ≡ None → Looks (outcome.Found n d) t → node_view v i h ≡ t → MadeHere (Err (m.create_refusal refusal.AlreadyExists))
-    found fits (finds p good) is = kept _ _ (call.exists x fits is_there) refl (still_counts _ p (was.phases i)) is
+  found : {n : ℕ} {d : Description} {t : NodeView} → m.history_refusal ≡ None → Looks (outcome.Found n d) t → node_view v i h ≡ t → MadeHere (Err (m.create_refusal refusal.AlreadyExists))
+  found fits (finds p good) is = kept _ _ (call.exists x fits is_there) refl (still_counts _ p (was.phases i)) is
 
-    pub create_there : (r : Result Registered C) (word : List Letter) → IsCreateWord m (called i h name now) word r → Run (AtNode i h) (node_view w i h) word (node_view v i h) → MadeHere r
-    create_there r word (create.forbidden bad) run = kept _ _ (call.forbidden bad) refl (was.phases i) (ended run ∙ begin_there i h w v q a s x is_there)
-    create_there r word (create.not_entered fits (create.look_faulty l)) run = faulty fits (looked l run) refl
-    create_there r word (create.not_entered fits (create.look_found l)) run = found fits (looked l run) refl
-    create_there r word (create.not_entered fits (create.counted l)) run = absurd (never _ l run)
-    create_there r word (create.not_entered fits (create.no_copies l)) run = absurd (never _ l run)
-    create_there r word (create.not_entered fits (create.no_tag e l)) run = absurd (never _ l run)
-    create_there r word (create.clock_fault {u = u} fits _ e g) run = absurd (never_enters e (split u _ run).first)
-    create_there r word (create.made {u = u} fits _ e _) run = absurd (never_enters e (split u _ run).first)
+  pub create_there : (r : Result Registered C) (word : List Letter) → IsCreateWord m caller word r → Run (AtNode i h) (node_view w i h) word (node_view v i h) → MadeHere r
+  create_there r word (create.forbidden bad) run = kept _ _ (call.forbidden bad) refl (was.phases i) (ended run ∙ begin_there i h w v q a s x is_there)
+  create_there r word (create.not_entered fits (create.look_faulty l)) run = faulty fits (looked l run) refl
+  create_there r word (create.not_entered fits (create.look_found l)) run = found fits (looked l run) refl
+  create_there r word (create.not_entered fits (create.counted l)) run = absurd (never _ l run)
+  create_there r word (create.not_entered fits (create.no_copies l)) run = absurd (never _ l run)
+  create_there r word (create.not_entered fits (create.no_tag e l)) run = absurd (never _ l run)
+  create_there r word (create.clock_fault {u = u} fits _ e g) run = absurd (never_enters e (split u _ run).first)
+  create_there r word (create.made {u = u} fits _ e _) run = absurd (never_enters e (split u _ run).first)

@@ -11,7 +11,6 @@ use Rattle.iceoryx2_world.specs.declared.world.Participant.TheVariants.{Node}
 use Rattle.iceoryx2_world.specs.declared.world.Phase.{Phase}
 use Rattle.iceoryx2_world.specs.declared.world.Phase.TheVariants as at
 use Rattle.iceoryx2_world.specs.declared.world.Row.TheVariants as row
-use Rattle.iceoryx2_world.specs.declared.world.Ticket.{Ticket}
 use Rattle.iceoryx2_world.specs.World.{World, phase_of, begins, joined_number, ticket_of}
 use Rattle.iceoryx2_world.specs.Agreement.{Later}
 use Rattle.iceoryx2_world.specs.Across.{Agrees}
@@ -21,7 +20,7 @@ use Rattle.iceoryx2_world.proofs.agreement.Accesses.{later_refl}
 use Rattle.iceoryx2_world.proofs.agreement.Maps.{set_cases}
 use Rattle.iceoryx2_world.proofs.agreement.Stands.{stands_by_ticket, older_ticket}
 use Rattle.iceoryx2_call_laws.specs.Quiet.{QuietService, Quiet, ShowsService, Shows, CountIs, service_at, times_counted}
-use Rattle.iceoryx2_call_laws.specs.QuietLaws.{HasOpened, HasServiceOf}
+use Rattle.iceoryx2_call_laws.specs.QuietLaws.{HasOpened, HasServiceOf, TicketsHaveOpened, StandingHasService}
 use Rattle.iceoryx2_call_laws.specs.Tickets.{tickets_after}
 
 not_begun : (x : Phase) (n : ℕ) → begins x ≡ true → joined_number x ≡ Some n → ⊥
@@ -38,7 +37,7 @@ open_by w q i h n None is s e = absurd (not_begun (phase_of w (Node i) h) n (s.p
 open_by w q i h n (Some x) is s e = let c = counted_by (phase_of w (Node i) h) n x.number (times_counted x i) (s.phases i) e in record { service = x; there = is; number = c.2; count = c.0; counted = c.1 }
 
 -- who has a ticket has opened its service
-pub has_opened : (w : World) (q : Quiet) (t : ℕ) (x : Ticket) → Shows w q → Agrees w → ticket_of w t ≡ Some x → HasOpened q x.node x.hash x.number
+pub has_opened : TicketsHaveOpened
 has_opened w q t x s old e = open_by w q x.node x.hash x.number (service_at q x.hash) refl (s.services x.hash) (old.held.number t x e)
 
 -- who stands carries the machine's description
@@ -50,7 +49,7 @@ service_by w q f (Some x) is s stands =
     let bytes : form.description x.description ≡ form.description f.description = cc in
     record { service = x; there = is; description = one_description (form.description x.description) x.description f.description (s.limits, refl) (stands.limits, bytes); number = number }
 
-pub service_of : (w : World) (q : Quiet) (f : Registered) → Shows w q → Stands w f → HasServiceOf q f
+pub service_of : StandingHasService
 service_of w q f s stands = service_by w q f (service_at q f.description.hash) refl (s.services f.description.hash) stands
 
 -- a factory whose ticket stays stands

@@ -1,5 +1,5 @@
 -- The calls of a builder over a world that shows the machine: the first round of an open or create is its last.
-use Rattle.std.proofs.Common.{◌≡◌, ℕ, Bool, true, false, List, ◌++◌, Some, None, Result, Ok, Err, refl, sym, ap, subst, ◌∙◌, arith}
+use Rattle.std.proofs.Common.{◌≡◌, ℕ, false, List, ◌++◌, Some, None, Result, Ok, Err, refl, sym, ap, subst, ◌∙◌, arith}
 use mathlib.Core.Bool.{true≢false}
 use Rattle.iceoryx2_description.specs.Description.{Description}
 use Rattle.iceoryx2_world.specs.World.{World}
@@ -23,17 +23,16 @@ use Rattle.iceoryx2_open_or_create.specs.declared.open_or_create.OpenOrCreateRef
 use Rattle.iceoryx2_open_or_create.specs.OpenOrCreates.{IsMaking, IsOpening, IsRetriedTurn, open_retried, create_retried, IsLastTurn, look_faulty, not_opened, opened, not_created, created, AreRetriedTurns, no_turn, one_more, IsOpenOrCreateWord, ended, in_flux}
 use Rattle.iceoryx2_open_or_create.specs.BuilderCalls.{BuilderCall, Way, ToCreate, ToOpen, ToOpenOrCreate, ErrorBy, creating, opening, asking, rounds_of}
 use Rattle.iceoryx2_open_or_create.specs.LawfulCalls.{IsLawfulCall}
-use Rattle.iceoryx2_open_or_create.specs.CallWords.{PreparedIf, IsWordBy}
+use Rattle.iceoryx2_open_or_create.specs.CallWords.{IsWordBy}
 use Rattle.iceoryx2_call_laws.specs.Quiet.{QuietService, Quiet, Shows, service_at}
 use Rattle.iceoryx2_call_laws.specs.QuietWays as attempt
 use Rattle.iceoryx2_call_laws.specs.QuietWays.{OpensOrCreates, Answers}
-use Rattle.iceoryx2_call_laws.specs.QuietPrepared.{PreparesFirstIf}
 use Rattle.iceoryx2_call_laws.specs.QuietCalls.{Creates, Opens}
 use Rattle.iceoryx2_call_laws.specs.QuietCalls as call
-use Rattle.iceoryx2_call_laws.specs.QuietLaws.{IsCall, HoldsTheSame}
+use Rattle.iceoryx2_call_laws.specs.QuietLaws.{RunsQuietly, IsCall, Follows, RefusalHoldsTheSame}
 use Rattle.iceoryx2_call_laws.proofs.quiet.After.{create_refused, open_refused}
 use Rattle.iceoryx2_call_laws.proofs.quiet.Calls.{create_follows, open_follows}
-use Rattle.iceoryx2_call_laws.proofs.quiet.Prepared.{prepared_follows, refused_prepared}
+use Rattle.iceoryx2_call_laws.proofs.quiet.Prepared.{prepared_follows, refused_if}
 use Rattle.iceoryx2_call_laws.proofs.quiet.Same.{holds_the_same}
 use Rattle.iceoryx2_call_laws.proofs.quiet.Looked.{after_rest, rest_shows, look_rests_absent, look_rests_there, never_nothing}
 
@@ -63,12 +62,6 @@ module _ {D E C : Type 0} (a : BuilderCall D E C) (lawful : IsLawfulCall a) (q :
 
   -- ---- the part after the look of a round
 
-  made_after : {word : List Letter} {w v : World} (answer : Result Registered C) → Shows w q → Agrees w → IsMaking a word answer → Run IsOwnPart w word v → IsCall w (Creates (creating a) q a.caller answer) answer v
-  made_after {word} {w} {v} answer s old is run = create_follows (creating a) a.caller.node a.caller.hash a.caller.name a.caller.clock w v q word answer (lawful.takes_nodes (time_of a.caller.clock)) s old is run
-
-  opened_after : {word : List Letter} {w v : World} (answer : Result Registered E) → Shows w q → Agrees w → IsOpening a word answer → Run IsOwnPart w word v → IsCall w (Opens (opening a) q a.caller.node a.caller.hash answer) answer v
-  opened_after {word} {w} {v} answer s old is run = open_follows (opening a) a.caller.node a.caller.hash w v q word answer s old is run
-
   created_call : {w v : World} (answer : Result Registered C) → service_at q a.caller.hash ≡ None → IsCall w (Creates (creating a) q a.caller answer) answer v → IsIt w (map_err refusal.Create answer) v
   created_call (Ok r) gone c = record { state = c.state; call = attempt.creates gone c.call; shows = c.shows; agrees = c.agrees; tickets = c.tickets; given = c.given; kept = c.kept }
   created_call (Err e) gone c = record { state = c.state; call = attempt.creates gone c.call; shows = c.shows; agrees = c.agrees; tickets = c.tickets; given = tt; kept = c.kept }
@@ -89,7 +82,7 @@ module _ {D E C : Type 0} (a : BuilderCall D E C) (lawful : IsLawfulCall a) (q :
     then_created {x} {y} answer gone l c run =
         let parts = split x y run in
         let rest = (look_rests_absent (a.meaning a.asked) a.caller.node a.caller.hash s old gone l parts.first).1 in
-        after_rest (λ p. Creates (creating a) p a.caller answer) answer s rest (made_after answer (rest_shows rest) rest.agrees c parts.second)
+        after_rest (λ p. Creates (creating a) p a.caller answer) answer s rest (create_follows (creating a) a.caller (lawful.takes_nodes (time_of a.caller.clock)) parts.mid v q y answer (record { shows = rest_shows rest; agrees = rest.agrees; run = parts.second }) c)
 
     -- an open after a look, where there is one
     then_opened : {x y : List Letter} {n : ℕ} {d : Description} (answer : Result Registered E) (z : QuietService) → service_at q a.caller.hash ≡ Some z → IsLookWord (a.meaning a.asked) a.caller.node a.caller.hash x (outcome.Found n d) → IsOpening a y answer → Run IsOwnPart w (x ++ y) v
@@ -97,7 +90,7 @@ module _ {D E C : Type 0} (a : BuilderCall D E C) (lawful : IsLawfulCall a) (q :
     then_opened {x} {y} answer z there l o run =
         let parts = split x y run in
         let f = look_rests_there (a.meaning a.asked) a.caller.node a.caller.hash s old z there l parts.first in
-        (f.fits, after_rest (λ p. Opens (opening a) p a.caller.node a.caller.hash answer) answer s f.rest (opened_after answer (rest_shows f.rest) f.rest.agrees o parts.second))
+        (f.fits, after_rest (λ p. Opens (opening a) p a.caller.node a.caller.hash answer) answer s f.rest (open_follows (opening a) a.caller.node a.caller.hash parts.mid v q y answer (record { shows = rest_shows f.rest; agrees = f.rest.agrees; run = parts.second }) o))
 
     -- a look finds nothing where there is no service, and something where there is one
     not_gone : (x y : List Letter) {o : Outcome E} → (o ≡ outcome.Nothing → ⊥) → service_at q a.caller.hash ≡ None → IsLookWord (a.meaning a.asked) a.caller.node a.caller.hash x o → Run IsOwnPart w (x ++ y) v → ⊥
@@ -119,7 +112,7 @@ module _ {D E C : Type 0} (a : BuilderCall D E C) (lawful : IsLawfulCall a) (q :
     last_is : {word : List Letter} {answer : Result Registered (OpenOrCreateRefusal E C)} → IsLastTurn a word answer → Run IsOwnPart w word v → IsIt w answer v
     last_is {word} (look_faulty {fault} l) run = elim (service_at q a.caller.hash) as (λ z. service_at q a.caller.hash ≡ z → IsIt w (Err (refusal.Open (open_error_of (a.meaning a.asked) fault))) v) [
       | None ↦ λ gone. let none = (look_rests_absent (a.meaning a.asked) a.caller.node a.caller.hash s old gone l run).0 in absurd (cc)
-      | Some z ↦ λ there. opened_call (Err (open_error_of (a.meaning a.asked) fault)) z there (opened_after (Err (open_error_of (a.meaning a.asked) fault)) s old (faulty_open l) run)
+      | Some z ↦ λ there. let refused : Result Registered E = Err (open_error_of (a.meaning a.asked) fault) in opened_call refused z there (open_follows (opening a) a.caller.node a.caller.hash w v q word refused (record { shows = s; agrees = old; run = run }) (faulty_open l))
     ] refl
     last_is (not_opened {u = x} {v = y} {error = error} l o ends) run = elim (service_at q a.caller.hash) as (λ z. service_at q a.caller.hash ≡ z → IsIt w (Err (refusal.Open error)) v) [
       | None ↦ λ gone. absurd (not_gone x y (λ e. cc) gone l run)
@@ -152,12 +145,12 @@ module _ {D E C : Type 0} (a : BuilderCall D E C) (lawful : IsLawfulCall a) (q :
       let none = no_turns before parts.first s old in
       absurd (none_retried s old (subst (λ d. IsRetriedTurn (asking a d) y next) none.asked_still t) (subst (λ u. Run IsOwnPart u y v) none.world parts.second))
 
-  pub attempt_follows : {word : List Letter} {answer : Result Registered (OpenOrCreateRefusal E C)} {w v : World} → Shows w q → Agrees w → IsOpenOrCreateWord a word answer → Run IsOwnPart w word v → IsIt w answer v
-  attempt_follows {v = v} s old (ended {u = x} {v = y} {answer = answer} small before t) run =
-      let parts = split x y run in
-      let none = no_turns before parts.first s old in
-      last_is s old (subst (λ d. IsLastTurn (asking a d) y answer) none.asked_still t) (subst (λ u. Run IsOwnPart u y v) none.world parts.second)
-  attempt_follows s old (in_flux before) run = absurd (omega (arith, (no_turns before run s old).number))
+  attempt_follows : {word : List Letter} {answer : Result Registered (OpenOrCreateRefusal E C)} {w v : World} → RunsQuietly w q word v → IsOpenOrCreateWord a word answer → IsIt w answer v
+  attempt_follows {v = v} quiet (ended {u = x} {v = y} {answer = answer} small before t) =
+      let parts = split x y quiet.run in
+      let none = no_turns before parts.first quiet.shows quiet.agrees in
+      last_is quiet.shows quiet.agrees (subst (λ d. IsLastTurn (asking a d) y answer) none.asked_still t) (subst (λ u. Run IsOwnPart u y v) none.world parts.second)
+  attempt_follows quiet (in_flux before) = absurd (omega (arith, (no_turns before quiet.run quiet.shows quiet.agrees).number))
 
 -- ---- a refused one keeps the services
 
@@ -169,44 +162,29 @@ module _ {D E C : Type 0} (a : BuilderCall D E C) (q : Quiet) where
   keeps_services : {answer : Result Registered (OpenOrCreateRefusal E C)} {p : Quiet} (error : OpenOrCreateRefusal E C) → answer ≡ Err error → OpensOrCreates a q answer p → p.services ≡ q.services
   keeps_services {p = p} error is (attempt.creates {answer = answer} gone c) =
       let e = carried_error refusal.Create answer error is in
-      create_refused (creating a) a.caller.node a.caller.hash a.caller.name a.caller.clock q p e.0 (subst (λ z. Creates (creating a) q a.caller z p) e.1 c)
+      create_refused (creating a) a.caller q p e.0 (subst (λ z. Creates (creating a) q a.caller z p) e.1 c)
   keeps_services {p = p} error is (attempt.opens {answer = answer} x there o) =
       let e = carried_error refusal.Open answer error is in
       open_refused (opening a) a.caller.node a.caller.hash q p e.0 (subst (λ z. Opens (opening a) q a.caller.node a.caller.hash z p) e.1 o)
-
--- Where a call may prepare its types first.
-module _ {E : Type 0} (no_memory : E) (q : Quiet) (Calls : Result Registered E → Quiet → Type 0) where
-  prepared_if : (b : Bool) (IsWord : List Letter → Result Registered E → Type 0) {word : List Letter} {answer : Result Registered E} {w v : World} → Shows w q → Agrees w
-      → ((word : List Letter) (answer : Result Registered E) → IsWord word answer → Run IsOwnPart w word v → IsCall w (Calls answer) answer v)
-      → PreparedIf b no_memory IsWord word answer → Run IsOwnPart w word v → IsCall w (PreparesFirstIf b no_memory q Calls answer) answer v
-  prepared_if true IsWord {w = w} {v = v} s old each is run = prepared_follows w v s old each is run
-  prepared_if false IsWord {word = word} {answer = answer} s old each is run = each word answer is run
-
-  refused_if : (b : Bool) (p : Quiet) (error : E) → ((e : E) (p : Quiet) → Calls (Err e) p → p.services ≡ q.services)
-      → PreparesFirstIf b no_memory q Calls (Err error) p → p.services ≡ q.services
-  refused_if true p error each c = refused_prepared (λ p. p.services ≡ q.services) refl each c
-  refused_if false p error each c = each error p c
 
 lawful_prepared : {D E C : Type 0} (a : BuilderCall D E C) → IsLawfulCall a → IsLawfulCall (rounds_of a)
 lawful_prepared a l = record { takes_nodes = l.takes_nodes; only_raises = l.only_raises; accepts_own = l.accepts_own; ends_at_once = l.ends_at_once }
 
 -- Every call is the machine's, and a refused one keeps its services.
-module _ {D E C : Type 0} (a : BuilderCall D E C) (q : Quiet) where
+module _ {D E C : Type 0} (a : BuilderCall D E C) where
   -- an open without what is asked of the other two
-  pub opening_follows : {word : List Letter} {answer : Result Registered E} {w v : World} → Shows w q → Agrees w → IsWordBy a ToOpen word answer → Run IsOwnPart w word v → IsCall w (Answers a ToOpen q answer) answer v
-  opening_follows {w = w} {v = v} s old = prepared_if _ q _ a.prepares _ s old
-      (λ word answer is run. open_follows (opening a) a.caller.node a.caller.hash w v q word answer s old is run)
+  pub opening_follows : Follows (IsWordBy a ToOpen) (Answers a ToOpen)
+  opening_follows = prepared_follows a.prepares _ (open_follows (opening a) a.caller.node a.caller.hash)
 
-  pub call_follows : (way : Way) {word : List Letter} {answer : Result Registered (ErrorBy E C way)} {w v : World} → IsLawfulCall a → Shows w q → Agrees w → IsWordBy a way word answer → Run IsOwnPart w word v → IsCall w (Answers a way q answer) answer v
-  call_follows ToCreate {w = w} {v = v} lawful s old = prepared_if _ q _ a.prepares _ s old
-      (λ word answer is run. create_follows (creating a) a.caller.node a.caller.hash a.caller.name a.caller.clock w v q word answer (lawful.takes_nodes (time_of a.caller.clock)) s old is run)
-  call_follows ToOpen lawful s old = opening_follows s old
-  call_follows ToOpenOrCreate lawful s old = prepared_if _ q _ a.prepares _ s old (λ word answer is run. attempt_follows (rounds_of a) (lawful_prepared a lawful) q s old is run)
+  pub call_follows : (way : Way) → IsLawfulCall a → Follows (IsWordBy a way) (Answers a way)
+  call_follows ToCreate lawful = prepared_follows a.prepares _ (create_follows (creating a) a.caller (lawful.takes_nodes (time_of a.caller.clock)))
+  call_follows ToOpen lawful = opening_follows
+  call_follows ToOpenOrCreate lawful = prepared_follows a.prepares _ (λ w v q word answer quiet is. attempt_follows (rounds_of a) (lawful_prepared a lawful) q quiet is)
 
-  services_by : (way : Way) (p : Quiet) (error : ErrorBy E C way) → Answers a way q (Err error) p → p.services ≡ q.services
-  services_by ToCreate p error c = refused_if _ q _ a.prepares p error (λ e p is. create_refused (creating a) a.caller.node a.caller.hash a.caller.name a.caller.clock q p e is) c
-  services_by ToOpen p error c = refused_if _ q _ a.prepares p error (λ e p is. open_refused (opening a) a.caller.node a.caller.hash q p e is) c
-  services_by ToOpenOrCreate p error c = refused_if _ q _ a.prepares p error (λ e p is. keeps_services (rounds_of a) q e refl is) c
+  services_by : (way : Way) (q p : Quiet) (error : ErrorBy E C way) → Answers a way q (Err error) p → p.services ≡ q.services
+  services_by ToCreate q p error c = refused_if _ q _ a.prepares p error (λ e p is. create_refused (creating a) a.caller q p e is) c
+  services_by ToOpen q p error c = refused_if _ q _ a.prepares p error (λ e p is. open_refused (opening a) a.caller.node a.caller.hash q p e is) c
+  services_by ToOpenOrCreate q p error c = refused_if _ q _ a.prepares p error (λ e p is. keeps_services (rounds_of a) q e refl is) c
 
-  pub refused_call : {w v : World} {p : Quiet} (error : ErrorBy E C a.way) → Shows w q → Shows v p → Answers a a.way q (Err error) p → HoldsTheSame w v
-  refused_call {w} {v} {p} error s t c = holds_the_same w v q p s t (services_by a.way p error c)
+  pub refused_call : RefusalHoldsTheSame a
+  refused_call w v q p error s t c = holds_the_same w v q p s t (services_by a.way q p error c)

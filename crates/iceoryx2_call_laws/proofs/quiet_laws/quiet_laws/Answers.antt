@@ -5,31 +5,31 @@ use Rattle.iceoryx2_call_laws.proofs.quiet.Listing.{lists_the_machine}
 use Rattle.iceoryx2_call_laws.proofs.quiet_laws.quiet_laws.Goals as goal
 
 pub returns-clause-empty : goal.returns-clause-empty
-returns-clause-empty c = λ n. empty_shows n
+returns-clause-empty c = empty_shows
 
 pub returns-clause-close : goal.returns-clause-close
-returns-clause-close c = λ r w v q word answer quiet is_word here. close_follows r w v q word answer quiet.shows quiet.agrees here is_word quiet.run
+returns-clause-close c = close_follows
 
 pub returns-clause-ticket : goal.returns-clause-ticket
-returns-clause-ticket c = λ w q t x s old here. has_opened w q t x s old here
+returns-clause-ticket c = has_opened
 
 pub returns-clause-standing : goal.returns-clause-standing
-returns-clause-standing c = λ w q f s stands. service_of w q f s stands
+returns-clause-standing c = service_of
 
 pub returns-clause-tickets : goal.returns-clause-tickets
-returns-clause-tickets c = λ w q node hash s old. tickets_counted w q node hash s old
+returns-clause-tickets c = tickets_counted
 
 pub returns-clause-tags : goal.returns-clause-tags
-returns-clause-tags c = λ w q node hash s. tags_counted w q node hash s
+returns-clause-tags c = tags_counted
 
 pub returns-clause-same : goal.returns-clause-same
-returns-clause-same c = λ w v q p s t services. holds_the_same w v q p s t services
+returns-clause-same c = holds_the_same
 
 pub returns-clause-absent : goal.returns-clause-absent
-returns-clause-absent c = λ w q hash s gone. nothing_at w q hash s gone
+returns-clause-absent c = nothing_at
 
 pub returns-clause-unused : goal.returns-clause-unused
-returns-clause-unused c = λ w q s old none. all_gone w q s old none
+returns-clause-unused c = all_gone
 
 pub returns-clause-list : goal.returns-clause-list
-returns-clause-list c = λ w q entries s lists. lists_the_machine w q entries s lists
+returns-clause-list c = lists_the_machine
