@@ -1,14 +1,10 @@
 -- A create where its service has no row, whatever segment was left there, at one node and in the world.
 use Rattle.std.proofs.Common.{◌≡◌, ℕ, zero, suc, ◌+◌, ◌<◌, Bool, true, false, List, ◌∷◌, ◌++◌, Option, Some, None, Result, Ok, Err, ◌⊎◌, inl, inr, refl, sym, ap, subst, ◌∙◌, arith}
 use Rattle.std.specs.Prelude.{nat_lt}
-use mathlib.Core.Bool.{true≢false}
 use Rattle.std.proofs.lemmas.Bool.Decides.{nat_tests}
 use Rattle.iceoryx2_description.specs.declared.description.ServiceHash.{ServiceHash}
 use Rattle.iceoryx2_description.specs.Description.{Description, max_nodes_of}
 use Rattle.iceoryx2_access.specs.declared.storage.Tag.{Tag}
-use Rattle.iceoryx2_access.specs.declared.storage.Tag.TheVariants.{Made, Found}
-use Rattle.iceoryx2_access.specs.declared.storage.TagError.{TagError}
-use Rattle.iceoryx2_access.specs.declared.storage.TagError.TheVariants as Tagging
 use Rattle.iceoryx2_access.specs.declared.storage.RemoveError.{RemoveError}
 use Rattle.iceoryx2_access.specs.declared.storage.MakeSegmentError.{MakeSegmentError}
 use Rattle.iceoryx2_access.specs.declared.storage.MakeSegmentError.TheVariants as Making
@@ -24,7 +20,6 @@ use Rattle.iceoryx2_world.specs.declared.world.Phase.{Phase}
 use Rattle.iceoryx2_world.specs.declared.world.Phase.TheVariants as at
 use Rattle.iceoryx2_world.specs.declared.world.Row.{Row}
 use Rattle.iceoryx2_world.specs.World.{World, Segment, Tickets, row_of, segment_of, phase_of, tag_of, begins, locked_number}
-use Rattle.iceoryx2_world.specs.Steps.{last_number}
 use Rattle.iceoryx2_world.specs.Agreement.{AgreesAt}
 use Rattle.iceoryx2_world.specs.Across.{Agrees}
 use Rattle.iceoryx2_world.specs.Access.{NodeView, node_view, node_view_after, IsOwnPart}
@@ -32,7 +27,7 @@ use Rattle.iceoryx2_world.proofs.agreement.Whole.{own_hash}
 use Rattle.iceoryx2_pattern.specs.declared.pattern.CreateRefusal.{CreateRefusal}
 use Rattle.iceoryx2_pattern.specs.declared.pattern.CreateRefusal.TheVariants as refusal
 use Rattle.iceoryx2_pattern.specs.Meaning.{Meaning}
-use Rattle.iceoryx2_create_and_open.specs.Refusals.{of_tag, of_lock, of_publish}
+use Rattle.iceoryx2_create_and_open.specs.Refusals.{of_lock, of_publish}
 use Rattle.iceoryx2_create_and_open.proofs.MakeSteps.{not_there, without_memory}
 use Rattle.iceoryx2_create_and_open.specs.Segments.{IsSegmentWord, clearings}
 use Rattle.iceoryx2_create_and_open.specs.Segments as segment
@@ -43,7 +38,7 @@ use Rattle.iceoryx2_create_and_open.specs.declared.caller.Caller.{Caller}
 use Rattle.iceoryx2_call_laws.specs.OverNoRow.{AnswersOverNoRow, made, forbidden, no_time, no_number, no_memory}
 use Rattle.iceoryx2_call_laws.proofs.quiet.NodeViews.{AtNode, move_all}
 use Rattle.iceoryx2_call_laws.proofs.quiet.Here.{create_here}
-use Rattle.iceoryx2_call_laws.proofs.quiet.Absent.{into, ended, from, same_number, over, at_lock, locked, with_segment, counts_over, tag_over, lock_over, lock_refused, lock_given, make_and, Makes, makes, makes_none, segment_part, segment_refused, segment_there, publish_made, look_over}
+use Rattle.iceoryx2_call_laws.proofs.quiet.Absent.{into, ended, from, same_number, over, at_lock, locked, with_segment, lock_over, lock_refused, make_and, Makes, makes, makes_none, segment_part, segment_refused, segment_there, publish_made, begun, entry, entry_refused, entry_made}
 
 -- where no row is, who agrees holds nothing there
 begins_without : (c : ℕ) (h : ServiceHash) (r : Option Row) (s : Option Segment) (phase : Participant → Phase) → AgreesAt c h r s phase → r ≡ None → (p : Participant) (x : Phase) → phase p ≡ x → begins x ≡ true
@@ -56,11 +51,6 @@ begins_without c h r s phase a gone p (at.Leaving n) e = let is = (a.leaving p n
 begins_without c h r s phase a gone p (at.Cleared n) e = let is = (a.cleared p n e).0.1 in absurd (cc)
 
 module _ (i : ℕ) (h : ServiceHash) where
-  -- the tag is made, or there
-  any_tag : (x : Phase) (s : Option Segment) (c : ℕ) (g : Bool) (k : Tickets) {a : Result Tag TagError} {t : NodeView} → AtNode i h (over x s c g k) (letter.MakeTag i h a) t → ((tag : Tag) × (a ≡ Ok tag) × (t ≡ over x s c true k)) ⊎ (a ≡ Err Tagging.OutOfMemory)
-  any_tag x s c true k r = inl (Found, r.own.0, r.is ∙ ap (node_view_after _) r.own.1)
-  any_tag x s c false k r = elim (tag_over i h x s c k r) [ inl y ↦ inl (Made, y.0, y.1) | inr y ↦ inr y.0 ]
-
   -- the segment that was left is found once and removed
   find_left : (n m c : ℕ) (k : Tickets) (y : Segment) {a : Result (Unit {0}) MakeSegmentError} {t : NodeView} → nat_lt 0 m ≡ true → AtNode i h (at_lock n (Some y) c k) (letter.MakeSegment i h n m a) t → (a ≡ Err Making.AlreadyExists) × (t ≡ at_lock n (Some y) c k)
   find_left n m c k y positive r = let own = rw (same_number n, positive) at r.own in (own.0, r.is ∙ ap (node_view_after _) own.1)
@@ -114,51 +104,7 @@ module _ {E C : Type 0} (m : Meaning E C) (caller : Caller) (x : Phase) (s : Opt
   answers : {e : CreateRefusal} → e ≡ refusal.OutOfMemory → Answers (Err (m.create_refusal e))
   answers is = subst (λ z. Answers (Err (m.create_refusal z))) (sym is) no_memory
 
-  data Enters : Result Tag C → NodeView → Type 0 where
-    enters : {tag : Tag} → Enters (Ok tag) (over x s c true k)
-    enters_not : {t : NodeView} → Enters (Err (m.create_refusal refusal.OutOfMemory)) t
-
-  entry : (g : Bool) {a : Result Tag C} {w : List Letter} {t : NodeView} → IsEntryWord m i h w a → Run (AtNode i h) (over x s c g k) w t → Enters a t
-  entry g (create.look_faulty l) r = let y = look_over m i h x s c g k l r in absurd (cc)
-  entry g (create.look_found l) r = let y = look_over m i h x s c g k l r in absurd (cc)
-  entry g (create.counted {u = u} l) r =
-      let p = split u _ r in
-      absurd (true≢false (counts_over i h x s c g k b (last (from (look_over m i h x s c g k l p.first).1 p.second))).0)
-  entry g (create.no_copies l) r = enters_not
-  entry g (create.no_tag {u = u} e l) r =
-      let p = split u _ r in
-      let f = head (from (look_over m i h x s c g k l p.first).1 p.second) in
-      elim (any_tag i h x s c g k (last (from (counts_over i h x s c g k b f.first).1 f.rest))) [
-        | inl y ↦ absurd (grind (arith, y.1))
-        | inr y ↦ let is : e ≡ Tagging.OutOfMemory = cc in into Enters (ap (λ z. Err (m.create_refusal (of_tag z))) is) refl enters_not
-      ]
-  entry g (create.entered {u = u} tag l) r =
-      let p = split u _ r in
-      let f = head (from (look_over m i h x s c g k l p.first).1 p.second) in
-      elim (any_tag i h x s c g k (last (from (counts_over i h x s c g k b f.first).1 f.rest))) [
-        | inl y ↦ into Enters refl y.2 enters
-        | inr y ↦ absurd (grind (arith, y))
-      ]
-
-  entry_refused : {e : C} {t : NodeView} → Enters (Err e) t → e ≡ m.create_refusal refusal.OutOfMemory
-  entry_refused enters_not = refl
-
-  entry_made : {tag : Tag} {t : NodeView} → Enters (Ok tag) t → t ≡ over x s c true k
-  entry_made enters = refl
-
   module _ (positive : nat_lt 0 (max_nodes_of d.pattern) ≡ true) where
-    -- after the lock
-    record Begun (n : ℕ) (w : List Letter) (t : NodeView) : Type 0 where
-      number : n ≡ c
-      counter : c < last_number
-      rest : Run (AtNode i h) (at_lock n s (c + 1) k) w t
-
-    begun : {w : List Letter} {n : ℕ} {t : NodeView} → Run (AtNode i h) (over x s c true k) (letter.Lock i h (Ok n) ∷ w) t → Begun n w t
-    begun {n = n} r =
-        let f = head r in
-        let y = lock_given i h (lock_over i h x s c k (Ok n) f.mid b f.first) in
-        record { number = y.0; counter = grind (arith, nat_tests, y.2); rest = from y.1 f.rest }
-
     serving : {tag : Tag} {a : Result Registered C} {w : List Letter} {t : NodeView} → m.history_refusal ≡ None → stops ≡ false → IsServiceWord m i h d tag w a → Run (AtNode i h) (over x s c true k) w t → Answers a
     serving fits runs (create.not_locked z g) r =
         let f = head r in
@@ -167,11 +113,11 @@ module _ {E C : Type 0} (m : Meaning E C) (caller : Caller) (x : Phase) (s : Opt
           | inr y ↦ subst (λ q. Answers (Err (m.create_refusal (of_lock q)))) (sym y.0) (no_number fits runs (grind (arith, nat_tests, y.2)))
         ]
     serving fits runs (create.no_segment {v = v} {n = n} is g) r =
-        let f = begun r in
+        let f = begun i h x s c k b r in
         let p = split v _ f.rest in
         answers (segment_refused i h (any_part i h n (max_nodes_of d.pattern) (c + 1) k s positive is p.first)).0
     serving fits runs (create.not_published {v = v} {n = n} z is g) r =
-        let f = begun r in
+        let f = begun i h x s c k b r in
         let p = split v _ f.rest in
         let q = head (from (segment_there i h (any_part i h n (max_nodes_of d.pattern) (c + 1) k s positive is p.first)) p.second) in
         elim (publish_made i h d n (c + 1) k _ _ (own_hash h) q.first) [
@@ -179,21 +125,21 @@ module _ {E C : Type 0} (m : Meaning E C) (caller : Caller) (x : Phase) (s : Opt
           | inr y ↦ let why : z ≡ Publishing.OutOfMemory = cc in answers (ap of_publish why)
         ]
     serving fits runs (create.published {v = v} n j is) r =
-        let f = begun r in
+        let f = begun i h x s c k b r in
         let p = split v _ f.rest in
         let q = last (from (segment_there i h (any_part i h n (max_nodes_of d.pattern) (c + 1) k s positive is p.first)) p.second) in
         elim (publish_made i h d n (c + 1) k _ _ (own_hash h) q) [
-          | inl y ↦ let own : j ≡ n = cc in subst Answers (λ z. Ok (record { node = i; number = sym f.number z; ticket = sym (own ∙ f.number) z; description = d })) (made fits runs f.counter)
+          | inl y ↦ let own : j ≡ n = cc in subst Answers (λ z. Ok (record { node = i; number = sym f.number z; ticket = sym (own ∙ f.number) z; description = d })) (made fits runs (grind (arith, nat_tests, f.counter)))
           | inr y ↦ absurd (grind (arith, y.0))
         ]
 
     answering : (g : Bool) {a : Result Registered C} {w : List Letter} {t : NodeView} → IsCreateWord m caller w a → Run (AtNode i h) (over x s c g k) w t → Answers a
     answering g (create.forbidden bad) r = forbidden bad
-    answering g (create.not_entered fits e) r = subst (λ z. Answers (Err z)) (sym (entry_refused (entry g e r))) no_memory
+    answering g (create.not_entered fits e) r = subst (λ z. Answers (Err z)) (sym (entry_refused m i h (entry m i h x s c g k b e r)).0) no_memory
     answering g (create.clock_fault fits stopped e back) r = no_time fits stopped
     answering g (create.made {u = u} fits runs e is) r =
         let p = split u _ r in
-        serving fits runs is (from (entry_made (entry g e p.first)) p.second)
+        serving fits runs is (from (entry_made m i h (entry m i h x s c g k b e p.first)).1 p.second)
 
 module _ {E C : Type 0} (m : Meaning E C) (caller : Caller) where
   -- In the world, also where the types are prepared first.

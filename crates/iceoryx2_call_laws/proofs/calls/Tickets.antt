@@ -51,7 +51,7 @@ part_tickets w l v ok (publishes i h n d t is p) = absurd (subst KeepsTickets is
 part_tickets w l v ok (joins i h n t is p) = absurd (subst KeepsTickets is ok)
 part_tickets w l v ok (releases t i h n a is p) = absurd (subst KeepsTickets is ok)
 
-pub same_tickets : {own : ℕ → Bool} (w : World) (l : Letter) (v : World) → KeepsTickets l → IsFallibleUnder own w l v → Agrees w → SameTickets own w.tickets v.tickets
+same_tickets : {own : ℕ → Bool} (w : World) (l : Letter) (v : World) → KeepsTickets l → IsFallibleUnder own w l v → Agrees w → SameTickets own w.tickets v.tickets
 same_tickets {own} w l v ok a old = tickets_trans own w.tickets a.between.tickets v.tickets (a.before old).tickets (elim a.part [
   | inl o ↦ tickets_equal own a.between.tickets v.tickets (part_tickets a.between l v ok (own_part a.between l v o))
   | inr f ↦ tickets_equal own a.between.tickets v.tickets (ap (λ (z : World). z.tickets) f.1)

@@ -1,7 +1,6 @@
 -- What the accesses of a call have in common that makes things and gives them back.
 use Rattle.std.proofs.Common.{◌≡◌, Bool, true, false, List, [], ◌∷◌, ◌++◌, Option, Some, None, Ok, Err, ℕ, Result, refl, sym, ap, subst, ◌∙◌, inl, inr}
 use Rattle.iceoryx2_description.specs.declared.description.ServiceHash.{ServiceHash}
-use Rattle.iceoryx2_description.specs.Description.{Description}
 use Rattle.iceoryx2_access.specs.declared.storage.MakeSegmentError.TheVariants as make
 use Rattle.iceoryx2_access.specs.declared.storage.RemoveError.{RemoveError}
 use Rattle.iceoryx2_access.specs.declared.storage.Tag.{Tag}
@@ -20,11 +19,11 @@ use Rattle.iceoryx2_create_and_open.specs.declared.look.Outcome.{Outcome}
 use Rattle.iceoryx2_create_and_open.specs.Looks.{IsLookWord}
 use Rattle.iceoryx2_create_and_open.specs.Segments.{IsSegmentWord}
 use Rattle.iceoryx2_create_and_open.specs.Creates.{IsEntryWord}
-use Rattle.iceoryx2_create_and_open.specs.Opens.{IsReady, AreFailedRounds}
+use Rattle.iceoryx2_create_and_open.specs.Opens.{AreFailedRounds}
 use Rattle.iceoryx2_create_and_open.specs.GivesBack.{MadeByCall, OwnTag, OwnLock, OwnSegment, own_tag, GivesBack, nothing_left, segment_back, lock_back, tag_back}
 use Rattle.iceoryx2_create_and_open.specs.Fronts as may
 use Rattle.iceoryx2_create_and_open.specs.Fronts.{IsFront, made, made_after, number_got, left_by, left_after, GivesAllBack, KeepsAll, KeepsLastTag}
-use Rattle.iceoryx2_create_and_open.proofs.Kept.{Goes, look_goes, segment_made, entry_goes, ready_goes, rounds_give_back}
+use Rattle.iceoryx2_create_and_open.proofs.Kept.{Goes, look_goes, segment_made, entry_goes, rounds_give_back}
 use Rattle.iceoryx2_open_or_create.specs.Leaves as rounds
 use Rattle.iceoryx2_open_or_create.specs.Leaves.{GivesBackByRounds, KeepsInTheEnd}
 use Rattle.iceoryx2_open_or_create.proofs.Left.{tags_back}
@@ -186,9 +185,6 @@ module _ {E C : Type 0} {m : Meaning E C} {node : ℕ} {hash : ServiceHash} wher
 
   pub entry_tame : {w : List Letter} {tag : Tag} → IsEntryWord m node hash w (Ok tag) → Tame node hash false w false
   entry_tame {tag = tag} e = tagged_tame tag (entry_goes e)
-
-  pub ready_tame : {n : ℕ} {d : Description} {tag : Tag} {w : List Letter} → IsReady m node hash n d tag w → Tame node hash false w false
-  ready_tame {tag = tag} r = tagged_tame tag (ready_goes r)
 
   pub rounds_tame : {k : ℕ} {w : List Letter} → AreFailedRounds m node hash k w → Tame node hash false w false
   rounds_tame before = rounds_back_tame (tags_back (rounds_give_back before))

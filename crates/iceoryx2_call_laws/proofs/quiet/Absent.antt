@@ -12,7 +12,7 @@ use Rattle.iceoryx2_world.specs.declared.world.Participant.TheVariants.{Node}
 use Rattle.iceoryx2_world.specs.declared.world.Phase.{Phase}
 use Rattle.iceoryx2_world.specs.declared.world.Phase.TheVariants as at
 use Rattle.iceoryx2_access.specs.declared.storage.Tag.{Tag}
-use Rattle.iceoryx2_access.specs.declared.storage.Tag.TheVariants.{Made}
+use Rattle.iceoryx2_access.specs.declared.storage.Tag.TheVariants.{Made, Found}
 use Rattle.iceoryx2_access.specs.declared.storage.TagError.{TagError}
 use Rattle.iceoryx2_access.specs.declared.storage.TagError.TheVariants as Tagging
 use Rattle.iceoryx2_access.specs.declared.storage.RemoveError.{RemoveError}
@@ -93,8 +93,11 @@ module _ (i : ℕ) (h : ServiceHash) where
   counts_over (at.Read n) s c g k b r = (r.own.0, r.is ∙ ap (node_view_after _) r.own.1)
   counts_over _ s c g k b r = absurd (cc)
 
-  pub tag_over : (x : Phase) (s : Option Segment) (c : ℕ) (k : Tickets) {a : Result Tag TagError} {t : NodeView} → AtNode i h (over x s c false k) (letter.MakeTag i h a) t → ((a ≡ Ok Made) × (t ≡ over x s c true k)) ⊎ ((a ≡ Err Tagging.OutOfMemory) × (t ≡ over x s c false k))
-  tag_over x s c k r = elim (r.own) [ inl y ↦ inl (y.0, r.is ∙ ap (node_view_after _) y.1) | inr y ↦ inr (y.0, r.is ∙ ap (node_view_after _) y.1) ]
+  -- the tag is made, or there
+  any_tag : (x : Phase) (s : Option Segment) (c : ℕ) (g : Bool) (k : Tickets) {a : Result Tag TagError} {t : NodeView} → AtNode i h (over x s c g k) (letter.MakeTag i h a) t
+      → ((tag : Tag) × (a ≡ Ok tag) × (t ≡ over x s c true k) × (g ≡ false → tag ≡ Made)) ⊎ ((a ≡ Err Tagging.OutOfMemory) × (t ≡ over x s c g k))
+  any_tag x s c true k r = inl (Found, r.own.0, r.is ∙ ap (node_view_after _) r.own.1, λ e. absurd (true≢false e))
+  any_tag x s c false k r = elim (r.own) [ inl y ↦ inl (Made, y.0, r.is ∙ ap (node_view_after _) y.1, λ e. refl) | inr y ↦ inr (y.0, r.is ∙ ap (node_view_after _) y.1) ]
 
   pub data Locks (x : Phase) (s : Option Segment) (c : ℕ) (k : Tickets) : Result ℕ LockError → NodeView → Type 0 where
     locks : nat_lt c last_number ≡ true → Locks x s c k (Ok c) (at_lock c s (c + 1) k)
@@ -173,6 +176,18 @@ module _ (i : ℕ) (h : ServiceHash) where
   pub lock_given : {x : Phase} {s : Option Segment} {c n : ℕ} {k : Tickets} {t : NodeView} → Locks x s c k (Ok n) t → (n ≡ c) × (t ≡ at_lock n s (c + 1) k) × (nat_lt c last_number ≡ true)
   lock_given (locks e) = (refl, refl, e)
 
+  -- after the lock
+  pub record Begun (s : Option Segment) (c : ℕ) (k : Tickets) (n : ℕ) (w : List Letter) (t : NodeView) : Type 0 where
+    pub number : n ≡ c
+    pub counter : nat_lt c last_number ≡ true
+    pub rest : Run (AtNode i h) (at_lock n s (c + 1) k) w t
+
+  pub begun : (x : Phase) (s : Option Segment) (c : ℕ) (k : Tickets) {w : List Letter} {n : ℕ} {t : NodeView} → begins x ≡ true → Run (AtNode i h) (over x s c true k) (letter.Lock i h (Ok n) ∷ w) t → Begun s c k n w t
+  begun x s c k {n = n} b r =
+      let f = head r in
+      let y = lock_given (lock_over x s c k (Ok n) f.mid b f.first) in
+      record { number = y.0; counter = y.2; rest = from y.1 f.rest }
+
   own_tag_back : {tag : Tag} {w : List Letter} → tag ≡ Made → GivesBack i h (own_tag tag) w → GivesBack i h (OwnTag ∷ []) w
   own_tag_back {w = w} e g = subst (λ z. GivesBack i h (own_tag z) w) e g
 
@@ -192,39 +207,39 @@ module _ {E C : Type 0} (m : Meaning E C) (i : ℕ) (h : ServiceHash) where
   pub look_bare : (x : Phase) (c : ℕ) (g : Bool) (k : Tickets) {o : Outcome E} {w : List Letter} {t : NodeView} → IsLookWord m i h w o → Run (AtNode i h) (bare x c g k) w t → (o ≡ outcome.Nothing) × (t ≡ bare x c g k)
   look_bare x c g k l r = look_over x None c g k l r
 
-  pub data Enters (x : Phase) (c : ℕ) (k : Tickets) : Result Tag C → NodeView → Type 0 where
-    enters : Enters x c k (Ok Made) (bare x c true k)
-    enters_not : Enters x c k (Err (m.create_refusal refusal.OutOfMemory)) (bare x c false k)
+  pub data Enters (x : Phase) (s : Option Segment) (c : ℕ) (g : Bool) (k : Tickets) : Result Tag C → NodeView → Type 0 where
+    enters : {tag : Tag} → (g ≡ false → tag ≡ Made) → Enters x s c g k (Ok tag) (over x s c true k)
+    enters_not : Enters x s c g k (Err (m.create_refusal refusal.OutOfMemory)) (over x s c g k)
 
-  entry : (x : Phase) (c : ℕ) (k : Tickets) {a : Result Tag C} {w : List Letter} {t : NodeView} → begins x ≡ true → IsEntryWord m i h w a → Run (AtNode i h) (bare x c false k) w t → Enters x c k a t
-  entry x c k b (create.look_faulty l) r = let y = look_bare x c false k l r in absurd (cc)
-  entry x c k b (create.look_found l) r = let y = look_bare x c false k l r in absurd (cc)
-  entry x c k b (create.counted {u = u} l) r =
-      let s = split u _ r in
-      absurd (true≢false (counts_over i h x None c false k b (last (from (look_bare x c false k l s.first).1 s.second))).0)
-  entry x c k b (create.no_copies {u = u} l) r =
-      let s = split u _ r in
-      into (Enters x c k) refl (counts_over i h x None c false k b (last (from (look_bare x c false k l s.first).1 s.second))).1 enters_not
-  entry x c k b (create.no_tag {u = u} e l) r =
-      let s = split u _ r in
-      let f = head (from (look_bare x c false k l s.first).1 s.second) in
-      elim (tag_over i h x None c k (last (from (counts_over i h x None c false k b f.first).1 f.rest))) [
-        | inl y ↦ absurd (grind (arith, y.0))
-        | inr y ↦ let is : e ≡ Tagging.OutOfMemory = cc in into (Enters x c k) (ap (λ z. Err (m.create_refusal (of_tag z))) is) y.1 enters_not
+  pub entry : (x : Phase) (s : Option Segment) (c : ℕ) (g : Bool) (k : Tickets) {a : Result Tag C} {w : List Letter} {t : NodeView} → begins x ≡ true → IsEntryWord m i h w a → Run (AtNode i h) (over x s c g k) w t → Enters x s c g k a t
+  entry x s c g k b (create.look_faulty l) r = let y = look_over x s c g k l r in absurd (cc)
+  entry x s c g k b (create.look_found l) r = let y = look_over x s c g k l r in absurd (cc)
+  entry x s c g k b (create.counted {u = u} l) r =
+      let p = split u _ r in
+      absurd (true≢false (counts_over i h x s c g k b (last (from (look_over x s c g k l p.first).1 p.second))).0)
+  entry x s c g k b (create.no_copies {u = u} l) r =
+      let p = split u _ r in
+      into (Enters x s c g k) refl (counts_over i h x s c g k b (last (from (look_over x s c g k l p.first).1 p.second))).1 enters_not
+  entry x s c g k b (create.no_tag {u = u} e l) r =
+      let p = split u _ r in
+      let f = head (from (look_over x s c g k l p.first).1 p.second) in
+      elim (any_tag i h x s c g k (last (from (counts_over i h x s c g k b f.first).1 f.rest))) [
+        | inl y ↦ absurd (grind (arith, y.1))
+        | inr y ↦ let is : e ≡ Tagging.OutOfMemory = cc in into (Enters x s c g k) (ap (λ z. Err (m.create_refusal (of_tag z))) is) y.1 enters_not
       ]
-  entry x c k b (create.entered {u = u} tag l) r =
-      let s = split u _ r in
-      let f = head (from (look_bare x c false k l s.first).1 s.second) in
-      elim (tag_over i h x None c k (last (from (counts_over i h x None c false k b f.first).1 f.rest))) [
-        | inl y ↦ let is : tag ≡ Made = cc in into (Enters x c k) (ap Ok is) y.1 enters
+  entry x s c g k b (create.entered {u = u} tag l) r =
+      let p = split u _ r in
+      let f = head (from (look_over x s c g k l p.first).1 p.second) in
+      elim (any_tag i h x s c g k (last (from (counts_over i h x s c g k b f.first).1 f.rest))) [
+        | inl y ↦ let is : tag ≡ y.0 = cc in into (Enters x s c g k) (ap Ok is) y.2 (enters y.3)
         | inr y ↦ absurd (grind (arith, y.0))
       ]
 
-  entry_refused : {x : Phase} {c : ℕ} {k : Tickets} {e : C} {t : NodeView} → Enters x c k (Err e) t → (e ≡ m.create_refusal refusal.OutOfMemory) × (t ≡ bare x c false k)
+  pub entry_refused : {x : Phase} {s : Option Segment} {c : ℕ} {g : Bool} {k : Tickets} {e : C} {t : NodeView} → Enters x s c g k (Err e) t → (e ≡ m.create_refusal refusal.OutOfMemory) × (t ≡ over x s c g k)
   entry_refused enters_not = (refl, refl)
 
-  entry_made : {x : Phase} {c : ℕ} {k : Tickets} {tag : Tag} {t : NodeView} → Enters x c k (Ok tag) t → (tag ≡ Made) × (t ≡ bare x c true k)
-  entry_made enters = (refl, refl)
+  pub entry_made : {x : Phase} {s : Option Segment} {c : ℕ} {g : Bool} {k : Tickets} {tag : Tag} {t : NodeView} → Enters x s c g k (Ok tag) t → (g ≡ false → tag ≡ Made) × (t ≡ over x s c true k)
+  entry_made (enters own) = (own, refl)
 
   module _ (stops : Bool) (d : Description) where
     abbrev pub registered : ℕ → Registered
@@ -243,19 +258,6 @@ module _ {E C : Type 0} (m : Meaning E C) (i : ℕ) (h : ServiceHash) where
       abbrev FoundsHere : Result Registered C → NodeView → Type 0
       FoundsHere a t = Founds c k a t
 
-      -- after the lock
-      record Begun (tag : Tag) (n : ℕ) (w : List Letter) (t : NodeView) : Type 0 where
-        own : tag ≡ Made
-        number : n ≡ c
-        counter : nat_lt c last_number ≡ true
-        rest : Run (AtNode i h) (locked n (c + 1) k) w t
-
-      locked_first : {tag : Tag} {w : List Letter} {n : ℕ} {t : NodeView} → tag ≡ Made → Run (AtNode i h) (bare x c true k) (letter.Lock i h (Ok n) ∷ w) t → Begun tag n w t
-      locked_first {n = n} own r =
-          let f = head r in
-          let y = lock_given i h (lock_over i h x None c k (Ok n) f.mid b f.first) in
-          record { own = own; number = y.0; counter = y.2; rest = from y.1 f.rest }
-
       serving : {tag : Tag} {a : Result Registered C} {w : List Letter} {t : NodeView} → m.history_refusal ≡ None → stops ≡ false → tag ≡ Made → IsServiceWord m i h d tag w a → Run (AtNode i h) (bare x c true k) w t → Founds c k a t
       serving fits runs own (create.not_locked z g) r =
           let f = head r in
@@ -264,20 +266,20 @@ module _ {E C : Type 0} (m : Meaning E C) (i : ℕ) (h : ServiceHash) where
             | inr y ↦ into FoundsHere (ap (λ q. Err (m.create_refusal (of_lock q))) y.0) (back_tag i h x c k (own_tag_back i h own g) (from y.1 f.rest)) (no_number b fits runs y.2)
           ]
       serving fits runs own (create.no_segment {v = v} {n = n} s g) r =
-          let f = locked_first own r in
+          let f = begun i h x None c k b r in
           let p = split v _ f.rest in
           let made_none = segment_refused i h (segment_part i h n (max_nodes_of d.pattern) (c + 1) k positive s p.first) in
-          into FoundsHere (ap (λ q. Err (m.create_refusal q)) made_none.0) (back_lock i h n (c + 1) k (own_lock_back i h f.own g) (from made_none.1 p.second)) (forgets_locked refl fits runs f.counter)
+          into FoundsHere (ap (λ q. Err (m.create_refusal q)) made_none.0) (back_lock i h n (c + 1) k (own_lock_back i h own g) (from made_none.1 p.second)) (forgets_locked refl fits runs f.counter)
       serving fits runs own (create.not_published {v = v} {n = n} z s g) r =
-          let f = locked_first own r in
+          let f = begun i h x None c k b r in
           let p = split v _ f.rest in
           let q = head (from (segment_there i h (segment_part i h n (max_nodes_of d.pattern) (c + 1) k positive s p.first)) p.second) in
           elim (publish_made i h d n (c + 1) k _ _ own_hash q.first) [
             | inl y ↦ absurd (grind (arith, y.0))
-            | inr y ↦ let is : z ≡ Publishing.OutOfMemory = cc in into FoundsHere (ap (λ e. Err (m.create_refusal (of_publish e))) is) (back_segment i h n (max_nodes_of d.pattern) (c + 1) k (own_segment_back i h f.own g) (from y.1 q.rest)) (forgets_locked refl fits runs f.counter)
+            | inr y ↦ let is : z ≡ Publishing.OutOfMemory = cc in into FoundsHere (ap (λ e. Err (m.create_refusal (of_publish e))) is) (back_segment i h n (max_nodes_of d.pattern) (c + 1) k (own_segment_back i h own g) (from y.1 q.rest)) (forgets_locked refl fits runs f.counter)
           ]
       serving fits runs own (create.published {v = v} n j s) r =
-          let f = locked_first own r in
+          let f = begun i h x None c k b r in
           let p = split v _ f.rest in
           let q = last (from (segment_there i h (segment_part i h n (max_nodes_of d.pattern) (c + 1) k positive s p.first)) p.second) in
           elim (publish_made i h d n (c + 1) k _ _ own_hash q) [
@@ -287,12 +289,12 @@ module _ {E C : Type 0} (m : Meaning E C) (i : ℕ) (h : ServiceHash) where
 
       pub founding : {a : Result Registered C} {w : List Letter} {t : NodeView} → IsCreating m i h stops d w a → Run (AtNode i h) (bare x c false k) w t → Founds c k a t
       founding (create.forbidden bad) r = into FoundsHere refl (ended r) (forbids b bad)
-      founding (create.not_entered fits e) r = let en = entry_refused (entry x c k b e r) in into FoundsHere (ap Err en.0) en.1 (forgets b fits)
+      founding (create.not_entered fits e) r = let en = entry_refused (entry x None c false k b e r) in into FoundsHere (ap Err en.0) en.1 (forgets b fits)
       founding (create.clock_fault {tag = tag} {u = u} fits stopped e g) r =
           let s = split u _ r in
-          let en = entry_made (entry x c k b e s.first) in
-          into FoundsHere refl (back_tag i h x c k (own_tag_back i h en.0 g) (from en.1 s.second)) (no_time b fits stopped)
+          let en = entry_made (entry x None c false k b e s.first) in
+          into FoundsHere refl (back_tag i h x c k (own_tag_back i h (en.0 refl) g) (from en.1 s.second)) (no_time b fits stopped)
       founding (create.made {u = u} fits runs e made) r =
           let s = split u _ r in
-          let en = entry_made (entry x c k b e s.first) in
-          serving fits runs en.0 made (from en.1 s.second)
+          let en = entry_made (entry x None c false k b e s.first) in
+          serving fits runs (en.0 refl) made (from en.1 s.second)
