@@ -24,7 +24,7 @@ use Rattle.iceoryx2_open_or_create.specs.BuilderCalls.{BuilderCall, ErrorBy}
 use Rattle.iceoryx2_open_or_create.specs.CallWords.{IsWordOf}
 use Rattle.iceoryx2_call_laws.specs.Laws.{RunsOverWorld, FaultyRunsOverWorld}
 use Rattle.iceoryx2_call_laws.specs.Headline.{IsOpen, IsOpenSince, IsOpenUntilReleased, IsGiven, EachIsAsPromised, answered, spared, inside, same_world}
-use Rattle.iceoryx2_call_laws.proofs.calls.Words.{throughout_map, both_throughout, all_spared}
+use Rattle.iceoryx2_call_laws.proofs.calls.Words.{throughout, all_spared}
 use Rattle.iceoryx2_call_laws.proofs.calls.Standing.{stands_among, carry_the_same}
 use Rattle.iceoryx2_call_laws.proofs.calls.AnyCalls.{IsOfCall, each_is_short, any_letters, any_gives, any_carries}
 
@@ -32,8 +32,7 @@ is_open : (w : World) (f : Registered) → Agrees w → Stands w f → IsOpen w 
 is_open w f old s = record { stands = s; one_description = λ g t same. (carry_the_same w g f t s same).1; among = stands_among w f old s }
 
 open_throughout : (own : ℕ → Bool) (w : World) (word : List Letter) (f : Registered) → own f.node ≡ true → Each (Spares f) word → Agrees w → Stands w f → Throughout (IsFallibleUnder own) (λ v. IsOpen v f) w word
-open_throughout own w word f mine each old s =
-    throughout_map own (λ v. Agrees v × Stands v f) (λ v. IsOpen v f) (λ v k. is_open v f k.0 k.1) w word (both_throughout own w word f mine each old s)
+open_throughout own w word f mine each old s = throughout own f (λ v. IsOpen v f) (λ v new at. is_open v f new at) w word mine each old s
 
 -- over a storage whose accesses are accesses of its world under interference
 module _ (own : ℕ → Bool) {S : Type 0} (step : S → Letter → S → Type 0) (world : S → World) (of_world : (s t : S) (l : Letter) → step s l t → IsFallibleUnder own (world s) l (world t)) where

@@ -17,18 +17,11 @@ use Rattle.iceoryx2_call_laws.specs.Calls.{Throughout}
 use Rattle.iceoryx2_call_laws.specs.Laws.{CloseIsShort, CloseSpares, HandsBackItsOwn}
 use Rattle.iceoryx2_call_laws.specs.Tickets.{CloseAnswer}
 
-module _ (own : ℕ → Bool) where
-  pub throughout_map : (P Q : World → Type 0) → ((v : World) → P v → Q v) → (w : World) (word : List Letter) → Throughout (IsFallibleUnder own) P w word → Throughout (IsFallibleUnder own) Q w word
-  throughout_map P Q f w [] t = f w t
-  throughout_map P Q f w (l ∷ word) t = (f w t.0, λ v s. throughout_map P Q f v word (t.1 v s))
-
-  -- the agreement, and a factory of an own node
-  pub both_throughout : (w : World) (word : List Letter) (f : Registered) → own f.node ≡ true → Each (Spares f) word → Agrees w → Stands w f → Throughout (IsFallibleUnder own) (λ v. Agrees v × Stands v f) w word
-  both_throughout w [] f mine each old s = (old, s)
-  both_throughout w (l ∷ word) f mine each old s = ((old, s), λ v a. both_throughout v word f mine each.1 (faulty_keeps w l v a old).0 (faulty_stands w l v f mine a each.0 old s))
-
-  stands_throughout : (w : World) (word : List Letter) (f : Registered) → own f.node ≡ true → Each (Spares f) word → Agrees w → Stands w f → Throughout (IsFallibleUnder own) (λ v. Stands v f) w word
-  stands_throughout w word f mine each old s = throughout_map (λ v. Agrees v × Stands v f) (λ v. Stands v f) (λ v k. k.1) w word (both_throughout w word f mine each old s)
+-- What holds of each world that agrees and where an own node's factory stands holds throughout a word that spares it.
+pub throughout : (own : ℕ → Bool) (f : Registered) (P : World → Type 0) → ((v : World) → Agrees v → Stands v f → P v) → (w : World) (word : List Letter) → own f.node ≡ true → Each (Spares f) word → Agrees w → Stands w f
+    → Throughout (IsFallibleUnder own) P w word
+throughout own f P holds w [] mine each old s = holds w old s
+throughout own f P holds w (l ∷ word) mine each old s = (holds w old s, λ v a. throughout own f P holds v word mine each.1 (faulty_keeps w l v a old).0 (faulty_stands w l v f mine a each.0 old s))
 
 -- no access of a create or an open releases a ticket
 abbrev pub IsNoRelease : Letter → Type 0
@@ -50,7 +43,7 @@ spares_others f apart (left tag) = (λ e _ _ _. apart (sym e), (tt, tt))
 spares_others f apart (last tag segment description) = (λ e _ _ _. apart (sym e), (tt, (tt, (tt, tt))))
 
 pub close_spares : (own : ℕ → Bool) → CloseSpares own
-close_spares own r word answer w f mine is old apart s = stands_throughout own w word f mine (spares_others f apart is) old s
+close_spares own r word answer w f mine is old apart s = throughout own f (λ v. Stands v f) (λ v new at. at) w word mine (spares_others f apart is) old s
 
 -- and none where it is not there
 spares_its_own : {r : Registered} {word : List Letter} {answer : CloseAnswer} (s : Registered) → answer ≡ Err (NotHere s) → IsCloseWord r word answer → (s ≡ r) × Each (Spares r) word
@@ -60,7 +53,7 @@ spares_its_own s e (left tag) = absurd (removed_here s tag (Ok tt) (Ok tt) e)
 spares_its_own s e (last tag segment description) = absurd (removed_here s tag segment description e)
 
 pub hands_back_its_own : (own : ℕ → Bool) → HandsBackItsOwn own
-hands_back_its_own own r s word w mine is old = let m = spares_its_own s refl is in (m.0, λ stood. stands_throughout own w word r mine m.1 old stood)
+hands_back_its_own own r s word w mine is old = let m = spares_its_own s refl is in (m.0, λ stood. throughout own r (λ v. Stands v r) (λ v new at. at) w word mine m.1 old stood)
 
 -- A close is short.
 pub close_is_short : CloseIsShort
