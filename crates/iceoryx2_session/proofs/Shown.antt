@@ -3,7 +3,7 @@ use Rattle.std.proofs.Common.{List, [], Option, Some, None, Result, Ok, Err, ref
 use Rattle.iceoryx2_access.specs.Letter.{Letter}
 use Rattle.iceoryx2_access.specs.Registered.{Registered}
 use Rattle.iceoryx2_access.specs.Run.{Run, done}
-use Rattle.iceoryx2_world.proofs.Runs.{run_map}
+use Rattle.iceoryx2_access.proofs.Run.{run_map}
 use Rattle.iceoryx2_world.specs.Tables.{TableState, IsTableAccess}
 use Rattle.iceoryx2_world.specs.World.{World}
 use Rattle.iceoryx2_commands.specs.declared.command.Command.{Command}

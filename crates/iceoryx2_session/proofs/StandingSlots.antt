@@ -9,7 +9,7 @@ use Rattle.iceoryx2_access.specs.Run.{Run, done, next}
 use Rattle.iceoryx2_access.specs.Registered.{Registered}
 use Rattle.iceoryx2_world.specs.Tables.{TableState, IsTableAccess}
 use Rattle.iceoryx2_world.specs.Standing.{Stands}
-use Rattle.iceoryx2_world.proofs.Runs.{run_map}
+use Rattle.iceoryx2_access.proofs.Run.{run_map}
 use Rattle.iceoryx2_world.proofs.Waiting.{table_access}
 use Rattle.iceoryx2_world.proofs.agreement.Accesses.{run_keeps}
 use Rattle.iceoryx2_world.proofs.agreement.Interference.{among_others}

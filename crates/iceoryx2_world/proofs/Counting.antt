@@ -11,7 +11,7 @@ use Rattle.iceoryx2_world.specs.declared.batches.Step.{Step}
 use Rattle.iceoryx2_world.specs.Batches.{effect, may_starve, IsPeerStep, forbidden, acts, starves}
 use Rattle.iceoryx2_world.specs.Tables.{TableState, IsTableAccess}
 use Rattle.iceoryx2_world.specs.Laws.{CountsSkipped, HasItsEffect}
-use Rattle.iceoryx2_world.proofs.Runs as runs
+use Rattle.iceoryx2_access.proofs.Run as runs
 
 -- at least k, and at most the last number
 abbrev pub IsCount : ℕ → ℕ → Type 0

@@ -4,23 +4,13 @@ use Rattle.iceoryx2_access.specs.Letter.{Letter}
 use Rattle.iceoryx2_access.specs.Run.{Run, done, next}
 use Rattle.iceoryx2_access.specs.MayRefuse.{MayRefuse}
 
--- a run is one of what each state is seen as, where each step is one of what its states are seen as
-pub run_map : {S T L : Type 0} {big : S → L → S → Type 0} {small : T → L → T → Type 0} (f : S → T) → ((a b : S) (l : L) → big a l b → small (f a) l (f b)) → {a b : S} {word : List L} → Run big a word b → Run small (f a) word (f b)
-run_map f each done = done
-run_map f each (next h rest) = next (each _ _ _ h) (run_map f each rest)
-
--- the same from a state with a property that each step keeps
+-- a run is one of what each state is seen as, from a state with a property that each step keeps
 pub run_map_where : {S T L : Type 0} {big : S → L → S → Type 0} {small : T → L → T → Type 0} (f : S → T) (P : S → Type 0) → ((a b : S) (l : L) → P a → big a l b → small (f a) l (f b) × P b) → {a b : S} {word : List L} → P a → Run big a word b → Run small (f a) word (f b) × P b
 run_map_where f P each p done = (done, p)
 run_map_where f P each p (next h rest) =
     let one = each _ _ _ p h in
     let more = run_map_where f P each one.1 rest in
     (next one.0 more.0, more.1)
-
--- what each step keeps, a run keeps
-pub run_keeps : {S L : Type 0} {step : S → L → S → Type 0} (P : S → Type 0) → ((a b : S) (l : L) → step a l b → P a → P b) → {a b : S} {word : List L} → Run step a word b → P a → P b
-run_keeps P each done p = p
-run_keeps P each (next h rest) p = run_keeps P each rest (each _ _ _ h p)
 
 -- a step that may be refused is one of what its states are seen as
 pub refusable_map : {S T : Type 0} (big : S → Letter → S → Type 0) (small : T → Letter → T → Type 0) (f : S → T) → ((a b : S) (l : Letter) → big a l b → small (f a) l (f b)) → (a b : S) (l : Letter) → MayRefuse big a l b → MayRefuse small (f a) l (f b)

@@ -13,7 +13,8 @@ use Rattle.iceoryx2_access.specs.Run.{Run, done, next}
 use Rattle.iceoryx2_world.specs.declared.batches.Step.{Step}
 use Rattle.iceoryx2_world.specs.Batches.{act_of, IsPeerStep, forbidden, acts, starves, IsBatch}
 use Rattle.iceoryx2_world.specs.Tables.{TableState, next_batch, later_batches, IsBatchRun, IsTableAccess}
-use Rattle.iceoryx2_world.proofs.Runs.{run_map, run_map_where, refusable_map}
+use Rattle.iceoryx2_access.proofs.Run.{run_map}
+use Rattle.iceoryx2_world.proofs.Runs.{run_map_where, refusable_map}
 
 module _ {own : ℕ → Bool} where
   step_others : {s t : World × ℕ} {x : Step} {w : World} → IsPeerStep s x t → Others own t.0 w → Others own s.0 w

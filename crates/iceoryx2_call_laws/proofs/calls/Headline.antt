@@ -1,8 +1,7 @@
 -- What every call comes to.
 use Rattle.std.proofs.Common.{◌≡◌, ℕ, Bool, true, List, [], ◌∷◌, Result, Ok, Err, sym, ap, subst, ◌∙◌}
 use Rattle.std.specs.Prelude.{IfOk}
-use Rattle.iceoryx2_access.proofs.Run.{one, last}
-use Rattle.iceoryx2_world.proofs.Runs.{run_map}
+use Rattle.iceoryx2_access.proofs.Run.{one, last, run_map}
 use Rattle.iceoryx2_world.proofs.Waiting.{table_access, refusable_access}
 use Rattle.iceoryx2_world.specs.Tables.{TableState, IsTableAccess}
 use Rattle.iceoryx2_script.specs.Faults.{FaultyState, IsInjectedFault}

@@ -10,7 +10,7 @@ use Rattle.iceoryx2_access.specs.declared.storage.Tag.TheVariants.{Made, Found}
 use Rattle.iceoryx2_access.specs.Letter.{Letter}
 use Rattle.iceoryx2_access.specs.Letter as letter
 use Rattle.iceoryx2_access.specs.Run.{Run, done, next, Each}
-use Rattle.iceoryx2_access.proofs.Run.{split}
+use Rattle.iceoryx2_access.proofs.Run.{split, each_append}
 use Rattle.iceoryx2_world.specs.Sets as set
 use Rattle.iceoryx2_world.specs.declared.world.Participant.{Participant}
 use Rattle.iceoryx2_world.specs.declared.world.Participant.TheVariants.{Node}
@@ -37,7 +37,7 @@ use Rattle.iceoryx2_world.proofs.agreement.Parts.{making, clearing, unlocking, l
 use Rattle.iceoryx2_world.proofs.agreement.Accesses.{own_keeps, access_keeps, faulty_keeps, granted, run_keeps, unrefused, unrefused_run}
 use Rattle.iceoryx2_world.proofs.agreement.Granted.{MayClear, MayEnd}
 use Rattle.iceoryx2_world.proofs.agreement.Spent.{world_segment, spent_own}
-use Rattle.iceoryx2_world.proofs.agreement.Stands.{own_row, own_phase, own_segment, each_append}
+use Rattle.iceoryx2_world.proofs.agreement.Stands.{own_row, own_phase, own_segment}
 use Rattle.iceoryx2_create_and_open.specs.GivesBack.{MadeByCall, OwnTag, OwnLock, OwnSegment, own_tag, GivesBack, nothing_left, segment_back, lock_back, tag_back}
 use Rattle.iceoryx2_create_and_open.specs.Fronts.{made, number_got, left_by, left_after, is_left, GivesAllBack, GivesTagsBack, no_round, one_more}
 use Rattle.iceoryx2_call_laws.specs.CallLeaves.{LeavesAtMostTag}

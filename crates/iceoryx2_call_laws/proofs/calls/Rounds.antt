@@ -4,14 +4,14 @@ use Rattle.iceoryx2_description.specs.declared.description.ServiceHash.{ServiceH
 use Rattle.iceoryx2_access.specs.Letter.{Letter}
 use Rattle.iceoryx2_access.specs.Letter as letter
 use Rattle.iceoryx2_access.specs.Run.{Run, Each, done, next}
-use Rattle.iceoryx2_access.proofs.Run.{both, split}
+use Rattle.iceoryx2_access.proofs.Run.{both, split, each_append}
 use Rattle.iceoryx2_world.specs.World.{World}
 use Rattle.iceoryx2_world.specs.Across.{Agrees}
 use Rattle.iceoryx2_world.specs.Agreement.{IsSpent}
 use Rattle.iceoryx2_world.specs.Interference.{IsAccessUnder, IsFallibleUnder}
 use Rattle.iceoryx2_world.proofs.agreement.Interference.{tickets_refl, tickets_trans, tags_trans, spent_access}
 use Rattle.iceoryx2_world.proofs.agreement.Accesses.{faulty_keeps, run_keeps, unrefused_run}
-use Rattle.iceoryx2_world.proofs.agreement.Stands.{each_append, each_map}
+use Rattle.iceoryx2_world.proofs.agreement.Stands.{each_map}
 use Rattle.iceoryx2_create_and_open.specs.GivesBack.{MadeByCall, OwnSegment}
 use Rattle.iceoryx2_create_and_open.specs.Fronts.{number_got, is_left}
 use Rattle.iceoryx2_open_or_create.specs.Leaves as rounds

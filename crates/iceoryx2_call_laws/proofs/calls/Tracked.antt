@@ -8,12 +8,12 @@ use Rattle.iceoryx2_access.specs.declared.storage.Tag.TheVariants.{Made, Found}
 use Rattle.iceoryx2_access.specs.Letter.{Letter}
 use Rattle.iceoryx2_access.specs.Letter as letter
 use Rattle.iceoryx2_access.specs.Run.{Each}
+use Rattle.iceoryx2_access.proofs.Run.{each_append}
 use Rattle.iceoryx2_world.specs.World.{World}
 use Rattle.iceoryx2_world.specs.Agreement.{IsSpent}
 use Rattle.iceoryx2_world.specs.Calm.{IsCalmLetter}
 use Rattle.iceoryx2_world.proofs.agreement.Calm as calm
 use Rattle.iceoryx2_world.proofs.agreement.Calm.{Tame, tame_both}
-use Rattle.iceoryx2_world.proofs.agreement.Stands.{each_append}
 use Rattle.iceoryx2_pattern.specs.Meaning.{Meaning}
 use Rattle.iceoryx2_create_and_open.specs.declared.look.Outcome.{Outcome}
 use Rattle.iceoryx2_create_and_open.specs.Looks.{IsLookWord}

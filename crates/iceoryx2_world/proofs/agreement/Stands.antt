@@ -202,10 +202,6 @@ found_stands u v i h n d b t word run is hash old =
     (opened.0, grind (arith, opened.1, after_it.1.counter, between.1.counter))
 
 -- Lists of letters.
-pub each_append : (P : Letter → Type 0) (u v : List Letter) → Each P u → Each P v → Each P (u ++ v)
-each_append P [] v a b = b
-each_append P (l ∷ u) v a b = (a.0, each_append P u v a.1 b)
-
 pub each_map : (P Q : Letter → Type 0) → ((l : Letter) → P l → Q l) → (word : List Letter) → Each P word → Each Q word
 each_map P Q f [] a = tt
 each_map P Q f (l ∷ word) a = (f l a.0, each_map P Q f word a.1)

@@ -1,4 +1,4 @@
-use Rattle.iceoryx2_world.proofs.Runs.{run_map}
+use Rattle.iceoryx2_access.proofs.Run.{run_map}
 use Rattle.iceoryx2_session.proofs.Shown.{goes_along, goes_at_table}
 use Rattle.iceoryx2_session.proofs.laws.sessions.Goals as goal
 
