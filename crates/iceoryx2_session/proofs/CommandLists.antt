@@ -1,16 +1,20 @@
 -- Commands one after the other, over any table and over one that nobody else uses.
-use Rattle.std.proofs.Common.{List, [], ◌∷◌, ◌++◌, refl, ◌∙◌}
+use Rattle.std.proofs.Common.{◌≡◌, ℕ, Bool, List, [], ◌∷◌, ◌++◌, refl, sym, subst, ◌∙◌}
+use Rattle.iceoryx2_access.specs.Letter.{Letter}
 use Rattle.iceoryx2_access.specs.Run.{Each}
+use Rattle.iceoryx2_description.specs.declared.config.Config.{Config}
 use Rattle.iceoryx2_world.specs.Across.{Agrees}
+use Rattle.iceoryx2_world.specs.World.{World}
 use Rattle.iceoryx2_call_laws.specs.Quiet.{Quiet}
 use Rattle.iceoryx2_call_laws.proofs.quiet.Same.{tags_counted}
 use Rattle.iceoryx2_commands.specs.declared.command.Command.{Command}
 use Rattle.iceoryx2_commands.specs.declared.command.Reply.{Reply}
-use Rattle.iceoryx2_session.specs.Sessions.{SessionState, Goes}
+use Rattle.iceoryx2_session.specs.Sessions.{SessionOver, SessionState, Goes, GoesBy, GoesInWorld}
+use Rattle.iceoryx2_session.specs.Sessions as goes
 use Rattle.iceoryx2_session.specs.CommandLists.{CarriesOut, none, first}
-use Rattle.iceoryx2_session.specs.StandingSlots.{GoesStanding, SlotsStand, OwnsTickets}
+use Rattle.iceoryx2_session.specs.StandingSlots.{GoesStanding, SlotsStand, OwnsTickets, IsOfOwn, GoesStandingInWorld, SlotsStandInWorld}
 use Rattle.iceoryx2_session.specs.QuietSessions.{IsQuiet, IsMoved, QuietState, MovesTogether, AreMoved, TellsNoChange, IsUnchanged}
-use Rattle.iceoryx2_session.proofs.StandingSlots.{goes_standing}
+use Rattle.iceoryx2_session.proofs.StandingSlots.{goes_standing, agree_in_world, standing_in_world}
 use Rattle.iceoryx2_session.proofs.QuietSessions.{moved, itself, unchanged_by}
 use Rattle.iceoryx2_session.proofs.OwnedTickets.{table_owns}
 
@@ -29,6 +33,42 @@ carried_where P each (first {old = s} {mid = m} {c = c} {a = a} one rest) p =
     let now = each s m c a one p in
     let later = carried_where P each rest now.1 in
     (first now.0 later.0, later.1)
+
+-- commands that are each such go so
+with_each : {S C A : Type 0} {step : S → C → A → S → Type 0} {Q : C → Type 0} {s n : S} {commands : List C} {replies : List A}
+    → CarriesOut step s commands replies n → Each Q commands → CarriesOut (λ u c a v. step u c a v × Q c) s commands replies n
+with_each none each = none
+with_each (first one rest) each = first (one, each.0) (with_each rest each.1)
+
+-- ---- over a world
+
+config_stays : {S : Type 0} {step : S → Letter → S → Type 0} {world : S → World} {s n : SessionOver S} {c : Command} {a : Reply} → GoesBy step world s c a n → n.config ≡ s.config
+config_stays (goes.call_past le) = refl
+config_stays (goes.call_taken e) = refl
+config_stays (goes.called f free is) = refl
+config_stays (goes.refused free is) = refl
+config_stays (goes.close_past le) = refl
+config_stays (goes.close_empty free) = refl
+config_stays (goes.closed f at is) = refl
+config_stays (goes.listed lists) = refl
+config_stays goes.not_listed = refl
+
+pub all_agree_in_world : {own : ℕ → Bool} {s n : SessionOver World} {commands : List Command} {replies : List Reply} → CarriesOut (GoesInWorld own) s commands replies n
+    → Agrees s.table → Agrees n.table
+all_agree_in_world {own = own} goes agrees = (carried_where {also = GoesInWorld own} (λ u. Agrees u.table) (λ s n c a one p. (one, agree_in_world one p)) goes agrees).1
+
+-- the slots stand in a world that agrees, and the nodes are configured so
+abbrev StandsConfigured : (own : ℕ → Bool) → Config → SessionOver World → Type 0
+StandsConfigured own config s = Agrees s.table × SlotsStandInWorld own s × (s.config ≡ config)
+
+pub all_stand_in_world : {own : ℕ → Bool} {s n : SessionOver World} {commands : List Command} {replies : List Reply} → CarriesOut (GoesInWorld own) s commands replies n
+    → Agrees s.table → SlotsStandInWorld own s → Each (IsOfOwn own s.config) commands
+    → CarriesOut (GoesStandingInWorld own) s commands replies n × SlotsStandInWorld own n
+all_stand_in_world {own = own} {s = s} goes agrees old mine =
+    let all = carried_where {also = GoesStandingInWorld own} (StandsConfigured own s.config) (λ u v c a one p.
+    let after = standing_in_world one.0 (subst (λ k. IsOfOwn own k c) (sym p.2) one.1) p.0 p.1 in
+    (after, (after.1, after.2, config_stays one.0 ∙ p.2))) (with_each goes mine) (agrees, old, refl) in
+    (all.0, all.1.1)
 
 -- ---- over any table whose world agrees
 

@@ -3,16 +3,17 @@ use Rattle.std.proofs.Common.{◌≡◌, ◌≢◌, ℕ, Bool, true, List, [], O
 use Rattle.std.specs.Prelude.{slice_set, IfOk}
 use Rattle.iceoryx2_world.specs.World.{World}
 use Rattle.iceoryx2_world.specs.Across.{Agrees}
-use Rattle.iceoryx2_world.specs.Interference.{everyone, IsAccessUnder, IsFallibleUnder}
+use Rattle.iceoryx2_world.specs.Interference.{everyone, KeepsOwn, IsAccessUnder, IsFallibleUnder}
 use Rattle.iceoryx2_access.specs.Letter.{Letter}
 use Rattle.iceoryx2_access.specs.Run.{Run, done, next}
 use Rattle.iceoryx2_access.specs.Registered.{Registered}
 use Rattle.iceoryx2_world.specs.Tables.{TableState, IsTableAccess}
-use Rattle.iceoryx2_world.specs.Standing.{Stands}
-use Rattle.iceoryx2_access.proofs.Run.{run_map}
+use Rattle.iceoryx2_world.specs.Standing.{Stands, ticket_for}
+use Rattle.iceoryx2_access.proofs.Run.{run_map, run_keeps as keeps_all}
 use Rattle.iceoryx2_world.proofs.Waiting.{table_access}
 use Rattle.iceoryx2_world.proofs.agreement.Accesses.{run_keeps}
 use Rattle.iceoryx2_world.proofs.agreement.Interference.{among_others}
+use Rattle.iceoryx2_world.proofs.agreement.Stands.{stands_by_ticket}
 use Rattle.iceoryx2_call_laws.specs.Calls.{Throughout}
 use Rattle.iceoryx2_call_laws.specs.Headline.{IsOpen, IsGiven}
 use Rattle.iceoryx2_call_laws.proofs.calls.Words.{close_spares}
@@ -29,9 +30,11 @@ use Rattle.iceoryx2_session.specs.PatternCalls.{PatternCall}
 use Rattle.iceoryx2_session.specs.Patterns.{builder_call}
 use Rattle.iceoryx2_commands.specs.Commands.{slot_count}
 use Rattle.iceoryx2_session.specs.Slots.{HoldsAt}
-use Rattle.iceoryx2_session.specs.Sessions.{SessionOver, SessionState, BuildsBy, ClosesFactoryBy, GoesBy, Goes, IsClosedPlaceBy}
+use Rattle.iceoryx2_session.specs.Sessions.{SessionOver, SessionState, BuildsBy, ClosesFactoryBy, ClosesPlaceBy, ClosesSlotsBy, GoesBy, Goes, IsClosedPlaceBy}
+use Rattle.iceoryx2_session.specs.Sessions.{ClosesSlotsInWorld, GoesInWorld}
 use Rattle.iceoryx2_session.specs.Sessions as goes
-use Rattle.iceoryx2_session.specs.StandingSlots.{SlotsStandUnder, IsOfOwn, ClosesTakenBy, SlotsStand, GoesStanding}
+use Rattle.iceoryx2_session.specs.StandingSlots.{SlotsStandUnder, IsOfOwn, ClosesTakenBy, SlotsStand, GoesStanding, OwnsTicketsUnder, SlotsStandInWorld, GoesStandingInWorld}
+use Rattle.iceoryx2_session.specs.Promised.{CallsAsPromisedInWorld}
 use Rattle.iceoryx2_session.proofs.Promised.{promise, calls_as_promised}
 use Rattle.iceoryx2_session.proofs.SlotLists.{same_factory, same_slot, no_factory, not_free, set_cases, none_held}
 
@@ -118,6 +121,26 @@ module _ (own : ℕ → Bool) {S : Type 0} (step : S → Letter → S → Type 0
   pub agrees_after : {s t : S} {word : List Letter} → Run step s word t → Agrees (world s) → Agrees (world t)
   agrees_after run agrees = (run_keeps {own = own} (worlds run) agrees).0
 
+  -- the world agrees after a command, whoever calls
+  pub goes_agree : {s : SessionOver S} {c : Command} {a : Reply} {n : SessionOver S} → GoesBy step world s c a n → Agrees (world s.table) → Agrees (world n.table)
+  goes_agree (goes.call_past le) agrees = agrees
+  goes_agree (goes.call_taken e) agrees = agrees
+  goes_agree (goes.called f free is) agrees = agrees_after is.2.run agrees
+  goes_agree (goes.refused free is) agrees = agrees_after is.2.run agrees
+  goes_agree (goes.close_past le) agrees = agrees
+  goes_agree (goes.close_empty free) agrees = agrees
+  goes_agree (goes.closed f at is) agrees = agrees_after is.1.run agrees
+  goes_agree (goes.listed lists) agrees = agrees
+  goes_agree goes.not_listed agrees = agrees
+
+  -- and so it is after the close of each slot
+  place_agrees : (s t : S) (o : Option Registered) → ClosesPlaceBy step s o t → Agrees (world s) → Agrees (world t)
+  place_agrees s t None is agrees = subst (λ (u : S). Agrees (world u)) (sym is) agrees
+  place_agrees s t (Some f) is agrees = agrees_after is.1.run agrees
+
+  pub slots_agree : {s t : S} {slots : List (Option Registered)} → ClosesSlotsBy step s slots t → Agrees (world s) → Agrees (world t)
+  slots_agree run agrees = keeps_all (λ s. Agrees (world s)) place_agrees run agrees
+
   -- the factory of a granted builder call, and what stood before it
   pub given : (b : PatternCall) (f : Registered) {s t : S} → own b.call.caller.node ≡ true → Agrees (world s) → BuildsBy step b s (Ok f) t
       → IsGiven step world b.call s t f
@@ -135,23 +158,49 @@ module _ (own : ℕ → Bool) {S : Type 0} (step : S → Letter → S → Type 0
   kept_by_close f {s = s} agrees is g mine apart at =
       at_end (λ u. Stands u g) (close_spares own f is.1.word is.0 (world s) g mine is.1.is_word agrees apart at) (worlds is.1.run)
 
+  -- there the factories of the slots stand, if the caller is an own node
   pub stand_after : {s : SessionOver S} {c : Command} {a : Reply} {n : SessionOver S} → GoesBy step world s c a n → IsOfOwn own s.config c → Agrees (world s.table)
-      → SlotsStandUnder own (world s.table) s.slots → Agrees (world n.table) × SlotsStandUnder own (world n.table) n.slots
-  stand_after (goes.call_past le) mine agrees old = (agrees, old)
-  stand_after (goes.call_taken e) mine agrees old = (agrees, old)
+      → SlotsStandUnder own (world s.table) s.slots → SlotsStandUnder own (world n.table) n.slots
+  stand_after (goes.call_past le) mine agrees old = old
+  stand_after (goes.call_taken e) mine agrees old = old
   stand_after {s = s} (goes.called {call = call} f {t = t} free is) mine agrees old =
       let b = builder_call s.config call in
-      let g = given b f mine agrees is in (
-        agrees_after is.2.run agrees,
-        put_stands old call.slot f (ap own g.node ∙ mine) (g.stays_open [] tt).stands g.new_ticket (kept_by_call b mine agrees is),
-      )
-  stand_after {s = s} (goes.refused {call = call} free is) mine agrees old =
-      (agrees_after is.2.run agrees, stand_on old (kept_by_call (builder_call s.config call) mine agrees is))
-  stand_after (goes.close_past le) mine agrees old = (agrees, old)
-  stand_after (goes.close_empty free) mine agrees old = (agrees, old)
-  stand_after (goes.closed {slot = k} f at is) mine agrees old = (agrees_after is.1.run agrees, take_stands old k f at (kept_by_close f agrees is))
-  stand_after (goes.listed lists) mine agrees old = (agrees, old)
-  stand_after goes.not_listed mine agrees old = (agrees, old)
+      let g = given b f mine agrees is in
+      put_stands old call.slot f (ap own g.node ∙ mine) (g.stays_open [] tt).stands g.new_ticket (kept_by_call b mine agrees is)
+  stand_after {s = s} (goes.refused {call = call} free is) mine agrees old = stand_on old (kept_by_call (builder_call s.config call) mine agrees is)
+  stand_after (goes.close_past le) mine agrees old = old
+  stand_after (goes.close_empty free) mine agrees old = old
+  stand_after (goes.closed {slot = k} f at is) mine agrees old = take_stands old k f at (kept_by_close f agrees is)
+  stand_after (goes.listed lists) mine agrees old = old
+  stand_after goes.not_listed mine agrees old = old
+
+-- ---- over a world
+
+module _ {own : ℕ → Bool} where
+  any_access : (w v : World) (l : Letter) → IsFallibleUnder own w l v → IsFallibleUnder own w l v
+  any_access w v l a = a
+
+  pub agree_in_world : {s n : SessionOver World} {c : Command} {a : Reply} → GoesInWorld own s c a n → Agrees s.table → Agrees n.table
+  agree_in_world goes agrees = goes_agree own (IsFallibleUnder own) (λ w. w) any_access goes agrees
+
+  pub promised_in_world : {s n : SessionOver World} {c : Command} {a : Reply} → GoesInWorld own s c a n → CallsAsPromisedInWorld own s c a n
+  promised_in_world goes = calls_as_promised own (IsFallibleUnder own) (λ w. w) any_access goes
+
+  pub standing_in_world : {s n : SessionOver World} {c : Command} {a : Reply} → GoesInWorld own s c a n → IsOfOwn own s.config c → Agrees s.table
+      → SlotsStandInWorld own s → GoesStandingInWorld own s c a n
+  standing_in_world goes mine agrees old =
+      (goes, agree_in_world goes agrees, stand_after own (IsFallibleUnder own) (λ w. w) any_access goes mine agrees old, promised_in_world goes)
+
+  pub closed_in_world : {w v : World} {slots : List (Option Registered)} → ClosesSlotsInWorld own w slots v → Agrees w → Agrees v
+  closed_in_world closes agrees = slots_agree own (IsFallibleUnder own) (λ w. w) any_access closes agrees
+
+  -- where all is kept that own nodes rely on
+  pub stand_kept : {w v : World} {slots : List (Option Registered)} → KeepsOwn own w v → SlotsStandUnder own w slots → SlotsStandUnder own v slots
+  stand_kept {w = w} {v = v} kept old = stand_on old (λ f mine at.
+      stands_by_ticket w v f kept.later at.limits at.row kept.agrees (kept.tickets.kept f.ticket (ticket_for f) mine at.ticket))
+
+  pub own_kept : {w v : World} {slots : List (Option Registered)} → KeepsOwn own w v → OwnsTicketsUnder own w slots → OwnsTicketsUnder own v slots
+  own_kept kept owned = λ t x mine at. owned t x mine (kept.tickets.no_other t x mine at)
 
 -- ---- where nothing is refused
 
@@ -188,8 +237,12 @@ pub unrefused_table : (s t : TableState) (l : Letter) → IsTableAccess s l t �
 unrefused_table s t l a = among_others everyone s.world l t.world (table_access s t l a)
 
 pub goes_standing : {s n : SessionState} {c : Command} {a : Reply} → Goes s c a n → Agrees s.table.world → SlotsStand s → GoesStanding s c a n
-goes_standing {s = s} {c = c} goes agrees old =
-    let after = stand_after everyone IsTableAccess (λ table. table.world) (of_table everyone) goes (of_everyone s.config c) agrees old in (
-      (goes, after.0, after.1, calls_as_promised everyone IsTableAccess (λ table. table.world) (of_table everyone) goes),
-      closes_taken everyone IsTableAccess (λ table. table.world) unrefused_table goes agrees old,
-    )
+goes_standing {s = s} {c = c} goes agrees old = (
+  (
+    goes,
+    goes_agree everyone IsTableAccess (λ table. table.world) (of_table everyone) goes agrees,
+    stand_after everyone IsTableAccess (λ table. table.world) (of_table everyone) goes (of_everyone s.config c) agrees old,
+    calls_as_promised everyone IsTableAccess (λ table. table.world) (of_table everyone) goes,
+  ),
+  closes_taken everyone IsTableAccess (λ table. table.world) unrefused_table goes agrees old,
+)

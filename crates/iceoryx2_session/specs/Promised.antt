@@ -4,7 +4,7 @@ use Rattle.iceoryx2_access.specs.Registered.{Registered}
 use Rattle.iceoryx2_access.specs.Letter.{Letter}
 use Rattle.iceoryx2_access.specs.Run.{Run}
 use Rattle.iceoryx2_world.specs.Across.{Agrees}
-use Rattle.iceoryx2_world.specs.Interference.{everyone}
+use Rattle.iceoryx2_world.specs.Interference.{everyone, IsFallibleUnder}
 use Rattle.iceoryx2_world.specs.Tables.{IsTableAccess}
 use Rattle.iceoryx2_world.specs.World.{World}
 use Rattle.iceoryx2_open_or_create.specs.Adjusting.{OnlyRaises}
@@ -56,3 +56,8 @@ module _ {S : Type 0} (step : S → Letter → S → Type 0) (world : S → Worl
 -- over a table, at which every node is one's own
 abbrev pub CallsAsPromised : SessionState → Command → Reply → SessionState → Type 0
 CallsAsPromised = CallsAsPromisedBy IsTableAccess (λ table. table.world) everyone
+
+-- over a world, whatever others do before an access of it, and whichever of these is refused
+abbrev pub CallsAsPromisedInWorld : (own : ℕ → Bool) → SessionOver World → Command → Reply → SessionOver World
+    → Type 0
+CallsAsPromisedInWorld own = CallsAsPromisedBy (IsFallibleUnder own) (λ w. w) own

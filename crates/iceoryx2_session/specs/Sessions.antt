@@ -1,9 +1,10 @@
 -- What a command makes of a session.
-use Rattle.std.specs.Prelude.{◌≡◌, ◌≤◌, ℕ, List, Vec, Option, Some, None, Result, Ok, Err}
+use Rattle.std.specs.Prelude.{◌≡◌, ◌≤◌, ℕ, Bool, List, Vec, Option, Some, None, Result, Ok, Err}
 use Rattle.std.specs.Prelude.{slice_get, slice_set}
 use Rattle.std.specs.declared.alloc.Global.{Global}
 use Rattle.iceoryx2_description.specs.declared.config.Config.{Config}
 use Rattle.iceoryx2_world.specs.declared.listing.Entry.{Entry}
+use Rattle.iceoryx2_world.specs.Interference.{IsFallibleUnder}
 use Rattle.iceoryx2_world.specs.Listing.{Lists}
 use Rattle.iceoryx2_world.specs.Tables.{TableState, IsTableAccess}
 use Rattle.iceoryx2_world.specs.World.{World}
@@ -123,3 +124,12 @@ AreClosed = AreClosedBy IsTableAccess
 
 abbrev pub Goes : SessionState → Command → Reply → SessionState → Type 0
 Goes = GoesBy IsTableAccess (λ table. table.world)
+
+-- ---- over a world, whatever others do before an access of it, and whichever of these is refused. `own` tells which
+-- nodes are one's own.
+
+abbrev pub ClosesSlotsInWorld : (own : ℕ → Bool) → World → List (Option Registered) → World → Type 0
+ClosesSlotsInWorld own = ClosesSlotsBy (IsFallibleUnder own)
+
+abbrev pub GoesInWorld : (own : ℕ → Bool) → SessionOver World → Command → Reply → SessionOver World → Type 0
+GoesInWorld own = GoesBy (IsFallibleUnder own) (λ w. w)

@@ -4,7 +4,7 @@ use Rattle.iceoryx2_description.specs.declared.config.Config.{Config}
 use Rattle.iceoryx2_world.specs.declared.world.Ticket.{Ticket}
 use Rattle.iceoryx2_world.specs.World.{World, ticket_of}
 use Rattle.iceoryx2_world.specs.Across.{Agrees}
-use Rattle.iceoryx2_world.specs.Interference.{everyone}
+use Rattle.iceoryx2_world.specs.Interference.{everyone, IsFallibleUnder}
 use Rattle.iceoryx2_world.specs.Standing.{Stands}
 use Rattle.iceoryx2_world.specs.Tables.{IsTableAccess}
 use Rattle.iceoryx2_access.specs.Letter.{Letter}
@@ -75,3 +75,14 @@ ClosesTaken = ClosesTakenBy IsTableAccess
 abbrev pub GoesStanding : SessionState → Command → Reply → SessionState → Type 0
 GoesStanding old c a new =
     GoesStandingUnder IsTableAccess (λ table. table.world) everyone old c a new × ClosesTaken old c new
+
+-- ---- over a world, whatever others do before an access of it, and whichever of these is refused
+
+abbrev pub SlotsStandInWorld : (own : ℕ → Bool) → SessionOver World → Type 0
+SlotsStandInWorld own s = SlotsStandUnder own s.table s.slots
+
+abbrev pub OwnsTicketsInWorld : (own : ℕ → Bool) → SessionOver World → Type 0
+OwnsTicketsInWorld own s = OwnsTicketsUnder own s.table s.slots
+
+abbrev pub GoesStandingInWorld : (own : ℕ → Bool) → SessionOver World → Command → Reply → SessionOver World → Type 0
+GoesStandingInWorld own = GoesStandingUnder (IsFallibleUnder own) (λ w. w) own

@@ -1,4 +1,4 @@
-//! A session of commands over a storage that shows a table.
+//! A session of commands over a storage that shows a world.
 #![tactic(auto)]
 
 /// The call of a builder that a command asks for, with the names of the refusals that carry its errors.
@@ -38,3 +38,4 @@ pub mod session;
 mod setters;
 mod slots;
 pub mod table_storage;
+pub mod world_storage;

@@ -1,4 +1,4 @@
-//! Commands over a storage that shows a table, with places for what they open.
+//! Commands over a storage that shows a world, or a table, with places for what they open.
 
 ghost use Rattle.std.specs.Prelude.{◌≡◌, ◌<◌, ℕ, IfOk, OnErr, replicate, slice_set, None, []};
 ghost use Rattle.iceoryx2_session.specs.Patterns.{builder_call};
@@ -7,6 +7,7 @@ ghost use Rattle.iceoryx2_commands.specs.Commands.{slot_count};
 
 use crate::slots::Slots;
 use crate::table_storage::{StandsIn, TableStorage};
+use crate::world_storage::WorldStorage;
 use crate::{closing, events, publish_subscribe, request_response};
 use iceoryx2_access::storage::Storage;
 use iceoryx2_builder::builder::{self, event};
@@ -18,8 +19,8 @@ use iceoryx2_table::table::Table;
 use iceoryx2_types::types::CustomHeaderMarker;
 use std::alloc::AllocError;
 
-/// A storage that shows a table, and 64 slots for the factories that commands open over it. It has to be
-/// spent by `finish`.
+/// A storage that shows a world, and 64 slots for the factories that commands open over it. It has to be
+/// spent by `close_all`, or by `finish` where the storage shows a table.
 pub struct Session<S> {
     config: Config,
     storage: S,
@@ -77,6 +78,223 @@ fn close_slot<S: Storage>(slots: &mut Slots, slot: usize, storage: &mut S)
     }
 }
 
+impl<S: WorldStorage> Session<S> {
+    ghost use Rattle.iceoryx2_access.specs.Run.{Each};
+    ghost use Rattle.iceoryx2_world.specs.Across.{Agrees};
+    ghost use Rattle.iceoryx2_world.specs.Interference.{Rely};
+    ghost use Rattle.iceoryx2_commands.specs.declared.command.Command.TheVariants as command;
+    ghost use Rattle.iceoryx2_session.specs.CommandLists.{CarriesOut};
+    ghost use Rattle.iceoryx2_session.specs.CommandWords.{GoesAlong};
+    ghost use Rattle.iceoryx2_session.specs.Promised.{CallsAsPromisedInWorld};
+    ghost use Rattle.iceoryx2_session.specs.SessionStates.{own_nodes, own_state, world_state};
+    ghost use Rattle.iceoryx2_session.specs.Sessions.{ClosesSlotsBy, ClosesSlotsInWorld, GoesBy, GoesInWorld};
+    ghost use Rattle.iceoryx2_session.specs.StandingSlots.{GoesStandingInWorld, IsOfOwn, OwnsTicketsInWorld};
+    ghost use Rattle.iceoryx2_session.specs.StandingSlots.{SlotsStandInWorld};
+
+    /// A session whose nodes have this configuration, over a storage that shows a world. All its slots are free.
+    pub fn over(config: Config, storage: S) -> Session<S>
+        ensures state { own_state result
+            ≡ record { config = config; table = storage; slots = replicate slot_count None } }
+
+        // So each factory of a slot stands, whatever the world.
+        ensures stands { SlotsStandInWorld (own_nodes S.own result) (world_state S.world result) }
+    {
+        Session {
+            config,
+            storage,
+            slots: Slots::new(),
+        }
+    }
+
+    /// Carries out one command. The slot is tested before anything is called. After the close of a factory its slot
+    /// is free, whatever the storage refused: what it didn't remove stays there, and if it didn't release the factory
+    /// the ticket stays too.
+    pub fn carry_out(&mut self, command: Command) -> Reply
+        // It is the builder call or the close that it names, along a word of it,
+        ensures own { GoesBy S.step S.world (own_state self.old) command result (own_state self.new) }
+
+        // so the storage's accesses are those of the command's word, and without a call or a close there are none.
+        ensures along { GoesAlong S.step (own_state self.old) command result (own_state self.new) }
+
+        // Which nodes are own stays as it was.
+        ensures nodes { own_nodes S.own self.new ≡ own_nodes S.own self.old }
+
+        // So it is over the world, whatever others do before an access of it, and whichever of these is refused.
+        ensures goes { GoesInWorld (own_nodes S.own self.old)
+            (world_state S.world self.old) command result (world_state S.world self.new) }
+
+        // The world agrees afterwards where it agreed,
+        ensures agrees { Agrees (world_state S.world self.old).table → Agrees (world_state S.world self.new).table }
+
+        // and there the factories of all slots stand, each with a ticket of its own, if the caller is an own node.
+        ensures stands { let own = own_nodes S.own self.old in
+            Agrees (world_state S.world self.old).table → SlotsStandInWorld own (world_state S.world self.old)
+            → IsOfOwn own (own_state self.old).config command → SlotsStandInWorld own (world_state S.world self.new) }
+
+        // The call of a free slot is as every call of an own node is. The factory is the one that the slot holds
+        // then, with the reply's number, and a refusal is the reply's.
+        ensures promised { CallsAsPromisedInWorld (own_nodes S.own self.old)
+            (world_state S.world self.old) command result (world_state S.world self.new) }
+    {
+        self.dispatch(command)
+    }
+
+    /// Carries out commands in order, and gives as many replies, each the one to its command. Room for
+    /// all replies is asked for first.
+    pub fn carry_out_all(&mut self, commands: Vec<Command>) -> Result<Vec<Reply>, AllocError>
+        // Where there is no room, nothing is carried out.
+        ensures refused { OnErr result (own_state self.new ≡ own_state self.old) }
+
+        // Each command goes as it does by itself, from the state that the one before it left.
+        ensures own { IfOk result (λ replies. CarriesOut (GoesBy S.step S.world)
+            (own_state self.old) commands.items replies.items (own_state self.new)) }
+
+        // Which nodes are own stays as it was.
+        ensures nodes { own_nodes S.own self.new ≡ own_nodes S.own self.old }
+
+        // So it is over the world, whatever others do before an access of it, and whichever of these is refused.
+        ensures goes { IfOk result (λ replies. CarriesOut (GoesInWorld (own_nodes S.own self.old))
+            (world_state S.world self.old) commands.items replies.items (world_state S.world self.new)) }
+
+        // The world agrees afterwards where it agreed,
+        ensures agrees { Agrees (world_state S.world self.old).table → Agrees (world_state S.world self.new).table }
+
+        // and there the factories of all slots stand, each with a ticket of its own, if all callers are own nodes,
+        ensures stands { let own = own_nodes S.own self.old in
+            Agrees (world_state S.world self.old).table → SlotsStandInWorld own (world_state S.world self.old)
+            → Each (IsOfOwn own (own_state self.old).config) commands.items
+            → SlotsStandInWorld own (world_state S.world self.new) }
+
+        // and so it is after each of the commands, of which each call is as every call of an own node is.
+        ensures between { let own = own_nodes S.own self.old in
+            Agrees (world_state S.world self.old).table → SlotsStandInWorld own (world_state S.world self.old)
+            → Each (IsOfOwn own (own_state self.old).config) commands.items
+            → IfOk result (λ replies. CarriesOut (GoesStandingInWorld own)
+            (world_state S.world self.old) commands.items replies.items (world_state S.world self.new)) }
+    {
+        let mut replies = Vec::with_capacity(*commands.allocator(), commands.len())?;
+        for command in commands {
+            replies.push_reserved(self.carry_out(command));
+        }
+        Ok(replies)
+    }
+
+    fn dispatch(&mut self, command: Command) -> Reply
+        ensures { GoesBy S.step S.world (own_state self.old) command result (own_state self.new) }
+    {
+        match command {
+            Command::Call(call) => self.call(call),
+            Command::Close { slot } => self.close(slot),
+            Command::List => self.list(),
+        }
+    }
+
+    fn call(&mut self, call: Call) -> Reply
+        ensures { GoesBy S.step S.world (own_state self.old) (command.Call call) result (own_state self.new) }
+    {
+        let slot = call.slot;
+        if slot >= SLOTS {
+            return Reply::NoSuchSlot;
+        }
+        if self.slots.is_taken(slot) {
+            return Reply::SlotInUse;
+        }
+        match build(&self.config, call, &mut self.storage) {
+            Ok(registration) => {
+                let number = registration.number();
+                self.slots.put(slot, registration);
+                Reply::Opened { slot, number }
+            }
+            Err(refusal) => Reply::Refused(refusal),
+        }
+    }
+
+    fn close(&mut self, slot: usize) -> Reply
+        ensures { GoesBy S.step S.world (own_state self.old) (command.Close slot) result (own_state self.new) }
+    {
+        if slot >= SLOTS {
+            return Reply::NoSuchSlot;
+        }
+        match self.slots.take(slot) {
+            Some(registration) => {
+                closing::close(registration, &mut self.storage);
+                Reply::Closed { slot }
+            }
+            None => Reply::SlotEmpty,
+        }
+    }
+
+    fn list(&self) -> Reply
+        ensures { GoesBy S.step S.world (own_state self.now) command.List result (own_state self.now) }
+    {
+        match self.storage.list() {
+            Ok(entries) => Reply::Listing(entries),
+            Err(_) => Reply::OutOfMemory,
+        }
+    }
+
+    /// Shows what others have done up to now, as far as that can be had. Makes no access.
+    pub fn refresh(&mut self)
+        // The slots hold what they held.
+        ensures slots { own_state self.new
+            ≡ record (own_state self.old) { table = (own_state self.new).table } }
+
+        // Which nodes are own stays as it was,
+        ensures nodes { own_nodes S.own self.new ≡ own_nodes S.own self.old }
+
+        // and so does all that they rely on.
+        ensures kept { Rely (own_nodes S.own self.old)
+            (world_state S.world self.old).table (world_state S.world self.new).table }
+
+        // So the factories of all slots stand as before where the world agreed,
+        ensures stands { let own = own_nodes S.own self.old in
+            Agrees (world_state S.world self.old).table → SlotsStandInWorld own (world_state S.world self.old)
+            → SlotsStandInWorld own (world_state S.world self.new) }
+
+        // and where the own nodes' tickets were those of the slots, they are.
+        ensures owns { let own = own_nodes S.own self.old in
+            Agrees (world_state S.world self.old).table → OwnsTicketsInWorld own (world_state S.world self.old)
+            → OwnsTicketsInWorld own (world_state S.world self.new) }
+    {
+        self.storage.refresh()
+    }
+
+    /// The storage, for its readers.
+    pub fn storage(&self) -> &S
+        ensures { result.now ≡ (own_state self.now).table }
+    {
+        &self.storage
+    }
+
+    /// Closes the factories of all slots, in ascending order, and gives the storage back. What it refused to release
+    /// or to remove stays there.
+    pub fn close_all(self) -> S
+        // Each is closed along a word of close.
+        ensures own { ClosesSlotsBy S.step (own_state self).table (own_state self).slots result }
+
+        // Which nodes are own stays as it was.
+        ensures nodes { S.own result ≡ own_nodes S.own self }
+
+        // So it is over the world, whatever others do before an access of it, and whichever of these is refused.
+        ensures closes { ClosesSlotsInWorld (own_nodes S.own self)
+            (world_state S.world self).table (own_state self).slots (S.world result) }
+
+        // The world agrees afterwards where it agreed.
+        ensures agrees { Agrees (world_state S.world self).table → Agrees (S.world result) }
+    {
+        let Session {
+            config: _,
+            mut storage,
+            mut slots,
+        } = self;
+        for slot in 0..SLOTS {
+            close_slot(&mut slots, slot, &mut storage);
+        }
+        slots.destroy();
+        storage
+    }
+}
+
 impl<S: TableStorage> Session<S> {
     ghost use Rattle.iceoryx2_description.specs.declared.description.ServiceHash.{ServiceHash};
     ghost use Rattle.iceoryx2_world.specs.Across.{Agrees};
@@ -93,7 +311,6 @@ impl<S: TableStorage> Session<S> {
     ghost use Rattle.iceoryx2_session.specs.QuietSessions.{AreMoved, IsFinished, IsMoved, IsQuiet};
     ghost use Rattle.iceoryx2_session.specs.QuietSessions.{IsUnchanged, TellsNoChange};
     ghost use Rattle.iceoryx2_access.specs.Run.{Each};
-    ghost use Rattle.iceoryx2_commands.specs.declared.command.Command.TheVariants as command;
 
     /// A session whose nodes have this configuration. All its slots are free.
     pub fn new(config: Config, storage: S) -> Session<S>
@@ -107,11 +324,7 @@ impl<S: TableStorage> Session<S> {
         ensures fresh { (n : ℕ) → (S.shown storage).world ≡ empty_world n → (S.shown storage).waiting ≡ []
             → IsQuiet (state_of S.shown result) (no_service n) × OwnsTickets (state_of S.shown result) }
     {
-        Session {
-            config,
-            storage,
-            slots: Slots::new(),
-        }
+        Session::over(config, storage)
     }
 
     /// Carries out one command. The slot is tested before anything is called.
@@ -193,75 +406,7 @@ impl<S: TableStorage> Session<S> {
             → IfOk result (λ replies.
             Each TellsNoChange replies.items → IsUnchanged (state_of S.shown self.old) (state_of S.shown self.new)) }
     {
-        let mut replies = Vec::with_capacity(*commands.allocator(), commands.len())?;
-        for command in commands {
-            replies.push_reserved(self.apply(command));
-        }
-        Ok(replies)
-    }
-
-    fn carry_out(&mut self, command: Command) -> Reply
-        ensures { GoesBy S.step (shown_world S.shown) (own_state self.old) command result (own_state self.new) }
-    {
-        match command {
-            Command::Call(call) => self.call(call),
-            Command::Close { slot } => self.close(slot),
-            Command::List => self.list(),
-        }
-    }
-
-    fn call(&mut self, call: Call) -> Reply
-        ensures { GoesBy S.step (shown_world S.shown)
-            (own_state self.old) (command.Call call) result (own_state self.new) }
-    {
-        let slot = call.slot;
-        if slot >= SLOTS {
-            return Reply::NoSuchSlot;
-        }
-        if self.slots.is_taken(slot) {
-            return Reply::SlotInUse;
-        }
-        match build(&self.config, call, &mut self.storage) {
-            Ok(registration) => {
-                let number = registration.number();
-                self.slots.put(slot, registration);
-                Reply::Opened { slot, number }
-            }
-            Err(refusal) => Reply::Refused(refusal),
-        }
-    }
-
-    fn close(&mut self, slot: usize) -> Reply
-        ensures { GoesBy S.step (shown_world S.shown)
-            (own_state self.old) (command.Close slot) result (own_state self.new) }
-    {
-        if slot >= SLOTS {
-            return Reply::NoSuchSlot;
-        }
-        match self.slots.take(slot) {
-            Some(registration) => {
-                closing::close(registration, &mut self.storage);
-                Reply::Closed { slot }
-            }
-            None => Reply::SlotEmpty,
-        }
-    }
-
-    fn list(&self) -> Reply
-        ensures { GoesBy S.step (shown_world S.shown)
-            (own_state self.now) command.List result (own_state self.now) }
-    {
-        match self.storage.list() {
-            Ok(entries) => Reply::Listing(entries),
-            Err(_) => Reply::OutOfMemory,
-        }
-    }
-
-    /// The storage, for its readers.
-    pub fn storage(&self) -> &S
-        ensures { result.now ≡ (own_state self.now).table }
-    {
-        &self.storage
+        self.carry_out_all(commands)
     }
 
     /// Closes the factories of all slots, in ascending order, and gives the storage back.
@@ -291,16 +436,7 @@ impl<S: TableStorage> Session<S> {
             → OwnsTickets (state_of S.shown self)
             → (hash : ServiceHash) → HasNothingAt (S.shown result).world hash }
     {
-        let Session {
-            config: _,
-            mut storage,
-            mut slots,
-        } = self;
-        for slot in 0..SLOTS {
-            close_slot(&mut slots, slot, &mut storage);
-        }
-        slots.destroy();
-        storage
+        self.close_all()
     }
 }
 

@@ -1,51 +1,54 @@
 //! Storages that show a table, and the services that stand in them.
 
-ghost use Rattle.std.specs.Prelude.{IfOk};
+ghost use Rattle.std.specs.Prelude.{◌≡◌};
 ghost use Rattle.iceoryx2_access.specs.Letter.{Letter};
-ghost use Rattle.iceoryx2_world.specs.Listing.{Lists};
+ghost use Rattle.iceoryx2_world.specs.Interference.{everyone};
 ghost use Rattle.iceoryx2_world.specs.Tables.{TableState, IsTableAccess};
 
+use crate::world_storage::WorldStorage;
 use iceoryx2_access::storage::{Service, Sha1Hasher, Storage};
 use iceoryx2_table::table::Table;
 use iceoryx2_traced::traced::Traced;
-use iceoryx2_world::listing::Entry;
-use std::alloc::AllocError;
 use std::marker::PhantomData;
 
-/// A storage that shows a table: each of its accesses is one of that table.
-pub trait TableStorage: Storage {
+/// A storage that shows a table: each of its accesses is one of that table, of which each node is one's own.
+pub trait TableStorage: WorldStorage {
     /// The table that it shows.
     ghost shown: { Self → TableState };
-
-    /// Each service of the table with a row or a segment, in the order of the hashes' bytes. Makes no access.
-    /// `AllocError` where there was no memory for the list.
-    fn list(&self) -> Result<Vec<Entry>, AllocError>
-        ensures { IfOk result (λ entries. Lists (shown self.now).world entries.items) };
 
     /// That each access is one of the table.
     ghost accesses: { (old : Self) (letter : Letter) (new : Self)
         → Self.step old letter new → IsTableAccess (shown old) letter (shown new) };
+
+    /// That the world that it shows is the table's.
+    ghost same_world: { (storage : Self) → (shown storage).world ≡ Self.world storage };
+
+    /// That each node is its own.
+    ghost of_everyone: { (storage : Self) → Self.own storage ≡ everyone };
 }
 
 impl TableStorage for Table {
+    ghost use Rattle.std.specs.Prelude.{refl};
+
     ghost shown = { λ table. table };
 
     ghost accesses = { λ old letter new access. access };
 
-    fn list(&self) -> Result<Vec<Entry>, AllocError> {
-        Table::list(self)
-    }
+    ghost same_world = { λ table. refl };
+
+    ghost of_everyone = { λ table. refl };
 }
 
 // What is traced is the table inside.
 impl<S: TableStorage> TableStorage for Traced<S> {
     ghost shown = { λ traced. S.shown traced.inner };
 
-    ghost accesses = { λ old letter new access. S.accesses old.inner letter new.inner access.inside };
+    ghost accesses = { λ old letter new access.
+        S.TableStorage.accesses old.inner letter new.inner access.inside };
 
-    fn list(&self) -> Result<Vec<Entry>, AllocError> {
-        self.inner().list()
-    }
+    ghost same_world = { λ traced. S.same_world traced.inner };
+
+    ghost of_everyone = { λ traced. S.of_everyone traced.inner };
 }
 
 /// Services that stand in a storage of this type, under hashes by SHA-1.

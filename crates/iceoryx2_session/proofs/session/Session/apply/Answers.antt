@@ -6,14 +6,14 @@ use Rattle.iceoryx2_session.proofs.StandingSlots.{goes_standing}
 use Rattle.iceoryx2_session.proofs.QuietSessions.{moved, unchanged_by}
 use Rattle.iceoryx2_session.proofs.OwnedTickets.{table_owns}
 use Rattle.iceoryx2_session.proofs.Promised.{calls_as_promised}
-use Rattle.iceoryx2_session.proofs.Shown.{goes_along, goes_at_table}
+use Rattle.iceoryx2_session.proofs.Shown.{goes_at_table, goes_seen}
 use Rattle.iceoryx2_session.proofs.session.Session.apply.Goals as goal
 
-pub returns-clause-along : goal.returns-clause-along
-returns-clause-along g c = goes_along {world = shown_world g.S.TableStorage.shown} c.carry_out.ensures
+pub returns-clause-own : goal.returns-clause-own
+returns-clause-own g c = goes_seen (shown_world g.S.TableStorage.shown) g.S.WorldStorage.world g.met.S.TableStorage.same_world c.carry_out.ensures.own
 
 pub returns-clause-goes : goal.returns-clause-goes
-returns-clause-goes g c = goes_at_table g.S.Storage.step g.S.TableStorage.shown g.met.S.TableStorage.accesses c.carry_out.ensures
+returns-clause-goes g c = goes_at_table g.S.Storage.step g.S.TableStorage.shown g.met.S.TableStorage.accesses (returns-clause-own g c)
 
 pub returns-clause-stands : goal.returns-clause-stands
 returns-clause-stands g c = λ agrees old. let after = goes_standing (returns-clause-goes g c) agrees old in (after.0.1, after.0.2, after.1)

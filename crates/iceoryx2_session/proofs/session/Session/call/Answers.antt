@@ -1,5 +1,4 @@
 use Rattle.std.proofs.Common.{arith}
-use Rattle.iceoryx2_session.specs.Sessions.{shown_world}
 use Rattle.iceoryx2_session.specs.Sessions as goes
 use Rattle.iceoryx2_session.specs.SessionStates.{own_state}
 use Rattle.iceoryx2_session.proofs.Places.{when_true, when_false}
@@ -14,7 +13,7 @@ returns-then-is_taken g c = goes.call_taken (when_true _ c.is_taken.result c.is_
 
 pub returns-in-Ok : goal.returns-in-Ok
 returns-in-Ok g c =
-    calling g.S.Storage.step (shown_world g.S.TableStorage.shown) (own_state c.args.self.now) c.args.call c.in-Ok.registration c.number-number.result c.build.new.storage c.put.new.self
+    calling g.S.Storage.step g.S.WorldStorage.world (own_state c.args.self.now) c.args.call c.in-Ok.registration c.number-number.result c.build.new.storage c.put.new.self
     (when_false _ c.is_taken.result c.is_taken.ensures c.if-is_taken.false) c.in-Ok.ensures c.number-number.ensures c.put.ensures.after
 
 pub returns-in-Err : goal.returns-in-Err

@@ -1,82 +1,48 @@
-use Rattle.std.proofs.Common.{◌≡◌, ℕ, List, [], ◌∷◌, ◌++◌, length, refl, sym, ap, subst, ◌∙◌, append_assoc, append-nil, arith}
-use Rattle.std.specs.Vec.Iter.{into_iter_items}
-use Rattle.iceoryx2_world.specs.Tables.{IsTableAccess}
-use Rattle.iceoryx2_commands.specs.declared.command.Command.{Command}
-use Rattle.iceoryx2_commands.specs.declared.command.Reply.{Reply}
+use Rattle.std.proofs.Common.{◌≡◌, Result, Ok, Err, sym, subst}
+use Rattle.std.specs.Prelude.{IfOk, OnErr}
+use Rattle.iceoryx2_world.specs.Across.{Agrees}
+use Rattle.iceoryx2_session.specs.Sessions.{shown_session, shown_world}
 use Rattle.iceoryx2_session.specs.SessionStates.{own_state}
-use Rattle.iceoryx2_session.specs.CommandLists.{CarriesOut, none}
-use Rattle.iceoryx2_session.proofs.CommandLists.{one_more, all_stand, all_moved, all_own, all_unchanged}
-use Rattle.iceoryx2_session.proofs.Shown.{all_shown}
+use Rattle.iceoryx2_session.specs.StandingSlots.{OwnsTickets, SlotsStand}
+use Rattle.iceoryx2_session.proofs.CommandLists.{all_stand, all_moved, all_own, all_unchanged}
+use Rattle.iceoryx2_session.proofs.Shown.{all_at_table, all_seen}
 use Rattle.iceoryx2_session.proofs.session.Session.run.Goals as goal
 
-nothing_left : {X : Type 0} (l : List X) → length l ≡ 0 → l ≡ []
-nothing_left [] h = refl
-nothing_left (x ∷ xs) h = absurd (omega arith)
+-- what follows where the replies are there
+if_ok : {A E : Type 0} {P Q : A → Type 0} (answer : Result A E) → ((x : A) → P x → Q x) → IfOk answer P → IfOk answer Q
+if_ok (Ok x) follows so = follows x so
+if_ok (Err e) follows so = tt
 
--- what was carried out of commands of which none is left is all of them
-whole : {S : Type 0} (step : S → Command → Reply → S → Type 0) (old new : S) (commands yielded left : List Command) (replies : List Reply)
-    → CarriesOut step old yielded replies new → yielded ++ left ≡ commands → left ≡ [] → CarriesOut step old commands replies new
-whole step old new commands yielded left replies run in_order empty =
-    subst (λ (l : List Command). CarriesOut step old l replies new) (sym (append-nil yielded) ∙ ap (λ (l : List Command). yielded ++ l) (sym empty) ∙ in_order) run
-
-pub loop-command-init : goal.loop-command-init
-loop-command-init g c =
-    let taken = c.into_iter-command-iterator.ensures.into_iter_gives in
-    let long = ap (λ (l : List Command). length l) taken.0 in
-    let items = c.args.commands.ok in
-    let asked = c.len.ensures in
-    let empty = c.in_ok-replies.ensures.len in
-    let room = c.in_ok-replies.ensures.capacity in
-    record {
-      so_far = rw c.in_ok-replies.ensures.items none;
-      in_order = refl;
-      left = omega (arith, taken.1, long, items.0);
-      room = omega (arith, taken.1, asked, empty, room);
-    }
-
-pub loop-command-preserved : goal.loop-command-preserved
-loop-command-preserved g c =
-    let at = c.loop-command in
-    let x = c.in-Some.command in
-    let steps : into_iter_items at.command-iterator ≡ x ∷ into_iter_items c.next.new.self = c.in-Some.ensures.steps.0 in
-    let fewer = c.in-Some.ensures.steps.1 in
-    let shorter = ap (λ (l : List Command). length l) steps in
-    let left = at.invariant.left in
-    let room = at.invariant.room in
-    let longer = c.push_reserved.ensures.len in
-    let capacity = c.push_reserved.ensures.capacity in
-    record {
-      so_far = rw c.push_reserved.ensures.items (one_more at.invariant.so_far c.apply.ensures.own);
-      in_order = append_assoc at.yielded (x ∷ []) _ ∙ rw (← steps) at.invariant.in_order;
-      left = omega (arith, fewer, shorter, left);
-      room = omega (arith, fewer, room, longer, capacity);
-    }
-
-carried_out : {S : Type 0} (step : S → Command → Reply → S → Type 0) (old new : S) (commands yielded left : List Command) (replies : List Reply) (n : ℕ)
-    → CarriesOut step old yielded replies new → yielded ++ left ≡ commands → n ≡ length left → n ≡ 0 → CarriesOut step old commands replies new
-carried_out step old new commands yielded left replies n run in_order long end =
-    whole step old new commands yielded left replies run in_order (nothing_left left (sym long ∙ end))
+-- what is so where the replies are there, and where nothing was carried out
+either_way : {A E S : Type 0} (P : S → Type 0) (answer : Result A E) (old new : S) → OnErr answer (new ≡ old) → IfOk answer (λ x. P new) → P old → P new
+either_way P (Ok x) old new same so was = so
+either_way P (Err e) old new same so was = subst P (sym same) was
 
 pub returns-clause-own : goal.returns-clause-own
 returns-clause-own g c =
-    let at = c.loop-command in
-    carried_out _ (own_state c.args.self.now) (own_state at.self) c.args.commands.items at.yielded (into_iter_items at.command-iterator) at.replies.items _
-    at.invariant.so_far (at.invariant.in_order ∙ c.into_iter-command-iterator.ensures.into_iter_gives.0) at.invariant.left c.in-None.ensures.steps.0
+    if_ok c.carry_out_all.result (λ replies goes. all_seen (shown_world g.S.TableStorage.shown) g.S.WorldStorage.world g.met.S.TableStorage.same_world goes) c.carry_out_all.ensures.own
 
 pub returns-clause-goes : goal.returns-clause-goes
-returns-clause-goes g c = all_shown g.S.Storage.step IsTableAccess g.S.TableStorage.shown (λ table. table.world) g.met.S.TableStorage.accesses (returns-clause-own g c)
+returns-clause-goes g c =
+    if_ok c.carry_out_all.result (λ replies goes. all_at_table g.S.Storage.step g.S.TableStorage.shown g.met.S.TableStorage.accesses goes) (returns-clause-own g c)
 
 pub returns-clause-stands : goal.returns-clause-stands
-returns-clause-stands g c = λ agrees old. (all_stand (returns-clause-goes g c) agrees old).1
+returns-clause-stands g c = λ agrees old.
+    either_way (λ s. Agrees (g.S.TableStorage.shown s.table).world × SlotsStand (shown_session g.S.TableStorage.shown s)) c.carry_out_all.result
+    (own_state c.args.self.now) (own_state c.carry_out_all.new.self) c.carry_out_all.ensures.refused
+    (if_ok c.carry_out_all.result (λ replies goes. (all_stand goes agrees old).1) (returns-clause-goes g c)) (agrees, old)
 
 pub returns-clause-between : goal.returns-clause-between
-returns-clause-between g c = λ agrees old. (all_stand (returns-clause-goes g c) agrees old).0
-
-pub returns-clause-quiet : goal.returns-clause-quiet
-returns-clause-quiet g c = λ q quiet old. all_moved q quiet old (returns-clause-goes g c)
+returns-clause-between g c = λ agrees old. if_ok c.carry_out_all.result (λ replies goes. (all_stand goes agrees old).0) (returns-clause-goes g c)
 
 pub returns-clause-owns : goal.returns-clause-owns
-returns-clause-owns g c = λ agrees old owned. all_own (returns-clause-between g c agrees old) agrees old owned
+returns-clause-owns g c = λ agrees old owned.
+    either_way (λ s. OwnsTickets (shown_session g.S.TableStorage.shown s)) c.carry_out_all.result
+    (own_state c.args.self.now) (own_state c.carry_out_all.new.self) c.carry_out_all.ensures.refused
+    (if_ok c.carry_out_all.result (λ replies goes. all_own goes agrees old owned) (returns-clause-between g c agrees old)) owned
+
+pub returns-clause-quiet : goal.returns-clause-quiet
+returns-clause-quiet g c = λ q quiet old. if_ok c.carry_out_all.result (λ replies goes. all_moved q quiet old goes) (returns-clause-goes g c)
 
 pub returns-clause-unchanged : goal.returns-clause-unchanged
-returns-clause-unchanged g c = λ q quiet old still. all_unchanged q quiet old (returns-clause-goes g c) still
+returns-clause-unchanged g c = λ q quiet old. if_ok c.carry_out_all.result (λ replies goes still. all_unchanged q quiet old goes still) (returns-clause-goes g c)

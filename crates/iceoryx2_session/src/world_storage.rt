@@ -1,0 +1,85 @@
+//! Storages that show a world, a table's among them.
+
+ghost use Rattle.std.specs.Prelude.{◌≡◌, ℕ, Bool, IfOk};
+ghost use Rattle.iceoryx2_access.specs.Letter.{Letter};
+ghost use Rattle.iceoryx2_world.specs.World.{World};
+ghost use Rattle.iceoryx2_world.specs.Listing.{Lists};
+ghost use Rattle.iceoryx2_world.specs.Interference.{Rely, IsFallibleUnder};
+
+use iceoryx2_access::storage::Storage;
+use iceoryx2_table::table::Table;
+use iceoryx2_traced::traced::Traced;
+use iceoryx2_world::listing::Entry;
+use std::alloc::AllocError;
+
+/// A storage that shows a world, with nodes of its own. Each of its accesses is one of that world, after what others
+/// do, or it is refused by a fault after that.
+pub trait WorldStorage: Storage {
+    /// The world that it shows.
+    ghost world: { Self → World };
+
+    /// Which nodes are its own.
+    ghost own: { Self → ℕ → Bool };
+
+    /// Shows what others have done up to now, as far as that can be had. Makes no access.
+    fn refresh(&mut self)
+        ensures kept { Rely (own self.old) (world self.old) (world self.new) }
+        ensures same { own self.new ≡ own self.old };
+
+    /// Each service of the world with a row or a segment, in the order of the hashes' bytes. Makes no access.
+    /// `AllocError` where there was no memory for the list.
+    fn list(&self) -> Result<Vec<Entry>, AllocError>
+        ensures { IfOk result (λ entries. Lists (world self.now) entries.items) };
+
+    /// That each access is one of the world, whatever others do before it, or is refused then.
+    ghost accesses: { (old : Self) (letter : Letter) (new : Self)
+        → Self.step old letter new → IsFallibleUnder (own old) (world old) letter (world new) };
+
+    /// That no access changes which nodes are its own.
+    ghost keeps_own: { (old : Self) (letter : Letter) (new : Self)
+        → Self.step old letter new → own new ≡ own old };
+}
+
+// Each node acts through the table itself, so it shows its world as it is, and each node is its own.
+impl WorldStorage for Table {
+    ghost use Rattle.std.specs.Prelude.{refl};
+    ghost use Rattle.iceoryx2_world.specs.Interference.{everyone};
+    ghost use Rattle.iceoryx2_world.proofs.Waiting.{table_access};
+    ghost use Rattle.iceoryx2_world.proofs.agreement.Accesses.{unrefused};
+    ghost use Rattle.iceoryx2_world.proofs.agreement.Interference.{among_others};
+
+    ghost world = { λ table. table.world };
+
+    ghost own = { λ table. everyone };
+
+    ghost accesses = { λ old letter new access. unrefused
+        (among_others everyone old.world letter new.world (table_access old new letter access)) };
+
+    ghost keeps_own = { λ old letter new access. refl };
+
+    #[tactic(auto, using(iceoryx2_world::proofs::agreement::Interference::rely_same))]
+    fn refresh(&mut self) {}
+
+    fn list(&self) -> Result<Vec<Entry>, AllocError> {
+        Table::list(self)
+    }
+}
+
+// What is traced shows the world of the storage inside, with the nodes that are own there.
+impl<S: WorldStorage> WorldStorage for Traced<S> {
+    ghost world = { λ traced. S.world traced.inner };
+
+    ghost own = { λ traced. S.own traced.inner };
+
+    ghost accesses = { λ old letter new access. S.accesses old.inner letter new.inner access.inside };
+
+    ghost keeps_own = { λ old letter new access. S.keeps_own old.inner letter new.inner access.inside };
+
+    fn refresh(&mut self) {
+        self.inner_mut().refresh()
+    }
+
+    fn list(&self) -> Result<Vec<Entry>, AllocError> {
+        self.inner().list()
+    }
+}
