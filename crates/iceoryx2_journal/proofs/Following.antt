@@ -1,0 +1,87 @@
+-- What following an entry comes to.
+use Rattle.std.proofs.Common.{◌≡◌, inl, inr, ℕ, false, List, [], ◌∷◌, ◌++◌, Result, Ok, Err, refl, sym, ap, subst}
+use Rattle.iceoryx2_description.specs.declared.description.ServiceHash.{ServiceHash}
+use Rattle.std.specs.Prelude.{true, is_ok}
+use Rattle.iceoryx2_access.specs.declared.storage.Release.{Release as Released}
+use Rattle.iceoryx2_access.specs.declared.storage.ReleaseError.{ReleaseError}
+use Rattle.iceoryx2_access.specs.Letter.{Letter, caller_of}
+use Rattle.iceoryx2_access.specs.Letter as letter
+use Rattle.iceoryx2_access.specs.Run.{done, Each}
+use Rattle.iceoryx2_access.proofs.Run.{one, both}
+use Rattle.iceoryx2_world.specs.World.{World}
+use Rattle.iceoryx2_world.specs.Access.{IsOwnPart}
+use Rattle.iceoryx2_table.specs.Recorded.{IsRecordedPart, untouched, recorded, declined, is_written}
+use Rattle.iceoryx2_table.proofs.Recording.{is_own_part}
+use Rattle.iceoryx2_log.specs.declared.entry.Deed.{Deed}
+use Rattle.iceoryx2_log.specs.declared.entry.Deed.TheVariants as deed
+use Rattle.iceoryx2_log.specs.declared.entry.Entry.{Entry}
+use Rattle.iceoryx2_journal.specs.declared.follow.FollowError.{FollowError}
+use Rattle.iceoryx2_journal.specs.declared.follow.FollowError.TheVariants as errors
+use Rattle.iceoryx2_journal.specs.Follow.{Grants, IsEntryOf, MayFetch, Prepares, IsFollowed, ActsAlone, Follows, Judges}
+
+-- What isn't written leaves the world.
+pub unwritten : {R : Type 0} {written refused : R → R → Type 0} {before after : R} {w v : World} {l : Letter} → is_written w l ≡ false → IsRecordedPart written refused w l v before after → v ≡ w
+unwritten e (untouched f own same still) = same
+unwritten e (recorded f own wrote) = absurd (cc)
+unwritten e (declined fault same refuses) = same
+
+pub acts_not : {i : ℕ} {w : World} → ActsAlone i w w
+acts_not = record { word = []; is_word = tt; run = done }
+
+each_behind : (P : Letter → Type 0) (word : List Letter) {l : Letter} → Each P word → P l → Each P (word ++ l ∷ [])
+each_behind P [] e p = (p, tt)
+each_behind P (k ∷ word) e p = (e.0, each_behind P word e.1 p)
+
+pub acts_once_more : {i : ℕ} {w u v : World} (l : Letter) → ActsAlone i w u → caller_of l ≡ i → IsOwnPart u l v → ActsAlone i w v
+acts_once_more {i} l a e part = record {
+  word = a.word ++ l ∷ [];
+  is_word = each_behind (λ k. caller_of k ≡ i) a.word a.is_word e;
+  run = both a.run (one part);
+}
+
+pub fetch_acts : {i : ℕ} {h : ServiceHash} {w v : World} → MayFetch i h w v → ActsAlone i w v
+fetch_acts {i} {h} {w} (inl e) = subst (ActsAlone i w) (sym e) acts_not
+fetch_acts {i} {h} (inr x) = acts_once_more (letter.Fetch i h x.0) acts_not refl x.1
+
+-- An access with its answer, from where its deed is prepared.
+pub judged : {R : Type 0} {before after : R} {G F : Type 0} {w u v : World} (e : Entry) (l : Letter) (r : Result (Unit {0}) FollowError) → Judges G F r
+    → Prepares e.node e.hash e.deed w u → ActsAlone e.node w u → caller_of l ≡ e.node → (G → IsEntryOf e l) → (F → is_written u l ≡ false)
+    → IsRecordedPart {R = R} (λ _ _. Unit {0}) (λ _ _. ⊥) u l v before after → Follows e r w v
+judged {u} e l (Ok x) j p acts mine is_entry is_refused part = record { ready = u; letter = l; prepares = p; is_entry = is_entry j; part = is_own_part (λ _ _ no. no) part }
+judged {w} e l (Err errors.OutOfMemory) j p acts mine is_entry is_refused part = subst (λ x. Prepares e.node e.hash e.deed w x) (sym (unwritten (is_refused j) part)) p
+judged e l (Err errors.Disagrees) j p acts mine is_entry is_refused part = acts_once_more l acts mine (is_own_part (λ _ _ no. no) part)
+
+-- What comes before a deed's access is the node's too.
+pub prepare_acts : {i : ℕ} (h : ServiceHash) (d : Deed) {w v : World} → Prepares i h d w v → ActsAlone i w v
+prepare_acts h (deed.OpenSegment n t) p = fetch_acts p
+prepare_acts {i} h deed.MakeTag {w} p = subst (ActsAlone i w) (sym p) acts_not
+prepare_acts {i} h deed.RemoveTag {w} p = subst (ActsAlone i w) (sym p) acts_not
+prepare_acts {i} h (deed.Lock n) {w} p = subst (ActsAlone i w) (sym p) acts_not
+prepare_acts {i} h (deed.MakeSegment n m) {w} p = subst (ActsAlone i w) (sym p) acts_not
+prepare_acts {i} h deed.RemoveSegment {w} p = subst (ActsAlone i w) (sym p) acts_not
+prepare_acts {i} h deed.RemoveDescription {w} p = subst (ActsAlone i w) (sym p) acts_not
+prepare_acts {i} h (deed.Publish n b) {w} p = subst (ActsAlone i w) (sym p) acts_not
+prepare_acts {i} h (deed.Release t n) {w} p = subst (ActsAlone i w) (sym p) acts_not
+
+entry_caller : (i : ℕ) (h : ServiceHash) (d : Deed) (l : Letter) → Grants i h d l → caller_of l ≡ i
+entry_caller i h deed.MakeTag l g = ap caller_of g
+entry_caller i h deed.RemoveTag l g = ap caller_of g
+entry_caller i h (deed.Lock n) l g = ap caller_of g
+entry_caller i h (deed.MakeSegment n m) l g = ap caller_of g
+entry_caller i h deed.RemoveSegment l g = ap caller_of g
+entry_caller i h deed.RemoveDescription l g = ap caller_of g
+entry_caller i h (deed.Publish n b) l g = ap caller_of g.2
+entry_caller i h (deed.OpenSegment n t) l g = ap caller_of g
+entry_caller i h (deed.Release t n) l g = ap caller_of g.1
+
+-- An entry that is followed is accesses of its node.
+pub followed_acts : {w v : World} (e : Entry) → IsFollowed w e v → ActsAlone e.node w v
+followed_acts e f = acts_once_more f.letter (prepare_acts e.hash e.deed f.prepares) (entry_caller e.node e.hash e.deed f.letter f.is_entry) f.part
+
+pub release_granted : (t i : ℕ) (h : ServiceHash) (n : ℕ) (a : Result Released ReleaseError) → is_ok a ≡ true → Grants i h (deed.Release t n) (letter.Release t i h n a)
+release_granted t i h n (Ok left) ok = (left, refl)
+release_granted t i h n (Err e) ok = absurd (cc)
+
+-- An entry that has this deed.
+pub same_entry : (e : Entry) (d : Deed) (r : Result (Unit {0}) FollowError) (w v : World) → e.deed ≡ d → Follows (record { node = e.node; hash = e.hash; deed = d }) r w v → Follows e r w v
+same_entry e d r w v is f = subst (λ x. Follows (record { node = e.node; hash = e.hash; deed = x }) r w v) (sym is) f

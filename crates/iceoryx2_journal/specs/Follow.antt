@@ -1,0 +1,69 @@
+-- What an entry makes of a world: its node's access, with the answer that the entry has.
+use Rattle.std.specs.Prelude.{◌≡◌, ◌⊎◌, ℕ, List, Result, Ok, Err}
+use Rattle.iceoryx2_description.specs.declared.description.ServiceHash.{ServiceHash}
+use Rattle.iceoryx2_description.specs.Description.{Description}
+use Rattle.iceoryx2_byte_form.specs.Form.{IsForm}
+use Rattle.iceoryx2_access.specs.declared.storage.FetchError.{FetchError}
+use Rattle.iceoryx2_access.specs.declared.storage.Tag.TheVariants.{Made}
+use Rattle.iceoryx2_access.specs.declared.storage.Release.{Release as Released}
+use Rattle.iceoryx2_access.specs.Letter.{Letter, caller_of}
+use Rattle.iceoryx2_access.specs.Letter as letter
+use Rattle.iceoryx2_access.specs.Run.{Joins, Each}
+use Rattle.iceoryx2_world.specs.World.{World}
+use Rattle.iceoryx2_world.specs.Access.{IsOwnPart}
+use Rattle.iceoryx2_log.specs.declared.entry.Deed.{Deed}
+use Rattle.iceoryx2_log.specs.declared.entry.Deed.TheVariants as deed
+use Rattle.iceoryx2_log.specs.declared.entry.Entry.{Entry}
+use Rattle.iceoryx2_journal.specs.declared.follow.FollowError.{FollowError}
+use Rattle.iceoryx2_journal.specs.declared.follow.FollowError.TheVariants as errors
+
+-- The letter is this deed of the node, granted: with the deed's numbers, for a publishing with a description whose byte
+-- form the deed has, and for a release with any answer that isn't an error.
+abbrev pub Grants : (node : ℕ) → ServiceHash → Deed → Letter → Type 0
+Grants i h deed.MakeTag l = l ≡ letter.MakeTag i h (Ok Made)
+Grants i h deed.RemoveTag l = l ≡ letter.RemoveTag i h (Ok tt)
+Grants i h (deed.Lock n) l = l ≡ letter.Lock i h (Ok n)
+Grants i h (deed.MakeSegment n nodes) l = l ≡ letter.MakeSegment i h n nodes (Ok tt)
+Grants i h deed.RemoveSegment l = l ≡ letter.RemoveSegment i h (Ok tt)
+Grants i h deed.RemoveDescription l = l ≡ letter.RemoveDescription i h (Ok tt)
+Grants i h (deed.Publish n bytes) l = (d : Description) × IsForm d bytes × (l ≡ letter.Publish i h n d (Ok n))
+Grants i h (deed.OpenSegment n ticket) l = l ≡ letter.OpenSegment i h n (Ok ticket)
+Grants i h (deed.Release ticket n) l = (left : Released) × (l ≡ letter.Release ticket i h n (Ok left))
+
+-- The letter is the entry's access, granted.
+abbrev pub IsEntryOf : Entry → Letter → Type 0
+IsEntryOf e l = Grants e.node e.hash e.deed l
+
+-- The node fetches the description, whatever the answer, or need not.
+abbrev pub MayFetch : (node : ℕ) → ServiceHash → World → World → Type 0
+MayFetch i h old new =
+    (new ≡ old) ⊎ ((a : Result (ℕ × List ℕ) FetchError) × IsOwnPart old (letter.Fetch i h a) new)
+
+-- What comes before a deed's access: an opening's node may fetch, which is in no entry.
+abbrev pub Prepares : (node : ℕ) → ServiceHash → Deed → World → World → Type 0
+Prepares i h (deed.OpenSegment n ticket) old new = MayFetch i h old new
+Prepares i h _ old new = new ≡ old
+
+-- The entry has its effect: its node's access is granted as the entry has it.
+pub record IsFollowed (old : World) (e : Entry) (new : World) : Type 0 where
+  pub ready : World
+  pub letter : Letter
+  pub prepares : Prepares e.node e.hash e.deed old ready
+  pub is_entry : IsEntryOf e letter
+  pub part : IsOwnPart ready letter new
+
+-- There are accesses of this node and of no other, with whatever answers.
+abbrev pub ActsAlone : (node : ℕ) → World → World → Type 0
+ActsAlone i old new = Joins IsOwnPart old (Each (λ l. caller_of l ≡ i)) new
+
+-- What following an entry comes to, by how it ends. Without memory nothing was done but what comes before the access.
+abbrev pub Follows : Entry → Result (Unit {0}) FollowError → World → World → Type 0
+Follows e (Ok x) old new = IsFollowed old e new
+Follows e (Err errors.OutOfMemory) old new = Prepares e.node e.hash e.deed old new
+Follows e (Err errors.Disagrees) old new = ActsAlone e.node old new
+
+-- By what an access answered: it is granted so, or it is an error for want of memory, or anything.
+abbrev pub Judges : (is_granted is_refused : Type 0) → Result (Unit {0}) FollowError → Type 0
+Judges is_granted is_refused (Ok x) = is_granted
+Judges is_granted is_refused (Err errors.OutOfMemory) = is_refused
+Judges is_granted is_refused (Err errors.Disagrees) = Unit {0}

@@ -1,0 +1,3 @@
+-- What a contract sees of a journal.
+pub mod Follow
+pub mod Taking

@@ -1,0 +1,166 @@
+//! What an entry of another makes of a process's world.
+
+ghost use Rattle.std.specs.Prelude.{◌≡◌, Ok, is_err};
+ghost use Rattle.iceoryx2_access.specs.declared.storage.Tag.TheVariants.{Made};
+ghost use Rattle.iceoryx2_log.specs.declared.entry.Deed.TheVariants as deed;
+ghost use Rattle.iceoryx2_journal.specs.Follow.{MayFetch, Follows, Judges};
+
+mod judging;
+
+use iceoryx2_access::storage::FetchError;
+use iceoryx2_byte_form::bytes::{self, DecodeError};
+use iceoryx2_description::description::ServiceHash;
+use iceoryx2_log::entry::{Deed, Entry, FormBytes};
+use iceoryx2_table::recorder::Unrecorded;
+use iceoryx2_table::table::stored::StoredWorld;
+use std::alloc::Global;
+
+/// Why an entry isn't followed.
+#[derive(Clone, Copy, Debug, PartialEq, Eq)]
+pub enum FollowError {
+    /// There was no memory. The entry can be followed again.
+    OutOfMemory,
+    /// The access doesn't answer what the entry has: somebody's program differs, or the log is damaged.
+    Disagrees,
+}
+
+/// Makes the entry's access, as its node, and compares the answer. Before an opening its node fetches, where it isn't
+/// registered.
+pub fn follow(alloc: Global, world: &mut StoredWorld, entry: &Entry) -> Result<(), FollowError>
+    ensures { Follows entry.now result world.old world.new }
+{
+    let node = entry.node;
+    let hash = &entry.hash;
+    match &entry.deed {
+        Deed::MakeTag => make_tag(world, node, hash),
+        Deed::RemoveTag => remove_tag(world, node, hash),
+        Deed::Lock { number } => lock(world, node, hash, *number),
+        Deed::MakeSegment { number, max_nodes } => {
+            make_segment(world, node, hash, *number, *max_nodes)
+        }
+        Deed::RemoveSegment => remove_segment(world, node, hash),
+        Deed::RemoveDescription => remove_description(world, node, hash),
+        Deed::Publish { number, bytes } => publish(alloc, world, node, hash, *number, bytes),
+        Deed::OpenSegment { number, ticket } => open_segment(world, node, hash, *number, *ticket),
+        Deed::Release { ticket, number } => release(world, *ticket, node, hash, *number),
+    }
+}
+
+fn make_tag(world: &mut StoredWorld, node: u64, hash: &ServiceHash) -> Result<(), FollowError>
+    ensures { Follows (record { node = node; hash = hash.now; deed = deed.MakeTag }) result world.old world.new }
+{
+    judging::made_tag(world.make_tag(&mut Unrecorded, node, hash))
+}
+
+fn remove_tag(world: &mut StoredWorld, node: u64, hash: &ServiceHash) -> Result<(), FollowError>
+    ensures { Follows (record { node = node; hash = hash.now; deed = deed.RemoveTag }) result world.old world.new }
+{
+    judging::removed(world.remove_tag(&mut Unrecorded, node, hash))
+}
+
+fn lock(
+    world: &mut StoredWorld,
+    node: u64,
+    hash: &ServiceHash,
+    number: u64,
+) -> Result<(), FollowError>
+    ensures { Follows (record { node = node; hash = hash.now; deed = deed.Lock number }) result world.old world.new }
+{
+    judging::locked(world.lock(&mut Unrecorded, node, hash), number)
+}
+
+fn make_segment(
+    world: &mut StoredWorld,
+    node: u64,
+    hash: &ServiceHash,
+    number: u64,
+    max_nodes: u64,
+) -> Result<(), FollowError>
+    ensures { Follows (record { node = node; hash = hash.now; deed = deed.MakeSegment number max_nodes }) result
+        world.old world.new }
+{
+    judging::made_segment(world.make_segment(&mut Unrecorded, node, hash, number, max_nodes))
+}
+
+fn remove_segment(world: &mut StoredWorld, node: u64, hash: &ServiceHash) -> Result<(), FollowError>
+    ensures { Follows (record { node = node; hash = hash.now; deed = deed.RemoveSegment }) result world.old world.new }
+{
+    judging::removed(world.remove_segment(&mut Unrecorded, node, hash))
+}
+
+fn remove_description(
+    world: &mut StoredWorld,
+    node: u64,
+    hash: &ServiceHash,
+) -> Result<(), FollowError>
+    ensures { Follows (record { node = node; hash = hash.now; deed = deed.RemoveDescription }) result
+        world.old world.new }
+{
+    judging::removed(world.remove_description(&mut Unrecorded, node, hash))
+}
+
+fn publish(
+    alloc: Global,
+    world: &mut StoredWorld,
+    node: u64,
+    hash: &ServiceHash,
+    number: u64,
+    bytes: &FormBytes,
+) -> Result<(), FollowError>
+    ensures { Follows (record { node = node; hash = hash.now; deed = deed.Publish number bytes.now }) result
+        world.old world.new }
+{
+    match bytes::decode(alloc, bytes.as_slice()) {
+        Ok(description) => judging::published(
+            world.publish(&mut Unrecorded, node, hash, number, &description),
+            number,
+        ),
+        Err(DecodeError::OutOfMemory) => Err(FollowError::OutOfMemory),
+        Err(DecodeError::Malformed) => Err(FollowError::Disagrees),
+    }
+}
+
+fn open_segment(
+    world: &mut StoredWorld,
+    node: u64,
+    hash: &ServiceHash,
+    number: u64,
+    ticket: u64,
+) -> Result<(), FollowError>
+    ensures { Follows (record { node = node; hash = hash.now; deed = deed.OpenSegment number ticket }) result
+        world.old world.new }
+{
+    if !fetch(world, node, hash) {
+        return Err(FollowError::OutOfMemory);
+    }
+    judging::opened(
+        world.open_segment(&mut Unrecorded, node, hash, number),
+        ticket,
+    )
+}
+
+// Fetches where the node isn't registered. False where there was no memory.
+fn fetch(world: &mut StoredWorld, node: u64, hash: &ServiceHash) -> bool
+    ensures { MayFetch node hash.now world.old world.new }
+{
+    if world.counts(node, hash) {
+        return true;
+    }
+    match world.fetch(node, hash) {
+        Err(error) => error != FetchError::OutOfMemory,
+        Ok(_) => true,
+    }
+}
+
+fn release(
+    world: &mut StoredWorld,
+    ticket: u64,
+    node: u64,
+    hash: &ServiceHash,
+    number: u64,
+) -> Result<(), FollowError>
+    ensures { Follows (record { node = node; hash = hash.now; deed = deed.Release ticket number }) result
+        world.old world.new }
+{
+    judging::released(world.release(&mut Unrecorded, ticket, node, hash, number))
+}

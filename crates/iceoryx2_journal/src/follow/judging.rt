@@ -1,0 +1,89 @@
+//! Whether an access answers what an entry has.
+
+ghost use Rattle.std.specs.Prelude.{◌≡◌, true, false, Ok, is_ok};
+ghost use Rattle.iceoryx2_access.specs.declared.storage.Tag.TheVariants.{Made};
+ghost use Rattle.iceoryx2_journal.specs.Follow.{Judges};
+
+use super::FollowError;
+use iceoryx2_access::storage::{
+    LockError, MakeSegmentError, OpenSegmentError, PublishError, Release, ReleaseError,
+    RemoveError, Tag, TagError,
+};
+
+pub fn made_tag(answer: Result<Tag, TagError>) -> Result<(), FollowError>
+    ensures { Judges (answer ≡ Ok Made) (is_ok answer ≡ false) result }
+{
+    match answer {
+        Ok(Tag::Made) => Ok(()),
+        Err(TagError::OutOfMemory) => Err(FollowError::OutOfMemory),
+        _ => Err(FollowError::Disagrees),
+    }
+}
+
+pub fn removed(answer: Result<(), RemoveError>) -> Result<(), FollowError>
+    ensures { Judges (answer ≡ Ok tt) (is_ok answer ≡ false) result }
+{
+    match answer {
+        Ok(()) => Ok(()),
+        Err(_) => Err(FollowError::Disagrees),
+    }
+}
+
+pub fn locked(answer: Result<u64, LockError>, number: u64) -> Result<(), FollowError>
+    ensures { Judges (answer ≡ Ok number) (is_ok answer ≡ false) result }
+{
+    match answer {
+        Ok(found) => same(found, number),
+        Err(LockError::OutOfMemory) => Err(FollowError::OutOfMemory),
+        Err(_) => Err(FollowError::Disagrees),
+    }
+}
+
+pub fn made_segment(answer: Result<(), MakeSegmentError>) -> Result<(), FollowError>
+    ensures { Judges (answer ≡ Ok tt) (is_ok answer ≡ false) result }
+{
+    match answer {
+        Ok(()) => Ok(()),
+        Err(MakeSegmentError::OutOfMemory) => Err(FollowError::OutOfMemory),
+        Err(_) => Err(FollowError::Disagrees),
+    }
+}
+
+pub fn published(answer: Result<u64, PublishError>, number: u64) -> Result<(), FollowError>
+    ensures { Judges (answer ≡ Ok number) (is_ok answer ≡ false) result }
+{
+    match answer {
+        Ok(found) => same(found, number),
+        Err(PublishError::OutOfMemory) => Err(FollowError::OutOfMemory),
+        Err(_) => Err(FollowError::Disagrees),
+    }
+}
+
+pub fn opened(answer: Result<u64, OpenSegmentError>, ticket: u64) -> Result<(), FollowError>
+    ensures { Judges (answer ≡ Ok ticket) (is_ok answer ≡ false) result }
+{
+    match answer {
+        Ok(found) => same(found, ticket),
+        Err(OpenSegmentError::OutOfMemory) => Err(FollowError::OutOfMemory),
+        Err(_) => Err(FollowError::Disagrees),
+    }
+}
+
+pub fn released(answer: Result<Release, ReleaseError>) -> Result<(), FollowError>
+    ensures { Judges (is_ok answer ≡ true) (is_ok answer ≡ false) result }
+{
+    match answer {
+        Ok(_) => Ok(()),
+        Err(_) => Err(FollowError::Disagrees),
+    }
+}
+
+fn same(found: u64, number: u64) -> Result<(), FollowError>
+    ensures { Judges (found ≡ number) ⊥ result }
+{
+    if found == number {
+        Ok(())
+    } else {
+        Err(FollowError::Disagrees)
+    }
+}

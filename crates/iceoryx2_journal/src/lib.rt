@@ -1,0 +1,5 @@
+//! A storage that processes share: the world that each makes of one log.
+#![tactic(auto)]
+
+pub mod follow;
+pub mod taking;
