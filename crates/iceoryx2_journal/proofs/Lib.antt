@@ -1,3 +1,5 @@
 pub mod Following
 pub mod Logs
 pub mod Takes
+pub mod Entries
+pub mod Logged

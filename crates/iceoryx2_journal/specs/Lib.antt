@@ -1,3 +1,5 @@
 -- What a contract sees of a journal.
 pub mod Follow
 pub mod Taking
+pub mod Pen
+pub mod Logged

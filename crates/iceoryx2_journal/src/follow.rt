@@ -1,9 +1,7 @@
 //! What an entry of another makes of a process's world.
 
-ghost use Rattle.std.specs.Prelude.{◌≡◌, Ok, is_err};
-ghost use Rattle.iceoryx2_access.specs.declared.storage.Tag.TheVariants.{Made};
 ghost use Rattle.iceoryx2_log.specs.declared.entry.Deed.TheVariants as deed;
-ghost use Rattle.iceoryx2_journal.specs.Follow.{MayFetch, Follows, Judges};
+ghost use Rattle.iceoryx2_journal.specs.Follow.{MayFetch, Follows};
 
 mod judging;
 

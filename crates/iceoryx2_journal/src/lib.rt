@@ -2,4 +2,6 @@
 #![tactic(auto)]
 
 pub mod follow;
+mod parts;
+mod pen;
 pub mod taking;

@@ -1,10 +1,7 @@
 //! Taking over what others appended.
 
-ghost use Rattle.std.specs.Prelude.{◌≡◌, ℕ, true, false, List, Option, Result, Ok, Err};
-ghost use Rattle.iceoryx2_world.specs.World.{World};
-ghost use Rattle.iceoryx2_log.specs.Log.{Contents};
-ghost use Rattle.iceoryx2_journal.specs.Taking.{is_own, ends};
-ghost use Rattle.iceoryx2_journal.specs.Taking.{TakesNext, TakesAllOf};
+ghost use Rattle.std.specs.Prelude.{◌≡◌};
+ghost use Rattle.iceoryx2_journal.specs.Taking.{is_own, ends, TakesNext, TakesAllOf};
 
 use crate::follow::{FollowError, follow};
 use iceoryx2_log::log::Log;
