@@ -3,3 +3,4 @@ pub mod Logs
 pub mod Takes
 pub mod Entries
 pub mod Logged
+pub mod Begins

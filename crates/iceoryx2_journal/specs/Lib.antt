@@ -3,3 +3,4 @@ pub mod Follow
 pub mod Taking
 pub mod Pen
 pub mod Logged
+pub mod Journal

@@ -2,6 +2,7 @@
 #![tactic(auto)]
 
 pub mod follow;
+pub mod journal;
 mod parts;
 mod pen;
 pub mod taking;

@@ -1,0 +1,68 @@
+-- How an access of a journal begins, and what it comes to by that.
+use Rattle.std.specs.Prelude.{◌&&◌, not}
+use Rattle.std.proofs.Common.{◌≡◌, ℕ, Bool, true, false, List, Option, refl, sym, subst, ◌∙◌}
+use Rattle.iceoryx2_access.specs.Letter.{Letter}
+use Rattle.iceoryx2_access.specs.MayRefuse.{IsFault}
+use Rattle.iceoryx2_world.specs.World.{World}
+use Rattle.iceoryx2_log.specs.Log.{Contents, WhereKnown, Grows}
+use Rattle.iceoryx2_journal.specs.declared.taking.Stop.{Stop}
+use Rattle.iceoryx2_journal.specs.declared.taking.Stop.TheVariants as stop
+use Rattle.iceoryx2_journal.specs.Taking.{ends, IsAllTaken, TakesOver, Stops, unread, TakesSome}
+use Rattle.iceoryx2_journal.specs.Logged.{IsLoggedPart}
+use Rattle.iceoryx2_journal.specs.Journal.{JournalState, is_mine, TakesAll, Fails, barred, stopped, Begins, IsJournalAccess, fails, acts}
+use Rattle.iceoryx2_journal.proofs.Takes.{takes_still, takes_both}
+
+pub held_not : {nodes : List ℕ} {w : World} {c d : Option Contents} → d ≡ c → TakesSome nodes stop.Later w w c d
+held_not {nodes} {w} {c} {d} same = record { between = w; takes = takes_still nodes w c d same; stops = unread refl refl }
+
+pub fell_short : {nodes : List ℕ} {s : Stop} {u v : World} {b c d f : Option Contents} → WhereKnown Grows b c → TakesSome nodes s u v c d → f ≡ d → TakesSome nodes s u v b f
+fell_short {nodes} {s} {u} {v} {b} grow t same = record {
+  between = t.between;
+  takes = subst (λ x. TakesOver nodes u t.between b x) (sym same) (takes_both grow t.takes);
+  stops = subst (λ x. Stops nodes x t.between s v) (sym same) t.stops;
+}
+
+-- the own nodes, as a slice and as a list
+pub listed_some : {xs nodes : List ℕ} {s : Stop} {u v : World} {c d : Option Contents} → xs ≡ nodes → TakesSome xs s u v c d → TakesSome nodes s u v c d
+listed_some {s} {u} {v} {c} {d} same t = subst (λ ns. TakesSome ns s u v c d) same t
+
+pub listed_over : {xs nodes : List ℕ} {u v : World} {c d : Option Contents} → xs ≡ nodes → TakesOver xs u v c d → TakesOver nodes u v c d
+listed_over {u} {v} {c} {d} same t = subst (λ ns. TakesOver ns u v c d) same t
+
+pub not_mine : (m o : Bool) → m ≡ false → (m && not o) ≡ false
+not_mine false o e = refl
+not_mine true o e = absurd (cc)
+
+pub over_then : (m o : Bool) → o ≡ true → (m && not o) ≡ false
+over_then false o e = refl
+over_then true true e = refl
+over_then true false e = absurd (cc)
+
+pub may_begin : (m o : Bool) → m ≡ true → o ≡ false → (m && not o) ≡ true
+may_begin false o n e = absurd (cc)
+may_begin true false n e = refl
+may_begin true true n e = absurd (cc)
+
+-- the state before is seen as j
+module _ {L : Type 0} {contents : L → Option Contents} {mine : Bool} {j old new : JournalState L} (view : j ≡ old) where
+  pub barred_from : (mine && not j.is_over) ≡ false → new ≡ j → Fails contents mine old new
+  barred_from isnt same = subst (λ o. Fails contents mine o new) view (barred isnt same)
+
+  pub stopped_from : {s : Stop} → (mine && not j.is_over) ≡ true → TakesSome j.nodes s j.world new.world (contents j.log) (contents new.log) → new.nodes ≡ j.nodes → new.is_over ≡ ends s → Fails contents mine old new
+  stopped_from {s} holds t kept over = subst (λ o. Fails contents mine o new) view (stopped t.between s holds t.takes t.stops kept over)
+
+  pub all_from : mine ≡ true → j.is_over ≡ false → TakesOver j.nodes j.world new.world (contents j.log) (contents new.log) → IsAllTaken (contents new.log) → new.nodes ≡ j.nodes → new.is_over ≡ j.is_over → (mine ≡ true) × TakesAll contents old new
+  all_from holds not_over t all kept over = (holds, subst (λ o. TakesAll contents o new) view (record { takes = t; all = all; nodes = kept; was_not_over = not_over; is_not_over = over ∙ not_over }))
+
+module _ {L : Type 0} {contents : L → Option Contents} {old mid : JournalState L} {l : Letter} where
+  -- it did not begin
+  pub fell : (b : Bool) → b ≡ false → IsFault l → Begins contents (is_mine old.nodes l) b old mid → IsJournalAccess contents old l mid
+  fell false isnt fault f = fails fault f
+  fell true isnt fault f = absurd (cc)
+
+  -- It began, and then there was an own part. The state after it began is seen as j.
+  pub acted : {j new : JournalState L} → j ≡ mid → (b : Bool) → b ≡ true → Begins contents (is_mine old.nodes l) b old mid
+      → IsLoggedPart contents j.world l new.world j.log new.log → new.nodes ≡ j.nodes → new.is_over ≡ j.is_over → IsJournalAccess contents old l new
+  acted {j} {new} view false is f part nodes over = absurd (cc)
+  acted {j} {new} view true is f part nodes over =
+      acts j f.0 (subst (λ m. TakesAll contents old m) (sym view) f.1) part nodes over

@@ -1,0 +1,25 @@
+use Rattle.std.proofs.Common.{refl, sym}
+use Rattle.iceoryx2_journal.proofs.Begins.{held_not, fell_short, listed_some, listed_over, not_mine, over_then, may_begin, barred_from, stopped_from, all_from}
+use Rattle.iceoryx2_journal.proofs.Takes.{takes_both}
+use Rattle.iceoryx2_journal.proofs.journal.Journal.begin.Goals as goal
+
+pub returns-then-not-mine : goal.returns-then-not-mine
+returns-then-not-mine g c = barred_from refl (not_mine c.args.mine c.args.self.now.is_over c.if-not-mine.true) refl
+
+pub returns-then-self : goal.returns-then-self
+returns-then-self g c = barred_from c.self.view_is (over_then c.args.mine c.self.inside.is_over c.if-self.true) (sym c.self.view_is)
+
+pub returns-in_default : goal.returns-in_default
+returns-in_default g c =
+    let may = may_begin c.args.mine c.self.inside.is_over c.if-not-mine.false c.if-self.false in
+    stopped_from c.self.view_is may (held_not c.in_default.ensures.err) refl c.if-self.false
+
+pub returns-in-Ok-take_all : goal.returns-in-Ok-take_all
+returns-in-Ok-take_all g c =
+    let t = c.in-Ok-take_all.ensures in
+    all_from c.self.view_is c.if-not-mine.false c.if-self.false (listed_over c.deref.ensures.value (takes_both c.in-Ok.ensures.ok t.0)) t.1 refl refl
+
+pub returns-in-Err : goal.returns-in-Err
+returns-in-Err g c =
+    let may = may_begin c.args.mine c.self.inside.is_over c.if-not-mine.false c.if-self.false in
+    stopped_from c.self.view_is may (listed_some c.deref.ensures.value (fell_short c.in-Ok.ensures.ok c.in-Err.ensures c.let_go.ensures)) refl c.ends-self-inside.ensures

@@ -1,0 +1,139 @@
+//! A storage that processes share: the world that a process makes of a log.
+
+ghost use Rattle.std.specs.Prelude.{◌≡◌, false, true, IfOk};
+ghost use Rattle.iceoryx2_world.specs.World.{empty_world};
+ghost use Rattle.iceoryx2_world.specs.Listing.{Lists};
+ghost use Rattle.iceoryx2_journal.specs.Taking.{is_own};
+ghost use Rattle.iceoryx2_journal.specs.Journal.{Begins};
+
+mod accesses;
+
+use crate::pen::Pen;
+use crate::taking::{has, take_all};
+use iceoryx2_access::storage::{Service, Sha1Hasher};
+use iceoryx2_log::log::Log;
+use iceoryx2_table::table::stored::StoredWorld;
+use iceoryx2_world::listing;
+use std::alloc::{AllocError, Global};
+use std::marker::{Model, PhantomData};
+
+/// A storage that processes share: a log, and the world that this process makes of it. Before each access it takes
+/// over what others appended. An access that is granted and changes something is appended before it changes it.
+///
+/// Its accesses are in the names of its own nodes. Where an entry of another is in an own node's name, or isn't what
+/// the world answers, the journal is over: each access from then on is its general fault.
+#[derive(Drop)]
+pub struct Journal<L> {
+    world: StoredWorld,
+    pen: Pen<L>,
+    nodes: Vec<u64>,
+    is_over: bool,
+}
+
+impl<L> Model for Journal<L> {
+    ghost use Rattle.iceoryx2_journal.specs.Journal.{JournalState, coded_journal};
+
+    ghost Value = { JournalState L };
+
+    ghost coded = { coded_journal L.code };
+
+    ghost view = { λ j. record {
+      world = j.world;
+      log = j.pen.log;
+      nodes = j.nodes.items;
+      is_over = j.is_over;
+    } };
+}
+
+impl<L> Journal<L> {
+    /// A journal that has taken nothing over yet, with its own nodes and its counter's first value. Takes no memory.
+    pub fn starting_at(alloc: Global, log: L, nodes: Vec<u64>, counter: u64) -> Journal<L>
+        ensures { result ≡ record {
+          world = empty_world counter;
+          log = log;
+          nodes = nodes.items;
+          is_over = false;
+        } }
+    {
+        Journal {
+            world: StoredWorld::starting_at(alloc, counter),
+            pen: Pen { log, entry: None },
+            nodes,
+            is_over: false,
+        }
+    }
+
+    /// Each service with a row or a segment, as far as the log has been taken over, in the order of the hashes' bytes.
+    pub fn list(&self) -> Result<Vec<listing::Entry>, AllocError>
+        ensures { IfOk result (λ entries. Lists self.now.world entries.items) }
+    {
+        self.world.list()
+    }
+
+    /// Whether an entry ended it.
+    pub fn is_over(&self) -> bool
+        ensures { result ≡ self.now.is_over }
+    {
+        self.is_over
+    }
+
+    /// The log.
+    pub fn log(&self) -> &L
+        ensures { result.now ≡ self.now.log }
+    {
+        &self.pen.log
+    }
+
+    // Whether it is one of the own nodes.
+    fn has_node(&self, node: u64) -> bool
+        ensures { result ≡ is_own self.now.nodes node }
+    {
+        has(&self.nodes, node)
+    }
+}
+
+impl<L: Log> Journal<L> {
+    // Holds the log and takes over what others appended, for an access that is in an own node's name. False where there
+    // is no own part, and then the log isn't held.
+    fn begin(&mut self, mine: bool) -> bool
+        ensures { Begins L.contents mine result self.old self.new }
+    {
+        if !mine {
+            return false;
+        }
+        if self.is_over {
+            return false;
+        }
+        let Ok(_) = self.pen.log.hold() else {
+            return false;
+        };
+        let alloc = *self.nodes.allocator();
+        match take_all(alloc, &mut self.world, &mut self.pen.log, &self.nodes) {
+            Ok(()) => true,
+            Err(stop) => {
+                self.is_over = stop.ends();
+                self.pen.log.let_go();
+                false
+            }
+        }
+    }
+
+    // Begins an access of this node.
+    fn begin_as(&mut self, node: u64) -> bool
+        ensures { Begins L.contents (is_own self.old.nodes node) result self.old self.new }
+    {
+        let mine = self.has_node(node);
+        self.begin(mine)
+    }
+}
+
+/// Services that stand in a [`Journal`] over a log of this type, under hashes by SHA-1.
+pub struct Shared<L> {
+    log: PhantomData<L>,
+}
+
+impl<L: Log> Service for Shared<L> {
+    type Storage = Journal<L>;
+
+    type ServiceNameHasher = Sha1Hasher;
+}
