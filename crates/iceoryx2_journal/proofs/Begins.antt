@@ -10,10 +10,10 @@ use Rattle.iceoryx2_journal.specs.declared.taking.Stop.TheVariants as stop
 use Rattle.iceoryx2_journal.specs.Taking.{ends, IsAllTaken, TakesOver, Stops, unread, TakesSome}
 use Rattle.iceoryx2_journal.specs.Logged.{IsLoggedPart}
 use Rattle.iceoryx2_journal.specs.Journal.{JournalState, is_mine, TakesAll, Fails, barred, stopped, Begins, IsJournalAccess, fails, acts}
-use Rattle.iceoryx2_journal.proofs.Takes.{takes_still, takes_both}
+use Rattle.iceoryx2_journal.proofs.Takes.{takes_not, takes_both}
 
 pub held_not : {nodes : List ℕ} {w : World} {c d : Option Contents} → d ≡ c → TakesSome nodes stop.Later w w c d
-held_not {nodes} {w} {c} {d} same = record { between = w; takes = takes_still nodes w c d same; stops = unread refl refl }
+held_not {nodes} {w} {c} {d} same = record { between = w; takes = takes_not nodes w c d same; stops = unread refl refl }
 
 pub fell_short : {nodes : List ℕ} {s : Stop} {u v : World} {b c d f : Option Contents} → WhereKnown Grows b c → TakesSome nodes s u v c d → f ≡ d → TakesSome nodes s u v b f
 fell_short {nodes} {s} {u} {v} {b} grow t same = record {

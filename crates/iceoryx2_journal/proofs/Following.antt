@@ -28,14 +28,14 @@ unwritten e (declined fault same refuses) = same
 pub acts_not : {i : ℕ} {w : World} → ActsAlone i w w
 acts_not = record { word = []; is_word = tt; run = done }
 
-each_behind : (P : Letter → Type 0) (word : List Letter) {l : Letter} → Each P word → P l → Each P (word ++ l ∷ [])
-each_behind P [] e p = (p, tt)
-each_behind P (k ∷ word) e p = (e.0, each_behind P word e.1 p)
+pub each_more : {A : Type 0} (P : A → Type 0) (xs : List A) {x : A} → Each P xs → P x → Each P (xs ++ x ∷ [])
+each_more P [] e p = (p, tt)
+each_more P (y ∷ xs) e p = (e.0, each_more P xs e.1 p)
 
 pub acts_once_more : {i : ℕ} {w u v : World} (l : Letter) → ActsAlone i w u → caller_of l ≡ i → IsOwnPart u l v → ActsAlone i w v
 acts_once_more {i} l a e part = record {
   word = a.word ++ l ∷ [];
-  is_word = each_behind (λ k. caller_of k ≡ i) a.word a.is_word e;
+  is_word = each_more (λ k. caller_of k ≡ i) a.word a.is_word e;
   run = both a.run (one part);
 }
 

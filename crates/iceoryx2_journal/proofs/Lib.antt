@@ -4,3 +4,6 @@ pub mod Takes
 pub mod Entries
 pub mod Logged
 pub mod Begins
+pub mod Runs
+pub mod Unread
+pub mod Replaying

@@ -5,31 +5,69 @@ use Rattle.iceoryx2_log.specs.declared.entry.Entry.{Entry}
 use Rattle.iceoryx2_log.specs.Log.{Contents, WhereKnown, Grows, Shows, Accepts, first, accepted}
 use Rattle.iceoryx2_journal.specs.Taking.{Takes, IsNext, IsAllTaken}
 
-pub taken_not : (c : Option Contents) → WhereKnown (Takes []) c c
-taken_not (Some c) = record { come = []; taken = sym (append-nil c.taken); unread = append-nil c.unread }
-taken_not None = tt
+-- ---- what holds of contents holds where they are known
+
+pub known_map : (R S : Contents → Contents → Type 0) → ((c d : Contents) → R c d → S c d) → (c d : Option Contents) → WhereKnown R c d → WhereKnown S c d
+known_map R S f (Some c) (Some d) r = f c d r
+known_map R S f None None r = tt
+known_map R S f (Some c) None r = absurd r
+known_map R S f None (Some d) r = absurd r
+
+pub known_both : (R S T : Contents → Contents → Type 0) → ((b c d : Contents) → R b c → S c d → T b d) → (b c d : Option Contents) → WhereKnown R b c → WhereKnown S c d → WhereKnown T b d
+known_both R S T f (Some b) (Some c) (Some d) r s = f b c d r s
+known_both R S T f None None None r s = tt
+known_both R S T f (Some b) None d r s = absurd r
+known_both R S T f None (Some c) d r s = absurd r
+known_both R S T f (Some b) (Some c) None r s = absurd s
+known_both R S T f None None (Some d) r s = absurd s
+
+known_still : (R : Contents → Contents → Type 0) → ((c : Contents) → R c c) → (c : Option Contents) → WhereKnown R c c
+known_still R f (Some c) = f c
+known_still R f None = tt
+
+pub known_same : (R : Contents → Contents → Type 0) → ((c : Contents) → R c c) → (c d : Option Contents) → d ≡ c → WhereKnown R c d
+known_same R f c d same = subst (λ x. WhereKnown R c x) (sym same) (known_still R f c)
+
+-- ---- what is taken over
+
+pub taken_not : (c d : Option Contents) → d ≡ c → WhereKnown (Takes []) c d
+taken_not = known_same (Takes []) (λ c. record { come = []; taken = sym (append-nil c.taken); unread = append-nil c.unread })
 
 pub grown : (c d : Option Contents) → WhereKnown Grows c d → WhereKnown (Takes []) c d
-grown (Some c) (Some d) g = record { come = g.come; taken = g.taken ∙ sym (append-nil c.taken); unread = sym g.unread }
-grown None None g = tt
-grown (Some c) None g = absurd g
-grown None (Some d) g = absurd g
+grown = known_map Grows (Takes []) (λ c d g. record { come = g.come; taken = g.taken ∙ sym (append-nil c.taken); unread = sym g.unread })
 
-pub is_next : (e : Entry) (c d : Option Contents) → WhereKnown (Shows (Some e)) c d → IsNext e c
+then_takes : (xs ys : List Entry) (a b c : Contents) → Takes xs a b → Takes ys b c → Takes (xs ++ ys) a c
+then_takes xs ys a b c x y = record {
+  come = x.come ++ y.come;
+  taken = y.taken ∙ ap (λ t. t ++ ys) x.taken ∙ append_assoc a.taken xs ys;
+  unread = sym (append_assoc a.unread x.come y.come) ∙ ap (λ u. u ++ y.come) x.unread ∙ append_assoc xs b.unread y.come ∙ ap (λ u. xs ++ u) y.unread ∙ sym (append_assoc xs ys c.unread);
+}
+
+pub then_taken : (xs ys : List Entry) (a b c : Option Contents) → WhereKnown (Takes xs) a b → WhereKnown (Takes ys) b c → WhereKnown (Takes (xs ++ ys)) a c
+then_taken xs ys = known_both (Takes xs) (Takes ys) (Takes (xs ++ ys)) (then_takes xs ys)
+
+-- ---- what is unread
+
+is_next : (e : Entry) (c d : Option Contents) → WhereKnown (Shows (Some e)) c d → IsNext e c
 is_next e (Some c) (Some d) s = sym s.0
-is_next e None None s = tt
+is_next e None d s = tt
 is_next e (Some c) None s = absurd s
-is_next e None (Some d) s = absurd s
 
 no_first : (es : List Entry) → first es ≡ None → es ≡ []
 no_first [] e = refl
 no_first (x ∷ es) e = absurd (cc)
 
-pub is_all : (c d : Option Contents) → WhereKnown (Shows None) c d → IsAllTaken c
+is_all : (c d : Option Contents) → WhereKnown (Shows None) c d → IsAllTaken c
 is_all (Some c) (Some d) s = no_first c.unread (sym s.0)
-is_all None None s = tt
+is_all None d s = tt
 is_all (Some c) None s = absurd s
-is_all None (Some d) s = absurd s
+
+-- What was shown, where the log has what it had.
+pub none_shown : (c d : Option Contents) (f : Option Entry) → f ≡ None → d ≡ c → WhereKnown (Shows f) c d → IsAllTaken d
+none_shown c d f n same s = subst IsAllTaken (sym same) (is_all c d (subst (λ x. WhereKnown (Shows x) c d) n s))
+
+pub next_shown : (e : Entry) (c d : Option Contents) (f : Option Entry) → f ≡ Some e → d ≡ c → WhereKnown (Shows f) c d → IsNext e d
+next_shown e c d f n same s = subst (IsNext e) (sym same) (is_next e c d (subst (λ x. WhereKnown (Shows x) c d) n s))
 
 first_taken : (e : Entry) (t u : List Entry) (d : Contents) → first u ≡ Some e → d ≡ accepted t u → Takes (e ∷ []) (record { taken = t; unread = u }) d
 first_taken e t [] d n a = absurd (cc)
@@ -41,33 +79,11 @@ first_taken e t (x ∷ u) d n a =
       unread = append-nil (x ∷ u) ∙ ap (λ y. y ∷ u) same ∙ ap (λ v. e ∷ v) (sym (ap (λ (c : Contents). c.unread) a));
     }
 
-pub one_taken : (e : Entry) (c d : Option Contents) → IsNext e c → WhereKnown Accepts c d → WhereKnown (Takes (e ∷ [])) c d
+one_taken : (e : Entry) (c d : Option Contents) → IsNext e c → WhereKnown Accepts c d → WhereKnown (Takes (e ∷ [])) c d
 one_taken e (Some c) (Some d) n a = first_taken e c.taken c.unread d n a
 one_taken e None None n a = tt
 one_taken e (Some c) None n a = absurd a
 one_taken e None (Some d) n a = absurd a
-
-then_takes : (xs ys : List Entry) (a b c : Contents) → Takes xs a b → Takes ys b c → Takes (xs ++ ys) a c
-then_takes xs ys a b c x y = record {
-  come = x.come ++ y.come;
-  taken = y.taken ∙ ap (λ t. t ++ ys) x.taken ∙ append_assoc a.taken xs ys;
-  unread = sym (append_assoc a.unread x.come y.come) ∙ ap (λ u. u ++ y.come) x.unread ∙ append_assoc xs b.unread y.come ∙ ap (λ u. xs ++ u) y.unread ∙ sym (append_assoc xs ys c.unread);
-}
-
-pub then_taken : (xs ys : List Entry) (a b c : Option Contents) → WhereKnown (Takes xs) a b → WhereKnown (Takes ys) b c → WhereKnown (Takes (xs ++ ys)) a c
-then_taken xs ys (Some a) (Some b) (Some c) x y = then_takes xs ys a b c x y
-then_taken xs ys None None None x y = tt
-then_taken xs ys (Some a) None c x y = absurd x
-then_taken xs ys None (Some b) c x y = absurd x
-then_taken xs ys (Some a) (Some b) None x y = absurd y
-then_taken xs ys None None (Some c) x y = absurd y
-
--- What was shown, where the log has what it had.
-pub none_shown : (c d : Option Contents) (f : Option Entry) → f ≡ None → d ≡ c → WhereKnown (Shows f) c d → IsAllTaken d
-none_shown c d f n same s = subst IsAllTaken (sym same) (is_all c d (subst (λ x. WhereKnown (Shows x) c d) n s))
-
-pub next_shown : (e : Entry) (c d : Option Contents) (f : Option Entry) → f ≡ Some e → d ≡ c → WhereKnown (Shows f) c d → IsNext e d
-next_shown e c d f n same s = subst (IsNext e) (sym same) (is_next e c d (subst (λ x. WhereKnown (Shows x) c d) n s))
 
 -- An entry that was shown is taken over, where the log has what it had.
 pub next_taken : (e : Entry) (b c d : Option Contents) → IsNext e c → c ≡ b → WhereKnown Accepts c d → WhereKnown (Takes (e ∷ [])) b d

@@ -12,23 +12,16 @@ use Rattle.iceoryx2_journal.specs.declared.taking.Stop.{Stop}
 use Rattle.iceoryx2_journal.specs.Follow.{IsFollowed, ActsAlone}
 use Rattle.iceoryx2_journal.specs.Taking.{is_own, IsAllTaken, TakesOver, Stops, unread, starved, own, disagrees}
 use Rattle.iceoryx2_journal.specs.Taking.{TakesOne, TakesSome}
-use Rattle.iceoryx2_journal.proofs.Following.{prepare_acts, followed_acts}
+use Rattle.iceoryx2_journal.proofs.Following.{each_more, prepare_acts, followed_acts}
 use Rattle.iceoryx2_journal.proofs.Logs.{taken_not, then_taken, grown}
 
-each_entry : (P : Entry → Type 0) (es : List Entry) {e : Entry} → Each P es → P e → Each P (es ++ e ∷ [])
-each_entry P [] x p = (p, tt)
-each_entry P (k ∷ es) x p = (x.0, each_entry P es x.1 p)
-
-pub takes_none : (nodes : List ℕ) (w : World) (c d : Option Contents) → WhereKnown Grows c d → TakesOver nodes w w c d
-takes_none nodes w c d g = record { entries = []; of_others = tt; followed = done; taken = grown c d g }
-
-pub takes_not : (nodes : List ℕ) (w : World) (c : Option Contents) → TakesOver nodes w w c c
-takes_not nodes w c = record { entries = []; of_others = tt; followed = done; taken = taken_not c }
+pub takes_not : (nodes : List ℕ) (w : World) (c d : Option Contents) → d ≡ c → TakesOver nodes w w c d
+takes_not nodes w c d same = record { entries = []; of_others = tt; followed = done; taken = taken_not c d same }
 
 pub takes_one_more : {nodes : List ℕ} {u w v : World} {c d f : Option Contents} → TakesOver nodes u w c d → TakesOne nodes w v d f → TakesOver nodes u v c f
 takes_one_more {nodes} {c} {d} {f} x y = record {
   entries = x.entries ++ y.entry ∷ [];
-  of_others = each_entry (λ e. is_own nodes e.node ≡ false) x.entries x.of_others y.of_other;
+  of_others = each_more (λ e. is_own nodes e.node ≡ false) x.entries x.of_others y.of_other;
   followed = both x.followed (one y.followed);
   taken = then_taken x.entries (y.entry ∷ []) c d f x.taken y.taken;
 }
@@ -40,9 +33,6 @@ takes_both {c} {d} {f} g x = record {
   followed = x.followed;
   taken = then_taken [] x.entries c d f (grown c d g) x.taken;
 }
-
-pub takes_still : (nodes : List ℕ) (w : World) (c d : Option Contents) → d ≡ c → TakesOver nodes w w c d
-takes_still nodes w c d same = subst (λ x. TakesOver nodes w w c x) (sym same) (takes_not nodes w c)
 
 pub nothing_more : {nodes : List ℕ} {u w v : World} {c d f : Option Contents} → TakesOver nodes u w c d → v ≡ w → f ≡ d → IsAllTaken f → TakesOver nodes u v c f × IsAllTaken f
 nothing_more {nodes} {u} {w} {v} {c} {d} {f} t same still all = (subst (λ x. TakesOver nodes u x c f) (sym same) (subst (λ x. TakesOver nodes u w c x) (sym still) t), all)

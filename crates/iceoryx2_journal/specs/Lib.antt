@@ -4,3 +4,5 @@ pub mod Taking
 pub mod Pen
 pub mod Logged
 pub mod Journal
+pub mod Replay
+pub mod Laws

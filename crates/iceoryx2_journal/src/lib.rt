@@ -3,6 +3,7 @@
 
 pub mod follow;
 pub mod journal;
+pub mod laws;
 mod parts;
 mod pen;
 pub mod taking;

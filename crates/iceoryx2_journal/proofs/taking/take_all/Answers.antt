@@ -4,7 +4,7 @@ use Rattle.iceoryx2_journal.proofs.Takes.{takes_not, takes_one_more, nothing_mor
 use Rattle.iceoryx2_journal.proofs.taking.take_all.Goals as goal
 
 pub loop-init : goal.loop-init
-loop-init g c = takes_not c.args.nodes.now c.args.world.now (g.L.Log.contents c.args.log.now)
+loop-init g c = takes_not c.args.nodes.now c.args.world.now _ (g.L.Log.contents c.args.log.now) refl
 
 pub loop-preserved : goal.loop-preserved
 loop-preserved g c = takes_one_more c.loop.invariant c.in-Taken.ensures

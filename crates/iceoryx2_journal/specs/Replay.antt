@@ -1,0 +1,36 @@
+-- What the entries of a log make of a world.
+use Rattle.std.specs.Prelude.{◌≡◌, ℕ, List, [], ◌∷◌, ◌++◌, Option, Result}
+use Rattle.iceoryx2_description.specs.declared.description.ServiceHash.{ServiceHash}
+use Rattle.iceoryx2_access.specs.declared.storage.FetchError.{FetchError}
+use Rattle.iceoryx2_access.specs.Letter.{Letter}
+use Rattle.iceoryx2_access.specs.Letter as letter
+use Rattle.iceoryx2_world.specs.World.{World}
+use Rattle.iceoryx2_world.specs.Access.{IsOwnPart}
+use Rattle.iceoryx2_log.specs.declared.entry.Entry.{Entry}
+use Rattle.iceoryx2_log.specs.Log.{Contents, WhereKnown}
+use Rattle.iceoryx2_journal.specs.Follow.{IsEntryOf}
+use Rattle.iceoryx2_journal.specs.Journal.{JournalState}
+
+-- The entries come to this, in order: each is its node's access, granted as the entry has it. Between them nodes may
+-- fetch, which is in no entry and changes the node's own phase alone.
+pub data ComesTo : World → List Entry → World → Type 0 where
+  nothing : {w : World} → ComesTo w [] w
+  fetches : {w u v : World} {es : List Entry} (i : ℕ) (h : ServiceHash) (a : Result (ℕ × List ℕ) FetchError)
+      → IsOwnPart w (letter.Fetch i h a) u → ComesTo u es v → ComesTo w es v
+  happens : {w u v : World} {es : List Entry} (e : Entry) (l : Letter)
+      → IsEntryOf e l → IsOwnPart w l u → ComesTo u es v → ComesTo w (e ∷ es) v
+
+-- These were taken over or appended, in their order.
+abbrev pub Moves : List Entry → Contents → Contents → Type 0
+Moves entries old new = new.taken ≡ old.taken ++ entries
+
+-- The world now is what these entries make of the one before, and they are what was taken over or appended since.
+pub record Replays {L : Type 0} (contents : L → Option Contents) (a b : JournalState L) : Type 0 where
+  pub entries : List Entry
+  pub comes : ComesTo a.world entries b.world
+  pub taken : WhereKnown (Moves entries) (contents a.log) (contents b.log)
+
+-- All that stands, taken or unread, stands on in its order, and more may stand after it.
+pub record StandsOn (old new : Contents) : Type 0 where
+  pub come : List Entry
+  pub all : new.taken ++ new.unread ≡ (old.taken ++ old.unread) ++ come

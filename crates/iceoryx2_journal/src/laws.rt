@@ -1,0 +1,30 @@
+//! What is true of every run of a journal.
+
+ghost use Rattle.iceoryx2_journal.specs.Laws.{GoesAmongOthers, GoesUnderInterference, KeepsItsNodes};
+ghost use Rattle.iceoryx2_journal.specs.Laws.{RefusesOtherNodes, StaysOver};
+ghost use Rattle.iceoryx2_journal.specs.Laws.{LeavesNothingUnread, KeepsTheLog, ReplaysTheLog, IsWhatTheLogComesTo};
+
+use iceoryx2_log::log::Log;
+
+/// What a word of accesses makes of a journal over any log, whatever stands in it.
+pub fn journals<L: Log>()
+    // It is accesses of own nodes in its world, of which any may be refused, each after what others do. So it is
+    // accesses under interference.
+    ensures among_others { GoesAmongOthers L.contents }
+    ensures under { GoesUnderInterference L.contents }
+
+    // The own nodes stay. An access of another, and each one once the journal is over, is its general fault, and
+    // nothing changes.
+    ensures nodes { KeepsItsNodes L.contents }
+    ensures other { RefusesOtherNodes L.contents }
+    ensures over { StaysOver L.contents }
+
+    // Where the log's entries are known, an access that isn't its general fault leaves none of them unread; none goes
+    // or changes its place, and what is appended comes after all of them.
+    ensures unread { LeavesNothingUnread L.contents }
+    ensures kept { KeepsTheLog L.contents }
+
+    // Until the journal is over its world is what the entries come to that it has taken over or appended, in order.
+    ensures replays { ReplaysTheLog L.contents }
+    ensures whole { IsWhatTheLogComesTo L.contents }
+{}
