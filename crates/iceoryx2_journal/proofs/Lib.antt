@@ -7,3 +7,5 @@ pub mod Begins
 pub mod Runs
 pub mod Unread
 pub mod Replaying
+pub mod SameChanges
+pub mod SameWorlds

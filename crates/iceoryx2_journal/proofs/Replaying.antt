@@ -131,7 +131,8 @@ module _ {L : Type 0} (contents : L → Option Contents) where
   replays_the_log a b word going run = let x = run_replays going run in x.1
 
   pub is_what_it_comes_to : IsWhatTheLogComesTo contents
-  is_what_it_comes_to a b word counter c d from old none new going run =
-      let r = replays_the_log a b word going run in
-      let m = moved_from r.entries (contents a.log) (contents b.log) c d old new none r.taken in
-      subst (λ w. ComesTo w d.taken b.world) from (subst (λ es. ComesTo a.world es b.world) (sym m) r.comes)
+  is_what_it_comes_to counter es b t =
+      let a = t.start in
+      let r = replays_the_log a b t.word t.is_not_over t.run in
+      let m = moved_from r.entries (contents a.log) (contents b.log) t.before t.after t.knew t.knows t.had_none r.taken in
+      subst (λ w. ComesTo w es b.world) t.empty (subst (λ x. ComesTo a.world x b.world) (sym m ∙ t.has) r.comes)

@@ -1,15 +1,22 @@
 -- What holds of every run of a journal over any log, whatever stands in it: each law for its clause and its lemma.
-use Rattle.std.specs.Prelude.{◌≡◌, ◌⊎◌, ℕ, true, false, List, [], Option, Some}
+use Rattle.std.specs.Prelude.{◌≡◌, ◌⊎◌, ℕ, true, false, List, Option}
 use Rattle.iceoryx2_access.specs.Letter.{Letter}
 use Rattle.iceoryx2_access.specs.MayRefuse.{IsFault, MayRefuse}
 use Rattle.iceoryx2_access.specs.Run.{Run, Each}
-use Rattle.iceoryx2_world.specs.World.{empty_world}
+use Rattle.iceoryx2_world.specs.World.{World, empty_world}
 use Rattle.iceoryx2_world.specs.Access.{IsOwnPart}
 use Rattle.iceoryx2_world.specs.Interference.{Others, After, IsFallibleUnder}
+use Rattle.iceoryx2_log.specs.declared.entry.Entry.{Entry}
 use Rattle.iceoryx2_log.specs.Log.{Contents, WhereKnown}
 use Rattle.iceoryx2_journal.specs.Taking.{is_own, IsAllTaken}
 use Rattle.iceoryx2_journal.specs.Journal.{JournalState, IsJournalAccess, is_mine}
-use Rattle.iceoryx2_journal.specs.Replay.{ComesTo, Replays, StandsOn}
+use Rattle.iceoryx2_journal.specs.Replay.{ComesTo, Replays, StandsOn, HasTaken}
+use Rattle.iceoryx2_journal.specs.Same.{IsSameButRead}
+
+-- What worlds come to by the same entries is the same, but for who has only read, where the worlds were.
+abbrev pub OneWorldEach : Type 0
+OneWorldEach = (u v w x : World) (es : List Entry) → IsSameButRead u v → ComesTo u es w → ComesTo v es x
+    → IsSameButRead w x
 
 module _ {L : Type 0} (contents : L → Option Contents) where
   -- It is accesses of own nodes in its world, of which any may be refused, each after what others do.
@@ -52,8 +59,12 @@ module _ {L : Type 0} (contents : L → Option Contents) where
   ReplaysTheLog = (a b : JournalState L) (word : List Letter) → b.is_over ≡ false
       → Run (IsJournalAccess contents) a word b → Replays contents a b
 
-  -- So from nothing it is what all entries come to that it has taken over or appended.
+  -- So from nothing it is what the entries come to that it has taken over or appended.
   abbrev pub IsWhatTheLogComesTo : Type 0
-  IsWhatTheLogComesTo = (a b : JournalState L) (word : List Letter) (counter : ℕ) (c d : Contents)
-      → a.world ≡ empty_world counter → contents a.log ≡ Some c → c.taken ≡ [] → contents b.log ≡ Some d
-      → b.is_over ≡ false → Run (IsJournalAccess contents) a word b → ComesTo (empty_world counter) d.taken b.world
+  IsWhatTheLogComesTo = (counter : ℕ) (es : List Entry) (b : JournalState L) → HasTaken contents counter es b
+      → ComesTo (empty_world counter) es b.world
+
+  -- Two journals that have the same entries show the same world, but for who has only read.
+  abbrev pub ShowsOneWorld : Type 0
+  ShowsOneWorld = (counter : ℕ) (es : List Entry) (b c : JournalState L) → HasTaken contents counter es b
+      → HasTaken contents counter es c → IsSameButRead b.world c.world

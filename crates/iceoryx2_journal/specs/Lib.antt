@@ -5,4 +5,5 @@ pub mod Pen
 pub mod Logged
 pub mod Journal
 pub mod Replay
+pub mod Same
 pub mod Laws

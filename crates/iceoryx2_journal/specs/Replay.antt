@@ -1,15 +1,16 @@
 -- What the entries of a log make of a world.
-use Rattle.std.specs.Prelude.{◌≡◌, ℕ, List, [], ◌∷◌, ◌++◌, Option, Result}
+use Rattle.std.specs.Prelude.{◌≡◌, ℕ, false, List, [], ◌∷◌, ◌++◌, Option, Some, Result}
 use Rattle.iceoryx2_description.specs.declared.description.ServiceHash.{ServiceHash}
 use Rattle.iceoryx2_access.specs.declared.storage.FetchError.{FetchError}
 use Rattle.iceoryx2_access.specs.Letter.{Letter}
 use Rattle.iceoryx2_access.specs.Letter as letter
-use Rattle.iceoryx2_world.specs.World.{World}
+use Rattle.iceoryx2_access.specs.Run.{Run}
+use Rattle.iceoryx2_world.specs.World.{World, empty_world}
 use Rattle.iceoryx2_world.specs.Access.{IsOwnPart}
 use Rattle.iceoryx2_log.specs.declared.entry.Entry.{Entry}
 use Rattle.iceoryx2_log.specs.Log.{Contents, WhereKnown}
 use Rattle.iceoryx2_journal.specs.Follow.{IsEntryOf}
-use Rattle.iceoryx2_journal.specs.Journal.{JournalState}
+use Rattle.iceoryx2_journal.specs.Journal.{JournalState, IsJournalAccess}
 
 -- The entries come to this, in order: each is its node's access, granted as the entry has it. Between them nodes may
 -- fetch, which is in no entry and changes the node's own phase alone.
@@ -34,3 +35,19 @@ pub record Replays {L : Type 0} (contents : L → Option Contents) (a b : Journa
 pub record StandsOn (old new : Contents) : Type 0 where
   pub come : List Entry
   pub all : new.taken ++ new.unread ≡ (old.taken ++ old.unread) ++ come
+
+-- It began in an empty world over a log of which it had taken nothing, and isn't over. Its log is known, and these are
+-- the entries that it has taken over or appended since.
+pub record HasTaken {L : Type 0} (contents : L → Option Contents) (counter : ℕ) (entries : List Entry)
+    (b : JournalState L) : Type 0 where
+  pub start : JournalState L
+  pub word : List Letter
+  pub run : Run (IsJournalAccess contents) start word b
+  pub empty : start.world ≡ empty_world counter
+  pub before : Contents
+  pub knew : contents start.log ≡ Some before
+  pub had_none : before.taken ≡ []
+  pub after : Contents
+  pub knows : contents b.log ≡ Some after
+  pub has : after.taken ≡ entries
+  pub is_not_over : b.is_over ≡ false

@@ -18,7 +18,8 @@ use std::alloc::Global;
 pub enum FollowError {
     /// There was no memory. The entry can be followed again.
     OutOfMemory,
-    /// The access doesn't answer what the entry has: somebody's program differs, or the log is damaged.
+    /// The access doesn't answer what the entry has: somebody's program differs, or the log is damaged. What it did
+    /// stays, so the world isn't the log's any more.
     Disagrees,
 }
 

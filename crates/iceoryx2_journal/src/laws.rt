@@ -3,6 +3,7 @@
 ghost use Rattle.iceoryx2_journal.specs.Laws.{GoesAmongOthers, GoesUnderInterference, KeepsItsNodes};
 ghost use Rattle.iceoryx2_journal.specs.Laws.{RefusesOtherNodes, StaysOver};
 ghost use Rattle.iceoryx2_journal.specs.Laws.{LeavesNothingUnread, KeepsTheLog, ReplaysTheLog, IsWhatTheLogComesTo};
+ghost use Rattle.iceoryx2_journal.specs.Laws.{OneWorldEach, ShowsOneWorld};
 
 use iceoryx2_log::log::Log;
 
@@ -27,4 +28,13 @@ pub fn journals<L: Log>()
     // Until the journal is over its world is what the entries come to that it has taken over or appended, in order.
     ensures replays { ReplaysTheLog L.contents }
     ensures whole { IsWhatTheLogComesTo L.contents }
+
+    // So two journals that have the same entries show the same world, but for who has only read.
+    ensures one { ShowsOneWorld L.contents }
+{}
+
+/// What entries make of worlds.
+pub fn entries()
+    // What worlds come to by the same entries is the same, but for who has only read.
+    ensures { OneWorldEach }
 {}
