@@ -24,7 +24,7 @@ pub enum FollowError {
 }
 
 /// Makes the entry's access, as its node, and compares the answer. Before an opening its node fetches, where it isn't
-/// registered.
+/// registered. Where there is no memory nothing changes, but that the node may have read.
 pub fn follow(alloc: Global, world: &mut StoredWorld, entry: &Entry) -> Result<(), FollowError>
     ensures { Follows entry.now result world.old world.new }
 {

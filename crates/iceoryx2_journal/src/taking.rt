@@ -18,6 +18,7 @@ pub enum Stop {
 }
 
 impl Stop {
+    /// Whether nothing is taken over from then on.
     pub fn ends(self) -> bool
         ensures { result ≡ ends self }
     {
@@ -28,20 +29,25 @@ impl Stop {
     }
 }
 
-// What there is of an entry.
+/// What became of the next entry.
 pub enum Next {
+    /// It has had its effect, and is read.
     Taken,
+    /// There is none.
     Nothing,
+    /// It stays unread.
     Stopped(Stop),
 }
 
+/// Whether the node is one of these.
 pub fn has(nodes: &[u64], node: u64) -> bool
     ensures { result ≡ is_own nodes.now node }
 {
     nodes.iter().any(|own| node == *own)
 }
 
-/// Takes the next entry over, where there is one.
+/// Takes the next entry over, where there is one. Memory for it is had before it is read. The log stays as it was where
+/// it isn't taken over.
 pub fn take_next<L: Log>(alloc: Global, world: &mut StoredWorld, log: &mut L, nodes: &[u64]) -> Next
     ensures { TakesNext nodes.now result world.old world.new (L.contents log.old) (L.contents log.new) }
 {
@@ -66,7 +72,8 @@ pub fn take_next<L: Log>(alloc: Global, world: &mut StoredWorld, log: &mut L, no
     }
 }
 
-/// Takes all entries over, until there is none or one can't be.
+/// Takes all entries over, in order, until there is none or one isn't taken over. That one stays unread, and those after
+/// it.
 pub fn take_all<L: Log>(
     alloc: Global,
     world: &mut StoredWorld,

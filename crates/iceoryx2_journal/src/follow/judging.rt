@@ -1,4 +1,5 @@
-//! Whether an access answers what an entry has.
+//! Whether an access answers what an entry has. `OutOfMemory` where it found no memory, and `Disagrees` for any other
+//! answer.
 
 ghost use Rattle.std.specs.Prelude.{◌≡◌, true, false, Ok, is_ok};
 ghost use Rattle.iceoryx2_access.specs.declared.storage.Tag.TheVariants.{Made};
@@ -10,6 +11,7 @@ use iceoryx2_access::storage::{
     RemoveError, Tag, TagError,
 };
 
+/// The tag was made. `Disagrees` too where it was there.
 pub fn made_tag(answer: Result<Tag, TagError>) -> Result<(), FollowError>
     ensures { Judges (answer ≡ Ok Made) (is_ok answer ≡ false) result }
 {
@@ -20,6 +22,7 @@ pub fn made_tag(answer: Result<Tag, TagError>) -> Result<(), FollowError>
     }
 }
 
+/// It was removed.
 pub fn removed(answer: Result<(), RemoveError>) -> Result<(), FollowError>
     ensures { Judges (answer ≡ Ok tt) (is_ok answer ≡ false) result }
 {
@@ -29,6 +32,7 @@ pub fn removed(answer: Result<(), RemoveError>) -> Result<(), FollowError>
     }
 }
 
+/// The lock was granted, with the entry's number.
 pub fn locked(answer: Result<u64, LockError>, number: u64) -> Result<(), FollowError>
     ensures { Judges (answer ≡ Ok number) (is_ok answer ≡ false) result }
 {
@@ -39,6 +43,7 @@ pub fn locked(answer: Result<u64, LockError>, number: u64) -> Result<(), FollowE
     }
 }
 
+/// The segment was made.
 pub fn made_segment(answer: Result<(), MakeSegmentError>) -> Result<(), FollowError>
     ensures { Judges (answer ≡ Ok tt) (is_ok answer ≡ false) result }
 {
@@ -49,6 +54,7 @@ pub fn made_segment(answer: Result<(), MakeSegmentError>) -> Result<(), FollowEr
     }
 }
 
+/// The description was published, with the entry's number.
 pub fn published(answer: Result<u64, PublishError>, number: u64) -> Result<(), FollowError>
     ensures { Judges (answer ≡ Ok number) (is_ok answer ≡ false) result }
 {
@@ -59,6 +65,7 @@ pub fn published(answer: Result<u64, PublishError>, number: u64) -> Result<(), F
     }
 }
 
+/// The segment was opened, with the entry's ticket.
 pub fn opened(answer: Result<u64, OpenSegmentError>, ticket: u64) -> Result<(), FollowError>
     ensures { Judges (answer ≡ Ok ticket) (is_ok answer ≡ false) result }
 {
@@ -69,6 +76,7 @@ pub fn opened(answer: Result<u64, OpenSegmentError>, ticket: u64) -> Result<(), 
     }
 }
 
+/// The ticket was released, whatever that left.
 pub fn released(answer: Result<Release, ReleaseError>) -> Result<(), FollowError>
     ensures { Judges (is_ok answer ≡ true) (is_ok answer ≡ false) result }
 {
@@ -78,6 +86,7 @@ pub fn released(answer: Result<Release, ReleaseError>) -> Result<(), FollowError
     }
 }
 
+// Whether it is the entry's number.
 fn same(found: u64, number: u64) -> Result<(), FollowError>
     ensures { Judges (found ≡ number) ⊥ result }
 {
