@@ -5,8 +5,8 @@ use Rattle.iceoryx2_access.specs.Letter.{Letter}
 use Rattle.iceoryx2_access.specs.MayRefuse.{IsFault, MayRefuse}
 use Rattle.iceoryx2_access.specs.Run.{Run, done, next}
 use Rattle.iceoryx2_world.specs.Access.{IsOwnPart}
-use Rattle.iceoryx2_world.specs.Interference.{Others, nobody, After, IsFallibleUnder}
-use Rattle.iceoryx2_world.proofs.agreement.Interference.{among_others}
+use Rattle.iceoryx2_world.specs.Interference.{Rely, Others, nobody, After, IsFallibleUnder}
+use Rattle.iceoryx2_world.proofs.agreement.Interference.{among_others, others_keep_own}
 use Rattle.iceoryx2_log.specs.Log.{Contents}
 use Rattle.iceoryx2_journal.specs.Taking.{is_own}
 use Rattle.iceoryx2_journal.specs.Laws.{GoesAmongOthers, GoesUnderInterference, KeepsItsNodes, RefusesOtherNodes, StaysOver}
@@ -34,6 +34,13 @@ module _ {L : Type 0} {contents : L → Option Contents} where
   fails_nodes : {mine : Bool} {old new : JournalState L} → Fails contents mine old new → new.nodes ≡ old.nodes
   fails_nodes (barred isnt same) = ap (λ (s : JournalState L). s.nodes) same
   fails_nodes (stopped w s holds t stops kept over) = kept
+
+  -- What comes before an own part keeps all that own nodes rely on, and which these are.
+  pub begun : {mine : Bool} {old mid : JournalState L} → (mine ≡ true) × TakesAll contents old mid → Rely (is_own old.nodes) old.world mid.world × (mid.nodes ≡ old.nodes)
+  begun {old = old} f = (others_keep_own (is_own old.nodes) (all_others f.1), f.1.nodes)
+
+  pub not_begun : {mine : Bool} {old mid : JournalState L} → Fails contents mine old mid → Rely (is_own old.nodes) old.world mid.world × (mid.nodes ≡ old.nodes)
+  not_begun {old = old} f = (others_keep_own (is_own old.nodes) (fails_others f), fails_nodes f)
 
   -- An access of a journal is one of its world's, after what others do, or is refused after that.
   pub access : {old new : JournalState L} {l : Letter} → IsJournalAccess contents old l new → After (Others (is_own old.nodes)) (MayRefuse IsOwnPart) old.world l new.world

@@ -2,6 +2,7 @@
 
 ghost use Rattle.std.specs.Prelude.{◌≡◌, false, true, IfOk};
 ghost use Rattle.iceoryx2_world.specs.World.{empty_world};
+ghost use Rattle.iceoryx2_world.specs.Interference.{Rely};
 ghost use Rattle.iceoryx2_world.specs.Listing.{Lists};
 ghost use Rattle.iceoryx2_journal.specs.Taking.{is_own};
 ghost use Rattle.iceoryx2_journal.specs.Journal.{Begins};
@@ -116,6 +117,17 @@ impl<L: Log> Journal<L> {
                 self.pen.log.let_go();
                 false
             }
+        }
+    }
+
+    /// Takes over what others appended. Where the log can't be held or read, or the journal is over, it stays as far as
+    /// it was.
+    pub fn refresh(&mut self)
+        ensures kept { Rely (is_own self.old.nodes) self.old.world self.new.world }
+        ensures nodes { self.new.nodes ≡ self.old.nodes }
+    {
+        if self.begin(true) {
+            self.pen.log.let_go();
         }
     }
 
