@@ -1,4 +1,4 @@
-//! Storages that show a world, a table's among them.
+//! Storages that show a world: tables, journals, and those that trace one.
 
 ghost use Rattle.std.specs.Prelude.{◌≡◌, ℕ, Bool, IfOk};
 ghost use Rattle.iceoryx2_access.specs.Letter.{Letter};
@@ -7,6 +7,8 @@ ghost use Rattle.iceoryx2_world.specs.Listing.{Lists};
 ghost use Rattle.iceoryx2_world.specs.Interference.{Rely, IsFallibleUnder};
 
 use iceoryx2_access::storage::Storage;
+use iceoryx2_journal::journal::Journal;
+use iceoryx2_log::log::Log;
 use iceoryx2_table::table::Table;
 use iceoryx2_traced::traced::Traced;
 use iceoryx2_world::listing::Entry;
@@ -62,6 +64,29 @@ impl WorldStorage for Table {
 
     fn list(&self) -> Result<Vec<Entry>, AllocError> {
         Table::list(self)
+    }
+}
+
+// A journal shows the world that it makes of its log. Its nodes are those that it was given.
+impl<L: Log> WorldStorage for Journal<L> {
+    ghost use Rattle.std.specs.Prelude.{ap};
+    ghost use Rattle.iceoryx2_journal.specs.Taking.{is_own};
+    ghost use Rattle.iceoryx2_journal.proofs.Runs.{access_under, access_nodes};
+
+    ghost world = { λ journal. journal.world };
+
+    ghost own = { λ journal. is_own journal.nodes };
+
+    ghost accesses = { λ old letter new access. access_under access };
+
+    ghost keeps_own = { λ old letter new access. ap is_own (access_nodes access) };
+
+    fn refresh(&mut self) {
+        Journal::refresh(self)
+    }
+
+    fn list(&self) -> Result<Vec<Entry>, AllocError> {
+        Journal::list(self)
     }
 }
 
