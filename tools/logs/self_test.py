@@ -1,0 +1,370 @@
+"""Tests of the reader of logs, with a writer of its own.
+
+The writer makes bytes by docs/LOG_FORM.md and docs/BYTE_FORM.md with struct, and shares no line with the reader.
+The vectors are those of the two pages and of crates/data_tests/src/log_forms.rt. Prints each test that fails, and
+ends with status 1 then.
+"""
+import hashlib
+import struct
+
+from logs.form import Entry, Header, Malformed, Wrong, front_of, read_description, read_header, read_log
+from logs.world import Phase, Row, Segment, Ticket, World, later_fault
+
+LOCK_VECTOR = bytes.fromhex(
+    "00000025 ffffffda 48de62d870bebddb 03 0000000000000002 101112131415161718191a1b1c1d1e1f20212223 0000000000000005"
+)
+MAKE_TAG_VECTOR = bytes.fromhex(
+    "0000001d ffffffe2 232d9dbbf1d5b2e6 01 0000000000000001 101112131415161718191a1b1c1d1e1f20212223"
+)
+OPEN_VECTOR = bytes.fromhex(
+    "0000002d ffffffd2 24ac5f125b9b9976 08 0102030405060708 101112131415161718191a1b1c1d1e1f20212223"
+    "0000000000000005 0000000000000009"
+)
+PUBLISH_VECTOR = bytes.fromhex(
+    "00000029 ffffffd6 2ace166e1477613e 07 0000000000000102 101112131415161718191a1b1c1d1e1f20212223"
+    "0000000000000005 494f5832"
+)
+HEADER_VECTOR = bytes.fromhex("494f58324c4f47 01 202122232425262728292a2b2c2d2e2f 0000000000000102 4542139d9f15753c")
+FORM_VECTOR = bytes.fromhex(
+    "494f5832 01" + "11" * 20 + "0001 61 0000 01"
+    "0000000000000010 0000000000000010 00000000000000ff 0000000000000024 00000000"
+)
+DEADLINE_VECTOR = bytes.fromhex("01 0000000000000001 000001f4 0000000000000000 00000000")
+HASH = bytes([0x11]) * 20
+OTHER = bytes([0x22]) * 20
+KINDS = "make_tag remove_tag lock make_segment remove_segment remove_description publish open_segment release".split()
+
+
+# ---- the writer
+
+
+def header_bytes(name=bytes(16), counter=0):
+    """The header of a file."""
+    summed = b"IOX2LOG\x01" + name + struct.pack(">Q", counter)
+    return summed + hashlib.sha1(summed).digest()[:8]
+
+
+def sealed(body):
+    """A body with what stands before it."""
+    length = struct.pack(">I", len(body))
+    return length + struct.pack(">I", len(body) ^ 0xFFFFFFFF) + hashlib.sha1(length + body).digest()[:8] + body
+
+
+def entry_bytes(deed, node, *details, found=HASH):
+    """An entry; its details are numbers, and bytes for a description."""
+    body = struct.pack(">BQ20s", KINDS.index(deed) + 1, node, found)
+    return sealed(body + b"".join(one if isinstance(one, bytes) else struct.pack(">Q", one) for one in details))
+
+
+def text_bytes(text):
+    """A text."""
+    return struct.pack(">H", len(text.encode())) + text.encode()
+
+
+def type_bytes(dynamic, name, size, alignment):
+    """A type."""
+    return bytes([dynamic]) + text_bytes(name) + struct.pack(">QQ", size, alignment)
+
+
+def form_bytes(rest, found=HASH, name="a", attributes=(), creator=None):
+    """A description, whose pattern's byte and what stands after it are the rest."""
+    front = b"IOX2\x01" if creator is None else b"IOX2\x02" + struct.pack(">Q", creator)
+    pairs = b"".join(text_bytes(key) + text_bytes(value) for key, value in attributes)
+    return front + found + text_bytes(name) + struct.pack(">H", len(attributes)) + pairs + rest
+
+
+def event_form(max_nodes=36, deadline=b"\x00", **others):
+    """Events with the default settings, but for these."""
+    return form_bytes(b"\x01" + struct.pack(">QQQQ", 16, 16, 255, max_nodes) + bytes(3) + deadline, **others)
+
+
+def message_bytes(pattern, dynamic, name, size, alignment):
+    """The three types of a message without a user header."""
+    header = type_bytes(0, f"{pattern}::Header", 32, 8)
+    return header + type_bytes(0, "()", 0, 1) + type_bytes(dynamic, name, size, alignment)
+
+
+def pubsub_form(max_nodes=20, message=None, **others):
+    """Publish-subscribe, whose payload is a number of i64."""
+    settings = struct.pack(">QQQQQ?Q", 2, 8, 2, 0, 2, True, max_nodes)
+    return form_bytes(b"\x02" + settings + (message or message_bytes("publish_subscribe", 1, "i64", 8, 8)), **others)
+
+
+def rr_form(max_nodes=20, **others):
+    """Request-response, whose requests are of one value."""
+    settings = struct.pack(">???QQQQQQQ", True, True, False, 4, 2, 4, 2, 2, 8, max_nodes)
+    request = message_bytes("request_response", 0, "Goal", 16, 8)
+    return form_bytes(b"\x03" + settings + request + message_bytes("request_response", 1, "u8", 1, 1), **others)
+
+
+def created(node=1, number=0, form=None, found=HASH, max_nodes=36):
+    """The four entries of a create."""
+    return [
+        entry_bytes("make_tag", node, found=found),
+        entry_bytes("lock", node, number, found=found),
+        entry_bytes("make_segment", node, number, max_nodes, found=found),
+        entry_bytes("publish", node, number, form or event_form(max_nodes), found=found),
+    ]
+
+
+def opened(node, number, ticket, found=HASH):
+    """The two entries of an open."""
+    return [entry_bytes("make_tag", node, found=found), entry_bytes("open_segment", node, number, ticket, found=found)]
+
+
+def left(node, number, ticket, found=HASH):
+    """The two entries of a close by which others stay."""
+    return [entry_bytes("release", node, ticket, number, found=found), entry_bytes("remove_tag", node, found=found)]
+
+
+def ended(node, number, ticket, found=HASH):
+    """The four entries of the last close."""
+    removals = [entry_bytes(deed, node, found=found) for deed in ("remove_segment", "remove_description")]
+    return left(node, number, ticket, found) + removals
+
+
+# ---- the tests
+
+
+def replayed(entries, counter=0):
+    """The world that entries come to."""
+    world = World(counter)
+    for entry in read_log(header_bytes(counter=counter) + b"".join(entries)).entries:
+        world.follow(entry)
+    return world
+
+
+def refusal(call):
+    """What a call finds wrong."""
+    try:
+        call()
+    except (Wrong, Malformed) as error:
+        return f"{error.at}: {error.why}" if isinstance(error, Wrong) else str(error)
+    return "nothing"
+
+
+class Tests:
+    """Counts what passes, and prints what doesn't."""
+
+    def __init__(self):
+        self.passed = self.failed = 0
+
+    def same(self, what, found, wanted):
+        """The found is the wanted."""
+        if found == wanted:
+            self.passed += 1
+        else:
+            self.failed += 1
+            print(f"{what}: found {found!r}, wanted {wanted!r}")
+
+    def names(self, what, found, word):
+        """The found text has the word."""
+        self.same(f"{what}: {found}", word in found, True)
+
+
+def test_vectors(tests):
+    """The bytes of the pages are what the pages tell, and what the writer makes."""
+    name = bytes(range(0x20, 0x30))
+    found = bytes(range(0x10, 0x24))
+    lock = Entry(0, 53, "lock", 2, found, number=5)
+    for form, wanted in (
+        (MAKE_TAG_VECTOR, Entry(0, 45, "make_tag", 1, found)),
+        (OPEN_VECTOR, Entry(0, 61, "open_segment", 0x0102030405060708, found, number=5, ticket=9)),
+        (PUBLISH_VECTOR, Entry(0, 57, "publish", 258, found, number=5, form=b"IOX2")),
+    ):
+        tests.same("a vector", front_of(form, 0), wanted)
+    tests.same("the header's vector", read_header(HEADER_VECTOR), Header(name, 258))
+    tests.same("the header as it is written", header_bytes(name, 258), HEADER_VECTOR)
+    tests.same("the lock's vector", front_of(LOCK_VECTOR + b"more", 0), lock)
+    tests.same("the lock as it is written", entry_bytes("lock", 2, 5, found=lock.hash), LOCK_VECTOR)
+    tests.same("events as they are written", event_form(), FORM_VECTOR)
+    found = read_description(FORM_VECTOR)
+    tests.same("events", (found.pattern, found.name, found.max_nodes, found.creator), ("event", "a", 36, None))
+    found = read_description(event_form(creator=7, attributes=(("b", "x"), ("b", "y")), deadline=DEADLINE_VECTOR))
+    tests.same("a deadline", dict(found.settings)["deadline"], ((1, 500), (0, 0)))
+    tests.same("attributes", (found.creator, found.attributes), (7, (("b", "x"), ("b", "y"))))
+    tests.same("lengths", [len(pubsub_form()), len(pubsub_form(creator=1)), len(event_form(creator=7))], [167, 175, 75])
+    found = read_description(pubsub_form(9))
+    wanted = ("pubsub", 9, (True, "i64", 8, 8))
+    tests.same("publish-subscribe", (found.pattern, found.max_nodes, found.types[2]), wanted)
+    found = read_description(rr_form(3))
+    tests.same("request-response", (found.pattern, found.max_nodes, len(found.types)), ("rr", 3, 6))
+
+
+def test_descriptions(tests):
+    """Bytes that are nobody's form."""
+    for form in (FORM_VECTOR, pubsub_form(creator=2), rr_form(attributes=(("k", "v"),))):
+        for end in range(len(form)):
+            tests.names(f"a front of {end} bytes", refusal(lambda end=end: read_description(form[:end])), "cut off")
+        tests.names("a byte more", refusal(lambda: read_description(form + b"\x00")), "after the last part")
+    many = tuple((f"{count:03}", "") for count in range(65))
+    odd = message_bytes("publish_subscribe", 1, "i64", 8, 3)
+    late = bytes.fromhex("01 0000000000000001 3b9aca00 0000000000000000 00000000")
+    for form, word in (
+        (b"IOX3" + FORM_VECTOR[4:], "magic"),
+        (b"IOX2\x03" + FORM_VECTOR[5:], "version 3"),
+        (event_form(name=""), "a text of 0 bytes"),
+        (event_form(name="a" * 256), "a text of 256 bytes"),
+        (FORM_VECTOR.replace(b"\x00\x01a", b"\x00\x01\xff"), "UTF-8"),
+        (event_form(attributes=(("b", ""), ("a", ""))), "ascend"),
+        (event_form(attributes=(("a", ""), ("a", ""))), "ascend"),
+        (event_form(attributes=many), "65 attributes"),
+        (form_bytes(b"\x04"), "pattern 4"),
+        (event_form(deadline=b"\x02"), "the byte 2"),
+        (event_form(deadline=late), "1000000000 nanoseconds"),
+        (pubsub_form(message=odd), "an alignment of 3"),
+    ):
+        tests.names(word, refusal(lambda form=form: read_description(form)), word)
+
+
+def test_headers(tests):
+    """Bytes that are no header, by name."""
+    changed = bytearray(HEADER_VECTOR)
+    changed[30] ^= 1
+    for data, word in (
+        (b"", "0: is no log"),
+        (HEADER_VECTOR[:7], "0: is no log"),
+        (b"iOX2LOG\x01" + HEADER_VECTOR[8:], "0: is no log"),
+        (b"IOX2LOG\x02" + HEADER_VECTOR[8:], "0: is a log of version 2"),
+        (HEADER_VECTOR[:8], "0: is damaged at byte 0"),
+        (HEADER_VECTOR[:39], "0: is damaged at byte 0"),
+        (bytes(changed), "0: is damaged at byte 0"),
+    ):
+        tests.same("a header", refusal(lambda data=data: read_header(data)), word)
+
+
+def test_ends(tests):
+    """Each cut of an entry is torn, and so is a last one with a wrong sum; other bytes are damage."""
+    first, last = entry_bytes("make_tag", 1), entry_bytes("lock", 1, 0)
+    front = header_bytes() + first
+    for end in range(1, len(last)):
+        log = read_log(front + last[:end])
+        tests.same(f"{end} bytes of an entry", (len(log.entries), log.whole, log.torn), (1, len(front), end))
+    for place in range(8, len(last)):
+        other = last[:place] + bytes([last[place] ^ 0x40]) + last[place + 1 :]
+        log = read_log(front + other)
+        tests.same(f"byte {place} of the last", (len(log.entries), log.torn), (1, len(last)))
+        found = refusal(lambda other=other: read_log(front + other + first))
+        tests.same(f"byte {place} before another", found, f"{len(front)}: is damaged at byte {len(front)}")
+    damage = f"{len(front)}: is damaged at byte {len(front)}"
+    unknown = sealed(b"\x0a" + bytes(28))
+    longer = sealed(last[16:] + b"\x00")
+    short, long = sealed(bytes(28)), sealed(bytes(1048577))
+    ends = {"garbage": b"x" * 8, "a kind": unknown, "details": longer, "short": short, "long": long[:99]}
+    for what, rest in ends.items():
+        tests.same(what, refusal(lambda rest=rest: read_log(front + rest)), damage)
+    tests.same("the longest", read_log(front + sealed(b"\x07" + bytes(1048575))).entries[1].form, bytes(1048539))
+
+
+def test_worlds(tests):
+    """What creates, opens and closes come to: all nine deeds."""
+    world = replayed(created())
+    tests.same("a create", world.listing(), [f"event a {HASH.hex()} number=0 nodes=1/36", "1 services"])
+    tests.same("its creator", (world.left_by(1), world.counter), ((1, 1, 1), 1))
+    both = created() + opened(2, 0, 1) + [entry_bytes("open_segment", 2, 0, 2)]
+    world = replayed(both)
+    tests.same("two opens", (world.left_by(2), world.counter, world.phases[2, HASH].count), ((2, 1, 1), 3, 2))
+    world = replayed(both + left(1, 0, 0) + [entry_bytes("release", 2, 1, 0)])
+    tests.same("a close", world.listing(), [f"event a {HASH.hex()} number=0 nodes=1/36", "1 services"])
+    tests.same("who stays", (world.left_by(1), world.left_by(2)), ((0, 0, 0), (1, 1, 1)))
+    marked = created() + [entry_bytes("release", 1, 0, 0)]
+    tests.same("a marked segment", replayed(marked).segments[HASH], Segment(0, 36, frozenset(), True))
+    world = replayed(created() + ended(1, 0, 0))
+    tests.same("the last close", (world.rows, world.segments, world.phases), ({}, {}, {}))
+    tests.same("what is left", (world.tags, world.tickets), (set(), {}))
+    again = created(number=7) + ended(1, 7, 7) + created(2, 8, pubsub_form(5, found=OTHER, name="b"), OTHER, 5)
+    world = replayed(again, counter=7)
+    tests.same("another", world.listing()[0], f"pubsub b {OTHER.hex()} number=8 nodes=1/5")
+    removals = [entry_bytes(deed, 1) for deed in ("remove_segment", "remove_description", "remove_tag")]
+    nothing = "0 published, 0 locked, 0 segments (0 marked), 0 tickets, 0 tags, counter 1, 0 entries without effect"
+    tests.same("what is given back", replayed(created()[:3] + removals).counts(), nothing)
+
+
+def test_refusals(tests):
+    """Entries that the world doesn't grant, each with its byte."""
+    make, lock, segment, publish = created(max_nodes=1)
+    service = created(max_nodes=1, form=event_form(1))
+    marked = service + [entry_bytes("release", 1, 0, 0)]
+    for before, entry, word in (
+        ([make], make, "the tag is there"),
+        ([lock], lock, "there is a row"),
+        ([lock], entry_bytes("lock", 2, 1), "there is a row"),
+        ([], entry_bytes("lock", 1, 1), "the counter 0"),
+        ([], segment, "the node is at None"),
+        ([lock], entry_bytes("make_segment", 1, 0, 0), "for no node"),
+        ([lock], entry_bytes("make_segment", 1, 1, 1), "the node is at"),
+        ([lock, segment], entry_bytes("publish", 1, 0, b"IOX2"), "no description"),
+        ([lock, segment], entry_bytes("publish", 1, 0, event_form(2)), "for other nodes"),
+        ([lock, segment], entry_bytes("publish", 1, 0, event_form(1, found=OTHER)), "another hash"),
+        ([lock, segment], entry_bytes("publish", 2, 0, event_form(1)), "the node is at None"),
+        ([], entry_bytes("remove_segment", 1), "the node is at None"),
+        (service, entry_bytes("remove_description", 1), "the node is at"),
+        (service, opened(2, 0, 1)[1], "no room"),
+        (service, opened(2, 3, 1)[1], "the segment is of number 0"),
+        (created(), opened(2, 0, 2)[1], "the counter 1"),
+        (marked, opened(2, 0, 1)[1], "marked"),
+        ([], opened(2, 0, 0)[1], "there is no segment"),
+        (service, entry_bytes("release", 2, 0, 0), "the ticket is of"),
+        (service, entry_bytes("release", 1, 1, 0), "the ticket is of None"),
+        (marked, entry_bytes("release", 1, 0, 0), "the ticket is of None"),
+        (marked, entry_bytes("lock", 2, 1), "there is a row"),
+    ):
+        at = len(header_bytes()) + sum(map(len, before))
+        found = refusal(lambda before=before, entry=entry: replayed([*before, entry]))
+        tests.same("the refusal's byte", found.split(":")[0], str(at))
+        tests.names("a refusal", found, word)
+
+
+def test_disagreements(tests):
+    """Worlds that don't agree, each for one reason, which no entries come to."""
+    service = created() + opened(2, 0, 1)
+    stays = frozenset([1, 2])
+    for change, word in (
+        (lambda world: setattr(world, "counter", 0), "below the counter"),
+        (lambda world: world.rows.pop(HASH), "and the row is None"),
+        (lambda world: world.rows.update({HASH: Row(0)}), "nobody holds the lock"),
+        (lambda world: world.rows.update({OTHER: Row(0)}), "nobody holds the lock"),
+        (lambda world: world.rows.update({HASH: Row(0, b"IOX2")}), "no description"),
+        (lambda world: world.rows.update({HASH: Row(0, event_form(found=OTHER))}), "the description is of"),
+        (lambda world: world.rows.update({HASH: Row(0, event_form(1))}), "the service for 1"),
+        (lambda world: world.segments.update({HASH: Segment(0, 36, stays, True)}), "there is"),
+        (lambda world: world.segments.update({HASH: Segment(0, 36, stays | {3})}), "node 3 is in the segment"),
+        (lambda world: world.segments.update({HASH: Segment(1, 36, stays)}), "there is"),
+        (lambda world: world.segments.pop(HASH), "there is None"),
+        (lambda world: world.phases.update({(3, HASH): Phase("Locked", 0)}), "holds the lock"),
+        (lambda world: world.phases.update({(3, HASH): Phase("Leaving", 0)}), "was the last"),
+        (lambda world: world.phases.update({(3, HASH): Phase("Cleared", 0)}), "has removed the segment"),
+        (lambda world: world.phases.update({(1, HASH): Phase("Joined", 0, 2)}), "has 1 tickets"),
+        (lambda world: world.phases.update({(1, HASH): Phase("Joined", 0, 0)}), "joined 0 times"),
+        (lambda world: world.phases.pop((1, HASH)), "in the segment, and at None"),
+        (lambda world: world.tickets.pop(1), "has 0 tickets"),
+        (lambda world: world.tickets.update({1: Ticket(2, HASH, 1)}), "of number 1"),
+        (lambda world: world.tickets.update({5: Ticket(2, HASH, 0)}), "isn't below"),
+    ):
+        world = replayed(service)
+        tests.same("before", world.disagreement(), None)
+        change(world)
+        tests.names("a disagreement", world.disagreement() or "none", word)
+    world = replayed([entry_bytes("lock", 1, 0), entry_bytes("lock", 1, 1, found=OTHER)])
+    world.rows[OTHER], world.phases[1, OTHER] = Row(0), Phase("Locked", 0)
+    tests.names("two locks of one number", world.disagreement(), "2 locks")
+    for before, after, wanted in (
+        (None, Row(5), None),
+        (Row(3), Row(3, b"form"), None),
+        (None, Row(3), "the number 3 comes anew"),
+        (Row(2), Row(3), "the number 3 comes anew"),
+        (Row(3, b"form"), Row(3), "what was published under 3 has changed"),
+        (Row(3, b"form"), Row(3, b"other"), "what was published under 3 has changed"),
+    ):
+        tests.same("a later row", later_fault(before, after, 5), wanted)
+
+
+def main():
+    """Runs all tests."""
+    tests = Tests()
+    for test in (test_vectors, test_descriptions, test_headers, test_ends):
+        test(tests)
+    for test in (test_worlds, test_refusals, test_disagreements):
+        test(tests)
+    print(f"tools/log_reader.py: {tests.passed} passed, {tests.failed} failed")
+    return 1 if tests.failed else 0
