@@ -1,0 +1,332 @@
+"""What a program does at a log that is cut, changed, not a log, on a full disk, or held by another."""
+import fcntl
+import hashlib
+import os
+import resource
+import shutil
+import subprocess
+import threading
+import time
+from concurrent.futures import ThreadPoolExecutor
+
+from logs.form import FILE_HEADER_LENGTH, read_log
+from logs.runs import BUSY, FAULT, NO_LOG, NO_PERMISSION, front_before, fronts_of, listings_of, snapshot, telling_first
+
+AT_ONCE = 4
+# Where in an entry a cut or a change tells most: its parts' bounds.
+BOUNDS = (-1, 0, 1, 4, 7, 8, 15, 16, 17, 25, 31, 39, 45)
+MOST_CHANGES = 400
+# So many cuts and changes are tried at least, however long they take.
+LEAST = 50
+# The node of the runs at logs that others have made, whose name stands in none of them.
+NODE = 77
+LINES = [f"event open {NODE} 0 absent", "list", f"event create {NODE} 1 fresh", "list"]
+# A user who isn't root, to whom permissions mean something.
+NOBODY = 65534
+
+
+def make_log(runs):
+    """A log of twenty entries, in which two services stand and one is gone."""
+    path = runs.file("small")
+    for node, lines in (
+        (1, ["event create 1 0 lamps max_nodes=2", "pubsub create 1 1 poses payload=fixed,Pose,24,8"]),
+        (2, ["event open 2 0 lamps", "rr create 2 1 plan", "close 1", "event open 2 2 lamps", "close 2"]),
+    ):
+        replies = runs.held(path, node, lines)
+        fine = all(reply.startswith(("ok ", "closed ")) for reply in replies) and len(replies) == len(lines)
+        runs.need(fine, f"the small log: node {node} replied {replies}")
+    if not runs.need(path.exists(), "the small log: there is none"):
+        return None
+    data = path.read_bytes()
+    replayed = runs.replay(data, "the small log")
+    if not replayed or not runs.need(len(replayed[0].entries) == 20, f"it has {len(replayed[0].entries)} entries"):
+        return None
+    return data
+
+
+# ---- cuts and changes
+
+
+def check_goes_on(runs, path, front, ran, what):
+    """The program cut off what stood after the front, and went on from there."""
+    end, before, listing, counter = front
+    fine = runs.need(ran.status == 0 and not ran.err, f"{what}: status {ran.status}: {ran.err[:200]}{ran.out[:3]}")
+    wanted = ["EventOpenError::DoesNotExist", *listing, f"ok 1 number={counter}"]
+    if not fine or not runs.need(ran.out[: len(wanted)] == wanted, f"{what}: it replied {ran.out}, and not {wanted}"):
+        return
+    after = path.read_bytes()
+    runs.need(after[:end] == before, f"{what}: a whole entry is gone")
+    replayed = runs.replay(after, what)
+    if replayed:
+        log, world = replayed
+        added = [entry.node for entry in log.entries if entry.at >= end]
+        runs.need(not log.torn and len(added) == 8 and set(added) == {NODE}, f"{what}: {len(added)} entries were added")
+        runs.need(world.left_by(NODE) == (0, 0, 0), f"{what}: it left something")
+        fresh = hashlib.sha1(b"efresh").hexdigest()
+        second = [line for line in listings_of(ran.out)[-1] if fresh not in line]
+        runs.need(second[:-1] == listing[:-1], f"{what}: it listed {second} then")
+
+
+def check_refused(runs, path, before, ran, names, what):
+    """The program ended by a named error, and changed nothing."""
+    fine = ran.status == FAULT and any(f"{path}: {name}" in ran.err for name in names)
+    runs.need(fine, f"{what}: status {ran.status}, not {names}: {ran.err[:200]!r} {ran.out[:3]}")
+    runs.need(snapshot(path) == before, f"{what}: something changed")
+
+
+def cut_at(runs, data, fronts, end):
+    """A log of which only so many bytes are left."""
+    path, what = runs.file(f"cut-{end}", data[:end]), f"cut at byte {end}"
+    before = snapshot(path)
+    ran = runs.run(path, NODE, LINES)
+    if end < FILE_HEADER_LENGTH:
+        name = NO_LOG if end < 8 else "is damaged at byte 0"
+        check_refused(runs, path, before, ran, [name], what)
+    else:
+        front, listing, counter = front_before(fronts, end)
+        check_goes_on(runs, path, (front, data[:front], listing, counter), ran, what)
+    runs.count("cuts")
+    shutil.rmtree(path.parent)
+
+
+def names_of_change(fronts, at):
+    """The names by which the program may refuse a log whose byte there is another."""
+    if at < 7:
+        return [NO_LOG]
+    if at == 7:
+        return ["is a log of version "]
+    return [f"is damaged at byte {0 if at < FILE_HEADER_LENGTH else front_before(fronts, at)[0]}"]
+
+
+def change_at(runs, data, fronts, at, value):
+    """A log of which one byte is another."""
+    path, what = runs.file(f"change-{at}", data[:at] + bytes([value]) + data[at + 1 :]), f"byte {at} is {value}"
+    before = snapshot(path)
+    ran = runs.run(path, NODE, LINES)
+    last = fronts[-2]
+    if ran.status == 0 and at >= last[0]:
+        check_goes_on(runs, path, (last[0], data[: last[0]], *last[1:]), ran, what)
+    else:
+        check_refused(runs, path, before, ran, names_of_change(fronts, at), what)
+        known = [listing for _, listing, _ in fronts]
+        is_known = all(listing in known for listing in listings_of(ran.out))
+        runs.need(is_known, f"{what}: it listed another world: {ran.out}")
+    runs.count("changes")
+    shutil.rmtree(path.parent)
+
+
+def at_once(call, places, seconds):
+    """Makes a call for each of these places, some at once, until it is too late, and counts them."""
+    deadline = time.monotonic() + seconds
+
+    def timely(number, at):
+        is_timely = number < LEAST or time.monotonic() < deadline
+        if is_timely:
+            call(at)
+        return is_timely
+
+    with ThreadPoolExecutor(AT_ONCE) as pool:
+        return sum(pool.map(timely, range(len(places)), places))
+
+
+def cuts(runs, data, seconds):
+    """The small log cut at each of its bytes."""
+    fronts = fronts_of(data)
+    ends = telling_first(runs.random, fronts, len(data), BOUNDS)
+    done = at_once(lambda end: cut_at(runs, data, fronts, end), ends, seconds)
+    print(f"cut at {done} of {len(ends)} bytes")
+
+
+def changes(runs, data, seconds):
+    """The small log with single bytes changed."""
+    fronts = fronts_of(data)
+    values = {at: data[at] ^ runs.random.randrange(1, 256) for at in range(len(data))}
+    places = telling_first(runs.random, fronts, len(data), BOUNDS)[:MOST_CHANGES]
+    done = at_once(lambda at: change_at(runs, data, fronts, at, values[at]), places, seconds)
+    print(f"changed {done} of {len(data)} bytes")
+
+
+# ---- what is no log
+
+
+def make_things(runs, data):
+    """Paths that are no usable log, each with the name by which the program refuses it."""
+    things = [(runs.file("folder"), "is a folder"), (runs.file("link"), "is a symbolic link")]
+    things[0][0].mkdir()
+    target = runs.file("target", data)
+    things[1][0].symlink_to(target)
+    things.append((runs.file("dangling"), "is a symbolic link"))
+    things[2][0].symlink_to(target.parent / "nothing")
+    things.append((runs.file("pipe"), "is no file"))
+    os.mkfifo(things[3][0])
+    things.append((runs.file("empty", b""), NO_LOG))
+    things.append((runs.file("foreign", b"These are lines of another program.\n" * 9), NO_LOG))
+    things.append((runs.file("newer", data[:7] + b"\x02" + data[8:]), "is a log of version 2"))
+    return things
+
+
+def refused_things(runs, data):
+    """A folder, a link, a pipe, an empty and a foreign file, and one of another version."""
+    for path, name in make_things(runs, data):
+        before = snapshot(path)
+        check_refused(runs, path, before, runs.run(path, NODE, LINES), [name], f"{path.parent.name}")
+
+
+def can_be_nobody():
+    """Whether this is root, who may run programs as another user."""
+    try:
+        return os.geteuid() == 0 and subprocess.run(["true"], user=NOBODY, group=NOBODY).returncode == 0
+    except (OSError, subprocess.SubprocessError):
+        return False
+
+
+def refused_permissions(runs, data):
+    """Files that may not be read or written, by a user who isn't root."""
+    other = {"user": NOBODY, "group": NOBODY, "extra_groups": []} if can_be_nobody() else {}
+    if os.geteuid() == 0 and not other:
+        print("root can run no program as another user: permissions are left out")
+        return
+    for mode in (0o000, 0o444, 0o222):
+        path = runs.file(f"mode-{mode:03o}", data)
+        path.chmod(mode)
+        if other:
+            os.chown(path, NOBODY, NOBODY)
+        before = snapshot(path) if os.geteuid() == 0 else None
+        ran = runs.run(path, NODE, LINES, **other)
+        check_refused(runs, path, before or snapshot(path), ran, [NO_PERMISSION], f"mode {mode:03o}")
+    folder = runs.file("closed")
+    folder.parent.chmod(0o555)
+    ran = runs.run(folder, NODE, LINES, **other)
+    runs.need(ran.status == FAULT and f"{folder}: {NO_PERMISSION}" in ran.err, f"a folder that is read-only: {ran}")
+    runs.need(not os.listdir(folder.parent), "a folder that is read-only: something was made")
+
+
+def another_node(runs, data):
+    """A line in the name of another node is refused by a text of its own, and changes nothing."""
+    path = runs.file("another", data)
+    before = snapshot(path)
+    ran = runs.run(path, NODE, ["event create 1 0 foreign"])
+    fine = ran.status == 0 and len(ran.out) == 1 and not ran.out[0].startswith(("ok ", "Event"))
+    runs.need(fine, f"a line of another node: {ran}")
+    runs.need(snapshot(path) == before, "a line of another node: something changed")
+
+
+# ---- full disks
+
+
+def filling_lines():
+    """Lines that make the log longer and longer."""
+    return [f"event create {NODE} {slot} full/{slot} max_nodes={slot + 1}" for slot in range(40)] + ["list"]
+
+
+def check_full(runs, path, data, ran, what):
+    """What stood still stands, each reply has its entry, and a new process goes on where there is room again."""
+    fine = ran.status == 0 or (ran.status == FAULT and f"{path}: " in ran.err)
+    runs.need(fine, f"{what}: status {ran.status}: {ran.err[:200]!r}")
+    granted = sum(reply.startswith("ok ") for reply in ran.out)
+    after = path.read_bytes()
+    runs.need(after.startswith(data), f"{what}: a whole entry is gone")
+    runs.need(granted < 40, f"{what}: nothing was refused")
+    replayed = runs.replay(after, what)
+    if not replayed:
+        return
+    published = sum(entry.deed == "publish" and entry.node == NODE for entry in replayed[0].entries)
+    runs.need(published == granted, f"{what}: {granted} creates were granted, and {published} stand")
+
+
+def check_room_again(runs, path, what):
+    """A new process goes on where there is room again."""
+    whole = read_log(path.read_bytes()).whole
+    data = path.read_bytes()[:whole]
+    ran = runs.run(path, NODE + 1, [f"event create {NODE + 1} 0 afterwards"])
+    runs.need(ran.status == 0 and ran.out[:1] and ran.out[0].startswith("ok 0 "), f"{what}, with room again: {ran}")
+    after = path.read_bytes()
+    runs.need(after.startswith(data), f"{what}, with room again: a whole entry is gone")
+    replayed = runs.replay(after, f"{what}, with room again")
+    if replayed:
+        runs.need(not replayed[0].torn, f"{what}, with room again: a torn end stands")
+
+
+def limited_file(runs, data):
+    """A file that may only grow by so many bytes, one run by an error and one by a signal that ends the process."""
+    for more in (1, 30, 45, 200, 700):
+        for by_signal in (False, True):
+            what = f"a file of {more} bytes more{', by a signal' * by_signal}"
+            path = runs.file("limited", data)
+            limit = len(data) + more
+
+            def before(limit=limit):
+                resource.setrlimit(resource.RLIMIT_FSIZE, (limit, limit))
+
+            ran = runs.run(path, NODE, filling_lines(), preexec_fn=before, restore_signals=by_signal)
+            if by_signal and ran.status < 0:
+                runs.need(path.read_bytes().startswith(data), f"{what}: a whole entry is gone")
+                runs.replay(path.read_bytes(), what)
+            else:
+                check_full(runs, path, data, ran, what)
+            check_room_again(runs, path, what)
+
+
+def full_disk(runs, data):
+    """A small disk that something else fills; left out where none can be mounted."""
+    folder = runs.file("disk").parent
+    options = ["mount", "-t", "tmpfs", "-o", "size=64k", "tmpfs", str(folder)]
+    is_able = os.geteuid() == 0 and shutil.which("mount")
+    if not is_able or subprocess.run(options, stderr=subprocess.DEVNULL).returncode:
+        print("no small disk can be mounted: left out")
+        return
+    try:
+        path, filler = folder / "log", folder / "filler"
+        path.write_bytes(data)
+        try:
+            filler.write_bytes(bytes(2**20))
+        except OSError:
+            pass
+        check_full(runs, path, data, runs.run(path, NODE, filling_lines()), "a full disk")
+        filler.unlink()
+        check_room_again(runs, path, "a full disk")
+        read_only(runs, folder, data)
+    finally:
+        subprocess.run(["umount", str(folder)], check=True)
+
+
+def read_only(runs, folder, data):
+    """A disk that is read-only."""
+    path = folder / "log"
+    path.write_bytes(data)
+    if subprocess.run(["mount", "-o", "remount,ro", str(folder)], stderr=subprocess.DEVNULL).returncode:
+        print("no disk can be made read-only: left out")
+        return
+    before = snapshot(path)
+    check_refused(runs, path, before, runs.run(path, NODE, LINES), [NO_PERMISSION], "a disk that is read-only")
+
+
+# ---- held by another
+
+
+def held_log(runs, data):
+    """A log that the script holds: longer than the program waits, and shorter."""
+    path = runs.file("held", data)
+    line = [f"event create {NODE} 0 fresh"]
+    before = snapshot(path)
+    with open(path, "rb") as file:
+        fcntl.flock(file, fcntl.LOCK_EX)
+        begin = time.monotonic()
+        ran = runs.run(path, NODE, line, wait=200)
+        seconds = time.monotonic() - begin
+    texts = "\n".join([*ran.out, ran.err])
+    runs.need(BUSY in texts and ran.status in (0, FAULT), f"a log that is held: {ran}")
+    runs.need(not any(reply.startswith("ok ") for reply in ran.out), f"a log that is held: {ran.out}")
+    runs.need(seconds >= 0.2, f"a log that is held: it waited {seconds:.3f} seconds in place of 0.2")
+    runs.need(snapshot(path) == before, "a log that is held: something changed")
+    with open(path, "rb") as file:
+        fcntl.flock(file, fcntl.LOCK_EX)
+        timer = threading.Timer(0.4, lambda: fcntl.flock(file, fcntl.LOCK_UN))
+        timer.start()
+        begin = time.monotonic()
+        ran = runs.run(path, NODE, line, wait=10000)
+        seconds = time.monotonic() - begin
+        timer.join()
+    fine = ran.status == 0 and ran.out[:1] and ran.out[0].startswith("ok 0 ")
+    runs.need(fine and seconds >= 0.3, f"a log that is held for 0.4 seconds: {ran} after {seconds:.3f} seconds")
+    runs.replay(path.read_bytes(), "a log that was held")
