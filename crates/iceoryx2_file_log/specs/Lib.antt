@@ -1,0 +1,6 @@
+-- What a contract sees of a log in a file.
+pub mod Errors
+pub mod Options
+pub mod Header
+pub mod HeaderReading
+pub mod Remainder

@@ -1,0 +1,149 @@
+//! Why a log in a file refused.
+
+ghost use Rattle.std.specs.Prelude.{◌≡◌, string_bytes};
+ghost use Rattle.std.specs.IoError.{error_kind};
+ghost use Rattle.iceoryx2_file_log.specs.Errors.{kind_fault, log_error_of};
+
+use iceoryx2_log::log::LogError;
+use std::error::Error;
+use std::fmt;
+use std::io::{self, ErrorKind};
+
+/// Why a log in a file refused. The first ones come only where it is opened.
+#[derive(Clone, Copy, Debug, PartialEq, Eq)]
+pub enum FileFault {
+    /// The path is that of a symbolic link, which is not followed.
+    IsALink,
+    /// The path is that of a folder.
+    IsAFolder,
+    /// The path is that of something else that is no file, such as a pipe.
+    NotAFile,
+    /// The file doesn't begin as that of a log does; an empty one neither.
+    NotALog,
+    /// The log is of another version.
+    AnotherVersion { found: u8 },
+    /// What begins at this byte is neither whole nor what a writer leaves that died: at byte 0 the header, else an
+    /// entry.
+    Damaged { at: u64 },
+    /// The system doesn't permit it.
+    NoPermission,
+    /// Others held the log as long as the options allow.
+    Busy,
+    /// There is no room on the disk.
+    DiskFull,
+    /// There was no memory.
+    OutOfMemory,
+    /// The body of an entry is longer than any that is read.
+    TooLong,
+    /// The handle holds the log already.
+    HeldAlready,
+    /// The handle doesn't hold the log.
+    NotHeld,
+    /// Entries of others are unread, so nothing is appended yet.
+    Unread,
+    /// An append failed, and what it left could not be taken back, so nobody knows whether its entry stands.
+    Unsure,
+    /// The system refused for another reason.
+    Failed { kind: ErrorKind },
+}
+
+impl fmt::Display for FileFault {
+    ghost use Rattle.iceoryx2_file_log.specs.Errors.{fault_text};
+
+    ghost output = { fault_text };
+
+    fn fmt<W: fmt::Write>(&self, f: &mut fmt::Formatter<W>) -> fmt::Result {
+        match self {
+            FileFault::IsALink => write!(f, "is a symbolic link"),
+            FileFault::IsAFolder => write!(f, "is a folder"),
+            FileFault::NotAFile => write!(f, "is no file"),
+            FileFault::NotALog => write!(f, "is no log"),
+            FileFault::AnotherVersion { found } => write!(f, "is a log of version {found}"),
+            FileFault::Damaged { at } => write!(f, "is damaged at byte {at}"),
+            FileFault::NoPermission => write!(f, "no permission"),
+            FileFault::Busy => write!(f, "others hold the log"),
+            FileFault::DiskFull => write!(f, "no room on the disk"),
+            FileFault::OutOfMemory => write!(f, "out of memory"),
+            FileFault::TooLong => write!(f, "an entry's body has at most 1048576 bytes"),
+            FileFault::HeldAlready => write!(f, "the log is held already"),
+            FileFault::NotHeld => write!(f, "the log is not held"),
+            FileFault::Unread => write!(f, "entries of others are unread"),
+            FileFault::Unsure => write!(f, "a failed append may stand in the log"),
+            FileFault::Failed { kind } => write!(f, "{kind}"),
+        }
+    }
+}
+
+/// Why the log in the file of this path refused.
+#[derive(Debug, PartialEq, Eq)]
+pub struct FileLogError {
+    path: String,
+    fault: FileFault,
+}
+
+// Written out, so that a proof of what lets one go doesn't take its fields apart.
+impl Drop for FileLogError {
+    fn drop(self) {
+        let FileLogError { path: _, fault: _ } = self;
+    }
+}
+
+impl FileLogError {
+    pub fn new(path: String, fault: FileFault) -> FileLogError
+        ensures path { result.path ≡ path }
+        ensures fault { result.fault ≡ fault }
+    {
+        FileLogError { path, fault }
+    }
+
+    pub fn path(&self) -> &str
+        ensures { result.now ≡ string_bytes self.now.path }
+    {
+        &self.path
+    }
+
+    pub fn fault(&self) -> FileFault
+        ensures { result ≡ self.now.fault }
+    {
+        self.fault
+    }
+}
+
+impl fmt::Display for FileLogError {
+    ghost use Rattle.std.specs.Prelude.{string_bytes};
+    ghost use Rattle.iceoryx2_file_log.specs.Errors.{file_log_error_text};
+
+    ghost output = { λ error. file_log_error_text (string_bytes error.path) error.fault };
+
+    fn fmt<W: fmt::Write>(&self, f: &mut fmt::Formatter<W>) -> fmt::Result {
+        write!(f, "{}: {}", self.path, self.fault)
+    }
+}
+
+impl Error for FileLogError {}
+
+/// What an error of the system means for a log in a file.
+pub fn system_fault(error: &io::Error) -> FileFault
+    ensures { result ≡ kind_fault (error_kind error.now) }
+{
+    match error.kind() {
+        ErrorKind::PermissionDenied | ErrorKind::ReadOnlyFilesystem => FileFault::NoPermission,
+        ErrorKind::StorageFull | ErrorKind::QuotaExceeded => FileFault::DiskFull,
+        ErrorKind::OutOfMemory => FileFault::OutOfMemory,
+        ErrorKind::IsADirectory => FileFault::IsAFolder,
+        ErrorKind::FilesystemLoop => FileFault::IsALink,
+        kind => FileFault::Failed { kind },
+    }
+}
+
+/// What a log answers where its file refused.
+pub fn log_error(fault: FileFault) -> LogError
+    ensures { result ≡ log_error_of fault }
+{
+    match fault {
+        FileFault::Busy => LogError::Busy,
+        FileFault::OutOfMemory => LogError::OutOfMemory,
+        FileFault::Damaged { at: _ } => LogError::Damaged,
+        _ => LogError::Failed,
+    }
+}
