@@ -93,12 +93,12 @@ parts_wrong sum body is wrong =
 
 wrong_here : (bytes : List ℕ) → HEADER_LENGTH + SUM_LENGTH ≤ length bytes
     → IsWrong (take HEADER_LENGTH bytes) (take SUM_LENGTH (drop HEADER_LENGTH bytes))
-        (drop SUM_LENGTH (drop HEADER_LENGTH bytes)) → HasWrongSum bytes
+    (drop SUM_LENGTH (drop HEADER_LENGTH bytes)) → HasWrongSum bytes
 wrong_here bytes long w =
     let after : List ℕ = drop HEADER_LENGTH bytes in
     let apart : bytes ≡ take HEADER_LENGTH bytes ++ (take SUM_LENGTH after ++ drop SUM_LENGTH after) =
     sym (take-append-drop HEADER_LENGTH bytes)
-        ∙ ap (λ (r : List ℕ). take HEADER_LENGTH bytes ++ r) (sym (take-append-drop SUM_LENGTH after)) in
+    ∙ ap (λ (r : List ℕ). take HEADER_LENGTH bytes ++ r) (sym (take-append-drop SUM_LENGTH after)) in
     record {
       sum = take SUM_LENGTH after;
       body = drop SUM_LENGTH after;
@@ -161,10 +161,10 @@ same_sum : (sum found inside rest : List ℕ) → length sum ≡ SUM_LENGTH → 
 same_sum sum found inside rest len same_length e =
     let sums : sum ≡ sum_of inside =
     sym (take_at sum found SUM_LENGTH len) ∙ ap (λ (xs : List ℕ). take SUM_LENGTH xs) e
-        ∙ take_at (sum_of inside) (inside ++ rest) SUM_LENGTH (sum_length inside) in
+    ∙ take_at (sum_of inside) (inside ++ rest) SUM_LENGTH (sum_length inside) in
     let bodies : found ≡ inside ++ rest =
     sym (drop_at sum found SUM_LENGTH len) ∙ ap (λ (xs : List ℕ). drop SUM_LENGTH xs) e
-        ∙ drop_at (sum_of inside) (inside ++ rest) SUM_LENGTH (sum_length inside) in
+    ∙ drop_at (sum_of inside) (inside ++ rest) SUM_LENGTH (sum_length inside) in
     let none : length rest ≡ 0 = omega (arith, ap length bodies, length-append inside rest, same_length) in
     let whole : found ≡ inside = bodies ∙ ap (λ (r : List ℕ). inside ++ r) (nothing rest none) ∙ append_nil inside in
     sums ∙ ap sum_of (sym whole)

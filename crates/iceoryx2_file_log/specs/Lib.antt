@@ -4,3 +4,6 @@ pub mod Options
 pub mod Header
 pub mod HeaderReading
 pub mod Remainder
+pub mod Place
+pub mod Handle
+pub mod Opening

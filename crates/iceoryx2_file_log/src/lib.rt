@@ -1,8 +1,11 @@
-//! What a log in a file is made of: its header, what is done about unread bytes, how it is used, and why it refuses.
+//! A log in a file: its header, what is done about unread bytes, where a handle stands, and why it refuses.
 #![tactic(auto)]
 
 pub mod ahead;
+pub mod cursor;
 pub mod error;
+pub mod file_log;
 pub mod header;
+mod opening;
 pub mod options;
 pub mod remainder;

@@ -1,0 +1,235 @@
+//! Finding the file of a log, and making it.
+
+ghost use Rattle.std.specs.Prelude.{◌≡◌, ◌≤◌, IfOk, length};
+ghost use Rattle.std.specs.Fs.{file_type};
+ghost use Rattle.iceoryx2_file_log.specs.Opening.{IsFaultOf, header_fault_of};
+
+use crate::error::{FileFault, system_fault};
+use crate::header::{self, HEADER_LENGTH, Header, HeaderError, LogName, NAME_LENGTH};
+use crate::options::FileLogOptions;
+use std::fs::{self, File, Metadata, OpenOptions, Permissions};
+use std::io::{self, ErrorKind, Write};
+use std::os::unix::fs::{FileExt, MetadataExt, OpenOptionsExt, PermissionsExt};
+use std::random::RandomSource;
+use std::rt::Files;
+
+/// How often the file is looked for, where another process makes or removes it meanwhile.
+const OPENINGS: u32 = 8;
+
+/// By which the system knows a file: its device and its number there.
+#[derive(Clone, Copy, PartialEq, Eq)]
+struct FileNumber {
+    device: u64,
+    inode: u64,
+}
+
+/// Why this is not opened as a file, if so.
+fn kind_fault(metadata: &Metadata) -> Option<FileFault>
+    ensures { IsFaultOf (file_type metadata.now) result }
+{
+    if metadata.is_symlink() {
+        Some(FileFault::IsALink)
+    } else if metadata.is_dir() {
+        Some(FileFault::IsAFolder)
+    } else if metadata.is_file() {
+        None
+    } else {
+        Some(FileFault::NotAFile)
+    }
+}
+
+/// Why a log with this header is not opened.
+fn header_fault(error: HeaderError) -> FileFault
+    ensures { result ≡ header_fault_of error }
+{
+    match error {
+        HeaderError::NotALog => FileFault::NotALog,
+        HeaderError::AnotherVersion { found } => FileFault::AnotherVersion { found },
+        HeaderError::Damaged => FileFault::Damaged { at: 0 },
+    }
+}
+
+fn number_of(metadata: &Metadata) -> FileNumber {
+    FileNumber {
+        device: metadata.dev(),
+        inode: metadata.ino(),
+    }
+}
+
+/// The file that has this path, or `None` where nothing has it. A symbolic link is not followed.
+fn looked_up(rt: &impl Files, path: &str) -> Result<Option<FileNumber>, FileFault> {
+    match fs::symlink_metadata(rt, path) {
+        Ok(metadata) => match kind_fault(&metadata) {
+            None => Ok(Some(number_of(&metadata))),
+            Some(fault) => Err(fault),
+        },
+        Err(error) => {
+            if error.kind() == ErrorKind::NotFound {
+                Ok(None)
+            } else {
+                Err(system_fault(&error))
+            }
+        }
+    }
+}
+
+/// As many of the file's bytes from there on as there are and fit.
+pub(crate) fn read_some(file: &File, buffer: &mut [u8], from: u64) -> Result<usize, FileFault>
+    ensures { IfOk result (λ count. count ≤ length buffer.new) }
+{
+    for _ in 0..u64::MAX {
+        match file.read_at(buffer, from) {
+            Ok(count) => return Ok(count),
+            Err(error) => {
+                if error.kind() != ErrorKind::Interrupted {
+                    return Err(system_fault(&error));
+                }
+            }
+        }
+    }
+    Err(FileFault::Failed {
+        kind: ErrorKind::Interrupted,
+    })
+}
+
+/// The header of the file.
+fn read_header(file: &File) -> Result<Header, FileFault> {
+    let mut bytes = [0u8; HEADER_LENGTH];
+    let mut count = 0;
+    for _ in 0..HEADER_LENGTH {
+        let more = read_some(file, &mut bytes[count..], count as u64)?;
+        if more == 0 {
+            break;
+        }
+        count += more;
+    }
+    match header::decode(&bytes[..count]) {
+        Ok(header) => Ok(header),
+        Err(error) => Err(header_fault(error)),
+    }
+}
+
+/// Opens the file that was looked up, and reads its header. `None` where it is gone, or another one has its path.
+fn open_found(
+    rt: &impl Files<File = File>,
+    path: &str,
+    number: FileNumber,
+) -> Result<Option<(File, Header)>, FileFault> {
+    let file = match OpenOptions::new().read(true).write(true).open(rt, path) {
+        Ok(file) => file,
+        Err(error) => {
+            if error.kind() == ErrorKind::NotFound {
+                return Ok(None);
+            }
+            return Err(system_fault(&error));
+        }
+    };
+    match file.metadata() {
+        Err(error) => Err(system_fault(&error)),
+        Ok(metadata) => {
+            if number_of(&metadata) != number {
+                return Ok(None);
+            }
+            let header = read_header(&file)?;
+            Ok(Some((file, header)))
+        }
+    }
+}
+
+/// The folder that has the name of this path.
+fn folder_of(path: &str) -> &str {
+    match path.rsplit_once('/') {
+        None => ".",
+        Some((folder, _)) => { if folder.is_empty() { "/" } else { folder } }
+    }
+}
+
+/// Synchronizes the folder of the path, so that a name that was made in it survives a power loss.
+fn sync_folder(rt: &impl Files<File = File>, path: &str) -> io::Result<()> {
+    let folder = File::open(rt, folder_of(path))?;
+    folder.sync_all()
+}
+
+/// Makes a file of these bytes, which wasn't there.
+fn write_beside(
+    rt: &impl Files<File = File>,
+    beside: &str,
+    bytes: &[u8],
+    mode: u32,
+) -> io::Result<()> {
+    let mut file = OpenOptions::new()
+        .write(true)
+        .create_new(true)
+        .mode(mode)
+        .open(rt, beside)?;
+    // What is taken off a new file's mode by default is not taken off this one.
+    file.set_permissions(Permissions::from_mode(mode))?;
+    file.write_all(bytes)?;
+    file.sync_all()
+}
+
+/// A header with a name that was drawn by chance.
+fn new_header(rt: &impl RandomSource) -> io::Result<Header> {
+    let mut name = [0u8; NAME_LENGTH];
+    rt.fill_bytes(&mut name)?;
+    Ok(Header {
+        name: LogName(name),
+        counter: 0,
+    })
+}
+
+/// Makes the file under another name beside its own, whole and synchronized, and links it to its own.
+fn make<R: Files<File = File> + RandomSource + AllocGlobal>(
+    rt: &R,
+    path: &str,
+    options: &FileLogOptions,
+) -> io::Result<()> {
+    let header = new_header(rt)?;
+    let name = &header.name.0;
+    let number = u64::from_be_bytes([
+        name[0], name[1], name[2], name[3], name[4], name[5], name[6], name[7],
+    ]);
+    let bytes = header::encode(rt.alloc(), &header)?;
+    let beside = format!(in rt.alloc(); "{path}.new-{number:016x}")?;
+    let linked = match write_beside(rt, &beside, &bytes, options.sharing.mode()) {
+        Ok(()) => fs::hard_link(rt, beside.as_str(), path),
+        Err(error) => Err(error),
+    };
+    let _ = fs::remove_file(rt, beside.as_str());
+    match linked {
+        // Another process was first, and its log is taken.
+        Err(error) if error.kind() == ErrorKind::AlreadyExists => Ok(()),
+        Err(error) => Err(error),
+        Ok(()) => {
+            if options.synchronizes {
+                return sync_folder(rt, path);
+            }
+            Ok(())
+        }
+    }
+}
+
+/// Opens the file of the log, and makes it where nothing has its path.
+pub(crate) fn opened<R: Files<File = File> + RandomSource + AllocGlobal>(
+    rt: &R,
+    path: &str,
+    options: &FileLogOptions,
+) -> Result<(File, Header), FileFault> {
+    for _ in 0..OPENINGS {
+        match looked_up(rt, path)? {
+            None => {
+                if let Err(error) = make(rt, path, options) {
+                    return Err(system_fault(&error));
+                }
+            }
+            Some(number) => {
+                if let Some(found) = open_found(rt, path, number)? {
+                    return Ok(found);
+                }
+            }
+        }
+    }
+    Err(FileFault::Failed {
+        kind: ErrorKind::NotFound,
+    })
+}
