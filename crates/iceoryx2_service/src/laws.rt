@@ -1,7 +1,7 @@
 //! The laws of words, verdicts and errors, of calls and sessions over a table, and of the worlds, batches, scripts,
 //! faults and traces below them.
 
-pub use crate::promise::{opens_again, promise_of_builders};
+pub use crate::promise::{opens_again, promise_of_builders, promise_over_logs};
 pub use iceoryx2_call_laws::fault_laws::agreement_under_faults;
 pub use iceoryx2_call_laws::laws::{agreement, promise_of_lawful_calls};
 pub use iceoryx2_call_laws::quiet_laws::{quiet_calls, quiet_laws};
@@ -14,8 +14,12 @@ pub use iceoryx2_rounds::laws::{
     refused_open_gives_back, refused_open_or_create_gives_back, segment_part_is_short,
     texts_of_errors_differ, verdict_law,
 };
+pub use iceoryx2_file_log::header::{laws_of_headers, lengths as lengths_of_headers};
+pub use iceoryx2_file_log::remainder::laws_of_tearing;
+pub use iceoryx2_journal::laws::journals;
+pub use iceoryx2_log::form::{laws_of_forms as laws_of_log_forms, lengths as lengths_of_log_forms};
 pub use iceoryx2_script::laws::{faults, scripts};
-pub use iceoryx2_session::laws::sessions;
+pub use iceoryx2_session::laws::{sessions, sessions_in_world};
 pub use iceoryx2_traced::laws::traces;
 pub use iceoryx2_world::laws::{
     accesses, batches, laws_of_accesses, laws_of_counts, laws_of_standing, laws_of_steps,

@@ -16,6 +16,9 @@ ghost use Rattle.iceoryx2_request_response_builder.specs.Builder.{Messages, Requ
 ghost use Rattle.iceoryx2_request_response_builder.specs.RequestResponseCalls.{request_response_call};
 ghost use Rattle.iceoryx2_call_laws.specs.OpensAgain.{OpensAgain};
 ghost use Rattle.iceoryx2_call_laws.specs.Promise.{Promise};
+ghost use Rattle.iceoryx2_service.specs.OverLogs.{PromiseOverLog};
+
+use iceoryx2_log::log::Log;
 
 /// The promise, of every call of each builder: any of its three, with any hasher, any settings and types,
 /// any attributes, and whatever the clock says.
@@ -35,6 +38,28 @@ pub fn promise_of_builders()
     ensures request_response { (hash_of : ℕ → List ℕ → ServiceHash) (b : RequestResponseBuilderState)
         (messages : Messages) (way : Way) (defined : List Pair) (required : Requirements)
         → Promise (request_response_call hash_of b messages way defined required) }
+{}
+
+/// The promise over a log that processes share: for any log and whatever stands in it, of every call of each builder in
+/// the name of an own node.
+///
+/// For every builder and every sequence of answers of the log, such a call is within fixed counts and answers what its
+/// word determines. After each of its accesses, whatever other processes append between them and whichever accesses are
+/// refused, every open factory of an own node carries its hash's one published description, its node stands among at
+/// most `max_nodes`, and its segment stays, until its own ticket is released. The factory that the call gave meets what
+/// the builder was asked, or holds its adjusted settings and attributes.
+pub fn promise_over_logs<L: Log>()
+    ensures events { (nodes : List ℕ) (hash_of : ℕ → List ℕ → ServiceHash) (b : EventBuilderState) (way : Way)
+        (defined : List Pair) (required : Requirements) (now : Result Span ClockFault)
+        → PromiseOverLog L.contents nodes (event_call hash_of b way defined required now) }
+    ensures publish_subscribe { (nodes : List ℕ) (hash_of : ℕ → List ℕ → ServiceHash)
+        (b : PublishSubscribeBuilderState) (message : Message) (way : Way)
+        (defined : List Pair) (required : Requirements)
+        → PromiseOverLog L.contents nodes (publish_subscribe_call hash_of b message way defined required) }
+    ensures request_response { (nodes : List ℕ) (hash_of : ℕ → List ℕ → ServiceHash)
+        (b : RequestResponseBuilderState) (messages : Messages) (way : Way)
+        (defined : List Pair) (required : Requirements)
+        → PromiseOverLog L.contents nodes (request_response_call hash_of b messages way defined required) }
 {}
 
 /// What a call of a builder has given, whichever of its three, an open with the same settings and

@@ -9,3 +9,4 @@ pub use iceoryx2_commands::command::{
 };
 pub use iceoryx2_session::session::{Session, TableSession};
 pub use iceoryx2_session::table_storage::TableStorage;
+pub use iceoryx2_session::world_storage::WorldStorage;

@@ -1,6 +1,8 @@
-//! The storages that a builder works over, under one name: the trait, the table, scripts, and traces of any.
+//! The storages that a builder works over, under one name: the trait, the table, journals of a log that processes
+//! share, scripts, and traces of any.
 #![tactic(auto)]
 
+pub mod shared;
 pub mod table;
 
 pub use iceoryx2_access::storage;

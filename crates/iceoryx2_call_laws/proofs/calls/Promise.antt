@@ -34,7 +34,7 @@ module _ {D E C : Type 0} (c : BuilderCall D E C) (raises : OnlyRaises c.meaning
     if_given s t (Err e) g = tt
     if_given s t (Ok r) g = decided c.way r.description g.carries
 
-    promise_over : PromiseOver step world c own
+    pub promise_over : PromiseOver step world c own
     promise_over = record {
       kept = λ word answer s t is run old.
           let p = as_promised own step world of_world c mine word answer s t is run old in (p, if_given s t answer p.given);

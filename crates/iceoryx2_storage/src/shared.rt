@@ -1,0 +1,11 @@
+//! A storage that processes share: a journal over a log of accesses, and logs in memory and in files.
+
+pub use iceoryx2_file_log::cursor::State;
+pub use iceoryx2_file_log::error::{FileFault, FileLogError};
+pub use iceoryx2_file_log::file_log::FileLog;
+pub use iceoryx2_file_log::header::{Header, LogName};
+pub use iceoryx2_file_log::options::{FileLogOptions, Sharing};
+pub use iceoryx2_journal::journal::{Journal, Shared};
+pub use iceoryx2_log::entry::{Deed, Entry, FormBytes};
+pub use iceoryx2_log::log::{Log, LogError};
+pub use iceoryx2_log::memory::{Batch, MemoryLog};
