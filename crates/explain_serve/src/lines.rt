@@ -7,7 +7,7 @@ ghost use Rattle.explain_serve.specs.Explained.{IsCallLine, MayTellWhy, TellsFou
 ghost use Rattle.explain_serve.specs.Explained.{call_of, refusal_of};
 
 use iceoryx2_commands::command::{Call, Command, Refusal, Reply};
-use iceoryx2_session::table_storage::TableStorage;
+use iceoryx2_session::world_storage::WorldStorage;
 use iceoryx2_table::table::Table;
 use iceoryx2_traced::traced::Traced;
 use negotiate_explain::accesses::describe_accesses;

@@ -5,6 +5,10 @@ pub use crate::promise::{opens_again, promise_of_builders, promise_over_logs};
 pub use iceoryx2_call_laws::fault_laws::agreement_under_faults;
 pub use iceoryx2_call_laws::laws::{agreement, promise_of_lawful_calls};
 pub use iceoryx2_call_laws::quiet_laws::{quiet_calls, quiet_laws};
+pub use iceoryx2_file_log::header::{laws_of_headers, lengths as lengths_of_headers};
+pub use iceoryx2_file_log::remainder::laws_of_tearing;
+pub use iceoryx2_journal::laws::journals;
+pub use iceoryx2_log::form::{laws_of_forms as laws_of_log_forms, lengths as lengths_of_log_forms};
 pub use iceoryx2_rounds::laws::{
     clearing_limit_is_five, close_hands_back_its_own, create_is_short, create_keeps_what_it_made,
     equality_of_errors, granted_create_carries, granted_open_carries,
@@ -14,10 +18,6 @@ pub use iceoryx2_rounds::laws::{
     refused_open_gives_back, refused_open_or_create_gives_back, segment_part_is_short,
     texts_of_errors_differ, verdict_law,
 };
-pub use iceoryx2_file_log::header::{laws_of_headers, lengths as lengths_of_headers};
-pub use iceoryx2_file_log::remainder::laws_of_tearing;
-pub use iceoryx2_journal::laws::journals;
-pub use iceoryx2_log::form::{laws_of_forms as laws_of_log_forms, lengths as lengths_of_log_forms};
 pub use iceoryx2_script::laws::{faults, scripts};
 pub use iceoryx2_session::laws::{sessions, sessions_in_world};
 pub use iceoryx2_traced::laws::traces;

@@ -69,7 +69,7 @@ impl WorldStorage for Table {
 
 // A journal shows the world that it makes of its log. Its nodes are those that it was given.
 impl<L: Log> WorldStorage for Journal<L> {
-    ghost use Rattle.std.specs.Prelude.{ap};
+    ghost use Rattle.std.proofs.Common.{ap};
     ghost use Rattle.iceoryx2_journal.specs.Taking.{is_own};
     ghost use Rattle.iceoryx2_journal.proofs.Runs.{access_under, access_nodes};
 

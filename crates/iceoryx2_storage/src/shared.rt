@@ -3,7 +3,7 @@
 pub use iceoryx2_file_log::cursor::State;
 pub use iceoryx2_file_log::error::{FileFault, FileLogError};
 pub use iceoryx2_file_log::file_log::FileLog;
-pub use iceoryx2_file_log::header::{Header, LogName};
+pub use iceoryx2_file_log::header::{Header, LogName, NAME_LENGTH};
 pub use iceoryx2_file_log::options::{FileLogOptions, Sharing};
 pub use iceoryx2_journal::journal::{Journal, Shared};
 pub use iceoryx2_log::entry::{Deed, Entry, FormBytes};

@@ -22,7 +22,7 @@ use iceoryx2_service::laws;
 use iceoryx2_service::port_factory::{self, CloseError};
 use iceoryx2_service::script::{Answer, Faulty, FaultyService, Script, Scripted};
 use iceoryx2_service::session::{
-    self, Call, Command, How, Reply, Session, TableSession, TableStorage,
+    self, Call, Command, How, Reply, Session, TableSession, TableStorage, WorldStorage,
 };
 use iceoryx2_service::storage::{
     Existence, FetchError, LockError, MakeSegmentError, OpenSegmentError, PublishError, Release,
@@ -43,6 +43,9 @@ fn named<T>() {}
 
 /// One that may be sent.
 fn sent<T: ZeroCopySend>() {}
+
+/// A storage that shows a world.
+fn worldly<S: WorldStorage>() {}
 
 /// A storage that shows a table.
 fn shown<S: TableStorage>() {}
@@ -83,6 +86,7 @@ fn of_storages() {
         PublishError, OpenSegmentError, Release, ReleaseError, Script, Faulty<Table>, Sha1Hasher,
         Answer, Step, Act, Entry, traced::Entry, Fetched
     }
+    each! { worldly: Table, Traced<Table> }
     each! { shown: Table, Traced<Table> }
     each! { served: Local, Scripted, FaultyService<Local>, TracedService<Local> }
 }
@@ -129,6 +133,7 @@ fn each_law_has_its_path(_rt: HostRuntime) {
     laws::faults::<Table>();
     laws::traces::<Table>();
     laws::sessions::<Traced<Table>>();
+    laws::sessions_in_world::<Traced<Table>>();
     laws::quiet_laws();
     bytes::laws_of_forms();
     builder::laws();

@@ -10,6 +10,7 @@ use iceoryx2_description::config::Config;
 use iceoryx2_description::time::{ClockFault, Duration, Time};
 use iceoryx2_session::session::{Session, TableSession};
 use iceoryx2_session::table_storage::TableStorage;
+use iceoryx2_session::world_storage::WorldStorage;
 use iceoryx2_table::table::Table;
 use iceoryx2_traced::traced::Traced;
 use iceoryx2_world::listing::Entry;
@@ -423,6 +424,52 @@ fn answers_over_both(rt: &impl Abort, alloc: Global) -> [Vec<Reply>; 2] {
 fn over_a_traced_table_a_session_answers_as_over_a_table(rt: HostRuntime) {
     let [answers, same] = answers_over_both(&rt, rt.alloc());
     assert_same(&rt, same, answers);
+}
+
+/// What a session over any storage that shows a world answers to them, one by one with a refresh before each, and the
+/// storage after the end.
+fn carried_out<S: WorldStorage>(rt: &impl Abort, alloc: Global, storage: S) -> (Vec<Reply>, S) {
+    let mut session = Session::over(Config::default(), storage);
+    let mut replies = Vec::new(alloc);
+    for said in COMMANDS {
+        session.refresh();
+        push(
+            rt,
+            &mut replies,
+            session.carry_out(command_of(rt, alloc, *said)),
+        );
+    }
+    (replies, session.close_all())
+}
+
+/// The same in one go.
+fn all_carried_out<S: WorldStorage>(rt: &impl Abort, alloc: Global, storage: S) -> (Vec<Reply>, S) {
+    let mut session = Session::over(Config::default(), storage);
+    let mut commands = Vec::new(alloc);
+    for said in COMMANDS {
+        push(rt, &mut commands, command_of(rt, alloc, *said));
+    }
+    let replies = granted(rt, session.carry_out_all(commands));
+    (replies, session.close_all())
+}
+
+/// What sessions answer to them, one by one over a traced table and in one go over a table.
+fn answers_in_world(rt: &impl Abort, alloc: Global) -> [Vec<Reply>; 2] {
+    let (one_by_one, storage) = carried_out(rt, alloc, traced(rt, alloc, Table::new(alloc), 64));
+    drop_table(storage.into_inner());
+    let (at_once, table) = all_carried_out(rt, alloc, Table::new(alloc));
+    drop_table(table);
+    [one_by_one, at_once]
+}
+
+#[test]
+fn over_a_world_commands_are_answered_as_over_its_table(rt: HostRuntime) {
+    let alloc = rt.alloc();
+    assert_same(
+        &rt,
+        answers_in_world(&rt, alloc),
+        answers_over_both(&rt, alloc),
+    );
 }
 
 /// How many accesses there were after each of those commands, and after the end.
