@@ -72,8 +72,8 @@ pub fn take_next<L: Log>(alloc: Global, world: &mut StoredWorld, log: &mut L, no
     }
 }
 
-/// Takes all entries over, in order, until there is none or one isn't taken over. That one stays unread, and those after
-/// it.
+/// Takes all entries over, in order, until there is none or one isn't taken over. That one stays unread, and those
+/// after it.
 pub fn take_all<L: Log>(
     alloc: Global,
     world: &mut StoredWorld,
