@@ -6,6 +6,10 @@ mod attributes;
 #[cfg(test)]
 mod descriptions;
 #[cfg(test)]
+mod file_headers;
+#[cfg(test)]
+mod file_logs;
+#[cfg(test)]
 mod forms;
 #[cfg(test)]
 mod log_forms;
