@@ -37,7 +37,7 @@ pub fn answer_lines<A: Answerer, R: BufRead, W: Write>(
 
 /// Reads the next line and answers it by one write, which is flushed. It is the line with this number,
 /// counted from 1. Tells how the program ends, if it does.
-fn answer_next<A: Answerer, R: BufRead, W: Write>(
+pub fn answer_next<A: Answerer, R: BufRead, W: Write>(
     number: u64,
     reader: &mut R,
     output: &mut W,
