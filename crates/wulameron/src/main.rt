@@ -1,0 +1,55 @@
+//! The program `wulameron`: commands by line, over a log that processes share.
+#![tactic(auto)]
+
+use clap::Error;
+use clap::error::ErrorKind;
+use negotiate_serve::ending::{Ending, FAULT, Fault, NOT_A_COMMAND};
+use negotiate_serve::report::report;
+use std::process::ExitCode;
+use std::{env, io};
+use wulameron_serve::arguments::arguments;
+use wulameron_serve::run::run;
+
+/// Prints what the words asked for, or what is wrong with them, and gives the status.
+fn print(rt: &HostRuntime, error: &Error) -> u8 {
+    let _ = error.print(rt);
+    match error.kind() {
+        ErrorKind::OutOfMemory => FAULT,
+        _ => error.exit_code() as u8,
+    }
+}
+
+/// The words by which the program was started.
+fn words(rt: &HostRuntime) -> io::Result<Vec<String>> {
+    Ok(env::args(rt)?.collect(rt.alloc())?)
+}
+
+/// Carries out what the words ask for, and gives the status.
+fn carry_out(rt: &HostRuntime, words: &[String]) -> u8 {
+    match arguments(rt.alloc(), words) {
+        Ok(Some(found)) => {
+            let mut output = io::writer(rt);
+            run(rt, &found, rt.reader(), &mut output, &mut rt.stderr())
+        }
+        Ok(None) => {
+            let _ = eprintln!(rt; "usage: wulameron run --at FILE --node NUMBER < LINES");
+            NOT_A_COMMAND
+        }
+        Err(error) => print(rt, &error),
+    }
+}
+
+/// Answers the lines of the standard input on the standard output, over the log that the words name.
+///
+/// Ends with status 0, with 2 at a line that is no command and where the words are wrong, and with 3 where there is a
+/// fault, of which the standard error has a line.
+fn main(rt: HostRuntime) -> ExitCode {
+    match words(&rt) {
+        Ok(words) => ExitCode::from(carry_out(&rt, &words)),
+        Err(error) => {
+            let ended: Result<Ending, Fault> = Err(Fault::of_reading(&error));
+            let _ = report("wulameron", ended, &mut rt.stderr());
+            ExitCode::from(FAULT)
+        }
+    }
+}

@@ -1,0 +1,4 @@
+pub mod CallNodes
+pub mod NodeAnswers
+pub mod ToldLines
+pub mod UntilHalted

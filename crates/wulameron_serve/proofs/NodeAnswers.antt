@@ -1,0 +1,84 @@
+-- What a command makes of the session of a node.
+use Rattle.std.proofs.Common.{◌≡◌, ℕ, Bool, List, Option, Result, Ok, Err, OnOk, refl, sym, ap, subst, ◌∙◌}
+use Rattle.std.specs.declared.alloc.AllocError.{AllocError}
+use Rattle.iceoryx2_access.specs.Letter.{Letter}
+use Rattle.iceoryx2_world.specs.World.{World}
+use Rattle.iceoryx2_world.specs.Across.{Agrees}
+use Rattle.iceoryx2_commands.specs.declared.command.Call.{Call}
+use Rattle.iceoryx2_commands.specs.declared.command.Command.{Command}
+use Rattle.iceoryx2_commands.specs.declared.command.Command.TheVariants as command
+use Rattle.iceoryx2_commands.specs.declared.command.Reply.{Reply}
+use Rattle.iceoryx2_session.specs.Sessions.{SessionOver, shown_session}
+use Rattle.iceoryx2_session.specs.SessionStates.{own_state}
+use Rattle.iceoryx2_session.specs.StandingSlots.{SlotsStandInWorld, IsOfOwn}
+use Rattle.negotiate_serve.specs.declared.ending.Ending.{Ending}
+use Rattle.negotiate_serve.specs.declared.ending.Fault.{Fault}
+use Rattle.negotiate_serve.specs.Replies.{GrowsBy, Tells}
+use Rattle.negotiate_serve.specs.Served.{SaysAnswer, ServesBy}
+use Rattle.negotiate_serve.specs.Transcripts.{Answering}
+use Rattle.negotiate_serve.proofs.Simulated.{transcript_along}
+use Rattle.wulameron_serve.specs.declared.shared.SharedAnswerer.{SharedAnswerer}
+use Rattle.wulameron_serve.specs.declared.trouble.Trouble.{Trouble}
+use Rattle.wulameron_serve.specs.Lines.{AnswersWhileUsable}
+use Rattle.wulameron_serve.specs.Served.{AnswersLinesFor}
+use Rattle.wulameron_serve.specs.Shared.{StandsFor, AnswersFor, fresh_session}
+use Rattle.wulameron_serve.proofs.CallNodes.{caller_named}
+
+module _ {S : Type 0} (world : S → World) (own : S → ℕ → Bool) (node : ℕ) where
+  -- a call in the node's name is one of an own node
+  pub call_of_own : (s : SessionOver S) (call : Call) → StandsFor world own node s → call.node ≡ node → IsOfOwn (own s.table) s.config (command.Call call)
+  call_of_own s call stands is = ap (own s.table) (caller_named s.config call ∙ is) ∙ stands.of_own
+
+  -- what stands after a command, or after what others did was shown
+  pub stands_after : (old new : SessionOver S) → own new.table ≡ own old.table → Agrees (world new.table) → SlotsStandInWorld (own old.table) (shown_session world new)
+      → StandsFor world own node old → StandsFor world own node new
+  stands_after old new nodes agrees stand before = record {
+    agrees = agrees;
+    stand = subst (λ (o : ℕ → Bool). SlotsStandInWorld o (shown_session world new)) (sym nodes) stand;
+    of_own = ap (λ (o : ℕ → Bool). o node) nodes ∙ before.of_own;
+  }
+
+-- ---- texts
+
+-- What a text has grown by is also said otherwise.
+pub grows_as : (P Q : List ℕ → Type 0) → ((said : List ℕ) → P said → Q said) → (done : Result (Unit {0}) AllocError) (old new : List ℕ)
+    → OnOk done (GrowsBy P old new) → OnOk done (GrowsBy Q old new)
+grows_as P Q also (Ok d) old new grows = (grows.0, also grows.0 grows.1, grows.2)
+grows_as P Q also (Err e) old new grows = tt
+
+module _ {M : Type 0} (Answers : Answering M) (m n : M) (line : List ℕ) (c : Command) where
+  pub says_grown : (P : List ℕ → Type 0) → ((said : List ℕ) → P said → Answers m line c said n) → (done : Result (Unit {0}) AllocError) (old new : List ℕ)
+      → OnOk done (GrowsBy P old new) → OnOk done (SaysAnswer Answers m line c old new n)
+  says_grown P answers (Ok d) old new grows = record { said = grows.0; is_said = answers grows.0 grows.1; grown = grows.2 }
+  says_grown P answers (Err e) old new grows = tt
+
+-- ---- an input
+
+module _ {S : Type 0} (step : S → Letter → S → Type 0) (world : S → World) (own : S → ℕ → Bool) (trouble : S → Option Trouble) where
+  -- how the answerer answers
+  abbrev pub AnswersOf : Answering (SharedAnswerer S)
+  AnswersOf = AnswersWhileUsable (λ a. trouble (own_state a.session).table)
+      (λ old line c text new. (new.node ≡ old.node) × AnswersFor step world own old.node (own_state old.session) c text (own_state new.session))
+
+  module _ (node : ℕ) where
+    abbrev Shows : SharedAnswerer S → SessionOver S → Type 0
+    Shows a s = (a.node ≡ node) × (own_state a.session ≡ s)
+
+    along : (a b : SharedAnswerer S) (line : List ℕ) (c : Command) (text : List ℕ) (s : SessionOver S) → AnswersOf a line c text b → Shows a s
+        → (t : SessionOver S) × AnswersLinesFor step world own trouble node s line c text t × Shows b t
+    along a b line c text s by shows = (
+      own_state b.session,
+      subst (λ (r : SessionOver S). AnswersLinesFor step world own trouble node r line c text (own_state b.session)) shows.1
+          (by.0, subst (λ (n : ℕ). AnswersFor step world own n (own_state a.session) c text (own_state b.session)) shows.0 by.1.1),
+      (by.1.0 ∙ shows.0, refl),
+    )
+
+    -- what is said of an input is said of the session alone
+    pub serves_for : (a : SharedAnswerer S) (storage : S) (ended : Result Ending Fault) (input unread : List ℕ) (old new : Option (List ℕ)) → a.node ≡ node
+        → own_state a.session ≡ fresh_session storage → ServesBy AnswersOf a ended input unread old new
+        → ServesBy (AnswersLinesFor step world own trouble node) (fresh_session storage) ended input unread old new
+    serves_for a storage ended input unread old new is fresh by = record {
+      said = by.said;
+      transcript = transcript_along AnswersOf (AnswersLinesFor step world own trouble node) Shows along a (fresh_session storage) input ended by.said unread by.transcript (is, fresh);
+      written = by.written;
+    }

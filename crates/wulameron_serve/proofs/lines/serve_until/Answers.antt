@@ -1,0 +1,15 @@
+use Rattle.std.proofs.Common.{ap, ◌∙◌}
+use Rattle.negotiate_serve.proofs.Answering.{read_ahead, served_nothing}
+use Rattle.wulameron_serve.specs.Lines.{AnswersWhileUsable}
+use Rattle.wulameron_serve.proofs.lines.serve_until.Goals as goal
+
+pub returns-in-Ok-clause-serves : goal.returns-in-Ok-clause-serves
+returns-in-Ok-clause-serves g c = λ bytes known.
+    let made = c.in-Ok.ensures in
+    c.serve_lines.ensures.serves bytes
+    (read_ahead _ _ (g.R.Read.remaining c.in-Ok.reader.inner) bytes made.capacity made.empty (ap g.R.Read.remaining made.inner ∙ known))
+
+pub returns-in-Err-clause-serves : goal.returns-in-Err-clause-serves
+returns-in-Err-clause-serves g c = λ bytes known.
+    served_nothing (AnswersWhileUsable g.A.Troubled.trouble g.A.Answerer.answers) c.args.answerer.now bytes c.of_reading.result c.tell_fault-fault.result
+    (g.W.Write.contents c.args.output.now) (g.W.Write.contents c.tell_fault-fault.new.output) c.of_reading.ensures.of_reading c.tell_fault-fault.ensures

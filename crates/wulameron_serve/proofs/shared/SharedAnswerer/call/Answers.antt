@@ -1,0 +1,32 @@
+use Rattle.std.proofs.Common.{◌≡◌, OnOk, List, ℕ, string_bytes, rules, arith, sym, subst}
+use Rattle.iceoryx2_session.specs.SessionStates.{own_state}
+use Rattle.iceoryx2_commands.specs.declared.command.Command.TheVariants as command
+use Rattle.negotiate_serve.specs.Replies.{GrowsBy, Tells}
+use Rattle.wulameron_serve.specs.Shared.{AnswersFor, of_another, called, not_ours}
+use Rattle.wulameron_serve.proofs.NodeAnswers.{call_of_own, stands_after, grows_as}
+use Rattle.wulameron_serve.proofs.shared.SharedAnswerer.call.Goals as goal
+
+pub returns-then-node-self-clause-said : goal.returns-then-node-self-clause-said
+returns-then-node-self-clause-said g c =
+    let another : c.args.call.node ≡ c.args.self.now.node → ⊥ = λ e. absurd (grind (arith, c.if-node-self.true, e)) in
+    let grows : OnOk c.writeln.result (GrowsBy (λ said. said ≡ not_ours c.args.call.node) (string_bytes c.args.text.now) (string_bytes c.writeln.new.self)) = search rules in
+    grows_as (λ said. said ≡ not_ours c.args.call.node)
+    (λ said. AnswersFor g.S.Storage.step g.S.WorldStorage.world g.S.WorldStorage.own c.args.self.now.node (own_state c.args.self.now.session) (command.Call c.args.call) said (own_state c.args.self.now.session))
+    (λ said is. subst (λ text. AnswersFor g.S.Storage.step g.S.WorldStorage.world g.S.WorldStorage.own c.args.self.now.node (own_state c.args.self.now.session) (command.Call c.args.call) text (own_state c.args.self.now.session)) (sym is) (of_another another))
+    c.writeln.result (string_bytes c.args.text.now) (string_bytes c.writeln.new.self) grows
+
+pub returns-clause-said : goal.returns-clause-said
+returns-clause-said g c =
+    let same : c.args.call.node ≡ c.args.self.now.node = grind (arith, c.if-node-self.false) in
+    grows_as (Tells c.args.call.slot c.carry_out.result)
+    (λ said. AnswersFor g.S.Storage.step g.S.WorldStorage.world g.S.WorldStorage.own c.args.self.now.node (own_state c.args.self.now.session) (command.Call c.args.call) said (own_state c.carry_out.new.self))
+    (λ said tells. called c.carry_out.result same c.carry_out.ensures.own tells)
+    c.describe.result (string_bytes c.args.text.now) (string_bytes c.describe.new.text) c.describe.ensures
+
+pub returns-clause-stands : goal.returns-clause-stands
+returns-clause-stands g c = λ before.
+    let same : c.args.call.node ≡ c.args.self.now.node = grind (arith, c.if-node-self.false) in
+    stands_after g.S.WorldStorage.world g.S.WorldStorage.own c.args.self.now.node (own_state c.args.self.now.session) (own_state c.carry_out.new.self)
+    c.carry_out.ensures.nodes (c.carry_out.ensures.agrees before.agrees)
+    (c.carry_out.ensures.stands before.agrees before.stand (call_of_own g.S.WorldStorage.world g.S.WorldStorage.own c.args.self.now.node (own_state c.args.self.now.session) c.args.call before same))
+    before

@@ -1,0 +1,19 @@
+use Rattle.std.proofs.Common.{string_bytes}
+use Rattle.iceoryx2_session.specs.SessionStates.{own_state}
+use Rattle.iceoryx2_commands.specs.declared.command.Command.TheVariants as command
+use Rattle.negotiate_serve.specs.Replies.{Tells}
+use Rattle.wulameron_serve.specs.Shared.{AnswersFor, closed}
+use Rattle.wulameron_serve.proofs.NodeAnswers.{stands_after, grows_as}
+use Rattle.wulameron_serve.proofs.shared.SharedAnswerer.close.Goals as goal
+
+pub returns-clause-said : goal.returns-clause-said
+returns-clause-said g c =
+    grows_as (Tells c.args.slot c.carry_out.result)
+    (λ said. AnswersFor g.S.Storage.step g.S.WorldStorage.world g.S.WorldStorage.own c.args.self.now.node (own_state c.args.self.now.session) (command.Close c.args.slot) said (own_state c.carry_out.new.self))
+    (λ said tells. closed c.carry_out.result c.carry_out.ensures.own tells)
+    c.describe.result (string_bytes c.args.text.now) (string_bytes c.describe.new.text) c.describe.ensures
+
+pub returns-clause-stands : goal.returns-clause-stands
+returns-clause-stands g c = λ before.
+    stands_after g.S.WorldStorage.world g.S.WorldStorage.own c.args.self.now.node (own_state c.args.self.now.session) (own_state c.carry_out.new.self)
+    c.carry_out.ensures.nodes (c.carry_out.ensures.agrees before.agrees) (c.carry_out.ensures.stands before.agrees before.stand tt) before

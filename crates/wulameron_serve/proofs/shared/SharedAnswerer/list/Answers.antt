@@ -1,0 +1,24 @@
+use Rattle.std.proofs.Common.{string_bytes}
+use Rattle.iceoryx2_session.specs.SessionStates.{own_state}
+use Rattle.iceoryx2_commands.specs.declared.command.Command.TheVariants as command
+use Rattle.negotiate_serve.specs.Replies.{Tells}
+use Rattle.wulameron_serve.specs.Shared.{AnswersFor, listed}
+use Rattle.wulameron_serve.proofs.NodeAnswers.{stands_after, grows_as}
+use Rattle.wulameron_serve.proofs.shared.SharedAnswerer.list.Goals as goal
+
+pub returns-clause-said : goal.returns-clause-said
+returns-clause-said g c =
+    grows_as (Tells 0 c.carry_out.result)
+    (λ said. AnswersFor g.S.Storage.step g.S.WorldStorage.world g.S.WorldStorage.own c.args.self.now.node (own_state c.args.self.now.session) command.List said (own_state c.carry_out.new.self))
+    (λ said tells. listed c.carry_out.result (own_state c.refresh.new.self)
+    (record { slots = c.refresh.ensures.slots; nodes = c.refresh.ensures.nodes; kept = c.refresh.ensures.kept })
+    c.carry_out.ensures.own tells)
+    c.describe.result (string_bytes c.args.text.now) (string_bytes c.describe.new.text) c.describe.ensures
+
+pub returns-clause-stands : goal.returns-clause-stands
+returns-clause-stands g c = λ before.
+    let agrees = (c.refresh.ensures.kept before.agrees).agrees in
+    let shown = stands_after g.S.WorldStorage.world g.S.WorldStorage.own c.args.self.now.node (own_state c.args.self.now.session) (own_state c.refresh.new.self)
+    c.refresh.ensures.nodes agrees (c.refresh.ensures.stands before.agrees before.stand) before in
+    stands_after g.S.WorldStorage.world g.S.WorldStorage.own c.args.self.now.node (own_state c.refresh.new.self) (own_state c.carry_out.new.self)
+    c.carry_out.ensures.nodes (c.carry_out.ensures.agrees agrees) (c.carry_out.ensures.stands agrees shown.stand tt) shown

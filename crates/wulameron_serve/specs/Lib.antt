@@ -1,0 +1,4 @@
+pub mod Lines
+pub mod Served
+pub mod Shared
+pub mod Troubles

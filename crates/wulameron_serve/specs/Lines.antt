@@ -1,0 +1,35 @@
+-- How a program answers lines as long as its log can be used, and how it ends.
+use Rattle.std.specs.Prelude.{◌≡◌, ℕ, Result, Ok, Err, Option, Some, None}
+use Rattle.negotiate_serve.specs.declared.ending.Ending.{Ending}
+use Rattle.negotiate_serve.specs.declared.ending.Fault.{Fault}
+use Rattle.negotiate_serve.specs.declared.ending.Fault.TheVariants as fault
+use Rattle.negotiate_serve.specs.Endings.{status_of}
+use Rattle.negotiate_serve.specs.Transcripts.{Answering}
+use Rattle.wulameron_serve.specs.declared.lines.Halt.{Halt}
+use Rattle.wulameron_serve.specs.declared.lines.Halt.TheVariants as halt
+use Rattle.wulameron_serve.specs.declared.trouble.Trouble.{Trouble}
+use Rattle.wulameron_serve.specs.Troubles.{last_of}
+
+-- A log can be used: nothing went wrong, or not for the last time.
+abbrev pub IsUsable : Option Trouble → Type 0
+IsUsable found = last_of found ≡ None
+
+-- Commands are answered so, and only where the log can still be used.
+abbrev pub AnswersWhileUsable : {M : Type 0} → (trouble : M → Option Trouble) → Answering M → Answering M
+AnswersWhileUsable trouble Answers m line c text n = IsUsable (trouble m) × Answers m line c text n
+
+-- how it ends as far as it is seen at the input and the output: where the log ends it nothing more is said, as where
+-- reading fails
+abbrev pub seen_as : Result Ending Halt → Result Ending Fault
+seen_as (Ok ending) = Ok ending
+seen_as (Err (halt.Serving f)) = Err f
+seen_as (Err (halt.Log t)) = Err fault.Reading
+
+-- A log by which it ends isn't used any more, for this reason.
+abbrev pub IsEndOf : Option Trouble → Result Ending Halt → Type 0
+IsEndOf found (Err (halt.Log t)) = last_of found ≡ Some t
+IsEndOf found _ = Unit {0}
+
+-- 0 at the end of the input, 2 after a line that is no command, 3 after a fault and where the log ends it
+abbrev pub status_with : Result Ending Halt → ℕ
+status_with ended = status_of (seen_as ended)

@@ -1,0 +1,47 @@
+-- What a program answers to an input for its node.
+use Rattle.std.specs.Prelude.{◌≡◌, ℕ, Bool, false, List, [], ◌∷◌, Option, Result}
+use Rattle.iceoryx2_access.specs.Letter.{Letter}
+use Rattle.iceoryx2_world.specs.World.{World, empty_world}
+use Rattle.iceoryx2_world.specs.Across.{Agrees}
+use Rattle.iceoryx2_file_log.specs.declared.error.FileFault.{FileFault}
+use Rattle.iceoryx2_journal.specs.Journal.{JournalState, IsJournalAccess}
+use Rattle.iceoryx2_journal.specs.Taking.{is_own}
+use Rattle.iceoryx2_log.specs.Log.{Contents}
+use Rattle.iceoryx2_session.specs.Sessions.{SessionOver, ClosesSlotsBy}
+use Rattle.negotiate_serve.specs.declared.ending.Ending.{Ending}
+use Rattle.negotiate_serve.specs.Transcripts.{Answering}
+use Rattle.negotiate_serve.specs.Served.{ServesBy}
+use Rattle.wulameron_serve.specs.declared.lines.Halt.{Halt}
+use Rattle.wulameron_serve.specs.Lines.{AnswersWhileUsable, seen_as}
+use Rattle.wulameron_serve.specs.Shared.{AnswersFor, fresh_session}
+use Rattle.wulameron_serve.specs.Troubles.{trouble_of}
+use Rattle.wulameron_serve.specs.declared.trouble.Trouble.{Trouble}
+
+module _ {S : Type 0} (step : S → Letter → S → Type 0) (world : S → World) (own : S → ℕ → Bool)
+    (trouble : S → Option Trouble) (node : ℕ) where
+  -- how lines are answered for the node, as long as the log can be used
+  abbrev pub AnswersLinesFor : Answering (SessionOver S)
+  AnswersLinesFor = AnswersWhileUsable (λ s. trouble s.table)
+      (λ old line c text new. AnswersFor step world own node old c text new)
+
+  -- The writer has taken what is said of an input for the node, from a session on that has done nothing yet, and
+  -- nothing else. Then the factories of a session's slots are closed, and the world agrees.
+  pub record Serves (storage : S) (ended : Result Ending Halt) (left : S) (input : List ℕ)
+      (old new : Option (List ℕ)) : Type 0 where
+    pub unread : List ℕ
+    pub serves : ServesBy AnswersLinesFor (fresh_session storage) (seen_as ended) input unread old new
+    pub last : SessionOver S
+    pub closed : ClosesSlotsBy step last.table last.slots left
+    pub agrees : Agrees (world left)
+
+-- The same over a journal that has this node alone, and has taken nothing over yet.
+pub record ServesLog {L : Type 0} (contents : L → Option Contents) (refused : L → Option FileFault) (log : L)
+    (counter node : ℕ) (ended : Result Ending Halt) (input : List ℕ)
+    (old new : Option (List ℕ)) : Type 0 where
+  pub journal : JournalState L
+  pub begins : journal ≡ record { world = empty_world counter; log = log; nodes = node ∷ []; is_over = false }
+  pub unread : List ℕ
+  pub serves : ServesBy
+      (AnswersLinesFor (IsJournalAccess contents) (λ j. j.world) (λ j. is_own j.nodes)
+      (λ j. trouble_of j.is_over (refused j.log)) node)
+      (fresh_session journal) (seen_as ended) input unread old new

@@ -1,0 +1,65 @@
+-- What goes wrong at a log, and what is told of it.
+use Rattle.std.specs.Prelude.{◌≡◌, ℕ, Bool, true, false, List, ◌++◌, Option, Some, None, Result, Ok, Err}
+use Rattle.std.specs.Prelude.{option_map, codes}
+use Rattle.iceoryx2_file_log.specs.declared.error.FileFault.{FileFault}
+use Rattle.iceoryx2_file_log.specs.declared.error.FileFault.TheVariants as file
+use Rattle.iceoryx2_file_log.specs.Errors.{fault_text}
+use Rattle.negotiate_serve.specs.declared.ending.Fault.{Fault}
+use Rattle.negotiate_serve.specs.declared.ending.Fault.TheVariants as fault
+use Rattle.negotiate_serve.specs.Outputs.{Says}
+use Rattle.wulameron_serve.specs.declared.trouble.Trouble.{Trouble}
+use Rattle.wulameron_serve.specs.declared.trouble.Trouble.TheVariants as trouble
+
+-- what goes wrong at a journal: an entry ended it, or else what its log refused last
+abbrev pub trouble_of : (is_over : Bool) → Option FileFault → Option Trouble
+trouble_of true refused = Some trouble.Over
+trouble_of false refused = option_map trouble.Refused refused
+
+-- a log that is over, is damaged, or may have an entry that nobody knows of isn't used any more
+abbrev pub is_last : Trouble → Bool
+is_last trouble.Over = true
+is_last (trouble.Refused (file.Damaged at)) = true
+is_last (trouble.Refused file.Unsure) = true
+is_last (trouble.Refused other) = false
+
+-- the trouble, where it is the last one
+abbrev pub only_last : Trouble → Bool → Option Trouble
+only_last t true = Some t
+only_last t false = None
+
+abbrev pub last_of : Option Trouble → Option Trouble
+last_of None = None
+last_of (Some t) = only_last t (is_last t)
+
+-- what can be done where a file refused
+abbrev pub advice_of : FileFault → List ℕ
+advice_of file.IsALink = codes "name the file itself"
+advice_of file.IsAFolder = codes "name a file in it"
+advice_of file.NotAFile = codes "name a file"
+advice_of file.NotALog = codes "name another file"
+advice_of (file.AnotherVersion found) = codes "use a program of that version"
+advice_of (file.Damaged at) = codes "begin another log"
+advice_of file.NoPermission = codes "let this user read and write it"
+advice_of file.Busy = codes "try again, or with a longer --wait"
+advice_of file.DiskFull = codes "make room, and try again"
+advice_of file.OutOfMemory = codes "free memory, and try again"
+advice_of file.TooLong = codes "give the service fewer attributes"
+advice_of file.HeldAlready = codes "start the program again"
+advice_of file.NotHeld = codes "start the program again"
+advice_of file.Unread = codes "start the program again"
+advice_of file.Unsure = codes "start the program again"
+advice_of (file.Failed kind) = codes "see whether its disk works"
+
+-- `None` where the text is the system's own name of what it refused
+abbrev pub trouble_text : Trouble → Option (List ℕ)
+trouble_text trouble.Over = Some (codes "has an entry that this program can't follow; start it with a node of its own")
+trouble_text (trouble.Refused f) = option_map (λ text. text ++ codes "; " ++ advice_of f) (fault_text f)
+
+-- the line of a trouble with the log of this path
+abbrev pub trouble_line : (path text : List ℕ) → List ℕ
+trouble_line path text = codes "wulameron: " ++ path ++ codes ": " ++ text ++ codes "\n"
+
+-- The line is written, as far as the writer takes it, or there was no memory for it.
+abbrev pub TellsLine : (line : List ℕ) → Result (Unit {0}) Fault → (old new : Option (List ℕ)) → Type 0
+TellsLine line (Err fault.OutOfMemory) old new = new ≡ old
+TellsLine line result old new = Says line result old new

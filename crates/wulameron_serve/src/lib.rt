@@ -1,0 +1,8 @@
+//! What the program `wulameron` does: each line is answered over a log that processes share.
+#![tactic(auto)]
+
+pub mod arguments;
+pub mod lines;
+pub mod run;
+pub mod shared;
+pub mod trouble;

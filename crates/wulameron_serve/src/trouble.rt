@@ -1,0 +1,231 @@
+//! What goes wrong at a log, and what is told of it.
+
+ghost use Rattle.std.specs.Prelude.{◌≡◌, List, ℕ, Option, Some, Bool, IfOk, string_bytes};
+ghost use Rattle.iceoryx2_file_log.specs.declared.error.FileFault as declared-fault;
+ghost use Rattle.wulameron_serve.specs.declared.trouble.Trouble as declared;
+ghost use Rattle.wulameron_serve.specs.Troubles.{TellsLine, advice_of, is_last, last_of, trouble_line, trouble_of};
+ghost use Rattle.wulameron_serve.specs.Troubles.{trouble_text};
+
+use crate::shared::SharedAnswerer;
+use iceoryx2_file_log::error::FileFault;
+use iceoryx2_file_log::file_log::FileLog;
+use iceoryx2_journal::journal::Journal;
+use iceoryx2_log::log::Log;
+use iceoryx2_session::world_storage::WorldStorage;
+use negotiate_serve::ending::Fault;
+use negotiate_serve::output::say;
+use std::alloc::{AllocError, Global};
+use std::fmt;
+use std::io::Write;
+use std::time::Clock;
+
+/// What goes wrong at a log.
+#[derive(Clone, Copy, Debug, PartialEq, Eq)]
+pub enum Trouble {
+    /// An entry is in the name of this program's node, or isn't what its world answers. Nothing is followed or
+    /// appended any more.
+    Over,
+    /// The log's file refused.
+    Refused(FileFault),
+}
+
+impl Trouble {
+    /// Whether the log isn't used any more.
+    pub fn is_last(self) -> bool
+        ensures { result ≡ is_last self }
+    {
+        match self {
+            Trouble::Over => true,
+            Trouble::Refused(fault) => match fault {
+                FileFault::Damaged { at: _ } => true,
+                FileFault::Unsure => true,
+                _ => false,
+            },
+        }
+    }
+}
+
+/// What can be done where a file refused.
+pub fn advice(fault: FileFault) -> &'static str
+    ensures { result.now ≡ advice_of fault }
+{
+    match fault {
+        FileFault::IsALink => "name the file itself",
+        FileFault::IsAFolder => "name a file in it",
+        FileFault::NotAFile => "name a file",
+        FileFault::NotALog => "name another file",
+        FileFault::AnotherVersion { found: _ } => "use a program of that version",
+        FileFault::Damaged { at: _ } => "begin another log",
+        FileFault::NoPermission => "let this user read and write it",
+        FileFault::Busy => "try again, or with a longer --wait",
+        FileFault::DiskFull => "make room, and try again",
+        FileFault::OutOfMemory => "free memory, and try again",
+        FileFault::TooLong => "give the service fewer attributes",
+        FileFault::HeldAlready => "start the program again",
+        FileFault::NotHeld => "start the program again",
+        FileFault::Unread => "start the program again",
+        FileFault::Unsure => "start the program again",
+        FileFault::Failed { kind: _ } => "see whether its disk works",
+    }
+}
+
+impl fmt::Display for Trouble {
+    ghost use Rattle.wulameron_serve.specs.Troubles.{trouble_text};
+
+    ghost output = { trouble_text };
+
+    fn fmt<W: fmt::Write>(&self, f: &mut fmt::Formatter<W>) -> fmt::Result {
+        match self {
+            Trouble::Over => write!(
+                f,
+                "has an entry that this program can't follow; start it with a node of its own"
+            ),
+            Trouble::Refused(fault) => write!(f, "{fault}; {}", advice(*fault)),
+        }
+    }
+}
+
+/// What goes wrong where this is over, or its log refused last for this reason.
+pub fn trouble_with(is_over: bool, refused: Option<FileFault>) -> Option<Trouble>
+    ensures { result ≡ trouble_of is_over refused }
+{
+    if is_over {
+        return Some(Trouble::Over);
+    }
+    match refused {
+        Some(fault) => Some(Trouble::Refused(fault)),
+        None => None,
+    }
+}
+
+/// What is over a log, at which something may go wrong.
+pub trait Troubled {
+    /// What goes wrong there.
+    ghost trouble: { Self → Option declared.Trouble };
+
+    /// What goes wrong there, or did last.
+    fn trouble(&self) -> Option<Trouble>
+        ensures { result ≡ trouble self.now };
+}
+
+/// A log that keeps why it refused.
+pub trait Refusing: Log {
+    /// Why it refused last.
+    ghost refused: { Self → Option declared-fault.FileFault };
+
+    /// Why it refused last.
+    fn refused(&self) -> Option<FileFault>
+        ensures { result ≡ refused self.now };
+}
+
+impl<R: Clock + AllocGlobal> Refusing for FileLog<R> {
+    ghost refused = { λ log. log.fault };
+
+    fn refused(&self) -> Option<FileFault> {
+        self.fault()
+    }
+}
+
+impl<L: Refusing> Troubled for Journal<L> {
+    ghost trouble = { λ journal. trouble_of journal.is_over (L.refused journal.log) };
+
+    fn trouble(&self) -> Option<Trouble> {
+        trouble_with(self.is_over(), self.log().refused())
+    }
+}
+
+impl<S: WorldStorage + Troubled> Troubled for SharedAnswerer<S> {
+    ghost use Rattle.iceoryx2_session.specs.SessionStates.{own_state};
+
+    ghost trouble = { λ answerer. S.trouble (own_state answerer.session).table };
+
+    fn trouble(&self) -> Option<Trouble> {
+        self.storage().trouble()
+    }
+}
+
+/// Writes the line of a trouble with the log of this path.
+///
+/// `Fault` as `say` does, and where there is no memory for the line.
+pub fn report_trouble<E: Write>(
+    alloc: Global,
+    path: &str,
+    trouble: Trouble,
+    errors: &mut E,
+) -> Result<(), Fault>
+    ensures { (text : List ℕ) → trouble_text trouble ≡ Some text
+        → TellsLine (trouble_line path.now text) result (E.contents errors.old) (E.contents errors.new) }
+{
+    match line_of(alloc, path, trouble) {
+        Ok(line) => say(line.as_bytes(), errors),
+        Err(_) => Err(Fault::OutOfMemory),
+    }
+}
+
+/// The line of what goes wrong with the log of this path.
+fn line_of<D: fmt::Display + Copy>(
+    alloc: Global,
+    path: &str,
+    wrong: D,
+) -> Result<String, AllocError>
+    ensures { (text : List ℕ) → D.output wrong ≡ Some text
+        → IfOk result (λ line. string_bytes line ≡ trouble_line path.now text) }
+{
+    format!(in alloc; "wulameron: {path}: {wrong}\n")
+}
+
+/// What was told of the log of this path.
+#[derive(Drop)]
+pub struct Watch<'a> {
+    alloc: Global,
+    path: &'a str,
+    told: Option<Trouble>,
+}
+
+impl<'a> Watch<'a> {
+    /// Nothing was told.
+    pub fn new(alloc: Global, path: &'a str) -> Watch<'a> {
+        Watch {
+            alloc,
+            path,
+            told: None,
+        }
+    }
+
+    /// Tells what goes wrong, by a line, where it isn't what was told last. Answers it where the log isn't used any
+    /// more. The line is left out where it can't be written.
+    pub fn look<S: Troubled, E: Write>(&mut self, watched: &S, errors: &mut E) -> Option<Trouble>
+        ensures { result ≡ last_of (S.trouble watched.now) }
+    {
+        let trouble = watched.trouble();
+        self.tell(trouble, errors);
+        last_trouble(trouble)
+    }
+
+    fn tell<E: Write>(&mut self, trouble: Option<Trouble>, errors: &mut E)
+        ensures { self.new.told ≡ trouble }
+    {
+        let is_known = trouble == self.told;
+        self.told = trouble;
+        if is_known {
+            return;
+        }
+        if let Some(trouble) = trouble {
+            let _ = report_trouble(self.alloc, self.path, trouble, errors);
+        }
+    }
+}
+
+fn last_trouble(trouble: Option<Trouble>) -> Option<Trouble>
+    ensures { result ≡ last_of trouble }
+{
+    match trouble {
+        Some(trouble) => {
+            if trouble.is_last() {
+                return Some(trouble);
+            }
+            None
+        }
+        None => None,
+    }
+}
