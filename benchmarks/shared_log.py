@@ -78,7 +78,7 @@ def pairs(node, count):
     return [line for _ in range(count) for line in (f"event create {node} 0 measured", "close 0")]
 
 
-def measured(program, log, standing):
+def measured(program, log):
     """The rows of the table: a name, and a number with its unit."""
     started = least(program, log, 900000, ["list"])
     listed = least(program, log, 910000, ["list"] * PAIRS)
@@ -89,7 +89,7 @@ def measured(program, log, standing):
         ("a list more", f"{(listed - started) / (PAIRS - 1) * 1e6:.1f} us"),
         ("a create with its close", f"{pair:.1f} us"),
         (f"the same by each of its {CHANGING + LOOKING} accesses", f"{pair / (CHANGING + LOOKING):.1f} us"),
-        ("the log", f"{os.path.getsize(log)} bytes, {os.path.getsize(log) / max(standing, 1):.0f} a standing service"),
+        ("the log after all runs", f"{os.path.getsize(log)} bytes"),
     ]
 
 
@@ -109,7 +109,7 @@ def main():
         alone.let_go()
         for node, first in enumerate(range(0, len(names), SLOTS), start=2):
             holders.append(Holder(asked.program, log, node, names[first : first + SLOTS]))
-        rows = measured(asked.program, log, len(names))
+        rows = measured(asked.program, log)
         large = max(holder.resident() for holder in holders)
         rows.append(("memory of a process", f"{small} bytes with none, {large} with {len(names)} standing"))
         print(f"{len(names)} services stand, held by {len(holders)} processes")
