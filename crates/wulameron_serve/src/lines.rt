@@ -99,9 +99,9 @@ fn answer_lines<A: Answerer + Troubled, R: BufRead, W: Write, E: Write>(
 ) -> Result<Ending, Halt>
     requires stands { A.stands answerer.old }
     requires usable { IsUsable (A.trouble answerer.old) }
-    ensures said { (input : List ℕ) → R.remaining reader.old ≡ Some input → AnswersAll (AnswersWhileUsable A.trouble A.answers)
-        answerer.old (seen_as result) input (R.remaining reader.new)
-        (W.contents output.old) (W.contents output.new) }
+    ensures said { (input : List ℕ) → R.remaining reader.old ≡ Some input
+        → AnswersAll (AnswersWhileUsable A.trouble A.answers) answerer.old (seen_as result) input
+        (R.remaining reader.new) (W.contents output.old) (W.contents output.new) }
     ensures stands { A.stands answerer.new }
     ensures log { IsEndOf (A.trouble answerer.new) result }
 {
