@@ -1,5 +1,5 @@
 -- A log in memory.
-use Rattle.std.specs.Prelude.{◌≡◌, ℕ, Bool, true, false, ◌&&◌, List, [], ◌∷◌, ◌++◌, nat_eq, not}
+use Rattle.std.specs.Prelude.{◌≡◌, ℕ, Bool, true, false, ◌&&◌, List, [], ◌∷◌, ◌++◌, nat_eq, nat_lt, not}
 use Rattle.std.specs.Prelude.{Result, Ok, Err}
 use Rattle.std.specs.List.{list_any}
 use Rattle.iceoryx2_access.specs.Counts.{one_more}
@@ -21,6 +21,8 @@ pub record LogState : Type 0 where
   -- how often was asked to append, and which of these are refused, counted from 1
   pub appends : ℕ
   pub refused : List ℕ
+  -- how many pauses each wait has
+  pub pauses : ℕ
 
 -- The number is one of these.
 abbrev pub is_listed : ℕ → List ℕ → Bool
@@ -76,3 +78,10 @@ AppendsOne old e (Err OutOfMemory) new = (may_append old ≡ true) × (new ≡ a
 AppendsOne old e (Err Failed) new = (may_append old ≡ false) × (new ≡ append_counted old)
 AppendsOne old e (Err Busy) new = ⊥
 AppendsOne old e (Err Damaged) new = ⊥
+
+-- ---- pause
+
+-- Whether there is a pause of this number, and what it leaves.
+abbrev pub Pauses : LogState → ℕ → Bool → LogState → Type 0
+Pauses old number true new = (nat_lt number old.pauses ≡ true) × (new ≡ record old { held = false })
+Pauses old number false new = (nat_lt number old.pauses ≡ false) × (new ≡ old)

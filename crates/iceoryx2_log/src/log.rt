@@ -57,8 +57,8 @@ impl<T: Drop> From<AllocFailed<T>> for LogError {
 }
 
 /// A log of entries that processes share, by one of its handles. A handle takes the entries of all others over in
-/// order, one at a time by `next` and `accept`, and appends its own behind them. Between `hold` and `let_go` no other
-/// handle appends.
+/// order, one at a time by `next` and `accept`, and appends its own behind them. Between `hold` and `let_go`, or a
+/// `pause` that lets go of it, no other handle appends.
 pub trait Log {
     /// What this handle has taken over or appended, in order, and what stands behind that, where it is known.
     ghost contents: { Self → Option Contents };
@@ -86,5 +86,10 @@ pub trait Log {
 
     /// Lets go of the log.
     fn let_go(&mut self)
+        ensures { contents self.new ≡ contents self.old };
+
+    /// Lets go of the log and waits for a short time, so that others may append. The pauses of one wait are numbered
+    /// from 0. False where the wait is over, and then the log stays as it was, held or not.
+    fn pause(&mut self, number: u64) -> bool
         ensures { contents self.new ≡ contents self.old };
 }

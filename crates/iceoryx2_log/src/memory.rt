@@ -80,6 +80,8 @@ pub struct MemoryLog {
     busy: Vec<u64>,
     appends: u64,
     refused: Vec<u64>,
+    // how many pauses each wait has
+    pauses: u64,
 }
 
 // Written out, so that a proof of what lets one go doesn't take its fields apart.
@@ -96,6 +98,7 @@ impl Drop for MemoryLog {
             busy: _,
             appends: _,
             refused: _,
+            pauses: _,
         } = self;
     }
 }
@@ -115,13 +118,15 @@ impl Model for MemoryLog {
       busy = l.busy.items;
       appends = l.appends;
       refused = l.refused.items;
+      pauses = l.pauses;
     } };
 
     ghost invariant = { λ l. (l.taken ≤ length l.entries.items) × (l.came ≤ length l.batches.items) };
 }
 
 impl MemoryLog {
-    /// A handle of a log in which these entries stand, of which it has taken so many. Nothing is refused.
+    /// A handle of a log in which these entries stand, of which it has taken so many. Nothing is refused, and no wait
+    /// has a pause.
     pub fn from_entries(alloc: Global, entries: Vec<Entry>, taken: usize) -> MemoryLog
         requires { taken ≤ length entries.items }
         ensures { result ≡ record {
@@ -133,6 +138,7 @@ impl MemoryLog {
           busy = [];
           appends = 0;
           refused = [];
+          pauses = 0;
         } }
     {
         MemoryLog {
@@ -146,6 +152,7 @@ impl MemoryLog {
             busy: Vec::new(alloc),
             appends: 0,
             refused: Vec::new(alloc),
+            pauses: 0,
         }
     }
 
@@ -164,6 +171,7 @@ impl MemoryLog {
             busy: _,
             appends: _,
             refused: _,
+            pauses: _,
         } = self;
         entries
     }
@@ -189,6 +197,13 @@ impl MemoryLog {
         ensures { self.new ≡ record self.old { refused = refused.items } }
     {
         self.refused = refused;
+    }
+
+    /// From now on each wait has so many pauses. None takes any time.
+    pub fn set_pauses(&mut self, pauses: u64)
+        ensures { self.new ≡ record self.old { pauses = pauses } }
+    {
+        self.pauses = pauses;
     }
 
     /// All that stands, in order.
@@ -257,7 +272,7 @@ impl MemoryLog {
 
 impl Log for MemoryLog {
     ghost use Rattle.std.specs.Prelude.{Some};
-    ghost use Rattle.iceoryx2_log.specs.Memory.{Holds, AppendsOne};
+    ghost use Rattle.iceoryx2_log.specs.Memory.{Holds, AppendsOne, Pauses};
 
     ghost contents = { λ s. Some s.contents };
 
@@ -328,5 +343,15 @@ impl Log for MemoryLog {
         ensures { self.new ≡ record self.old { held = false } }
     {
         self.held = false;
+    }
+
+    fn pause(&mut self, number: u64) -> bool
+        ensures { Pauses self.old number result self.new }
+    {
+        if number < self.pauses {
+            self.held = false;
+            return true;
+        }
+        false
     }
 }
