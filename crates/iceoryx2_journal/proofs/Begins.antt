@@ -10,7 +10,7 @@ use Rattle.iceoryx2_journal.specs.declared.taking.Stop.TheVariants as stop
 use Rattle.iceoryx2_journal.specs.Taking.{ends, IsAllTaken, TakesOver, Stops, unread, TakesSome}
 use Rattle.iceoryx2_journal.specs.Logged.{IsLoggedPart}
 use Rattle.iceoryx2_journal.specs.Journal.{JournalState, is_mine, TakesAll, Fails, barred, stopped, Begins, IsJournalAccess, fails, acts}
-use Rattle.iceoryx2_journal.proofs.Takes.{takes_not, takes_both}
+use Rattle.iceoryx2_journal.proofs.Takes.{takes_not, takes_both, over_both}
 
 pub held_not : {nodes : List ℕ} {w : World} {c d : Option Contents} → d ≡ c → TakesSome nodes stop.Later w w c d
 held_not {nodes} {w} {c} {d} same = record { between = w; takes = takes_not nodes w c d same; stops = unread refl refl }
@@ -66,3 +66,32 @@ module _ {L : Type 0} {contents : L → Option Contents} {old mid : JournalState
   acted {j} {new} view false is f part nodes over = absurd (cc)
   acted {j} {new} view true is f part nodes over =
       acts j f.0 (subst (λ m. TakesAll contents old m) (sym view) f.1) part nodes over
+
+-- All was taken over, and then more may be.
+module _ {L : Type 0} {contents : L → Option Contents} {old mid new : JournalState L} where
+  -- the log has what it had
+  pub still_all : new ≡ record mid { log = new.log } → contents new.log ≡ contents mid.log → TakesAll contents old mid → TakesAll contents old new
+  still_all same kept t = subst (λ j. TakesAll contents old j) (sym same) (record {
+    takes = subst (λ c. TakesOver old.nodes old.world mid.world (contents old.log) c) (sym kept) t.takes;
+    all = subst IsAllTaken (sym kept) t.all;
+    nodes = t.nodes;
+    was_not_over = t.was_not_over;
+    is_not_over = t.is_not_over;
+  })
+
+  pub all_both : TakesAll contents old mid → TakesAll contents mid new → TakesAll contents old new
+  all_both s t = record {
+    takes = over_both s.takes (listed_over s.nodes t.takes);
+    all = t.all;
+    nodes = t.nodes ∙ s.nodes;
+    was_not_over = s.was_not_over;
+    is_not_over = t.is_not_over;
+  }
+
+  pub fails_later : {mine : Bool} → (mine ≡ true) × TakesAll contents old mid → Fails contents mine mid new → Fails contents mine old new
+  fails_later {mine} s (barred isnt same) = let may = may_begin mine mid.is_over s.0 s.1.is_not_over in absurd (cc)
+  fails_later {mine} s (stopped w stop holds t stops kept over) =
+      stopped w stop (may_begin mine old.is_over s.0 s.1.was_not_over)
+      (over_both s.1.takes (listed_over s.1.nodes t))
+      (subst (λ ns. Stops ns (contents new.log) w stop new.world) s.1.nodes stops)
+      (kept ∙ s.1.nodes) over

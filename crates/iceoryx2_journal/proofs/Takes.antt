@@ -2,7 +2,7 @@
 use Rattle.std.proofs.Common.{◌≡◌, ℕ, Bool, false, List, [], ◌∷◌, ◌++◌, Option, sym, ap, subst, ◌∙◌}
 use Rattle.iceoryx2_access.specs.Letter.{Letter, caller_of}
 use Rattle.iceoryx2_access.specs.Run.{Run, done, next, Each}
-use Rattle.iceoryx2_access.proofs.Run.{one, both}
+use Rattle.iceoryx2_access.proofs.Run.{one, both, each_append}
 use Rattle.iceoryx2_world.specs.World.{World}
 use Rattle.iceoryx2_world.specs.Access.{IsOwnPart}
 use Rattle.iceoryx2_world.specs.Interference.{Others, nobody, node_acts}
@@ -32,6 +32,14 @@ takes_both {c} {d} {f} g x = record {
   of_others = x.of_others;
   followed = x.followed;
   taken = then_taken [] x.entries c d f (grown c d g) x.taken;
+}
+
+pub over_both : {nodes : List ℕ} {u w v : World} {c d f : Option Contents} → TakesOver nodes u w c d → TakesOver nodes w v d f → TakesOver nodes u v c f
+over_both {nodes} {c} {d} {f} x y = record {
+  entries = x.entries ++ y.entries;
+  of_others = each_append (λ e. is_own nodes e.node ≡ false) x.entries y.entries x.of_others y.of_others;
+  followed = both x.followed y.followed;
+  taken = then_taken x.entries y.entries c d f x.taken y.taken;
 }
 
 pub nothing_more : {nodes : List ℕ} {u w v : World} {c d f : Option Contents} → TakesOver nodes u w c d → v ≡ w → f ≡ d → IsAllTaken f → TakesOver nodes u v c f × IsAllTaken f

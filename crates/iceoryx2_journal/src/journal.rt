@@ -11,7 +11,8 @@ mod accesses;
 
 use crate::pen::Pen;
 use crate::taking::{has, take_all};
-use iceoryx2_access::storage::{Service, Sha1Hasher};
+use iceoryx2_access::storage::{Existence, Service, Sha1Hasher};
+use iceoryx2_description::description::ServiceHash;
 use iceoryx2_log::log::Log;
 use iceoryx2_table::table::stored::StoredWorld;
 use iceoryx2_world::listing;
@@ -20,6 +21,9 @@ use std::marker::{Model, PhantomData};
 
 /// A storage that processes share: a log, and the world that this process makes of it. Before each access it takes
 /// over what others appended. An access that is granted and changes something is appended before it changes it.
+///
+/// `exists`, `fetch` and `lock` wait while a node has the service's lock, as long as the log pauses. They take over
+/// what others append meanwhile, and answer by that.
 ///
 /// Its accesses are in the names of its own nodes. Where an entry of another is in an own node's name, or isn't what
 /// the world answers, the journal is over: each access from then on is its general fault.
@@ -137,6 +141,43 @@ impl<L: Log> Journal<L> {
     {
         let mine = self.has_node(node);
         self.begin(mine)
+    }
+
+    // Lets go of the log for a while where a node has the service's lock and the log pauses. The log stays held else.
+    fn has_paused(&mut self, hash: &ServiceHash, number: u64) -> bool
+        ensures log { L.contents self.new.log ≡ L.contents self.old.log }
+        ensures same { self.new ≡ record self.old { log = self.new.log } }
+    {
+        match self.world.exists(hash) {
+            Existence::BeingSetUp => self.pen.log.pause(number),
+            _ => false,
+        }
+    }
+
+    // Begins an access that looks for a service. While a node has its lock, others have time to append.
+    fn begin_look(&mut self, mine: bool, hash: &ServiceHash) -> bool
+        ensures { Begins L.contents mine result self.old self.new }
+    {
+        if !self.begin(mine) {
+            return false;
+        }
+        for number in 0..u64::MAX {
+            if !self.has_paused(hash, number) {
+                return true;
+            }
+            if !self.begin(mine) {
+                return false;
+            }
+        }
+        true
+    }
+
+    // Begins a look of this node.
+    fn begin_look_as(&mut self, node: u64, hash: &ServiceHash) -> bool
+        ensures { Begins L.contents (is_own self.old.nodes node) result self.old self.new }
+    {
+        let mine = self.has_node(node);
+        self.begin_look(mine, hash)
     }
 }
 

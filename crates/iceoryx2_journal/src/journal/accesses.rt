@@ -15,7 +15,7 @@ impl<L: Log> Storage for Journal<L> {
     ghost step = { λ old letter new. IsJournalAccess L.contents old letter new };
 
     fn exists(&mut self, hash: &ServiceHash) -> Existence {
-        if !self.begin(true) {
+        if !self.begin_look(true, hash) {
             return Existence::Fault;
         }
         self.pen.log.let_go();
@@ -23,7 +23,7 @@ impl<L: Log> Storage for Journal<L> {
     }
 
     fn fetch(&mut self, node: u64, hash: &ServiceHash) -> Result<(u64, Vec<u8>), FetchError> {
-        if !self.begin_as(node) {
+        if !self.begin_look_as(node, hash) {
             return Err(FetchError::OpenFault);
         }
         self.pen.log.let_go();
@@ -53,7 +53,7 @@ impl<L: Log> Storage for Journal<L> {
     }
 
     fn lock(&mut self, node: u64, hash: &ServiceHash) -> Result<u64, LockError> {
-        if !self.begin_as(node) {
+        if !self.begin_look_as(node, hash) {
             return Err(LockError::Other);
         }
         parts::lock(&mut self.world, &mut self.pen, node, hash)

@@ -2,8 +2,8 @@ use Rattle.std.proofs.Common.{refl}
 use Rattle.iceoryx2_journal.proofs.Begins.{fell, acted}
 use Rattle.iceoryx2_journal.proofs.journal.accesses.JournalStorage.lock.Goals as goal
 
-pub returns-then-not-begin_as : goal.returns-then-not-begin_as
-returns-then-not-begin_as g c = fell c.begin_as.result c.if-not-begin_as.true refl c.begin_as.ensures
+pub returns-then-not-begin_look_as : goal.returns-then-not-begin_look_as
+returns-then-not-begin_look_as g c = fell c.begin_look_as.result c.if-not-begin_look_as.true refl c.begin_look_as.ensures
 
 pub returns : goal.returns
-returns g c = acted c.self.view_is c.begin_as.result c.if-not-begin_as.false c.begin_as.ensures c.lock.ensures refl refl
+returns g c = acted c.self.view_is c.begin_look_as.result c.if-not-begin_look_as.false c.begin_look_as.ensures c.lock.ensures refl refl
