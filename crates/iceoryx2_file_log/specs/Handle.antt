@@ -1,5 +1,5 @@
 -- What the calls of a handle leave of where it stands.
-use Rattle.std.specs.Prelude.{ℕ, ◌≡◌, ◌≤◌, ◌⊎◌, List, ◌++◌, length, Option, Some, None, string_bytes}
+use Rattle.std.specs.Prelude.{ℕ, ◌≡◌, ◌≤◌, ◌⊎◌, Bool, true, false, List, ◌++◌, length, Option, Some, None, string_bytes}
 use Rattle.iceoryx2_log.specs.declared.entry.Entry.{Entry}
 use Rattle.iceoryx2_log.specs.declared.log.LogError.{LogError}
 use Rattle.iceoryx2_log.specs.Form.{IsForm, Begins}
@@ -13,7 +13,7 @@ use Rattle.iceoryx2_file_log.specs.declared.remainder.Front.{Front}
 use Rattle.iceoryx2_file_log.specs.declared.remainder.Front.TheVariants.{Whole, Unfinished, Torn, Damaged}
 use Rattle.iceoryx2_file_log.specs.Errors.{log_error_of}
 use Rattle.iceoryx2_file_log.specs.Remainder.{IsTorn}
-use Rattle.iceoryx2_file_log.specs.Place.{Place, left, held, appended, state_after}
+use Rattle.iceoryx2_file_log.specs.Place.{Place, left, held, appended, let_go_of, state_after}
 
 -- What a handle is seen as.
 pub record HandleFacts : Type 0 where
@@ -64,6 +64,11 @@ pub record Appends (e : Entry) (old new : Place) : Type 0 where
   pub was_held : old.state ≡ Held
   pub all_read : old.file_length ≡ old.position
   pub is : new ≡ appended (length form) old
+
+-- It was let go of for a pause, or nothing changed.
+abbrev pub Pauses : Bool → HandleFacts → HandleFacts → Type 0
+Pauses true old new = new ≡ record old { cursor = let_go_of old.cursor }
+Pauses false old new = new ≡ old
 
 -- ---- what its parts leave
 

@@ -14,7 +14,7 @@ ghost use Rattle.iceoryx2_file_log.specs.Remainder.{IsTorn};
 ghost use Rattle.iceoryx2_file_log.specs.Place.{start, left, held, accepted, cut, appended, let_go_of, state_after};
 ghost use Rattle.iceoryx2_file_log.specs.Place.{why_not_free, why_not_held};
 ghost use Rattle.iceoryx2_file_log.specs.Handle.{IsRefused, Holds, Shows, SparesEntries, Appends};
-ghost use Rattle.iceoryx2_file_log.specs.Handle.{ReadsOn, IsFront, IsErrorOf};
+ghost use Rattle.iceoryx2_file_log.specs.Handle.{ReadsOn, IsFront, IsErrorOf, Pauses};
 
 use crate::cursor::{Cursor, State};
 use crate::error::{FileFault, FileLogError, log_error, system_fault};
@@ -38,7 +38,7 @@ use std::time::{Clock, Duration, Instant};
 /// How many bytes are read at once.
 const PIECE_LENGTH: usize = 8192;
 
-/// By how much each pause between two tries to hold the log is longer than the one before.
+/// By how much each pause is longer than the one before, between two tries to hold the log and in a wait.
 const PAUSE_GROWTH_MICROS: u64 = 20;
 
 /// The longest of these pauses.
@@ -54,6 +54,8 @@ pub struct FileLog<R> {
     cursor: Cursor,
     /// Why the log refused the last call that it refused.
     fault: Option<FileFault>,
+    /// When the last wait began.
+    wait_start: Option<Instant>,
 }
 
 impl<R> Model for FileLog<R> {
@@ -81,11 +83,20 @@ impl<R: Drop> Drop for FileLog<R> {
             header: _,
             cursor: _,
             fault: _,
+            wait_start: _,
         } = self;
     }
 }
 
 // ---- the file
+
+/// How long the pause of this number takes, from 0 on.
+fn pause_after(round: u64) -> Duration {
+    let micros = round
+        .saturating_mul(PAUSE_GROWTH_MICROS)
+        .min(LONGEST_PAUSE_MICROS);
+    Duration::from_micros(micros)
+}
 
 /// Tries to lock the file until it is locked or the patience is over, with pauses that grow.
 fn lock(clock: &impl Clock, file: &File, patience: Duration) -> Result<(), FileFault> {
@@ -107,10 +118,7 @@ fn lock(clock: &impl Clock, file: &File, patience: Duration) -> Result<(), FileF
                 }
             }
         }
-        let pause = round
-            .saturating_mul(PAUSE_GROWTH_MICROS)
-            .min(LONGEST_PAUSE_MICROS);
-        thread::sleep(clock, Duration::from_micros(pause));
+        thread::sleep(clock, pause_after(round));
     }
     Err(FileFault::Busy)
 }
@@ -273,6 +281,7 @@ impl<R: Files<File = File> + Clock + RandomSource + AllocGlobal + Drop> FileLog<
                 header,
                 cursor: Cursor::new(alloc, HEADER_LENGTH as u64),
                 fault: None,
+                wait_start: None,
             }),
             Err(fault) => Err(FileLogError::new(path, fault)),
         }
@@ -357,6 +366,22 @@ impl<R: Clock> FileLog<R> {
                 let _ = self.file.unlock();
                 Err(why)
             }
+        }
+    }
+
+    /// Whether a wait goes on with the pause of this number. With the number 0 it begins.
+    fn waits(&mut self, number: u64) -> bool
+        ensures { self.new ≡ self.old }
+    {
+        if number == 0 {
+            self.wait_start = Instant::now(&self.rt).ok();
+        }
+        let Some(start) = self.wait_start else {
+            return false;
+        };
+        match start.elapsed(&self.rt) {
+            Ok(elapsed) => elapsed < self.options.creation_timeout,
+            Err(_) => false,
         }
     }
 }
@@ -468,5 +493,17 @@ impl<R: Clock + AllocGlobal> Log for FileLog<R> {
     {
         let _ = self.file.unlock();
         self.cursor.let_go();
+    }
+
+    /// False where the wait has taken the time that the options allow, and where the clock refuses.
+    fn pause(&mut self, number: u64) -> bool
+        ensures { Pauses result self.old self.new }
+    {
+        if !self.waits(number) {
+            return false;
+        }
+        self.let_go();
+        thread::sleep(&self.rt, pause_after(number));
+        true
     }
 }

@@ -33,6 +33,8 @@ impl Sharing {
 pub struct FileLogOptions {
     /// How long `hold` tries while others hold the log.
     pub patience: Duration,
+    /// How long a look for a service waits in all while a node is creating it. No pause begins after that.
+    pub creation_timeout: Duration,
     /// Whether what is appended is synchronized, and the name of a file that is made, so that they survive a power
     /// loss.
     pub synchronizes: bool,
@@ -41,14 +43,16 @@ pub struct FileLogOptions {
 }
 
 impl FileLogOptions {
-    /// Half a second, not synchronized, for this user alone.
+    /// Half a second for each, not synchronized, for this user alone.
     pub fn new() -> FileLogOptions
         ensures patience { as_nanos result.patience ≡ 500000000 }
+        ensures creation_timeout { as_nanos result.creation_timeout ≡ 500000000 }
         ensures synchronizes { result.synchronizes ≡ false }
         ensures sharing { result.sharing ≡ sharing.User }
     {
         FileLogOptions {
             patience: Duration::from_millis(500),
+            creation_timeout: Duration::from_millis(500),
             synchronizes: false,
             sharing: Sharing::User,
         }
