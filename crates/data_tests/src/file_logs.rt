@@ -51,6 +51,7 @@ fn holds(rt: &HostRuntime, path: &str, parts: &[&[u8]]) -> Option<bool> {
 fn open<'a>(rt: &'a HostRuntime, path: &str, sharing: Sharing) -> Result<Handle<'a>, FileLogError> {
     let options = FileLogOptions {
         patience: Duration::from_millis(0),
+        creation_timeout: Duration::from_millis(0),
         synchronizes: true,
         sharing,
     };
