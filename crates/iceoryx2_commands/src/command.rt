@@ -88,8 +88,10 @@ pub enum Reply {
     Opened { slot: usize, number: u64 },
     /// The builder call was refused, and the slot is as free as before.
     Refused(Refusal),
-    /// The slot's factory is closed.
+    /// The slot's factory is closed, and the slot is free.
     Closed { slot: usize },
+    /// The storage didn't release the slot's factory, and the slot holds it as before.
+    NotClosed { slot: usize },
     /// Another factory is in the slot, and nothing was called.
     SlotInUse,
     /// There is no factory in the slot.
