@@ -12,11 +12,11 @@ use Rattle.iceoryx2_commands.specs.declared.command.Reply.{Reply}
 use Rattle.iceoryx2_session.specs.Sessions.{SessionOver, SessionState, Goes, GoesBy, GoesInWorld}
 use Rattle.iceoryx2_session.specs.Sessions as goes
 use Rattle.iceoryx2_session.specs.CommandLists.{CarriesOut, none, first}
-use Rattle.iceoryx2_session.specs.StandingSlots.{GoesStanding, SlotsStand, OwnsTickets, IsOfOwn, GoesStandingInWorld, SlotsStandInWorld}
+use Rattle.iceoryx2_session.specs.StandingSlots.{GoesStanding, SlotsStand, OwnsTickets, IsOfOwn, GoesStandingInWorld, SlotsStandInWorld, OwnsTicketsInWorld}
 use Rattle.iceoryx2_session.specs.QuietSessions.{IsQuiet, IsMoved, QuietState, MovesTogether, AreMoved, TellsNoChange, IsUnchanged}
 use Rattle.iceoryx2_session.proofs.StandingSlots.{goes_standing, agree_in_world, standing_in_world}
 use Rattle.iceoryx2_session.proofs.QuietSessions.{moved, itself, unchanged_by}
-use Rattle.iceoryx2_session.proofs.OwnedTickets.{table_owns}
+use Rattle.iceoryx2_session.proofs.OwnedTickets.{table_owns, owns_in_world}
 
 -- one more command after those
 pub one_more : {S C A : Type 0} {step : S → C → A → S → Type 0} {u v w : S} {commands : List C} {replies : List A} {c : C} {a : A}
@@ -50,12 +50,19 @@ config_stays (goes.refused free is) = refl
 config_stays (goes.close_past le) = refl
 config_stays (goes.close_empty free) = refl
 config_stays (goes.closed f at is) = refl
+config_stays (goes.not_closed f at is) = refl
 config_stays (goes.listed lists) = refl
 config_stays goes.not_listed = refl
 
 pub all_agree_in_world : {own : ℕ → Bool} {s n : SessionOver World} {commands : List Command} {replies : List Reply} → CarriesOut (GoesInWorld own) s commands replies n
     → Agrees s.table → Agrees n.table
 all_agree_in_world {own = own} goes agrees = (carried_where {also = GoesInWorld own} (λ u. Agrees u.table) (λ s n c a one p. (one, agree_in_world one p)) goes agrees).1
+
+pub all_own_in_world : {own : ℕ → Bool} {s n : SessionOver World} {commands : List Command} {replies : List Reply} → CarriesOut (GoesInWorld own) s commands replies n
+    → Agrees s.table → OwnsTicketsInWorld own s → OwnsTicketsInWorld own n
+all_own_in_world {own = own} goes agrees owned =
+    (carried_where {also = GoesInWorld own} (λ u. Agrees u.table × OwnsTicketsInWorld own u)
+    (λ s n c a one p. (one, (agree_in_world one p.0, owns_in_world one p.0 p.1))) goes (agrees, owned)).1.1
 
 -- the slots stand in a world that agrees, and the nodes are configured so
 abbrev StandsConfigured : (own : ℕ → Bool) → Config → SessionOver World → Type 0
@@ -80,13 +87,13 @@ all_stand goes agrees old = carried_where (λ (u : SessionState). Agrees u.table
 pub all_own : {s n : SessionState} {commands : List Command} {replies : List Reply} → CarriesOut GoesStanding s commands replies n
     → Agrees s.table.world → SlotsStand s → OwnsTickets s → OwnsTickets n
 all_own none agrees old owned = owned
-all_own (first one rest) agrees old owned = all_own rest one.0.1 one.0.2 (table_owns one.0.0 agrees old owned)
+all_own (first one rest) agrees old owned = all_own rest one.0.1 one.0.2 (table_owns one.0.0 agrees owned)
 
 -- ---- over a table that nobody else uses
 
-together : (q : Quiet) (s n : SessionState) (c : Command) (a : Reply) → IsQuiet s q → Goes s c a n → (m : IsMoved s q c a n)
+together : (q : Quiet) (s n : SessionState) (c : Command) (a : Reply) → IsQuiet s q → SlotsStand s → Goes s c a n → (m : IsMoved s q c a n)
     → MovesTogether (record { session = s; machine = q }) c a (record { session = n; machine = m.state })
-together q s n c a quiet one m = record { goes = one; moves = m.moves; quiet = m.quiet; unchanged = λ still. unchanged_by q quiet one still }
+together q s n c a quiet old one m = record { goes = one; moves = m.moves; quiet = m.quiet; unchanged = λ still. unchanged_by q quiet old one still }
 
 pub all_moved : (q : Quiet) {s n : SessionState} {commands : List Command} {replies : List Reply} → IsQuiet s q → SlotsStand s
     → CarriesOut Goes s commands replies n → AreMoved s q commands replies n
@@ -98,7 +105,7 @@ all_moved q {n = n} quiet old (first {old = s} {mid = m} {c = c} {a = a} one res
     let mid : QuietState = record { session = m; machine = now.state } in
     record {
       state = after.state;
-      moves = first {mid = mid} (together q s m c a quiet one now) after.moves;
+      moves = first {mid = mid} (together q s m c a quiet old one now) after.moves;
       quiet = after.quiet;
       tags = after.tags;
       configured = after.configured ∙ now.configured;
@@ -120,5 +127,5 @@ pub all_unchanged : (q : Quiet) {s n : SessionState} {commands : List Command} {
 all_unchanged q quiet old (none {s = s}) still = itself s
 all_unchanged q {n = n} quiet old (first {old = s} {mid = m} one rest) still =
     let now = moved q quiet old one in
-    then_unchanged s m n (unchanged_by q quiet one still.0)
+    then_unchanged s m n (unchanged_by q quiet old one still.0)
     (all_unchanged now.state now.quiet (goes_standing one quiet.agrees old).0.2 rest still.1)

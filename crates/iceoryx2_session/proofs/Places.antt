@@ -17,6 +17,12 @@ set_same [] k v e = absurd cc
 set_same (x ∷ xs) zero v e = let is : x ≡ v = cc in ap (λ u. u ∷ xs) (sym is)
 set_same {X} (x ∷ xs) (suc k) v e = ap (λ (l : List X). x ∷ l) (set_same xs k v e)
 
+-- what was there is put where something else was set
+pub set_again : {X : Type 0} (xs : List X) (k : ℕ) (u v : X) → slice_get xs k ≡ Some v → slice_set (slice_set xs k u) k v ≡ xs
+set_again [] k u v e = absurd cc
+set_again (x ∷ xs) zero u v e = let is : x ≡ v = cc in ap (λ y. y ∷ xs) (sym is)
+set_again {X} (x ∷ xs) (suc k) u v e = ap (λ (l : List X). x ∷ l) (set_again xs k u v e)
+
 -- the fact of one value of a test
 pub when_true : {P : Type 0} (Q : Type 0) (b : Bool) → MatchBool b P Q → b ≡ true → P
 when_true Q true h e = h

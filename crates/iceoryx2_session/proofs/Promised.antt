@@ -81,5 +81,6 @@ module _ (own : ℕ → Bool) {S : Type 0} (step : S → Letter → S → Type 0
   calls_as_promised (goes.close_past le) = tt
   calls_as_promised (goes.close_empty free) = tt
   calls_as_promised (goes.closed f at is) = tt
+  calls_as_promised (goes.not_closed f at is) = tt
   calls_as_promised (goes.listed lists) = tt
   calls_as_promised goes.not_listed = tt

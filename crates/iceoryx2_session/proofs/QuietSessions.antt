@@ -28,6 +28,7 @@ use Rattle.iceoryx2_call_laws.specs.QuietWays.{Answers}
 use Rattle.iceoryx2_call_laws.proofs.quiet.Ways.{call_follows, refused_call}
 use Rattle.iceoryx2_create_and_open.specs.Answers.{map_err}
 use Rattle.iceoryx2_session.proofs.Patterns.{call_is_lawful}
+use Rattle.iceoryx2_session.proofs.StandingSlots.{comes_not_back}
 
 -- what a builder call makes of the machine
 record IsBuilt (q : Quiet) (b : PatternCall) (w : World) (answer : Result Registered Refusal) (v : World) : Type 0 where
@@ -65,8 +66,9 @@ moved {s = s} q old slots (goes.refused {call = call} {e = e} {t = t} free is) =
 moved q old slots (goes.close_past le) = record { state = q; moves = moves.close_past le; quiet = old; configured = refl }
 moved q old slots (goes.close_empty free) = record { state = q; moves = moves.close_empty free; quiet = old; configured = refl }
 moved {s = s} q old slots (goes.closed {slot = k} f {t = t} at is) =
-    let c = close_follows f s.table.world t.world q is.1.word is.0 (record { shows = old.shows; agrees = old.agrees; run = (idle_run old.waiting is.1.run).0 }) is.1.is_word (slots.stand k f at).ticket in
-    record { state = c.1.state; moves = moves.closed f at c.1.call; quiet = quiet_after _ c.1.state c.1.shows c.1.agrees (idle_run old.waiting is.1.run).1.0; configured = refl }
+    let c = close_follows f s.table.world t.world q is.2.word is.0 (record { shows = old.shows; agrees = old.agrees; run = (idle_run old.waiting is.2.run).0 }) is.2.is_word (slots.stand k f at).ticket in
+    record { state = c.1.state; moves = moves.closed f at c.1.call; quiet = quiet_after _ c.1.state c.1.shows c.1.agrees (idle_run old.waiting is.2.run).1.0; configured = refl }
+moved {s = s} q old slots (goes.not_closed {slot = k} f {t = t} at is) = absurd (comes_not_back s k f t old.agrees slots at is)
 moved {s = s} q old slots (goes.listed {entries = entries} lists) =
     record { state = q; moves = moves.listed (lists_the_machine s.table.world q entries.items old.shows lists); quiet = old; configured = refl }
 moved q old slots goes.not_listed = record { state = q; moves = moves.not_listed; quiet = old; configured = refl }
@@ -90,20 +92,21 @@ refusal_keeps b e w v q p s t is =
 pub itself : (s : SessionState) → IsUnchanged s s
 itself s = record { slots = refl; services = record { rows = λ h. refl; segments = λ h. refl; tags = λ i h. refl; counts = λ i h. refl } }
 
-pub unchanged_by : {s : SessionState} {c : Command} {a : Reply} {n : SessionState} (q : Quiet) → IsQuiet s q → Goes s c a n → TellsNoChange a
+pub unchanged_by : {s : SessionState} {c : Command} {a : Reply} {n : SessionState} (q : Quiet) → IsQuiet s q → SlotsStand s → Goes s c a n → TellsNoChange a
     → IsUnchanged s n
-unchanged_by {s = s} q old (goes.call_past le) still = itself s
-unchanged_by {s = s} q old (goes.call_taken t) still = itself s
-unchanged_by q old (goes.called f free is) still = absurd still
-unchanged_by {s = s} q old (goes.refused {call = call} {e = e} {t = t} free is) still =
+unchanged_by {s = s} q old slots (goes.call_past le) still = itself s
+unchanged_by {s = s} q old slots (goes.call_taken t) still = itself s
+unchanged_by q old slots (goes.called f free is) still = absurd still
+unchanged_by {s = s} q old slots (goes.refused {call = call} {e = e} {t = t} free is) still =
     let b = builder_call s.config call in
     let c = built b (Err e) s.table t q (call_is_lawful s.config call) old.shows old.agrees old.waiting is in
     record { slots = refl; services = refusal_keeps b e s.table.world t.world q c.state old.shows c.shows c.call }
-unchanged_by {s = s} q old (goes.close_past le) still = itself s
-unchanged_by {s = s} q old (goes.close_empty free) still = itself s
-unchanged_by q old (goes.closed f at is) still = absurd still
-unchanged_by {s = s} q old (goes.listed lists) still = itself s
-unchanged_by {s = s} q old goes.not_listed still = itself s
+unchanged_by {s = s} q old slots (goes.close_past le) still = itself s
+unchanged_by {s = s} q old slots (goes.close_empty free) still = itself s
+unchanged_by q old slots (goes.closed f at is) still = absurd still
+unchanged_by {s = s} q old slots (goes.not_closed {slot = k} f {t = t} at is) still = absurd (comes_not_back s k f t old.agrees slots at is)
+unchanged_by {s = s} q old slots (goes.listed lists) still = itself s
+unchanged_by {s = s} q old slots goes.not_listed still = itself s
 
 -- ---- a session over a new table
 

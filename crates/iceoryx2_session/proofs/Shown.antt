@@ -14,7 +14,7 @@ use Rattle.iceoryx2_session.specs.CommandLists.{CarriesOut, none, first}
 use Rattle.iceoryx2_session.specs.CommandWords.{GoesAlong}
 use Rattle.iceoryx2_session.specs.PatternCalls.{PatternCall}
 use Rattle.iceoryx2_session.specs.Patterns.{builder_call}
-use Rattle.iceoryx2_session.specs.Sessions.{SessionOver, BuildsBy, ClosesFactoryBy, ClosesPlaceBy, ClosesSlotsBy, GoesBy, shown_session}
+use Rattle.iceoryx2_session.specs.Sessions.{SessionOver, BuildsBy, LetsGoBy, HandsBackBy, ClosesFactoryBy, ClosesPlaceBy, ClosesSlotsBy, GoesBy, shown_session}
 use Rattle.iceoryx2_session.specs.Sessions.{ClosesSlots, Goes, shown_world, ClosesSlotsInWorld, GoesInWorld}
 use Rattle.iceoryx2_session.specs.Sessions as goes
 
@@ -28,7 +28,8 @@ goes_along (goes.called f free is) = record { word = is.2.word; is_word = (f, re
 goes_along (goes.refused free is) = record { word = is.2.word; is_word = (is.0, is.1, is.2.is_word); run = is.2.run }
 goes_along (goes.close_past le) = record { word = []; is_word = refl; run = done }
 goes_along (goes.close_empty free) = record { word = []; is_word = refl; run = done }
-goes_along (goes.closed f at is) = record { word = is.1.word; is_word = (f, at, (is.0, is.1.is_word)); run = is.1.run }
+goes_along (goes.closed f at is) = record { word = is.2.word; is_word = (f, at, (is.0, is.1, is.2.is_word)); run = is.2.run }
+goes_along (goes.not_closed f at is) = record { word = is.word; is_word = (f, at, is.is_word); run = is.run }
 goes_along (goes.listed lists) = record { word = []; is_word = refl; run = done }
 goes_along goes.not_listed = record { word = []; is_word = refl; run = done }
 
@@ -50,6 +51,16 @@ module _ {S T : Type 0} (step : S → Letter → S → Type 0) (by : T → Lette
       let run = shown_run p is.1.run in
       ((is.0, record { word = is.1.word; is_word = is.1.is_word; run = run.0 }), run.1)
 
+  let_go : (s : S) (f : Registered) (t : S) → P s → LetsGoBy step s f t → LetsGoBy by (shown s) f (shown t) × P t
+  let_go s f t p is =
+      let run = shown_run p is.2.run in
+      ((is.0, is.1, record { word = is.2.word; is_word = is.2.is_word; run = run.0 }), run.1)
+
+  handed_back : (s : S) (f : Registered) (t : S) → P s → HandsBackBy step s f t → HandsBackBy by (shown s) f (shown t) × P t
+  handed_back s f t p is =
+      let run = shown_run p is.run in
+      (record { word = is.word; is_word = is.is_word; run = run.0 }, run.1)
+
   closed_place : (s t : S) (o : Option Registered) → P s → ClosesPlaceBy step s o t → ClosesPlaceBy by (shown s) o (shown t) × P t
   closed_place s t None p is = (ap shown is, subst P (sym is) p)
   closed_place s t (Some f) p is = closed_factory s f t p is
@@ -67,7 +78,8 @@ module _ {S T : Type 0} (step : S → Letter → S → Type 0) (by : T → Lette
       let call = built (builder_call s.config call) s.table (Err e) t p is in (goes.refused free call.0, call.1)
   goes_shown p (goes.close_past le) = (goes.close_past le, p)
   goes_shown p (goes.close_empty free) = (goes.close_empty free, p)
-  goes_shown {s = s} p (goes.closed f {t = t} at is) = let close = closed_factory s.table f t p is in (goes.closed f at close.0, close.1)
+  goes_shown {s = s} p (goes.closed f {t = t} at is) = let close = let_go s.table f t p is in (goes.closed f at close.0, close.1)
+  goes_shown {s = s} p (goes.not_closed f {t = t} at is) = let close = handed_back s.table f t p is in (goes.not_closed f at close.0, close.1)
   goes_shown p (goes.listed lists) = (goes.listed lists, p)
   goes_shown p goes.not_listed = (goes.not_listed, p)
 

@@ -5,10 +5,10 @@ use Rattle.iceoryx2_world.specs.World.{World}
 use Rattle.iceoryx2_world.specs.Across.{Agrees}
 use Rattle.iceoryx2_world.specs.Interference.{everyone, KeepsOwn, IsAccessUnder, IsFallibleUnder}
 use Rattle.iceoryx2_access.specs.Letter.{Letter}
-use Rattle.iceoryx2_access.specs.Run.{Run, done, next}
+use Rattle.iceoryx2_access.specs.Run.{Run, Each, done, next}
 use Rattle.iceoryx2_access.specs.Registered.{Registered}
 use Rattle.iceoryx2_world.specs.Tables.{TableState, IsTableAccess}
-use Rattle.iceoryx2_world.specs.Standing.{Stands, ticket_for}
+use Rattle.iceoryx2_world.specs.Standing.{Stands, Spares, ticket_for}
 use Rattle.iceoryx2_access.proofs.Run.{run_map, run_keeps as keeps_all}
 use Rattle.iceoryx2_world.proofs.Waiting.{table_access}
 use Rattle.iceoryx2_world.proofs.agreement.Accesses.{run_keeps}
@@ -16,10 +16,14 @@ use Rattle.iceoryx2_world.proofs.agreement.Interference.{among_others}
 use Rattle.iceoryx2_world.proofs.agreement.Stands.{stands_by_ticket}
 use Rattle.iceoryx2_call_laws.specs.Calls.{Throughout}
 use Rattle.iceoryx2_call_laws.specs.Headline.{IsOpen, IsGiven}
-use Rattle.iceoryx2_call_laws.proofs.calls.Words.{close_spares}
+use Rattle.iceoryx2_call_laws.specs.Tickets.{CloseAnswer}
+use Rattle.iceoryx2_call_laws.proofs.calls.Tickets.{no_refusal}
+use Rattle.iceoryx2_call_laws.proofs.calls.Words.{close_spares, throughout}
+use Rattle.iceoryx2_errors.specs.declared.error.CloseError.TheVariants.{NotHere}
+use Rattle.iceoryx2_port_factory.proofs.HandedBack.{removed_here}
 use Rattle.iceoryx2_call_laws.proofs.calls.Closed.{closes_what_stands}
 use Rattle.iceoryx2_call_laws.proofs.calls.Headline.{of_table}
-use Rattle.iceoryx2_port_factory.specs.Closes.{IsCloseWord}
+use Rattle.iceoryx2_port_factory.specs.Closes.{IsCloseWord, not_here, still_counted, left, last}
 use Rattle.iceoryx2_commands.specs.declared.command.Command.{Command}
 use Rattle.iceoryx2_commands.specs.declared.command.Command.TheVariants as command
 use Rattle.iceoryx2_commands.specs.declared.command.Refusal.{Refusal}
@@ -30,7 +34,7 @@ use Rattle.iceoryx2_session.specs.PatternCalls.{PatternCall}
 use Rattle.iceoryx2_session.specs.Patterns.{builder_call}
 use Rattle.iceoryx2_commands.specs.Commands.{slot_count}
 use Rattle.iceoryx2_session.specs.Slots.{HoldsAt}
-use Rattle.iceoryx2_session.specs.Sessions.{SessionOver, SessionState, BuildsBy, ClosesFactoryBy, ClosesPlaceBy, ClosesSlotsBy, GoesBy, Goes, IsClosedPlaceBy}
+use Rattle.iceoryx2_session.specs.Sessions.{SessionOver, SessionState, BuildsBy, HandsBackBy, ClosesFactoryBy, ClosesPlaceBy, ClosesSlotsBy, GoesBy, Goes, IsClosedPlaceBy}
 use Rattle.iceoryx2_session.specs.Sessions.{ClosesSlotsInWorld, GoesInWorld}
 use Rattle.iceoryx2_session.specs.Sessions as goes
 use Rattle.iceoryx2_session.specs.StandingSlots.{SlotsStandUnder, IsOfOwn, ClosesTakenBy, SlotsStand, GoesStanding, OwnsTicketsUnder, SlotsStandInWorld, GoesStandingInWorld}
@@ -49,6 +53,13 @@ seen : {E : Type 0} (P : Result Registered E → Type 0) (carry : E → Refusal)
     → Ok f ≡ map_err carry a → P a → P (Ok f)
 seen P carry f (Ok g) e so = let is : f ≡ g = cc in subst (λ (x : Registered). P (Ok x)) (sym is) so
 seen P carry f (Err x) e so = absurd cc
+
+-- no access of a close that hands its factory back releases a ticket
+spares_each : {r : Registered} {word : List Letter} {answer : CloseAnswer} (g s : Registered) → answer ≡ Err (NotHere s) → IsCloseWord r word answer → Each (Spares g) word
+spares_each g s e not_here = (tt, tt)
+spares_each g s e still_counted = absurd (cc)
+spares_each g s e (left tag) = absurd (removed_here s tag (Ok tt) (Ok tt) e)
+spares_each g s e (last tag segment description) = absurd (removed_here s tag segment description e)
 
 -- ---- slots
 
@@ -129,7 +140,8 @@ module _ (own : ℕ → Bool) {S : Type 0} (step : S → Letter → S → Type 0
   goes_agree (goes.refused free is) agrees = agrees_after is.2.run agrees
   goes_agree (goes.close_past le) agrees = agrees
   goes_agree (goes.close_empty free) agrees = agrees
-  goes_agree (goes.closed f at is) agrees = agrees_after is.1.run agrees
+  goes_agree (goes.closed f at is) agrees = agrees_after is.2.run agrees
+  goes_agree (goes.not_closed f at is) agrees = agrees_after is.run agrees
   goes_agree (goes.listed lists) agrees = agrees
   goes_agree goes.not_listed agrees = agrees
 
@@ -158,6 +170,12 @@ module _ (own : ℕ → Bool) {S : Type 0} (step : S → Letter → S → Type 0
   kept_by_close f {s = s} agrees is g mine apart at =
       at_end (λ u. Stands u g) (close_spares own f is.1.word is.0 (world s) g mine is.1.is_word agrees apart at) (worlds is.1.run)
 
+  -- and one that hands its factory back leaves each standing
+  kept_by_refusal : (f : Registered) {s t : S} → Agrees (world s) → HandsBackBy step s f t
+      → (g : Registered) → own g.node ≡ true → Stands (world s) g → Stands (world t) g
+  kept_by_refusal f {s = s} agrees is g mine at =
+      at_end (λ u. Stands u g) (throughout own g (λ u. Stands u g) (λ u new there. there) (world s) is.word mine (spares_each g f refl is.is_word) agrees at) (worlds is.run)
+
   -- there the factories of the slots stand, if the caller is an own node
   pub stand_after : {s : SessionOver S} {c : Command} {a : Reply} {n : SessionOver S} → GoesBy step world s c a n → IsOfOwn own s.config c → Agrees (world s.table)
       → SlotsStandUnder own (world s.table) s.slots → SlotsStandUnder own (world n.table) n.slots
@@ -170,7 +188,8 @@ module _ (own : ℕ → Bool) {S : Type 0} (step : S → Letter → S → Type 0
   stand_after {s = s} (goes.refused {call = call} free is) mine agrees old = stand_on old (kept_by_call (builder_call s.config call) mine agrees is)
   stand_after (goes.close_past le) mine agrees old = old
   stand_after (goes.close_empty free) mine agrees old = old
-  stand_after (goes.closed {slot = k} f at is) mine agrees old = take_stands old k f at (kept_by_close f agrees is)
+  stand_after (goes.closed {slot = k} f at is) mine agrees old = take_stands old k f at (kept_by_close f agrees (is.0, is.2))
+  stand_after (goes.not_closed f at is) mine agrees old = stand_on old (kept_by_refusal f agrees is)
   stand_after (goes.listed lists) mine agrees old = old
   stand_after goes.not_listed mine agrees old = old
 
@@ -212,6 +231,11 @@ module _ (own : ℕ → Bool) {S : Type 0} (step : S → Letter → S → Type 0
       let ok = (closes_what_stands own f is.1.word is.0 (world s) (world t) mine is.1.is_word (run_map world of_world is.1.run) agrees stood).0 in
       record { word = is.1.word; is_word = subst (λ a. IsCloseWord f is.1.word a) ok is.1.is_word; run = is.1.run }
 
+  -- so it isn't handed back
+  pub not_handed_back : {s t : S} (f : Registered) → own f.node ≡ true → Agrees (world s) → Stands (world s) f → HandsBackBy step s f t → ⊥
+  not_handed_back {s} {t} f mine agrees stood is =
+      no_refusal (closes_what_stands own f is.word (Err (NotHere f)) (world s) (world t) mine is.is_word (run_map world of_world is.run) agrees stood).0 f refl
+
   pub closes_taken : {s : SessionOver S} {c : Command} {a : Reply} {n : SessionOver S} → GoesBy step world s c a n → Agrees (world s.table)
       → SlotsStandUnder own (world s.table) s.slots → ClosesTakenBy step s c n
   closes_taken (goes.call_past le) agrees old = tt
@@ -222,7 +246,8 @@ module _ (own : ℕ → Bool) {S : Type 0} (step : S → Letter → S → Type 0
   closes_taken {s = s} (goes.close_empty {slot = k} free) agrees old = λ f few at. absurd (not_free s.slots k k f free at refl)
   closes_taken {s = s} (goes.closed {slot = k} f {t = t} at is) agrees old = λ g few held.
       let same : f ≡ g = same_slot s.slots k k f g at held refl in
-      subst (λ u. IsClosedPlaceBy step s.table (Some u) t) same (close_is_ok f (old.of_own k f at) agrees (old.stand k f at) is)
+      (subst (λ u. IsClosedPlaceBy step s.table (Some u) t) same (close_is_ok f (old.of_own k f at) agrees (old.stand k f at) (is.0, is.2)), refl)
+  closes_taken (goes.not_closed {slot = k} f at is) agrees old = λ g few held. absurd (not_handed_back f (old.of_own k f at) agrees (old.stand k f at) is)
   closes_taken (goes.listed lists) agrees old = tt
   closes_taken goes.not_listed agrees old = tt
 
@@ -235,6 +260,11 @@ of_everyone config command.List = tt
 
 pub unrefused_table : (s t : TableState) (l : Letter) → IsTableAccess s l t → IsAccessUnder everyone s.world l t.world
 unrefused_table s t l a = among_others everyone s.world l t.world (table_access s t l a)
+
+-- there no close hands a slot's factory back
+pub comes_not_back : (s : SessionState) (k : ℕ) (f : Registered) (t : TableState) → Agrees s.table.world → SlotsStand s → HoldsAt s.slots k f
+    → HandsBackBy IsTableAccess s.table f t → ⊥
+comes_not_back s k f t agrees old at is = not_handed_back everyone IsTableAccess (λ table. table.world) unrefused_table f (old.of_own k f at) agrees (old.stand k f at) is
 
 pub goes_standing : {s n : SessionState} {c : Command} {a : Reply} → Goes s c a n → Agrees s.table.world → SlotsStand s → GoesStanding s c a n
 goes_standing {s = s} {c = c} goes agrees old = (

@@ -5,7 +5,8 @@ use Rattle.iceoryx2_access.specs.Registered.{Registered}
 use Rattle.iceoryx2_access.specs.Run.{Run}
 use Rattle.iceoryx2_create_and_open.specs.Answers.{map_err}
 use Rattle.iceoryx2_description.specs.declared.config.Config.{Config}
-use Rattle.iceoryx2_errors.specs.declared.error.CloseError.{CloseError}
+use Rattle.iceoryx2_errors.specs.declared.error.CloseError.TheVariants.{NotHere}
+use Rattle.iceoryx2_call_laws.specs.Tickets.{CloseAnswer, HandsNothingBack}
 use Rattle.iceoryx2_open_or_create.specs.BuilderCalls.{ErrorBy}
 use Rattle.iceoryx2_open_or_create.specs.CallWords.{IsWordOf}
 use Rattle.iceoryx2_port_factory.specs.Closes.{IsCloseWord}
@@ -25,8 +26,8 @@ IsBuilderWord b answer word =
     (own : Result Registered (ErrorBy b.open_error b.create_error b.call.way))
     × (answer ≡ map_err b.refusal_of own) × IsWordOf b.call word own
 
--- The word of a command with its reply: that of the builder call, that of the close of what the slot holds, and
--- with any other reply no access.
+-- The word of a command with its reply: that of the builder call, that of the close of what the slot holds, with or
+-- without its being handed back, and with any other reply no access.
 abbrev pub IsCommandWord : Config → List (Option Registered) → Command → Reply → List Letter → Type 0
 IsCommandWord config slots (command.Call call) (reply.Opened slot number) word =
     (f : Registered) × (number ≡ f.number) × IsBuilderWord (builder_call config call) (Ok f) word
@@ -34,7 +35,9 @@ IsCommandWord config slots (command.Call call) (reply.Refused e) word =
     IsBuilderWord (builder_call config call) (Err e) word
 IsCommandWord config slots (command.Close slot) (reply.Closed same) word =
     (f : Registered) × HoldsAt slots slot f
-    × ((answer : Result (Unit {0}) (CloseError Registered)) × IsCloseWord f word answer)
+    × ((answer : CloseAnswer) × HandsNothingBack answer × IsCloseWord f word answer)
+IsCommandWord config slots (command.Close slot) (reply.NotClosed same) word =
+    (f : Registered) × HoldsAt slots slot f × IsCloseWord f word (Err (NotHere f))
 IsCommandWord config slots c a word = word ≡ []
 
 -- A command went along its word: by these steps the storage came from what it was to what it is.

@@ -10,7 +10,8 @@ use Rattle.iceoryx2_world.specs.Tables.{TableState, IsTableAccess}
 use Rattle.iceoryx2_world.specs.World.{World}
 use Rattle.iceoryx2_access.specs.Letter.{Letter}
 use Rattle.iceoryx2_access.specs.Run.{Run, Joins}
-use Rattle.iceoryx2_errors.specs.declared.error.CloseError.{CloseError}
+use Rattle.iceoryx2_errors.specs.declared.error.CloseError.TheVariants.{NotHere}
+use Rattle.iceoryx2_call_laws.specs.Tickets.{CloseAnswer, HandsNothingBack}
 use Rattle.iceoryx2_access.specs.Registered.{Registered}
 use Rattle.iceoryx2_create_and_open.specs.Answers.{map_err}
 use Rattle.iceoryx2_open_or_create.specs.BuilderCalls.{ErrorBy}
@@ -54,10 +55,25 @@ BuildsBy step b s answer t =
     (own : Result Registered (ErrorBy b.open_error b.create_error b.call.way))
     × (answer ≡ map_err b.refusal_of own) × Calls step b.call s own t
 
+-- A factory is closed along a word of close whose answer doesn't hand it back.
+abbrev pub LetsGoBy : {S : Type 0} (step : S → Letter → S → Type 0) → S → Registered → S → Type 0
+LetsGoBy step s f t =
+    (answer : CloseAnswer) × HandsNothingBack answer × Joins step s (λ word. IsCloseWord f word answer) t
+
+-- The close of a factory hands it back: it isn't released.
+abbrev pub HandsBackBy : {S : Type 0} (step : S → Letter → S → Type 0) → S → Registered → S → Type 0
+HandsBackBy step s f t = Joins step s (λ word. IsCloseWord f word (Err (NotHere f))) t
+
+-- A close lets the factory go, or that very factory comes back.
+abbrev pub ClosesOrHandsBackBy : {S : Type 0} (step : S → Letter → S → Type 0)
+    → S → Registered → Option Registered → S → Type 0
+ClosesOrHandsBackBy step s f None t = LetsGoBy step s f t
+ClosesOrHandsBackBy step s f (Some back) t = (back ≡ f) × HandsBackBy step s f t
+
 -- A factory is closed along a word of close, whatever it answers.
 abbrev pub ClosesFactoryBy : {S : Type 0} (step : S → Letter → S → Type 0) → S → Registered → S → Type 0
 ClosesFactoryBy step s f t =
-    (answer : Result (Unit {0}) (CloseError Registered)) × Joins step s (λ word. IsCloseWord f word answer) t
+    (answer : CloseAnswer) × Joins step s (λ word. IsCloseWord f word answer) t
 
 -- what a slot holds is closed, if it holds something
 abbrev pub ClosesPlaceBy : {S : Type 0} (step : S → Letter → S → Type 0)
@@ -87,7 +103,8 @@ abbrev pub AreClosedBy : {S : Type 0} (step : S → Letter → S → Type 0)
 AreClosedBy step s slots t = Run (IsClosedPlaceBy step) s slots t
 
 -- A command leads from one state to another, with this reply. The slot is tested before any access,
--- and the other slots keep what they hold. What is listed is in the storage's world.
+-- and the other slots keep what they hold. A factory that its close hands back stays in its slot.
+-- What is listed is in the storage's world.
 pub data GoesBy {S : Type 0} (step : S → Letter → S → Type 0) (world : S → World) (old : SessionOver S)
     : Command → Reply → SessionOver S → Type 0 where
   call_past : {call : Call} → slot_count ≤ call.slot
@@ -104,9 +121,11 @@ pub data GoesBy {S : Type 0} (step : S → Letter → S → Type 0) (world : S �
   close_past : {slot : ℕ} → slot_count ≤ slot → GoesBy step world old (command.Close slot) reply.NoSuchSlot old
   close_empty : {slot : ℕ} → FreeAt old.slots slot
       → GoesBy step world old (command.Close slot) reply.SlotEmpty old
-  closed : {slot : ℕ} (f : Registered) {t : S} → HoldsAt old.slots slot f → ClosesFactoryBy step old.table f t
+  closed : {slot : ℕ} (f : Registered) {t : S} → HoldsAt old.slots slot f → LetsGoBy step old.table f t
       → GoesBy step world old (command.Close slot) (reply.Closed slot)
       (record old { table = t; slots = slice_set old.slots slot None })
+  not_closed : {slot : ℕ} (f : Registered) {t : S} → HoldsAt old.slots slot f → HandsBackBy step old.table f t
+      → GoesBy step world old (command.Close slot) (reply.NotClosed slot) (record old { table = t })
   listed : {entries : Vec Entry Global} → Lists (world old.table) entries.items
       → GoesBy step world old command.List (reply.Listing entries) old
   not_listed : GoesBy step world old command.List reply.OutOfMemory old

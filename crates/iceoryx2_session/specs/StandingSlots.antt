@@ -1,5 +1,5 @@
 -- The factories of a session's slots, over any world that agrees.
-use Rattle.std.specs.Prelude.{◌≡◌, ◌<◌, ℕ, Bool, true, List, Option, Some}
+use Rattle.std.specs.Prelude.{◌≡◌, ◌<◌, ℕ, Bool, true, List, Option, Some, None, slice_set}
 use Rattle.iceoryx2_description.specs.declared.config.Config.{Config}
 use Rattle.iceoryx2_world.specs.declared.world.Ticket.{Ticket}
 use Rattle.iceoryx2_world.specs.World.{World, ticket_of}
@@ -51,11 +51,11 @@ module _ {S : Type 0} (step : S → Letter → S → Type 0) (world : S → Worl
   GoesStandingUnder old c a new = GoesBy step world old c a new × Agrees (world new.table)
       × SlotsStandUnder own (world new.table) new.slots × CallsAsPromisedBy step world own old c a new
 
--- The close of a slot that holds a factory is Ok: the factory doesn't come back.
+-- The close of a slot that holds a factory is Ok: the factory doesn't come back, and the slot is free.
 abbrev pub ClosesTakenBy : {S : Type 0} (step : S → Letter → S → Type 0)
     → SessionOver S → Command → SessionOver S → Type 0
 ClosesTakenBy step old (command.Close slot) new = (f : Registered) → slot < slot_count → HoldsAt old.slots slot f
-    → IsClosedPlaceBy step old.table (Some f) new.table
+    → IsClosedPlaceBy step old.table (Some f) new.table × (new.slots ≡ slice_set old.slots slot None)
 ClosesTakenBy step old (command.Call call) new = Unit {0}
 ClosesTakenBy step old command.List new = Unit {0}
 

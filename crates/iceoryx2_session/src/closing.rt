@@ -1,21 +1,31 @@
 //! How a session closes what it has open, whatever the pattern.
 
-ghost use Rattle.iceoryx2_session.specs.Sessions.{ClosesFactoryBy};
+ghost use Rattle.iceoryx2_session.specs.Sessions.{ClosesFactoryBy, ClosesOrHandsBackBy};
 
 use iceoryx2_access::storage::Storage;
 use iceoryx2_port_factory::port_factory::{CloseError, Registration};
 
-/// Closes it. What isn't at this storage, or isn't released by it, is let go: its ticket stays there.
-pub fn close<S: Storage>(registration: Registration, storage: &mut S)
-    ensures { ClosesFactoryBy S.step storage.old registration storage.new }
+/// Closes it. What isn't at this storage, or isn't released by it, comes back: its ticket stays there.
+pub fn close<S: Storage>(registration: Registration, storage: &mut S) -> Option<Registration>
+    ensures { ClosesOrHandsBackBy S.step storage.old registration result storage.new }
 {
     match registration.close(storage) {
-        Ok(()) => {}
+        Ok(()) => None,
         Err(error) => match error {
-            CloseError::NotHere(registration) => registration.abandon(),
-            CloseError::TagNotRemoved => {}
-            CloseError::SegmentNotRemoved => {}
-            CloseError::DescriptionNotRemoved => {}
+            CloseError::NotHere(registration) => Some(registration),
+            CloseError::TagNotRemoved => None,
+            CloseError::SegmentNotRemoved => None,
+            CloseError::DescriptionNotRemoved => None,
         },
+    }
+}
+
+/// Closes it, and lets go of what comes back: its ticket stays there.
+pub fn close_or_abandon<S: Storage>(registration: Registration, storage: &mut S)
+    ensures { ClosesFactoryBy S.step storage.old registration storage.new }
+{
+    match close(registration, storage) {
+        None => return,
+        Some(registration) => return registration.abandon(),
     }
 }

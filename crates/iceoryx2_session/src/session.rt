@@ -73,7 +73,7 @@ fn close_slot<S: Storage>(slots: &mut Slots, slot: usize, storage: &mut S)
     ensures closed { ClosesSlotBy S.step storage.old slots.old slot storage.new }
 {
     match slots.take(slot) {
-        Some(registration) => return closing::close(registration, storage),
+        Some(registration) => return closing::close_or_abandon(registration, storage),
         None => return,
     }
 }
@@ -106,9 +106,8 @@ impl<S: WorldStorage> Session<S> {
         }
     }
 
-    /// Carries out one command. The slot is tested before anything is called. After the close of a factory its slot
-    /// is free, whatever the storage refused: what it didn't remove stays there, and if it didn't release the factory
-    /// the ticket stays too.
+    /// Carries out one command. The slot is tested before anything is called. A close that the storage releases frees
+    /// the slot, and what it didn't remove stays there. If it didn't release the factory the slot holds that as before.
     pub fn carry_out(&mut self, command: Command) -> Reply
         // It is the builder call or the close that it names, along a word of it,
         ensures own { GoesBy S.step S.world (own_state self.old) command result (own_state self.new) }
@@ -130,6 +129,11 @@ impl<S: WorldStorage> Session<S> {
         ensures stands { let own = own_nodes S.own self.old in
             Agrees (world_state S.world self.old).table → SlotsStandInWorld own (world_state S.world self.old)
             → IsOfOwn own (own_state self.old).config command → SlotsStandInWorld own (world_state S.world self.new) }
+
+        // Where the own nodes' tickets were those of the slots, they are: a close that isn't granted leaves both.
+        ensures owns { let own = own_nodes S.own self.old in
+            Agrees (world_state S.world self.old).table → OwnsTicketsInWorld own (world_state S.world self.old)
+            → OwnsTicketsInWorld own (world_state S.world self.new) }
 
         // The call of a free slot is as every call of an own node is. The factory is the one that the slot holds
         // then, with the reply's number, and a refusal is the reply's.
@@ -165,7 +169,12 @@ impl<S: WorldStorage> Session<S> {
             → Each (IsOfOwn own (own_state self.old).config) commands.items
             → SlotsStandInWorld own (world_state S.world self.new) }
 
-        // and so it is after each of the commands, of which each call is as every call of an own node is.
+        // and where the own nodes' tickets were those of the slots, they are.
+        ensures owns { let own = own_nodes S.own self.old in
+            Agrees (world_state S.world self.old).table → OwnsTicketsInWorld own (world_state S.world self.old)
+            → OwnsTicketsInWorld own (world_state S.world self.new) }
+
+        // The factories stand after each of the commands, of which each call is as every call of an own node is.
         ensures between { let own = own_nodes S.own self.old in
             Agrees (world_state S.world self.old).table → SlotsStandInWorld own (world_state S.world self.old)
             → Each (IsOfOwn own (own_state self.old).config) commands.items
@@ -215,12 +224,15 @@ impl<S: WorldStorage> Session<S> {
         if slot >= SLOTS {
             return Reply::NoSuchSlot;
         }
-        match self.slots.take(slot) {
+        let Some(registration) = self.slots.take(slot) else {
+            return Reply::SlotEmpty;
+        };
+        match closing::close(registration, &mut self.storage) {
+            None => Reply::Closed { slot },
             Some(registration) => {
-                closing::close(registration, &mut self.storage);
-                Reply::Closed { slot }
+                self.slots.put(slot, registration);
+                Reply::NotClosed { slot }
             }
-            None => Reply::SlotEmpty,
         }
     }
 

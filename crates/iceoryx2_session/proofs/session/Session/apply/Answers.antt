@@ -22,10 +22,10 @@ pub returns-clause-promised : goal.returns-clause-promised
 returns-clause-promised g c = calls_as_promised everyone IsTableAccess (λ table. table.world) (of_table everyone) (returns-clause-goes g c)
 
 pub returns-clause-owns : goal.returns-clause-owns
-returns-clause-owns g c = λ agrees old owned. table_owns (returns-clause-goes g c) agrees old owned
+returns-clause-owns g c = λ agrees old owned. table_owns (returns-clause-goes g c) agrees owned
 
 pub returns-clause-quiet : goal.returns-clause-quiet
 returns-clause-quiet g c = λ q quiet old. moved q quiet old (returns-clause-goes g c)
 
 pub returns-clause-unchanged : goal.returns-clause-unchanged
-returns-clause-unchanged g c = λ q quiet old still. unchanged_by q quiet (returns-clause-goes g c) still
+returns-clause-unchanged g c = λ q quiet old still. unchanged_by q quiet old (returns-clause-goes g c) still

@@ -1,5 +1,6 @@
 use Rattle.iceoryx2_session.proofs.Shown.{goes_along, goes_in_world}
 use Rattle.iceoryx2_session.proofs.StandingSlots.{agree_in_world, standing_in_world, promised_in_world}
+use Rattle.iceoryx2_session.proofs.OwnedTickets.{owns_in_world}
 use Rattle.iceoryx2_session.proofs.session.Session.carry_out.Goals as goal
 
 pub returns-clause-along : goal.returns-clause-along
@@ -16,6 +17,9 @@ returns-clause-agrees g c = λ agrees. agree_in_world (returns-clause-goes g c) 
 
 pub returns-clause-stands : goal.returns-clause-stands
 returns-clause-stands g c = λ agrees old mine. (standing_in_world (returns-clause-goes g c) mine agrees old).2
+
+pub returns-clause-owns : goal.returns-clause-owns
+returns-clause-owns g c = λ agrees owned. owns_in_world (returns-clause-goes g c) agrees owned
 
 pub returns-clause-promised : goal.returns-clause-promised
 returns-clause-promised g c = promised_in_world (returns-clause-goes g c)

@@ -4,7 +4,7 @@ use Rattle.iceoryx2_commands.specs.declared.command.Command.{Command}
 use Rattle.iceoryx2_commands.specs.declared.command.Reply.{Reply}
 use Rattle.iceoryx2_session.specs.SessionStates.{own_state}
 use Rattle.iceoryx2_session.specs.CommandLists.{CarriesOut, none}
-use Rattle.iceoryx2_session.proofs.CommandLists.{one_more, all_agree_in_world, all_stand_in_world}
+use Rattle.iceoryx2_session.proofs.CommandLists.{one_more, all_agree_in_world, all_own_in_world, all_stand_in_world}
 use Rattle.iceoryx2_session.proofs.Shown.{all_in_world}
 use Rattle.iceoryx2_session.proofs.session.Session.carry_out_all.Goals as goal
 
@@ -73,6 +73,9 @@ returns-clause-agrees g c = λ agrees. all_agree_in_world (returns-clause-goes g
 
 pub returns-clause-stands : goal.returns-clause-stands
 returns-clause-stands g c = λ agrees old mine. (all_stand_in_world (returns-clause-goes g c) agrees old mine).1
+
+pub returns-clause-owns : goal.returns-clause-owns
+returns-clause-owns g c = λ agrees owned. all_own_in_world (returns-clause-goes g c) agrees owned
 
 pub returns-clause-between : goal.returns-clause-between
 returns-clause-between g c = λ agrees old mine. (all_stand_in_world (returns-clause-goes g c) agrees old mine).0
