@@ -78,6 +78,7 @@ abbrev pub Tells : ℕ → Reply → List ℕ → Type 0
 Tells slot (reply.Opened k n) said = said ≡ codes "ok " ++ decimal k ++ codes " number=" ++ decimal n ++ codes "\n"
 Tells slot (reply.Refused e) said = said ≡ refusal_text e ++ codes "\n"
 Tells slot (reply.Closed k) said = said ≡ codes "closed " ++ decimal k ++ codes "\n"
+Tells slot (reply.NotClosed k) said = said ≡ codes "not closed " ++ decimal k ++ codes "\n"
 Tells slot reply.SlotInUse said = said ≡ codes "slot " ++ decimal slot ++ codes " in use\n"
 Tells slot reply.SlotEmpty said = said ≡ codes "slot " ++ decimal slot ++ codes " empty\n"
 Tells slot reply.NoSuchSlot said = said ≡ codes "no slot " ++ decimal slot ++ codes "\n"

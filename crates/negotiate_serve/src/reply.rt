@@ -29,6 +29,7 @@ pub fn describe(reply: &Reply, slot: usize, text: &mut String) -> Result<(), All
         Reply::Refused(Refusal::RequestResponseCreate(error)) => writeln!(text, "{error}"),
         Reply::Refused(Refusal::RequestResponseOpenOrCreate(error)) => writeln!(text, "{error}"),
         Reply::Closed { slot } => writeln!(text, "closed {slot}"),
+        Reply::NotClosed { slot } => writeln!(text, "not closed {slot}"),
         Reply::SlotInUse => writeln!(text, "slot {slot} in use"),
         Reply::SlotEmpty => writeln!(text, "slot {slot} empty"),
         Reply::NoSuchSlot => writeln!(text, "no slot {slot}"),

@@ -14,7 +14,7 @@ use std::alloc::Global;
 use std::process::Abort;
 
 /// Replies to a command for slot 9, and the lines for them.
-const REPLIES: [(Reply, &str); 15] = [
+const REPLIES: [(Reply, &str); 16] = [
     (Reply::Opened { slot: 9, number: 0 }, "ok 9 number=0\n"),
     (
         Reply::Opened {
@@ -66,6 +66,7 @@ const REPLIES: [(Reply, &str); 15] = [
         "RequestResponseCreateError::HangsInCreation\n",
     ),
     (Reply::Closed { slot: 9 }, "closed 9\n"),
+    (Reply::NotClosed { slot: 9 }, "not closed 9\n"),
     (Reply::SlotInUse, "slot 9 in use\n"),
     (Reply::SlotEmpty, "slot 9 empty\n"),
     (Reply::NoSuchSlot, "no slot 9\n"),
