@@ -16,7 +16,7 @@ use Rattle.iceoryx2_commands.specs.declared.command.Reply.TheVariants as reply
 use Rattle.iceoryx2_session.specs.declared.session.Session.{Session}
 use Rattle.iceoryx2_session.specs.CommandWords.{GoesAlong}
 use Rattle.iceoryx2_session.specs.QuietSessions.{IsQuiet, IsMoved}
-use Rattle.iceoryx2_session.specs.Sessions.{GoesBy, shown_world, close_past, close_empty, closed, listed, not_listed}
+use Rattle.iceoryx2_session.specs.Sessions.{GoesBy, shown_world, close_past, close_empty, closed, not_closed, listed, not_listed}
 use Rattle.iceoryx2_session.specs.SessionStates.{own_state}
 use Rattle.iceoryx2_session.specs.StandingSlots.{SlotsStand, OwnsTickets, ClosesTaken}
 use Rattle.negotiate_serve.specs.declared.ending.Ending.{Ending}
@@ -115,6 +115,7 @@ may_tell line (command.Call call) r is goes = at r
     at (reply.Opened slot number) = tt
     at (reply.Refused refused) = (call, is)
     at (reply.Closed slot) = tt
+    at (reply.NotClosed slot) = tt
     at reply.SlotInUse = tt
     at reply.SlotEmpty = tt
     at reply.NoSuchSlot = tt
@@ -123,6 +124,7 @@ may_tell line (command.Call call) r is goes = at r
 may_tell line (command.Close slot) r is (close_past h) = tt
 may_tell line (command.Close slot) r is (close_empty h) = tt
 may_tell line (command.Close slot) r is (closed f h by) = tt
+may_tell line (command.Close slot) r is (not_closed f h by) = tt
 may_tell line command.List r is (listed h) = tt
 may_tell line command.List r is not_listed = tt
 

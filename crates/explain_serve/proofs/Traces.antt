@@ -53,7 +53,8 @@ no_access w is = omega (arith, ap length is)
 word_short : (config : Config) (slots : List (Option Registered)) (c : Command) (r : Reply) (w : List Letter) → IsCommandWord config slots c r w → length w ≤ 264
 word_short config slots (command.Call call) (reply.Opened slot number) w is = builder_short (builder_call config call) _ w is.2
 word_short config slots (command.Call call) (reply.Refused refused) w is = builder_short (builder_call config call) _ w is
-word_short config slots (command.Close slot) (reply.Closed same) w is = let few = close_is_short _ _ _ is.2.1 in omega (arith, few.few_accesses)
+word_short config slots (command.Close slot) (reply.Closed same) w is = let few = close_is_short _ _ _ is.2.2 in omega (arith, few.few_accesses)
+word_short config slots (command.Close slot) (reply.NotClosed same) w is = let few = close_is_short _ _ _ is.2 in omega (arith, few.few_accesses)
 word_short config slots _ _ w is = no_access w is
 
 made_is : (before after n : ℕ) → before + n ≤ 2 ^ 64 - 1 → after ≡ min (before + n) (2 ^ 64 - 1) → after - before ≡ n

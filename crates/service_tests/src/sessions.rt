@@ -36,6 +36,7 @@ enum Told {
     Opened(usize, u64),
     Refused(Refusal),
     Closed(usize),
+    NotClosed(usize),
     /// How many services are listed, and for how many nodes the segment of the only one is.
     Listed(usize, Option<u64>),
     NoSlot,
@@ -57,6 +58,7 @@ fn in_short(reply: &Reply) -> Told {
         Reply::Opened { slot, number } => Told::Opened(*slot, *number),
         Reply::Refused(refusal) => Told::Refused(*refusal),
         Reply::Closed { slot } => Told::Closed(*slot),
+        Reply::NotClosed { slot } => Told::NotClosed(*slot),
         Reply::Listing(entries) => Told::Listed(entries.len(), nodes_of(entries.as_slice())),
         Reply::NoSuchSlot => Told::NoSlot,
         Reply::SlotEmpty => Told::Empty,

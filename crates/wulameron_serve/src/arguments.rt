@@ -109,6 +109,7 @@ fn run_of<'a>(matches: &ArgMatches<'a>) -> Option<Run<'a>>
         node,
         options: FileLogOptions {
             patience: Duration::from_millis(wait),
+            creation_timeout: Duration::from_millis(500),
             synchronizes: matches.get_flag("sync"),
             sharing: sharing_of(matches.get_flag("group")),
         },
