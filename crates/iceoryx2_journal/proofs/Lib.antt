@@ -9,3 +9,4 @@ pub mod Unread
 pub mod Replaying
 pub mod SameChanges
 pub mod SameWorlds
+pub mod GivingBack

@@ -4,6 +4,7 @@ pub mod Taking
 pub mod Pen
 pub mod Logged
 pub mod Journal
+pub mod Cleaning
 pub mod Replay
 pub mod Same
 pub mod Laws

@@ -8,6 +8,7 @@ ghost use Rattle.iceoryx2_journal.specs.Taking.{is_own};
 ghost use Rattle.iceoryx2_journal.specs.Journal.{Begins};
 
 mod accesses;
+mod cleaning;
 
 use crate::pen::Pen;
 use crate::taking::{has, take_all};

@@ -1,6 +1,7 @@
 //! A storage that processes share: the world that each makes of one log.
 #![tactic(auto)]
 
+pub mod cleaning;
 pub mod follow;
 pub mod journal;
 pub mod laws;

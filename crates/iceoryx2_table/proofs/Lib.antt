@@ -7,3 +7,4 @@ pub mod OwnParts
 pub mod PeerSteps
 pub mod States
 pub mod Recording
+pub mod Held

@@ -1,3 +1,4 @@
 pub mod Book
+pub mod Holdings
 pub mod Merge
 pub mod Recorded

@@ -1,6 +1,7 @@
 //! A table in which nodes keep what they agreed on: rows, segments, phases and a counter.
 #![tactic(auto)]
 
+pub mod holdings;
 pub mod local;
 pub mod merge;
 pub mod recorder;

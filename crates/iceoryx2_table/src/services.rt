@@ -13,9 +13,11 @@ ghost use Rattle.iceoryx2_world.specs.Steps.{last_number};
 ghost use Rattle.iceoryx2_world.specs.Access.{open_refusal};
 ghost use Rattle.iceoryx2_world.specs.Listing.{ListsAll};
 ghost use Rattle.iceoryx2_table.specs.Book.{MayTakeStep, TakesDescription, TakesSegment};
+ghost use Rattle.iceoryx2_table.specs.Holdings.{held_service};
 ghost use Rattle.iceoryx2_table.specs.Recorded.{MayRecordStep, RecordsLeave, RecordsStep};
 ghost use Rattle.iceoryx2_table.specs.Book.{position_in, published_number, segment_fits};
 
+use crate::holdings::{Holding, first_service};
 use crate::merge::merge_entries;
 use crate::recorder::Recorder;
 use crate::rows::StoredRow;
@@ -157,6 +159,13 @@ impl Services {
             self.rows.entries(),
             self.segments.entries(),
         )
+    }
+
+    /// The first service that the node hasn't finished with.
+    pub fn unfinished(&self, node: u64) -> Option<Holding>
+        ensures { result ≡ held_service node (map.entries self.now.phases) }
+    {
+        first_service(self.phases.entries(), node)
     }
 
     /// The next number.

@@ -8,8 +8,10 @@ ghost use Rattle.iceoryx2_world.specs.Batches.{IsBatch, IsPeerStep, skipped_afte
 ghost use Rattle.iceoryx2_access.specs.Letter as letter;
 ghost use Rattle.iceoryx2_access.specs.Letter.{fetch_answer};
 ghost use Rattle.iceoryx2_world.specs.Access.{IsOwnPart, has_lock, has_made as has_made_spec, is_ticket};
+ghost use Rattle.iceoryx2_table.specs.Holdings.{IsHolding};
 ghost use Rattle.iceoryx2_table.specs.Recorded.{IsRecordedPart};
 
+use crate::holdings::{Holding, first_tag, first_ticket};
 use crate::recorder::Recorder;
 use crate::rows::RowState;
 use crate::services::Services;
@@ -170,6 +172,20 @@ impl StoredWorld {
         ensures { result ≡ ticket_count self.now.tickets node hash.now }
     {
         count_held(self.tickets.entries(), node, hash) as u64
+    }
+
+    /// Something that the node has: its first ticket; where it has none, the first service that it is creating or has
+    /// to remove; where there is none either, its first tag. `None` where it has none of these.
+    pub fn holding(&self, node: u64) -> Option<Holding>
+        ensures { IsHolding self.now node result }
+    {
+        if let Some(ticket) = first_ticket(self.tickets.entries(), node) {
+            return Some(ticket);
+        }
+        if let Some(service) = self.services.unfinished(node) {
+            return Some(service);
+        }
+        first_tag(self.tags.entries(), node)
     }
 
     /// The next number or ticket: what `lock` and `open_segment` hand out where they are granted.

@@ -1,0 +1,186 @@
+//! What is given back for a node that doesn't do it itself.
+
+ghost use Rattle.std.specs.Prelude.{◌≡◌, Some};
+ghost use Rattle.iceoryx2_access.specs.Letter.{Letter};
+ghost use Rattle.iceoryx2_journal.specs.Cleaning.{GivesUp, given_back, if_granted, nothing_given, step_with, with_one};
+ghost use Rattle.iceoryx2_journal.specs.Cleaning.{has_segment as has_segment_spec};
+ghost use Rattle.iceoryx2_journal.specs.declared.cleaning.GivenBack.TheVariants as given;
+ghost use Rattle.iceoryx2_journal.specs.Logged.{IsLoggedPart};
+
+use crate::parts;
+use crate::pen::Pen;
+use iceoryx2_access::storage::RemoveError;
+use iceoryx2_log::log::Log;
+use iceoryx2_table::holdings::Holding;
+use iceoryx2_table::table::stored::StoredWorld;
+use iceoryx2_world::world::Phase;
+use std::error::Error;
+use std::fmt;
+
+/// What was given back for a node. Each count stops at `u64::MAX`.
+#[derive(Clone, Copy, Debug, PartialEq, Eq)]
+pub struct Cleaned {
+    /// How many tickets were released.
+    pub releases: u64,
+    /// How many segments, descriptions, locks and tags were removed.
+    pub removals: u64,
+}
+
+impl Cleaned {
+    /// Nothing yet.
+    pub fn nothing() -> Cleaned
+        ensures { result ≡ nothing_given }
+    {
+        Cleaned {
+            releases: 0,
+            removals: 0,
+        }
+    }
+
+    /// With one more.
+    pub fn with(self, given: GivenBack) -> Cleaned
+        ensures { result ≡ with_one self (Some given) }
+    {
+        match given {
+            GivenBack::Ticket => Cleaned {
+                releases: self.releases.saturating_add(1),
+                removals: self.removals,
+            },
+            GivenBack::Thing => Cleaned {
+                releases: self.releases,
+                removals: self.removals.saturating_add(1),
+            },
+        }
+    }
+}
+
+/// What was given back at once.
+#[derive(Clone, Copy, Debug, PartialEq, Eq)]
+pub enum GivenBack {
+    /// A ticket.
+    Ticket,
+    /// A segment, what is written under a hash, or a tag.
+    Thing,
+}
+
+/// What became of one step of cleaning.
+#[derive(Clone, Copy, Debug, PartialEq, Eq)]
+pub enum Step {
+    /// Something was given back.
+    Gave(GivenBack),
+    /// There was nothing any more.
+    Finished,
+    /// The log refused, or the journal is over. Nothing was given back.
+    Refused,
+}
+
+/// The step in which this was given back.
+pub fn step_of(given: Option<GivenBack>) -> Step
+    ensures { result ≡ step_with given }
+{
+    match given {
+        Some(given) => Step::Gave(given),
+        None => Step::Refused,
+    }
+}
+
+/// Why a node isn't clean.
+#[derive(Clone, Copy, Debug, PartialEq, Eq)]
+pub enum CleanError {
+    /// It is an own node. Nothing was given back.
+    IsOwn,
+    /// The log can't be held, read or written, or the journal is over. What was given back before stays so, and
+    /// cleaning can be done again.
+    Refused,
+}
+
+/// Why a node doesn't become an own one. The own nodes stay.
+#[derive(Clone, Copy, Debug, PartialEq, Eq)]
+pub enum AdoptError {
+    /// The log can't be held or read, or the journal is over.
+    Refused,
+    /// There was no memory.
+    OutOfMemory,
+}
+
+impl fmt::Display for CleanError {
+    ghost use Rattle.std.specs.Prelude.{Some};
+    ghost use Rattle.iceoryx2_journal.specs.Cleaning.{clean_error_text};
+
+    ghost output = { λ error. Some (clean_error_text error) };
+
+    fn fmt<W: fmt::Write>(&self, f: &mut fmt::Formatter<W>) -> fmt::Result {
+        match self {
+            CleanError::IsOwn => write!(f, "the node is an own one"),
+            CleanError::Refused => write!(f, "the log refused"),
+        }
+    }
+}
+
+impl Error for CleanError {}
+
+impl fmt::Display for AdoptError {
+    ghost use Rattle.std.specs.Prelude.{Some};
+    ghost use Rattle.iceoryx2_journal.specs.Cleaning.{adopt_error_text};
+
+    ghost output = { λ error. Some (adopt_error_text error) };
+
+    fn fmt<W: fmt::Write>(&self, f: &mut fmt::Formatter<W>) -> fmt::Result {
+        match self {
+            AdoptError::Refused => write!(f, "the log refused"),
+            AdoptError::OutOfMemory => write!(f, "out of memory"),
+        }
+    }
+}
+
+impl Error for AdoptError {}
+
+/// Whether there is a segment that a node of this phase has to remove.
+pub fn has_segment(phase: Phase) -> bool
+    ensures { result ≡ has_segment_spec phase }
+{
+    match phase {
+        Phase::Made(_) | Phase::Leaving(_) => true,
+        _ => false,
+    }
+}
+
+// Something that was removed, where that was granted.
+fn thing(removed: Result<(), RemoveError>) -> Option<GivenBack>
+    ensures { result ≡ if_granted given.Thing removed }
+{
+    match removed {
+        Ok(()) => Some(GivenBack::Thing),
+        Err(_) => None,
+    }
+}
+
+/// Gives back what the node has, by an access in its name. `None` where that is refused. The log is held before, and
+/// isn't after.
+pub fn give_back<L: Log>(
+    world: &mut StoredWorld,
+    pen: &mut Pen<L>,
+    node: u64,
+    held: Holding,
+) -> Option<GivenBack>
+    ensures { (l : Letter) × GivesUp node held l × (given_back l ≡ result)
+        × IsLoggedPart L.contents world.old l world.new pen.old.log pen.new.log }
+{
+    match held {
+        Holding::Ticket {
+            ticket,
+            hash,
+            number,
+        } => match parts::release(world, pen, ticket, node, &hash, number) {
+            Ok(_) => Some(GivenBack::Ticket),
+            Err(_) => None,
+        },
+        Holding::Service { hash, phase } => {
+            if has_segment(phase) {
+                return thing(parts::remove_segment(world, pen, node, &hash));
+            }
+            thing(parts::remove_description(world, pen, node, &hash))
+        }
+        Holding::Tag { hash } => thing(parts::remove_tag(world, pen, node, &hash)),
+    }
+}
