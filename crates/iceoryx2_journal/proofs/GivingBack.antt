@@ -1,5 +1,6 @@
 -- Steps that give back what a node has, and what they keep.
 use Rattle.std.proofs.Common.{◌≡◌, ◌⊎◌, if◌then◌else◌, inl, inr, ℕ, Bool, true, false, List, [], ◌∷◌, ◌++◌, Option, Some, None, Result, Ok, Err, refl, sym, ap, subst, ◌∙◌}
+use Rattle.std.specs.Prelude.{OnOk}
 use Rattle.iceoryx2_access.specs.Letter.{Letter, caller_of}
 use Rattle.iceoryx2_access.specs.Letter as letter
 use Rattle.iceoryx2_access.specs.Run.{Run, done, next}
@@ -141,3 +142,7 @@ module _ {L : Type 0} (contents : L → Option Contents) (i : ℕ) where
   cleans_all old new (Err errors.IsOwn) isnt x = absurd (cc)
   cleans_all old new (Err errors.Refused) isnt x = (isnt, x)
   cleans_all old new (Ok c) isnt x = (isnt, x)
+
+  pub cleans_gone : (old new : JournalState L) (r : Result Cleaned CleanError) → Cleans contents i r old new → OnOk r (IsHolding new.world i None)
+  cleans_gone old new (Ok c) x = x.1.2.1
+  cleans_gone old new (Err e) x = tt

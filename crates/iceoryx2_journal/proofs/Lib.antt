@@ -10,3 +10,4 @@ pub mod Replaying
 pub mod SameChanges
 pub mod SameWorlds
 pub mod GivingBack
+pub mod Cleaned

@@ -1,16 +1,22 @@
 -- What is given back for a node that doesn't do it itself, and a node that becomes an own one.
-use Rattle.std.specs.Prelude.{◌≡◌, ◌⊎◌, ℕ, Bool, true, false, if◌then◌else◌, List, [], ◌∷◌, ◌++◌, codes}
+use Rattle.std.specs.Prelude.{◌≡◌, ◌≢◌, ◌⊎◌, ℕ, Bool, true, false, if◌then◌else◌, List, [], ◌∷◌, ◌++◌, codes}
 use Rattle.std.specs.Prelude.{Option, Some, None, Result, Ok, Err}
 use Rattle.iceoryx2_access.specs.declared.storage.Release.{Release as Released}
 use Rattle.iceoryx2_access.specs.declared.storage.ReleaseError.{ReleaseError}
 use Rattle.iceoryx2_access.specs.declared.storage.RemoveError.{RemoveError}
 use Rattle.iceoryx2_access.specs.Counts.{one_more}
-use Rattle.iceoryx2_access.specs.Letter.{Letter}
+use Rattle.iceoryx2_access.specs.Letter.{Letter, caller_of}
 use Rattle.iceoryx2_access.specs.Letter as letter
+use Rattle.iceoryx2_access.specs.Registered.{Registered}
 use Rattle.iceoryx2_access.specs.Run.{Run}
+use Rattle.iceoryx2_description.specs.declared.description.ServiceHash.{ServiceHash}
+use Rattle.iceoryx2_world.specs.declared.world.Participant.TheVariants.{Node}
 use Rattle.iceoryx2_world.specs.declared.world.Phase.{Phase}
 use Rattle.iceoryx2_world.specs.declared.world.Phase.TheVariants as at
-use Rattle.iceoryx2_world.specs.World.{World}
+use Rattle.iceoryx2_world.specs.World.{World, begins, phase_of}
+use Rattle.iceoryx2_world.specs.Access.{IsOwnPart}
+use Rattle.iceoryx2_world.specs.Across.{Agrees}
+use Rattle.iceoryx2_world.specs.Standing.{Stands}
 use Rattle.iceoryx2_table.specs.declared.holdings.Holding.{Holding}
 use Rattle.iceoryx2_table.specs.declared.holdings.Holding.TheVariants as holding
 use Rattle.iceoryx2_table.specs.Holdings.{IsHolding}
@@ -130,3 +136,19 @@ module _ {L : Type 0} (contents : L → Option Contents) (i : ℕ) where
       × (new ≡ record mid { nodes = mid.nodes ++ i ∷ []; log = new.log }) × (contents new.log ≡ contents mid.log)
   Adopts (Err adopting.OutOfMemory) old new = TakesAll contents old new
   Adopts (Err adopting.Refused) old new = Fails contents true old new
+
+-- ---- what holds of it
+-- A node that has nothing holds nothing of any service: it is Idle there, or has only read.
+abbrev pub HoldsNothing : Type 0
+HoldsNothing = (w : World) (i : ℕ) (h : ServiceHash) → Agrees w → IsHolding w i None
+    → begins (phase_of w (Node i) h) ≡ true
+
+-- Each letter of cleaning is in the node's name.
+abbrev pub IsInItsName : {L : Type 0} → (L → Option Contents) → Type 0
+IsInItsName {L} contents = (i : ℕ) (old : JournalState L) (l : Letter) (new : JournalState L)
+    → CleansBy contents i old l new → caller_of l ≡ i
+
+-- What gives something of a node back leaves each factory of another node standing.
+abbrev pub SparesOtherNodes : Type 0
+SparesOtherNodes = (w v : World) (i : ℕ) (held : Holding) (l : Letter) (f : Registered)
+    → GivesUp i held l → f.node ≢ i → IsOwnPart w l v → Agrees w → Stands w f → Stands v f

@@ -3,6 +3,7 @@
 ghost use Rattle.iceoryx2_journal.specs.Laws.{GoesAmongOthers, GoesUnderInterference, KeepsItsNodes};
 ghost use Rattle.iceoryx2_journal.specs.Laws.{RefusesOtherNodes, StaysOver};
 ghost use Rattle.iceoryx2_journal.specs.Laws.{LeavesNothingUnread, KeepsTheLog, ReplaysTheLog, IsWhatTheLogComesTo};
+ghost use Rattle.iceoryx2_journal.specs.Cleaning.{HoldsNothing, IsInItsName, SparesOtherNodes};
 ghost use Rattle.iceoryx2_journal.specs.Laws.{OneWorldEach, ShowsOneWorld};
 
 use iceoryx2_log::log::Log;
@@ -31,6 +32,16 @@ pub fn journals<L: Log>()
 
     // So two journals that have the same entries show the same world, but for who has only read.
     ensures one { ShowsOneWorld L.contents }
+{}
+
+/// What holds of cleaning up for a node.
+pub fn cleaning<L: Log>()
+    // Who has nothing holds nothing of any service.
+    ensures holds_nothing { HoldsNothing }
+
+    // Each access is in the node's name, and leaves each factory of another node standing.
+    ensures names { IsInItsName L.contents }
+    ensures spares { SparesOtherNodes }
 {}
 
 /// What entries make of worlds.

@@ -1,6 +1,7 @@
 //! Commands over a storage that shows a world, or a table, with places for what they open.
 
-ghost use Rattle.std.specs.Prelude.{◌≡◌, ◌<◌, ℕ, IfOk, OnErr, replicate, slice_set, None, []};
+ghost use Rattle.std.specs.Prelude.{◌≡◌, ◌<◌, ℕ, IfOk, OnErr, OnOk, replicate, slice_set, None, []};
+ghost use Rattle.iceoryx2_table.specs.Holdings.{IsHolding};
 ghost use Rattle.iceoryx2_session.specs.Patterns.{builder_call};
 ghost use Rattle.iceoryx2_session.specs.Sessions.{BuildsBy, ClosesSlotBy};
 ghost use Rattle.iceoryx2_commands.specs.Commands.{slot_count};
@@ -14,6 +15,7 @@ use iceoryx2_builder::builder::{self, event};
 use iceoryx2_builder_common::base::BuilderWithServiceType;
 use iceoryx2_commands::command::{Call, Command, Refusal, Reply, SLOTS, Settings};
 use iceoryx2_description::config::Config;
+use iceoryx2_journal::cleaning::{CleanError, Cleaned};
 use iceoryx2_port_factory::port_factory::Registration;
 use iceoryx2_table::table::Table;
 use iceoryx2_types::types::CustomHeaderMarker;
@@ -269,6 +271,39 @@ impl<S: WorldStorage> Session<S> {
             → OwnsTicketsInWorld own (world_state S.world self.new) }
     {
         self.storage.refresh()
+    }
+
+    /// Gives back what a node has that isn't an own one, by accesses in its name, until it has nothing. Whoever calls
+    /// this knows that the node is dead.
+    ///
+    /// `IsOwn` where it is an own node, and `Refused` where what the storage stands on refused; it can be done again
+    /// then.
+    pub fn clean(&mut self, node: u64) -> Result<Cleaned, CleanError>
+        // The slots hold what they held.
+        ensures slots { own_state self.new
+            ≡ record (own_state self.old) { table = (own_state self.new).table } }
+
+        // Which nodes are own stays as it was,
+        ensures nodes { own_nodes S.own self.new ≡ own_nodes S.own self.old }
+
+        // and so does all that they rely on.
+        ensures kept { Rely (own_nodes S.own self.old)
+            (world_state S.world self.old).table (world_state S.world self.new).table }
+
+        // The node has nothing any more.
+        ensures gone { OnOk result (IsHolding (world_state S.world self.new).table node None) }
+
+        // So the factories of all slots stand as before where the world agreed,
+        ensures stands { let own = own_nodes S.own self.old in
+            Agrees (world_state S.world self.old).table → SlotsStandInWorld own (world_state S.world self.old)
+            → SlotsStandInWorld own (world_state S.world self.new) }
+
+        // and where the own nodes' tickets were those of the slots, they are.
+        ensures owns { let own = own_nodes S.own self.old in
+            Agrees (world_state S.world self.old).table → OwnsTicketsInWorld own (world_state S.world self.old)
+            → OwnsTicketsInWorld own (world_state S.world self.new) }
+    {
+        self.storage.clean(node)
     }
 
     /// The storage, for its readers.

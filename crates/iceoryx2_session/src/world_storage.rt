@@ -1,12 +1,14 @@
 //! Storages that show a world: tables, journals, and those that trace one.
 
-ghost use Rattle.std.specs.Prelude.{◌≡◌, ℕ, Bool, IfOk};
+ghost use Rattle.std.specs.Prelude.{◌≡◌, ℕ, Bool, IfOk, None, OnOk};
 ghost use Rattle.iceoryx2_access.specs.Letter.{Letter};
 ghost use Rattle.iceoryx2_world.specs.World.{World};
 ghost use Rattle.iceoryx2_world.specs.Listing.{Lists};
 ghost use Rattle.iceoryx2_world.specs.Interference.{Rely, IsFallibleUnder};
+ghost use Rattle.iceoryx2_table.specs.Holdings.{IsHolding};
 
 use iceoryx2_access::storage::Storage;
+use iceoryx2_journal::cleaning::{CleanError, Cleaned};
 use iceoryx2_journal::journal::Journal;
 use iceoryx2_log::log::Log;
 use iceoryx2_table::table::Table;
@@ -27,6 +29,16 @@ pub trait WorldStorage: Storage {
     fn refresh(&mut self)
         ensures kept { Rely (own self.old) (world self.old) (world self.new) }
         ensures same { own self.new ≡ own self.old };
+
+    /// Gives back what a node has that isn't an own one, by accesses in its name, until it has nothing. Whoever calls
+    /// this knows that the node is dead. To all others it is a node that closes its factories.
+    ///
+    /// `IsOwn` where it is an own node, and `Refused` where what the storage stands on refused; it can be done again
+    /// then.
+    fn clean(&mut self, node: u64) -> Result<Cleaned, CleanError>
+        ensures kept { Rely (own self.old) (world self.old) (world self.new) }
+        ensures same { own self.new ≡ own self.old }
+        ensures gone { OnOk result (IsHolding (world self.new) node None) };
 
     /// Each service of the world with a row or a segment, in the order of the hashes' bytes. Makes no access.
     /// `AllocError` where there was no memory for the list.
@@ -62,6 +74,11 @@ impl WorldStorage for Table {
     #[tactic(auto, using(iceoryx2_world::proofs::agreement::Interference::rely_same))]
     fn refresh(&mut self) {}
 
+    #[tactic(auto, using(iceoryx2_world::proofs::agreement::Interference::rely_same))]
+    fn clean(&mut self, _node: u64) -> Result<Cleaned, CleanError> {
+        Err(CleanError::IsOwn)
+    }
+
     fn list(&self) -> Result<Vec<Entry>, AllocError> {
         Table::list(self)
     }
@@ -85,6 +102,10 @@ impl<L: Log> WorldStorage for Journal<L> {
         Journal::refresh(self)
     }
 
+    fn clean(&mut self, node: u64) -> Result<Cleaned, CleanError> {
+        Journal::clean(self, node)
+    }
+
     fn list(&self) -> Result<Vec<Entry>, AllocError> {
         Journal::list(self)
     }
@@ -102,6 +123,10 @@ impl<S: WorldStorage> WorldStorage for Traced<S> {
 
     fn refresh(&mut self) {
         self.inner_mut().refresh()
+    }
+
+    fn clean(&mut self, node: u64) -> Result<Cleaned, CleanError> {
+        self.inner_mut().clean(node)
     }
 
     fn list(&self) -> Result<Vec<Entry>, AllocError> {

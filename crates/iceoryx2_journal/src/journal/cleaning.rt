@@ -1,7 +1,8 @@
 //! Cleaning up for a node, and nodes that become own ones.
 
-ghost use Rattle.std.specs.Prelude.{◌≡◌, OnErr, OnOk, ◌++◌, ◌∷◌, []};
+ghost use Rattle.std.specs.Prelude.{◌≡◌, None, OnErr, OnOk, ◌++◌, ◌∷◌, []};
 ghost use Rattle.iceoryx2_world.specs.Interference.{Rely};
+ghost use Rattle.iceoryx2_table.specs.Holdings.{IsHolding};
 ghost use Rattle.iceoryx2_journal.specs.Cleaning.{Adopts, Cleans, CleansNext, CleansAll};
 ghost use Rattle.iceoryx2_journal.specs.Taking.{is_own};
 
@@ -38,6 +39,7 @@ impl<L: Log> Journal<L> {
         ensures cleans { Cleans L.contents node result self.old self.new }
         ensures kept { Rely (is_own self.old.nodes) self.old.world self.new.world }
         ensures nodes { self.new.nodes ≡ self.old.nodes }
+        ensures gone { OnOk result (IsHolding self.new.world node None) }
     {
         if self.has_node(node) {
             return Err(CleanError::IsOwn);

@@ -1,5 +1,5 @@
 use Rattle.std.proofs.Common.{sym}
-use Rattle.iceoryx2_journal.proofs.GivingBack.{cleans_all, cleans_keeps}
+use Rattle.iceoryx2_journal.proofs.GivingBack.{cleans_all, cleans_gone, cleans_keeps}
 use Rattle.iceoryx2_journal.proofs.journal.Journal.clean.Goals as goal
 
 pub returns-clause-cleans : goal.returns-clause-cleans
@@ -15,3 +15,8 @@ pub returns-clause-nodes : goal.returns-clause-nodes
 returns-clause-nodes g c =
     (cleans_keeps g.L.Log.contents c.args.node c.args.self.now c.clean_all.new.self c.clean_all.result
     (cleans_all g.L.Log.contents c.args.node c.args.self.now c.clean_all.new.self c.clean_all.result (sym c.if-has_node.ensures) c.clean_all.ensures)).1
+
+pub returns-clause-gone : goal.returns-clause-gone
+returns-clause-gone g c =
+    cleans_gone g.L.Log.contents c.args.node c.args.self.now c.clean_all.new.self c.clean_all.result
+    (cleans_all g.L.Log.contents c.args.node c.args.self.now c.clean_all.new.self c.clean_all.result (sym c.if-has_node.ensures) c.clean_all.ensures)
