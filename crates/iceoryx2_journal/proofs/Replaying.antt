@@ -1,5 +1,5 @@
 -- The world of a journal is what the entries come to that it has taken over or appended.
-use Rattle.std.proofs.Common.{◌≡◌, ℕ, inl, inr, Bool, false, List, [], ◌∷◌, ◌++◌, Option, Some, append_assoc, refl, sym, ap, subst, ◌∙◌}
+use Rattle.std.proofs.Common.{◌≡◌, ℕ, inl, inr, Bool, true, false, Result, Ok, Err, List, [], ◌∷◌, ◌++◌, Option, Some, append_assoc, refl, sym, ap, subst, ◌∙◌}
 use Rattle.std.proofs.lemmas.List.{append-nil}
 use Rattle.iceoryx2_description.specs.declared.description.ServiceHash.{ServiceHash}
 use Rattle.iceoryx2_access.specs.Letter.{Letter}
@@ -15,9 +15,12 @@ use Rattle.iceoryx2_journal.specs.declared.taking.Stop.{Stop}
 use Rattle.iceoryx2_journal.specs.Follow.{IsFollowed, Prepares}
 use Rattle.iceoryx2_journal.specs.Taking.{Takes, TakesOver, Stops, unread, starved, own, disagrees, ends}
 use Rattle.iceoryx2_journal.specs.Logged.{ReadsAtMost, IsLoggedPart, unwritten, written, declined}
-use Rattle.iceoryx2_journal.specs.Journal.{JournalState, barred, stopped, IsJournalAccess, fails, acts}
+use Rattle.iceoryx2_journal.specs.Journal.{JournalState, TakesAll, Fails, Begins, barred, stopped, IsJournalAccess, fails, acts}
 use Rattle.iceoryx2_journal.specs.Laws.{ReplaysTheLog, IsWhatTheLogComesTo}
-use Rattle.iceoryx2_journal.specs.Replay.{ComesTo, nothing, fetches, happens, Moves, Replays}
+use Rattle.iceoryx2_journal.specs.Replay.{ComesTo, nothing, fetches, happens, Moves, Replays, Lives, begun, accesses, refreshes, cleans, adopts}
+use Rattle.iceoryx2_journal.specs.Cleaning.{Adopts, CleansBy}
+use Rattle.iceoryx2_journal.specs.declared.cleaning.AdoptError.{AdoptError}
+use Rattle.iceoryx2_journal.specs.declared.cleaning.AdoptError.TheVariants as adopting
 use Rattle.iceoryx2_journal.proofs.Logs.{known_map, known_both, known_same}
 use Rattle.iceoryx2_journal.proofs.Runs.{was_going}
 
@@ -108,15 +111,41 @@ module _ {L : Type 0} {contents : L → Option Contents} where
   }
   part_replays (declined fault same kept) = replays_none (comes_same same) kept
 
+  taken_goes : {a b : JournalState L} → TakesAll contents a b → (a.is_over ≡ false) × Replays contents a b
+  taken_goes t = (t.was_not_over, replays_taken t.takes nothing)
+
+  fails_goes : {mine : Bool} {a b : JournalState L} → b.is_over ≡ false → Fails contents mine a b → (a.is_over ≡ false) × Replays contents a b
+  fails_goes going (barred isnt same) =
+      (ap (λ (s : JournalState L). s.is_over) (sym same) ∙ going, replays_none (comes_same (ap (λ (s : JournalState L). s.world) same)) (ap (λ (s : JournalState L). contents s.log) same))
+  fails_goes {mine} {a} {b} going (stopped w s holds t stops kept over) =
+      (was_going mine a.is_over holds, replays_taken t (stops_come b.is_over going over stops))
+
   -- An access that leaves it going found it so.
   access_goes : {a b : JournalState L} {l : Letter} → b.is_over ≡ false → IsJournalAccess contents a l b → (a.is_over ≡ false) × Replays contents a b
-  access_goes going (fails fault (barred isnt same)) =
-      let is_going = ap (λ (s : JournalState L). s.is_over) (sym same) ∙ going in
-      (is_going, replays_none (comes_same (ap (λ (s : JournalState L). s.world) same)) (ap (λ (s : JournalState L). contents s.log) same))
-  access_goes {a} {b} going (fails fault (stopped w s holds t stops kept over)) =
-      (was_going _ a.is_over holds, replays_taken t (stops_come b.is_over going over stops))
+  access_goes going (fails fault f) = fails_goes going f
   access_goes going (acts mid mine all part nodes over) =
       (all.was_not_over, replays_both (replays_taken {b = mid} all.takes nothing) (part_replays part))
+
+  begins_goes : {a b : JournalState L} (has_begun : Bool) → b.is_over ≡ false → Begins contents true has_begun a b → (a.is_over ≡ false) × Replays contents a b
+  begins_goes true going t = taken_goes t.1
+  begins_goes false going f = fails_goes going f
+
+  clean_goes : {i : ℕ} {a b : JournalState L} {l : Letter} → CleansBy contents i a l b → (a.is_over ≡ false) × Replays contents a b
+  clean_goes c = (c.all.was_not_over, replays_both (replays_taken {b = c.mid} c.all.takes nothing) (part_replays c.part))
+
+  adopt_goes : (i : ℕ) {a b : JournalState L} (r : Result (Unit {0}) AdoptError) → b.is_over ≡ false → Adopts contents i r a b → (a.is_over ≡ false) × Replays contents a b
+  adopt_goes i (Ok x) going t =
+      (t.1.was_not_over, replays_both (replays_taken {b = t.0} t.1.takes nothing) (replays_none (comes_same (ap (λ (s : JournalState L). s.world) t.2)) t.3))
+  adopt_goes i (Err adopting.OutOfMemory) going t = taken_goes t
+  adopt_goes i (Err adopting.Refused) going f = fails_goes going f
+
+  -- The world of a journal that is still going is what came of the entries since.
+  lives_replays : {a b : JournalState L} → b.is_over ≡ false → Lives contents a b → (a.is_over ≡ false) × Replays contents a b
+  lives_replays going begun = (going, replays_none nothing refl)
+  lives_replays going (accesses l so_far h) = let y = access_goes going h in let x = lives_replays y.0 so_far in (x.0, replays_both x.1 y.1)
+  lives_replays going (refreshes has_begun so_far h) = let y = begins_goes has_begun going h in let x = lives_replays y.0 so_far in (x.0, replays_both x.1 y.1)
+  lives_replays going (cleans i l so_far h) = let y = clean_goes h in let x = lives_replays y.0 so_far in (x.0, replays_both x.1 y.1)
+  lives_replays going (adopts i r so_far h) = let y = adopt_goes i r going h in let x = lives_replays y.0 so_far in (x.0, replays_both x.1 y.1)
 
   run_replays : {a b : JournalState L} {word : List Letter} → b.is_over ≡ false → Run (IsJournalAccess contents) a word b → (a.is_over ≡ false) × Replays contents a b
   run_replays going done = (going, replays_none nothing refl)
@@ -133,6 +162,7 @@ module _ {L : Type 0} (contents : L → Option Contents) where
   pub is_what_it_comes_to : IsWhatTheLogComesTo contents
   is_what_it_comes_to counter es b t =
       let a = t.start in
-      let r = replays_the_log a b t.word t.is_not_over t.run in
+      let x = lives_replays t.is_not_over t.lives in
+      let r = x.1 in
       let m = moved_from r.entries (contents a.log) (contents b.log) t.before t.after t.knew t.knows t.had_none r.taken in
       subst (λ w. ComesTo w es b.world) t.empty (subst (λ x. ComesTo a.world x b.world) (sym m ∙ t.has) r.comes)

@@ -1,16 +1,17 @@
 -- What the entries of a log make of a world.
-use Rattle.std.specs.Prelude.{◌≡◌, ℕ, false, List, [], ◌∷◌, ◌++◌, Option, Some, Result}
+use Rattle.std.specs.Prelude.{◌≡◌, ℕ, Bool, true, false, List, [], ◌∷◌, ◌++◌, Option, Some, Result}
 use Rattle.iceoryx2_description.specs.declared.description.ServiceHash.{ServiceHash}
 use Rattle.iceoryx2_access.specs.declared.storage.FetchError.{FetchError}
 use Rattle.iceoryx2_access.specs.Letter.{Letter}
 use Rattle.iceoryx2_access.specs.Letter as letter
-use Rattle.iceoryx2_access.specs.Run.{Run}
 use Rattle.iceoryx2_world.specs.World.{World, empty_world}
 use Rattle.iceoryx2_world.specs.Access.{IsOwnPart}
 use Rattle.iceoryx2_log.specs.declared.entry.Entry.{Entry}
 use Rattle.iceoryx2_log.specs.Log.{Contents, WhereKnown}
 use Rattle.iceoryx2_journal.specs.Follow.{IsEntryOf}
-use Rattle.iceoryx2_journal.specs.Journal.{JournalState, IsJournalAccess}
+use Rattle.iceoryx2_journal.specs.Journal.{JournalState, Begins, IsJournalAccess}
+use Rattle.iceoryx2_journal.specs.Cleaning.{Adopts, CleansBy}
+use Rattle.iceoryx2_journal.specs.declared.cleaning.AdoptError.{AdoptError}
 
 -- The entries come to this, in order: each is its node's access, granted as the entry has it. Between them nodes may
 -- fetch, which is in no entry and changes the node's own phase alone.
@@ -36,13 +37,25 @@ pub record StandsOn (old new : Contents) : Type 0 where
   pub come : List Entry
   pub all : new.taken ++ new.unread ≡ (old.taken ++ old.unread) ++ come
 
+-- What becomes of a journal: its accesses, what it takes over besides, what it gives back for nodes that are dead, and
+-- nodes that become own ones, in any order.
+pub data Lives {L : Type 0} (contents : L → Option Contents) : JournalState L → JournalState L → Type 0 where
+  begun : {a : JournalState L} → Lives contents a a
+  accesses : {a b c : JournalState L} (l : Letter) → Lives contents a b → IsJournalAccess contents b l c
+      → Lives contents a c
+  refreshes : {a b c : JournalState L} (has_begun : Bool) → Lives contents a b → Begins contents true has_begun b c
+      → Lives contents a c
+  cleans : {a b c : JournalState L} (i : ℕ) (l : Letter) → Lives contents a b → CleansBy contents i b l c
+      → Lives contents a c
+  adopts : {a b c : JournalState L} (i : ℕ) (r : Result (Unit {0}) AdoptError) → Lives contents a b
+      → Adopts contents i r b c → Lives contents a c
+
 -- It began in an empty world over a log of which it had taken nothing, and isn't over. Its log is known, and these are
 -- the entries that it has taken over or appended since.
 pub record HasTaken {L : Type 0} (contents : L → Option Contents) (counter : ℕ) (entries : List Entry)
     (b : JournalState L) : Type 0 where
   pub start : JournalState L
-  pub word : List Letter
-  pub run : Run (IsJournalAccess contents) start word b
+  pub lives : Lives contents start b
   pub empty : start.world ≡ empty_world counter
   pub before : Contents
   pub knew : contents start.log ≡ Some before

@@ -1,6 +1,6 @@
 //! A storage that processes share: the world that a process makes of a log.
 
-ghost use Rattle.std.specs.Prelude.{◌≡◌, false, true, IfOk};
+ghost use Rattle.std.specs.Prelude.{◌≡◌, Bool, false, true, IfOk};
 ghost use Rattle.iceoryx2_world.specs.World.{empty_world};
 ghost use Rattle.iceoryx2_world.specs.Interference.{Rely};
 ghost use Rattle.iceoryx2_world.specs.Listing.{Lists};
@@ -128,6 +128,7 @@ impl<L: Log> Journal<L> {
     /// Takes over what others appended. Where the log can't be held or read, or the journal is over, it stays as far as
     /// it was.
     pub fn refresh(&mut self)
+        ensures takes { (has_begun : Bool) × Begins L.contents true has_begun self.old self.new }
         ensures kept { Rely (is_own self.old.nodes) self.old.world self.new.world }
         ensures nodes { self.new.nodes ≡ self.old.nodes }
     {

@@ -5,6 +5,7 @@ pub use iceoryx2_file_log::error::{FileFault, FileLogError};
 pub use iceoryx2_file_log::file_log::FileLog;
 pub use iceoryx2_file_log::header::{Header, LogName, NAME_LENGTH};
 pub use iceoryx2_file_log::options::{FileLogOptions, Sharing};
+pub use iceoryx2_journal::cleaning::{AdoptError, CleanError, Cleaned};
 pub use iceoryx2_journal::journal::{Journal, Shared};
 pub use iceoryx2_log::entry::{Deed, Entry, FormBytes};
 pub use iceoryx2_log::log::{Log, LogError};

@@ -1,7 +1,8 @@
-use Rattle.std.proofs.Common.{◌≡◌, sym, subst}
+use Rattle.std.proofs.Common.{◌≡◌, true, false, refl, sym, subst}
 use Rattle.iceoryx2_world.specs.Interference.{Rely}
 use Rattle.iceoryx2_journal.specs.Taking.{is_own}
 use Rattle.iceoryx2_journal.specs.Journal.{JournalState}
+use Rattle.iceoryx2_journal.proofs.Begins.{still_all}
 use Rattle.iceoryx2_journal.proofs.Runs.{begun, not_begun}
 use Rattle.iceoryx2_journal.proofs.journal.Journal.refresh.Goals as goal
 
@@ -16,3 +17,6 @@ returns-then-begin-clause-nodes g c = subst (λ (j : JournalState _). j.nodes �
 
 pub returns-else-begin-clause-nodes : goal.returns-else-begin-clause-nodes
 returns-else-begin-clause-nodes g c = (not_begun c.if-begin.ensures).1
+
+pub returns-else-begin-clause-takes : goal.returns-else-begin-clause-takes
+returns-else-begin-clause-takes g c = (false, c.if-begin.ensures)
