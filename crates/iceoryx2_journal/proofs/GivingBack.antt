@@ -1,6 +1,8 @@
 -- Steps that give back what a node has, and what they keep.
 use Rattle.std.proofs.Common.{◌≡◌, ◌⊎◌, if◌then◌else◌, inl, inr, ℕ, Bool, true, false, List, [], ◌∷◌, ◌++◌, Option, Some, None, Result, Ok, Err, refl, sym, ap, subst, ◌∙◌}
-use Rattle.std.specs.Prelude.{OnOk}
+use Rattle.std.specs.Prelude.{OnErr, OnOk}
+use Rattle.iceoryx2_journal.specs.declared.cleaning.AdoptError.{AdoptError}
+use Rattle.iceoryx2_journal.specs.declared.cleaning.AdoptError.TheVariants as adopting
 use Rattle.iceoryx2_access.specs.Letter.{Letter, caller_of}
 use Rattle.iceoryx2_access.specs.Letter as letter
 use Rattle.iceoryx2_access.specs.Run.{Run, done, next}
@@ -146,3 +148,19 @@ module _ {L : Type 0} (contents : L → Option Contents) (i : ℕ) where
   pub cleans_gone : (old new : JournalState L) (r : Result Cleaned CleanError) → Cleans contents i r old new → OnOk r (IsHolding new.world i None)
   cleans_gone old new (Ok c) x = x.1.2.1
   cleans_gone old new (Err e) x = tt
+
+  -- ---- a node that becomes an own one
+
+  pub adopts_keeps : (old new : JournalState L) (r : Result (Unit {0}) AdoptError) → Adopts contents i r old new → Rely (is_own old.nodes) old.world new.world
+  adopts_keeps old new (Ok x) a = subst (λ (n : JournalState L). Rely (is_own old.nodes) old.world n.world) (sym a.2) (begun (refl, a.1)).0
+  adopts_keeps old new (Err adopting.OutOfMemory) a = (begun (refl, a)).0
+  adopts_keeps old new (Err adopting.Refused) a = (not_begun a).0
+
+  pub adopts_all : (old new : JournalState L) (r : Result (Unit {0}) AdoptError) → Adopts contents i r old new → OnOk r (new.nodes ≡ old.nodes ++ i ∷ [])
+  adopts_all old new (Ok x) a = ap (λ (n : JournalState L). n.nodes) a.2 ∙ ap (λ ns. ns ++ i ∷ []) a.1.nodes
+  adopts_all old new (Err e) a = tt
+
+  pub adopts_none : (old new : JournalState L) (r : Result (Unit {0}) AdoptError) → Adopts contents i r old new → OnErr r (new.nodes ≡ old.nodes)
+  adopts_none old new (Ok x) a = tt
+  adopts_none old new (Err adopting.OutOfMemory) a = a.nodes
+  adopts_none old new (Err adopting.Refused) a = (not_begun a).1

@@ -11,3 +11,4 @@ pub mod SameChanges
 pub mod SameWorlds
 pub mod GivingBack
 pub mod Cleaned
+pub mod Lives

@@ -4,6 +4,7 @@ ghost use Rattle.std.specs.Prelude.{◌≡◌, None, OnErr, OnOk, ◌++◌, ◌�
 ghost use Rattle.iceoryx2_world.specs.Interference.{Rely};
 ghost use Rattle.iceoryx2_table.specs.Holdings.{IsHolding};
 ghost use Rattle.iceoryx2_journal.specs.Cleaning.{Adopts, Cleans, CleansNext, CleansAll};
+ghost use Rattle.iceoryx2_journal.specs.Replay.{Lives};
 ghost use Rattle.iceoryx2_journal.specs.Taking.{is_own};
 
 use super::Journal;
@@ -15,9 +16,17 @@ impl<L: Log> Journal<L> {
     /// process has the node.
     pub fn adopt(&mut self, node: u64) -> Result<(), AdoptError>
         ensures adopts { Adopts L.contents node result self.old self.new }
+        ensures lives { Lives L.contents self.old self.new }
         ensures kept { Rely (is_own self.old.nodes) self.old.world self.new.world }
         ensures ok { OnOk result (self.new.nodes ≡ self.old.nodes ++ node ∷ []) }
         ensures err { OnErr result (self.new.nodes ≡ self.old.nodes) }
+    {
+        self.adopt_next(node)
+    }
+
+    // Takes over what others appended, and puts the node with the own ones.
+    fn adopt_next(&mut self, node: u64) -> Result<(), AdoptError>
+        ensures { Adopts L.contents node result self.old self.new }
     {
         if !self.begin(true) {
             return Err(AdoptError::Refused);
@@ -37,6 +46,7 @@ impl<L: Log> Journal<L> {
     /// `IsOwn` where it is an own node, and `Refused` where the log refused; it can be done again then.
     pub fn clean(&mut self, node: u64) -> Result<Cleaned, CleanError>
         ensures cleans { Cleans L.contents node result self.old self.new }
+        ensures lives { Lives L.contents self.old self.new }
         ensures kept { Rely (is_own self.old.nodes) self.old.world self.new.world }
         ensures nodes { self.new.nodes ≡ self.old.nodes }
         ensures gone { OnOk result (IsHolding self.new.world node None) }

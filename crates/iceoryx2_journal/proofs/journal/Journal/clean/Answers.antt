@@ -1,5 +1,7 @@
 use Rattle.std.proofs.Common.{sym}
+use Rattle.iceoryx2_journal.specs.Replay.{begun}
 use Rattle.iceoryx2_journal.proofs.GivingBack.{cleans_all, cleans_gone, cleans_keeps}
+use Rattle.iceoryx2_journal.proofs.Lives.{cleans_lives}
 use Rattle.iceoryx2_journal.proofs.journal.Journal.clean.Goals as goal
 
 pub returns-clause-cleans : goal.returns-clause-cleans
@@ -20,3 +22,11 @@ pub returns-clause-gone : goal.returns-clause-gone
 returns-clause-gone g c =
     cleans_gone g.L.Log.contents c.args.node c.args.self.now c.clean_all.new.self c.clean_all.result
     (cleans_all g.L.Log.contents c.args.node c.args.self.now c.clean_all.new.self c.clean_all.result (sym c.if-has_node.ensures) c.clean_all.ensures)
+
+pub returns-clause-lives : goal.returns-clause-lives
+returns-clause-lives g c =
+    cleans_lives g.L.Log.contents c.args.node c.args.self.now c.clean_all.new.self c.clean_all.result
+    (cleans_all g.L.Log.contents c.args.node c.args.self.now c.clean_all.new.self c.clean_all.result (sym c.if-has_node.ensures) c.clean_all.ensures)
+
+pub returns-then-has_node-clause-lives : goal.returns-then-has_node-clause-lives
+returns-then-has_node-clause-lives g c = begun
