@@ -28,7 +28,7 @@ pub struct Cleaned {
 
 impl Cleaned {
     /// Nothing yet.
-    pub fn nothing() -> Cleaned
+    pub(crate) fn nothing() -> Cleaned
         ensures { result ≡ nothing_given }
     {
         Cleaned {
@@ -38,7 +38,7 @@ impl Cleaned {
     }
 
     /// With one more.
-    pub fn with(self, given: GivenBack) -> Cleaned
+    pub(crate) fn with(self, given: GivenBack) -> Cleaned
         ensures { result ≡ with_one self (Some given) }
     {
         match given {
@@ -75,7 +75,7 @@ pub enum Step {
 }
 
 /// The step in which this was given back.
-pub fn step_of(given: Option<GivenBack>) -> Step
+pub(crate) fn step_of(given: Option<GivenBack>) -> Step
     ensures { result ≡ step_with given }
 {
     match given {
@@ -136,7 +136,7 @@ impl fmt::Display for AdoptError {
 impl Error for AdoptError {}
 
 /// Whether there is a segment that a node of this phase has to remove.
-pub fn has_segment(phase: Phase) -> bool
+pub(crate) fn has_segment(phase: Phase) -> bool
     ensures { result ≡ has_segment_spec phase }
 {
     match phase {
@@ -157,7 +157,7 @@ fn thing(removed: Result<(), RemoveError>) -> Option<GivenBack>
 
 /// Gives back what the node has, by an access in its name. `None` where that is refused. The log is held before, and
 /// isn't after.
-pub fn give_back<L: Log>(
+pub(crate) fn give_back<L: Log>(
     world: &mut StoredWorld,
     pen: &mut Pen<L>,
     node: u64,
