@@ -1,3 +1,4 @@
 pub mod Headers
 pub mod Torn
 pub mod Fronts
+pub mod Paths

@@ -18,6 +18,17 @@ kind_fault system.IsADirectory = fault.IsAFolder
 kind_fault system.FilesystemLoop = fault.IsALink
 kind_fault kind = fault.Failed kind
 
+-- What a file refuses by, of a log or not. Each other fault is a log's.
+abbrev pub IsOfFile : FileFault → Type 0
+IsOfFile fault.IsALink = Unit {0}
+IsOfFile fault.IsAFolder = Unit {0}
+IsOfFile fault.NotAFile = Unit {0}
+IsOfFile fault.NoPermission = Unit {0}
+IsOfFile fault.DiskFull = Unit {0}
+IsOfFile fault.OutOfMemory = Unit {0}
+IsOfFile (fault.Failed kind) = Unit {0}
+IsOfFile other = ⊥
+
 -- what a log answers
 abbrev pub log_error_of : FileFault → LogError
 log_error_of fault.Busy = log.Busy

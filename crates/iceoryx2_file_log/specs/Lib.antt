@@ -6,4 +6,5 @@ pub mod HeaderReading
 pub mod Remainder
 pub mod Place
 pub mod Handle
+pub mod Path
 pub mod Opening

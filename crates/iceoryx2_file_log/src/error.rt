@@ -2,7 +2,7 @@
 
 ghost use Rattle.std.specs.Prelude.{◌≡◌, string_bytes};
 ghost use Rattle.std.specs.IoError.{error_kind};
-ghost use Rattle.iceoryx2_file_log.specs.Errors.{kind_fault, log_error_of};
+ghost use Rattle.iceoryx2_file_log.specs.Errors.{kind_fault, log_error_of, IsOfFile};
 
 use iceoryx2_log::log::LogError;
 use std::error::Error;
@@ -124,7 +124,8 @@ impl Error for FileLogError {}
 
 /// What an error of the system means for a log in a file.
 pub fn system_fault(error: &io::Error) -> FileFault
-    ensures { result ≡ kind_fault (error_kind error.now) }
+    ensures kind { result ≡ kind_fault (error_kind error.now) }
+    ensures file { IsOfFile result }
 {
     match error.kind() {
         ErrorKind::PermissionDenied | ErrorKind::ReadOnlyFilesystem => FileFault::NoPermission,

@@ -9,7 +9,7 @@ ghost use Rattle.iceoryx2_log.specs.Form.{Begins, IsForm};
 ghost use Rattle.iceoryx2_file_log.specs.declared.header.TheConstants.{HEADER_LENGTH};
 ghost use Rattle.iceoryx2_file_log.specs.declared.cursor.State.TheVariants as state;
 ghost use Rattle.iceoryx2_file_log.specs.declared.error.FileFault.TheVariants as fault;
-ghost use Rattle.iceoryx2_file_log.specs.Errors.{log_error_of};
+ghost use Rattle.iceoryx2_file_log.specs.Errors.{log_error_of, IsOfFile};
 ghost use Rattle.iceoryx2_file_log.specs.Remainder.{IsTorn};
 ghost use Rattle.iceoryx2_file_log.specs.Place.{start, left, held, accepted, cut, appended, let_go_of, state_after};
 ghost use Rattle.iceoryx2_file_log.specs.Place.{why_not_free, why_not_held};
@@ -98,8 +98,10 @@ fn pause_after(round: u64) -> Duration {
     Duration::from_micros(micros)
 }
 
-/// Tries to lock the file until it is locked or the patience is over, with pauses that grow.
-fn lock(clock: &impl Clock, file: &File, patience: Duration) -> Result<(), FileFault> {
+/// Tries to lock the file until it is locked or the patience is over, with pauses that grow: `Busy` then.
+pub fn lock(clock: &impl Clock, file: &File, patience: Duration) -> Result<(), FileFault>
+    ensures { IfErr result (λ why. (why ≡ fault.Busy) ⊎ IsOfFile why) }
+{
     let start = match Instant::now(clock) {
         Ok(start) => start,
         Err(error) => return Err(system_fault(&error)),

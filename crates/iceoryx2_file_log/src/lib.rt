@@ -6,6 +6,7 @@ pub mod cursor;
 pub mod error;
 pub mod file_log;
 pub mod header;
-mod opening;
+pub mod opening;
 pub mod options;
+pub mod path;
 pub mod remainder;

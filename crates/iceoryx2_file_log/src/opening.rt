@@ -1,12 +1,14 @@
 //! Finding the file of a log, and making it.
 
-ghost use Rattle.std.specs.Prelude.{◌≡◌, ◌≤◌, IfOk, length};
+ghost use Rattle.std.specs.Prelude.{◌≡◌, ◌≤◌, IfOk, IfErr, IfSome, length};
 ghost use Rattle.std.specs.Fs.{file_type};
+ghost use Rattle.iceoryx2_file_log.specs.Errors.{IsOfFile};
 ghost use Rattle.iceoryx2_file_log.specs.Opening.{IsFaultOf, header_fault_of};
 
 use crate::error::{FileFault, system_fault};
 use crate::header::{self, HEADER_LENGTH, Header, HeaderError, LogName, NAME_LENGTH};
 use crate::options::FileLogOptions;
+use crate::path::split;
 use std::fs::{self, File, Metadata, OpenOptions, Permissions};
 use std::io::{self, ErrorKind, Write};
 use std::os::unix::fs::{FileExt, MetadataExt, OpenOptionsExt, PermissionsExt};
@@ -25,7 +27,8 @@ struct FileNumber {
 
 /// Why this is not opened as a file, if so.
 fn kind_fault(metadata: &Metadata) -> Option<FileFault>
-    ensures { IsFaultOf (file_type metadata.now) result }
+    ensures fault { IsFaultOf (file_type metadata.now) result }
+    ensures file { IfSome result IsOfFile }
 {
     if metadata.is_symlink() {
         Some(FileFault::IsALink)
@@ -57,7 +60,9 @@ fn number_of(metadata: &Metadata) -> FileNumber {
 }
 
 /// The file that has this path, or `None` where nothing has it. A symbolic link is not followed.
-fn looked_up(rt: &impl Files, path: &str) -> Result<Option<FileNumber>, FileFault> {
+fn looked_up(rt: &impl Files, path: &str) -> Result<Option<FileNumber>, FileFault>
+    ensures { IfErr result IsOfFile }
+{
     match fs::symlink_metadata(rt, path) {
         Ok(metadata) => match kind_fault(&metadata) {
             None => Ok(Some(number_of(&metadata))),
@@ -109,12 +114,14 @@ fn read_header(file: &File) -> Result<Header, FileFault> {
     }
 }
 
-/// Opens the file that was looked up, and reads its header. `None` where it is gone, or another one has its path.
+/// Opens the file that was looked up. `None` where it is gone, or another one has its path.
 fn open_found(
     rt: &impl Files<File = File>,
     path: &str,
     number: FileNumber,
-) -> Result<Option<(File, Header)>, FileFault> {
+) -> Result<Option<File>, FileFault>
+    ensures { IfErr result IsOfFile }
+{
     let file = match OpenOptions::new().read(true).write(true).open(rt, path) {
         Ok(file) => file,
         Err(error) => {
@@ -127,26 +134,39 @@ fn open_found(
     match file.metadata() {
         Err(error) => Err(system_fault(&error)),
         Ok(metadata) => {
-            if number_of(&metadata) != number {
-                return Ok(None);
+            if number_of(&metadata) == number {
+                Ok(Some(file))
+            } else {
+                Ok(None)
             }
-            let header = read_header(&file)?;
-            Ok(Some((file, header)))
         }
     }
 }
 
-/// The folder that has the name of this path.
-fn folder_of(path: &str) -> &str {
-    match path.rsplit_once('/') {
-        None => ".",
-        Some((folder, _)) => { if folder.is_empty() { "/" } else { folder } }
+/// Opens the file that has this path, to read and to write, or `None` where nothing has it. A symbolic link is not
+/// followed, and what is no file is not opened.
+pub fn find_file(rt: &impl Files<File = File>, path: &str) -> Result<Option<File>, FileFault>
+    ensures { IfErr result IsOfFile }
+{
+    for _ in 0..OPENINGS {
+        match looked_up(rt, path)? {
+            None => return Ok(None),
+            Some(number) => {
+                if let Some(file) = open_found(rt, path, number)? {
+                    return Ok(Some(file));
+                }
+            }
+        }
     }
+    Err(FileFault::Failed {
+        kind: ErrorKind::NotFound,
+    })
 }
 
 /// Synchronizes the folder of the path, so that a name that was made in it survives a power loss.
 fn sync_folder(rt: &impl Files<File = File>, path: &str) -> io::Result<()> {
-    let folder = File::open(rt, folder_of(path))?;
+    let (folder, _) = split(path);
+    let folder = File::open(rt, folder)?;
     folder.sync_all()
 }
 
@@ -168,6 +188,53 @@ fn write_beside(
     file.sync_all()
 }
 
+/// Makes a file of these bytes and this mode under another name beside its own, whole and synchronized, and links it
+/// to its own, so that nobody ever sees a part of it. Where something has the path already it stays, and nothing is
+/// made.
+fn make_file<R: Files<File = File> + RandomSource + AllocGlobal>(
+    rt: &R,
+    path: &str,
+    bytes: &[u8],
+    mode: u32,
+) -> io::Result<()> {
+    let mut chance = [0u8; 8];
+    rt.fill_bytes(&mut chance)?;
+    let number = u64::from_be_bytes(chance);
+    let beside = format!(in rt.alloc(); "{path}.new-{number:016x}")?;
+    let linked = match write_beside(rt, &beside, bytes, mode) {
+        Ok(()) => fs::hard_link(rt, beside.as_str(), path),
+        Err(error) => Err(error),
+    };
+    let _ = fs::remove_file(rt, beside.as_str());
+    match linked {
+        // Another process was first, and its file is taken.
+        Err(error) if error.kind() == ErrorKind::AlreadyExists => Ok(()),
+        Err(error) => Err(error),
+        Ok(()) => Ok(()),
+    }
+}
+
+/// Opens the file of this path, and makes an empty one of this mode where nothing has it.
+pub fn find_or_make_file<R: Files<File = File> + RandomSource + AllocGlobal>(
+    rt: &R,
+    path: &str,
+    mode: u32,
+) -> Result<File, FileFault>
+    ensures { IfErr result IsOfFile }
+{
+    for _ in 0..OPENINGS {
+        if let Some(file) = find_file(rt, path)? {
+            return Ok(file);
+        }
+        if let Err(error) = make_file(rt, path, &[], mode) {
+            return Err(system_fault(&error));
+        }
+    }
+    Err(FileFault::Failed {
+        kind: ErrorKind::NotFound,
+    })
+}
+
 /// A header with a name that was drawn by chance.
 fn new_header(rt: &impl RandomSource) -> io::Result<Header> {
     let mut name = [0u8; NAME_LENGTH];
@@ -178,35 +245,18 @@ fn new_header(rt: &impl RandomSource) -> io::Result<Header> {
     })
 }
 
-/// Makes the file under another name beside its own, whole and synchronized, and links it to its own.
+/// Makes the file of a new log.
 fn make<R: Files<File = File> + RandomSource + AllocGlobal>(
     rt: &R,
     path: &str,
     options: &FileLogOptions,
 ) -> io::Result<()> {
-    let header = new_header(rt)?;
-    let name = &header.name.0;
-    let number = u64::from_be_bytes([
-        name[0], name[1], name[2], name[3], name[4], name[5], name[6], name[7],
-    ]);
-    let bytes = header::encode(rt.alloc(), &header)?;
-    let beside = format!(in rt.alloc(); "{path}.new-{number:016x}")?;
-    let linked = match write_beside(rt, &beside, &bytes, options.sharing.mode()) {
-        Ok(()) => fs::hard_link(rt, beside.as_str(), path),
-        Err(error) => Err(error),
-    };
-    let _ = fs::remove_file(rt, beside.as_str());
-    match linked {
-        // Another process was first, and its log is taken.
-        Err(error) if error.kind() == ErrorKind::AlreadyExists => Ok(()),
-        Err(error) => Err(error),
-        Ok(()) => {
-            if options.synchronizes {
-                return sync_folder(rt, path);
-            }
-            Ok(())
-        }
+    let bytes = header::encode(rt.alloc(), &new_header(rt)?)?;
+    make_file(rt, path, &bytes, options.sharing.mode())?;
+    if options.synchronizes {
+        return sync_folder(rt, path);
     }
+    Ok(())
 }
 
 /// Opens the file of the log, and makes it where nothing has its path.
@@ -216,17 +266,12 @@ pub(crate) fn opened<R: Files<File = File> + RandomSource + AllocGlobal>(
     options: &FileLogOptions,
 ) -> Result<(File, Header), FileFault> {
     for _ in 0..OPENINGS {
-        match looked_up(rt, path)? {
-            None => {
-                if let Err(error) = make(rt, path, options) {
-                    return Err(system_fault(&error));
-                }
-            }
-            Some(number) => {
-                if let Some(found) = open_found(rt, path, number)? {
-                    return Ok(found);
-                }
-            }
+        if let Some(file) = find_file(rt, path)? {
+            let header = read_header(&file)?;
+            return Ok((file, header));
+        }
+        if let Err(error) = make(rt, path, options) {
+            return Err(system_fault(&error));
         }
     }
     Err(FileFault::Failed {
