@@ -1,0 +1,3 @@
+pub mod Suffixes
+pub mod Numbers
+pub mod Rising
