@@ -1,4 +1,4 @@
-//! Tests of attributes, names, settings, the byte forms and logs, with values from outside the program.
+//! Tests of attributes, names, settings, the byte forms, logs and nodes, with values from outside the program.
 #![tactic(auto)]
 
 #[cfg(test)]
@@ -15,5 +15,7 @@ mod forms;
 mod log_forms;
 #[cfg(test)]
 mod memory_logs;
+#[cfg(test)]
+mod nodes;
 #[cfg(test)]
 mod support;

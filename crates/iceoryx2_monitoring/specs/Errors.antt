@@ -63,7 +63,7 @@ IsFreeClaimError log error = ((string_bytes error.path ≡ log) × (error.fault 
 -- `None` where the text is the system's own name of what it refused.
 abbrev pub fault_text : MonitoringFault → Option (List ℕ)
 fault_text (NodeIsAlive node) = Some (codes "node " ++ decimal node ++ codes " is alive")
-fault_text NoFreeNode = Some (codes "each node up to 65535 is alive")
+fault_text NoFreeNode = Some (codes "no node up to 65535 is free")
 fault_text (File fault) = file_fault_text fault
 
 -- the path, and why it refused

@@ -15,7 +15,7 @@ use std::fmt;
 pub enum MonitoringFault {
     /// Another claim of the node stands, of this process or another. Comes only of a claim.
     NodeIsAlive { node: u64 },
-    /// Each of the numbers from 0 to 65,535 is claimed. Comes only where a free one is asked for.
+    /// None of the numbers from 0 to 65,535 is free. Comes only where a free one is asked for.
     NoFreeNode,
     /// The file of the node, or the folder of the log, refused:
     ///
@@ -35,7 +35,7 @@ impl fmt::Display for MonitoringFault {
     fn fmt<W: fmt::Write>(&self, f: &mut fmt::Formatter<W>) -> fmt::Result {
         match self {
             MonitoringFault::NodeIsAlive { node } => write!(f, "node {node} is alive"),
-            MonitoringFault::NoFreeNode => write!(f, "each node up to 65535 is alive"),
+            MonitoringFault::NoFreeNode => write!(f, "no node up to 65535 is free"),
             MonitoringFault::File(fault) => write!(f, "{fault}"),
         }
     }

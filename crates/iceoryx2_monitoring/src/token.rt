@@ -131,7 +131,7 @@ fn no_free_node(alloc: Global, log_path: &str) -> MonitoringError
 /// Claims the lowest node from 0 to 65,535 that isn't alive. A number whose file's path belongs to a link or a folder
 /// is passed over.
 ///
-/// `NoFreeNode` has the log's path, and comes where each of these is alive. Each other error has the path of a node's
+/// `NoFreeNode` has the log's path, and comes where none of these is left. Each other error has the path of a node's
 /// file, and is one of `claim`'s.
 pub fn claim_free<R: Files<File = File> + Clock + RandomSource + AllocGlobal>(
     rt: &R,
