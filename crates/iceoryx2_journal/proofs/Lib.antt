@@ -9,6 +9,7 @@ pub mod Unread
 pub mod Replaying
 pub mod SameChanges
 pub mod SameWorlds
+pub mod Processes
 pub mod GivingBack
 pub mod Cleaned
 pub mod Lives

@@ -34,7 +34,7 @@ use Rattle.iceoryx2_journal.proofs.SameChanges.{view_at, one_change}
 
 -- ---- the relation
 
-same_itself : (w : World) → IsSameButRead w w
+pub same_itself : (w : World) → IsSameButRead w w
 same_itself w = record { rows = refl; segments = refl; phases = λ p h. refl; tags = refl; tickets = refl; counter = refl }
 
 same_back : {u v : World} → IsSameButRead u v → IsSameButRead v u

@@ -8,3 +8,4 @@ pub mod Cleaning
 pub mod Replay
 pub mod Same
 pub mod Laws
+pub mod Processes

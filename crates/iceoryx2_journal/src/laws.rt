@@ -5,6 +5,9 @@ ghost use Rattle.iceoryx2_journal.specs.Laws.{RefusesOtherNodes, StaysOver};
 ghost use Rattle.iceoryx2_journal.specs.Laws.{LeavesNothingUnread, KeepsTheLog, ReplaysTheLog, IsWhatTheLogComesTo};
 ghost use Rattle.iceoryx2_journal.specs.Cleaning.{HoldsNothing, IsInItsName, SparesOtherNodes};
 ghost use Rattle.iceoryx2_journal.specs.Laws.{OneWorldEach, ShowsOneWorld};
+ghost use Rattle.iceoryx2_journal.specs.Processes.{AgreesInEach, GoesOnFromOthers, PublishesOnce};
+ghost use Rattle.iceoryx2_journal.specs.Processes.{CarriesOneDescription, StandsInOthers, OwnStandsInOthers};
+ghost use Rattle.iceoryx2_journal.specs.Processes.{OwnStandsAtTheEnd, FewHaveAPart};
 
 use iceoryx2_log::log::Log;
 
@@ -48,4 +51,36 @@ pub fn cleaning<L: Log>()
 pub fn entries()
     // What worlds come to by the same entries is the same, but for who has only read.
     ensures { OneWorldEach }
+{}
+
+/// What holds of several processes over one log, however many there are.
+///
+/// The premise is that each began in an empty world and has read a front of one list of entries: it has taken these over,
+/// or appended them. The entries of a log are known where its contract tells them, as a `MemoryLog`'s; a file's never are,
+/// and that all its handles read one list is trusted.
+pub fn processes<L: Log>()
+    // The world of each agrees.
+    ensures agrees { AgreesInEach L.contents }
+
+    // Where one has read more than another, its world is a run of accesses from the other's, but for who has only read.
+    ensures on { GoesOnFromOthers L.contents }
+
+    // No number is published twice.
+    ensures once { PublishesOnce L.contents }
+
+    // Factories of one service and number carry one description, in whichever processes they stand.
+    ensures one { CarriesOneDescription L.contents }
+
+    // A factory that stands in one process's world stands in that of each that has read more, unless its ticket is
+    // released there.
+    ensures stands { StandsInOthers L.contents }
+
+    // So does each of an own node, where nothing that the other has read more is in an own node's name: a node is one
+    // process's. At the end of the list it stands, where the rest is of nodes that aren't own.
+    ensures own { OwnStandsInOthers L.contents }
+    ensures own_at_the_end { OwnStandsAtTheEnd L.contents }
+
+    // All processes together, no more nodes have a factory of one service and number that stands at the end than its
+    // description allows.
+    ensures few { FewHaveAPart L.contents }
 {}

@@ -7,7 +7,7 @@ pub use iceoryx2_call_laws::laws::{agreement, promise_of_lawful_calls};
 pub use iceoryx2_call_laws::quiet_laws::{quiet_calls, quiet_laws};
 pub use iceoryx2_file_log::header::{laws_of_headers, lengths as lengths_of_headers};
 pub use iceoryx2_file_log::remainder::laws_of_tearing;
-pub use iceoryx2_journal::laws::journals;
+pub use iceoryx2_journal::laws::{journals, processes};
 pub use iceoryx2_log::form::{laws_of_forms as laws_of_log_forms, lengths as lengths_of_log_forms};
 pub use iceoryx2_rounds::laws::{
     clearing_limit_is_five, close_hands_back_its_own, create_is_short, create_keeps_what_it_made,
