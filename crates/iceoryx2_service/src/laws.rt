@@ -1,7 +1,7 @@
 //! The laws of words, verdicts and errors, of calls and sessions over a table, and of the worlds, batches, scripts,
 //! faults and traces below them.
 
-pub use crate::promise::{opens_again, promise_of_builders, promise_over_logs};
+pub use crate::promise::{opens_again, promise_of_builders, promise_over_logs, sessions_over_logs};
 pub use iceoryx2_call_laws::fault_laws::agreement_under_faults;
 pub use iceoryx2_call_laws::laws::{agreement, promise_of_lawful_calls};
 pub use iceoryx2_call_laws::quiet_laws::{quiet_calls, quiet_laws};

@@ -16,7 +16,9 @@ ghost use Rattle.iceoryx2_request_response_builder.specs.Builder.{Messages, Requ
 ghost use Rattle.iceoryx2_request_response_builder.specs.RequestResponseCalls.{request_response_call};
 ghost use Rattle.iceoryx2_call_laws.specs.OpensAgain.{OpensAgain};
 ghost use Rattle.iceoryx2_call_laws.specs.Promise.{Promise};
+ghost use Rattle.iceoryx2_log.specs.declared.entry.Entry.{Entry};
 ghost use Rattle.iceoryx2_service.specs.OverLogs.{PromiseOverLog};
+ghost use Rattle.iceoryx2_service.specs.SharedSlots.{HoldsOneDescription, FewHold};
 
 use iceoryx2_log::log::Log;
 
@@ -60,6 +62,18 @@ pub fn promise_over_logs<L: Log>()
         (b : RequestResponseBuilderState) (messages : Messages) (way : Way)
         (defined : List Pair) (required : Requirements)
         → PromiseOverLog L.contents nodes (request_response_call hash_of b messages way defined required) }
+{}
+
+/// What sessions hold together whose processes share a log, however many there are.
+///
+/// The premise is that each journal has read a front of one list of entries, which are known, and that each slot's
+/// factory is of an own node and stands, as it does after each command of an own node.
+pub fn sessions_over_logs<L: Log>()
+    // In all slots factories of one service and number carry one description.
+    ensures one { (counter : ℕ) (entries : List Entry) → HoldsOneDescription L.contents counter entries }
+
+    // Where a node is one process's, no more nodes hold any of these than their description allows.
+    ensures few { (counter : ℕ) (entries : List Entry) → FewHold L.contents counter entries }
 {}
 
 /// What a call of a builder has given, whichever of its three, an open with the same settings and

@@ -1,0 +1,47 @@
+-- What sessions hold together whose processes share a log.
+use Rattle.std.specs.Prelude.{◌≡◌, ℕ, ◌≤◌, nat_eq, List, length, Option}
+use Rattle.std.specs.List.{IsDistinct}
+use Rattle.iceoryx2_description.specs.Description.{max_nodes_of}
+use Rattle.iceoryx2_access.specs.Registered.{Registered}
+use Rattle.iceoryx2_access.specs.Run.{Each}
+use Rattle.iceoryx2_log.specs.declared.entry.Entry.{Entry}
+use Rattle.iceoryx2_log.specs.Log.{Contents}
+use Rattle.iceoryx2_journal.specs.Taking.{is_own}
+use Rattle.iceoryx2_journal.specs.Journal.{JournalState}
+use Rattle.iceoryx2_journal.specs.Processes.{HasRead, AreOfOthers}
+use Rattle.iceoryx2_session.specs.Sessions.{SessionOver}
+use Rattle.iceoryx2_session.specs.Slots.{HoldsAt}
+use Rattle.iceoryx2_session.specs.StandingSlots.{SlotsStandUnder}
+
+module _ {L : Type 0} (contents : L → Option Contents) (counter : ℕ) (entries : List Entry) where
+  -- A slot holds the factory, of a session of which each slot's factory is of an own node and stands, over a journal
+  -- that has read a front of these entries.
+  pub record IsHeld (f : Registered) : Type 0 where
+    pub session : SessionOver (JournalState L)
+    pub slot : ℕ
+    pub holds : HoldsAt session.slots slot f
+    pub stand : SlotsStandUnder (is_own session.table.nodes) session.table.world session.slots
+    pub read : HasRead contents counter entries session.table
+
+  -- And the rest of them is of nodes that aren't own there.
+  pub record IsHeldAtTheEnd (f : Registered) : Type 0 where
+    pub held : IsHeld f
+    pub others : AreOfOthers held.session.table.nodes held.read.rest
+
+  -- The node has a factory of this one's service and number in a slot, of whichever session.
+  pub record HoldsOne (f : Registered) (i : ℕ) : Type 0 where
+    pub factory : Registered
+    pub node : factory.node ≡ i
+    pub hash : factory.description.hash ≡ f.description.hash
+    pub number : factory.number ≡ f.number
+    pub held : IsHeldAtTheEnd factory
+
+  -- In the slots of all sessions factories of one service and number carry one description.
+  abbrev pub HoldsOneDescription : Type 0
+  HoldsOneDescription = (f g : Registered) → IsHeld f → IsHeld g
+      → f.description.hash ≡ g.description.hash → f.number ≡ g.number → f.description ≡ g.description
+
+  -- No more nodes hold any of these than their description allows.
+  abbrev pub FewHold : Type 0
+  FewHold = (f : Registered) (nodes : List ℕ) → IsHeldAtTheEnd f → IsDistinct nat_eq nodes → Each (HoldsOne f) nodes
+      → length nodes ≤ max_nodes_of f.description.pattern
