@@ -7,8 +7,9 @@ use negotiate_serve::ending::{Ending, FAULT, Fault, NOT_A_COMMAND};
 use negotiate_serve::report::report;
 use std::process::ExitCode;
 use std::{env, io};
-use wulameron_serve::arguments::arguments;
+use wulameron_serve::arguments::{Asked, arguments};
 use wulameron_serve::run::run;
+use wulameron_serve::upkeep::{clean, nodes};
 
 /// Prints what the words asked for, or what is wrong with them, and gives the status.
 fn print(rt: &HostRuntime, error: &Error) -> u8 {
@@ -29,10 +30,14 @@ fn carry_out(rt: &HostRuntime, words: &[String]) -> u8 {
     match arguments(rt.alloc(), words) {
         Ok(Some(found)) => {
             let mut output = io::writer(rt);
-            run(rt, &found, rt.reader(), &mut output, &mut rt.stderr())
+            match found {
+                Asked::Run(asked) => run(rt, &asked, rt.reader(), &mut output, &mut rt.stderr()),
+                Asked::Nodes(place) => nodes(&rt, &place, &mut output, &mut rt.stderr()),
+                Asked::Clean(place) => clean(&rt, &place, &mut output, &mut rt.stderr()),
+            }
         }
         Ok(None) => {
-            let _ = eprintln!(rt; "usage: wulameron run --at FILE --node NUMBER < LINES");
+            let _ = eprintln!(rt; "usage: wulameron run|nodes|clean --at FILE");
             NOT_A_COMMAND
         }
         Err(error) => print(rt, &error),

@@ -2,3 +2,5 @@ pub mod CallNodes
 pub mod NodeAnswers
 pub mod ToldLines
 pub mod UntilHalted
+pub mod Refreshing
+pub mod JournalLives

@@ -21,7 +21,7 @@ use Rattle.wulameron_serve.specs.declared.shared.SharedAnswerer.{SharedAnswerer}
 use Rattle.wulameron_serve.specs.declared.trouble.Trouble.{Trouble}
 use Rattle.wulameron_serve.specs.Lines.{AnswersWhileUsable}
 use Rattle.wulameron_serve.specs.Served.{AnswersLinesFor}
-use Rattle.wulameron_serve.specs.Shared.{StandsFor, AnswersFor, fresh_session}
+use Rattle.wulameron_serve.specs.Shared.{StandsFor, AnswersFor}
 use Rattle.wulameron_serve.proofs.CallNodes.{caller_named}
 
 module _ {S : Type 0} (world : S → World) (own : S → ℕ → Bool) (node : ℕ) where
@@ -54,31 +54,31 @@ module _ {M : Type 0} (Answers : Answering M) (m n : M) (line : List ℕ) (c : C
 
 -- ---- an input
 
-module _ {S : Type 0} (step : S → Letter → S → Type 0) (world : S → World) (own : S → ℕ → Bool) (trouble : S → Option Trouble) where
+module _ {S D : Type 0} (step : S → Letter → S → Type 0) (world : S → World) (own : S → ℕ → Bool) (trouble : S → Option Trouble) where
   -- how the answerer answers
-  abbrev pub AnswersOf : Answering (SharedAnswerer S)
+  abbrev pub AnswersOf : Answering (SharedAnswerer S D)
   AnswersOf = AnswersWhileUsable (λ a. trouble (own_state a.session).table)
-      (λ old line c text new. (new.node ≡ old.node) × AnswersFor step world own old.node (own_state old.session) c text (own_state new.session))
+      (λ old line c text new. (new.node ≡ old.node) × AnswersFor step world own old.node line (own_state old.session) c text (own_state new.session))
 
   module _ (node : ℕ) where
-    abbrev Shows : SharedAnswerer S → SessionOver S → Type 0
+    abbrev Shows : SharedAnswerer S D → SessionOver S → Type 0
     Shows a s = (a.node ≡ node) × (own_state a.session ≡ s)
 
-    along : (a b : SharedAnswerer S) (line : List ℕ) (c : Command) (text : List ℕ) (s : SessionOver S) → AnswersOf a line c text b → Shows a s
+    along : (a b : SharedAnswerer S D) (line : List ℕ) (c : Command) (text : List ℕ) (s : SessionOver S) → AnswersOf a line c text b → Shows a s
         → (t : SessionOver S) × AnswersLinesFor step world own trouble node s line c text t × Shows b t
     along a b line c text s by shows = (
       own_state b.session,
       subst (λ (r : SessionOver S). AnswersLinesFor step world own trouble node r line c text (own_state b.session)) shows.1
-          (by.0, subst (λ (n : ℕ). AnswersFor step world own n (own_state a.session) c text (own_state b.session)) shows.0 by.1.1),
+          (by.0, subst (λ (n : ℕ). AnswersFor step world own n line (own_state a.session) c text (own_state b.session)) shows.0 by.1.1),
       (by.1.0 ∙ shows.0, refl),
     )
 
     -- what is said of an input is said of the session alone
-    pub serves_for : (a : SharedAnswerer S) (storage : S) (ended : Result Ending Fault) (input unread : List ℕ) (old new : Option (List ℕ)) → a.node ≡ node
-        → own_state a.session ≡ fresh_session storage → ServesBy AnswersOf a ended input unread old new
-        → ServesBy (AnswersLinesFor step world own trouble node) (fresh_session storage) ended input unread old new
-    serves_for a storage ended input unread old new is fresh by = record {
+    pub serves_for : (a : SharedAnswerer S D) (ended : Result Ending Fault) (input unread : List ℕ) (old new : Option (List ℕ)) → a.node ≡ node
+        → ServesBy AnswersOf a ended input unread old new
+        → ServesBy (AnswersLinesFor step world own trouble node) (own_state a.session) ended input unread old new
+    serves_for a ended input unread old new is by = record {
       said = by.said;
-      transcript = transcript_along AnswersOf (AnswersLinesFor step world own trouble node) Shows along a (fresh_session storage) input ended by.said unread by.transcript (is, fresh);
+      transcript = transcript_along AnswersOf (AnswersLinesFor step world own trouble node) Shows along a (own_state a.session) input ended by.said unread by.transcript (is, refl);
       written = by.written;
     }

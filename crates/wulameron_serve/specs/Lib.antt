@@ -1,4 +1,7 @@
+pub mod Dead
 pub mod Lines
 pub mod Served
 pub mod Shared
+pub mod Starting
 pub mod Troubles
+pub mod Upkeep

@@ -1,5 +1,5 @@
 -- How a program answers lines as long as its log can be used, and how it ends.
-use Rattle.std.specs.Prelude.{◌≡◌, ℕ, Result, Ok, Err, Option, Some, None}
+use Rattle.std.specs.Prelude.{◌≡◌, ℕ, Bool, true, false, Result, Ok, Err, Option, Some, None}
 use Rattle.negotiate_serve.specs.declared.ending.Ending.{Ending}
 use Rattle.negotiate_serve.specs.declared.ending.Fault.{Fault}
 use Rattle.negotiate_serve.specs.declared.ending.Fault.TheVariants as fault
@@ -24,6 +24,12 @@ abbrev pub seen_as : Result Ending Halt → Result Ending Fault
 seen_as (Ok ending) = Ok ending
 seen_as (Err (halt.Serving f)) = Err f
 seen_as (Err (halt.Log t)) = Err fault.Reading
+
+-- It ends before anything is read.
+abbrev pub is_not_started : Result Ending Halt → Bool
+is_not_started (Err (halt.Log t)) = true
+is_not_started (Err (halt.Serving fault.OutOfMemory)) = true
+is_not_started _ = false
 
 -- A log by which it ends isn't used any more, for this reason.
 abbrev pub IsEndOf : Option Trouble → Result Ending Halt → Type 0

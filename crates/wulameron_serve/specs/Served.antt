@@ -1,10 +1,11 @@
 -- What a program answers to an input for its node.
-use Rattle.std.specs.Prelude.{◌≡◌, ℕ, Bool, false, List, [], ◌∷◌, Option, Result}
+use Rattle.std.specs.Prelude.{◌≡◌, ◌⊎◌, ℕ, Bool, true, false, List, [], ◌∷◌, Option, Result}
 use Rattle.iceoryx2_access.specs.Letter.{Letter}
 use Rattle.iceoryx2_world.specs.World.{World, empty_world}
 use Rattle.iceoryx2_world.specs.Across.{Agrees}
 use Rattle.iceoryx2_file_log.specs.declared.error.FileFault.{FileFault}
 use Rattle.iceoryx2_journal.specs.Journal.{JournalState, IsJournalAccess}
+use Rattle.iceoryx2_journal.specs.Replay.{Lives}
 use Rattle.iceoryx2_journal.specs.Taking.{is_own}
 use Rattle.iceoryx2_log.specs.Log.{Contents}
 use Rattle.iceoryx2_session.specs.Sessions.{SessionOver, ClosesSlotsBy}
@@ -12,8 +13,8 @@ use Rattle.negotiate_serve.specs.declared.ending.Ending.{Ending}
 use Rattle.negotiate_serve.specs.Transcripts.{Answering}
 use Rattle.negotiate_serve.specs.Served.{ServesBy}
 use Rattle.wulameron_serve.specs.declared.lines.Halt.{Halt}
-use Rattle.wulameron_serve.specs.Lines.{AnswersWhileUsable, seen_as}
-use Rattle.wulameron_serve.specs.Shared.{AnswersFor, fresh_session}
+use Rattle.wulameron_serve.specs.Lines.{AnswersWhileUsable, is_not_started, seen_as}
+use Rattle.wulameron_serve.specs.Shared.{AnswersFor, Refreshes, fresh_session}
 use Rattle.wulameron_serve.specs.Troubles.{trouble_of}
 use Rattle.wulameron_serve.specs.declared.trouble.Trouble.{Trouble}
 
@@ -22,26 +23,43 @@ module _ {S : Type 0} (step : S → Letter → S → Type 0) (world : S → Worl
   -- how lines are answered for the node, as long as the log can be used
   abbrev pub AnswersLinesFor : Answering (SessionOver S)
   AnswersLinesFor = AnswersWhileUsable (λ s. trouble s.table)
-      (λ old line c text new. AnswersFor step world own node old c text new)
+      (λ old line c text new. AnswersFor step world own node line old c text new)
 
-  -- The writer has taken what is said of an input for the node, from a session on that has done nothing yet, and
-  -- nothing else. Then the factories of a session's slots are closed, and the world agrees.
+  -- What dead nodes have is given back, from a session on that has done nothing yet. Then the writer has taken what is
+  -- said of an input for the node, and nothing else. At last the factories of a session's slots are closed, and the
+  -- world agrees.
   pub record Serves (storage : S) (ended : Result Ending Halt) (left : S) (input : List ℕ)
       (old new : Option (List ℕ)) : Type 0 where
+    pub first : SessionOver S
+    pub cleaned : Refreshes world own (fresh_session storage) first
     pub unread : List ℕ
-    pub serves : ServesBy AnswersLinesFor (fresh_session storage) (seen_as ended) input unread old new
+    pub serves : ServesBy AnswersLinesFor first (seen_as ended) input unread old new
     pub last : SessionOver S
     pub closed : ClosesSlotsBy step last.table last.slots left
     pub agrees : Agrees (world left)
 
--- The same over a journal that has this node alone, and has taken nothing over yet.
-pub record ServesLog {L : Type 0} (contents : L → Option Contents) (refused : L → Option FileFault) (log : L)
+-- a journal of no node that has taken nothing over yet
+abbrev pub first_journal : {L : Type 0} → L → ℕ → JournalState L
+first_journal log counter = record { world = empty_world counter; log = log; nodes = []; is_over = false }
+
+-- The same over a journal that has this node alone, after what the node had was given back.
+pub record StartsLog {L : Type 0} (contents : L → Option Contents) (refused : L → Option FileFault) (log : L)
     (counter node : ℕ) (ended : Result Ending Halt) (input : List ℕ)
     (old new : Option (List ℕ)) : Type 0 where
   pub journal : JournalState L
-  pub begins : journal ≡ record { world = empty_world counter; log = log; nodes = node ∷ []; is_over = false }
+  pub lives : Lives contents (first_journal log counter) journal
+  pub nodes : journal.nodes ≡ node ∷ []
+  pub first : SessionOver (JournalState L)
+  pub cleaned : Refreshes (λ j. j.world) (λ j. is_own j.nodes) (fresh_session journal) first
   pub unread : List ℕ
   pub serves : ServesBy
       (AnswersLinesFor (IsJournalAccess contents) (λ j. j.world) (λ j. is_own j.nodes)
       (λ j. trouble_of j.is_over (refused j.log)) node)
-      (fresh_session journal) (seen_as ended) input unread old new
+      first (seen_as ended) input unread old new
+
+-- It does so, or the node can't start, and nothing is read or written.
+abbrev pub ServesLog : {L : Type 0} → (contents : L → Option Contents) → (refused : L → Option FileFault) → L
+    → (counter node : ℕ) → Result Ending Halt → (input : List ℕ) → (old new : Option (List ℕ)) → Type 0
+ServesLog contents refused log counter node ended input old new =
+    StartsLog contents refused log counter node ended input old new
+    ⊎ (is_not_started ended ≡ true) × (new ≡ old)

@@ -1,5 +1,5 @@
 -- How lines are answered over a storage that processes share.
-use Rattle.std.specs.Prelude.{◌≡◌, ◌≢◌, ℕ, Bool, true, List, Option, None, ◌++◌, codes, decimal, replicate}
+use Rattle.std.specs.Prelude.{◌≡◌, ◌≢◌, ℕ, Bool, true, false, List, Option, None, ◌++◌, codes, decimal, replicate}
 use Rattle.iceoryx2_description.specs.declared.config.Config.{Config}
 use Rattle.iceoryx2_description.specs.Defaults.{default_config}
 use Rattle.iceoryx2_access.specs.Letter.{Letter}
@@ -13,7 +13,10 @@ use Rattle.iceoryx2_commands.specs.declared.command.Reply.{Reply}
 use Rattle.iceoryx2_commands.specs.Commands.{slot_count}
 use Rattle.iceoryx2_session.specs.Sessions.{SessionOver, GoesBy, shown_session}
 use Rattle.iceoryx2_session.specs.StandingSlots.{SlotsStandInWorld}
+use Rattle.negotiate_lines.specs.declared.line.Line.TheVariants as said
+use Rattle.negotiate_lines.specs.Lines.{IsLine}
 use Rattle.negotiate_serve.specs.Replies.{Tells}
+use Rattle.wulameron_serve.specs.Dead.{is_blocked}
 
 -- what is said of a line that names another node
 abbrev pub not_ours : ℕ → List ℕ
@@ -32,14 +35,27 @@ module _ {S : Type 0} (world : S → World) (own : S → ℕ → Bool) where
     pub stand : SlotsStandInWorld (own s.table) (shown_session world s)
     pub of_own : own s.table node ≡ true
 
-module _ {S : Type 0} (step : S → Letter → S → Type 0) (world : S → World) (own : S → ℕ → Bool) (node : ℕ) where
+module _ {S : Type 0} (step : S → Letter → S → Type 0) (world : S → World) (own : S → ℕ → Bool) (node : ℕ)
+    (line : List ℕ) where
+  -- What is said after a refusal of which a dead node may be the reason: what dead nodes have is given back, and the
+  -- refusal stays, or the line's call is made once more.
+  pub data SaysAgain (refused : Reply) (slot : ℕ) (old new : SessionOver S) (text : List ℕ) : Type 0 where
+    stays : Refreshes world own old new → Tells slot refused text → SaysAgain refused slot old new text
+    again : (call : Call) (answer : Reply) (mid : SessionOver S) → IsLine line (said.Command (command.Call call))
+        → call.node ≡ node → Refreshes world own old mid → GoesBy step world mid (command.Call call) answer new
+        → Tells call.slot answer text → SaysAgain refused slot old new text
+
   -- How a command is answered for this node: not where it names another node, by the session's reply to a call or a
-  -- close, and by a listing after what others did was shown.
+  -- close, once more after a refusal of which a dead node may be the reason, and by a listing after what others did was
+  -- shown.
   pub data AnswersFor (old : SessionOver S) : Command → (text : List ℕ) → SessionOver S → Type 0 where
     of_another : {call : Call} → call.node ≢ node → AnswersFor old (command.Call call) (not_ours call.node) old
     called : {call : Call} {text : List ℕ} {new : SessionOver S} (answer : Reply) → call.node ≡ node
-        → GoesBy step world old (command.Call call) answer new → Tells call.slot answer text
-        → AnswersFor old (command.Call call) text new
+        → GoesBy step world old (command.Call call) answer new → is_blocked answer ≡ false
+        → Tells call.slot answer text → AnswersFor old (command.Call call) text new
+    blocked : {call : Call} {text : List ℕ} {new : SessionOver S} (answer : Reply) (mid : SessionOver S)
+        → call.node ≡ node → GoesBy step world old (command.Call call) answer mid → is_blocked answer ≡ true
+        → SaysAgain answer call.slot mid new text → AnswersFor old (command.Call call) text new
     closed : {slot : ℕ} {text : List ℕ} {new : SessionOver S} (answer : Reply)
         → GoesBy step world old (command.Close slot) answer new → Tells slot answer text
         → AnswersFor old (command.Close slot) text new

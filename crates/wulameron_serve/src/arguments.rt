@@ -14,48 +14,90 @@ use std::time::Duration;
 pub struct Run<'a> {
     /// The path of the log's file.
     pub at: &'a str,
-    /// The node in whose name the lines are.
-    pub node: u64,
+    /// The node in whose name the lines are. `None` where any will do.
+    pub node: Option<u64>,
     pub options: FileLogOptions,
+    /// Whether what dead nodes have is given back.
+    pub cleans: bool,
+}
+
+/// A log in a file, and how it is used.
+#[derive(Clone, Copy, Debug)]
+pub struct Place<'a> {
+    /// The path of the log's file.
+    pub at: &'a str,
+    pub options: FileLogOptions,
+}
+
+/// What the words ask for.
+#[derive(Clone, Copy, Debug)]
+pub enum Asked<'a> {
+    /// Lines are to be answered.
+    Run(Run<'a>),
+    /// The nodes are to be listed.
+    Nodes(Place<'a>),
+    /// What dead nodes have is to be given back.
+    Clean(Place<'a>),
 }
 
 /// What the words ask for, the first of which is the program's name. `None` where they name no command.
 ///
 /// `Error` where the words are wrong, or ask for help or the version, and where there is no memory.
-pub fn arguments<'a>(alloc: Global, words: &'a [String]) -> Result<Option<Run<'a>>, Error> {
+pub fn arguments<'a>(alloc: Global, words: &'a [String]) -> Result<Option<Asked<'a>>, Error> {
     let matches = command(alloc)?.try_get_matches_from(words)?;
-    match matches.subcommand_matches("run") {
-        Some(matches) => Ok(run_of(matches)),
-        None => Ok(None),
+    Ok(asked_by(&matches))
+}
+
+fn asked_by<'a>(matches: &ArgMatches<'a>) -> Option<Asked<'a>> {
+    if let Some(matches) = matches.subcommand_matches("run") {
+        return Some(Asked::Run(run_of(matches)?));
     }
+    if let Some(matches) = matches.subcommand_matches("nodes") {
+        return Some(Asked::Nodes(place_of(matches)?));
+    }
+    if let Some(matches) = matches.subcommand_matches("clean") {
+        return Some(Asked::Clean(place_of(matches)?));
+    }
+    None
 }
 
 /// What the program takes.
 fn command<'a>(alloc: Global) -> Result<Command<'a>, AllocError> {
     let run = run_command(alloc)?;
+    let nodes = place_command(alloc, "nodes", "Lists the nodes, and whether each is alive")?;
+    let clean = place_command(
+        alloc,
+        "clean",
+        "Gives back what nodes have whose processes are gone",
+    )?;
     Command::new(alloc, "wulameron")
         .version("0.1.0")
         .about("Creates and opens named services over a log that processes share")
         .subcommand_required(true)
-        .subcommand(run)
+        .subcommand(run)?
+        .subcommand(nodes)?
+        .subcommand(clean)
 }
 
-fn run_command<'a>(alloc: Global) -> Result<Command<'a>, AllocError> {
-    Command::new(alloc, "run")
-        .about("Answers the lines of the standard input")
+/// A command over a log.
+fn place_command<'a>(
+    alloc: Global,
+    name: &'a str,
+    about: &'a str,
+) -> Result<Command<'a>, AllocError> {
+    let command = Command::new(alloc, name).about(about);
+    with_place(alloc, command)
+}
+
+/// The same with what a log in a file wants.
+fn with_place<'a>(alloc: Global, command: Command<'a>) -> Result<Command<'a>, AllocError> {
+    command
         .arg(required(
             alloc,
             "at",
             "FILE",
             "The file of the log, which is made where there is none",
         ))?
-        .arg(required(
-            alloc,
-            "node",
-            "NUMBER",
-            "The node in whose name the lines are",
-        )
-        .value_parser(value_parser!(u64)))?
         .arg(wait(alloc))?
         .arg(flag(
             alloc,
@@ -69,6 +111,15 @@ fn run_command<'a>(alloc: Global) -> Result<Command<'a>, AllocError> {
         ))
 }
 
+fn run_command<'a>(alloc: Global) -> Result<Command<'a>, AllocError> {
+    let command = Command::new(alloc, "run").about("Answers the lines of the standard input");
+    with_place(alloc, command)?.arg(node(alloc))?.arg(flag(
+        alloc,
+        "no-clean",
+        "Leaves what nodes have whose processes are gone",
+    ))
+}
+
 /// An argument that has to be given, with a value.
 fn required<'a>(alloc: Global, name: &'a str, value: &'a str, help: &'a str) -> Arg<'a> {
     Arg::new(alloc, name)
@@ -77,6 +128,16 @@ fn required<'a>(alloc: Global, name: &'a str, value: &'a str, help: &'a str) -> 
         .action(ArgAction::Set)
         .value_name(value)
         .help(help)
+}
+
+/// The node, which may be left out.
+fn node<'a>(alloc: Global) -> Arg<'a> {
+    Arg::new(alloc, "node")
+        .long("node")
+        .action(ArgAction::Set)
+        .value_name("NUMBER")
+        .value_parser(value_parser!(u64))
+        .help("The node in whose name the lines are; the lowest free one without it")
 }
 
 /// How long it is tried to hold the log.
@@ -101,12 +162,23 @@ fn flag<'a>(alloc: Global, name: &'a str, help: &'a str) -> Arg<'a> {
 fn run_of<'a>(matches: &ArgMatches<'a>) -> Option<Run<'a>>
     ensures at { IfSome result (λ run. first_value (found_of matches.now) (codes "at") ≡ Some run.at.now) }
 {
-    let at = matches.get_str("at")?;
-    let node = matches.get_one::<u64>("node")?;
-    let wait = matches.get_one::<u64>("wait")?;
+    let place = place_of(matches)?;
     Some(Run {
+        at: place.at,
+        node: matches.get_one::<u64>("node"),
+        options: place.options,
+        cleans: !matches.get_flag("no-clean"),
+    })
+}
+
+/// The log that was matched. `None` where a value is missing that each match has.
+fn place_of<'a>(matches: &ArgMatches<'a>) -> Option<Place<'a>>
+    ensures at { IfSome result (λ place. first_value (found_of matches.now) (codes "at") ≡ Some place.at.now) }
+{
+    let at = matches.get_str("at")?;
+    let wait = matches.get_one::<u64>("wait")?;
+    Some(Place {
         at,
-        node,
         options: FileLogOptions {
             patience: Duration::from_millis(wait),
             creation_timeout: Duration::from_millis(500),

@@ -2,7 +2,10 @@
 #![tactic(auto)]
 
 pub mod arguments;
+pub mod dead;
 pub mod lines;
 pub mod run;
 pub mod shared;
+pub mod starting;
 pub mod trouble;
+pub mod upkeep;

@@ -17,7 +17,7 @@ use std::io::{BufRead, BufReader, Read, Write};
 pub enum Halt {
     /// The input, the output or memory, as in `negotiate`.
     Serving(Fault),
-    /// The log can't be used any more, which was told.
+    /// The log can't be used any more, of which the writer of errors has a line.
     Log(Trouble),
 }
 

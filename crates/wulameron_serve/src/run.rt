@@ -1,18 +1,23 @@
 //! The whole program: an input in, its answers out, over the log in a file.
 
-ghost use Rattle.std.specs.Prelude.{◌≡◌, ℕ, List, Some, None, true};
+ghost use Rattle.std.specs.Prelude.{◌≡◌, ◌⊎◌, ℕ, List, Err, Some, true};
 ghost use Rattle.iceoryx2_world.specs.Across.{Agrees};
-ghost use Rattle.wulameron_serve.specs.Lines.{IsUsable, status_with};
+ghost use Rattle.wulameron_serve.specs.Lines.{is_not_started, status_with};
 ghost use Rattle.wulameron_serve.specs.Served.{Serves, ServesLog};
 
 use crate::arguments::Run;
+use crate::dead::{DeadNodes, NodeFiles};
 use crate::lines::{Halt, serve_until};
 use crate::shared::SharedAnswerer;
-use crate::trouble::{Refusing, Trouble, Troubled, Watch, report_trouble};
+use crate::starting::start;
+use crate::trouble::{Refusing, Trouble, Troubled, Watch, report_claim, report_trouble};
 use iceoryx2_file_log::file_log::FileLog;
 use iceoryx2_journal::journal::Journal;
+use iceoryx2_monitoring::error::MonitoringError;
+use iceoryx2_monitoring::token::{Token, claim, claim_free};
 use iceoryx2_session::world_storage::WorldStorage;
 use negotiate_serve::ending::{Ending, FAULT, Fault, status};
+use negotiate_serve::output::say;
 use negotiate_serve::report::report;
 use negotiate_serve::serve::tell_fault;
 use std::alloc::Global;
@@ -24,13 +29,62 @@ use std::time::Clock;
 
 /// Answers the lines of an input over the log in a file, which is made where there is none, and gives the status with
 /// which the program ends: 0 at the end of the input, 2 after a line that is no command, and 3 after a fault, of which
-/// the writer of errors has a line.
+/// the writer of errors has a line. The node is claimed as long as it runs.
 pub fn run<
     F: Files<File = File> + Clock + RandomSource + AllocGlobal + Drop,
     R: Read + Drop,
     W: Write,
     E: Write,
 >(rt: F, run: &Run<'_>, input: R, output: &mut W, errors: &mut E) -> u8 {
+    let alloc = rt.alloc();
+    match claimed(&rt, run) {
+        Ok(token) => {
+            let node = token.node();
+            if run.node.is_none() {
+                let _ = report_node(alloc, run.at, node, errors);
+            }
+            let status = run_as(&rt, node, run, input, output, errors);
+            drop(token);
+            status
+        }
+        Err(error) => {
+            let _ = report_claim(alloc, &error, errors);
+            FAULT
+        }
+    }
+}
+
+/// Writes which node was claimed.
+fn report_node<E: Write>(
+    alloc: Global,
+    path: &str,
+    node: u64,
+    errors: &mut E,
+) -> Result<(), Fault> {
+    match format!(in alloc; "wulameron: {path}: this is node {node}\n") {
+        Ok(line) => say(line.as_bytes(), errors),
+        Err(_) => Err(Fault::OutOfMemory),
+    }
+}
+
+/// The claim of the node that is named, or of the lowest that is free.
+fn claimed<F: Files<File = File> + Clock + RandomSource + AllocGlobal>(
+    rt: &F,
+    run: &Run<'_>,
+) -> Result<Token, MonitoringError> {
+    match run.node {
+        Some(node) => claim(rt, run.at, node, run.options.sharing),
+        None => claim_free(rt, run.at, run.options.sharing),
+    }
+}
+
+/// Does so for a node that is claimed.
+fn run_as<
+    F: Files<File = File> + Clock + RandomSource + AllocGlobal,
+    R: Read + Drop,
+    W: Write,
+    E: Write,
+>(rt: &F, node: u64, run: &Run<'_>, input: R, output: &mut W, errors: &mut E) -> u8 {
     let alloc = rt.alloc();
     let Ok(path) = format!(in alloc; "{}", run.at) else {
         let _ = report("wulameron", Err(Fault::OutOfMemory), errors);
@@ -39,7 +93,15 @@ pub fn run<
     match FileLog::open(rt, path, run.options) {
         Ok(log) => {
             let counter = log.header().counter;
-            let ended = serve_log(alloc, log, counter, run, input, output, errors);
+            let dead = NodeFiles {
+                rt,
+                path: run.at,
+                sharing: run.options.sharing,
+                cleans: run.cleans,
+            };
+            let ended = serve_log(
+                alloc, log, counter, run.at, node, dead, input, output, errors,
+            );
             report_end(ended, errors)
         }
         Err(error) => {
@@ -64,42 +126,58 @@ fn report_end<E: Write>(ended: Result<Ending, Halt>, errors: &mut E) -> u8
     }
 }
 
-/// Answers each line of an input for the run's node, over a journal of the log whose counter begins so, and closes all
-/// that is open then, whatever ended it. What goes wrong at the log is told on the writer of errors.
-fn serve_log<L: Refusing + Drop, R: Read + Drop, W: Write, E: Write>(
+/// Starts a node over a journal of the log whose counter begins so, answers each line of an input for it, and closes
+/// all that is open then, whatever ended it. What goes wrong at the log the writer of errors has by a line.
+fn serve_log<L: Refusing + Drop, D: DeadNodes + Drop, R: Read + Drop, W: Write, E: Write>(
     alloc: Global,
     log: L,
     counter: u64,
-    run: &Run<'_>,
+    path: &str,
+    node: u64,
+    dead: D,
     input: R,
     output: &mut W,
     errors: &mut E,
 ) -> Result<Ending, Halt>
-    requires { L.refused log ≡ None }
     ensures { (bytes : List ℕ) → R.remaining input ≡ Some bytes
-        → ServesLog L.contents L.refused log counter run.now.node result bytes
+        → ServesLog L.contents L.refused log counter node result bytes
         (W.contents output.old) (W.contents output.new) }
 {
-    match vec![in alloc; run.node] {
-        Ok(nodes) => {
-            let journal = Journal::starting_at(alloc, log, nodes, counter);
-            let mut watch = Watch::new(alloc, run.at);
+    let mut journal = Journal::starting_at(alloc, log, Vec::new(alloc), counter);
+    let mut watch = Watch::new(alloc, path);
+    let started = start(&mut journal, node);
+    if let Some(trouble) = watch.look(&journal, errors) {
+        return Err(Halt::Log(trouble));
+    }
+    match started {
+        Ok(()) => {
             let (ended, journal) = serve(
-                alloc, run.node, journal, input, output, errors, &mut watch,
+                alloc, node, journal, dead, input, output, errors, &mut watch,
             );
             let _ = watch.look(&journal, errors);
             ended
         }
-        Err(_) => Err(Halt::Serving(tell_fault(Fault::OutOfMemory, output))),
+        Err(_) => Err(halt_by(journal.trouble())),
+    }
+}
+
+/// Why a node doesn't start, by what goes wrong at the log. Where nothing does there was no memory.
+fn halt_by(trouble: Option<Trouble>) -> Halt
+    ensures { is_not_started (Err result) ≡ true }
+{
+    match trouble {
+        Some(trouble) => Halt::Log(trouble),
+        None => Halt::Serving(Fault::OutOfMemory),
     }
 }
 
 /// Answers each line of an input for a node, over a storage, and closes all that is open then, whatever ended it.
-/// Gives the storage back.
-pub fn serve<S: WorldStorage + Troubled, R: Read + Drop, W: Write, E: Write>(
+/// Before the first line it gives back what dead nodes have. Gives the storage back.
+pub fn serve<S: WorldStorage + Troubled, D: DeadNodes + Drop, R: Read + Drop, W: Write, E: Write>(
     alloc: Global,
     node: u64,
     storage: S,
+    dead: D,
     input: R,
     output: &mut W,
     errors: &mut E,
@@ -107,12 +185,16 @@ pub fn serve<S: WorldStorage + Troubled, R: Read + Drop, W: Write, E: Write>(
 ) -> (Result<Ending, Halt>, S)
     requires agrees { Agrees (S.world storage) }
     requires of_own { S.own storage node ≡ true }
-    requires usable { IsUsable (S.trouble storage) }
     ensures { (bytes : List ℕ) → R.remaining input ≡ Some bytes
         → Serves S.step S.world S.own S.trouble node storage result.0 result.1 bytes
-        (W.contents output.old) (W.contents output.new) }
+        (W.contents output.old) (W.contents output.new)
+        ⊎ (is_not_started result.0 ≡ true) × (W.contents output.new ≡ W.contents output.old) }
 {
-    let mut answerer = SharedAnswerer::new(node, storage);
+    let mut answerer = SharedAnswerer::new(node, storage, dead);
+    let _ = answerer.clean(alloc);
+    if let Some(trouble) = watch.look(&answerer, errors) {
+        return (Err(Halt::Log(trouble)), answerer.finish());
+    }
     let ended = serve_until(alloc, input, output, errors, &mut answerer, watch);
     (ended, answerer.finish())
 }

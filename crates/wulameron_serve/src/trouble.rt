@@ -5,12 +5,15 @@ ghost use Rattle.iceoryx2_file_log.specs.declared.error.FileFault as declared-fa
 ghost use Rattle.wulameron_serve.specs.declared.trouble.Trouble as declared;
 ghost use Rattle.wulameron_serve.specs.Troubles.{TellsLine, advice_of, is_last, last_of, trouble_line, trouble_of};
 ghost use Rattle.wulameron_serve.specs.Troubles.{trouble_text};
+ghost use Rattle.iceoryx2_monitoring.specs.Errors.{fault_text as claim_text};
 
+use crate::dead::DeadNodes;
 use crate::shared::SharedAnswerer;
 use iceoryx2_file_log::error::FileFault;
 use iceoryx2_file_log::file_log::FileLog;
 use iceoryx2_journal::journal::Journal;
 use iceoryx2_log::log::Log;
+use iceoryx2_monitoring::error::MonitoringError;
 use iceoryx2_session::world_storage::WorldStorage;
 use negotiate_serve::ending::Fault;
 use negotiate_serve::output::say;
@@ -71,6 +74,7 @@ pub fn advice(fault: FileFault) -> &'static str
 
 impl fmt::Display for Trouble {
     ghost use Rattle.wulameron_serve.specs.Troubles.{trouble_text};
+    ghost use Rattle.iceoryx2_monitoring.specs.Errors.{fault_text as claim_text};
 
     ghost output = { trouble_text };
 
@@ -134,7 +138,7 @@ impl<L: Refusing> Troubled for Journal<L> {
     }
 }
 
-impl<S: WorldStorage + Troubled> Troubled for SharedAnswerer<S> {
+impl<S: WorldStorage + Troubled, D: DeadNodes + Drop> Troubled for SharedAnswerer<S, D> {
     ghost use Rattle.iceoryx2_session.specs.SessionStates.{own_state};
 
     ghost trouble = { λ answerer. S.trouble (own_state answerer.session).table };
@@ -172,6 +176,24 @@ fn line_of<D: fmt::Display + Copy>(
         → IfOk result (λ line. string_bytes line ≡ trouble_line path.now text) }
 {
     format!(in alloc; "wulameron: {path}: {wrong}\n")
+}
+
+/// Writes the line of a node that isn't claimed.
+///
+/// `Fault` as `say` does, and where there is no memory for the line.
+pub fn report_claim<E: Write>(
+    alloc: Global,
+    error: &MonitoringError,
+    errors: &mut E,
+) -> Result<(), Fault>
+    ensures { (text : List ℕ) → claim_text error.now.fault ≡ Some text
+        → TellsLine (trouble_line (string_bytes error.now.path) text) result
+        (E.contents errors.old) (E.contents errors.new) }
+{
+    match line_of(alloc, error.path(), error.fault()) {
+        Ok(line) => say(line.as_bytes(), errors),
+        Err(_) => Err(Fault::OutOfMemory),
+    }
 }
 
 /// What was told of the log of this path.

@@ -1,30 +1,24 @@
-use Rattle.std.proofs.Common.{◌≡◌, ℕ, refl, sym, ap, subst, ◌∙◌}
+use Rattle.std.proofs.Common.{◌≡◌, inl, subst, ◌∙◌}
 use Rattle.iceoryx2_session.specs.Sessions.{SessionOver}
 use Rattle.iceoryx2_session.specs.SessionStates.{own_state}
-use Rattle.wulameron_serve.specs.Lines.{IsUsable, seen_as}
-use Rattle.wulameron_serve.specs.Shared.{StandsFor, fresh_session}
+use Rattle.wulameron_serve.specs.Lines.{seen_as}
+use Rattle.wulameron_serve.specs.Shared.{Refreshes}
 use Rattle.wulameron_serve.proofs.NodeAnswers.{serves_for}
 use Rattle.wulameron_serve.proofs.run.serve.Goals as goal
 
-pub serve_until-ended-requires-clause-stands : goal.serve_until-ended-requires-clause-stands
-serve_until-ended-requires-clause-stands g c =
-    let made = c.new-answerer.ensures in
-    subst (λ (n : ℕ). StandsFor g.S.WorldStorage.world g.S.WorldStorage.own n (own_state c.new-answerer.result.session)) (sym made.node) (made.stands c.requires.agrees c.requires.of_own)
-
-pub serve_until-ended-requires-clause-usable : goal.serve_until-ended-requires-clause-usable
-serve_until-ended-requires-clause-usable g c =
-    subst (λ (s : SessionOver g.row.S.Denot). IsUsable (g.S.Troubled.trouble s.table)) (sym c.new-answerer.ensures.session) c.requires.usable
-
 pub returns : goal.returns
 returns g c = λ bytes known.
+    let W = g.S.WorldStorage.world in
+    let O = g.S.WorldStorage.own in
     let made = c.new-answerer.ensures in
     let served = c.serve_until-ended.ensures.serves bytes known in
-    record {
+    inl (record {
+      first = own_state c.clean.new.self.session;
+      cleaned = subst (λ (s : SessionOver g.row.S.Denot). Refreshes W O s (own_state c.clean.new.self.session)) made.session c.clean.ensures.refreshes;
       unread = served.0;
-      serves = serves_for g.S.Storage.step g.S.WorldStorage.world g.S.WorldStorage.own g.S.Troubled.trouble c.args.node c.new-answerer.result c.args.storage
-          (seen_as c.serve_until-ended.result) bytes served.0 (g.W.Write.contents c.args.output.now) (g.W.Write.contents c.serve_until-ended.new.output)
-          made.node made.session served.1;
+      serves = serves_for g.S.Storage.step W O g.S.Troubled.trouble c.args.node c.clean.new.self (seen_as c.serve_until-ended.result) bytes served.0
+          (g.W.Write.contents c.args.output.now) (g.W.Write.contents c.serve_until-ended.new.output) (c.clean.ensures.node ∙ made.node) served.1;
       last = own_state c.serve_until-ended.new.answerer.session;
-      closed = c.finish.ensures.closes;
-      agrees = c.finish.ensures.agrees c.serve_until-ended.ensures.stands;
-    }
+      closed = c.finish-2.ensures.closes;
+      agrees = c.finish-2.ensures.agrees c.serve_until-ended.ensures.stands;
+    })

@@ -9,7 +9,7 @@ use Rattle.wulameron_serve.proofs.shared.SharedAnswerer.close.Goals as goal
 pub returns-clause-said : goal.returns-clause-said
 returns-clause-said g c =
     grows_as (Tells c.args.slot c.carry_out.result)
-    (λ said. AnswersFor g.S.Storage.step g.S.WorldStorage.world g.S.WorldStorage.own c.args.self.now.node (own_state c.args.self.now.session) (command.Close c.args.slot) said (own_state c.carry_out.new.self))
+    (λ said. AnswersFor g.S.Storage.step g.S.WorldStorage.world g.S.WorldStorage.own c.args.self.now.node c.args._line.now (own_state c.args.self.now.session) (command.Close c.args.slot) said (own_state c.carry_out.new.self))
     (λ said tells. closed c.carry_out.result c.carry_out.ensures.own tells)
     c.describe.result (string_bytes c.args.text.now) (string_bytes c.describe.new.text) c.describe.ensures
 

@@ -9,7 +9,7 @@ use Rattle.wulameron_serve.proofs.shared.SharedAnswerer.list.Goals as goal
 pub returns-clause-said : goal.returns-clause-said
 returns-clause-said g c =
     grows_as (Tells 0 c.carry_out.result)
-    (λ said. AnswersFor g.S.Storage.step g.S.WorldStorage.world g.S.WorldStorage.own c.args.self.now.node (own_state c.args.self.now.session) command.List said (own_state c.carry_out.new.self))
+    (λ said. AnswersFor g.S.Storage.step g.S.WorldStorage.world g.S.WorldStorage.own c.args.self.now.node c.args._line.now (own_state c.args.self.now.session) command.List said (own_state c.carry_out.new.self))
     (λ said tells. listed c.carry_out.result (own_state c.refresh.new.self)
     (record { slots = c.refresh.ensures.slots; nodes = c.refresh.ensures.nodes; kept = c.refresh.ensures.kept })
     c.carry_out.ensures.own tells)

@@ -1,0 +1,10 @@
+use Rattle.std.proofs.Common.{◌≡◌}
+use Rattle.iceoryx2_journal.specs.Taking.{is_own}
+use Rattle.iceoryx2_world.specs.Interference.{Rely}
+use Rattle.wulameron_serve.proofs.upkeep.clean_nodes.Given as goal
+
+abbrev pub invariant-loop-node : goal.invariant-loop-node
+invariant-loop-node g l =
+    Rely (is_own l.fn.journal.nodes) l.fn.journal.world l.journal.world × (l.journal.nodes ≡ l.fn.journal.nodes) ×
+    (goal.iterator-loop-node g).can_next l.node-iterator ×
+    (goal.iterator-loop-node g).is_finite l.node-iterator

@@ -1,0 +1,259 @@
+//! Nodes whose processes are gone, and what these left.
+
+ghost use Rattle.std.specs.Prelude.{◌≡◌};
+ghost use Rattle.iceoryx2_session.specs.SessionStates.{own_state};
+ghost use Rattle.wulameron_serve.specs.Dead.{blocks, is_blocked as is_blocked_spec};
+ghost use Rattle.wulameron_serve.specs.Dead.{blocks_event_create, blocks_event_open, blocks_event_open_or_create};
+ghost use Rattle.wulameron_serve.specs.Dead.{blocks_publish_subscribe_create, blocks_publish_subscribe_open};
+ghost use Rattle.wulameron_serve.specs.Dead.{blocks_publish_subscribe_open_or_create};
+ghost use Rattle.wulameron_serve.specs.Dead.{blocks_request_response_create, blocks_request_response_open};
+ghost use Rattle.wulameron_serve.specs.Dead.{blocks_request_response_open_or_create};
+ghost use Rattle.wulameron_serve.specs.Shared.{Refreshes};
+
+use iceoryx2_commands::command::{Refusal, Reply};
+use iceoryx2_errors::error::{
+    EventCreateError, EventOpenError, EventOpenOrCreateError, PublishSubscribeCreateError,
+    PublishSubscribeOpenError, PublishSubscribeOpenOrCreateError, RequestResponseCreateError,
+    RequestResponseOpenError, RequestResponseOpenOrCreateError,
+};
+use iceoryx2_file_log::options::Sharing;
+use iceoryx2_journal::cleaning::{CleanError, Cleaned};
+use iceoryx2_monitoring::state::{NodeState, NodeStatus, list};
+use iceoryx2_monitoring::token::{Token, claim};
+use iceoryx2_session::session::Session;
+use iceoryx2_session::world_storage::WorldStorage;
+use std::alloc::Global;
+use std::fs::File;
+use std::random::RandomSource;
+use std::rt::Files;
+use std::time::Clock;
+
+/// Who finds nodes that are dead, and claims them.
+pub trait DeadNodes {
+    /// What keeps others from claiming a node, until it is dropped.
+    type Claim: Drop;
+
+    /// Nodes that were dead a moment ago. Those are left out that can't be had.
+    fn found(&self, alloc: Global) -> Vec<u64>;
+
+    /// Claims a node, where it is dead still.
+    fn claim(&self, node: u64) -> Option<Self::Claim>;
+}
+
+/// The nodes by their files beside a log. Where nothing is to be cleaned up it finds none.
+#[derive(Drop)]
+pub struct NodeFiles<'a, F> {
+    pub rt: &'a F,
+    /// The path of the log.
+    pub path: &'a str,
+    pub sharing: Sharing,
+    pub cleans: bool,
+}
+
+/// The dead ones, as far as there is memory.
+fn dead_of(alloc: Global, nodes: &[NodeStatus]) -> Vec<u64> {
+    let mut dead = Vec::new(alloc);
+    for status in nodes {
+        if status.state == NodeState::Dead {
+            let _ = dead.push(status.node);
+        }
+    }
+    dead
+}
+
+impl<'a, F: Files<File = File> + Clock + RandomSource + AllocGlobal> DeadNodes
+    for NodeFiles<'a, F> {
+    type Claim = Token;
+
+    fn found(&self, alloc: Global) -> Vec<u64> {
+        if !self.cleans {
+            return Vec::new(alloc);
+        }
+        match list(self.rt, self.path) {
+            Ok(nodes) => dead_of(alloc, &nodes),
+            Err(_) => Vec::new(alloc),
+        }
+    }
+
+    fn claim(&self, node: u64) -> Option<Token> {
+        match claim(self.rt, self.path, node, self.sharing) {
+            Ok(token) => Some(token),
+            Err(_) => None,
+        }
+    }
+}
+
+// Whether a dead node may be the reason.
+fn event_open_is_blocked(error: EventOpenError) -> bool
+    ensures { result ≡ blocks_event_open error }
+{
+    match error {
+        EventOpenError::HangsInCreation => true,
+        EventOpenError::ExceedsMaxNumberOfNodes => true,
+        EventOpenError::IsMarkedForDestruction => true,
+        _ => false,
+    }
+}
+
+// Whether a dead node may be the reason.
+fn event_create_is_blocked(error: EventCreateError) -> bool
+    ensures { result ≡ blocks_event_create error }
+{
+    match error {
+        EventCreateError::HangsInCreation => true,
+        EventCreateError::IsBeingCreatedByAnotherInstance => true,
+        _ => false,
+    }
+}
+
+// Whether a dead node may be the reason.
+fn event_open_or_create_is_blocked(error: EventOpenOrCreateError) -> bool
+    ensures { result ≡ blocks_event_open_or_create error }
+{
+    match error {
+        EventOpenOrCreateError::EventOpenError(error) => event_open_is_blocked(error),
+        EventOpenOrCreateError::EventCreateError(error) => event_create_is_blocked(error),
+        EventOpenOrCreateError::SystemInFlux => true,
+    }
+}
+
+// Whether a dead node may be the reason.
+fn publish_subscribe_open_is_blocked(error: PublishSubscribeOpenError) -> bool
+    ensures { result ≡ blocks_publish_subscribe_open error }
+{
+    match error {
+        PublishSubscribeOpenError::HangsInCreation => true,
+        PublishSubscribeOpenError::ExceedsMaxNumberOfNodes => true,
+        PublishSubscribeOpenError::IsMarkedForDestruction => true,
+        _ => false,
+    }
+}
+
+// Whether a dead node may be the reason.
+fn publish_subscribe_create_is_blocked(error: PublishSubscribeCreateError) -> bool
+    ensures { result ≡ blocks_publish_subscribe_create error }
+{
+    match error {
+        PublishSubscribeCreateError::HangsInCreation => true,
+        PublishSubscribeCreateError::IsBeingCreatedByAnotherInstance => true,
+        _ => false,
+    }
+}
+
+// Whether a dead node may be the reason.
+fn publish_subscribe_open_or_create_is_blocked(error: PublishSubscribeOpenOrCreateError) -> bool
+    ensures { result ≡ blocks_publish_subscribe_open_or_create error }
+{
+    match error {
+        PublishSubscribeOpenOrCreateError::PublishSubscribeOpenError(error) =>
+            publish_subscribe_open_is_blocked(error),
+        PublishSubscribeOpenOrCreateError::PublishSubscribeCreateError(error) =>
+            publish_subscribe_create_is_blocked(error),
+        PublishSubscribeOpenOrCreateError::SystemInFlux => true,
+    }
+}
+
+// Whether a dead node may be the reason.
+fn request_response_open_is_blocked(error: RequestResponseOpenError) -> bool
+    ensures { result ≡ blocks_request_response_open error }
+{
+    match error {
+        RequestResponseOpenError::HangsInCreation => true,
+        RequestResponseOpenError::ExceedsMaxNumberOfNodes => true,
+        RequestResponseOpenError::IsMarkedForDestruction => true,
+        _ => false,
+    }
+}
+
+// Whether a dead node may be the reason.
+fn request_response_create_is_blocked(error: RequestResponseCreateError) -> bool
+    ensures { result ≡ blocks_request_response_create error }
+{
+    match error {
+        RequestResponseCreateError::HangsInCreation => true,
+        RequestResponseCreateError::IsBeingCreatedByAnotherInstance => true,
+        _ => false,
+    }
+}
+
+// Whether a dead node may be the reason.
+fn request_response_open_or_create_is_blocked(error: RequestResponseOpenOrCreateError) -> bool
+    ensures { result ≡ blocks_request_response_open_or_create error }
+{
+    match error {
+        RequestResponseOpenOrCreateError::RequestResponseOpenError(error) =>
+            request_response_open_is_blocked(error),
+        RequestResponseOpenOrCreateError::RequestResponseCreateError(error) =>
+            request_response_create_is_blocked(error),
+        RequestResponseOpenOrCreateError::SystemInFlux => true,
+    }
+}
+
+/// Whether a dead node may be why a call is refused: it was creating the service, was the last one to leave it, or
+/// takes a place in it.
+pub fn refusal_is_blocked(refusal: Refusal) -> bool
+    ensures { result ≡ blocks refusal }
+{
+    match refusal {
+        Refusal::EventOpen(error) => event_open_is_blocked(error),
+        Refusal::EventCreate(error) => event_create_is_blocked(error),
+        Refusal::EventOpenOrCreate(error) => event_open_or_create_is_blocked(error),
+        Refusal::PublishSubscribeOpen(error) => publish_subscribe_open_is_blocked(error),
+        Refusal::PublishSubscribeCreate(error) => publish_subscribe_create_is_blocked(error),
+        Refusal::PublishSubscribeOpenOrCreate(error) => publish_subscribe_open_or_create_is_blocked(
+            error,
+        ),
+        Refusal::RequestResponseOpen(error) => request_response_open_is_blocked(error),
+        Refusal::RequestResponseCreate(error) => request_response_create_is_blocked(error),
+        Refusal::RequestResponseOpenOrCreate(error) => request_response_open_or_create_is_blocked(
+            error,
+        ),
+    }
+}
+
+/// Whether a call is refused, and a dead node may be why.
+pub fn is_blocked(reply: &Reply) -> bool
+    ensures { result ≡ is_blocked_spec reply.now }
+{
+    match reply {
+        Reply::Refused(refusal) => refusal_is_blocked(*refusal),
+        _ => false,
+    }
+}
+
+/// Whether anything was given back.
+fn gave(cleaned: Result<Cleaned, CleanError>) -> bool {
+    match cleaned {
+        Ok(cleaned) => cleaned.releases > 0 || cleaned.removals > 0,
+        Err(_) => false,
+    }
+}
+
+/// Gives back what a node has, if it is dead. True where anything was given back.
+fn clean_one<S: WorldStorage, D: DeadNodes>(session: &mut Session<S>, dead: &D, node: u64) -> bool
+    ensures { Refreshes S.world S.own (own_state session.old) (own_state session.new) }
+{
+    let Some(claim) = dead.claim(node) else {
+        return false;
+    };
+    let cleaned = session.clean(node);
+    drop(claim);
+    gave(cleaned)
+}
+
+/// Gives back what dead nodes have. True where anything was given back.
+pub fn clean_dead<S: WorldStorage, D: DeadNodes>(
+    alloc: Global,
+    session: &mut Session<S>,
+    dead: &D,
+) -> bool
+    ensures { Refreshes S.world S.own (own_state session.old) (own_state session.new) }
+{
+    let mut given = false;
+    for node in dead.found(alloc) {
+        if clean_one(session, dead, node) {
+            given = true;
+        }
+    }
+    given
+}
