@@ -4,20 +4,14 @@
 #[cfg(test)]
 mod batches;
 #[cfg(test)]
-mod body;
-#[cfg(test)]
 mod calls;
 #[cfg(test)]
 mod patterns;
-#[cfg(test)]
-mod plain;
 #[cfg(test)]
 mod plain_session;
 #[cfg(test)]
 mod schedules;
 #[cfg(test)]
 mod sessions;
-#[cfg(test)]
-mod standing;
 #[cfg(test)]
 mod support;

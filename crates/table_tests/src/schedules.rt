@@ -3,7 +3,6 @@
 use self::Deed::*;
 use crate::batches::support::{DEFAULTS, Deed, FOR_TWO, PUBLISHED, REPLACED, Subject, push_steps};
 use crate::patterns::{NAME, Pattern, other_service, service};
-use crate::plain::Plain;
 use crate::plain_session::Commanded;
 use crate::support::{assert_same, command_with, draw, entries, for_nodes, no_settings, push};
 use iceoryx2_attribute::attribute::AttributeVerifier;
@@ -11,6 +10,7 @@ use iceoryx2_commands::command::{Command, How, Reply, SLOTS, Settings};
 use iceoryx2_table::local::Local;
 use iceoryx2_table::table::Step;
 use iceoryx2_world::listing::Entry;
+use plain_table::plain::Plain;
 use std::alloc::Global;
 use std::process::Abort;
 

@@ -1,8 +1,6 @@
 //! A session that takes all slots, and the same commands at the plain table.
 
-use crate::body::Body;
 use crate::patterns::Pattern;
-use crate::plain::Plain;
 use crate::plain_session::Commanded;
 use crate::support::{assert_same, command, push};
 use iceoryx2_commands::command::{Command, How, Reply};
@@ -10,6 +8,8 @@ use iceoryx2_description::config::Config;
 use iceoryx2_session::session::Session;
 use iceoryx2_table::local::Local;
 use iceoryx2_world::listing::Entry;
+use plain_table::body::Body;
+use plain_table::plain::Plain;
 use std::alloc::{AllocError, Global};
 use std::process::Abort;
 

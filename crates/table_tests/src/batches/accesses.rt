@@ -2,14 +2,14 @@
 
 use self::Deed::*;
 use crate::batches::support::*;
-use crate::body::Body;
 use crate::patterns::{Pattern, service};
-use crate::plain::Plain;
 use crate::support::events;
 use iceoryx2_access::storage::{Existence, MakeSegmentError, OpenSegmentError, Storage};
 use iceoryx2_description::time::Time;
 use iceoryx2_script::script::{Faulty, FaultyService};
 use iceoryx2_table::local::Local;
+use plain_table::body::Body;
+use plain_table::plain::Plain;
 use std::alloc::Global;
 use std::process::Abort;
 

@@ -3,14 +3,14 @@
 use self::Deed::*;
 use crate::batches::rows::{Answer, Beside, assert_rows};
 use crate::batches::support::*;
-use crate::body::Body;
 use crate::calls::{Call, answer, close};
 use crate::patterns::{self, Pattern, service};
-use crate::plain::Plain;
 use iceoryx2_access::storage::{Existence, Storage};
 use iceoryx2_commands::command::How;
 use iceoryx2_port_factory::port_factory::Registration;
 use iceoryx2_table::local::Local;
+use plain_table::body::Body;
+use plain_table::plain::Plain;
 use std::alloc::Global;
 use std::process::Abort;
 use test_support::refusals::{By, Word};

@@ -1,12 +1,12 @@
 //! Who is told as the creator of a service that peers create.
 
 use crate::batches::support::*;
-use crate::body::Body;
 use crate::patterns::{Pattern, described, settings_of};
-use crate::plain::Plain;
 use crate::support::events;
 use iceoryx2_table::local::Local;
 use iceoryx2_table::table::{Act, Step};
+use plain_table::body::Body;
+use plain_table::plain::Plain;
 use std::alloc::Global;
 use std::process::Abort;
 

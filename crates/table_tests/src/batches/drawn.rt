@@ -1,13 +1,13 @@
 //! Batches that are drawn by chance, at either table and at a model of it in a few lines.
 
 use crate::batches::support::*;
-use crate::body::Body;
 use crate::patterns::{ALL, Offer, Pattern, service};
-use crate::plain::Plain;
 use crate::support::draw;
 use iceoryx2_access::storage::{Existence, Storage};
 use iceoryx2_table::local::Local;
 use iceoryx2_table::table::Step;
+use plain_table::body::Body;
+use plain_table::plain::Plain;
 use std::alloc::Global;
 use std::process::Abort;
 

@@ -1,14 +1,14 @@
 //! Rows of calls beside peers. Each is run over both bodies of a table, and by each pattern.
 
 use crate::batches::support::*;
-use crate::body::Body;
 use crate::calls::{Answered, Call, answer, given};
 use crate::patterns::{ALL, Offer, Pattern, settings_of};
-use crate::plain::Plain;
 use iceoryx2_commands::command::How;
 use iceoryx2_script::script::{Faulty, FaultyService};
 use iceoryx2_table::local::Local;
 use iceoryx2_world::listing::Entry;
+use plain_table::body::Body;
+use plain_table::plain::Plain;
 use std::alloc::Global;
 use std::process::Abort;
 use test_support::refusals::Said;

@@ -2,13 +2,13 @@
 
 use crate::batches::support::*;
 use crate::patterns::{ALL, Pattern, other_service, service};
-use crate::plain::Plain;
 use crate::plain_session::Commanded;
 use crate::support::command;
 use iceoryx2_commands::command::{Command, How, Reply};
 use iceoryx2_description::description::ServiceHash;
 use iceoryx2_table::local::Local;
 use iceoryx2_world::listing::Entry;
+use plain_table::plain::Plain;
 use std::alloc::Global;
 use std::process::Abort;
 

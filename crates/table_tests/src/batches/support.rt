@@ -1,12 +1,12 @@
 //! A table at which batches of peers' steps wait, and what is left in it once a call is over.
 
-use crate::body::Body;
 use crate::patterns::{NAME, Offer, Pattern, described, service, settings_of};
 pub use crate::support::{assert_same, entries, name, push};
 use iceoryx2_description::description::ServiceHash;
 use iceoryx2_script::script::Faulty;
 use iceoryx2_table::table::{Act, Step};
 use iceoryx2_world::listing::Entry;
+use plain_table::body::Body;
 use std::alloc::Global;
 use std::process::Abort;
 use test_support::listing;

@@ -325,6 +325,16 @@ impl Standing {
         tickets
     }
 
+    /// The first of a node's tickets, and the number that it is for.
+    pub fn first_ticket(&self, node: u64) -> Option<(u64, u64)> {
+        for (ticket, (owner, number)) in self.tickets.iter() {
+            if *owner == node {
+                return Some((*ticket, *number));
+            }
+        }
+        None
+    }
+
     /// Why a node doesn't open the segment of this number.
     pub fn refusal(&self, node: u64, number: u64, counter: u64) -> Option<OpenSegmentError> {
         let Some(segment) = &self.segment else {

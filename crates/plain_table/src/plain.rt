@@ -29,11 +29,16 @@ pub struct PlainTable {
 
 impl PlainTable {
     /// Where a participant is with the service.
-    fn phase(&self, participant: Participant, hash: &ServiceHash) -> Phase {
+    pub fn phase(&self, participant: Participant, hash: &ServiceHash) -> Phase {
         match self.services.get(hash) {
             Some(standing) => standing.phase(participant),
             None => Phase::Idle,
         }
+    }
+
+    /// The first of a node's tickets for the service, and the number that it is for.
+    pub fn first_ticket(&self, node: u64, hash: &ServiceHash) -> Option<(u64, u64)> {
+        self.services.get(hash)?.first_ticket(node)
     }
 
     /// What the service's row says of it.
