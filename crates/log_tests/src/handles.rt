@@ -1,0 +1,176 @@
+//! Processes over one list, whose calls are drawn by chance: after each step every process lists the same as the plain
+//! table to which all accesses were made, and each open factory carries what is published of its service.
+
+use crate::list_log::{List, ListLog};
+use crate::others::reply_of;
+use crate::recording::{Recorded, Recording};
+use crate::schedules::drawn_command;
+use crate::support::{Tally, assert_same, copies, count, drawn, granted, push};
+use iceoryx2_byte_form::bytes::encode;
+use iceoryx2_commands::command::Reply;
+use iceoryx2_description::description::ServiceHash;
+use iceoryx2_journal::journal::{Journal, Shared};
+use iceoryx2_world::listing::{self, ListedRow};
+use iceoryx2_world::world::Bytes;
+use plain_table::body::Body;
+use plain_table::places::Places;
+use plain_table::plain::Plain;
+use std::alloc::Global;
+use std::cell::RefCell;
+use std::process::Abort;
+use std::rc::Rc;
+
+/// How many schedules a test draws, each from a seed of its own.
+const SCHEDULES: u64 = 100;
+
+/// How many commands a schedule has.
+const COMMANDS: u64 = 16;
+
+/// A process, with places for what its calls open over its journal, and over the plain table.
+#[derive(Drop)]
+struct Process {
+    journal: Journal<ListLog>,
+    places: Places,
+    in_plain: Places,
+}
+
+/// The first of the three nodes of a process.
+fn first_node(process: usize) -> u64 {
+    (process as u64).saturating_mul(10).saturating_add(1)
+}
+
+/// Processes over one list, each with three nodes.
+fn started(rt: &impl Abort, alloc: Global, list: &List, of: &[usize]) -> Vec<Process> {
+    let mut all = Vec::new(alloc);
+    for &process in of {
+        let first = first_node(process);
+        let nodes = [first, first.saturating_add(1), first.saturating_add(2)];
+        let nodes = granted(rt, nodes.to_vec(alloc));
+        let journal = Journal::starting_at(
+            alloc,
+            ListLog::new(granted(rt, list.clone())),
+            nodes,
+            0,
+        );
+        let process = Process {
+            journal,
+            places: granted(rt, Places::new(alloc)),
+            in_plain: granted(rt, Places::new(alloc)),
+        };
+        push(rt, &mut all, process);
+    }
+    all
+}
+
+/// Whether this is listed as the row of this hash.
+fn has_row(listing: &[listing::Entry], hash: &ServiceHash, row: &ListedRow) -> bool {
+    for entry in listing {
+        if entry.hash == *hash {
+            return entry.row == *row;
+        }
+    }
+    false
+}
+
+/// Ends a test where a factory of a place carries something else than what is listed of its service.
+fn assert_standing(rt: &impl Abort, alloc: Global, places: &Places, listing: &[listing::Entry]) {
+    for slot in 0..4 {
+        if let Some((number, description)) = places.factory(slot) {
+            let bytes = Bytes::from_vec(granted(rt, encode(alloc, description)));
+            let row = ListedRow::Published(number, bytes);
+            let stands = has_row(listing, description.service_hash(), &row);
+            assert_same(rt, stands, true);
+        }
+    }
+}
+
+/// Ends a test where a process that has read as far lists something else.
+fn assert_listings(
+    rt: &impl Abort,
+    alloc: Global,
+    place: (u64, u64),
+    processes: &mut [Process],
+    table: &Recording,
+) {
+    for process in processes {
+        process.journal.refresh();
+        let found = granted(rt, process.journal.list());
+        assert_standing(rt, alloc, &process.places, &found);
+        let wanted = granted(rt, Plain::list(&table.table));
+        let over = process.journal.is_over();
+        assert_same(rt, (place, over, found), (place, false, wanted));
+    }
+}
+
+/// Draws a command of a process twice from the same seed, and compares what it is answered with what the plain table
+/// answers.
+fn compare(
+    rt: &impl Abort,
+    alloc: Global,
+    (place, first): ((u64, u64), u64),
+    process: &mut Process,
+    table: &mut Recording,
+    seed: &mut u64,
+) -> Reply {
+    let mut again = *seed;
+    let command = drawn_command(rt, alloc, first, seed);
+    let wanted = reply_of::<Recorded>(&mut process.in_plain, table, command);
+    let command = drawn_command(rt, alloc, first, &mut again);
+    let found = reply_of::<Shared<ListLog>>(&mut process.places, &mut process.journal, command);
+    assert_same(rt, (place, &found), (place, &wanted));
+    found
+}
+
+/// Compares so many processes with the plain table in one schedule, which follows from its seed.
+fn compare_all(rt: &impl Abort, alloc: Global, schedule: u64, of: &[usize], tally: &mut Tally) {
+    let list = granted(rt, Rc::new(alloc, RefCell::new(Vec::new(alloc))));
+    let mut processes = started(rt, alloc, &list, of);
+    let mut table = Recording::new(alloc, Vec::new(alloc));
+    let mut seed = schedule;
+    for command in 0..COMMANDS {
+        let at = drawn(rt, &mut seed, of);
+        let place = (schedule, command);
+        if let Some(process) = processes.get_mut(at) {
+            let first = (place, first_node(at));
+            let reply = compare(rt, alloc, first, process, &mut table, &mut seed);
+            count(tally, &reply);
+        }
+        assert_listings(rt, alloc, place, &mut processes, &table);
+    }
+    let entries = match list.try_borrow() {
+        Ok(all) => copies(rt, alloc, &all),
+        Err(_) => Vec::new(alloc),
+    };
+    let wanted = copies(rt, alloc, &table.entries);
+    assert_same(rt, (schedule, entries), (schedule, wanted));
+}
+
+/// The fewest calls that are granted in the schedules of a test, and the fewest that are refused: of 1,600 commands
+/// 1,200 are calls. One in nine names no slot, and even if half of the others find theirs in use, 533 are left, which
+/// are granted or refused.
+const FEWEST: u64 = 150;
+
+/// Compares so many processes with the plain table, in the schedules whose seeds begin with this one.
+fn compare_from(rt: &impl Abort, alloc: Global, first: u64, of: &[usize]) {
+    let mut tally = (0, 0);
+    for schedule in first..first.saturating_add(SCHEDULES) {
+        compare_all(rt, alloc, schedule, of, &mut tally);
+    }
+    let enough = (tally.0 >= FEWEST, tally.1 >= FEWEST);
+    assert_same(rt, (tally, enough), (tally, (true, true)));
+}
+
+#[test]
+fn two_processes_share_one_world(rt: HostRuntime) {
+    compare_from(&rt, rt.alloc(), 2000, &[0, 1]);
+}
+
+#[test]
+fn three_processes_share_one_world(rt: HostRuntime) {
+    compare_from(&rt, rt.alloc(), 3000, &[0, 1, 2]);
+}
+
+#[test]
+fn four_processes_share_one_world(rt: HostRuntime) {
+    compare_from(&rt, rt.alloc(), 4000, &[0, 1, 2, 3]);
+}

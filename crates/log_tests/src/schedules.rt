@@ -1,0 +1,218 @@
+//! Commands that are drawn by chance beside other nodes, whose steps are drawn too: over a journal as over the plain
+//! table to which the same accesses are made in the same order.
+
+use crate::others::{Doing, PUBLISHED, REPLACED, log_beside, push_steps, reply_of};
+use crate::recording::{Recorded, Recording};
+use crate::support::{
+    OTHERS, SUBJECTS, Subject, Tally, assert_same, command, copies, count, draw, drawn, granted,
+    journal_of, listed_anew, push,
+};
+use iceoryx2_commands::command::{Command, How, Reply, SLOTS};
+use iceoryx2_description::config::Config;
+use iceoryx2_journal::journal::Journal;
+use iceoryx2_log::entry::Entry;
+use iceoryx2_log::memory::MemoryLog;
+use iceoryx2_session::session::Session;
+use iceoryx2_table::table::Step;
+use iceoryx2_world::listing;
+use plain_table::body::Body;
+use plain_table::places::Places;
+use plain_table::plain::Plain;
+use std::alloc::Global;
+use std::process::Abort;
+
+/// How many schedules a test draws, each from a seed of its own.
+const SCHEDULES: u64 = 250;
+
+/// How many commands a schedule has, before each slot is closed.
+const COMMANDS: usize = 8;
+
+/// The slots that calls are drawn for.
+const DRAWN_SLOTS: usize = 4;
+
+/// How many batches wait before the first of them. The commands make some forty accesses.
+const BATCHES: u64 = 40;
+
+/// What a node of another does, one step after the other. In the last one a segment stays, and of the rest only the
+/// lock is allowed.
+const DOINGS: &[&[Doing]] = &[
+    PUBLISHED,
+    PUBLISHED,
+    &[Doing::Lock, Doing::Make(2), Doing::Publish(2)],
+    &[Doing::Read, Doing::Join],
+    &[Doing::Leave],
+    &[Doing::Leave, Doing::RemoveSegment, Doing::RemoveDescription],
+    REPLACED,
+    &[Doing::Lock],
+    &[Doing::RemoveSegment, Doing::RemoveDescription],
+    &[
+        Doing::Lock,
+        Doing::Make(5),
+        Doing::RemoveDescription,
+        Doing::Publish(36),
+        Doing::Join,
+    ],
+];
+
+/// Draws one of six services.
+fn drawn_subject(rt: &impl Abort, seed: &mut u64) -> Subject {
+    if draw(seed).is_multiple_of(2) {
+        return drawn(rt, seed, &SUBJECTS);
+    }
+    drawn(rt, seed, &OTHERS)
+}
+
+/// Draws a batch: no step, or those of one node of another at one service.
+fn drawn_batch(rt: &impl Abort, alloc: Global, seed: &mut u64) -> Vec<Step> {
+    let mut steps = Vec::new(alloc);
+    if draw(seed).is_multiple_of(2) {
+        return steps;
+    }
+    let node = drawn(rt, seed, &[7u64, 8]);
+    let subject = drawn_subject(rt, seed);
+    let doings = drawn(rt, seed, DOINGS);
+    push_steps(rt, alloc, subject, &mut steps, (node, doings));
+    steps
+}
+
+/// A plain table beside which drawn batches wait.
+fn drawn_recording(rt: &impl Abort, alloc: Global, seed: &mut u64) -> Recording {
+    let mut batches = Vec::new(alloc);
+    for _batch in 0..BATCHES {
+        push(rt, &mut batches, drawn_batch(rt, alloc, seed));
+    }
+    Recording::new(alloc, batches)
+}
+
+/// Draws a command, of which three of four are calls, by one of three nodes from this one on. It names one of four
+/// slots, or one that there isn't.
+pub fn drawn_command(rt: &impl Abort, alloc: Global, first: u64, seed: &mut u64) -> Command {
+    let slot = drawn(rt, seed, &[0usize, 0, 1, 1, 2, 2, 3, 3, SLOTS]);
+    if draw(seed).is_multiple_of(4) {
+        return Command::Close { slot };
+    }
+    let subject = drawn_subject(rt, seed);
+    let how = drawn(rt, seed, &[How::Create, How::Open, How::OpenOrCreate]);
+    let node = first.saturating_add(draw(seed) % 3);
+    let nodes = drawn(rt, seed, &[1u64, 3, 2, 2]);
+    command(rt, alloc, subject, (how, node, slot), nodes)
+}
+
+/// Draws the commands of a schedule, behind which all slots that they name are closed.
+fn drawn_commands(rt: &impl Abort, alloc: Global, mut seed: u64) -> Vec<Command> {
+    let mut commands = Vec::new(alloc);
+    for _command in 0..COMMANDS {
+        push(rt, &mut commands, drawn_command(rt, alloc, 1, &mut seed));
+    }
+    for slot in 0..DRAWN_SLOTS {
+        push(rt, &mut commands, Command::Close { slot });
+    }
+    commands
+}
+
+/// What a command is answered, and what is listed then.
+type Seen = (Reply, Vec<listing::Entry>);
+
+/// What is seen of commands over the plain table.
+fn wanted(
+    rt: &impl Abort,
+    alloc: Global,
+    table: &mut Recording,
+    commands: Vec<Command>,
+    tally: &mut Tally,
+) -> Vec<Seen> {
+    let mut places = granted(rt, Places::new(alloc));
+    let mut all = Vec::new(alloc);
+    for command in commands {
+        let reply = reply_of::<Recorded>(&mut places, table, command);
+        count(tally, &reply);
+        let listing = granted(rt, Plain::list(&table.table));
+        push(rt, &mut all, (reply, listing));
+    }
+    all
+}
+
+/// What is seen of them over a journal.
+fn found(
+    rt: &impl Abort,
+    alloc: Global,
+    session: &mut Session<Journal<MemoryLog>>,
+    commands: Vec<Command>,
+) -> Vec<Seen> {
+    let mut all = Vec::new(alloc);
+    for command in commands {
+        let reply = session.carry_out(command);
+        let listing = granted(rt, session.storage().list());
+        push(rt, &mut all, (reply, listing));
+    }
+    all
+}
+
+/// Compares the two in one schedule, which follows from its seed. All entries are those of the plain table, and what a
+/// process lists that has them is what the journal lists. Gives how many entries others appended.
+fn compare(rt: &impl Abort, alloc: Global, schedule: u64, tally: &mut Tally) -> usize {
+    let mut seed = schedule;
+    let mut table = drawn_recording(rt, alloc, &mut seed);
+    let commands = drawn_commands(rt, alloc, seed);
+    let wanted = wanted(rt, alloc, &mut table, commands, tally);
+
+    let journal = journal_of(rt, alloc, log_beside(rt, alloc, &table));
+    let mut session = Session::over(Config::default(), journal);
+    let found = found(rt, alloc, &mut session, drawn_commands(rt, alloc, seed));
+    assert_same(rt, (schedule, found), (schedule, wanted));
+
+    let journal = session.close_all();
+    let entries: Vec<Entry> = copies(rt, alloc, &table.entries);
+    let anew = listed_anew(rt, alloc, copies(rt, alloc, &table.entries));
+    let left = copies(rt, alloc, journal.log().entries());
+    let state = (journal.is_over(), journal.log().pending());
+    let listing = granted(rt, journal.list());
+    let own = journal.log().appended().len();
+    assert_same(
+        rt,
+        (schedule, state, left, listing),
+        (schedule, (false, 0), entries, anew),
+    );
+    table.entries.len().saturating_sub(own)
+}
+
+/// The fewest calls that are granted in the schedules of a test, the fewest that are refused, and the fewest entries of
+/// others. Of 2,000 commands 1,500 are calls; one in nine names no slot, and even if half of the others find theirs in
+/// use, 666 are left, which are granted or refused. Of some forty batches of a schedule half have steps.
+const FEWEST: u64 = 250;
+
+/// Compares the two in the schedules whose seeds begin with this one.
+fn compare_from(rt: &impl Abort, alloc: Global, first: u64) {
+    let mut tally = (0, 0);
+    let mut others = 0u64;
+    for schedule in first..first.saturating_add(SCHEDULES) {
+        others = others.saturating_add(compare(rt, alloc, schedule, &mut tally) as u64);
+    }
+    let (granted, refused) = tally;
+    let enough = (granted >= FEWEST, refused >= FEWEST, others >= FEWEST);
+    assert_same(
+        rt,
+        (tally, others, enough),
+        (tally, others, (true, true, true)),
+    );
+}
+
+#[test]
+fn a_journal_answers_as_the_plain_table_in_schedules_0_to_249(rt: HostRuntime) {
+    compare_from(&rt, rt.alloc(), 0);
+}
+
+#[test]
+fn a_journal_answers_as_the_plain_table_in_schedules_250_to_499(rt: HostRuntime) {
+    compare_from(&rt, rt.alloc(), 250);
+}
+
+#[test]
+fn a_journal_answers_as_the_plain_table_in_schedules_500_to_749(rt: HostRuntime) {
+    compare_from(&rt, rt.alloc(), 500);
+}
+
+#[test]
+fn a_journal_answers_as_the_plain_table_in_schedules_750_to_999(rt: HostRuntime) {
+    compare_from(&rt, rt.alloc(), 750);
+}
