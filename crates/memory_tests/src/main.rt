@@ -7,6 +7,7 @@
 
 mod asks;
 mod calls;
+mod journals;
 mod peers;
 mod refusing;
 mod samples;
@@ -121,6 +122,22 @@ fn of_sessions(alloc: Global, mode: Mode) -> [(&'static str, Outcome); 5] {
     ]
 }
 
+/// Calls over a journal, of which requests are refused while it follows others and after that.
+fn of_journals(alloc: Global, mode: Mode) -> [(&'static str, Outcome); 3] {
+    let calls = |pattern| journals::calls(alloc, mode, pattern);
+    [
+        ("calls of event over a log", calls(Pattern::Event)),
+        (
+            "calls of publish-subscribe over a log",
+            calls(Pattern::PublishSubscribe),
+        ),
+        (
+            "calls of request-response over a log",
+            calls(Pattern::RequestResponse),
+        ),
+    ]
+}
+
 /// Attributes, copies, texts and types.
 fn of_values(alloc: Global, mode: Mode) -> [(&'static str, Outcome); 9] {
     let add = |adding| values::add(alloc, mode, adding);
@@ -202,6 +219,7 @@ fn tell_others(rt: &HostRuntime) -> io::Result<bool> {
     let mut is_well = true;
     for mode in [Alone, AndLater] {
         is_well = tell_all(rt, mode.name(), &of_sessions(alloc, mode))? && is_well;
+        is_well = tell_all(rt, mode.name(), &of_journals(alloc, mode))? && is_well;
         is_well = tell_all(rt, mode.name(), &of_values(alloc, mode))? && is_well;
         is_well = tell_all(rt, mode.name(), &of_forms(alloc, mode))? && is_well;
     }

@@ -129,7 +129,7 @@ fn create_others(
 }
 
 /// Whether a reply tells of a factory in slot 0.
-fn is_opened(reply: &Reply) -> bool {
+pub fn is_opened(reply: &Reply) -> bool {
     match reply {
         Reply::Opened { slot, number: _ } => *slot == 0,
         _ => false,
