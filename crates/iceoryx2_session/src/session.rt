@@ -18,6 +18,7 @@ use iceoryx2_description::config::Config;
 use iceoryx2_journal::cleaning::{CleanError, Cleaned};
 use iceoryx2_port_factory::port_factory::Registration;
 use iceoryx2_table::table::Table;
+use iceoryx2_traced::traced::Traced;
 use iceoryx2_types::types::CustomHeaderMarker;
 use std::alloc::AllocError;
 
@@ -495,5 +496,36 @@ impl Session<Table> {
         ensures { result.now ≡ (own_state self.now).table }
     {
         self.storage()
+    }
+}
+
+impl<S: WorldStorage> Session<Traced<S>> {
+    ghost use Rattle.iceoryx2_world.specs.Across.{Agrees};
+    ghost use Rattle.iceoryx2_world.specs.Interference.{Rely};
+    ghost use Rattle.iceoryx2_session.specs.SessionStates.{own_state};
+    ghost use Rattle.iceoryx2_session.specs.Sessions.{shown_session};
+    ghost use Rattle.iceoryx2_session.specs.StandingSlots.{SlotsStandInWorld};
+
+    /// Shows what others have done up to now, as `refresh` does. What is kept of the accesses stays as it was.
+    pub fn refresh_inside(&mut self)
+        // The slots hold what they held, and the trace is what it was.
+        ensures same { own_state self.new ≡ record (own_state self.old) {
+          table = record (own_state self.old).table { inner = (own_state self.new).table.inner };
+        } }
+
+        // Which nodes are own stays as it was,
+        ensures nodes { S.own (own_state self.new).table.inner ≡ S.own (own_state self.old).table.inner }
+
+        // and so does all that they rely on.
+        ensures kept { Rely (S.own (own_state self.old).table.inner)
+            (S.world (own_state self.old).table.inner) (S.world (own_state self.new).table.inner) }
+
+        // So the factories of all slots stand as before where the world agreed.
+        ensures stands { let own = S.own (own_state self.old).table.inner in
+            Agrees (S.world (own_state self.old).table.inner)
+            → SlotsStandInWorld own (shown_session (λ traced. S.world traced.inner) (own_state self.old))
+            → SlotsStandInWorld own (shown_session (λ traced. S.world traced.inner) (own_state self.new)) }
+    {
+        self.storage.inner_mut().refresh()
     }
 }
