@@ -1,12 +1,13 @@
 -- A session over a traced table that explains its replies.
-use Rattle.std.proofs.Common.{◌≡◌, ℕ, ◌≤◌, List, [], length, replicate, Option, None, Result, Ok, Err, OnOk, refl, sym, ap, ◌∙◌, subst, arith}
+use Rattle.std.proofs.Common.{◌≡◌, ℕ, List, [], replicate, Option, None, Result, Ok, Err, OnOk, refl, sym, ap, ◌∙◌, subst, arith}
 use Rattle.std.specs.declared.alloc.AllocError.{AllocError}
+use Rattle.iceoryx2_access.specs.Letter.{Letter}
 use Rattle.iceoryx2_description.specs.declared.config.Config.{Config}
 use Rattle.iceoryx2_description.specs.Defaults.{default_config}
 use Rattle.iceoryx2_traced.specs.Trace.{TracedState}
 use Rattle.iceoryx2_world.specs.Across.{Agrees}
-use Rattle.iceoryx2_world.specs.Tables.{TableState}
-use Rattle.iceoryx2_world.specs.World.{empty_world}
+use Rattle.iceoryx2_world.specs.Tables.{TableState, IsTableAccess}
+use Rattle.iceoryx2_world.specs.World.{World, empty_world}
 use Rattle.iceoryx2_call_laws.specs.Quiet.{Quiet, no_service}
 use Rattle.iceoryx2_commands.specs.Commands.{slot_count}
 use Rattle.iceoryx2_commands.specs.declared.command.Command.{Command}
@@ -16,7 +17,7 @@ use Rattle.iceoryx2_commands.specs.declared.command.Reply.TheVariants as reply
 use Rattle.iceoryx2_session.specs.declared.session.Session.{Session}
 use Rattle.iceoryx2_session.specs.CommandWords.{GoesAlong}
 use Rattle.iceoryx2_session.specs.QuietSessions.{IsQuiet, IsMoved}
-use Rattle.iceoryx2_session.specs.Sessions.{GoesBy, shown_world, close_past, close_empty, closed, not_closed, listed, not_listed}
+use Rattle.iceoryx2_session.specs.Sessions.{SessionOver, GoesBy, shown_world, close_past, close_empty, closed, not_closed, listed, not_listed}
 use Rattle.iceoryx2_session.specs.SessionStates.{own_state}
 use Rattle.iceoryx2_session.specs.StandingSlots.{SlotsStand, OwnsTickets, ClosesTaken}
 use Rattle.negotiate_serve.specs.declared.ending.Ending.{Ending}
@@ -33,8 +34,8 @@ use Rattle.explain_serve.specs.declared.format.Format.{Format}
 use Rattle.explain_serve.specs.Answered.{ExplainState, first_state, Explains, ShowsState, ShowsSomeState, AnswersAs}
 use Rattle.explain_serve.specs.declared.format.Format.TheVariants as format
 use Rattle.explain_serve.specs.Explained.{node_named, refusal_of, MayTellWhy, TellsLines, DrawsLines, IsTextOf}
-use Rattle.explain_serve.specs.Traces.{IsAccess, table_inside, TracedSession, session_inside, room_kept, made_between}
-use Rattle.explain_serve.proofs.Traces.{goes_traced, still_room, still_kept}
+use Rattle.explain_serve.specs.Traces.{IsAccess, table_inside, table_world, TracedSession, session_inside, room_kept, made_between, fresh_trace, HasItsRoom}
+use Rattle.explain_serve.proofs.Traces.{goes_traced, still_room}
 
 -- ---- a command
 
@@ -57,8 +58,7 @@ module _ (x y : Explainer) (c : Command) (r : Reply) (own : GoesBy IsAccess (sho
       record {
         shows = shows_after (session_inside (own_state x.session)) (session_inside (own_state y.session)) m c r shows (quiet m.services shows.quiet shows.stand)
             (stands shows.quiet.agrees shows.stand) (owns shows.quiet.agrees shows.stand shows.owns);
-        room = still_room (own_state x.session) (own_state y.session) c r state.room along;
-        kept = still_kept (own_state x.session) (own_state y.session) c r state.room state.kept along;
+        room = still_room IsTableAccess table_world (own_state x.session) (own_state y.session) c r state.room along;
       }
 
   pub shows_some : ShowsSomeState (own_state x.session) → ShowsSomeState (own_state y.session)
@@ -71,7 +71,7 @@ module _ (x y : Explainer) (c : Command) (r : Reply) (own : GoesBy IsAccess (sho
         machine = machine_after moved;
         explains = record {
           reply = r;
-          goes = goes_traced (own_state x.session) (own_state y.session) c r state.room state.kept own along;
+          goes = goes_traced IsTableAccess table_world (own_state x.session) (own_state y.session) c r state.room along own;
           moves = machine_moves (session_inside (own_state x.session)) (session_inside (own_state y.session)) m c r state.shows moved;
           is_text = is;
         };
@@ -80,12 +80,12 @@ module _ (x y : Explainer) (c : Command) (r : Reply) (own : GoesBy IsAccess (sho
 
   -- a text has grown by what is told in lines, or drawn
   module _ (line old new : List ℕ) (slot made : ℕ) (kept : y.format ≡ x.format) (slot_is : slot ≡ slot_named c) (made_is : made ≡ made_between (own_state x.session) (own_state y.session)) where
-    pub says_lines : x.format ≡ format.Lines → (done : Result (Unit {0}) AllocError) → OnOk done (GrowsBy (TellsLines line slot r made (own_state y.session).table) old new)
+    pub says_lines : x.format ≡ format.Lines → (done : Result (Unit {0}) AllocError) → OnOk done (GrowsBy (TellsLines table_world line slot r made (own_state y.session).table) old new)
         → OnOk done (SaysAnswer explainer_answers x line c old new y)
     says_lines is (Ok done) told =
-        let lines : TellsLines line (slot_named c) r (made_between (own_state x.session) (own_state y.session)) (own_state y.session).table told.0 =
-        subst (λ s. TellsLines line s r (made_between (own_state x.session) (own_state y.session)) (own_state y.session).table told.0) slot_is
-        (subst (λ n. TellsLines line slot r n (own_state y.session).table told.0) made_is told.1) in
+        let lines : TellsLines table_world line (slot_named c) r (made_between (own_state x.session) (own_state y.session)) (own_state y.session).table told.0 =
+        subst (λ s. TellsLines table_world line s r (made_between (own_state x.session) (own_state y.session)) (own_state y.session).table told.0) slot_is
+        (subst (λ n. TellsLines table_world line slot r n (own_state y.session).table told.0) made_is told.1) in
         record {
           said = told.0;
           is_said = (kept, explains_reply line told.0 (subst (λ f. IsTextOf f line c r (own_state x.session) (own_state y.session) told.0) (sym is) lines));
@@ -108,7 +108,8 @@ module _ (x y : Explainer) (c : Command) (r : Reply) (own : GoesBy IsAccess (sho
     says_drawing node node_is is (Err e) told = tt
 
 -- a refused reply is one to a call, which the line says
-pub may_tell : {s t : TracedSession} (line : List ℕ) (c : Command) (r : Reply) → IsLine line (kind.Command c) → GoesBy IsAccess (shown_world table_inside) s c r t → MayTellWhy line (refusal_of r)
+pub may_tell : {S : Type 0} {step : S → Letter → S → Type 0} {world : S → World} {s t : SessionOver S} (line : List ℕ) (c : Command) (r : Reply)
+    → IsLine line (kind.Command c) → GoesBy step world s c r t → MayTellWhy line (refusal_of r)
 may_tell line (command.Call call) r is goes = at r
   where
     at : (r : Reply) → MayTellWhy line (refusal_of r)
@@ -129,6 +130,9 @@ may_tell line command.List r is (listed h) = tt
 may_tell line command.List r is not_listed = tt
 
 -- ---- the start
+
+pub fresh_room : {S : Type 0} {inner : S} → HasItsRoom (fresh_trace inner)
+fresh_room = record { room = refl; kept = omega arith }
 
 module _ (session : Session (TracedState TableState)) (config : Config) (table : TableState) (traced : TracedState TableState)
     (state : own_state session ≡ record { config = config; table = traced; slots = replicate slot_count None }) (is_default : config ≡ default_config)
@@ -151,8 +155,7 @@ module _ (session : Session (TracedState TableState)) (config : Config) (table :
     shows = shows_first (session_inside (own_state session)) config traced.inner
         (ap (λ (s : TracedSession). session_inside s) state) is_default stand
         (fresh 0 (ap (λ (t : TableState). t.world) inside_is) (ap (λ (t : TableState). t.waiting) inside_is));
-    room = ap (λ (s : TracedSession). s.table.room) begins;
-    kept = subst (λ (s : TracedSession). length s.table.entries ≤ room_kept) (sym begins) (omega arith);
+    room = subst (λ (s : TracedSession). HasItsRoom s.table) (sym begins) fresh_room;
   }
 
 -- ---- the program

@@ -5,7 +5,7 @@ use Rattle.iceoryx2_description.specs.Description.{Description}
 use Rattle.iceoryx2_traced.specs.Trace.{TracedState}
 use Rattle.iceoryx2_world.specs.declared.listing.Entry.{Entry}
 use Rattle.iceoryx2_world.specs.Listing.{Lists}
-use Rattle.iceoryx2_world.specs.Tables.{TableState}
+use Rattle.iceoryx2_world.specs.World.{World}
 use Rattle.iceoryx2_commands.specs.declared.command.Call.{Call}
 use Rattle.iceoryx2_commands.specs.declared.command.Refusal.{Refusal}
 use Rattle.iceoryx2_commands.specs.declared.command.Reply.{Reply}
@@ -20,9 +20,9 @@ use Rattle.explain_serve.specs.Explained.{found_lines, TellsFound, IsCallLine, T
 
 -- ---- the service that was found
 
-module _ (call : Call) (refused : Refusal) (t : TableState) (entries : List Entry) (lists : Lists t.world entries) (found : Option Description) (is_found : IsFound call entries found) where
+module _ (call : Call) (refused : Refusal) (w : World) (entries : List Entry) (lists : Lists w entries) (found : Option Description) (is_found : IsFound call entries found) where
   pub found_told : (d : Description) (old new : List ℕ) → found ≡ Some d → (done : Result (Unit {0}) AllocError) → OnOk done (new ≡ old ++ offer_lines call refused d)
-      → OnOk done (GrowsBy (TellsFound call refused t) old new)
+      → OnOk done (GrowsBy (TellsFound call refused w) old new)
   found_told d old new is (Ok done) grown = (
     offer_lines call refused d,
     record { entries = entries; lists = lists; found = found; is_found = is_found; are = ap (found_lines call refused) (sym is) },
@@ -30,7 +30,7 @@ module _ (call : Call) (refused : Refusal) (t : TableState) (entries : List Entr
   )
   found_told d old new is (Err e) grown = tt
 
-  pub none_told : (old : List ℕ) → found ≡ None → GrowsBy (TellsFound call refused t) old old
+  pub none_told : (old : List ℕ) → found ≡ None → GrowsBy (TellsFound call refused w) old old
   none_told old is = (
     [],
     record { entries = entries; lists = lists; found = found; is_found = is_found; are = ap (found_lines call refused) (sym is) },
@@ -39,20 +39,20 @@ module _ (call : Call) (refused : Refusal) (t : TableState) (entries : List Entr
 
 -- ---- a refusal
 
-pub refusal_told : (line : List ℕ) (call : Call) (refused : Refusal) (t : TableState) (old mid new : List ℕ) → IsCallLine line call → mid ≡ old ++ row_lines (refusal_row refused)
-    → (done : Result (Unit {0}) AllocError) → OnOk done (GrowsBy (TellsFound call refused t) mid new) → OnOk done (GrowsBy (TellsRefusal line refused t) old new)
-refusal_told line call refused t old mid new is row (Ok done) offer = (
+pub refusal_told : (line : List ℕ) (call : Call) (refused : Refusal) (w : World) (old mid new : List ℕ) → IsCallLine line call → mid ≡ old ++ row_lines (refusal_row refused)
+    → (done : Result (Unit {0}) AllocError) → OnOk done (GrowsBy (TellsFound call refused w) mid new) → OnOk done (GrowsBy (TellsRefusal line refused w) old new)
+refusal_told line call refused w old mid new is row (Ok done) offer = (
   row_lines (refusal_row refused) ++ offer.0,
   record { call = call; is_line = is; offer = offer.0; offered = offer.1; are = refl },
   offer.2 ∙ ap (λ l. l ++ offer.0) row ∙ append_assoc old (row_lines (refusal_row refused)) offer.0,
 )
-refusal_told line call refused t old mid new is row (Err e) offer = tt
+refusal_told line call refused w old mid new is row (Err e) offer = tt
 
 -- ---- a reply
 
-module _ (line : List ℕ) (slot made : ℕ) (reply : Reply) (traced : TracedState TableState) (old mid next : List ℕ) (said : GrowsBy (Tells slot reply) old mid)
+module _ {S : Type 0} (world : S → World) (line : List ℕ) (slot made : ℕ) (reply : Reply) (traced : TracedState S) (old mid next : List ℕ) (said : GrowsBy (Tells slot reply) old mid)
     (accesses : next ≡ mid ++ trace_lines made traced.entries) where
-  lines_told : (new why : List ℕ) → TellsWhy line (refusal_of reply) traced.inner why → new ≡ next ++ why → GrowsBy (TellsLines line slot reply made traced) old new
+  lines_told : (new why : List ℕ) → TellsWhy line (refusal_of reply) (world traced.inner) why → new ≡ next ++ why → GrowsBy (TellsLines world line slot reply made traced) old new
   lines_told new why tells grown = (
     said.0 ++ (trace_lines made traced.entries ++ why),
     record { said = said.0; tells = said.1; why = why; tells_why = tells; are = refl },
@@ -61,17 +61,17 @@ module _ (line : List ℕ) (slot made : ℕ) (reply : Reply) (traced : TracedSta
   )
 
   pub refused_told : (refused : Refusal) (new : List ℕ) → refusal_of reply ≡ Some refused → (done : Result (Unit {0}) AllocError)
-      → OnOk done (GrowsBy (TellsRefusal line refused traced.inner) next new) → OnOk done (GrowsBy (TellsLines line slot reply made traced) old new)
+      → OnOk done (GrowsBy (TellsRefusal line refused (world traced.inner)) next new) → OnOk done (GrowsBy (TellsLines world line slot reply made traced) old new)
   refused_told refused new is (Ok done) why =
-      lines_told new why.0 (subst (λ o. TellsWhy line o traced.inner why.0) (sym is) why.1) why.2
+      lines_told new why.0 (subst (λ o. TellsWhy line o (world traced.inner) why.0) (sym is) why.1) why.2
   refused_told refused new is (Err e) why = tt
 
-  pub granted_told : refusal_of reply ≡ None → GrowsBy (TellsLines line slot reply made traced) old next
-  granted_told is = lines_told next [] (subst (λ o. TellsWhy line o traced.inner []) (sym is) refl) (sym (append-nil next))
+  pub granted_told : refusal_of reply ≡ None → GrowsBy (TellsLines world line slot reply made traced) old next
+  granted_told is = lines_told next [] (subst (λ o. TellsWhy line o (world traced.inner) []) (sym is) refl) (sym (append-nil next))
 
 -- ---- a drawing
 
-pub drawn_told : (node slot made : ℕ) (reply : Reply) (traced : TracedState TableState) (old mid new empty text note : List ℕ) → mid ≡ old ++ messages node made traced.entries
+pub drawn_told : {S : Type 0} (node slot made : ℕ) (reply : Reply) (traced : TracedState S) (old mid new empty text note : List ℕ) → mid ≡ old ++ messages node made traced.entries
     → empty ≡ [] → GrowsBy (Tells slot reply) empty text → note ≡ without_last 10 text → (done : Result (Unit {0}) AllocError) → OnOk done (new ≡ mid ++ note_line note)
     → OnOk done (GrowsBy (DrawsLines node slot reply made traced) old new)
 drawn_told node slot made reply traced old mid new empty text note drawn none said cut (Ok done) noted =

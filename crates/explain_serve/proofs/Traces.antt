@@ -9,7 +9,7 @@ use Rattle.iceoryx2_call_laws.specs.AnyCalls.{IsShortBy}
 use Rattle.iceoryx2_call_laws.proofs.calls.AnyCalls.{each_is_short}
 use Rattle.iceoryx2_call_laws.proofs.calls.Words.{close_is_short}
 use Rattle.iceoryx2_traced.specs.Entries.{entry_of}
-use Rattle.iceoryx2_traced.specs.Trace.{latest}
+use Rattle.iceoryx2_traced.specs.Trace.{IsTracedAccess, latest}
 use Rattle.iceoryx2_traced.proofs.Runs.{latest_entries, bound, same_room, total}
 use Rattle.iceoryx2_commands.specs.declared.command.Command.{Command}
 use Rattle.iceoryx2_commands.specs.declared.command.Command.TheVariants as command
@@ -19,8 +19,9 @@ use Rattle.iceoryx2_commands.specs.declared.command.Reply.TheVariants as reply
 use Rattle.iceoryx2_session.specs.CommandWords.{IsBuilderWord, IsCommandWord, GoesAlong}
 use Rattle.iceoryx2_session.specs.PatternCalls.{PatternCall}
 use Rattle.iceoryx2_session.specs.Patterns.{builder_call}
-use Rattle.iceoryx2_session.specs.Sessions.{GoesBy, shown_world}
-use Rattle.explain_serve.specs.Traces.{IsAccess, table_inside, TracedSession, room_kept, GoesTraced}
+use Rattle.iceoryx2_session.specs.Sessions.{GoesBy}
+use Rattle.iceoryx2_world.specs.World.{World}
+use Rattle.explain_serve.specs.Traces.{TracedOver, HasItsRoom, GoesTracedBy}
 
 module _ {A : Type 0} where
   -- of the latest ones the last ones are those that came last
@@ -60,26 +61,26 @@ word_short config slots _ _ w is = no_access w is
 made_is : (before after n : ℕ) → before + n ≤ 2 ^ 64 - 1 → after ≡ min (before + n) (2 ^ 64 - 1) → after - before ≡ n
 made_is before after n fits is = omega (arith, fits, is)
 
-pub goes_traced : (old new : TracedSession) (c : Command) (r : Reply) → old.table.room ≡ room_kept → length old.table.entries ≤ room_kept
-    → GoesBy IsAccess (shown_world table_inside) old c r new → GoesAlong IsAccess old c r new → GoesTraced old c r new
-goes_traced old new c r room kept goes along = record {
-  goes = goes;
-  word = along.word;
-  is_word = along.is_word;
-  run = along.run;
-  short = word_short old.config old.slots c r along.word along.is_word;
-  made = λ fits. made_is old.table.total new.table.total (length along.word) fits (total along.run (omega (arith, fits)));
-  kept =
-      let same = length-map along.word entry_of in
-      let fits = word_short old.config old.slots c r along.word along.is_word in
-      ap (latest (length along.word)) (latest_entries along.run (omega (arith, room, kept)))
-      ∙ ap (λ n. latest n (latest old.table.room (old.table.entries ++ map entry_of along.word))) (sym same)
-      ∙ latest_of_latest old.table.room old.table.entries (map entry_of along.word) (omega (arith, room, fits, same));
-}
+module _ {S : Type 0} (step : S → Letter → S → Type 0) (world : S → World) (old new : TracedOver S) (c : Command) (r : Reply) (room : HasItsRoom old.table)
+    (along : GoesAlong (IsTracedAccess step) old c r new) where
+  pub goes_traced : GoesBy (IsTracedAccess step) (λ traced. world traced.inner) old c r new → GoesTracedBy step world old c r new
+  goes_traced goes = record {
+    goes = goes;
+    word = along.word;
+    is_word = along.is_word;
+    run = along.run;
+    short = word_short old.config old.slots c r along.word along.is_word;
+    made = λ fits. made_is old.table.total new.table.total (length along.word) fits (total along.run (omega (arith, fits)));
+    kept =
+        let same = length-map along.word entry_of in
+        let fits = word_short old.config old.slots c r along.word along.is_word in
+        ap (latest (length along.word)) (latest_entries along.run (omega (arith, room.room, room.kept)))
+        ∙ ap (λ n. latest n (latest old.table.room (old.table.entries ++ map entry_of along.word))) (sym same)
+        ∙ latest_of_latest old.table.room old.table.entries (map entry_of along.word) (omega (arith, room.room, fits, same));
+  }
 
-pub still_room : (old new : TracedSession) (c : Command) (r : Reply) → old.table.room ≡ room_kept → GoesAlong IsAccess old c r new → new.table.room ≡ room_kept
-still_room old new c r room along = same_room along.run ∙ room
-
-pub still_kept : (old new : TracedSession) (c : Command) (r : Reply) → old.table.room ≡ room_kept → length old.table.entries ≤ room_kept → GoesAlong IsAccess old c r new
-    → length new.table.entries ≤ room_kept
-still_kept old new c r room kept along = let within = bound along.run (omega (arith, room, kept)) in omega (arith, room, within)
+  pub still_room : HasItsRoom new.table
+  still_room = record {
+    room = same_room along.run ∙ room.room;
+    kept = let within = bound along.run (omega (arith, room.room, room.kept)) in omega (arith, same_room along.run, room.room, within);
+  }

@@ -1,5 +1,5 @@
 -- What the program prints of an input.
-use Rattle.std.specs.Prelude.{◌≡◌, ℕ, ◌≤◌, List, ◌++◌, Option, Result, Err, length}
+use Rattle.std.specs.Prelude.{◌≡◌, ℕ, List, ◌++◌, Option, Result, Err}
 use Rattle.std.specs.Io.KnownBytes.{Appends}
 use Rattle.iceoryx2_description.specs.Defaults.{default_config}
 use Rattle.iceoryx2_commands.specs.declared.command.Command.{Command}
@@ -14,7 +14,7 @@ use Rattle.negotiate_serve.specs.Transcripts.{Machine, first_machine, IsTranscri
 use Rattle.explain_serve.specs.declared.format.Format.{Format}
 use Rattle.explain_serve.specs.Explained.{IsTextOf}
 use Rattle.explain_serve.specs.Formats.{head_of}
-use Rattle.explain_serve.specs.Traces.{TracedSession, session_inside, room_kept, first_session, GoesTraced}
+use Rattle.explain_serve.specs.Traces.{TracedSession, session_inside, first_session, GoesTraced, HasItsRoom}
 
 -- a session over a traced table, beside the machine that its table shows
 pub record ExplainState : Type 0 where
@@ -50,8 +50,7 @@ pub data ExplainsInput (format : Format) (ended : Result Ending Fault) (input : 
 -- The session shows the machine, and its trace has its room.
 pub record ShowsState (s : TracedSession) (m : Machine) : Type 0 where
   pub shows : ShowsMachine (session_inside s) m
-  pub room : s.table.room ≡ room_kept
-  pub kept : length s.table.entries ≤ room_kept
+  pub room : HasItsRoom s.table
 
 -- The session shows some machine.
 abbrev pub ShowsSomeState : TracedSession → Type 0

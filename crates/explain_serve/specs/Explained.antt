@@ -4,7 +4,7 @@ use Rattle.iceoryx2_description.specs.Description.{Description}
 use Rattle.iceoryx2_traced.specs.Trace.{TracedState}
 use Rattle.iceoryx2_world.specs.declared.listing.Entry.{Entry}
 use Rattle.iceoryx2_world.specs.Listing.{Lists}
-use Rattle.iceoryx2_world.specs.Tables.{TableState}
+use Rattle.iceoryx2_world.specs.World.{World}
 use Rattle.iceoryx2_commands.specs.declared.command.Call.{Call}
 use Rattle.iceoryx2_commands.specs.declared.command.Command.{Command}
 use Rattle.iceoryx2_commands.specs.declared.command.Command.TheVariants as command
@@ -23,7 +23,7 @@ use Rattle.negotiate_explain.specs.Refusals.{refusal_row, row_lines}
 use Rattle.negotiate_explain.specs.Standing.{IsFound}
 use Rattle.explain_serve.specs.declared.format.Format.{Format}
 use Rattle.explain_serve.specs.declared.format.Format.TheVariants as format
-use Rattle.explain_serve.specs.Traces.{TracedSession, made_between}
+use Rattle.explain_serve.specs.Traces.{TracedSession, made_between, table_world}
 
 -- ---- in lines
 
@@ -32,10 +32,10 @@ abbrev pub found_lines : Call → Refusal → Option Description → List ℕ
 found_lines call refused None = []
 found_lines call refused (Some d) = offer_lines call refused d
 
--- What a refused call required, and what is offered by the service of its name and pattern in this table.
-pub record TellsFound (call : Call) (refused : Refusal) (t : TableState) (text : List ℕ) : Type 0 where
+-- What a refused call required, and what is offered by the service of its name and pattern in this world.
+pub record TellsFound (call : Call) (refused : Refusal) (w : World) (text : List ℕ) : Type 0 where
   pub entries : List Entry
-  pub lists : Lists t.world entries
+  pub lists : Lists w entries
   pub found : Option Description
   pub is_found : IsFound call entries found
   pub are : text ≡ found_lines call refused found
@@ -50,11 +50,11 @@ abbrev pub IsCallLine : List ℕ → Call → Type 0
 IsCallLine line call = IsLine line (kind.Command (command.Call call))
 
 -- Its row, and what the line's call required and is offered.
-pub record TellsRefusal (line : List ℕ) (refused : Refusal) (t : TableState) (text : List ℕ) : Type 0 where
+pub record TellsRefusal (line : List ℕ) (refused : Refusal) (w : World) (text : List ℕ) : Type 0 where
   pub call : Call
   pub is_line : IsCallLine line call
   pub offer : List ℕ
-  pub offered : TellsFound call refused t offer
+  pub offered : TellsFound call refused w offer
   pub are : text ≡ row_lines (refusal_row refused) ++ offer
 
 -- the refusal that a reply tells
@@ -63,17 +63,17 @@ refusal_of (reply.Refused refused) = Some refused
 refusal_of _ = None
 
 -- of a refusal so much, and where there is none nothing
-abbrev pub TellsWhy : (line : List ℕ) → Option Refusal → TableState → (text : List ℕ) → Type 0
-TellsWhy line None t text = text ≡ []
-TellsWhy line (Some refused) t text = TellsRefusal line refused t text
+abbrev pub TellsWhy : (line : List ℕ) → Option Refusal → World → (text : List ℕ) → Type 0
+TellsWhy line None w text = text ≡ []
+TellsWhy line (Some refused) w text = TellsRefusal line refused w text
 
 -- The reply to a command for this slot, the accesses, which are the latest so many, and why.
-pub record TellsLines (line : List ℕ) (slot : ℕ) (reply : Reply) (made : ℕ) (traced : TracedState TableState)
-    (text : List ℕ) : Type 0 where
+pub record TellsLines {S : Type 0} (world : S → World) (line : List ℕ) (slot : ℕ) (reply : Reply) (made : ℕ)
+    (traced : TracedState S) (text : List ℕ) : Type 0 where
   pub said : List ℕ
   pub tells : Tells slot reply said
   pub why : List ℕ
-  pub tells_why : TellsWhy line (refusal_of reply) traced.inner why
+  pub tells_why : TellsWhy line (refusal_of reply) (world traced.inner) why
   pub are : text ≡ said ++ (trace_lines made traced.entries ++ why)
 
 -- Where there is a refusal the line says a call.
@@ -90,8 +90,8 @@ node_named (command.Close slot) = 0
 node_named command.List = 0
 
 -- The accesses, and the reply as a note, without the line feed at its end.
-pub record DrawsLines (node slot : ℕ) (reply : Reply) (made : ℕ) (traced : TracedState TableState) (text : List ℕ)
-    : Type 0 where
+pub record DrawsLines {S : Type 0} (node slot : ℕ) (reply : Reply) (made : ℕ) (traced : TracedState S)
+    (text : List ℕ) : Type 0 where
   pub said : List ℕ
   pub tells : Tells slot reply said
   pub are : text ≡ messages node made traced.entries ++ note_line (without_last 10 said)
@@ -101,6 +101,6 @@ pub record DrawsLines (node slot : ℕ) (reply : Reply) (made : ℕ) (traced : T
 abbrev pub IsTextOf : Format → (line : List ℕ) → Command → Reply → (old new : TracedSession) → (text : List ℕ)
     → Type 0
 IsTextOf format.Lines line c reply old new text =
-    TellsLines line (slot_named c) reply (made_between old new) new.table text
+    TellsLines table_world line (slot_named c) reply (made_between old new) new.table text
 IsTextOf format.Diagram line c reply old new text =
     DrawsLines (node_named c) (slot_named c) reply (made_between old new) new.table text

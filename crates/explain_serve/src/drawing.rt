@@ -6,22 +6,21 @@ ghost use Rattle.negotiate_serve.specs.Replies.{GrowsBy};
 ghost use Rattle.explain_serve.specs.Explained.{DrawsLines};
 
 use iceoryx2_commands::command::Reply;
-use iceoryx2_table::table::Table;
 use iceoryx2_traced::traced::Traced;
 use negotiate_explain::diagram::{draw_accesses, draw_note};
 use negotiate_serve::reply::describe;
 use std::alloc::AllocError;
 
-/// Writes the accesses that a command made, which are the latest of the table, as messages, and the reply as a
+/// Writes the accesses that a command made, which are the latest of the storage, as messages, and the reply as a
 /// note. An access that names no node is of this one.
 ///
 /// `AllocError` where memory runs out. The text may then have a part of this.
-pub fn draw_reply(
+pub fn draw_reply<S>(
     node: u64,
     slot: usize,
     reply: &Reply,
     made: u64,
-    traced: &Traced<Table>,
+    traced: &Traced<S>,
     text: &mut String,
 ) -> Result<(), AllocError>
     ensures { OnOk result (GrowsBy (DrawsLines node slot reply.now made traced.now)

@@ -1,10 +1,11 @@
 //! A session that explains its replies.
 
-ghost use Rattle.std.specs.Prelude.{◌≡◌, IfOk};
+ghost use Rattle.std.specs.Prelude.{◌≡◌, IfOk, MatchResult};
 ghost use Rattle.iceoryx2_session.specs.SessionStates.{own_state};
 ghost use Rattle.negotiate_serve.specs.Served.{HasNothing};
 ghost use Rattle.explain_serve.specs.Answered.{AnswersAs, ShowsSomeState, ShowsState, first_state};
 ghost use Rattle.explain_serve.specs.Explained.{node_named};
+ghost use Rattle.explain_serve.specs.Traces.{fresh_trace};
 
 use crate::drawing::draw_reply;
 use crate::format::Format;
@@ -15,10 +16,18 @@ use iceoryx2_session::session::Session;
 use iceoryx2_table::table::Table;
 use iceoryx2_traced::traced::Traced;
 use negotiate_serve::answerer::{Answerer, slot_of};
-use std::alloc::{AllocError, Global};
+use std::alloc::{AllocError, AllocFailed, Global};
 
 /// How many accesses are kept for a command's answer: as many as the longest word of a call has.
 const ROOM: usize = 264;
+
+/// A storage that keeps all accesses of a command, and none yet. Where there is no memory for them the storage comes
+/// back as it is in the error's `value`.
+pub fn with_room<S>(alloc: Global, storage: S) -> Result<Traced<S>, AllocFailed<S>>
+    ensures { MatchResult result (λ traced. traced ≡ fresh_trace storage) (λ refused. refused.value ≡ storage) }
+{
+    Traced::new(alloc, storage, ROOM)
+}
 
 /// A session over a traced table. It has to be spent by `finish`.
 pub struct Explainer {
@@ -34,7 +43,7 @@ impl Explainer {
             × (own_state made.session ≡ first_state.session)
             × ShowsState (own_state made.session) first_state.machine) }
     {
-        match Traced::new(alloc, Table::new(alloc), ROOM) {
+        match with_room(alloc, Table::new(alloc)) {
             Ok(traced) => Ok(Explainer {
                 format,
                 session: Session::new(Config::default(), traced),

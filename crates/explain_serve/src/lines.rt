@@ -8,7 +8,6 @@ ghost use Rattle.explain_serve.specs.Explained.{call_of, refusal_of};
 
 use iceoryx2_commands::command::{Call, Command, Refusal, Reply};
 use iceoryx2_session::world_storage::WorldStorage;
-use iceoryx2_table::table::Table;
 use iceoryx2_traced::traced::Traced;
 use negotiate_explain::accesses::describe_accesses;
 use negotiate_explain::refusals::describe_row;
@@ -18,20 +17,20 @@ use negotiate_lines::line::{self, Line};
 use negotiate_serve::reply::describe;
 use std::alloc::AllocError;
 
-/// Writes the reply to a line's command, the accesses that it made, which are the latest of the table, and
+/// Writes the reply to a line's command, the accesses that it made, which are the latest of the storage, and
 /// of a refusal when it comes, what can be done, what was required and what is offered.
 ///
 /// `AllocError` where memory runs out. The text may then have a part of this.
-pub fn describe_lines(
+pub fn describe_lines<S: WorldStorage>(
     line: &[u8],
     slot: usize,
     reply: &Reply,
     made: u64,
-    traced: &Traced<Table>,
+    traced: &Traced<S>,
     text: &mut String,
 ) -> Result<(), AllocError>
     requires { MayTellWhy line.now (refusal_of reply.now) }
-    ensures { OnOk result (GrowsBy (TellsLines line.now slot reply.now made traced.now)
+    ensures { OnOk result (GrowsBy (TellsLines S.world line.now slot reply.now made traced.now)
         (string_bytes text.old) (string_bytes text.new)) }
 {
     describe(reply, slot, text)?;
@@ -53,14 +52,14 @@ fn refusal_of(reply: &Reply) -> Option<Refusal>
 }
 
 /// Writes why the line's call was refused.
-fn describe_refusal(
+fn describe_refusal<S: WorldStorage>(
     line: &[u8],
     refusal: Refusal,
-    traced: &Traced<Table>,
+    traced: &Traced<S>,
     text: &mut String,
 ) -> Result<(), AllocError>
     requires { (call : Call) × IsCallLine line.now call }
-    ensures { OnOk result (GrowsBy (TellsRefusal line.now refusal traced.now.inner)
+    ensures { OnOk result (GrowsBy (TellsRefusal line.now refusal (S.world traced.now.inner))
         (string_bytes text.old) (string_bytes text.new)) }
 {
     describe_row(refusal, text)?;
@@ -81,13 +80,13 @@ fn call_of(line: Line) -> Option<Call>
 }
 
 /// Writes what a refused call required, and what is offered by the service that it found.
-fn describe_found(
+fn describe_found<S: WorldStorage>(
     call: &Call,
     refusal: Refusal,
-    traced: &Traced<Table>,
+    traced: &Traced<S>,
     text: &mut String,
 ) -> Result<(), AllocError>
-    ensures { OnOk result (GrowsBy (TellsFound call.entry.now refusal traced.now.inner)
+    ensures { OnOk result (GrowsBy (TellsFound call.entry.now refusal (S.world traced.now.inner))
         (string_bytes text.old) (string_bytes text.new)) }
 {
     let entries = traced.list()?;
