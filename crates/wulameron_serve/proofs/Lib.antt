@@ -1,4 +1,5 @@
 pub mod CallNodes
+pub mod ExplainedAnswers
 pub mod NodeAnswers
 pub mod ToldLines
 pub mod UntilHalted

@@ -7,13 +7,12 @@ use Rattle.iceoryx2_world.specs.Across.{Agrees}
 use Rattle.iceoryx2_commands.specs.declared.command.Call.{Call}
 use Rattle.iceoryx2_commands.specs.declared.command.Command.{Command}
 use Rattle.iceoryx2_commands.specs.declared.command.Command.TheVariants as command
-use Rattle.iceoryx2_commands.specs.declared.command.Reply.{Reply}
 use Rattle.iceoryx2_session.specs.Sessions.{SessionOver, shown_session}
 use Rattle.iceoryx2_session.specs.SessionStates.{own_state}
 use Rattle.iceoryx2_session.specs.StandingSlots.{SlotsStandInWorld, IsOfOwn}
 use Rattle.negotiate_serve.specs.declared.ending.Ending.{Ending}
 use Rattle.negotiate_serve.specs.declared.ending.Fault.{Fault}
-use Rattle.negotiate_serve.specs.Replies.{GrowsBy, Tells}
+use Rattle.negotiate_serve.specs.Replies.{GrowsBy}
 use Rattle.negotiate_serve.specs.Served.{SaysAnswer, ServesBy}
 use Rattle.negotiate_serve.specs.Transcripts.{Answering}
 use Rattle.negotiate_serve.proofs.Simulated.{transcript_along}

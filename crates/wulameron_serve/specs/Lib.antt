@@ -1,4 +1,5 @@
 pub mod Dead
+pub mod Explained
 pub mod Lines
 pub mod Served
 pub mod Shared

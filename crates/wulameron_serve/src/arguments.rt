@@ -16,6 +16,8 @@ pub struct Run<'a> {
     pub at: &'a str,
     /// The node in whose name the lines are. `None` where any will do.
     pub node: Option<u64>,
+    /// Whether each reply is explained.
+    pub explains: bool,
     pub options: FileLogOptions,
     /// Whether what dead nodes have is given back.
     pub cleans: bool,
@@ -113,11 +115,18 @@ fn with_place<'a>(alloc: Global, command: Command<'a>) -> Result<Command<'a>, Al
 
 fn run_command<'a>(alloc: Global) -> Result<Command<'a>, AllocError> {
     let command = Command::new(alloc, "run").about("Answers the lines of the standard input");
-    with_place(alloc, command)?.arg(node(alloc))?.arg(flag(
-        alloc,
-        "no-clean",
-        "Leaves what nodes have whose processes are gone",
-    ))
+    with_place(alloc, command)?
+        .arg(node(alloc))?
+        .arg(flag(
+            alloc,
+            "explain",
+            "Explains each reply, as the program explain does",
+        ))?
+        .arg(flag(
+            alloc,
+            "no-clean",
+            "Leaves what nodes have whose processes are gone",
+        ))
 }
 
 /// An argument that has to be given, with a value.
@@ -167,6 +176,7 @@ fn run_of<'a>(matches: &ArgMatches<'a>) -> Option<Run<'a>>
         at: place.at,
         node: matches.get_one::<u64>("node"),
         options: place.options,
+        explains: matches.get_flag("explain"),
         cleans: !matches.get_flag("no-clean"),
     })
 }

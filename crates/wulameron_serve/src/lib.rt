@@ -3,6 +3,7 @@
 
 pub mod arguments;
 pub mod dead;
+pub mod explained;
 pub mod lines;
 pub mod run;
 pub mod shared;

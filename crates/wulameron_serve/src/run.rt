@@ -7,6 +7,7 @@ ghost use Rattle.wulameron_serve.specs.Served.{Serves, ServesLog};
 
 use crate::arguments::Run;
 use crate::dead::{DeadNodes, NodeFiles};
+use crate::explained::serve_log_explained;
 use crate::lines::{Halt, serve_until};
 use crate::shared::SharedAnswerer;
 use crate::starting::start;
@@ -93,15 +94,19 @@ fn run_as<
     match FileLog::open(rt, path, run.options) {
         Ok(log) => {
             let counter = log.header().counter;
-            let dead = NodeFiles {
-                rt,
-                path: run.at,
-                sharing: run.options.sharing,
-                cleans: run.cleans,
+            let ended = if run.explains {
+                serve_log_explained(alloc, log, counter, run.at, node, input, output, errors)
+            } else {
+                let dead = NodeFiles {
+                    rt,
+                    path: run.at,
+                    sharing: run.options.sharing,
+                    cleans: run.cleans,
+                };
+                serve_log(
+                    alloc, log, counter, run.at, node, dead, input, output, errors,
+                )
             };
-            let ended = serve_log(
-                alloc, log, counter, run.at, node, dead, input, output, errors,
-            );
             report_end(ended, errors)
         }
         Err(error) => {
@@ -162,7 +167,7 @@ fn serve_log<L: Refusing + Drop, D: DeadNodes + Drop, R: Read + Drop, W: Write, 
 }
 
 /// Why a node doesn't start, by what goes wrong at the log. Where nothing does there was no memory.
-fn halt_by(trouble: Option<Trouble>) -> Halt
+pub fn halt_by(trouble: Option<Trouble>) -> Halt
     ensures { is_not_started (Err result) ≡ true }
 {
     match trouble {

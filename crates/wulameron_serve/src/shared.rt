@@ -8,7 +8,7 @@ ghost use Rattle.iceoryx2_session.specs.Sessions.{ClosesSlotsBy};
 ghost use Rattle.negotiate_serve.specs.Replies.{GrowsBy};
 ghost use Rattle.negotiate_lines.specs.declared.line.Line.TheVariants as said;
 ghost use Rattle.negotiate_lines.specs.Lines.{IsLine};
-ghost use Rattle.wulameron_serve.specs.Shared.{AnswersFor, Refreshes, SaysAgain, StandsFor, fresh_session};
+ghost use Rattle.wulameron_serve.specs.Shared.{AnswersFor, Refreshes, SaysAgain, StandsFor, fresh_session, not_ours};
 
 use crate::dead::{DeadNodes, clean_dead, is_blocked};
 use iceoryx2_commands::command::{Call, Command, Reply};
@@ -19,6 +19,13 @@ use negotiate_lines::line::{self, Line};
 use negotiate_serve::answerer::Answerer;
 use negotiate_serve::reply::describe;
 use std::alloc::{AllocError, Global};
+
+/// Writes that a line names another node. `AllocError` where there is no memory for the text.
+pub fn refuse_node(node: u64, text: &mut String) -> Result<(), AllocError>
+    ensures { OnOk result (GrowsBy (λ said. said ≡ not_ours node) (string_bytes text.old) (string_bytes text.new)) }
+{
+    writeln!(text, "node {node} is not this program's")
+}
 
 /// A session, the node in whose name its lines are, and who finds nodes that are dead. It has to be spent by `finish`.
 pub struct SharedAnswerer<S, D> {
@@ -84,7 +91,7 @@ impl<S: WorldStorage, D: DeadNodes + Drop> SharedAnswerer<S, D> {
     {
         let node = call.node;
         if node != self.node {
-            return writeln!(text, "node {node} is not this program's");
+            return refuse_node(node, text);
         }
         let slot = call.slot;
         let reply = self.session.carry_out(Command::Call(call));

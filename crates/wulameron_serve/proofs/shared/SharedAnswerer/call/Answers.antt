@@ -1,7 +1,7 @@
-use Rattle.std.proofs.Common.{◌≡◌, OnOk, List, ℕ, string_bytes, rules, arith, sym, subst}
+use Rattle.std.proofs.Common.{◌≡◌, string_bytes, arith, sym, subst}
 use Rattle.iceoryx2_session.specs.SessionStates.{own_state}
 use Rattle.iceoryx2_commands.specs.declared.command.Command.TheVariants as command
-use Rattle.negotiate_serve.specs.Replies.{GrowsBy, Tells}
+use Rattle.negotiate_serve.specs.Replies.{Tells}
 use Rattle.wulameron_serve.specs.Shared.{AnswersFor, SaysAgain, of_another, called, blocked, not_ours}
 use Rattle.wulameron_serve.proofs.NodeAnswers.{call_of_own, stands_after, grows_as}
 use Rattle.wulameron_serve.proofs.shared.SharedAnswerer.call.Goals as goal
@@ -9,11 +9,10 @@ use Rattle.wulameron_serve.proofs.shared.SharedAnswerer.call.Goals as goal
 pub returns-then-node-self-clause-said : goal.returns-then-node-self-clause-said
 returns-then-node-self-clause-said g c =
     let another : c.args.call.node ≡ c.args.self.now.node → ⊥ = λ e. absurd (grind (arith, c.if-node-self.true, e)) in
-    let grows : OnOk c.writeln.result (GrowsBy (λ said. said ≡ not_ours c.args.call.node) (string_bytes c.args.text.now) (string_bytes c.writeln.new.self)) = search rules in
     grows_as (λ said. said ≡ not_ours c.args.call.node)
     (λ said. AnswersFor g.S.Storage.step g.S.WorldStorage.world g.S.WorldStorage.own c.args.self.now.node c.args.line.now (own_state c.args.self.now.session) (command.Call c.args.call) said (own_state c.args.self.now.session))
     (λ said is. subst (λ text. AnswersFor g.S.Storage.step g.S.WorldStorage.world g.S.WorldStorage.own c.args.self.now.node c.args.line.now (own_state c.args.self.now.session) (command.Call c.args.call) text (own_state c.args.self.now.session)) (sym is) (of_another another))
-    c.writeln.result (string_bytes c.args.text.now) (string_bytes c.writeln.new.self) grows
+    c.refuse_node.result (string_bytes c.args.text.now) (string_bytes c.refuse_node.new.text) c.refuse_node.ensures
 
 pub returns-then-is_blocked-clause-said : goal.returns-then-is_blocked-clause-said
 returns-then-is_blocked-clause-said g c =

@@ -1,0 +1,131 @@
+-- What a command that is explained makes of the session of a node.
+use Rattle.std.proofs.Common.{◌≡◌, ℕ, Bool, true, false, List, [], Option, Result, OnOk, append-nil, refl, sym, ap, subst, ◌∙◌}
+use Rattle.std.specs.declared.alloc.AllocError.{AllocError}
+use Rattle.iceoryx2_access.specs.Letter.{Letter}
+use Rattle.iceoryx2_traced.specs.Trace.{TracedState, IsTracedAccess}
+use Rattle.iceoryx2_world.specs.World.{World}
+use Rattle.iceoryx2_commands.specs.declared.command.Call.{Call}
+use Rattle.iceoryx2_commands.specs.declared.command.Command.{Command}
+use Rattle.iceoryx2_commands.specs.declared.command.Command.TheVariants as command
+use Rattle.iceoryx2_commands.specs.declared.command.Reply.{Reply}
+use Rattle.iceoryx2_session.specs.CommandWords.{GoesAlong}
+use Rattle.iceoryx2_session.specs.Sessions.{SessionOver, GoesBy, shown_session}
+use Rattle.iceoryx2_session.specs.SessionStates.{own_state}
+use Rattle.iceoryx2_session.proofs.Shown.{goes_shown}
+use Rattle.negotiate_serve.specs.declared.ending.Ending.{Ending}
+use Rattle.negotiate_serve.specs.declared.ending.Fault.{Fault}
+use Rattle.negotiate_serve.specs.Replies.{GrowsBy, Tells}
+use Rattle.negotiate_serve.specs.Served.{SaysAnswer, ServesBy}
+use Rattle.negotiate_serve.specs.Transcripts.{Answering, slot_named}
+use Rattle.negotiate_serve.proofs.Simulated.{transcript_along}
+use Rattle.explain_serve.specs.Explained.{TellsLines}
+use Rattle.explain_serve.specs.Traces.{TracedOver, HasItsRoom, made_between}
+use Rattle.explain_serve.proofs.Traces.{goes_traced}
+use Rattle.wulameron_serve.specs.declared.explained.ExplainedAnswerer.{ExplainedAnswerer}
+use Rattle.wulameron_serve.specs.declared.trouble.Trouble.{Trouble}
+use Rattle.wulameron_serve.specs.Explained.{IsExplained, RefreshesInside, ExplainsFor, BeginsAsAnswered, ExplainsLinesFor, of_another, called, closed, listed}
+use Rattle.wulameron_serve.specs.Lines.{AnswersWhileUsable}
+use Rattle.wulameron_serve.specs.Shared.{AnswersFor, Refreshes, fresh_session}
+use Rattle.wulameron_serve.specs.Shared as shared
+use Rattle.wulameron_serve.specs.Dead.{is_blocked}
+use Rattle.wulameron_serve.proofs.NodeAnswers.{says_grown}
+use Rattle.wulameron_serve.proofs.Refreshing.{refreshed_not}
+
+-- ---- a command
+
+module _ {S : Type 0} (step : S → Letter → S → Type 0) (world : S → World) where
+  -- what is written of a reply explains it
+  pub explains : (old new : TracedOver S) (line : List ℕ) (c : Command) (r : Reply) (slot made : ℕ) → HasItsRoom old.table
+      → GoesBy (IsTracedAccess step) (λ traced. world traced.inner) old c r new → GoesAlong (IsTracedAccess step) old c r new
+      → slot ≡ slot_named c → made ≡ made_between old new → (said : List ℕ) → TellsLines world line slot r made new.table said → IsExplained step world old line c said new
+  explains old new line c r slot made room goes along slot_is made_is said tells = record {
+    reply = r;
+    goes = goes_traced step world old new c r room along goes;
+    tells =
+        subst (λ k. TellsLines world line k r (made_between old new) new.table said) slot_is
+        (subst (λ n. TellsLines world line slot r n new.table said) made_is tells);
+  }
+
+-- what others did leaves the room of the trace
+pub room_refreshed : {S : Type 0} (world : S → World) (own : S → ℕ → Bool) (old new : TracedOver S) → RefreshesInside world own old new → HasItsRoom old.table → HasItsRoom new.table
+room_refreshed world own old new shown room =
+    subst (λ s. HasItsRoom s.table) (sym shown.same) (record { room = room.room; kept = room.kept })
+
+-- ---- it begins as without explanations
+
+module _ {S : Type 0} (step : S → Letter → S → Type 0) (world : S → World) (own : S → ℕ → Bool) (node : ℕ) where
+  abbrev inside : TracedOver S → SessionOver S
+  inside s = shown_session (λ traced. traced.inner) s
+
+  goes_inside : {old new : TracedOver S} {c : Command} {r : Reply} → GoesBy (IsTracedAccess step) (λ traced. world traced.inner) old c r new
+      → GoesBy step world (inside old) c r (inside new)
+  goes_inside goes = (goes_shown (IsTracedAccess step) step (λ traced. traced.inner) world (λ traced. Unit {0}) (λ s t l p access. (access.inside, tt)) tt goes).0
+
+  refreshed_inside : (old mid : TracedOver S) → RefreshesInside world own old mid → Refreshes world own (inside old) (inside mid)
+  refreshed_inside old mid shown = record { slots = ap inside shown.same; nodes = shown.nodes; kept = shown.kept }
+
+  -- a call of which a dead node may be the reason isn't made again
+  call_answered : {call : Call} {text : List ℕ} (line : List ℕ) (s t : SessionOver S) (answer : Reply) → call.node ≡ node → GoesBy step world s (command.Call call) answer t
+      → Tells call.slot answer text → (b : Bool) → is_blocked answer ≡ b → AnswersFor step world own node line s (command.Call call) text t
+  call_answered line s t answer same goes tells false e = shared.called answer same goes e tells
+  call_answered line s t answer same goes tells true e = shared.blocked answer t same goes e (shared.stays (refreshed_not world own t) tells)
+
+  pub begins_as_answered : {old new : TracedOver S} {line text : List ℕ} {c : Command} → ExplainsFor step world own node old line c text new
+      → BeginsAsAnswered step world own node old line c text new
+  begins_as_answered (of_another {call = call} another) = record { said = _; explanation = []; are = sym (append-nil _); answers = shared.of_another another }
+  begins_as_answered (called same is) =
+      record { said = is.tells.said; explanation = _; are = is.tells.are; answers = call_answered _ _ _ is.reply same (goes_inside is.goes.goes) is.tells.tells (is_blocked is.reply) refl }
+  begins_as_answered (closed is) =
+      record { said = is.tells.said; explanation = _; are = is.tells.are; answers = shared.closed is.reply (goes_inside is.goes.goes) is.tells.tells }
+  begins_as_answered {old = old} (listed mid shown is) =
+      record { said = is.tells.said; explanation = _; are = is.tells.are; answers = shared.listed is.reply (inside mid) (refreshed_inside old mid shown) (goes_inside is.goes.goes) is.tells.tells }
+
+-- ---- a line
+
+module _ {S : Type 0} (step : S → Letter → S → Type 0) (world : S → World) (own : S → ℕ → Bool) where
+  abbrev pub ExplainsNode : Answering (ExplainedAnswerer S)
+  ExplainsNode old line c text new = (new.node ≡ old.node) × ExplainsFor step world own old.node (own_state old.session) line c text (own_state new.session)
+
+  -- an explained close is one for the node
+  pub says_closed : (old new : ExplainedAnswerer S) (line : List ℕ) (c : Command) (slot : ℕ) → c ≡ command.Close slot → new.node ≡ old.node
+      → (done : Result (Unit {0}) AllocError) (before after : List ℕ)
+      → OnOk done (GrowsBy (λ said. IsExplained step world (own_state old.session) line (command.Close slot) said (own_state new.session)) before after)
+      → OnOk done (SaysAnswer ExplainsNode old line c before after new)
+  says_closed old new line c slot is same done before after grows =
+      says_grown ExplainsNode old new line c (λ said. IsExplained step world (own_state old.session) line (command.Close slot) said (own_state new.session))
+      (λ said explained. (same, subst (λ k. ExplainsFor step world own old.node (own_state old.session) line k said (own_state new.session)) (sym is) (closed explained)))
+      done before after grows
+
+-- ---- an input
+
+module _ {S : Type 0} (step : S → Letter → S → Type 0) (world : S → World) (own : S → ℕ → Bool) (trouble : S → Option Trouble) where
+  -- what goes wrong at the storage inside
+  abbrev trouble_inside : ExplainedAnswerer S → Option Trouble
+  trouble_inside a = let s : TracedOver S = own_state a.session in trouble s.table.inner
+
+  -- how the answerer answers
+  abbrev pub AnswersOf : Answering (ExplainedAnswerer S)
+  AnswersOf = AnswersWhileUsable trouble_inside (ExplainsNode step world own)
+
+  module _ (node : ℕ) where
+    abbrev Shows : ExplainedAnswerer S → TracedOver S → Type 0
+    Shows a s = (a.node ≡ node) × (own_state a.session ≡ s)
+
+    along : (a b : ExplainedAnswerer S) (line : List ℕ) (c : Command) (text : List ℕ) (s : TracedOver S) → AnswersOf a line c text b → Shows a s
+        → (t : TracedOver S) × ExplainsLinesFor step world own trouble node s line c text t × Shows b t
+    along a b line c text s by shows = (
+      own_state b.session,
+      subst (λ (r : TracedOver S). ExplainsLinesFor step world own trouble node r line c text (own_state b.session)) shows.1
+          (by.0, subst (λ (n : ℕ). ExplainsFor step world own n (own_state a.session) line c text (own_state b.session)) shows.0 by.1.1),
+      (by.1.0 ∙ shows.0, refl),
+    )
+
+    -- what is said of an input is said of the session alone
+    pub serves_explained : (a : ExplainedAnswerer S) (traced : TracedState S) (ended : Result Ending Fault) (input unread : List ℕ) (old new : Option (List ℕ)) → a.node ≡ node
+        → own_state a.session ≡ fresh_session traced → ServesBy AnswersOf a ended input unread old new
+        → ServesBy (ExplainsLinesFor step world own trouble node) (fresh_session traced) ended input unread old new
+    serves_explained a traced ended input unread old new is fresh by = record {
+      said = by.said;
+      transcript = transcript_along AnswersOf (ExplainsLinesFor step world own trouble node) Shows along a (fresh_session traced) input ended by.said unread by.transcript (is, fresh);
+      written = by.written;
+    }

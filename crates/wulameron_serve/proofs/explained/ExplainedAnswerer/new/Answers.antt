@@ -1,0 +1,14 @@
+use Rattle.std.proofs.Common.{sym, ap, subst, ◌∙◌}
+use Rattle.iceoryx2_world.specs.Across.{Agrees}
+use Rattle.explain_serve.specs.Traces.{HasItsRoom}
+use Rattle.wulameron_serve.proofs.explained.ExplainedAnswerer.new.Goals as goal
+
+pub returns-clause-stands : goal.returns-clause-stands
+returns-clause-stands g c = λ agrees mine room. record {
+  stands = record {
+    agrees = subst (λ s. Agrees (g.S.WorldStorage.world s.table.inner)) (sym c.over.ensures.state) agrees;
+    stand = c.over.ensures.stands;
+    of_own = ap (λ s. g.S.WorldStorage.own s.table.inner c.args.node) c.over.ensures.state ∙ mine;
+  };
+  room = subst (λ s. HasItsRoom s.table) (sym c.over.ensures.state) room;
+}
