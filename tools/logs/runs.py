@@ -49,19 +49,19 @@ class Runs:
                 self.wrong.append(what)
         return holds
 
-    def words(self, path, node, wait=PATIENCE, sync=False):
+    def words(self, path, node, wait=PATIENCE, sync=False, explain=False):
         """The words by which the program is run."""
         words = [self.program, "run", "--at", str(path), "--node", str(node), "--wait", str(wait)]
-        return words + ["--sync"] * sync
+        return words + ["--sync"] * sync + ["--explain"] * explain
 
-    def run(self, path, node, lines, wait=PATIENCE, sync=False, **others):
+    def run(self, path, node, lines, wait=PATIENCE, sync=False, explain=False, **others):
         """Runs the program on some lines until it ends."""
         self.count("processes")
         self.count("calls", len(lines))
         streams = {"stdout": subprocess.PIPE, "stderr": subprocess.PIPE, "timeout": SECONDS}
         given = "".join(f"{line}\n" for line in lines).encode()
         try:
-            ran = subprocess.run(self.words(path, node, wait, sync), input=given, **streams, **others)
+            ran = subprocess.run(self.words(path, node, wait, sync, explain), input=given, **streams, **others)
         except subprocess.TimeoutExpired:
             return Ran(-1, [], f"it ran for {SECONDS} seconds")
         out, err = (stream.decode(errors="replace") for stream in (ran.stdout, ran.stderr))
