@@ -216,3 +216,23 @@ fn a_journal_answers_as_the_plain_table_in_schedules_500_to_749(rt: HostRuntime)
 fn a_journal_answers_as_the_plain_table_in_schedules_750_to_999(rt: HostRuntime) {
     compare_from(&rt, rt.alloc(), 750);
 }
+
+#[test]
+fn a_journal_answers_as_the_plain_table_in_schedules_1000_to_1249(rt: HostRuntime) {
+    compare_from(&rt, rt.alloc(), 1000);
+}
+
+#[test]
+fn a_journal_answers_as_the_plain_table_in_schedules_1250_to_1499(rt: HostRuntime) {
+    compare_from(&rt, rt.alloc(), 1250);
+}
+
+#[test]
+fn a_journal_answers_as_the_plain_table_in_schedules_1500_to_1749(rt: HostRuntime) {
+    compare_from(&rt, rt.alloc(), 1500);
+}
+
+#[test]
+fn a_journal_answers_as_the_plain_table_in_schedules_1750_to_1999(rt: HostRuntime) {
+    compare_from(&rt, rt.alloc(), 1750);
+}
