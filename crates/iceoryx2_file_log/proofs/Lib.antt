@@ -2,3 +2,4 @@ pub mod Headers
 pub mod Torn
 pub mod Fronts
 pub mod Paths
+pub mod Crashes

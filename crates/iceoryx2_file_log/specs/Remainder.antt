@@ -1,11 +1,11 @@
 -- What a writer that died leaves at the end of a log's file.
-use Rattle.std.specs.Prelude.{ℕ, ◌+◌, ◌≡◌, ◌≢◌, ◌⊎◌, List, ◌++◌, length, take, drop, nat_lt, Bool, false, bytes_eq, not}
+use Rattle.std.specs.Prelude.{ℕ, ◌+◌, ◌≡◌, ◌≢◌, ◌⊎◌, List, [], ◌++◌, length, take, drop, nat_lt, Bool, false, bytes_eq, not}
 use Rattle.std.specs.Prelude.{Option, Some, None, if◌then◌else◌}
 use Rattle.iceoryx2_log.specs.declared.entry.Entry.{Entry}
 use Rattle.iceoryx2_log.specs.declared.form.TheConstants.{HEADER_LENGTH, SUM_LENGTH, MIN_BODY_LENGTH, MAX_BODY_LENGTH}
 use Rattle.iceoryx2_log.specs.declared.form.reading.EntryError.{EntryError}
 use Rattle.iceoryx2_log.specs.declared.form.reading.EntryError.TheVariants.{CutShort, Malformed, OutOfMemory}
-use Rattle.iceoryx2_log.specs.Form.{header, sum_of, IsLength, Begins, IsCutShort}
+use Rattle.iceoryx2_log.specs.Form.{header, sum_of, IsLength, IsForm, Begins, IsCutShort}
 use Rattle.iceoryx2_file_log.specs.declared.remainder.Front.{Front}
 use Rattle.iceoryx2_file_log.specs.declared.remainder.Front.TheVariants.{Unfinished, Torn, Damaged}
 
@@ -25,6 +25,12 @@ IsTorn bytes = IsCutShort bytes ⊎ HasWrongSum bytes
 -- No bytes that are torn begin with an entry. So no whole entry is ever cut off.
 abbrev pub NoneTornAway : Type 0
 NoneTornAway = (bytes : List ℕ) (e : Entry) (count : ℕ) → IsTorn bytes → Begins bytes e count → ⊥
+
+-- A writer that dies within the append of an entry leaves all of its form or a front of it. So behind what stood there is
+-- the entry, or bytes that are torn and begin with none.
+abbrev pub WithOrWithout : Type 0
+WithOrWithout = (e : Entry) (written missing : List ℕ) → IsForm e (written ++ missing)
+    → (missing ≡ []) ⊎ (IsTorn written × ((d : Entry) (count : ℕ) → Begins written d count → ⊥))
 
 -- ---- the same as a test
 

@@ -4,7 +4,7 @@ ghost use Rattle.std.specs.Prelude.{◌≡◌, ◌<◌, ◌≤◌, ◌^◌, ◌�
 ghost use Rattle.iceoryx2_log.specs.declared.entry.Entry as declared;
 ghost use Rattle.iceoryx2_log.specs.Form.{Begins, IsCutShort, header, sum_of as sum_at};
 ghost use Rattle.iceoryx2_file_log.specs.declared.remainder.Front.TheVariants as front;
-ghost use Rattle.iceoryx2_file_log.specs.Remainder.{HasWrongSum, IsTorn, NoneTornAway};
+ghost use Rattle.iceoryx2_file_log.specs.Remainder.{HasWrongSum, IsTorn, NoneTornAway, WithOrWithout};
 ghost use Rattle.iceoryx2_file_log.specs.Remainder.{has_wrong_sum_in, unread_in, malformed_in, refused_in};
 
 use iceoryx2_log::entry::Entry;
@@ -127,7 +127,11 @@ fn malformed(bytes: &[u8], left: u64) -> Front
     Front::Damaged
 }
 
-/// The law of cutting off.
+/// What holds of bytes that are torn.
 pub fn laws_of_tearing()
-    ensures { NoneTornAway }
+    // No whole entry is ever cut off.
+    ensures none { NoneTornAway }
+
+    // What dies within an append leaves the entry, or what is cut off, and nothing else.
+    ensures crash { WithOrWithout }
 {}
