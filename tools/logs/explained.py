@@ -1,6 +1,8 @@
 """Replies that are explained: they are those without explanations, and have those of the program explain."""
 import pathlib
 
+from logs.runs import NO_CLEAN
+
 # The stored run of the program explain: the lines that it is given, and what it writes of them over a table.
 STORED = pathlib.Path(__file__).resolve().parent.parent.parent / "crates/explain"
 MAKER, NODE = 1, 2
@@ -30,7 +32,10 @@ def for_node(line):
 
 
 def explained(runs, _data):
-    """One process creates, and another is explained what it opens, is refused and closes, as over a table."""
+    """One process creates, and another is explained what it opens, is refused and closes, as over a table.
+
+    An explained one cleans up for no dead node, so the one beside it doesn't either.
+    """
     given, wanted = stored()
     path = runs.file("explained")
     replies = runs.held(path, MAKER, given[:1])
@@ -38,9 +43,9 @@ def explained(runs, _data):
     lines = [for_node(line) for line in given[1:-1]]
     others = [f"event create {NODE + 1} 5 foreign", "list"]
     data = path.read_bytes()
-    plain = runs.run(path, NODE, lines + others)
+    plain = runs.run(path, NODE, lines + others, flags=[NO_CLEAN])
     path.write_bytes(data)
-    ran = runs.run(path, NODE, lines + others, explain=True)
+    ran = runs.run(path, NODE, lines + others, flags=["--explain"])
     fine = ran.status == 0 and not ran.err and plain.status == 0 and not plain.err
     runs.need(fine, f"explained: {ran}, and without explanations {plain}")
     found = blocks(ran.out)

@@ -7,17 +7,14 @@ import shutil
 import subprocess
 import threading
 import time
-from concurrent.futures import ThreadPoolExecutor
 
 from logs.form import FILE_HEADER_LENGTH, read_log
-from logs.runs import BUSY, FAULT, NO_LOG, NO_PERMISSION, front_before, fronts_of, listings_of, snapshot, telling_first
+from logs.runs import BUSY, FAULT, NO_CLEAN, NO_LOG, NO_PERMISSION, Living, at_once, front_before, fronts_of
+from logs.runs import listings_of, node_files, node_path, snapshot, telling_first
 
-AT_ONCE = 4
 # Where in an entry a cut or a change tells most: its parts' bounds.
 BOUNDS = (-1, 0, 1, 4, 7, 8, 15, 16, 17, 25, 31, 39, 45)
 MOST_CHANGES = 400
-# So many cuts and changes are tried at least, however long they take.
-LEAST = 50
 # The node of the runs at logs that others have made, whose name stands in none of them.
 NODE = 77
 LINES = [f"event open {NODE} 0 absent", "list", f"event create {NODE} 1 fresh", "list"]
@@ -32,7 +29,7 @@ def make_log(runs):
         (1, ["event create 1 0 lamps max_nodes=2", "pubsub create 1 1 poses payload=fixed,Pose,24,8"]),
         (2, ["event open 2 0 lamps", "rr create 2 1 plan", "close 1", "event open 2 2 lamps", "close 2"]),
     ):
-        replies = runs.held(path, node, lines)
+        replies = runs.held(path, node, lines, [NO_CLEAN])
         fine = all(reply.startswith(("ok ", "closed ")) for reply in replies) and len(replies) == len(lines)
         runs.need(fine, f"the small log: node {node} replied {replies}")
     if not runs.need(path.exists(), "the small log: there is none"):
@@ -68,10 +65,18 @@ def check_goes_on(runs, path, front, ran, what):
 
 
 def check_refused(runs, path, before, ran, names, what):
-    """The program ended by a named error, and changed nothing."""
+    """The program ended by a named error, and changed nothing. But it may have claimed its node."""
     fine = ran.status == FAULT and any(f"{path}: {name}" in ran.err for name in names)
     runs.need(fine, f"{what}: status {ran.status}, not {names}: {ran.err[:200]!r} {ran.out[:3]}")
+    check_unchanged(runs, path, before, what)
+
+
+def check_unchanged(runs, path, before, what):
+    """Nothing changed, and of nodes there is the empty file of the one that ran."""
     runs.need(snapshot(path) == before, f"{what}: something changed")
+    own = node_path(path, NODE)
+    fine = node_files(path) == [own.name] and own.is_file() and not own.stat().st_size
+    runs.need(fine, f"{what}: the nodes' files are {node_files(path)}")
 
 
 def cut_at(runs, data, fronts, end):
@@ -113,20 +118,6 @@ def change_at(runs, data, fronts, at, value):
         runs.need(is_known, f"{what}: it listed another world: {ran.out}")
     runs.count("changes")
     shutil.rmtree(path.parent)
-
-
-def at_once(call, places, seconds):
-    """Makes a call for each of these places, some at once, until it is too late, and counts them."""
-    deadline = time.monotonic() + seconds
-
-    def timely(number, at):
-        is_timely = number < LEAST or time.monotonic() < deadline
-        if is_timely:
-            call(at)
-        return is_timely
-
-    with ThreadPoolExecutor(AT_ONCE) as pool:
-        return sum(pool.map(timely, range(len(places)), places))
 
 
 def cuts(runs, data, seconds):
@@ -191,13 +182,15 @@ def refused_permissions(runs, data):
         path.chmod(mode)
         if other:
             os.chown(path, NOBODY, NOBODY)
+            os.chown(path.parent, NOBODY, NOBODY)
         before = snapshot(path) if os.geteuid() == 0 else None
         ran = runs.run(path, NODE, LINES, **other)
         check_refused(runs, path, before or snapshot(path), ran, [NO_PERMISSION], f"mode {mode:03o}")
     folder = runs.file("closed")
     folder.parent.chmod(0o555)
     ran = runs.run(folder, NODE, LINES, **other)
-    runs.need(ran.status == FAULT and f"{folder}: {NO_PERMISSION}" in ran.err, f"a folder that is read-only: {ran}")
+    fine = ran.status == FAULT and f"{node_path(folder, NODE)}: {NO_PERMISSION}" in ran.err
+    runs.need(fine, f"a folder that is read-only: {ran}")
     runs.need(not os.listdir(folder.parent), "a folder that is read-only: something was made")
 
 
@@ -208,7 +201,7 @@ def another_node(runs, data):
     ran = runs.run(path, NODE, ["event create 1 0 foreign"])
     fine = ran.status == 0 and len(ran.out) == 1 and not ran.out[0].startswith(("ok ", "Event"))
     runs.need(fine, f"a line of another node: {ran}")
-    runs.need(snapshot(path) == before, "a line of another node: something changed")
+    check_unchanged(runs, path, before, "a line of another node")
 
 
 # ---- full disks
@@ -245,6 +238,8 @@ def check_room_again(runs, path, what):
     replayed = runs.replay(after, f"{what}, with room again")
     if replayed:
         runs.need(not replayed[0].torn, f"{what}, with room again: a torn end stands")
+        left = replayed[1].left_by(NODE)
+        runs.need(left == (0, 0, 0), f"{what}, with room again: the dead node has {left}")
 
 
 def limited_file(runs, data):
@@ -298,7 +293,10 @@ def read_only(runs, folder, data):
         print("no disk can be made read-only: left out")
         return
     before = snapshot(path)
-    check_refused(runs, path, before, runs.run(path, NODE, LINES), [NO_PERMISSION], "a disk that is read-only")
+    ran, named = runs.run(path, NODE, LINES), node_path(path, NODE)
+    runs.need(snapshot(path) == before, "a disk that is read-only: something changed")
+    fine = ran.status == FAULT and f"{named}: {NO_PERMISSION}" in ran.err and not ran.out
+    runs.need(fine, f"a disk that is read-only: {ran}")
 
 
 # ---- held by another
@@ -318,7 +316,7 @@ def held_log(runs, data):
     runs.need(BUSY in texts and ran.status in (0, FAULT), f"a log that is held: {ran}")
     runs.need(not any(reply.startswith("ok ") for reply in ran.out), f"a log that is held: {ran.out}")
     runs.need(seconds >= 0.2, f"a log that is held: it waited {seconds:.3f} seconds in place of 0.2")
-    runs.need(snapshot(path) == before, "a log that is held: something changed")
+    check_unchanged(runs, path, before, "a log that is held")
     with open(path, "rb") as file:
         fcntl.flock(file, fcntl.LOCK_EX)
         timer = threading.Timer(0.4, lambda: fcntl.flock(file, fcntl.LOCK_UN))
@@ -330,3 +328,23 @@ def held_log(runs, data):
     fine = ran.status == 0 and ran.out[:1] and ran.out[0].startswith("ok 0 ")
     runs.need(fine and seconds >= 0.3, f"a log that is held for 0.4 seconds: {ran} after {seconds:.3f} seconds")
     runs.replay(path.read_bytes(), "a log that was held")
+
+
+def held_close(runs, _data):
+    """A close while the script holds the log is refused and leaves the slot as it is, and then it is closed."""
+    path, what = runs.file("held-close"), "a close while the log is held"
+    living = Living(runs, path, NODE, wait=200)
+    living.reply(f"event create {NODE} 0 kept")
+    before = snapshot(path)
+    with open(path, "rb") as file:
+        fcntl.flock(file, fcntl.LOCK_EX)
+        refused = living.reply("close 0")
+    check_unchanged(runs, path, before, what)
+    replies = [refused, *(living.reply(line) for line in ("list", "close 0", "list"))]
+    wanted = ["not closed 0", "1 services", "closed 0", "0 services"]
+    runs.need(replies == wanted, f"{what}: it replied {replies}, and not {wanted}")
+    ended = living.end()
+    runs.need(ended.status == 0 and BUSY in ended.err, f"{what}: it ended with {ended}")
+    replayed = runs.replay(path.read_bytes(), what)
+    if replayed:
+        runs.need(not replayed[1].remains(), f"{what}: in the end there is {replayed[1].remains()}")

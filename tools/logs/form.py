@@ -223,6 +223,11 @@ class Entry:
         """The byte after it."""
         return self.at + self.count
 
+    @property
+    def ticket_taken(self):
+        """The ticket that its node has by it; nothing where it takes none."""
+        return {"publish": self.number, "open_segment": self.ticket}.get(self.deed)
+
     def line(self):
         """The entry as a line."""
         words = [f"{self.at}: node {self.node} {self.deed} {self.hash.hex()}"]

@@ -1,10 +1,13 @@
 """Runs of a program at logs in files, and what is counted and wrong of them."""
 import os
 import random
+import re
 import shutil
 import subprocess
 import threading
+import time
 from collections import Counter
+from concurrent.futures import ThreadPoolExecutor
 from dataclasses import dataclass
 
 from logs.form import Wrong, read_header, read_log
@@ -18,6 +21,11 @@ FAULT = 3
 BUSY = "others hold the log"
 NO_LOG = "is no log"
 NO_PERMISSION = "no permission"
+# By which a node that has died is left as it is.
+NO_CLEAN = "--no-clean"
+# How many things are tried at once, and how many at least, however long they take.
+AT_ONCE = 4
+LEAST = 50
 
 
 @dataclass(frozen=True)
@@ -49,43 +57,41 @@ class Runs:
                 self.wrong.append(what)
         return holds
 
-    def words(self, path, node, wait=PATIENCE, sync=False, explain=False):
-        """The words by which the program is run."""
-        words = [self.program, "run", "--at", str(path), "--node", str(node), "--wait", str(wait)]
-        return words + ["--sync"] * sync + ["--explain"] * explain
+    def words(self, path, node, wait=PATIENCE, flags=()):
+        """The words by which the program is run. Without a node it takes a free one."""
+        named = [] if node is None else ["--node", str(node)]
+        return [self.program, "run", "--at", str(path), *named, "--wait", str(wait), *flags]
 
-    def run(self, path, node, lines, wait=PATIENCE, sync=False, explain=False, **others):
+    def run(self, path, node, lines, wait=PATIENCE, flags=(), **others):
         """Runs the program on some lines until it ends."""
-        self.count("processes")
         self.count("calls", len(lines))
+        return self.ran(self.words(path, node, wait, flags), lines, **others)
+
+    def nodes(self, path):
+        """Has the program list the nodes."""
+        return self.ran([self.program, "nodes", "--at", str(path)])
+
+    def clean(self, path, wait=PATIENCE):
+        """Has the program clean up for dead nodes."""
+        return self.ran([self.program, "clean", "--at", str(path), "--wait", str(wait)])
+
+    def ran(self, words, lines=(), **others):
+        """Runs the program by these words on some lines until it ends."""
+        self.count("processes")
         streams = {"stdout": subprocess.PIPE, "stderr": subprocess.PIPE, "timeout": SECONDS}
         given = "".join(f"{line}\n" for line in lines).encode()
         try:
-            ran = subprocess.run(self.words(path, node, wait, sync, explain), input=given, **streams, **others)
+            ran = subprocess.run(words, input=given, **streams, **others)
         except subprocess.TimeoutExpired:
             return Ran(-1, [], f"it ran for {SECONDS} seconds")
         out, err = (stream.decode(errors="replace") for stream in (ran.stdout, ran.stderr))
         return Ran(ran.returncode, out.splitlines(), err)
 
-    def held(self, path, node, lines):
+    def held(self, path, node, lines, flags=()):
         """Runs the program, reads a line of reply to each line, and kills it, so that what it has open stays."""
-        self.count("processes")
-        self.count("calls", len(lines))
-        self.count("kills")
-        process = subprocess.Popen(self.words(path, node), stdin=subprocess.PIPE, stdout=subprocess.PIPE)
-        timer = threading.Timer(SECONDS, process.kill)
-        timer.start()
-        replies = []
-        for line in lines:
-            try:
-                process.stdin.write(f"{line}\n".encode())
-                process.stdin.flush()
-            except BrokenPipeError:
-                break
-            replies.append(process.stdout.readline().decode().rstrip("\n"))
-        timer.cancel()
-        process.kill()
-        process.communicate()
+        living = Living(self, path, node, flags)
+        replies = [reply for line in lines if (reply := living.reply(line)) is not None]
+        living.kill()
         return replies
 
     def replay(self, data, what):
@@ -113,11 +119,79 @@ class Runs:
         return path
 
 
+class Living:
+    """A process of the program that is given line after line."""
+
+    def __init__(self, runs, path, node, flags=(), wait=PATIENCE):
+        self.runs, self.node = runs, node
+        streams = {name: subprocess.PIPE for name in ("stdin", "stdout", "stderr")}
+        self.process = subprocess.Popen(runs.words(path, node, wait, flags), **streams)
+        self.timer = None
+        self.watch()
+        runs.count("processes")
+
+    def watch(self):
+        """Has it killed where it takes too long from now on."""
+        if self.timer:
+            self.timer.cancel()
+        self.timer = threading.Timer(SECONDS, self.process.kill)
+        self.timer.start()
+
+    def reply(self, line):
+        """The reply's last line; nothing where it ends before."""
+        self.runs.count("calls")
+        self.watch()
+        try:
+            self.process.stdin.write(f"{line}\n".encode())
+            self.process.stdin.flush()
+        except BrokenPipeError:
+            return None
+        text = self.process.stdout.readline()
+        while line == "list" and text and not text.endswith(b" services\n"):
+            text = self.process.stdout.readline()
+        return text.decode().rstrip("\n") if text else None
+
+    def end(self):
+        """Has it end by itself, and gives what it wrote since then."""
+        out, err = self.process.communicate()
+        self.timer.cancel()
+        return Ran(self.process.returncode, out.decode().splitlines(), err.decode(errors="replace"))
+
+    def kill(self):
+        """Kills it."""
+        self.runs.count("kills")
+        self.process.kill()
+        return self.end()
+
+
+# ---- nodes
+
+
+def node_path(path, node):
+    """The file of a node, which stands beside the log."""
+    return path.parent / f"{path.name}.node-{node}"
+
+
+def node_files(path):
+    """The names of the nodes' files beside a log."""
+    form = re.compile(rf"{re.escape(path.name)}\.node-\d+")
+    return sorted(name for name in os.listdir(path.parent) if form.fullmatch(name))
+
+
+def leave_node(path, node):
+    """Leaves the file of a node that was claimed, and isn't any more."""
+    os.close(os.open(node_path(path, node), os.O_CREAT | os.O_WRONLY, 0o600))
+
+
 def snapshot(path):
-    """What there is of a path and of its folder, to see whether anything changed."""
+    """What there is of a path and of its folder but for nodes' files, to see whether anything changed."""
     found = os.lstat(path)
     data = path.read_bytes() if path.is_file() else None
-    return found.st_mode, found.st_ino, found.st_size, found.st_mtime_ns, data, sorted(os.listdir(path.parent))
+    others = sorted(set(os.listdir(path.parent)) - set(node_files(path)))
+    return found.st_mode, found.st_ino, found.st_size, found.st_mtime_ns, data, others
+
+
+# ---- fronts and listings
 
 
 def fronts_of(data):
@@ -157,3 +231,17 @@ def telling_first(drawn, fronts, count, offsets):
     drawn.shuffle(first)
     drawn.shuffle(others)
     return first + others
+
+
+def at_once(call, places, seconds, least=LEAST, threads=AT_ONCE):
+    """Makes a call for each of these places, some at once, until it is too late, and counts them."""
+    deadline = time.monotonic() + seconds
+
+    def timely(number, at):
+        is_timely = number < least or time.monotonic() < deadline
+        if is_timely:
+            call(at)
+        return is_timely
+
+    with ThreadPoolExecutor(threads) as pool:
+        return sum(pool.map(timely, range(len(places)), places))

@@ -10,7 +10,7 @@ import time
 from collections import Counter
 
 from logs.form import FILE_HEADER_LENGTH, Entry, Wrong, entries_of, front_of, read_log
-from logs.runs import PATIENCE, SECONDS
+from logs.runs import FAULT, NO_CLEAN, SECONDS, node_path
 from logs.world import World
 
 PROCESSES = 8
@@ -26,12 +26,16 @@ LOOK_SECONDS = 0.004
 # How many lines a process is given at once, below this, and how long after the last ones it is killed at most.
 MOST_AT_ONCE = 16
 KILL_SECONDS = 0.004
+# How often a process is started whose node others have, who look at it or clean up for it.
+STARTS = 40
+# What is done in the name of a dead node, and nothing else.
+GIVING_BACK = ("release", "remove_segment", "remove_description", "remove_tag")
 
 
-def drawn_lines(drawn, node):
+def drawn_lines(drawn, node, calls):
     """Lines with calls of the three patterns, in the node's name, on names that all nodes share."""
     lines = []
-    for _ in range(CALLS):
+    for _ in range(calls):
         slot, chance = drawn.randrange(SLOTS), drawn.random()
         if chance < 0.06:
             lines.append("list")
@@ -45,23 +49,51 @@ def drawn_lines(drawn, node):
     return lines
 
 
+def alive_text(path, node):
+    """What the program writes where another has its node."""
+    return f"wulameron: {node_path(path, node)}: node {node} is alive\n"
+
+
 class Process(threading.Thread):
     """A process of the storm: its lines, its replies, and whether it was killed."""
 
-    def __init__(self, runs, path, node, seed, is_killed, sync):
+    def __init__(self, runs, path, node, seed, is_killed, flags=(), calls=CALLS):
         super().__init__(daemon=True)
-        self.runs, self.path, self.node, self.sync = runs, path, node, sync
+        self.runs, self.path, self.node, self.flags = runs, path, node, flags
         self.drawn = random.Random(seed)
-        self.lines = drawn_lines(self.drawn, node)
+        self.lines = drawn_lines(self.drawn, node, calls)
         self.is_killed, self.is_late, self.replies = is_killed, False, []
         self.services, self.listings = [], []
-        self.status, self.err = None, ""
+        self.process, self.status, self.err = None, None, ""
+        # How long the log was before it began, just before it was killed, and after it had ended.
+        self.began = self.struck = self.ended = 0
+
+    def length(self):
+        """How long the log is."""
+        return self.path.stat().st_size if self.path.exists() else 0
 
     def run(self):
+        """Runs the process to its end, or kills it. It is started anew where its node is another's for a moment."""
+        self.began = self.length()
+        for _ in range(STARTS):
+            self.live()
+            self.ended = self.length()
+            if not self.is_refused():
+                break
+            self.runs.count("starts refused")
+        self.is_killed = self.is_killed and self.status == -signal.SIGKILL
+        self.struck = self.struck if self.is_killed else self.ended
+
+    def is_refused(self):
+        """Whether its node was another's, who cleaned up for it or looked at it."""
+        return self.status == FAULT and self.err == alive_text(self.path, self.node)
+
+    def live(self):
         """Runs the process to its end, or kills it."""
         with open(self.path.parent / f"errors-{self.node}", "w+b") as errors:
-            words = self.runs.words(self.path, self.node, PATIENCE, self.sync)
+            words = self.runs.words(self.path, self.node, flags=self.flags)
             process = subprocess.Popen(words, stdin=subprocess.PIPE, stdout=subprocess.PIPE, stderr=errors)
+            self.process = process
             timer = threading.Timer(SECONDS, self.stop, [process])
             timer.start()
             try:
@@ -72,7 +104,6 @@ class Process(threading.Thread):
             while self.read(process):
                 pass
             self.status = process.wait()
-            self.is_killed = self.is_killed and self.status == -signal.SIGKILL
             timer.cancel()
             errors.seek(0)
             self.err = errors.read().decode(errors="replace")
@@ -84,14 +115,16 @@ class Process(threading.Thread):
 
     def feed(self, process):
         """Gives it some lines at once and reads their replies, again and again, or kills it within some."""
-        last = self.drawn.randrange(CALLS * 3 // 4) if self.is_killed else CALLS
+        calls = len(self.lines)
+        last = self.drawn.randrange(calls * 3 // 4) if self.is_killed else calls
         begin = 0
-        while begin < CALLS:
-            end = CALLS if begin >= last else min(CALLS, begin + self.drawn.randrange(1, MOST_AT_ONCE))
+        while begin < calls:
+            end = calls if begin >= last else min(calls, begin + self.drawn.randrange(1, MOST_AT_ONCE))
             process.stdin.write("".join(f"{line}\n" for line in self.lines[begin:end]).encode())
             process.stdin.flush()
             if begin >= last:
                 time.sleep(self.drawn.random() * KILL_SECONDS)
+                self.struck = self.length()
                 process.kill()
             while len(self.replies) < end and self.read(process):
                 pass
@@ -197,22 +230,43 @@ def check_replies(runs, process, what):
     runs.need(not process.is_late, f"{what}: it ran for {SECONDS} seconds")
     if not process.is_killed:
         ended = process.status, process.err.strip(), len(process.replies)
-        runs.need(ended == (0, "", CALLS), f"{what}: status {ended[0]} after {ended[2]} replies: {ended[1][:200]}")
+        calls = len(process.lines)
+        runs.need(ended == (0, "", calls), f"{what}: status {ended[0]} after {ended[2]} replies: {ended[1][:200]}")
+    else:
+        runs.need(not process.err, f"{what}: before it was killed it wrote {process.err[:200]!r}")
 
 
-def check_entries(runs, process, log, what):
+def check_entries(runs, process, log, what, cleans=True):
     """What a process replied stands in the log; of one that was killed at most one call more."""
     own = [entry for entry in log.entries if entry.node == process.node]
-    stands = Counter((entry.hash, entry.number) for entry in own if entry.deed in ("publish", "open_segment"))
+    taken = [entry for entry in own if entry.ticket_taken is not None and process.began <= entry.at < process.ended]
+    stands = Counter((entry.hash, entry.number) for entry in taken)
     opened = process.opened()
     runs.need(not opened - stands, f"{what}: {sum((opened - stands).values())} replies have no entry in the log")
     more = sum((stands - opened).values())
     runs.need(more <= process.is_killed, f"{what}: {more} services were opened without a reply")
     closed = sum(reply.startswith("closed ") for reply in process.replies)
-    released = sum(entry.deed == "release" for entry in own)
+    tickets = {entry.ticket_taken for entry in taken}
+    releases = [entry for entry in own if entry.deed == "release" and entry.ticket in tickets]
+    # What others have released after its end isn't its own.
+    until = process.struck if cleans else log.whole
+    released = sum(entry.at < until for entry in releases)
     most = closed + 1 if process.is_killed else sum(opened.values())
     least = closed if process.is_killed else most
-    runs.need(least <= released <= most, f"{what}: {released} releases, {closed} closed, {sum(opened.values())} opened")
+    runs.need(released <= most, f"{what}: {released} releases, {closed} closed, {sum(opened.values())} opened")
+    runs.need(least <= len(releases), f"{what}: {len(releases)} releases in all, and {least} are the least")
+
+
+def check_given_back(runs, processes, log, what, deeds=GIVING_BACK):
+    """After a process's end only what it had is given back in its node's name, until the node's next one begins."""
+    lives = {}
+    for process in processes:
+        lives.setdefault(process.node, []).append((process.began, process.ended))
+    for entry in log.entries:
+        is_living = any(began <= entry.at < ended for began, ended in lives.get(entry.node, [(0, log.whole)]))
+        if not is_living:
+            runs.count("entries for dead nodes")
+            runs.need(entry.deed in deeds, f"{what}: in the name of node {entry.node} that was dead: {entry.line()}")
 
 
 def check_listings(runs, processes, log, what):
@@ -248,25 +302,29 @@ def check_file(runs, path, log, what):
     runs.names.add(log.header.name)
 
 
-def check_afterwards(runs, path, data, what):
-    """A new process goes on where the others ended."""
+def check_afterwards(runs, path, data, processes, what):
+    """A new process cleans up for those that were killed, goes on where the others ended, and leaves nothing."""
     node = PROCESSES + 1
     ran = runs.run(path, node, [f"event create {node} 0 afterwards", "list"])
-    runs.need(ran.status == 0 and ran.out[:1] and ran.out[0].startswith("ok 0 "), f"{what}, afterwards: {ran}")
+    fine = ran.status == 0 and not ran.err and ran.out[:1] and ran.out[0].startswith("ok 0 ")
+    runs.need(fine and ran.out[-1] == "1 services", f"{what}, afterwards: {ran}")
     after = path.read_bytes()
     whole = read_log(data).whole
     runs.need(after[:whole] == data[:whole], f"{what}, afterwards: a whole entry is gone")
     replayed = runs.replay(after, f"{what}, afterwards")
     if replayed:
-        runs.need(not replayed[0].torn, f"{what}, afterwards: {replayed[0].torn} bytes are torn")
+        log, world = replayed
+        runs.need(not log.torn, f"{what}, afterwards: {log.torn} bytes are torn")
+        runs.need(not world.remains(), f"{what}, afterwards: there is {world.remains()}")
+        check_given_back(runs, processes, log, f"{what}, afterwards")
 
 
-def run_all(runs, path, seed, what, sync):
+def run_all(runs, path, seed, what, flags):
     """Runs the processes to their ends, beside a watcher and a dying writer."""
     drawn = random.Random(seed)
     killed = drawn.sample(range(PROCESSES), PROCESSES // 2)
     seeds = [drawn.randrange(2**32) for _ in range(PROCESSES)]
-    processes = [Process(runs, path, at + 1, seeds[at], at in killed, sync) for at in range(PROCESSES)]
+    processes = [Process(runs, path, at + 1, seeds[at], at in killed, flags) for at in range(PROCESSES)]
     watcher, writer = Watcher(runs, path, what), DyingWriter(runs, path, drawn.randrange(2**32))
     for thread in (watcher, writer, *processes):
         thread.start()
@@ -279,11 +337,12 @@ def run_all(runs, path, seed, what, sync):
     return processes
 
 
-def storm(runs, seed, sync=False):
+def storm(runs, seed, flags=()):
     """Processes at one file, of which half are killed at drawn moments."""
-    what = f"storm {seed}{' --sync' * sync}"
+    what = " ".join([f"storm {seed}", *flags])
+    cleans = NO_CLEAN not in flags
     path = runs.file(f"storm-{seed}")
-    processes = run_all(runs, path, seed, what, sync)
+    processes = run_all(runs, path, seed, what, flags)
     runs.count("processes", len(processes))
     runs.count("calls", sum(len(process.replies) for process in processes))
     runs.count("kills", sum(process.is_killed for process in processes))
@@ -295,8 +354,9 @@ def storm(runs, seed, sync=False):
     replayed = runs.replay(data, what)
     if replayed:
         for process in processes:
-            check_entries(runs, process, replayed[0], f"{what}, node {process.node}")
+            check_entries(runs, process, replayed[0], f"{what}, node {process.node}", cleans)
+        check_given_back(runs, processes, replayed[0], what, GIVING_BACK if cleans else ())
         check_listings(runs, processes, replayed[0], what)
         check_world(runs, processes, replayed[1], what)
         check_file(runs, path, replayed[0], what)
-        check_afterwards(runs, path, data, what)
+        check_afterwards(runs, path, data, processes, what)

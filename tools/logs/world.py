@@ -237,6 +237,19 @@ class World:
         places = sum(key[0] == node and phase.at != "Read" for key, phase in self.phases.items())
         return tickets, sum(tag[0] == node for tag in self.tags), places
 
+    def remains(self, living=()):
+        """What there is but for what the living nodes have, in words."""
+        at_work = {found for (node, found) in self.phases if node in living}
+        tickets = [(number, ticket.node) for number, ticket in self.tickets.items()]
+        others = [f"ticket {number} of {node}" for number, node in tickets if node not in living]
+        others += [f"tag of {node}" for node, _ in sorted(self.tags) if node not in living]
+        others += [f"{phase.at} of {node}" for (node, _), phase in self.phases.items() if node not in living]
+        others += [f"row of {row.number}" for found, row in self.rows.items() if found not in at_work]
+        for found, segment in self.segments.items():
+            if found not in at_work or not segment.participants <= set(living):
+                others.append(f"segment with {sorted(segment.participants)}")
+        return others
+
     def counts(self):
         """How much of each there is, in words."""
         published = sum(row.form is not None for row in self.rows.values())
