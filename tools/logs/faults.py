@@ -10,7 +10,7 @@ import time
 
 from logs.form import FILE_HEADER_LENGTH, read_log
 from logs.runs import BUSY, FAULT, NO_CLEAN, NO_LOG, NO_PERMISSION, Living, at_once, front_before, fronts_of
-from logs.runs import listings_of, node_files, node_path, snapshot, telling_first
+from logs.runs import leave_node, listings_of, node_files, node_path, snapshot, telling_first
 
 # Where in an entry a cut or a change tells most: its parts' bounds.
 BOUNDS = (-1, 0, 1, 4, 7, 8, 15, 16, 17, 25, 31, 39, 45)
@@ -192,6 +192,23 @@ def refused_permissions(runs, data):
     fine = ran.status == FAULT and f"{node_path(folder, NODE)}: {NO_PERMISSION}" in ran.err
     runs.need(fine, f"a folder that is read-only: {ran}")
     runs.need(not os.listdir(folder.parent), "a folder that is read-only: something was made")
+
+
+def refused_nodes(runs, data):
+    """A node's file that may not be opened: nobody knows who is dead, and the command clean ends by a named error."""
+    path, what = runs.file("nodes", data), "a node's file that may not be opened"
+    leave_node(path, 1)
+    leave_node(path, 2)
+    node_path(path, 2).chmod(0o000)
+    other = {"user": NOBODY, "group": NOBODY, "extra_groups": []} if can_be_nobody() else {}
+    if os.geteuid() == 0 and not other:
+        return
+    for name in [path.parent, *path.parent.iterdir()] if other else []:
+        os.chown(name, NOBODY, NOBODY)
+    for command in ("nodes", "clean"):
+        ran = runs.ran([runs.program, command, "--at", str(path)], **other)
+        fine = ran.status == FAULT and f"{node_path(path, 2)}: {NO_PERMISSION}" in ran.err
+        runs.need(fine, f"{what}: {command} replied {ran}")
 
 
 def another_node(runs, data):
