@@ -2,7 +2,7 @@
 
 ghost use Rattle.std.specs.Prelude.{◌≡◌};
 ghost use Rattle.iceoryx2_session.specs.SessionStates.{own_state};
-ghost use Rattle.wulameron_serve.specs.Dead.{blocks, is_blocked as is_blocked_spec};
+ghost use Rattle.wulameron_serve.specs.Dead.{blocks, is_blocked as is_blocked_spec, unclaimed_by};
 ghost use Rattle.wulameron_serve.specs.Dead.{blocks_event_create, blocks_event_open, blocks_event_open_or_create};
 ghost use Rattle.wulameron_serve.specs.Dead.{blocks_publish_subscribe_create, blocks_publish_subscribe_open};
 ghost use Rattle.wulameron_serve.specs.Dead.{blocks_publish_subscribe_open_or_create};
@@ -18,6 +18,7 @@ use iceoryx2_errors::error::{
 };
 use iceoryx2_file_log::options::Sharing;
 use iceoryx2_journal::cleaning::{CleanError, Cleaned};
+use iceoryx2_monitoring::error::MonitoringFault;
 use iceoryx2_monitoring::state::{NodeState, NodeStatus, list};
 use iceoryx2_monitoring::token::{Token, claim};
 use iceoryx2_session::session::Session;
@@ -37,7 +38,26 @@ pub trait DeadNodes {
     fn found(&self, alloc: Global) -> Vec<u64>;
 
     /// Claims a node, where it is dead still.
-    fn claim(&self, node: u64) -> Option<Self::Claim>;
+    fn claim(&self, node: u64) -> Result<Self::Claim, Unclaimed>;
+}
+
+/// Why a node isn't claimed.
+#[derive(Clone, Copy, Debug, PartialEq, Eq)]
+pub enum Unclaimed {
+    /// It is alive, or another has claimed it meanwhile.
+    IsAlive,
+    /// Its file refused.
+    Refused,
+}
+
+/// Why a node isn't claimed whose file refused so.
+fn why_unclaimed(fault: MonitoringFault) -> Unclaimed
+    ensures { result ≡ unclaimed_by fault }
+{
+    match fault {
+        MonitoringFault::NodeIsAlive { node: _ } => Unclaimed::IsAlive,
+        _ => Unclaimed::Refused,
+    }
 }
 
 /// The nodes by their files beside a log. Where nothing is to be cleaned up it finds none.
@@ -51,7 +71,7 @@ pub struct NodeFiles<'a, F> {
 }
 
 /// The dead ones, as far as there is memory.
-fn dead_of(alloc: Global, nodes: &[NodeStatus]) -> Vec<u64> {
+pub fn dead_of(alloc: Global, nodes: &[NodeStatus]) -> Vec<u64> {
     let mut dead = Vec::new(alloc);
     for status in nodes {
         if status.state == NodeState::Dead {
@@ -75,10 +95,10 @@ impl<'a, F: Files<File = File> + Clock + RandomSource + AllocGlobal> DeadNodes
         }
     }
 
-    fn claim(&self, node: u64) -> Option<Token> {
+    fn claim(&self, node: u64) -> Result<Token, Unclaimed> {
         match claim(self.rt, self.path, node, self.sharing) {
-            Ok(token) => Some(token),
-            Err(_) => None,
+            Ok(token) => Ok(token),
+            Err(error) => Err(why_unclaimed(error.fault())),
         }
     }
 }
@@ -233,7 +253,7 @@ fn gave(cleaned: Result<Cleaned, CleanError>) -> bool {
 fn clean_one<S: WorldStorage, D: DeadNodes>(session: &mut Session<S>, dead: &D, node: u64) -> bool
     ensures { Refreshes S.world S.own (own_state session.old) (own_state session.new) }
 {
-    let Some(claim) = dead.claim(node) else {
+    let Ok(claim) = dead.claim(node) else {
         return false;
     };
     let cleaned = session.clean(node);

@@ -7,7 +7,7 @@ ghost use Rattle.negotiate_serve.specs.Replies.{GrowsBy};
 ghost use Rattle.wulameron_serve.specs.Upkeep.{node_line, state_text};
 
 use crate::arguments::Place;
-use crate::dead::{DeadNodes, NodeFiles};
+use crate::dead::{DeadNodes, NodeFiles, Unclaimed, dead_of};
 use crate::trouble::{Refusing, Trouble, Watch, report_claim, report_trouble};
 use iceoryx2_file_log::file_log::FileLog;
 use iceoryx2_journal::cleaning::{CleanError, Cleaned};
@@ -100,6 +100,24 @@ pub fn clean<F: Files<File = File> + Clock + RandomSource + AllocGlobal, W: Writ
     errors: &mut E,
 ) -> u8 {
     let alloc = rt.alloc();
+    match list(rt, place.at) {
+        Ok(found) => clean_found(rt, place, &dead_of(alloc, &found), output, errors),
+        Err(error) => {
+            let _ = report_claim(alloc, &error, errors);
+            FAULT
+        }
+    }
+}
+
+/// Does so for these nodes.
+fn clean_found<F: Files<File = File> + Clock + RandomSource + AllocGlobal, W: Write, E: Write>(
+    rt: &F,
+    place: &Place<'_>,
+    nodes: &[u64],
+    output: &mut W,
+    errors: &mut E,
+) -> u8 {
+    let alloc = rt.alloc();
     let Ok(path) = format!(in alloc; "{}", place.at) else {
         return status_of(Err(Fault::OutOfMemory), errors);
     };
@@ -112,7 +130,7 @@ pub fn clean<F: Files<File = File> + Clock + RandomSource + AllocGlobal, W: Writ
                 sharing: place.options.sharing,
                 cleans: true,
             };
-            clean_log(alloc, log, counter, place.at, &dead, output, errors)
+            clean_log(alloc, log, counter, place.at, &dead, nodes, output, errors)
         }
         Err(error) => {
             let _ = report_trouble(alloc, place.at, Trouble::Refused(error.fault()), errors);
@@ -128,12 +146,13 @@ fn clean_log<L: Refusing + Drop, D: DeadNodes, W: Write, E: Write>(
     counter: u64,
     path: &str,
     dead: &D,
+    nodes: &[u64],
     output: &mut W,
     errors: &mut E,
 ) -> u8 {
     let mut journal = Journal::starting_at(alloc, log, Vec::new(alloc), counter);
     let mut watch = Watch::new(alloc, path);
-    let done = clean_nodes(alloc, &mut journal, dead, output);
+    let done = clean_nodes(alloc, &mut journal, dead, nodes, output);
     if let Some(_) = watch.look(&journal, errors) {
         return FAULT;
     }
@@ -144,45 +163,64 @@ fn clean_log<L: Refusing + Drop, D: DeadNodes, W: Write, E: Write>(
     }
 }
 
-/// Gives back what dead nodes have, with a line for each of which there was something. False where the log refused for
-/// one of them, and the others were cleaned up for.
+/// Gives back what these nodes have, as far as they are dead, with a line for each of which there was something. False
+/// where the log or a node's file refused for one of them, and the others were cleaned up for.
 ///
 /// `Fault` where a line can't be written, or there is no memory for it.
 pub fn clean_nodes<L: Refusing, D: DeadNodes, W: Write>(
     alloc: Global,
     journal: &mut Journal<L>,
     dead: &D,
+    nodes: &[u64],
     output: &mut W,
 ) -> Result<bool, Fault>
     ensures kept { Rely (is_own journal.old.nodes) journal.old.world journal.new.world }
     ensures nodes { journal.new.nodes ≡ journal.old.nodes }
 {
     let mut all = true;
-    for node in dead.found(alloc) {
-        match clean_node(journal, dead, node) {
-            None => {}
-            Some(Ok(cleaned)) => say_cleaned(alloc, node, cleaned, output)?,
-            Some(Err(_)) => all = false,
+    for node in nodes {
+        match clean_node(journal, dead, *node) {
+            Found::Alive => {}
+            Found::Cleaned(cleaned) => say_cleaned(alloc, *node, cleaned, output)?,
+            Found::Refused => all = false,
         }
     }
     Ok(all)
 }
 
-/// Gives back what a node has. `None` where it isn't dead any more.
-fn clean_node<L: Refusing, D: DeadNodes>(
-    journal: &mut Journal<L>,
-    dead: &D,
-    node: u64,
-) -> Option<Result<Cleaned, CleanError>>
+/// What became of a node.
+#[derive(Clone, Copy, Debug, PartialEq, Eq)]
+pub enum Found {
+    /// It isn't dead any more.
+    Alive,
+    /// It was dead, and this was given back.
+    Cleaned(Cleaned),
+    /// Its file or the log refused.
+    Refused,
+}
+
+/// Gives back what a node has, where it is dead still.
+fn clean_node<L: Refusing, D: DeadNodes>(journal: &mut Journal<L>, dead: &D, node: u64) -> Found
     ensures kept { Rely (is_own journal.old.nodes) journal.old.world journal.new.world }
     ensures nodes { journal.new.nodes ≡ journal.old.nodes }
 {
-    let Some(claim) = dead.claim(node) else {
-        return None;
-    };
-    let cleaned = journal.clean(node);
-    drop(claim);
-    Some(cleaned)
+    match dead.claim(node) {
+        Err(Unclaimed::IsAlive) => Found::Alive,
+        Err(Unclaimed::Refused) => Found::Refused,
+        Ok(claim) => {
+            let cleaned = journal.clean(node);
+            drop(claim);
+            found_by(cleaned)
+        }
+    }
+}
+
+/// What became of a dead node.
+fn found_by(cleaned: Result<Cleaned, CleanError>) -> Found {
+    match cleaned {
+        Ok(cleaned) => Found::Cleaned(cleaned),
+        Err(_) => Found::Refused,
+    }
 }
 
 /// Writes what was given back for a node, where there was something.

@@ -5,6 +5,4 @@ use Rattle.wulameron_serve.proofs.upkeep.clean_nodes.Given as goal
 
 abbrev pub invariant-loop-node : goal.invariant-loop-node
 invariant-loop-node g l =
-    Rely (is_own l.fn.journal.nodes) l.fn.journal.world l.journal.world × (l.journal.nodes ≡ l.fn.journal.nodes) ×
-    (goal.iterator-loop-node g).can_next l.node-iterator ×
-    (goal.iterator-loop-node g).is_finite l.node-iterator
+    Rely (is_own l.fn.journal.nodes) l.fn.journal.world l.journal.world × (l.journal.nodes ≡ l.fn.journal.nodes)
