@@ -26,8 +26,8 @@ IsTorn bytes = IsCutShort bytes ⊎ HasWrongSum bytes
 abbrev pub NoneTornAway : Type 0
 NoneTornAway = (bytes : List ℕ) (e : Entry) (count : ℕ) → IsTorn bytes → Begins bytes e count → ⊥
 
--- A writer that dies within the append of an entry leaves all of its form or a front of it. So behind what stood there is
--- the entry, or bytes that are torn and begin with none.
+-- A writer that dies within the append of an entry leaves all of its form or a front of it. So behind what stood there
+-- is the entry, or bytes that are torn and begin with none.
 abbrev pub WithOrWithout : Type 0
 WithOrWithout = (e : Entry) (written missing : List ℕ) → IsForm e (written ++ missing)
     → (missing ≡ []) ⊎ (IsTorn written × ((d : Entry) (count : ℕ) → Begins written d count → ⊥))
