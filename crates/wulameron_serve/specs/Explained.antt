@@ -93,7 +93,7 @@ module _ {S : Type 0} (step : S → Letter → S → Type 0) (world : S → Worl
     pub closed : ClosesSlotsBy (IsTracedAccess step) last.table last.slots left
     pub agrees : Agrees (world left.inner)
 
-  -- The same over a storage of which no access is kept yet; or it ends by the log or for want of memory, and nothing is
+  -- The same over a storage of which no access is kept yet; or it ends by the log or out of memory, and nothing is
   -- written.
   abbrev pub ServesTraced : S → Result Ending Halt → (input : List ℕ) → (old new : Option (List ℕ)) → Type 0
   ServesTraced storage ended input old new =
@@ -113,7 +113,7 @@ pub record StartsLogExplained {L : Type 0} (contents : L → Option Contents) (r
       (λ j. trouble_of j.is_over (refused j.log)) node)
       (fresh_session (fresh_trace journal)) (seen_as ended) input unread old new
 
--- It does so; or it ends by the log or for want of memory, and nothing is written.
+-- It does so; or it ends by the log or out of memory, and nothing is written.
 abbrev pub ServesLogExplained : {L : Type 0} → (contents : L → Option Contents) → (refused : L → Option FileFault) → L
     → (counter node : ℕ) → Result Ending Halt → (input : List ℕ) → (old new : Option (List ℕ)) → Type 0
 ServesLogExplained contents refused log counter node ended input old new =

@@ -25,7 +25,7 @@ seen_as (Ok ending) = Ok ending
 seen_as (Err (halt.Serving f)) = Err f
 seen_as (Err (halt.Log t)) = Err fault.Reading
 
--- It ends by the log or for want of memory, as where a node can't start.
+-- It ends by the log or out of memory, as where a node can't start.
 abbrev pub is_not_started : Result Ending Halt → Bool
 is_not_started (Err (halt.Log t)) = true
 is_not_started (Err (halt.Serving fault.OutOfMemory)) = true

@@ -57,7 +57,7 @@ pub record StartsLog {L : Type 0} (contents : L → Option Contents) (refused : 
       (λ j. trouble_of j.is_over (refused j.log)) node)
       first (seen_as ended) input unread old new
 
--- It does so; or it ends by the log or for want of memory, and nothing is written.
+-- It does so; or it ends by the log or out of memory, and nothing is written.
 abbrev pub ServesLog : {L : Type 0} → (contents : L → Option Contents) → (refused : L → Option FileFault) → L
     → (counter node : ℕ) → Result Ending Halt → (input : List ℕ) → (old new : Option (List ℕ)) → Type 0
 ServesLog contents refused log counter node ended input old new =
