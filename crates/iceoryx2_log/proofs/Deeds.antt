@@ -8,7 +8,7 @@ use Rattle.iceoryx2_byte_form.specs.PartForm.{number}
 use Rattle.iceoryx2_byte_form.specs.PartReading.{◌>>=◌, number_at}
 use Rattle.iceoryx2_byte_form.proofs.PartForms.{IsBytes, bind_some, some_is, Reads-number64}
 use Rattle.iceoryx2_log.specs.declared.entry.Deed.{Deed}
-use Rattle.iceoryx2_log.specs.declared.entry.Deed.TheVariants.{MakeTag, RemoveTag, Lock, MakeSegment, RemoveSegment, RemoveDescription, Publish, OpenSegment, Release}
+use Rattle.iceoryx2_log.specs.declared.entry.Deed.TheVariants.{MakeTag, RemoveTag, Lock, MakeSegment, RemoveSegment, RemoveDescription, Publish, OpenSegment, Release, Spend, Moved}
 use Rattle.iceoryx2_log.specs.Form.{IsDeed, kind, details}
 use Rattle.iceoryx2_log.specs.Reading.{none_in, number_in, numbers_in, publish_in, plain_deed_in, deed_in}
 
@@ -85,6 +85,11 @@ release_read x k bytes fits is e =
     let t = numbers_takes Release x bytes fits e in
     subst (λ (y : Deed). IsRead k bytes y) t.same (record { is_kind = is; parts = t.parts; fits = t.small })
 
+spend_read : (x : Deed) (k : ℕ) (bytes : List ℕ) → IsBytes bytes → k ≡ 10 → number_in Spend bytes ≡ Some x → IsRead k bytes x
+spend_read x k bytes fits is e =
+    let t = number_takes Spend x bytes fits e in
+    subst (λ (y : Deed). IsRead k bytes y) t.same (record { is_kind = is; parts = t.parts; fits = t.small })
+
 publish_read : (x : Deed) (k : ℕ) (bytes : List ℕ) → IsBytes bytes → k ≡ 7 → publish_in bytes ≡ Some x → IsRead k bytes x
 unfolding publish_in
 publish_read x k bytes fits is e =
@@ -109,7 +114,9 @@ plain_takes k bytes x fits e =
     either (eqb k 5) e5 (λ is h. none_read RemoveSegment x k bytes (eqb-true k 5 is) refl tt h) (λ e6.
     either (eqb k 6) e6 (λ is h. none_read RemoveDescription x k bytes (eqb-true k 6 is) refl tt h) (λ e8.
     either (eqb k 8) e8 (λ is h. open_segment_read x k bytes fits (eqb-true k 8 is) h) (λ e9.
-    either (eqb k 9) e9 (λ is h. release_read x k bytes fits (eqb-true k 9 is) h) (λ none. absurd cc))))))))
+    either (eqb k 9) e9 (λ is h. release_read x k bytes fits (eqb-true k 9 is) h) (λ e10.
+    either (eqb k 10) e10 (λ is h. spend_read x k bytes fits (eqb-true k 10 is) h) (λ e11.
+    either (eqb k 11) e11 (λ is h. none_read Moved x k bytes (eqb-true k 11 is) refl tt h) (λ none. absurd cc))))))))))
 
 pub deed_takes : (k : ℕ) (bytes : List ℕ) (x : Deed) → IsBytes bytes → deed_in k bytes ≡ Some x → IsRead k bytes x
 unfolding deed_in
@@ -144,6 +151,8 @@ deed_again RemoveDescription fits = refl
 deed_again (Publish n bytes) fits = publish_again n bytes fits.0
 deed_again (OpenSegment n ticket) fits = numbers_again OpenSegment n ticket fits.0 fits.1
 deed_again (Release ticket n) fits = numbers_again Release ticket n fits.0 fits.1
+deed_again (Spend n) fits = number_again Spend n fits
+deed_again Moved fits = refl
 
 pub kind_below : (d : Deed) → kind d < 256
 kind_below MakeTag = omega arith
@@ -155,3 +164,5 @@ kind_below RemoveDescription = omega arith
 kind_below (Publish n bytes) = omega arith
 kind_below (OpenSegment n ticket) = omega arith
 kind_below (Release ticket n) = omega arith
+kind_below (Spend n) = omega arith
+kind_below Moved = omega arith

@@ -5,7 +5,7 @@ use Rattle.std.proofs.lemmas.List.Elements.{All-from_recursion, recursion_from_A
 use Rattle.sha1.specs.Sha1.{sha1, digest_bytes}
 use Rattle.iceoryx2_byte_form.proofs.PartBytes.{AreBytes, none, more, both, number_bytes}
 use Rattle.iceoryx2_log.specs.declared.entry.Deed.{Deed}
-use Rattle.iceoryx2_log.specs.declared.entry.Deed.TheVariants.{MakeTag, RemoveTag, Lock, MakeSegment, RemoveSegment, RemoveDescription, Publish, OpenSegment, Release}
+use Rattle.iceoryx2_log.specs.declared.entry.Deed.TheVariants.{MakeTag, RemoveTag, Lock, MakeSegment, RemoveSegment, RemoveDescription, Publish, OpenSegment, Release, Spend, Moved}
 use Rattle.iceoryx2_log.specs.declared.entry.Entry.{Entry}
 use Rattle.iceoryx2_log.specs.Form.{IsDeed, details, body, header, sum_of, sealed, IsForm}
 use Rattle.iceoryx2_log.proofs.Deeds.{kind_below}
@@ -23,6 +23,8 @@ details_bytes RemoveDescription fits = none
 details_bytes (Publish n bytes) fits = both (number_bytes n) (bytes_of bytes fits.1)
 details_bytes (OpenSegment n ticket) fits = both (number_bytes n) (number_bytes ticket)
 details_bytes (Release ticket n) fits = both (number_bytes ticket) (number_bytes n)
+details_bytes (Spend n) fits = number_bytes n
+details_bytes Moved fits = none
 
 header_bytes : (n : ℕ) → AreBytes (header n)
 header_bytes n = more (omega arith) (more (omega arith) (more (omega arith) (more (omega arith) (more (omega arith) (more (omega arith) (more (omega arith) (more (omega arith) none)))))))

@@ -6,7 +6,7 @@ use Rattle.iceoryx2_byte_form.specs.PartForm.{number}
 use Rattle.iceoryx2_description.specs.Description.{IsHash}
 use Rattle.iceoryx2_log.specs.declared.entry.Deed.{Deed}
 use Rattle.iceoryx2_log.specs.declared.entry.Deed.TheVariants.{MakeTag, RemoveTag, Lock, MakeSegment, RemoveSegment}
-use Rattle.iceoryx2_log.specs.declared.entry.Deed.TheVariants.{RemoveDescription, Publish, OpenSegment, Release}
+use Rattle.iceoryx2_log.specs.declared.entry.Deed.TheVariants.{RemoveDescription, Publish, OpenSegment, Release, Spend, Moved}
 use Rattle.iceoryx2_log.specs.declared.entry.Entry.{Entry}
 use Rattle.iceoryx2_log.specs.declared.form.TheConstants.{HEADER_LENGTH, SUM_LENGTH, MIN_BODY_LENGTH, MAX_BODY_LENGTH}
 
@@ -23,6 +23,8 @@ IsDeed RemoveDescription = Unit {0}
 IsDeed (Publish n bytes) = (n < 2 ^ 64) × All (λ b. b < 256) bytes
 IsDeed (OpenSegment n ticket) = (n < 2 ^ 64) × (ticket < 2 ^ 64)
 IsDeed (Release ticket n) = (ticket < 2 ^ 64) × (n < 2 ^ 64)
+IsDeed (Spend n) = n < 2 ^ 64
+IsDeed Moved = Unit {0}
 
 pub record IsEntry (e : Entry) : Type 0 where
   pub node : e.node < 2 ^ 64
@@ -41,6 +43,8 @@ kind RemoveDescription = 6
 kind (Publish n bytes) = 7
 kind (OpenSegment n ticket) = 8
 kind (Release ticket n) = 9
+kind (Spend n) = 10
+kind Moved = 11
 
 -- the deed's numbers in order, and a description's bytes
 abbrev pub details : Deed → List ℕ
@@ -53,6 +57,8 @@ details RemoveDescription = []
 details (Publish n bytes) = number n ++ bytes
 details (OpenSegment n ticket) = number n ++ number ticket
 details (Release ticket n) = number ticket ++ number n
+details (Spend n) = number n
+details Moved = []
 
 abbrev pub body : Entry → List ℕ
 body e = kind e.deed ∷ number e.node ++ e.hash.0 ++ details e.deed

@@ -5,7 +5,7 @@ use Rattle.std.specs.List.{list_any}
 use Rattle.iceoryx2_access.specs.Counts.{one_more}
 use Rattle.iceoryx2_log.specs.declared.entry.Entry.{Entry}
 use Rattle.iceoryx2_log.specs.declared.log.LogError.{LogError}
-use Rattle.iceoryx2_log.specs.declared.log.LogError.TheVariants.{Busy, OutOfMemory, Failed, Damaged}
+use Rattle.iceoryx2_log.specs.declared.log.LogError.TheVariants.{Busy, OutOfMemory, Failed, Damaged, Moved}
 use Rattle.iceoryx2_log.specs.Log.{Contents}
 
 pub record LogState : Type 0 where
@@ -58,6 +58,7 @@ Holds old (Err Busy) new = (old.held ≡ false) × (is_listed (one_more old.hold
 Holds old (Err OutOfMemory) new = (old.held ≡ false) × (is_listed (one_more old.holds) old.busy ≡ false)
     × (new ≡ hold_counted old)
 Holds old (Err Damaged) new = ⊥
+Holds old (Err Moved) new = ⊥
 
 -- ---- append
 
@@ -78,6 +79,7 @@ AppendsOne old e (Err OutOfMemory) new = (may_append old ≡ true) × (new ≡ a
 AppendsOne old e (Err Failed) new = (may_append old ≡ false) × (new ≡ append_counted old)
 AppendsOne old e (Err Busy) new = ⊥
 AppendsOne old e (Err Damaged) new = ⊥
+AppendsOne old e (Err Moved) new = ⊥
 
 -- ---- pause
 

@@ -6,7 +6,7 @@ use Rattle.iceoryx2_byte_form.specs.PartReading.{◌>>=◌, Part, then_at, numbe
 use Rattle.iceoryx2_description.specs.declared.description.TheConstants.{HASH_LENGTH}
 use Rattle.iceoryx2_log.specs.declared.entry.Deed.{Deed}
 use Rattle.iceoryx2_log.specs.declared.entry.Deed.TheVariants.{MakeTag, RemoveTag, Lock, MakeSegment, RemoveSegment}
-use Rattle.iceoryx2_log.specs.declared.entry.Deed.TheVariants.{RemoveDescription, Publish, OpenSegment, Release}
+use Rattle.iceoryx2_log.specs.declared.entry.Deed.TheVariants.{RemoveDescription, Publish, OpenSegment, Release, Spend, Moved}
 use Rattle.iceoryx2_log.specs.declared.entry.Entry.{Entry}
 use Rattle.iceoryx2_log.specs.declared.form.TheConstants.{HEADER_LENGTH, SUM_LENGTH, MIN_BODY_LENGTH, MAX_BODY_LENGTH}
 use Rattle.iceoryx2_log.specs.declared.form.reading.EntryError.{EntryError}
@@ -37,6 +37,8 @@ plain_deed_in kind bytes = if kind == 1 then none_in MakeTag bytes
     else if kind == 6 then none_in RemoveDescription bytes
     else if kind == 8 then numbers_in OpenSegment bytes
     else if kind == 9 then numbers_in Release bytes
+    else if kind == 10 then number_in Spend bytes
+    else if kind == 11 then none_in Moved bytes
     else None
 
 unfoldable pub deed_in : ℕ → List ℕ → Option Deed

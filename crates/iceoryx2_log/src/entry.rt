@@ -87,6 +87,10 @@ pub enum Deed {
     Publish { number: u64, bytes: FormBytes },
     OpenSegment { number: u64, ticket: u64 },
     Release { ticket: u64, number: u64 },
+    /// The counter goes on at this number: the node has locked each one before it, and given it up.
+    Spend { number: u64 },
+    /// Nobody's deed, and of no service: the log goes on in another place.
+    Moved,
 }
 
 // Written out, so that a proof of what lets one go doesn't take its fields apart.
@@ -94,7 +98,9 @@ impl Drop for Deed {
     fn drop(self) {
         match self {
             Deed::MakeTag | Deed::RemoveTag | Deed::RemoveSegment | Deed::RemoveDescription => {}
+            Deed::Moved => {}
             Deed::Lock { number: _ } => {}
+            Deed::Spend { number: _ } => {}
             Deed::MakeSegment {
                 number: _,
                 max_nodes: _,
@@ -131,6 +137,8 @@ impl Clone for Deed {
             },
             Deed::RemoveSegment => Deed::RemoveSegment,
             Deed::RemoveDescription => Deed::RemoveDescription,
+            Deed::Spend { number } => Deed::Spend { number: *number },
+            Deed::Moved => Deed::Moved,
             Deed::Publish { number, bytes } => Deed::Publish {
                 number: *number,
                 bytes: bytes.clone()?,

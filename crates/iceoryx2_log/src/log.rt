@@ -1,6 +1,6 @@
 //! A log that processes share.
 
-ghost use Rattle.std.specs.Prelude.{◌≡◌, Option, IfOk, OnOk, OnErr};
+ghost use Rattle.std.specs.Prelude.{◌≡◌, Option, None, IfOk, OnOk, OnErr, IsTrue};
 ghost use Rattle.iceoryx2_log.specs.declared.log.LogError.TheVariants.{OutOfMemory};
 ghost use Rattle.iceoryx2_log.specs.Log.{Contents, WhereKnown, Grows, Shows, Accepts, Appends};
 
@@ -20,6 +20,8 @@ pub enum LogError {
     Failed,
     /// What stands in the log is no list of entries.
     Damaged,
+    /// The log goes on in another place, where `rejoin` finds it.
+    Moved,
 }
 
 impl fmt::Display for LogError {
@@ -34,6 +36,7 @@ impl fmt::Display for LogError {
             LogError::OutOfMemory => write!(f, "out of memory"),
             LogError::Failed => write!(f, "the log refused"),
             LogError::Damaged => write!(f, "the log is damaged"),
+            LogError::Moved => write!(f, "the log has moved"),
         }
     }
 }
@@ -69,7 +72,8 @@ pub trait Log {
         ensures ok { OnOk result (WhereKnown Grows (contents self.old) (contents self.new)) }
         ensures err { OnErr result (contents self.new ≡ contents self.old) };
 
-    /// The next entry of another, which stays unread. `Failed` where the log isn't held.
+    /// The next entry of another, which stays unread. `Failed` where the log isn't held, and `Moved` where it goes on
+    /// in another place.
     fn next(&mut self) -> Result<Option<Entry>, LogError>
         ensures shows { IfOk result (λ found. WhereKnown (Shows found) (contents self.old) (contents self.new)) }
         ensures same { contents self.new ≡ contents self.old };
@@ -91,5 +95,40 @@ pub trait Log {
     /// Lets go of the log and waits for a short time, so that others may append. The pauses of one wait are numbered
     /// from 0. False where the wait is over, and then the log stays as it was, held or not.
     fn pause(&mut self, number: u64) -> bool
+        ensures { contents self.new ≡ contents self.old };
+
+    // ---- compaction: the log goes on in another place, which begins with a snapshot. Only one whose contents are
+    // known to no contract does so.
+
+    /// Goes to the place where the log goes on now, holds it there, and stands before its snapshot. Gives the number
+    /// with which the counter begins there. `Failed` where the log isn't held. An `Err` leaves this handle where it
+    /// stood.
+    fn rejoin(&mut self) -> Result<u64, LogError>
+        ensures ok { OnOk result (contents self.old ≡ None) }
+        ensures same { contents self.new ≡ contents self.old };
+
+    /// Whether the next entry is one of the snapshot with which the log begins.
+    fn is_in_snapshot(&self) -> bool
+        ensures { IsTrue result → contents self.now ≡ None };
+
+    /// Whether the log has grown so long that a compaction may be worth it.
+    fn is_long(&self) -> bool
+        ensures { IsTrue result → contents self.now ≡ None };
+
+    /// Begins a compaction: makes another place, which nobody else finds yet, with these entries as its snapshot, holds
+    /// it, and stands before them. Gives the number with which the counter begins there. `Failed` where the log isn't
+    /// held, an entry is unread, or too little would be saved. After an `Err` this handle stands where it stood.
+    fn begin_compaction(&mut self, snapshot: &[Entry]) -> Result<u64, LogError>
+        ensures ok { OnOk result (contents self.old ≡ None) }
+        ensures same { contents self.new ≡ contents self.old };
+
+    /// Ends the compaction that was begun, where its snapshot was read: all handles find the new place from now on.
+    /// After an `Err` this handle stands in the old place again.
+    fn finish_compaction(&mut self) -> Result<(), LogError>
+        ensures { contents self.new ≡ contents self.old };
+
+    /// Gives up the compaction that was begun, if one was: this handle stands in the old place again, and the next one
+    /// is worth a try later.
+    fn abandon_compaction(&mut self)
         ensures { contents self.new ≡ contents self.old };
 }

@@ -354,4 +354,40 @@ impl Log for MemoryLog {
         }
         false
     }
+
+    // What stands in memory is never moved.
+
+    fn rejoin(&mut self) -> Result<u64, LogError>
+        ensures { (result ≡ Err LogError.Failed) × (self.new ≡ self.old) }
+    {
+        Err(LogError::Failed)
+    }
+
+    fn is_in_snapshot(&self) -> bool
+        ensures { result ≡ false }
+    {
+        false
+    }
+
+    fn is_long(&self) -> bool
+        ensures { result ≡ false }
+    {
+        false
+    }
+
+    fn begin_compaction(&mut self, _snapshot: &[Entry]) -> Result<u64, LogError>
+        ensures { (result ≡ Err LogError.Failed) × (self.new ≡ self.old) }
+    {
+        Err(LogError::Failed)
+    }
+
+    fn finish_compaction(&mut self) -> Result<(), LogError>
+        ensures { (result ≡ Err LogError.Failed) × (self.new ≡ self.old) }
+    {
+        Err(LogError::Failed)
+    }
+
+    fn abandon_compaction(&mut self)
+        ensures { self.new ≡ self.old }
+    {}
 }

@@ -107,6 +107,14 @@ fn lock_of(bytes: &[u8]) -> Option<Deed>
     none_of(Deed::Lock { number }, rest)
 }
 
+#[tactic(auto, unfolding(crate::specs::Reading::number_in))]
+fn spend_of(bytes: &[u8]) -> Option<Deed>
+    ensures { IsPart (λ d. d) result (number_in deed.Spend bytes.now) }
+{
+    let (number, rest) = u64_at(bytes)?;
+    none_of(Deed::Spend { number }, rest)
+}
+
 /// Two numbers, which are all of the bytes.
 #[tactic(auto, unfolding(crate::specs::Reading::number_in, crate::specs::Reading::numbers_in))]
 fn make_segment_of(bytes: &[u8]) -> Option<Deed>
@@ -149,6 +157,8 @@ fn plain_deed_of(kind: u8, bytes: &[u8]) -> Option<Deed>
         6 => none_of(Deed::RemoveDescription, bytes),
         8 => open_segment_of(bytes),
         9 => release_of(bytes),
+        10 => spend_of(bytes),
+        11 => none_of(Deed::Moved, bytes),
         _ => None,
     }
 }

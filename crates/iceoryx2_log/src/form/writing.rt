@@ -65,6 +65,8 @@ fn kind(deed: &Deed) -> u8
         Deed::Publish { .. } => 7,
         Deed::OpenSegment { .. } => 8,
         Deed::Release { .. } => 9,
+        Deed::Spend { .. } => 10,
+        Deed::Moved => 11,
     }
 }
 
@@ -74,7 +76,9 @@ fn put_details(out: &mut Vec<u8>, deed: &Deed) -> Result<(), AllocError>
 {
     match deed {
         Deed::MakeTag | Deed::RemoveTag | Deed::RemoveSegment | Deed::RemoveDescription => Ok(()),
+        Deed::Moved => Ok(()),
         Deed::Lock { number } => put_number(out, *number),
+        Deed::Spend { number } => put_number(out, *number),
         Deed::MakeSegment { number, max_nodes } => put_two(out, *number, *max_nodes),
         Deed::Publish { number, bytes } => put_bytes(out, *number, bytes.as_slice()),
         Deed::OpenSegment { number, ticket } => put_two(out, *number, *ticket),
@@ -122,6 +126,8 @@ fn is_too_long(deed: &Deed) -> bool
         Deed::RemoveDescription => false,
         Deed::OpenSegment { .. } => false,
         Deed::Release { .. } => false,
+        Deed::Spend { .. } => false,
+        Deed::Moved => false,
     }
 }
 
@@ -138,7 +144,11 @@ fn deed_fits(deed: &Deed)
 {
     match deed {
         Deed::MakeTag | Deed::RemoveTag | Deed::RemoveSegment | Deed::RemoveDescription => {}
+        Deed::Moved => {}
         Deed::Lock { number } => {
+            let _number = *number;
+        }
+        Deed::Spend { number } => {
             let _number = *number;
         }
         Deed::MakeSegment { number, max_nodes } => {
