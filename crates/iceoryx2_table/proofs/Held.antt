@@ -1,11 +1,11 @@
 -- What a search finds among a map's entries, and so what a node has.
 use Rattle.std.proofs.Common.{◌≡◌, ◌≢◌, ℕ, Bool, true, false, cond, List, [], ◌∷◌, Option, Some, None, refl, sym, ap, subst, ◌∙◌}
-use Rattle.std.specs.Prelude.{T, ◌&&◌, ◌||◌, ◌==◌, is_some, unwrap_or}
+use Rattle.std.specs.Prelude.{T, ◌&&◌, ◌==◌, is_some, unwrap_or}
 use Rattle.std.specs.List.{find as first}
 use Rattle.std.specs.FinMap as map
 use Rattle.std.specs.FinMap.Entries.{find, is_sorted, below_all}
 use Rattle.std.specs.Option.{option_map}
-use Rattle.std.specs.Ordering.{eq_by_cmp, is_lt, is_eq, ordering_reverse, nat_cmp}
+use Rattle.std.specs.Ordering.{eq_by_cmp, is_lt, is_eq, ordering_reverse}
 use Rattle.std.specs.Cmp.{IsTotalOrder, Equal-is, tied_itself}
 use Rattle.std.specs.declared.cmp.Ordering.{Ordering}
 use Rattle.std.specs.declared.cmp.Ordering.TheVariants.{Less, Equal, Greater}
@@ -24,19 +24,19 @@ use Rattle.iceoryx2_table.specs.Holdings.{is_unfinished, held_ticket, held_servi
 use Rattle.iceoryx2_table.specs.declared.holdings.Holding.{Holding}
 use Rattle.iceoryx2_table.specs.declared.holdings.Holding.TheVariants as holding
 
-less_of : (o : Ordering) → T (is_lt o) → o ≡ Less
+pub less_of : (o : Ordering) → T (is_lt o) → o ≡ Less
 less_of Less h = refl
 less_of Equal h = absurd h
 less_of Greater h = absurd h
 
-parts : (a b : Bool) → T (a && b) → T a × T b
+pub parts : (a b : Bool) → T (a && b) → T a × T b
 parts true b h = (tt, h)
 parts false b h = absurd h
 
-some_is : {A : Type 0} (x y : A) → Some x ≡ Some y → x ≡ y
+pub some_is : {A : Type 0} (x y : A) → Some x ≡ Some y → x ≡ y
 some_is x y e = ap (λ o. unwrap_or o x) e
 
-not_some : {A : Type 0} {P : Type 0} (x : A) → None ≡ Some x → P
+pub not_some : {A : Type 0} {P : Type 0} (x : A) → None ≡ Some x → P
 not_some x e = absurd (cc)
 
 module _ {K X : Type 0} {R : K → K → Ordering} (o : IsTotalOrder R) (p : K × X → Bool) where
@@ -103,7 +103,7 @@ unmapped : {A B : Type 0} (f : A → B) (o : Option A) → option_map f o ≡ No
 unmapped f None is = refl
 unmapped f (Some e) is = not_some (f e) (sym is)
 
-both_of : (a b : Bool) → (a && b) ≡ true → (a ≡ true) × (b ≡ true)
+pub both_of : (a b : Bool) → (a && b) ≡ true → (a ≡ true) × (b ≡ true)
 both_of true b e = (refl, e)
 both_of false b e = absurd (cc)
 

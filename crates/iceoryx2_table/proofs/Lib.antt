@@ -8,3 +8,9 @@ pub mod PeerSteps
 pub mod States
 pub mod Recording
 pub mod Held
+pub mod Alike
+pub mod NumbersSpent
+pub mod Needs
+pub mod Agreed
+pub mod Described
+pub mod Throughout

@@ -17,16 +17,16 @@ use Rattle.iceoryx2_world.specs.Listing.{entry_of, entry_at, by_hash, ListsAll}
 use Rattle.sorted_map.proofs.Edits.{back}
 use Rattle.iceoryx2_table.specs.Merge.{RowEntries, SegmentEntries, merge, Advances}
 
-less_of : (o : Ordering) → T (is_lt o) → o ≡ Less
+pub less_of : (o : Ordering) → T (is_lt o) → o ≡ Less
 less_of Less h = refl
 less_of Equal h = absurd h
 less_of Greater h = absurd h
 
-both : (a b : Bool) → T a → T b → T (a && b)
+pub both : (a b : Bool) → T a → T b → T (a && b)
 both true b p q = q
 both false b p q = p
 
-parts : (a b : Bool) → T (a && b) → T a × T b
+pub parts : (a b : Bool) → T (a && b) → T a × T b
 parts true b h = (tt, h)
 parts false b h = absurd h
 
@@ -172,7 +172,7 @@ merge_both r s rs ss o e = ap (λ o. match_ordering o
     (entry_of r.0 (Some r.1) (Some s.1) ∷ merge rs ss)
     (entry_of s.0 None (Some s.1) ∷ merge (r ∷ rs) ss)) e
 
-past : {X : Type 0} (xs : List X) (i : ℕ) → length xs ≤ i → drop i xs ≡ []
+pub past : {X : Type 0} (xs : List X) (i : ℕ) → length xs ≤ i → drop i xs ≡ []
 past [] zero le = refl
 past [] (suc i) le = refl
 past (x ∷ xs) zero le = absurd (omega arith)

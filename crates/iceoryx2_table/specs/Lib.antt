@@ -1,4 +1,10 @@
+pub mod Agreeing
+pub mod AgreeingAcross
 pub mod Book
+pub mod Comparing
+pub mod Decided
 pub mod Holdings
 pub mod Merge
 pub mod Recorded
+pub mod Same
+pub mod Spending

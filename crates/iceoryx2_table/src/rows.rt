@@ -2,6 +2,7 @@
 
 ghost use Rattle.std.specs.Prelude.{◌≡◌};
 ghost use Rattle.iceoryx2_world.specs.declared.world.Row.TheVariants as row;
+ghost use Rattle.iceoryx2_world.specs.World.{row_number};
 ghost use Rattle.iceoryx2_table.specs.Book.{Tells, Holds};
 
 use iceoryx2_world::world::Bytes;
@@ -69,6 +70,13 @@ impl StoredRow {
             return RowState::Published(self.number);
         }
         RowState::Locked(self.number)
+    }
+
+    /// The service's number.
+    pub fn number(&self) -> u64
+        ensures { result ≡ row_number self.now }
+    {
+        self.number
     }
 
     /// The description's bytes, where it is published.

@@ -1,6 +1,8 @@
 //! A segment as a table keeps it.
 
 ghost use Rattle.std.specs.Prelude.{◌≡◌, IfOk};
+ghost use Rattle.std.specs.FinMap as map;
+ghost use Rattle.iceoryx2_world.specs.Sets as set;
 ghost use Rattle.iceoryx2_world.specs.Access.{segment_refusal};
 ghost use Rattle.iceoryx2_table.specs.Book.{Dismisses};
 ghost use Rattle.iceoryx2_table.specs.Recorded.{RecordsAdmission};
@@ -62,6 +64,48 @@ impl StoredSegment {
             participants,
             marked: false,
         })
+    }
+
+    /// The number of the service that it was made for.
+    pub fn number(&self) -> u64
+        ensures { result ≡ self.now.number }
+    {
+        self.number
+    }
+
+    /// How many participants it takes.
+    pub fn capacity(&self) -> u64
+        ensures { result ≡ self.now.capacity }
+    {
+        self.capacity
+    }
+
+    /// All have left it.
+    pub fn is_marked(&self) -> bool
+        ensures { result ≡ self.now.marked }
+    {
+        self.marked
+    }
+
+    /// Who is in it: nodes before peers, each by number.
+    pub fn participants(&self) -> &[(Participant, ())]
+        ensures { result.now ≡ map.entries self.now.participants }
+    {
+        self.participants.entries()
+    }
+
+    /// How many are in it.
+    pub fn count(&self) -> u64
+        ensures { result ≡ set.len self.now.participants }
+    {
+        self.participants.len() as u64
+    }
+
+    /// Whether the participant is in it, by one binary search.
+    pub fn contains(&self, participant: &Participant) -> bool
+        ensures { result ≡ set.contains self.now.participants participant.now }
+    {
+        self.participants.get(participant).is_some()
     }
 
     fn has_room(&self, number: u64) -> bool

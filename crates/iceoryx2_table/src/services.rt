@@ -98,8 +98,8 @@ fn set_phase(
     }
 }
 
-// The participant holds nothing.
-fn begins(phase: Phase) -> bool
+/// The participant holds nothing.
+pub fn begins(phase: Phase) -> bool
     ensures { result ≡ begins_spec phase }
 {
     match phase {
@@ -184,6 +184,41 @@ impl Services {
         let number = self.counter;
         self.counter += 1;
         number
+    }
+
+    /// The next number is this one.
+    pub fn go_on_at(&mut self, number: u64)
+        ensures { self.new ≡ record self.old { counter = number } }
+    {
+        self.counter = number;
+    }
+
+    /// The rows, by hash.
+    pub fn rows_held(&self) -> &[(ServiceHash, StoredRow)]
+        ensures { result.now ≡ map.entries self.now.rows }
+    {
+        self.rows.entries()
+    }
+
+    /// The segments, by hash.
+    pub fn segments_held(&self) -> &[(ServiceHash, StoredSegment)]
+        ensures { result.now ≡ map.entries self.now.segments }
+    {
+        self.segments.entries()
+    }
+
+    /// The phases, by participant and then by hash. Who is absent is Idle.
+    pub fn phases_held(&self) -> &[((Participant, ServiceHash), Phase)]
+        ensures { result.now ≡ map.entries self.now.phases }
+    {
+        self.phases.entries()
+    }
+
+    /// The service's segment.
+    pub fn segment(&self, hash: &ServiceHash) -> Option<&StoredSegment>
+        ensures { option_copied result ≡ map.get self.now.segments hash.now }
+    {
+        self.segments.get(hash)
     }
 
     /// Where the row stands, or would stand.

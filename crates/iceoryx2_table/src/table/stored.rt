@@ -11,6 +11,9 @@ ghost use Rattle.iceoryx2_world.specs.Access.{IsOwnPart, has_lock, has_made as h
 ghost use Rattle.iceoryx2_table.specs.Holdings.{IsHolding};
 ghost use Rattle.iceoryx2_table.specs.Recorded.{IsRecordedPart};
 
+pub mod reading;
+pub mod spending;
+
 use crate::holdings::{Holding, first_tag, first_ticket};
 use crate::recorder::Recorder;
 use crate::rows::RowState;
