@@ -1,7 +1,5 @@
 -- What a writer leaves that dies within an append.
-use Rattle.std.proofs.Common.{◌≡◌, ◌⊎◌, inl, inr, ℕ, suc, ◌<◌, List, [], ◌∷◌, ◌++◌, length, refl, arith}
-use Rattle.iceoryx2_log.specs.declared.entry.Entry.{Entry}
-use Rattle.iceoryx2_log.specs.Form.{IsForm}
+use Rattle.std.proofs.Common.{inl, inr, ℕ, ◌<◌, List, [], ◌∷◌, length, refl, arith}
 use Rattle.iceoryx2_log.proofs.Found.{cut_is_short}
 use Rattle.iceoryx2_file_log.specs.Remainder.{WithOrWithout}
 use Rattle.iceoryx2_file_log.proofs.Torn.{none_torn_away}

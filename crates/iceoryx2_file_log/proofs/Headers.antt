@@ -67,41 +67,55 @@ summed_again s len =
     let one : bytes_at SUMMED_LENGTH (s ++ sum_of s) ≡ Some (s, sum_of s) = reads.again s (sum_of s) len in
     ap (λ (r : Option (List ℕ × List ℕ)). r >>= checked) one ∙ rw (bytes_equal (sum_of s)) refl
 
--- ---- the name and the number
+-- ---- the name and the numbers
+
+-- both numbers
+abbrev numbers : Header → List ℕ
+numbers h = number h.counter ++ number h.snapshot_length
 
 pub record HasFields (bytes : List ℕ) (h : Header) : Type 0 where
   pub rest : List ℕ
-  pub parts : bytes ≡ h.name.0 ++ (number h.counter ++ rest)
+  pub parts : bytes ≡ h.name.0 ++ (number h.counter ++ (number h.snapshot_length ++ rest))
   pub limits : IsHeader h
 
+abbrev with_snapshot : List ℕ → ℕ → ℕ × List ℕ → Option Header
+with_snapshot name counter snapshot = Some (header_from name counter snapshot.0)
+
 abbrev with_counter : List ℕ → ℕ × List ℕ → Option Header
-with_counter name counter = Some (header_from name counter.0)
+with_counter name counter = number_at w64 counter.1 >>= with_snapshot name counter.0
 
 fields_takes : (bytes : List ℕ) (h : Header) → IsBytes bytes → fields_in bytes ≡ Some h → HasFields bytes h
 unfolding fields_in
 fields_takes bytes h fits e =
     let a = bind_some (bytes_at NAME_LENGTH bytes) (λ name. number_at w64 name.1 >>= with_counter name.0) h e in
     let b = bind_some (number_at w64 a.0.1) (with_counter a.0.0) h a.2 in
+    let c = bind_some (number_at w64 b.0.1) (with_snapshot a.0.0 b.0.0) h b.2 in
     let reads = Reads-each_byte NAME_LENGTH in
     let t0 = reads.takes bytes a.0 fits a.1 in
     let t1 = Reads-number64.takes a.0.1 b.0 t0.0.rest_fits b.1 in
-    let found : HasFields bytes (header_from a.0.0 b.0.0) = record {
-      rest = b.0.1;
-      parts = t0.0.parts ∙ ap (λ (x : List ℕ). a.0.0 ++ x) t1.0.parts;
-      limits = record { name = t0.1.0; bytes = t0.1.1; counter = t1.1 };
+    let t2 = Reads-number64.takes b.0.1 c.0 t1.0.rest_fits c.1 in
+    let found : HasFields bytes (header_from a.0.0 b.0.0 c.0.0) = record {
+      rest = c.0.1;
+      parts = t0.0.parts ∙ ap (λ (x : List ℕ). a.0.0 ++ x) t1.0.parts
+          ∙ ap (λ (x : List ℕ). a.0.0 ++ (number b.0.0 ++ x)) t2.0.parts;
+      limits = record { name = t0.1.0; bytes = t0.1.1; counter = t1.1; snapshot = t2.1 };
     } in
-    subst (λ (x : Header). HasFields bytes x) (some_is (header_from a.0.0 b.0.0) h b.2) found
+    subst (λ (x : Header). HasFields bytes x) (some_is (header_from a.0.0 b.0.0 c.0.0) h c.2) found
 
-fields_again : (h : Header) → IsHeader h → fields_in (h.name.0 ++ number h.counter) ≡ Some h
+fields_again : (h : Header) → IsHeader h → fields_in (h.name.0 ++ numbers h) ≡ Some h
 unfolding fields_in
 fields_again h limits =
     let reads = Reads-each_byte NAME_LENGTH in
-    let one : bytes_at NAME_LENGTH (h.name.0 ++ number h.counter) ≡ Some (h.name.0, number h.counter) =
-    reads.again h.name.0 (number h.counter) (limits.name, limits.bytes) in
-    let two : number_at w64 (number h.counter) ≡ Some (h.counter, []) =
-    ap (number_at w64) (sym (append-nil (number h.counter))) ∙ Reads-number64.again h.counter [] limits.counter in
+    let one : bytes_at NAME_LENGTH (h.name.0 ++ numbers h) ≡ Some (h.name.0, numbers h) =
+    reads.again h.name.0 (numbers h) (limits.name, limits.bytes) in
+    let two : number_at w64 (numbers h) ≡ Some (h.counter, number h.snapshot_length) =
+    Reads-number64.again h.counter (number h.snapshot_length) limits.counter in
+    let three : number_at w64 (number h.snapshot_length) ≡ Some (h.snapshot_length, []) =
+    ap (number_at w64) (sym (append-nil (number h.snapshot_length)))
+    ∙ Reads-number64.again h.snapshot_length [] limits.snapshot in
     ap (λ (r : Option (List ℕ × List ℕ)). r >>= λ name. number_at w64 name.1 >>= with_counter name.0) one
     ∙ ap (λ (r : Option (ℕ × List ℕ)). r >>= with_counter h.name.0) two
+    ∙ ap (λ (r : Option (ℕ × List ℕ)). r >>= with_snapshot h.name.0 h.counter) three
 
 -- ---- the header
 
@@ -115,13 +129,21 @@ Literal = Option (Unit {0} × List ℕ)
 abbrev fields_after : Unit {0} × List ℕ → Option Header
 fields_after f = fields_in f.1
 
-whole_of : (s : List ℕ) (h : Header) (rest : List ℕ) → s ≡ front ++ (h.name.0 ++ (number h.counter ++ rest))
+whole_of : (s : List ℕ) (h : Header) (rest : List ℕ)
+    → s ≡ front ++ (h.name.0 ++ (number h.counter ++ (number h.snapshot_length ++ rest)))
     → length s ≡ SUMMED_LENGTH → IsHeader h → s ≡ summed h
 whole_of s h rest e len limits =
-    let none : length rest ≡ 0 =
-    omega (arith, ap length e, len, length-append h.name.0 (number h.counter ++ rest), length-append (number h.counter) rest, limits.name) in
-    e ∙ ap (λ (r : List ℕ). front ++ (h.name.0 ++ (number h.counter ++ r))) (nothing rest none)
-    ∙ ap (λ (r : List ℕ). front ++ (h.name.0 ++ r)) (append-nil (number h.counter))
+    let none : length rest ≡ 0 = omega (
+      arith,
+      ap length e,
+      len,
+      length-append h.name.0 (number h.counter ++ (number h.snapshot_length ++ rest)),
+      length-append (number h.counter) (number h.snapshot_length ++ rest),
+      length-append (number h.snapshot_length) rest,
+      limits.name,
+    ) in
+    e ∙ ap (λ (r : List ℕ). front ++ (h.name.0 ++ (number h.counter ++ (number h.snapshot_length ++ r)))) (nothing rest none)
+    ∙ ap (λ (r : List ℕ). front ++ (h.name.0 ++ (number h.counter ++ r))) (append-nil (number h.snapshot_length))
 
 pub header_takes : (bytes : List ℕ) (h : Header) → IsBytes bytes → header_in bytes ≡ Some h → IsForm h bytes
 unfolding header_in
@@ -136,14 +158,14 @@ header_takes bytes h fits e =
     record { limits = f.limits; is = s.parts ∙ ap (λ (x : List ℕ). x ++ sum_of x) whole }
 
 summed_length : (h : Header) → IsHeader h → length (summed h) ≡ SUMMED_LENGTH
-summed_length h limits = omega (arith, length-append h.name.0 (number h.counter), limits.name)
+summed_length h limits = omega (arith, length-append h.name.0 (numbers h), limits.name)
 
 pub header_again : (bytes : List ℕ) (h : Header) → IsForm h bytes → header_in bytes ≡ Some h
 unfolding header_in
 header_again bytes h form =
     let reads = Reads-literal front in
     let one : summed_in bytes ≡ Some (summed h) = ap summed_in form.is ∙ summed_again (summed h) (summed_length h form.limits) in
-    let two : literal_at front (summed h) ≡ Some (tt, h.name.0 ++ number h.counter) = reads.again tt (h.name.0 ++ number h.counter) tt in
+    let two : literal_at front (summed h) ≡ Some (tt, h.name.0 ++ numbers h) = reads.again tt (h.name.0 ++ numbers h) tt in
     ap (λ (r : Option (List ℕ)). r >>= λ s. literal_at front s >>= fields_after) one
     ∙ ap (λ (r : Literal). r >>= fields_after) two ∙ fields_again h form.limits
 
@@ -178,7 +200,7 @@ version_again bytes v has =
     ap (λ (r : Literal). r >>= byte_after) one
 
 form_version : (bytes : List ℕ) (h : Header) → IsForm h bytes → HasVersion VERSION bytes
-form_version bytes h form = (h.name.0 ++ number h.counter ++ sum_of (summed h), form.is ∙ grind (arith, append_assoc))
+form_version bytes h form = (h.name.0 ++ numbers h ++ sum_of (summed h), form.is ∙ grind (arith, append_assoc))
 
 -- ---- what decode answers
 

@@ -21,10 +21,11 @@ use Rattle.iceoryx2_file_log.specs.declared.remainder.Front.{Front}
 use Rattle.iceoryx2_file_log.specs.declared.remainder.Front.TheVariants.{Whole, Unfinished, Torn, Damaged}
 use Rattle.iceoryx2_file_log.specs.Remainder.{HasWrongSum, IsTorn, sum_differs, wrong_in, has_wrong_sum_in, unread_in}
 use Rattle.iceoryx2_file_log.specs.Remainder.{malformed_in, refused_in}
+use Rattle.iceoryx2_file_log.specs.Crashes.{BeginsWithNone, EndsAt}
 
 -- ---- the sum
 
-equal_bytes : (xs ys : List ℕ) → bytes_eq xs ys ≡ true → xs ≡ ys
+pub equal_bytes : (xs ys : List ℕ) → bytes_eq xs ys ≡ true → xs ≡ ys
 equal_bytes xs ys e = grind (arith, bytes_eq-Decides xs ys, e)
 
 bytes_equal : (xs : List ℕ) → bytes_eq xs xs ≡ true
@@ -34,7 +35,7 @@ not_both : {A : Type 0} (b : Bool) → b ≡ true → b ≡ false → A
 not_both true is other = absurd cc
 not_both false is other = absurd cc
 
-differ : (xs ys : List ℕ) → bytes_eq xs ys ≡ false → xs ≢ ys
+pub differ : (xs ys : List ℕ) → bytes_eq xs ys ≡ false → xs ≢ ys
 differ xs ys e same = not_both (bytes_eq xs ys) (ap (λ (zs : List ℕ). bytes_eq xs zs) (sym same) ∙ bytes_equal xs) e
 
 tell_apart : (xs ys : List ℕ) (b : Bool) → bytes_eq xs ys ≡ b → xs ≢ ys → not b ≡ true
@@ -364,3 +365,31 @@ ok_torn bytes left e count b = (λ same. absurd cc, λ t. absurd (none_torn_away
 pub ok_unfinished : {E : Type 0} (bytes : List ℕ) (left : ℕ) (e : Entry) (count : ℕ) → Begins bytes e count
     → found {E = E} e count ≡ Ok Unfinished ↔ (IsCutShort bytes × (length bytes < left))
 ok_unfinished bytes left e count b = (λ same. absurd cc, λ t. absurd (not_short bytes e count b t.0))
+
+-- ---- at the end of the entries
+
+unread_ends : (E : Type 0) (b : Bool) → b ≡ false → EndsAt (given {E = E} (cond b Unfinished Torn))
+unread_ends E true is = absurd cc
+unread_ends E false is = tt
+
+malformed_ends : (E : Type 0) (b w : Bool) → EndsAt (given {E = E} (cond b Damaged (cond w Torn Damaged)))
+malformed_ends E true w = tt
+malformed_ends E false true = tt
+malformed_ends E false false = tt
+
+refused_ends : (E : Type 0) (bytes : List ℕ) (left : ℕ) (error : EntryError) (f : Front) → left ≤ length bytes
+    → refused_in error bytes left ≡ Some f → EndsAt (given {E = E} f)
+refused_ends E bytes left CutShort f le ok =
+    subst (λ (g : Front). EndsAt (given {E = E} g)) (some_is (unread_in bytes left) f ok)
+    (unread_ends E (ltb (length bytes) left) (le-ltb (length bytes) left le))
+refused_ends E bytes left Malformed f le ok =
+    subst (λ (g : Front). EndsAt (given {E = E} g)) (some_is (malformed_in bytes left) f ok)
+    (malformed_ends E (ltb (length bytes) left) (has_wrong_sum_in bytes))
+refused_ends E bytes left OutOfMemory f le ok = absurd (none-some f ok)
+
+pub err_ends : {E : Type 0} (bytes : List ℕ) (left : ℕ) (error : EntryError) (r : Result Front E)
+    → Starved bytes error → Given bytes left error r → NotGiven bytes left error r
+    → BeginsWithNone bytes → left ≤ length bytes → EndsAt r
+err_ends {E} bytes left error (Ok f) memory ok none quiet le = refused_ends E bytes left error f le ok
+err_ends bytes left error (Err x) memory ok none quiet le =
+    let b = memory (starves bytes left error none) in absurd (quiet b.0 b.1 b.2)

@@ -34,6 +34,7 @@ abbrev pub log_error_of : FileFault → LogError
 log_error_of fault.Busy = log.Busy
 log_error_of fault.OutOfMemory = log.OutOfMemory
 log_error_of (fault.Damaged at) = log.Damaged
+log_error_of fault.Moved = log.Moved
 log_error_of other = log.Failed
 
 -- `None` where the text is the system's own name of what it refused.
@@ -53,6 +54,11 @@ fault_text fault.HeldAlready = Some (codes "the log is held already")
 fault_text fault.NotHeld = Some (codes "the log is not held")
 fault_text fault.Unread = Some (codes "entries of others are unread")
 fault_text fault.Unsure = Some (codes "a failed append may stand in the log")
+fault_text fault.Moved = Some (codes "the log has moved")
+fault_text fault.AnotherLog = Some (codes "is another log")
+fault_text fault.NothingSaved = Some (codes "a compaction would save too little")
+fault_text fault.Compacting = Some (codes "a compaction was begun")
+fault_text fault.NotCompacting = Some (codes "no compaction was begun")
 fault_text (fault.Failed kind) = None
 
 -- the path, and why its file refused

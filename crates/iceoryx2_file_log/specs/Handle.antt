@@ -1,9 +1,12 @@
 -- What the calls of a handle leave of where it stands.
-use Rattle.std.specs.Prelude.{ℕ, ◌≡◌, ◌≤◌, ◌⊎◌, Bool, true, false, List, ◌++◌, length, Option, Some, None, string_bytes}
+use Rattle.std.specs.Prelude.{ℕ, ◌+◌, ◌≡◌, ◌≢◌, ◌<◌, ◌≤◌, ◌⊎◌, Bool, true, false, List, ◌++◌, length, string_bytes}
+use Rattle.std.specs.Prelude.{Option, Some, None, IsTrue}
 use Rattle.iceoryx2_log.specs.declared.entry.Entry.{Entry}
+use Rattle.iceoryx2_log.specs.declared.entry.Deed.TheVariants.{Moved}
 use Rattle.iceoryx2_log.specs.declared.log.LogError.{LogError}
 use Rattle.iceoryx2_log.specs.Form.{IsForm, Begins}
 use Rattle.iceoryx2_file_log.specs.declared.error.FileFault.{FileFault}
+use Rattle.iceoryx2_file_log.specs.declared.error.FileFault.TheVariants as fault
 use Rattle.iceoryx2_file_log.specs.declared.error.FileLogError.{FileLogError}
 use Rattle.iceoryx2_file_log.specs.declared.options.FileLogOptions.{FileLogOptions}
 use Rattle.iceoryx2_file_log.specs.declared.header.Header.{Header}
@@ -13,7 +16,13 @@ use Rattle.iceoryx2_file_log.specs.declared.remainder.Front.{Front}
 use Rattle.iceoryx2_file_log.specs.declared.remainder.Front.TheVariants.{Whole, Unfinished, Torn, Damaged}
 use Rattle.iceoryx2_file_log.specs.Errors.{log_error_of}
 use Rattle.iceoryx2_file_log.specs.Remainder.{IsTorn}
-use Rattle.iceoryx2_file_log.specs.Place.{Place, left, held, appended, let_go_of, state_after}
+use Rattle.iceoryx2_file_log.specs.Compaction.{IsMark, later, snapshot_end}
+use Rattle.iceoryx2_file_log.specs.Place.{Place, left, held, cut, appended, let_go_of, state_after}
+
+-- Where a handle stood before the compaction that it has begun.
+pub record Former : Type 0 where
+  pub header : Header
+  pub cursor : Place
 
 -- What a handle is seen as.
 pub record HandleFacts : Type 0 where
@@ -21,8 +30,12 @@ pub record HandleFacts : Type 0 where
   pub options : FileLogOptions
   pub header : Header
   pub cursor : Place
-  -- why the log refused the last call that it refused
+  -- why the log refused the last call that it refused, but for a compaction that was not begun
   pub fault : Option FileFault
+  -- the length of the file from which the next compaction is tried
+  pub tries_from : ℕ
+  -- where it stood before, while a compaction is begun and not ended
+  pub former : Option Former
 
 -- A refused call answers by why it was refused, which is kept, and leaves the state after that.
 abbrev pub IsRefused : LogError → Option FileFault → State → State → Type 0
@@ -46,6 +59,12 @@ abbrev pub Shows : Option Entry → Place → Place → Type 0
 Shows (Some e) old new = Finds e old new
 Shows None old new = new.file_length ≡ new.position
 
+-- Where what is cut off is to be synchronized, only a doubt refuses after a cut: what may come back with the power is
+-- not taken for gone.
+abbrev pub IsSureOfCuts : (synchronizes : Bool) → FileFault → Place → Place → Type 0
+IsSureOfCuts synchronizes why old new =
+    IsTrue synchronizes → (why ≡ fault.Unsure) ⊎ (new.file_length ≡ old.file_length)
+
 -- What was read, with some more, is all that was left, and torn. It is cut off.
 pub record IsCutOff (old new : Place) : Type 0 where
   pub more : List ℕ
@@ -53,9 +72,31 @@ pub record IsCutOff (old new : Place) : Type 0 where
   pub all : left old ≤ length (old.ahead ++ more)
   pub ends : new.file_length ≡ old.position
 
--- The file is as long as it was, or what was left was torn and is cut off.
+-- What was read, with some more, is all that was left, and just a mark. It is cut off.
+pub record IsMarkCutOff (old new : Place) : Type 0 where
+  pub more : List ℕ
+  pub mark : IsMark (old.ahead ++ more)
+  pub all : left old ≤ length (old.ahead ++ more)
+  pub ends : new.file_length ≡ old.position
+
+-- The file is as long as it was, or what was left is cut off: it was torn, or a mark.
 abbrev pub SparesEntries : Place → Place → Type 0
-SparesEntries old new = (new.file_length ≡ old.file_length) ⊎ IsCutOff old new
+SparesEntries old new = (new.file_length ≡ old.file_length) ⊎ (IsCutOff old new ⊎ IsMarkCutOff old new)
+
+-- A mark is no entry of the log, and is never found as one.
+abbrev pub IsNoMark : Option Entry → Type 0
+IsNoMark None = Unit {0}
+IsNoMark (Some e) = e.deed ≢ Moved
+
+-- Where there is no entry the whole snapshot is taken over.
+abbrev pub IsPastSnapshot : Option Entry → Header → Place → Type 0
+IsPastSnapshot None h p = snapshot_end h ≤ p.position
+IsPastSnapshot (Some e) h p = Unit {0}
+
+-- An entry that begins before the snapshot's end ends by it: a snapshot ends where an entry does.
+abbrev pub IsNotAcross : Option Entry → Header → Place → Type 0
+IsNotAcross None h p = Unit {0}
+IsNotAcross (Some e) h p = p.position < snapshot_end h → p.position + p.found ≤ snapshot_end h
 
 -- Nothing was unread, and the file ends with the entry's form now.
 pub record Appends (e : Entry) (old new : Place) : Type 0 where
@@ -65,9 +106,30 @@ pub record Appends (e : Entry) (old new : Place) : Type 0 where
   pub all_read : old.file_length ≡ old.position
   pub is : new ≡ appended (length form) old
 
+-- with the compaction given up that was begun, if one was
+abbrev pub back_in : HandleFacts → Option Former → HandleFacts
+back_in f None = f
+back_in f (Some was) = record f {
+  header = was.header;
+  cursor = was.cursor;
+  tries_from = later was.cursor.file_length;
+  former = None;
+}
+
+abbrev pub abandoned : HandleFacts → HandleFacts
+abandoned f = back_in f f.former
+
+-- with the next compaction tried when the file has 64 KiB more
+abbrev pub postponed : HandleFacts → HandleFacts
+postponed f = record f { tries_from = later f.cursor.file_length }
+
+-- let go of, where the log is
+abbrev pub freed : HandleFacts → HandleFacts
+freed f = record f { cursor = let_go_of f.cursor }
+
 -- It was let go of for a pause, or nothing changed.
 abbrev pub Pauses : Bool → HandleFacts → HandleFacts → Type 0
-Pauses true old new = new ≡ record old { cursor = let_go_of old.cursor }
+Pauses true old new = new ≡ freed (abandoned old)
 Pauses false old new = new ≡ old
 
 -- ---- what its parts leave
@@ -76,6 +138,12 @@ Pauses false old new = new ≡ old
 pub record ReadsOn (old new : Place) : Type 0 where
   pub more : List ℕ
   pub is : new ≡ record old { ahead = old.ahead ++ more }
+
+-- What was read is all that was left, and just a mark, and is cut off.
+pub record CutsMark (old new : Place) : Type 0 where
+  pub mark : IsMark old.ahead
+  pub all : left old ≤ length old.ahead
+  pub is : new ≡ cut old
 
 -- What was read begins with: an entry, or nothing but what is torn, or no entry at all.
 abbrev pub IsFront : Front → Place → Type 0

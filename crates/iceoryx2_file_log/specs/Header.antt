@@ -5,11 +5,12 @@ use Rattle.iceoryx2_byte_form.specs.PartForm.{number}
 use Rattle.iceoryx2_file_log.specs.declared.header.TheConstants.{HEADER_LENGTH, SUM_LENGTH, NAME_LENGTH, VERSION}
 use Rattle.iceoryx2_file_log.specs.declared.header.Header.{Header}
 
--- what has a form: a name of bytes, and a number of 64 bits
+-- what has a form: a name of bytes, and numbers of 64 bits
 pub record IsHeader (h : Header) : Type 0 where
   pub name : length h.name.0 ≡ NAME_LENGTH
   pub bytes : All (λ b. b < 256) h.name.0
   pub counter : h.counter < 2 ^ 64
+  pub snapshot : h.snapshot_length < 2 ^ 64
 
 -- by what the file of a log is known
 abbrev pub magic : List ℕ
@@ -21,7 +22,7 @@ front = magic ++ VERSION ∷ []
 
 -- all that stands before the sum
 abbrev pub summed : Header → List ℕ
-summed h = front ++ h.name.0 ++ number h.counter
+summed h = front ++ h.name.0 ++ (number h.counter ++ number h.snapshot_length)
 
 -- the first bytes of the SHA-1 of the bytes
 abbrev pub sum_of : List ℕ → List ℕ

@@ -17,12 +17,12 @@ version_at bytes = literal_at magic bytes >>= λ m. kind_at m.1 >>= λ v. Some v
 unfoldable pub summed_in : List ℕ → Option (List ℕ)
 summed_in bytes = bytes_at SUMMED_LENGTH bytes >>= λ x. if bytes_eq x.1 (sum_of x.0) then Some x.0 else None
 
-abbrev pub header_from : List ℕ → ℕ → Header
-header_from name counter = record { name = record { 0 = name }; counter = counter }
+abbrev pub header_from : List ℕ → ℕ → ℕ → Header
+header_from name counter snapshot = record { name = record { 0 = name }; counter = counter; snapshot_length = snapshot }
 
 unfoldable pub fields_in : List ℕ → Option Header
 fields_in bytes = bytes_at NAME_LENGTH bytes >>= λ name. number_at w64 name.1 >>= λ counter.
-    Some (header_from name.0 counter.0)
+    number_at w64 counter.1 >>= λ snapshot. Some (header_from name.0 counter.0 snapshot.0)
 
 unfoldable pub header_in : List ℕ → Option Header
 header_in bytes = summed_in bytes >>= λ summed. literal_at front summed >>= λ f. fields_in f.1

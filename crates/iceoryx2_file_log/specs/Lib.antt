@@ -4,7 +4,10 @@ pub mod Options
 pub mod Header
 pub mod HeaderReading
 pub mod Remainder
+pub mod Compaction
+pub mod Crashes
 pub mod Place
 pub mod Handle
+pub mod Moving
 pub mod Path
 pub mod Opening

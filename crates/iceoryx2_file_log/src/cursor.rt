@@ -4,7 +4,7 @@ ghost use Rattle.std.specs.Prelude.{◌≡◌, ◌++◌, ◌+◌, ◌<◌, ◌�
 ghost use Rattle.iceoryx2_file_log.specs.declared.error.FileFault.TheVariants as fault;
 ghost use Rattle.iceoryx2_file_log.specs.declared.cursor.State.{State};
 ghost use Rattle.iceoryx2_file_log.specs.declared.cursor.State.TheVariants as state;
-ghost use Rattle.iceoryx2_file_log.specs.Remainder.{IsTorn};
+ghost use Rattle.iceoryx2_file_log.specs.Compaction.{MayBeCut};
 
 use crate::ahead::Ahead;
 use crate::error::FileFault;
@@ -16,8 +16,9 @@ use std::marker::Model;
 pub enum State {
     Free,
     Held,
-    /// An append failed, and what it left could not be taken back, so nobody knows whether its entry stands. This
-    /// handle would take its own entry for another's, so it is used no more; a new one reads what stands.
+    /// An append failed, and what it left could not be taken back, so nobody knows whether its entry stands; or what
+    /// was taken back or cut off may come back with the power, though the options synchronize. This handle would take
+    /// its own entry for another's, so it is used no more; a new one reads what stands.
     Unsure,
     /// What begins at this byte is no entry, nor what a writer leaves that died. The handle is used no more.
     Damaged { at: u64 },
@@ -92,6 +93,13 @@ impl Cursor {
         self.position
     }
 
+    /// How long the file is.
+    pub fn file_length(&self) -> u64
+        ensures { result ≡ self.now.file_length }
+    {
+        self.file_length
+    }
+
     /// What was read of the file from the position on.
     pub fn ahead(&self) -> &[u8]
         ensures { result.now ≡ self.now.ahead }
@@ -120,11 +128,27 @@ impl Cursor {
         self.left() - self.ahead.as_slice().len() as u64
     }
 
+    /// Where so many of the bytes end that were read.
+    pub fn end_of(&self, count: usize) -> u64
+        requires { count ≤ length self.now.ahead }
+        ensures { result ≡ self.now.position + count }
+    {
+        let rest = self.ahead.as_slice().len() - count;
+        self.read_to() - rest as u64
+    }
+
     /// Up to where the file was read.
     pub fn read_to(&self) -> u64
         ensures { result ≡ self.now.position + length self.now.ahead }
     {
         self.file_length - self.missing()
+    }
+
+    /// Whether just so many bytes were read, and they are all that stands from the position on.
+    pub fn ends_after(&self, count: usize) -> bool
+        ensures { IsTrue result ↔ ((length self.now.ahead ≡ count) × (left self.now ≤ length self.now.ahead)) }
+    {
+        self.ahead.as_slice().len() == count && self.missing() == 0
     }
 
     /// Why the handle can't hold the log.
@@ -188,9 +212,9 @@ impl Cursor {
         self.found = 0;
     }
 
-    /// What is left of the file was cut off, as all of it is torn.
+    /// What is left of the file was cut off, as all of it is torn, or a mark.
     pub fn cut(&mut self)
-        requires torn { IsTorn self.old.ahead }
+        requires torn { MayBeCut self.old.ahead }
         requires all { left self.old ≤ length self.old.ahead }
         ensures { self.new ≡ cut self.old }
     {

@@ -9,7 +9,7 @@ use std::error::Error;
 use std::fmt;
 use std::io::{self, ErrorKind};
 
-/// Why a log in a file refused. The first ones come only where it is opened.
+/// Why a log in a file refused. The first ones come only where a file is opened.
 #[derive(Clone, Copy, Debug, PartialEq, Eq)]
 pub enum FileFault {
     /// The path is that of a symbolic link, which is not followed.
@@ -41,8 +41,19 @@ pub enum FileFault {
     NotHeld,
     /// Entries of others are unread, so nothing is appended yet.
     Unread,
-    /// An append failed, and what it left could not be taken back, so nobody knows whether its entry stands.
+    /// An append failed, and what it left could not be taken back, so nobody knows whether its entry stands. Or what
+    /// was taken back or cut off may come back with the power, though the options synchronize.
     Unsure,
+    /// The log goes on in another file, which has the path now.
+    Moved,
+    /// The file that has the path now is that of another log.
+    AnotherLog,
+    /// The file has fewer than eight times the bytes that it would have after a compaction.
+    NothingSaved,
+    /// A compaction was begun, and neither finished nor abandoned yet.
+    Compacting,
+    /// No compaction was begun.
+    NotCompacting,
     /// The system refused for another reason.
     Failed { kind: ErrorKind },
 }
@@ -69,6 +80,11 @@ impl fmt::Display for FileFault {
             FileFault::NotHeld => write!(f, "the log is not held"),
             FileFault::Unread => write!(f, "entries of others are unread"),
             FileFault::Unsure => write!(f, "a failed append may stand in the log"),
+            FileFault::Moved => write!(f, "the log has moved"),
+            FileFault::AnotherLog => write!(f, "is another log"),
+            FileFault::NothingSaved => write!(f, "a compaction would save too little"),
+            FileFault::Compacting => write!(f, "a compaction was begun"),
+            FileFault::NotCompacting => write!(f, "no compaction was begun"),
             FileFault::Failed { kind } => write!(f, "{kind}"),
         }
     }
@@ -145,6 +161,7 @@ pub fn log_error(fault: FileFault) -> LogError
         FileFault::Busy => LogError::Busy,
         FileFault::OutOfMemory => LogError::OutOfMemory,
         FileFault::Damaged { at: _ } => LogError::Damaged,
+        FileFault::Moved => LogError::Moved,
         _ => LogError::Failed,
     }
 }

@@ -1,21 +1,41 @@
 //! A log in a file, under the file's advisory lock.
 //!
-//! What a file holds is known to no contract, so `contents` claims nothing here. What is proved is what each call makes
-//! of where the handle stands: what was read of the file, what is taken over, and that only torn bytes are cut off.
+//! What a file holds is known to no contract, so `contents` claims nothing here. What is proved is what each call
+//! makes of where the handle stands: what was read of the file, what is taken over, and that only torn bytes and
+//! marks are cut off.
+//!
+//! A long log is compacted by whoever holds it. It makes a file beside the log's own, with a snapshot, and reads that.
+//! Then the old file gets a mark as its last entry, and the new one gets the path. Whoever still has the old file reads
+//! the mark, and goes to the file that has the path. A process that is killed meanwhile leaves one of both files as the
+//! log: the old one, where a mark that is its last entry is cut off as long as it has the path itself, or the new one.
 
-ghost use Rattle.std.specs.Prelude.{◌≡◌, ◌≤◌, ◌⊎◌, ◌++◌, List, ℕ, length, None, Some, Ok, Err};
-ghost use Rattle.std.specs.Prelude.{IfOk, IfErr, OnOk, OnErr, IfSome, string_bytes};
+ghost use Rattle.std.specs.Prelude.{◌≡◌, ◌≤◌, ◌<◌, ◌⊎◌, ◌↔◌, ◌++◌, List, ℕ, length, None, Some, Ok, Err};
+ghost use Rattle.std.specs.Prelude.{IfOk, IfErr, OnOk, OnErr, IfSome, IsTrue, string_bytes};
+ghost use Rattle.std.specs.IoError.{error_kind};
 ghost use Rattle.iceoryx2_log.specs.Form.{Begins, IsForm};
 ghost use Rattle.iceoryx2_file_log.specs.declared.header.TheConstants.{HEADER_LENGTH};
 ghost use Rattle.iceoryx2_file_log.specs.declared.cursor.State.TheVariants as state;
 ghost use Rattle.iceoryx2_file_log.specs.declared.error.FileFault.TheVariants as fault;
-ghost use Rattle.iceoryx2_file_log.specs.Errors.{log_error_of, IsOfFile};
-ghost use Rattle.iceoryx2_file_log.specs.Remainder.{IsTorn};
-ghost use Rattle.iceoryx2_file_log.specs.Place.{start, left, held, accepted, cut, appended, let_go_of, state_after};
+ghost use Rattle.iceoryx2_file_log.specs.Errors.{kind_fault, log_error_of, IsOfFile};
+ghost use Rattle.iceoryx2_file_log.specs.Compaction.{IsLong, snapshot_end, first_tried};
+ghost use Rattle.iceoryx2_file_log.specs.Place.{start, left, held, accepted, cut, appended, state_after};
 ghost use Rattle.iceoryx2_file_log.specs.Place.{why_not_free, why_not_held};
 ghost use Rattle.iceoryx2_file_log.specs.Handle.{IsRefused, Holds, Shows, SparesEntries, Appends};
-ghost use Rattle.iceoryx2_file_log.specs.Handle.{ReadsOn, IsFront, IsErrorOf, Pauses};
+ghost use Rattle.iceoryx2_file_log.specs.Handle.{ReadsOn, IsFront, IsErrorOf, Pauses, abandoned, postponed, freed};
+ghost use Rattle.iceoryx2_file_log.specs.Handle.{IsNoMark, IsPastSnapshot, IsNotAcross, IsSureOfCuts};
+ghost use Rattle.iceoryx2_file_log.specs.Moving.{why_not_alone, OnlyRefuses, Rejoins, BeginsCompaction};
+ghost use Rattle.iceoryx2_file_log.specs.Moving.{RefusesCompaction, Finishes, RefusesFinish};
 
+mod beside;
+mod compacting;
+mod former;
+mod marking;
+
+use self::former::FormerPlace;
+use self::marking::{cut_mark, cut_off};
+use crate::compaction::{
+    first_tried, is_across_end, is_before_end, is_long, is_mark, length_later,
+};
 use crate::cursor::{Cursor, State};
 use crate::error::{FileFault, FileLogError, log_error, system_fault};
 use crate::header::{HEADER_LENGTH, Header};
@@ -52,10 +72,14 @@ pub struct FileLog<R> {
     options: FileLogOptions,
     header: Header,
     cursor: Cursor,
-    /// Why the log refused the last call that it refused.
+    /// Why the log refused the last call that it refused, but for a compaction that was not begun.
     fault: Option<FileFault>,
     /// When the last wait began.
     wait_start: Option<Instant>,
+    /// The length of the file from which the next compaction is tried.
+    tries_from: u64,
+    /// Where the handle stood before, while a compaction is begun and not ended.
+    former: Option<FormerPlace>,
 }
 
 impl<R> Model for FileLog<R> {
@@ -70,6 +94,8 @@ impl<R> Model for FileLog<R> {
       header = log.header;
       cursor = log.cursor;
       fault = log.fault;
+      tries_from = log.tries_from;
+      former = log.former;
     } };
 }
 
@@ -84,6 +110,8 @@ impl<R: Drop> Drop for FileLog<R> {
             cursor: _,
             fault: _,
             wait_start: _,
+            tries_from: _,
+            former: _,
         } = self;
     }
 }
@@ -178,41 +206,46 @@ fn front_at(file: &File, cursor: &mut Cursor, alloc: Global) -> Result<Front, Fi
     })
 }
 
-/// Cuts off what stands at the position, all of which is torn.
-fn cut_off(file: &File, cursor: &mut Cursor) -> Result<(), FileFault>
-    requires torn { IsTorn cursor.old.ahead }
-    requires all { left cursor.old ≤ length cursor.old.ahead }
-    ensures ok { OnOk result (cursor.new ≡ cut cursor.old) }
-    ensures err { OnErr result ((cursor.new ≡ cursor.old) ⊎ (cursor.new ≡ cut cursor.old)) }
-{
-    if cursor.is_read() {
-        cursor.cut();
-        return Ok(());
-    }
-    if let Err(error) = file.set_len(cursor.position()) {
-        return Err(system_fault(&error));
-    }
-    cursor.cut();
-    match file.sync_data() {
-        Ok(()) => Ok(()),
-        Err(error) => Err(system_fault(&error)),
-    }
-}
-
-/// The entry at the position, or `None` where no more bytes stand there, after those are cut off that are torn.
-fn next_at(file: &File, cursor: &mut Cursor, alloc: Global) -> Result<Option<Entry>, FileFault>
+/// The entry at the position, or `None` where no more bytes stand there, after those are cut off that are torn, or a
+/// mark of a file that has the path. `Moved` where another file has it. Nothing is cut off of a snapshot, which was
+/// synchronized before anybody found it: one that ends early, or within an entry, is damaged.
+fn next_at<R: Files + AllocGlobal>(
+    rt: &R,
+    path: &str,
+    file: &File,
+    header: &Header,
+    cursor: &mut Cursor,
+    synchronizes: bool,
+) -> Result<Option<Entry>, FileFault>
     ensures shows { IfOk result (λ found. Shows found cursor.old cursor.new) }
+    ensures no_mark { IfOk result IsNoMark }
+    ensures whole { IfOk result (λ found. IsPastSnapshot found header.now cursor.old) }
+    ensures across { IfOk result (λ found. IsNotAcross found header.now cursor.new) }
     ensures spares { SparesEntries cursor.old cursor.new }
+    ensures sure { IfErr result (λ why. IsSureOfCuts synchronizes why cursor.old cursor.new) }
     ensures stays { (cursor.new.position ≡ cursor.old.position) × (cursor.new.state ≡ cursor.old.state) }
 {
     cursor.find(0);
-    match front_at(file, cursor, alloc)? {
+    match front_at(file, cursor, rt.alloc())? {
         Front::Whole { entry, count } => {
+            if is_mark(&entry) {
+                cut_mark(rt, path, file, header, cursor, count, synchronizes)?;
+                return Ok(None);
+            }
+            let at = cursor.position();
+            if is_across_end(at, cursor.end_of(count), header) {
+                return Err(FileFault::Damaged { at });
+            }
             cursor.find(count);
             Ok(Some(entry))
         }
         Front::Torn => {
-            cut_off(file, cursor)?;
+            if is_before_end(cursor.position(), header) {
+                return Err(FileFault::Damaged {
+                    at: cursor.position(),
+                });
+            }
+            cut_off(file, cursor, synchronizes)?;
             Ok(None)
         }
         Front::Damaged | Front::Unfinished => Err(FileFault::Damaged {
@@ -221,17 +254,39 @@ fn next_at(file: &File, cursor: &mut Cursor, alloc: Global) -> Result<Option<Ent
     }
 }
 
-/// Writes the bytes at this place, and synchronizes them where that is wanted.
-fn write(file: &File, form: &[u8], position: u64, synchronizes: bool) -> io::Result<()> {
-    file.write_all_at(form, position)?;
+/// Synchronizes what was done to the file, where that is wanted.
+fn synchronize(file: &File, synchronizes: bool) -> io::Result<()> {
     if synchronizes {
         return file.sync_data();
     }
     Ok(())
 }
 
+/// Writes the bytes at this place, and synchronizes them where that is wanted.
+fn write(file: &File, form: &[u8], position: u64, synchronizes: bool) -> io::Result<()> {
+    file.write_all_at(form, position)?;
+    synchronize(file, synchronizes)
+}
+
+/// Makes the file end at this place, and synchronizes that where it is wanted.
+fn shorten(file: &File, position: u64, synchronizes: bool) -> io::Result<()> {
+    file.set_len(position)?;
+    synchronize(file, synchronizes)
+}
+
+/// Takes back what a write at the end has left that failed by this error, and gives why it is refused. `Unsure` where
+/// it can't be taken back, or that can't be synchronized where it is wanted.
+fn take_back(file: &File, position: u64, synchronizes: bool, error: &io::Error) -> FileFault
+    ensures { (result ≡ fault.Unsure) ⊎ (result ≡ kind_fault (error_kind error.now)) }
+{
+    match shorten(file, position, synchronizes) {
+        Ok(()) => system_fault(error),
+        Err(_) => FileFault::Unsure,
+    }
+}
+
 /// Writes an entry at the position, all of it or nothing. `Unsure` where a part that was written could not be taken
-/// back.
+/// back, or may come back with the power though the options synchronize.
 fn append_at(
     file: &File,
     cursor: &mut Cursor,
@@ -254,10 +309,7 @@ fn append_at(
             cursor.append(count);
             Ok(())
         }
-        Err(error) => match file.set_len(position) {
-            Ok(()) => Err(system_fault(&error)),
-            Err(_) => Err(FileFault::Unsure),
-        },
+        Err(error) => Err(take_back(file, position, synchronizes, &error)),
     }
 }
 
@@ -271,6 +323,7 @@ impl<R: Files<File = File> + Clock + RandomSource + AllocGlobal + Drop> FileLog<
         ensures fault { IfOk result (λ log. log.fault ≡ None) }
         ensures options { IfOk result (λ log. log.options ≡ options) }
         ensures path { IfOk result (λ log. log.path ≡ string_bytes path) }
+        ensures none_begun { IfOk result (λ log. (log.tries_from ≡ first_tried log.header) × (log.former ≡ None)) }
         ensures err { IfErr result (λ error. error.path ≡ path) }
     {
         let alloc = rt.alloc();
@@ -284,6 +337,8 @@ impl<R: Files<File = File> + Clock + RandomSource + AllocGlobal + Drop> FileLog<
                 cursor: Cursor::new(alloc, HEADER_LENGTH as u64),
                 fault: None,
                 wait_start: None,
+                tries_from: first_tried(&header),
+                former: None,
             }),
             Err(fault) => Err(FileLogError::new(path, fault)),
         }
@@ -317,7 +372,7 @@ impl<R> FileLog<R> {
         self.cursor.position()
     }
 
-    /// Why the log refused the last call that it refused.
+    /// Why the log refused the last call that it refused, but for a compaction that was not begun.
     pub fn fault(&self) -> Option<FileFault>
         ensures { result ≡ self.now.fault }
     {
@@ -388,10 +443,15 @@ impl<R: Clock> FileLog<R> {
     }
 }
 
-impl<R: AllocGlobal> FileLog<R> {
+impl<R: Files + AllocGlobal> FileLog<R> {
     fn try_next(&mut self) -> Result<Option<Entry>, FileFault>
         ensures shows { IfOk result (λ found. Shows found self.old.cursor self.new.cursor) }
+        ensures no_mark { IfOk result IsNoMark }
+        ensures whole { IfOk result (λ found. IsPastSnapshot found self.old.header self.old.cursor) }
+        ensures across { IfOk result (λ found. IsNotAcross found self.old.header self.new.cursor) }
         ensures spares { SparesEntries self.old.cursor self.new.cursor }
+        ensures sure { IfErr result
+            (λ why. IsSureOfCuts self.old.options.synchronizes why self.old.cursor self.new.cursor) }
         ensures position { self.new.cursor.position ≡ self.old.cursor.position }
         ensures state { self.new.cursor.state ≡ self.old.cursor.state }
         ensures same { self.new ≡ record self.old { cursor = self.new.cursor } }
@@ -401,16 +461,25 @@ impl<R: AllocGlobal> FileLog<R> {
         if let Some(why) = self.cursor.why_not_held() {
             return Err(why);
         }
-        next_at(&self.file, &mut self.cursor, self.rt.alloc())
+        next_at(
+            &self.rt,
+            &self.path,
+            &self.file,
+            &self.header,
+            &mut self.cursor,
+            self.options.synchronizes,
+        )
     }
+}
 
+impl<R: AllocGlobal> FileLog<R> {
     fn try_append(&mut self, entry: &Entry) -> Result<(), FileFault>
         ensures ok { OnOk result (Appends entry.now self.old.cursor self.new.cursor) }
         ensures err { OnErr result (self.new.cursor ≡ self.old.cursor) }
         ensures same { self.new ≡ record self.old { cursor = self.new.cursor } }
-        ensures not_held { IfSome (why_not_held self.old.cursor.state) (λ why. result ≡ Err why) }
+        ensures not_alone { IfSome (why_not_alone self.old.cursor.state self.old.former) (λ why. result ≡ Err why) }
     {
-        if let Some(why) = self.cursor.why_not_held() {
+        if let Some(why) = self.why_not_alone() {
             return Err(why);
         }
         if !self.cursor.is_read() {
@@ -429,7 +498,7 @@ impl<R: AllocGlobal> FileLog<R> {
     }
 }
 
-impl<R: Clock + AllocGlobal> Log for FileLog<R> {
+impl<R: Files<File = File> + Clock + AllocGlobal> Log for FileLog<R> {
     ghost contents = { λ _. None };
 
     /// `Busy` where others held it as long as the options allow, and `Damaged` where the file is shorter than what was
@@ -450,12 +519,19 @@ impl<R: Clock + AllocGlobal> Log for FileLog<R> {
         }
     }
 
-    /// What is left of the file is cut off where it is torn, and then there is no entry.
+    /// What is left of the file is cut off where it is torn, or a mark of a file that has the path, and then there is
+    /// no entry. `Moved` where what is left is a mark, and another file has the path. A snapshot that ends early, or
+    /// within an entry, is damaged. Where the options synchronize and a cut could not be, the handle is used no more.
     fn next(&mut self) -> Result<Option<Entry>, LogError>
         ensures shows { IfOk result (λ found. Shows found self.old.cursor self.new.cursor) }
+        ensures no_mark { IfOk result IsNoMark }
+        ensures whole { IfOk result (λ found. IsPastSnapshot found self.old.header self.old.cursor) }
+        ensures across { IfOk result (λ found. IsNotAcross found self.old.header self.new.cursor) }
         ensures ok { OnOk result ((self.new.cursor.state ≡ self.old.cursor.state) × (self.new.fault ≡ self.old.fault)) }
         ensures err { IfErr result (λ e. IsRefused e self.new.fault self.old.cursor.state self.new.cursor.state) }
         ensures spares { SparesEntries self.old.cursor self.new.cursor }
+        ensures sure { OnErr result (IfSome self.new.fault
+            (λ why. IsSureOfCuts self.old.options.synchronizes why self.old.cursor self.new.cursor)) }
         ensures position { self.new.cursor.position ≡ self.old.cursor.position }
         ensures same { self.new ≡ record self.old { cursor = self.new.cursor; fault = self.new.fault } }
         ensures not_held { IfSome (why_not_held self.old.cursor.state)
@@ -474,7 +550,8 @@ impl<R: Clock + AllocGlobal> Log for FileLog<R> {
         self.cursor.accept();
     }
 
-    /// Where a part of the entry may stand that could not be taken back, the handle is used no more.
+    /// Where a part of the entry may stand that could not be taken back, or come back with the power though the options
+    /// synchronize, the handle is used no more. `Failed` while a compaction is begun.
     fn append(&mut self, entry: &Entry) -> Result<(), LogError>
         ensures ok { OnOk result (Appends entry.now self.old.cursor self.new.cursor
             × (self.new.fault ≡ self.old.fault)) }
@@ -483,6 +560,8 @@ impl<R: Clock + AllocGlobal> Log for FileLog<R> {
         ensures same { self.new ≡ record self.old { cursor = self.new.cursor; fault = self.new.fault } }
         ensures not_held { IfSome (why_not_held self.old.cursor.state)
             (λ why. (result ≡ Err (log_error_of why)) × (self.new.cursor ≡ self.old.cursor)) }
+        ensures not_alone { IfSome (why_not_alone self.old.cursor.state self.old.former)
+            (λ why. (result ≡ Err (log_error_of why)) × (self.new.fault ≡ Some why)) }
     {
         match self.try_append(entry) {
             Ok(()) => Ok(()),
@@ -490,14 +569,17 @@ impl<R: Clock + AllocGlobal> Log for FileLog<R> {
         }
     }
 
+    /// A compaction that is begun is given up before.
     fn let_go(&mut self)
-        ensures { self.new ≡ record self.old { cursor = let_go_of self.old.cursor } }
+        ensures { self.new ≡ freed (abandoned self.old) }
     {
+        self.go_back();
         let _ = self.file.unlock();
         self.cursor.let_go();
     }
 
-    /// False where the wait has taken the time that the options allow, and where the clock refuses.
+    /// False where the wait has taken the time that the options allow, and where the clock refuses. A compaction that
+    /// is begun is given up where the log is let go of.
     fn pause(&mut self, number: u64) -> bool
         ensures { Pauses result self.old self.new }
     {
@@ -507,5 +589,90 @@ impl<R: Clock + AllocGlobal> Log for FileLog<R> {
         self.let_go();
         thread::sleep(&self.rt, pause_after(number));
         true
+    }
+
+    /// Nothing changes but the fault where it is refused. `Failed` where a compaction is begun, or the file that has
+    /// the path is of another log, and `Busy` where others held it as long as the options allow.
+    fn rejoin(&mut self) -> Result<u64, LogError>
+        ensures ok { IfOk result (λ counter. Rejoins counter self.old self.new) }
+        ensures err { IfErr result (λ e. OnlyRefuses e self.old self.new) }
+        ensures not_alone { IfSome (why_not_alone self.old.cursor.state self.old.former)
+            (λ why. (result ≡ Err (log_error_of why)) × (self.new.fault ≡ Some why)) }
+    {
+        match self.located() {
+            Ok(found) => {
+                let counter = found.header.counter;
+                self.go_to(found);
+                Ok(counter)
+            }
+            Err(why) => {
+                self.fault = Some(why);
+                Err(log_error(why))
+            }
+        }
+    }
+
+    fn is_in_snapshot(&self) -> bool
+        ensures { IsTrue result ↔ (self.now.cursor.position < snapshot_end self.now.header) }
+    {
+        is_before_end(self.cursor.position(), &self.header)
+    }
+
+    /// It has more than 64 KiB, and as many as the next compaction waits for: eight times those up to the end of its
+    /// snapshot, or what the last one waits for that was refused or given up since this handle found the file.
+    fn is_long(&self) -> bool
+        ensures { IsTrue result ↔ IsLong self.now.cursor.file_length self.now.tries_from }
+    {
+        is_long(self.cursor.file_length(), self.tries_from)
+    }
+
+    /// `Failed` where one is begun, and where the file has fewer than eight times the bytes that the new one would
+    /// have: then the next is tried when it has so many. After any other error the next is tried 64 KiB later.
+    /// Nothing else changes, and no fault is kept: the log goes on as it is.
+    fn begin_compaction(&mut self, snapshot: &[Entry]) -> Result<u64, LogError>
+        ensures ok { IfOk result (λ counter. BeginsCompaction snapshot.now counter self.old self.new) }
+        ensures err { IfErr result (λ e. RefusesCompaction snapshot.now e self.old self.new) }
+        ensures not_alone { IfSome (why_not_alone self.old.cursor.state self.old.former)
+            (λ why. result ≡ Err (log_error_of why)) }
+    {
+        match self.prepared(snapshot) {
+            Ok(place) => {
+                let counter = place.snapshot.header.counter;
+                self.enter(place);
+                Ok(counter)
+            }
+            Err(declined) => {
+                self.tries_from = declined.tries_from;
+                Err(log_error(declined.why))
+            }
+        }
+    }
+
+    /// `Failed` where none is begun, or the snapshot isn't read to its end. Where the mark could not be taken back from
+    /// the old file, or the new one may lose the path with the power, the handle is used no more.
+    fn finish_compaction(&mut self) -> Result<(), LogError>
+        ensures ok { OnOk result (Finishes self.old self.new) }
+        ensures err { IfErr result (λ e. RefusesFinish e self.old self.new) }
+    {
+        match self.give_way() {
+            Ok(()) => {
+                self.former = None;
+                self.tries_from = first_tried(&self.header);
+                Ok(())
+            }
+            Err(why) => {
+                self.go_back();
+                Err(self.refuse(why))
+            }
+        }
+    }
+
+    /// The next one is tried when the file has 64 KiB more than it has now, also where none is begun: so a caller that
+    /// finds no snapshot puts off its next try.
+    fn abandon_compaction(&mut self)
+        ensures { self.new ≡ postponed (abandoned self.old) }
+    {
+        self.go_back();
+        self.tries_from = length_later(self.cursor.file_length());
     }
 }

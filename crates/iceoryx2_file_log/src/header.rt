@@ -1,5 +1,5 @@
-//! What stands before the entries in the file of a log: what file it is, which log it has, and with which number the
-//! counter of its services begins.
+//! What stands before the entries in the file of a log: what file it is, which log it has, with which number the
+//! counter of its services begins, and how long the snapshot is with which its entries begin.
 
 ghost use Rattle.std.specs.Prelude.{◌≡◌, ◌≢◌, ◌<◌, ◌^◌, ◌++◌, ◌↔◌, ℕ, Ok, Err, IfOk, OnOk, IfSome, All, length};
 ghost use Rattle.std.specs.Int.{w64};
@@ -16,10 +16,10 @@ use sha1::Sha1;
 use std::alloc::{AllocError, Global};
 
 /// How many bytes the header has.
-pub const HEADER_LENGTH: usize = 40;
+pub const HEADER_LENGTH: usize = 48;
 
 /// How many bytes the sum is of: all that stand before it.
-pub const SUMMED_LENGTH: usize = 32;
+pub const SUMMED_LENGTH: usize = 40;
 
 /// How many bytes of the SHA-1 of those before it the sum has.
 pub const SUM_LENGTH: usize = 8;
@@ -28,18 +28,18 @@ pub const SUM_LENGTH: usize = 8;
 pub const NAME_LENGTH: usize = 16;
 
 /// The version of the form of a log's file.
-pub const VERSION: u8 = 1;
+pub const VERSION: u8 = 2;
 
 /// By what the file of a log is known, and the version.
-const FRONT: [u8; 8] = *b"IOX2LOG\x01";
+const FRONT: [u8; 8] = *b"IOX2LOG\x02";
 
 /// The lengths and the version as numbers, since a wrong constant would go with the form that cites it.
 pub fn lengths()
-    ensures header { HEADER_LENGTH ≡ 40 }
-    ensures summed { SUMMED_LENGTH ≡ 32 }
+    ensures header { HEADER_LENGTH ≡ 48 }
+    ensures summed { SUMMED_LENGTH ≡ 40 }
     ensures sum { SUM_LENGTH ≡ 8 }
     ensures name { NAME_LENGTH ≡ 16 }
-    ensures version { VERSION ≡ 1 }
+    ensures version { VERSION ≡ 2 }
 {}
 
 /// The name of a log, by which it differs from all others.
@@ -52,6 +52,8 @@ pub struct Header {
     pub name: LogName,
     /// The number with which the counter of its services begins.
     pub counter: u64,
+    /// How many bytes the entries have with which the log begins: those of a compaction, and else none.
+    pub snapshot_length: u64,
 }
 
 /// Why bytes are no header.
@@ -100,6 +102,15 @@ fn fits(header: &Header)
 {
     name_fits(&header.name);
     let _counter = header.counter;
+    let _snapshot_length = header.snapshot_length;
+}
+
+fn put_numbers(out: &mut Vec<u8>, header: &Header) -> Result<(), AllocError>
+    ensures { OnOk result (out.new.items
+        ≡ out.old.items ++ (number header.now.counter ++ number header.now.snapshot_length)) }
+{
+    out.extend_from_slice(&header.counter.to_be_bytes())?;
+    out.extend_from_slice(&header.snapshot_length.to_be_bytes())
 }
 
 fn put_summed(out: &mut Vec<u8>, header: &Header) -> Result<(), AllocError>
@@ -107,7 +118,7 @@ fn put_summed(out: &mut Vec<u8>, header: &Header) -> Result<(), AllocError>
 {
     out.extend_from_slice(&FRONT)?;
     out.extend_from_slice(&header.name.0)?;
-    out.extend_from_slice(&header.counter.to_be_bytes())
+    put_numbers(out, header)
 }
 
 /// The byte form of the header.
@@ -193,17 +204,21 @@ fn summed_of(bytes: &[u8]) -> Option<&[u8]>
     Some(summed)
 }
 
-/// The name and the number.
+/// The name and the numbers.
 #[tactic(auto, unfolding(crate::specs::HeaderReading::fields_in))]
 fn fields_of(bytes: &[u8]) -> Option<Header>
     ensures { IsPart (λ h. h) result (fields_in bytes.now) }
 {
     let (name, rest) = bytes_of(NAME_LENGTH, bytes)?;
-    let (counter, _) = u64_at(rest)?;
+    let (counter, rest) = u64_at(rest)?;
+    let (snapshot_length, _) = u64_at(rest)?;
     let mut bytes = [0; NAME_LENGTH];
     bytes.copy_from_slice(name);
-    let name = LogName(bytes);
-    Some(Header { name, counter })
+    Some(Header {
+        name: LogName(bytes),
+        counter,
+        snapshot_length,
+    })
 }
 
 /// The header whose form the bytes are.

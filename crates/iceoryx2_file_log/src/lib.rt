@@ -2,6 +2,7 @@
 #![tactic(auto)]
 
 pub mod ahead;
+pub mod compaction;
 pub mod cursor;
 pub mod error;
 pub mod file_log;

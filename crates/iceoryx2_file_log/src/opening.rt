@@ -20,7 +20,7 @@ const OPENINGS: u32 = 8;
 
 /// By which the system knows a file: its device and its number there.
 #[derive(Clone, Copy, PartialEq, Eq)]
-struct FileNumber {
+pub(crate) struct FileNumber {
     device: u64,
     inode: u64,
 }
@@ -52,7 +52,7 @@ fn header_fault(error: HeaderError) -> FileFault
     }
 }
 
-fn number_of(metadata: &Metadata) -> FileNumber {
+pub(crate) fn number_of(metadata: &Metadata) -> FileNumber {
     FileNumber {
         device: metadata.dev(),
         inode: metadata.ino(),
@@ -60,7 +60,7 @@ fn number_of(metadata: &Metadata) -> FileNumber {
 }
 
 /// The file that has this path, or `None` where nothing has it. A symbolic link is not followed.
-fn looked_up(rt: &impl Files, path: &str) -> Result<Option<FileNumber>, FileFault>
+pub(crate) fn looked_up(rt: &impl Files, path: &str) -> Result<Option<FileNumber>, FileFault>
     ensures { IfErr result IsOfFile }
 {
     match fs::symlink_metadata(rt, path) {
@@ -164,7 +164,7 @@ pub fn find_file(rt: &impl Files<File = File>, path: &str) -> Result<Option<File
 }
 
 /// Synchronizes the folder of the path, so that a name that was made in it survives a power loss.
-fn sync_folder(rt: &impl Files<File = File>, path: &str) -> io::Result<()> {
+pub(crate) fn sync_folder(rt: &impl Files<File = File>, path: &str) -> io::Result<()> {
     let (folder, _) = split(path);
     let folder = File::open(rt, folder)?;
     folder.sync_all()
@@ -242,6 +242,7 @@ fn new_header(rt: &impl RandomSource) -> io::Result<Header> {
     Ok(Header {
         name: LogName(name),
         counter: 0,
+        snapshot_length: 0,
     })
 }
 
@@ -277,4 +278,20 @@ pub(crate) fn opened<R: Files<File = File> + RandomSource + AllocGlobal>(
     Err(FileFault::Failed {
         kind: ErrorKind::NotFound,
     })
+}
+
+/// Opens the file of the log that has this path now.
+pub(crate) fn reopened(
+    rt: &impl Files<File = File>,
+    path: &str,
+) -> Result<(File, Header), FileFault> {
+    match find_file(rt, path)? {
+        Some(file) => {
+            let header = read_header(&file)?;
+            Ok((file, header))
+        }
+        None => Err(FileFault::Failed {
+            kind: ErrorKind::NotFound,
+        }),
+    }
 }

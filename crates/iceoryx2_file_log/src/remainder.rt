@@ -5,6 +5,9 @@ ghost use Rattle.iceoryx2_log.specs.declared.entry.Entry as declared;
 ghost use Rattle.iceoryx2_log.specs.Form.{Begins, IsCutShort, header, sum_of as sum_at};
 ghost use Rattle.iceoryx2_file_log.specs.declared.remainder.Front.TheVariants as front;
 ghost use Rattle.iceoryx2_file_log.specs.Remainder.{HasWrongSum, IsTorn, NoneTornAway, WithOrWithout};
+ghost use Rattle.iceoryx2_file_log.specs.Crashes.{BeginsWithNone, EndsAt, OneListEach, AppendsOrNot, FrontsFit};
+ghost use Rattle.iceoryx2_file_log.specs.Crashes.{AppendsWhenWritten, KeepsAppended, CutsNoEntry, CutsOrNot};
+ghost use Rattle.iceoryx2_file_log.specs.Crashes.{NoneSkipped, NoneInvented};
 ghost use Rattle.iceoryx2_file_log.specs.Remainder.{has_wrong_sum_in, unread_in, malformed_in, refused_in};
 
 use iceoryx2_log::entry::Entry;
@@ -84,6 +87,9 @@ pub fn front_of(alloc: Global, bytes: &[u8], left: u64) -> Result<Front, AllocEr
     // What is cut off is torn, and all that is left.
     ensures torn { (result ≡ Ok front.Torn) ↔ (IsTorn bytes.now × (left ≤ length bytes.now)) }
     ensures unfinished { (result ≡ Ok front.Unfinished) ↔ (IsCutShort bytes.now × (length bytes.now < left)) }
+
+    // Behind the last entry, and with all that is left, they are torn or damaged.
+    ensures ends { BeginsWithNone bytes.now → left ≤ length bytes.now → EndsAt result }
 {
     match form::decode(alloc, bytes) {
         Ok((entry, count)) => Ok(Front::Whole { entry, count }),
@@ -134,4 +140,36 @@ pub fn laws_of_tearing()
 
     // What dies within an append leaves the entry, or what is cut off, and nothing else.
     ensures crash { WithOrWithout }
+{}
+
+/// What holds of a log's bytes, from its header's end on, after a crash of the machine at any moment. Until a write is
+/// synchronized a device may leave any bytes in its place, and elsewhere it leaves what was there.
+///
+/// The laws on appends have a premise: what is left in the place of the entry begins with no other one. It rests on the
+/// test that bytes have to meet, a length, its inversion, and 8 bytes of the SHA-1 over length and body.
+pub fn laws_of_crashes()
+    // Bytes stand for one list of entries.
+    ensures one { OneListEach }
+
+    // A crash within an append leaves the entries before, with this one or without, and nothing else.
+    ensures append { AppendsOrNot }
+
+    // A front of the entry meets the premise, and rests on no sum.
+    ensures fronts { FrontsFit }
+
+    // Once it is written it stands behind them.
+    ensures written { AppendsWhenWritten }
+
+    // What was appended and synchronized is left by each crash of a later append.
+    ensures kept { KeepsAppended }
+
+    // A crash while what stands behind the entries is cut off leaves the entries.
+    ensures cut { CutsNoEntry }
+
+    // A crash while the last entry is cut off leaves the others, with it or without.
+    ensures cut_last { CutsOrNot }
+
+    // A reader skips no entry, and invents none.
+    ensures none_skipped { NoneSkipped }
+    ensures none_invented { NoneInvented }
 {}

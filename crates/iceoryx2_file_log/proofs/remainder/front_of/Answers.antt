@@ -1,4 +1,4 @@
-use Rattle.iceoryx2_file_log.proofs.Torn.{whole_begins, same_whole, ok_torn, ok_unfinished, err_whole, err_only, err_memory, err_torn, err_unfinished}
+use Rattle.iceoryx2_file_log.proofs.Torn.{whole_begins, same_whole, ok_torn, ok_unfinished, err_whole, err_only, err_memory, err_torn, err_unfinished, err_ends}
 use Rattle.iceoryx2_file_log.proofs.remainder.front_of.Goals as goal
 
 pub returns-in-Ok-clause-whole : goal.returns-in-Ok-clause-whole
@@ -31,3 +31,10 @@ returns-in-Err-clause-torn c = err_torn c.args.bytes.now c.args.left c.in-Err.er
 pub returns-in-Err-clause-unfinished : goal.returns-in-Err-clause-unfinished
 returns-in-Err-clause-unfinished c = err_unfinished c.args.bytes.now c.args.left c.in-Err.error c.refused.result
     c.in-Err.ensures.cut_short c.in-Err.ensures.out_of_memory c.refused.ensures.ok c.refused.ensures.err
+
+pub returns-in-Ok-clause-ends : goal.returns-in-Ok-clause-ends
+returns-in-Ok-clause-ends c = λ quiet le. absurd (quiet c.in-Ok.entry c.in-Ok.count c.in-Ok.ensures.found)
+
+pub returns-in-Err-clause-ends : goal.returns-in-Err-clause-ends
+returns-in-Err-clause-ends c = err_ends c.args.bytes.now c.args.left c.in-Err.error c.refused.result
+    c.in-Err.ensures.out_of_memory c.refused.ensures.ok c.refused.ensures.err

@@ -1,0 +1,159 @@
+//! The file beside the one of a log, to which a compaction goes.
+
+ghost use Rattle.std.specs.Prelude.{◌≡◌, ◌≢◌, ◌≤◌, IfOk, IfErr};
+ghost use Rattle.iceoryx2_file_log.specs.declared.error.FileFault.TheVariants as fault;
+ghost use Rattle.iceoryx2_file_log.specs.declared.header.TheConstants.{HEADER_LENGTH};
+
+use super::{lock, measured};
+use crate::compaction::{Access, keeps_access};
+use crate::error::{FileFault, system_fault};
+use crate::header::{HEADER_LENGTH, Header, LogName};
+use crate::opening::{number_of, reopened};
+use std::fs::{self, File, OpenOptions};
+use std::io::{self, ErrorKind};
+use std::os::unix::fs::{FileExt, MetadataExt, OpenOptionsExt};
+use std::rt::Files;
+use std::time::{Clock, Duration};
+
+/// The bits of a file's mode for its user alone.
+const USER_MODE: u32 = 0o600;
+
+fn access_of(file: &File) -> io::Result<Access> {
+    let metadata = file.metadata()?;
+    Ok(Access {
+        user: metadata.uid(),
+        group: metadata.gid(),
+        mode: metadata.mode(),
+    })
+}
+
+/// Makes an empty file, in place of what a process left there that died. A symbolic link is removed too, and never
+/// followed.
+fn create(rt: &impl Files<File = File>, beside: &str) -> io::Result<File> {
+    if let Err(error) = fs::remove_file(rt, beside) {
+        if error.kind() != ErrorKind::NotFound {
+            return Err(error);
+        }
+    }
+    OpenOptions::new()
+        .read(true)
+        .write(true)
+        .create_new(true)
+        .mode(USER_MODE)
+        .open(rt, beside)
+}
+
+/// Gives the file the mode of the log's own, and these bytes, and synchronizes it. An `Err` where somebody could not
+/// use it who can use the own one.
+fn fill(file: &File, own: &File, bytes: &[u8]) -> io::Result<()> {
+    if !keeps_access(access_of(own)?, access_of(file)?) {
+        return Err(ErrorKind::PermissionDenied.into());
+    }
+    file.set_permissions(own.metadata()?.permissions())?;
+    file.write_all_at(bytes, 0)?;
+    file.sync_all()
+}
+
+/// Fills the file and locks it.
+fn prepare(
+    clock: &impl Clock,
+    file: &File,
+    own: &File,
+    bytes: &[u8],
+    patience: Duration,
+) -> Result<(), FileFault>
+    ensures { IfErr result (λ why. why ≢ fault.NothingSaved) }
+{
+    if let Err(error) = fill(file, own, bytes) {
+        return Err(system_fault(&error));
+    }
+    lock(clock, file, patience)
+}
+
+/// Makes the file of this path, of these bytes and of the own one's mode, synchronized and locked. Nothing is left
+/// where that is refused.
+pub(super) fn make_beside<R: Files<File = File> + Clock>(
+    rt: &R,
+    beside: &str,
+    own: &File,
+    bytes: &[u8],
+    patience: Duration,
+) -> Result<File, FileFault>
+    ensures { IfErr result (λ why. why ≢ fault.NothingSaved) }
+{
+    let file = match create(rt, beside) {
+        Ok(file) => file,
+        Err(error) => return Err(system_fault(&error)),
+    };
+    match prepare(rt, &file, own, bytes, patience) {
+        Ok(()) => Ok(file),
+        Err(why) => {
+            let _ = fs::remove_file(rt, beside);
+            Err(why)
+        }
+    }
+}
+
+/// The file that has a log's path now, held.
+#[derive(Drop)]
+pub(super) struct Located {
+    /// `None` where it is the own one.
+    pub file: Option<File>,
+    pub header: Header,
+    pub file_length: u64,
+}
+
+fn is_same(one: &File, other: &File) -> io::Result<bool> {
+    Ok(number_of(&one.metadata()?) == number_of(&other.metadata()?))
+}
+
+/// Locks the file, unless it is the own one, which is locked.
+fn locked(
+    clock: &impl Clock,
+    file: File,
+    own: &File,
+    patience: Duration,
+) -> Result<Option<File>, FileFault> {
+    match is_same(&file, own) {
+        Err(error) => Err(system_fault(&error)),
+        Ok(true) => Ok(None),
+        Ok(false) => {
+            lock(clock, &file, patience)?;
+            Ok(Some(file))
+        }
+    }
+}
+
+/// How long the file is where there is one, and else the own one, at least as long as a header.
+fn length_of(file: &Option<File>, own: &File) -> Result<u64, FileFault>
+    ensures { IfOk result (λ file_length. HEADER_LENGTH ≤ file_length) }
+{
+    match file {
+        Some(file) => measured(file, HEADER_LENGTH as u64),
+        None => measured(own, HEADER_LENGTH as u64),
+    }
+}
+
+/// Opens the file that has the path now, of the log of this name, and locks it. `AnotherLog` where it is of another
+/// one.
+pub(super) fn locate<R: Files<File = File> + Clock>(
+    rt: &R,
+    path: &str,
+    own: &File,
+    name: LogName,
+    patience: Duration,
+) -> Result<Located, FileFault>
+    ensures { IfOk result (λ found. (found.header.name ≡ name) × (HEADER_LENGTH ≤ found.file_length)) }
+{
+    let (file, header) = reopened(rt, path)?;
+    if header.name != name {
+        return Err(FileFault::AnotherLog);
+    }
+    let file = locked(rt, file, own, patience)?;
+    let file_length = length_of(&file, own)?;
+    Ok(Located {
+        file,
+        header,
+        file_length,
+    })
+}
