@@ -1,23 +1,25 @@
 -- What following an entry comes to.
-use Rattle.std.proofs.Common.{◌≡◌, inl, inr, ℕ, false, List, [], ◌∷◌, ◌++◌, Result, Ok, Err, refl, sym, ap, subst}
+use Rattle.std.proofs.Common.{◌≡◌, inl, inr, ℕ, ◌-◌, false, List, [], ◌∷◌, ◌++◌, Result, Ok, Err, refl, sym, ap, subst}
 use Rattle.iceoryx2_description.specs.declared.description.ServiceHash.{ServiceHash}
 use Rattle.std.specs.Prelude.{true, is_ok}
 use Rattle.iceoryx2_access.specs.declared.storage.Release.{Release as Released}
 use Rattle.iceoryx2_access.specs.declared.storage.ReleaseError.{ReleaseError}
 use Rattle.iceoryx2_access.specs.Letter.{Letter, caller_of}
 use Rattle.iceoryx2_access.specs.Letter as letter
-use Rattle.iceoryx2_access.specs.Run.{done, Each}
+use Rattle.iceoryx2_access.specs.Run.{Run, done, Each}
 use Rattle.iceoryx2_access.proofs.Run.{one, both}
 use Rattle.iceoryx2_world.specs.World.{World}
 use Rattle.iceoryx2_world.specs.Access.{IsOwnPart}
 use Rattle.iceoryx2_table.specs.Recorded.{IsRecordedPart, untouched, recorded, declined, is_written}
 use Rattle.iceoryx2_table.proofs.Recording.{is_own_part}
+use Rattle.iceoryx2_table.specs.Spending.{Spends, LocksOrGivesUp, locks_and_gives_up}
+use Rattle.iceoryx2_table.proofs.NumbersSpent.{spending_is_locking}
 use Rattle.iceoryx2_log.specs.declared.entry.Deed.{Deed}
 use Rattle.iceoryx2_log.specs.declared.entry.Deed.TheVariants as deed
 use Rattle.iceoryx2_log.specs.declared.entry.Entry.{Entry}
 use Rattle.iceoryx2_journal.specs.declared.follow.FollowError.{FollowError}
 use Rattle.iceoryx2_journal.specs.declared.follow.FollowError.TheVariants as errors
-use Rattle.iceoryx2_journal.specs.Follow.{Grants, IsEntryOf, MayFetch, Prepares, IsFollowed, ActsAlone, Follows, Judges}
+use Rattle.iceoryx2_journal.specs.Follow.{Grants, IsEntryOf, MayFetch, Prepares, IsFollowed, granted, spent, ActsAlone, Follows, Judges}
 
 -- What isn't written leaves the world.
 pub unwritten : {R : Type 0} {written refused : R → R → Type 0} {before after : R} {w v : World} {l : Letter} → is_written w l ≡ false → IsRecordedPart written refused w l v before after → v ≡ w
@@ -27,6 +29,9 @@ unwritten e (declined fault same refuses) = same
 
 pub acts_not : {i : ℕ} {w : World} → ActsAlone i w w
 acts_not = record { word = []; is_word = tt; run = done }
+
+pub stays_alone : {i : ℕ} {w v : World} → v ≡ w → ActsAlone i w v
+stays_alone {i} {w} same = subst (ActsAlone i w) (sym same) acts_not
 
 pub each_more : {A : Type 0} (P : A → Type 0) (xs : List A) {x : A} → Each P xs → P x → Each P (xs ++ x ∷ [])
 each_more P [] e p = (p, tt)
@@ -47,7 +52,7 @@ fetch_acts {i} {h} (inr x) = acts_once_more (letter.Fetch i h x.0) acts_not refl
 pub judged : {R : Type 0} {before after : R} {G F : Type 0} {w u v : World} (e : Entry) (l : Letter) (r : Result (Unit {0}) FollowError) → Judges G F r
     → Prepares e.node e.hash e.deed w u → ActsAlone e.node w u → caller_of l ≡ e.node → (G → IsEntryOf e l) → (F → is_written u l ≡ false)
     → IsRecordedPart {R = R} (λ _ _. Unit {0}) (λ _ _. ⊥) u l v before after → Follows e r w v
-judged {u} e l (Ok x) j p acts mine is_entry is_refused part = record { ready = u; letter = l; prepares = p; is_entry = is_entry j; part = is_own_part (λ _ _ no. no) part }
+judged {u} e l (Ok x) j p acts mine is_entry is_refused part = granted u l p (is_entry j) (is_own_part (λ _ _ no. no) part)
 judged {w} e l (Err errors.OutOfMemory) j p acts mine is_entry is_refused part = subst (λ x. Prepares e.node e.hash e.deed w x) (sym (unwritten (is_refused j) part)) p
 judged e l (Err errors.Disagrees) j p acts mine is_entry is_refused part = acts_once_more l acts mine (is_own_part (λ _ _ no. no) part)
 
@@ -62,6 +67,8 @@ prepare_acts {i} h deed.RemoveSegment {w} p = subst (ActsAlone i w) (sym p) acts
 prepare_acts {i} h deed.RemoveDescription {w} p = subst (ActsAlone i w) (sym p) acts_not
 prepare_acts {i} h (deed.Publish n b) {w} p = subst (ActsAlone i w) (sym p) acts_not
 prepare_acts {i} h (deed.Release t n) {w} p = subst (ActsAlone i w) (sym p) acts_not
+prepare_acts {i} h (deed.Spend n) {w} p = subst (ActsAlone i w) (sym p) acts_not
+prepare_acts {i} h deed.Moved {w} p = subst (ActsAlone i w) (sym p) acts_not
 
 entry_caller : (i : ℕ) (h : ServiceHash) (d : Deed) (l : Letter) → Grants i h d l → caller_of l ≡ i
 entry_caller i h deed.MakeTag l g = ap caller_of g
@@ -73,10 +80,35 @@ entry_caller i h deed.RemoveDescription l g = ap caller_of g
 entry_caller i h (deed.Publish n b) l g = ap caller_of g.2
 entry_caller i h (deed.OpenSegment n t) l g = ap caller_of g
 entry_caller i h (deed.Release t n) l g = ap caller_of g.1
+entry_caller i h (deed.Spend n) l g = absurd g
+entry_caller i h deed.Moved l g = absurd g
+
+each_as : {A : Type 0} (P Q : A → Type 0) → ((x : A) → P x → Q x) → (xs : List A) → Each P xs → Each Q xs
+each_as P Q f [] e = tt
+each_as P Q f (x ∷ xs) e = (f x e.0, each_as P Q f xs e.1)
+
+locks_caller : (i : ℕ) (h : ServiceHash) (l : Letter) → LocksOrGivesUp i h l → caller_of l ≡ i
+locks_caller i h l (inl x) = ap caller_of x.1
+locks_caller i h l (inr e) = ap caller_of e
+
+-- Numbers are spent by locks that are given up.
+pub record SpentBy (i : ℕ) (h : ServiceHash) (w v : World) : Type 0 where
+  pub word : List Letter
+  pub locks : Each (LocksOrGivesUp i h) word
+  pub run : Run IsOwnPart w word v
+
+pub spent_by_locks : {i n : ℕ} {h : ServiceHash} {w v : World} → Spends i h n w v → SpentBy i h w v
+spent_by_locks {i} {n} {h} {w} {v} s =
+    let x = spending_is_locking i h n w v s in record { word = locks_and_gives_up i h w.counter (n - w.counter); locks = x.1; run = x.0 }
+
+pub spend_acts : {i n : ℕ} {h : ServiceHash} {w v : World} → Spends i h n w v → ActsAlone i w v
+spend_acts {i} {h = h} s =
+    let x = spent_by_locks s in record { word = x.word; is_word = each_as (LocksOrGivesUp i h) (λ l. caller_of l ≡ i) (locks_caller i h) x.word x.locks; run = x.run }
 
 -- An entry that is followed is accesses of its node.
 pub followed_acts : {w v : World} (e : Entry) → IsFollowed w e v → ActsAlone e.node w v
-followed_acts e f = acts_once_more f.letter (prepare_acts e.hash e.deed f.prepares) (entry_caller e.node e.hash e.deed f.letter f.is_entry) f.part
+followed_acts e (granted u l p is part) = acts_once_more l (prepare_acts e.hash e.deed p) (entry_caller e.node e.hash e.deed l is) part
+followed_acts e (spent n is s) = spend_acts s
 
 pub release_granted : (t i : ℕ) (h : ServiceHash) (n : ℕ) (a : Result Released ReleaseError) → is_ok a ≡ true → Grants i h (deed.Release t n) (letter.Release t i h n a)
 release_granted t i h n (Ok left) ok = (left, refl)

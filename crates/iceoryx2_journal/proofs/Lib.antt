@@ -13,3 +13,4 @@ pub mod Processes
 pub mod GivingBack
 pub mod Cleaned
 pub mod Lives
+pub mod Catching

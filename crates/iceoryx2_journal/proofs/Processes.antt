@@ -13,6 +13,7 @@ use Rattle.iceoryx2_access.specs.Letter.{Letter}
 use Rattle.iceoryx2_access.specs.Letter as letter
 use Rattle.iceoryx2_access.specs.Registered.{Registered}
 use Rattle.iceoryx2_access.specs.Run.{Run, done, next, Each}
+use Rattle.iceoryx2_access.proofs.Run.{both}
 use Rattle.iceoryx2_world.specs.Sets as set
 use Rattle.iceoryx2_world.specs.declared.world.Participant.{Participant}
 use Rattle.iceoryx2_world.specs.declared.world.Participant.TheVariants.{Node}
@@ -38,14 +39,16 @@ use Rattle.iceoryx2_log.specs.declared.entry.Deed.{Deed}
 use Rattle.iceoryx2_log.specs.declared.entry.Deed.TheVariants as deed
 use Rattle.iceoryx2_log.specs.declared.entry.Entry.{Entry}
 use Rattle.iceoryx2_log.specs.Log.{Contents}
+use Rattle.iceoryx2_table.specs.Spending.{Spends, LocksOrGivesUp}
 use Rattle.iceoryx2_journal.specs.Follow.{Grants, IsEntryOf}
 use Rattle.iceoryx2_journal.specs.Taking.{is_own}
 use Rattle.iceoryx2_journal.specs.Journal.{JournalState}
-use Rattle.iceoryx2_journal.specs.Replay.{ComesTo, fetches, happens, HasTaken}
+use Rattle.iceoryx2_journal.specs.Replay.{ComesTo, fetches, happens, spends, HasTaken}
 use Rattle.iceoryx2_journal.specs.Replay as replay
-use Rattle.iceoryx2_journal.specs.Same.{IsSameButRead}
+use Rattle.iceoryx2_table.specs.Same.{IsSameButRead}
 use Rattle.iceoryx2_journal.specs.Processes.{published_number, published_numbers, release_of, AllSpare, AreOfOthers, HasRead, StandsAtTheEnd, HasPart}
 use Rattle.iceoryx2_journal.specs.Processes.{AgreesInEach, GoesOnFromOthers, PublishesOnce, CarriesOneDescription, StandsInOthers, OwnStandsInOthers, OwnStandsAtTheEnd, FewHaveAPart}
+use Rattle.iceoryx2_journal.proofs.Following.{spent_by_locks}
 use Rattle.iceoryx2_journal.proofs.Replaying.{is_what_it_comes_to}
 use Rattle.iceoryx2_journal.proofs.SameWorlds.{same_itself, one_world}
 
@@ -82,11 +85,21 @@ parted (x ∷ es) fs (happens {es = rest} y l is p c) e =
     let left : rest ≡ es ++ fs = cc in
     let s = parted es fs c left in
     record { mid = s.mid; first = happens x l (subst (λ z. IsEntryOf z l) same is) p s.first; second = s.second }
+parted (x ∷ es) fs {w} (spends {u} {es = rest} y n is p c) e =
+    let same : y ≡ x = cc in
+    let left : rest ≡ es ++ fs = cc in
+    let s = parted es fs c left in
+    let is_spent = subst (λ (z : Entry). z.deed ≡ deed.Spend n) same is in
+    let spent = subst (λ (z : Entry). Spends z.node z.hash n w u) same p in
+    record { mid = s.mid; first = spends x n is_spent spent s.first; second = s.second }
 
 comes_run : {w v : World} {es : List Entry} → ComesTo w es v → (word : List Letter) × Run IsOwnPart w word v
 comes_run replay.nothing = ([], done)
 comes_run (fetches i h a p c) = let r = comes_run c in (letter.Fetch i h a ∷ r.0, next p r.1)
 comes_run (happens e l is p c) = let r = comes_run c in (l ∷ r.0, next p r.1)
+comes_run (spends {w} {u} e n is s c) =
+    let x = spent_by_locks s in
+    let r = comes_run c in (x.word ++ r.0, both x.run r.1)
 
 comes_keep : {w v : World} {es : List Entry} → ComesTo w es v → KeepsAgreement w v
 comes_keep c = keeps_along own_keeps (comes_run c).1
@@ -118,6 +131,23 @@ entry_spares f i h (deed.MakeSegment n m) l g other = subst (Spares f) (sym g) t
 entry_spares f i h deed.RemoveSegment l g other = subst (Spares f) (sym g) tt
 entry_spares f i h deed.RemoveDescription l g other = subst (Spares f) (sym g) tt
 entry_spares f i h (deed.OpenSegment n t) l g other = subst (Spares f) (sym g) tt
+entry_spares f i h (deed.Spend n) l g other = absurd g
+entry_spares f i h deed.Moved l g other = absurd g
+
+-- an access that locks or gives a lock up
+lock_spares : (f : Registered) (i : ℕ) (h : ServiceHash) (l : Letter) → LocksOrGivesUp i h l → Spares f l
+lock_spares f i h l (inl x) = subst (Spares f) (sym x.1) tt
+lock_spares f i h l (inr e) = subst (Spares f) (sym e) tt
+
+word_stands : (f : Registered) (word : List Letter) {w v : World} → Run IsOwnPart w word v → Each (Spares f) word → Agrees w → Stands w f → Stands v f
+word_stands f [] done spares old is = is
+word_stands f (l ∷ word) {w} (next {mid} p r) spares old is = word_stands f word r spares.1 (own_keeps w l mid p old).0 (part_stands f l p spares.0 old is)
+
+spent_keeps : {i n : ℕ} {h : ServiceHash} {w v : World} → Spends i h n w v → KeepsAgreement w v
+spent_keeps s = keeps_along own_keeps (spent_by_locks s).run
+
+spent_stands : (f : Registered) {i n : ℕ} {h : ServiceHash} {w v : World} → Spends i h n w v → Agrees w → Stands w f → Stands v f
+spent_stands f {i} {n} {h} s old is = let x = spent_by_locks s in word_stands f x.word x.run (each_as (LocksOrGivesUp i h) (Spares f) (lock_spares f i h) x.word x.locks) old is
 
 -- It stands on, whatever entries come that don't release its ticket.
 comes_stands : (f : Registered) (es : List Entry) {w v : World} → ComesTo w es v → AllSpare f es → Agrees w → Stands w f → Stands v f
@@ -126,6 +156,8 @@ comes_stands f es {w} (fetches {u} i h a p c) others old is =
     comes_stands f es c others (own_keeps w (letter.Fetch i h a) u p old).0 (part_stands f (letter.Fetch i h a) p tt old is)
 comes_stands f (x ∷ es) {w} (happens {u} e l granted p c) others old is =
     comes_stands f es c others.1 (own_keeps w l u p old).0 (part_stands f l p (entry_spares f e.node e.hash e.deed l granted others.0) old is)
+comes_stands f (x ∷ es) {w} (spends {u} e n is s c) others old standing =
+    comes_stands f es c others.1 (spent_keeps s old).0 (spent_stands f s old standing)
 
 -- entries of other nodes don't release it
 others_spare : (nodes : List ℕ) (f : Registered) → is_own nodes f.node ≡ true → (es : List Entry) → AreOfOthers nodes es → AllSpare f es
@@ -191,6 +223,10 @@ never_again n (y ∷ es) {w} (happens {u} e l granted p c) old used =
     let x = publishes e.node e.hash e.deed l m granted is in
     let locked = publish_locked w u e.node e.hash m x.0 m (subst (λ k. IsOwnPart w k u) x.1 p) old in
     other_number n m (λ same. used.1 e.hash (locked ∙ ap (λ k. Some (row.Locked k)) (sym same)))) (never_again n es c kept.0 (used_later n kept.1 used))
+never_again n (y ∷ es) {w} (spends {u} e m is s c) old used =
+    let kept = spent_keeps s old in
+    let none : published_number e.deed ≡ None = ap published_number is in
+    subst (λ o. AllByRecursion (λ k. nat_eq n k ≡ false) (cons_option o (published_numbers es))) (sym none) (never_again n es c kept.0 (used_later n kept.1 used))
 
 each_once : (es : List Entry) {w v : World} → ComesTo w es v → Agrees w → IsDistinct nat_eq (published_numbers es)
 unfolding IsDistinct
@@ -201,6 +237,9 @@ each_once (y ∷ es) {w} (happens {u} e l granted p c) old =
     cons_distinct (published_number e.deed) (published_numbers es) (λ m is.
     let x = publishes e.node e.hash e.deed l m granted is in
     never_again m es c kept.0 (publish_uses w u e.node e.hash m x.0 m (subst (λ k. IsOwnPart w k u) x.1 p) old)) (each_once es c kept.0)
+each_once (y ∷ es) {w} (spends {u} e m is s c) old =
+    let none : published_number e.deed ≡ None = ap published_number is in
+    subst (λ o. IsDistinct nat_eq (cons_option o (published_numbers es))) (sym none) (each_once es c (spent_keeps s old).0)
 
 -- ---- one description
 

@@ -12,12 +12,12 @@ use Rattle.iceoryx2_log.specs.declared.entry.Deed.TheVariants as deed
 use Rattle.iceoryx2_log.specs.declared.entry.Entry.{Entry}
 use Rattle.iceoryx2_log.specs.Log.{Contents, WhereKnown, Appends}
 use Rattle.iceoryx2_journal.specs.declared.taking.Stop.{Stop}
-use Rattle.iceoryx2_journal.specs.Follow.{IsFollowed, Prepares}
-use Rattle.iceoryx2_journal.specs.Taking.{Takes, TakesOver, Stops, unread, starved, own, disagrees, ends}
+use Rattle.iceoryx2_journal.specs.Follow.{IsFollowed, granted, spent, Prepares}
+use Rattle.iceoryx2_journal.specs.Taking.{Takes, TakesOver, Stops, unread, starved, own, disagrees, astray, ends}
 use Rattle.iceoryx2_journal.specs.Logged.{ReadsAtMost, IsLoggedPart, unwritten, written, declined}
 use Rattle.iceoryx2_journal.specs.Journal.{JournalState, TakesAll, Fails, Begins, barred, stopped, IsJournalAccess, fails, acts}
 use Rattle.iceoryx2_journal.specs.Laws.{ReplaysTheLog, IsWhatTheLogComesTo}
-use Rattle.iceoryx2_journal.specs.Replay.{ComesTo, nothing, fetches, happens, Moves, Replays, Lives, begun, accesses, refreshes, cleans, adopts}
+use Rattle.iceoryx2_journal.specs.Replay.{ComesTo, nothing, fetches, happens, spends, Moves, Replays, Lives, begun, accesses, refreshes, cleans, adopts}
 use Rattle.iceoryx2_journal.specs.Cleaning.{Adopts, CleansBy}
 use Rattle.iceoryx2_journal.specs.declared.cleaning.AdoptError.{AdoptError}
 use Rattle.iceoryx2_journal.specs.declared.cleaning.AdoptError.TheVariants as adopting
@@ -30,6 +30,7 @@ comes_both : {w u v : World} {es fs : List Entry} → ComesTo w es u → ComesTo
 comes_both nothing d = d
 comes_both (fetches i h a p c) d = fetches i h a p (comes_both c d)
 comes_both (happens e l is p c) d = happens e l is p (comes_both c d)
+comes_both (spends e n is s c) d = spends e n is s (comes_both c d)
 
 comes_same : {w v : World} → v ≡ w → ComesTo w [] v
 comes_same {w} same = subst (λ x. ComesTo w [] x) (sym same) nothing
@@ -45,9 +46,12 @@ prepared i h deed.RemoveSegment p = comes_same p
 prepared i h deed.RemoveDescription p = comes_same p
 prepared i h (deed.Publish n b) p = comes_same p
 prepared i h (deed.Release t n) p = comes_same p
+prepared i h (deed.Spend n) p = comes_same p
+prepared i h deed.Moved p = comes_same p
 
 followed_comes : {w v : World} (e : Entry) → IsFollowed w e v → ComesTo w (e ∷ []) v
-followed_comes e f = comes_both (prepared e.node e.hash e.deed f.prepares) (happens e f.letter f.is_entry f.part nothing)
+followed_comes e (granted u l p is part) = comes_both (prepared e.node e.hash e.deed p) (happens e l is part nothing)
+followed_comes e (spent n is s) = spends e n is s nothing
 
 entries_come : {w v : World} {es : List Entry} → Run IsFollowed w es v → ComesTo w es v
 entries_come done = nothing
@@ -80,6 +84,7 @@ moved_from es x y c d old new none m =
 -- What isn't taken over leaves a world to which no entry comes, where the journal isn't over then.
 stops_come : {nodes : List ℕ} {c : Option Contents} {s : Stop} {w v : World} (over : Bool) → over ≡ false → over ≡ ends s → Stops nodes c w s v → ComesTo w [] v
 stops_come over going is_over (unread is same) = comes_same same
+stops_come over going is_over (astray is unknown same) = comes_same same
 stops_come over going is_over (starved e is front f p) = prepared e.node e.hash e.deed p
 stops_come over going is_over (own e is front f same) = let x = ap ends is in absurd (cc)
 stops_come over going is_over (disagrees e is front f a) = let x = ap ends is in absurd (cc)

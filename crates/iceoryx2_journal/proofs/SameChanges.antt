@@ -32,7 +32,7 @@ use Rattle.iceoryx2_world.proofs.AccessCases.{same_number}
 use Rattle.iceoryx2_log.specs.declared.entry.Deed.{Deed}
 use Rattle.iceoryx2_log.specs.declared.entry.Deed.TheVariants as deed
 use Rattle.iceoryx2_journal.specs.Follow.{Grants}
-use Rattle.iceoryx2_journal.specs.Same.{settled}
+use Rattle.iceoryx2_table.specs.Same.{settled}
 
 -- ---- phases
 
@@ -210,3 +210,5 @@ module _ (i : ℕ) (h : ServiceHash) (r : Option Row) (g : Option Segment) (k : 
   one_change x y e (deed.Release u n) l o c d f w p q =
       one_sure_answer (release_with i h (view_at x) u n) (release_with i h (view_at y) u n) f.0 w.0 c d (same_release u n x y e)
       (subst (λ z. IsNodeAnswer i h (view_at x) z c) f.1 p) (subst (λ z. IsNodeAnswer i h (view_at y) z d) w.1 q)
+  one_change x y e (deed.Spend n) l o c d f w p q = absurd f
+  one_change x y e deed.Moved l o c d f w p q = absurd f

@@ -20,14 +20,15 @@ use Rattle.iceoryx2_world.specs.Steps.{ServiceView, put}
 use Rattle.iceoryx2_world.specs.Access.{Change, node_view, set_tag, write, read_change, own_step, IsAnswer, IsNodeAnswer, IsOwnPart, fetch_of}
 use Rattle.iceoryx2_world.proofs.agreement.Worlds.{place_cases}
 use Rattle.iceoryx2_table.proofs.Views.{kept}
+use Rattle.iceoryx2_table.specs.Spending.{Spends}
 use Rattle.iceoryx2_log.specs.declared.entry.Deed.{Deed}
 use Rattle.iceoryx2_log.specs.declared.entry.Deed.TheVariants as deed
 use Rattle.iceoryx2_log.specs.declared.entry.Entry.{Entry}
 use Rattle.iceoryx2_log.specs.Log.{Contents}
 use Rattle.iceoryx2_journal.specs.Follow.{Grants, IsEntryOf}
-use Rattle.iceoryx2_journal.specs.Replay.{ComesTo, fetches, happens}
+use Rattle.iceoryx2_journal.specs.Replay.{ComesTo, fetches, happens, spends}
 use Rattle.iceoryx2_journal.specs.Replay as replay
-use Rattle.iceoryx2_journal.specs.Same.{settled, IsSameButRead}
+use Rattle.iceoryx2_table.specs.Same.{settled, IsSameButRead}
 use Rattle.iceoryx2_journal.specs.Laws.{OneWorldEach, ShowsOneWorld}
 use Rattle.iceoryx2_journal.proofs.Replaying.{is_what_it_comes_to}
 use Rattle.iceoryx2_journal.proofs.SameChanges.{view_at, one_change}
@@ -108,6 +109,8 @@ entry_place i h deed.RemoveDescription l g = (ap caller_of g, ap service_of g)
 entry_place i h (deed.Publish n b) l g = (ap caller_of g.2, ap service_of g.2)
 entry_place i h (deed.OpenSegment n t) l g = (ap caller_of g, ap service_of g)
 entry_place i h (deed.Release t n) l g = (ap caller_of g.1, ap service_of g.1)
+entry_place i h (deed.Spend n) l g = absurd g
+entry_place i h deed.Moved l g = absurd g
 
 -- an own part, of this node at this service
 record PartAt (i : ℕ) (h : ServiceHash) (w : World) (l : Letter) (v : World) : Type 0 where
@@ -137,6 +140,32 @@ same_parts {u} {v} {w} {x} e l o f g s p q =
     let one : a.change ≡ b.change = one_change i h (row_of u h) (segment_of u h) u.counter (tag_of u i h) u.tickets (phase_of u (Node i) h) (phase_of v (Node i) h) (sym (s.phases (Node i) h)) e.deed l o a.change b.change f g a.own at_v in
     let written = same_write u v i h a.change s in
     subst (λ z. IsSameButRead z x) (sym a.is) (subst (λ z. IsSameButRead (write u i h a.change) z) (sym (b.is ∙ ap (write v i h) (sym one))) written)
+
+-- an entry's access, or the numbers that it spends
+data Effect (e : Entry) (w v : World) : Type 0 where
+  accessed : (l : Letter) → IsEntryOf e l → IsOwnPart w l v → Effect e w v
+  spent : (n : ℕ) → e.deed ≡ deed.Spend n → Spends e.node e.hash n w v → Effect e w v
+
+spends_none : (e : Entry) (n : ℕ) (l : Letter) → e.deed ≡ deed.Spend n → IsEntryOf e l → ⊥
+spends_none e n l is granted = subst (λ d. Grants e.node e.hash d l) is granted
+
+same_spent : {i m n : ℕ} {h : ServiceHash} {u v w x : World} → m ≡ n → Spends i h m u w → Spends i h n v x → IsSameButRead u v → IsSameButRead w x
+same_spent {m} {n} {u} {v} {w} {x} same a b s =
+    let both : IsSameButRead (record u { counter = m }) (record v { counter = n }) = record {
+      rows = s.rows;
+      segments = s.segments;
+      phases = s.phases;
+      tags = s.tags;
+      tickets = s.tickets;
+      counter = sym same;
+    } in
+    subst (λ z. IsSameButRead z x) (sym a.spent) (subst (λ z. IsSameButRead (record u { counter = m }) z) (sym b.spent) both)
+
+same_effects : {u v w x : World} (e : Entry) → Effect e u w → Effect e v x → IsSameButRead u v → IsSameButRead w x
+same_effects e (accessed l f p) (accessed o g q) s = same_parts e l o f g s p q
+same_effects e (accessed l f p) (spent n is b) s = absurd (spends_none e n l is f)
+same_effects e (spent n is a) (accessed o g q) s = absurd (spends_none e n o is g)
+same_effects e (spent m is a) (spent n also b) s = same_spent (let x : deed.Spend m ≡ deed.Spend n = sym is ∙ also in cc) a b s
 
 -- ---- a fetch
 
@@ -186,21 +215,19 @@ ended : {w v : World} → ComesTo w [] v → IsSameButRead w v
 ended {w} replay.nothing = same_itself w
 ended (fetches i h a p c) = same_then (fetch_same i h a p) (ended c)
 
--- the first entry's access, after fetches
+-- what the first entry does, after fetches
 record Headed (e : Entry) (es : List Entry) (w v : World) : Type 0 where
   mid : World
   after : World
-  letter : Letter
   same : IsSameButRead w mid
-  is_entry : IsEntryOf e letter
-  part : IsOwnPart mid letter after
+  effect : Effect e mid after
   rest : ComesTo after es v
 
 headed : {e : Entry} {es : List Entry} {w v : World} → ComesTo w (e ∷ es) v → Headed e es w v
 headed {w} (fetches i h a p c) =
-    let x = headed c in
-    record { mid = x.mid; after = x.after; letter = x.letter; same = same_then (fetch_same i h a p) x.same; is_entry = x.is_entry; part = x.part; rest = x.rest }
-headed {w} (happens {u} e l is p c) = record { mid = w; after = u; letter = l; same = same_itself w; is_entry = is; part = p; rest = c }
+    let x = headed c in record { mid = x.mid; after = x.after; same = same_then (fetch_same i h a p) x.same; effect = x.effect; rest = x.rest }
+headed {w} (happens {u} e l is p c) = record { mid = w; after = u; same = same_itself w; effect = accessed l is p; rest = c }
+headed {w} (spends {u} e n is s c) = record { mid = w; after = u; same = same_itself w; effect = spent n is s; rest = c }
 
 pub one_world : OneWorldEach
 one_world u v w x [] s c d = same_then (same_back (ended c)) (same_then s (ended d))
@@ -208,7 +235,7 @@ one_world u v w x (e ∷ es) s c d =
     let a = headed c in
     let b = headed d in
     one_world a.after b.after w x es
-    (same_parts e a.letter b.letter a.is_entry b.is_entry (same_then (same_back a.same) (same_then s b.same)) a.part b.part) a.rest b.rest
+    (same_effects e a.effect b.effect (same_then (same_back a.same) (same_then s b.same))) a.rest b.rest
 
 module _ {L : Type 0} (contents : L → Option Contents) where
   pub shows_one_world : ShowsOneWorld contents

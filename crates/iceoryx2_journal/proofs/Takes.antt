@@ -10,7 +10,7 @@ use Rattle.iceoryx2_log.specs.declared.entry.Entry.{Entry}
 use Rattle.iceoryx2_log.specs.Log.{Contents, WhereKnown, Grows}
 use Rattle.iceoryx2_journal.specs.declared.taking.Stop.{Stop}
 use Rattle.iceoryx2_journal.specs.Follow.{IsFollowed, ActsAlone}
-use Rattle.iceoryx2_journal.specs.Taking.{is_own, IsAllTaken, TakesOver, Stops, unread, starved, own, disagrees}
+use Rattle.iceoryx2_journal.specs.Taking.{is_own, IsAllTaken, TakesOver, Stops, unread, starved, own, disagrees, astray}
 use Rattle.iceoryx2_journal.specs.Taking.{TakesOne, TakesSome}
 use Rattle.iceoryx2_journal.proofs.Following.{each_more, prepare_acts, followed_acts}
 use Rattle.iceoryx2_journal.proofs.Logs.{taken_not, then_taken, grown}
@@ -33,6 +33,9 @@ takes_both {c} {d} {f} g x = record {
   followed = x.followed;
   taken = then_taken [] x.entries c d f (grown c d g) x.taken;
 }
+
+pub same_over : {nodes : List ℕ} {u v : World} {c d f : Option Contents} → f ≡ d → TakesOver nodes u v c d → TakesOver nodes u v c f
+same_over {nodes} {u} {v} {c} same t = subst (λ x. TakesOver nodes u v c x) (sym same) t
 
 pub over_both : {nodes : List ℕ} {u w v : World} {c d f : Option Contents} → TakesOver nodes u w c d → TakesOver nodes w v d f → TakesOver nodes u v c f
 over_both {nodes} {c} {d} {f} x y = record {
@@ -70,3 +73,4 @@ stops_others (unread is same) = same_others same
 stops_others (starved e is front f p) = alone e.node f (prepare_acts e.hash e.deed p) nobody
 stops_others (own e is front f same) = same_others same
 stops_others (disagrees e is front f a) = alone e.node f a nobody
+stops_others (astray is unknown same) = same_others same

@@ -11,6 +11,7 @@ use Rattle.iceoryx2_access.specs.Letter as letter
 use Rattle.iceoryx2_access.specs.Run.{Joins, Each}
 use Rattle.iceoryx2_world.specs.World.{World}
 use Rattle.iceoryx2_world.specs.Access.{IsOwnPart}
+use Rattle.iceoryx2_table.specs.Spending.{Spends}
 use Rattle.iceoryx2_log.specs.declared.entry.Deed.{Deed}
 use Rattle.iceoryx2_log.specs.declared.entry.Deed.TheVariants as deed
 use Rattle.iceoryx2_log.specs.declared.entry.Entry.{Entry}
@@ -18,7 +19,7 @@ use Rattle.iceoryx2_journal.specs.declared.follow.FollowError.{FollowError}
 use Rattle.iceoryx2_journal.specs.declared.follow.FollowError.TheVariants as errors
 
 -- The letter is this deed of the node, granted: with the deed's numbers, for a publishing with a description whose byte
--- form the deed has, and for a release with any answer that isn't an error.
+-- form the deed has, and for a release with any answer that isn't an error. Numbers are spent by no single letter.
 abbrev pub Grants : (node : ℕ) → ServiceHash → Deed → Letter → Type 0
 Grants i h deed.MakeTag l = l ≡ letter.MakeTag i h (Ok Made)
 Grants i h deed.RemoveTag l = l ≡ letter.RemoveTag i h (Ok tt)
@@ -29,6 +30,8 @@ Grants i h deed.RemoveDescription l = l ≡ letter.RemoveDescription i h (Ok tt)
 Grants i h (deed.Publish n bytes) l = (d : Description) × IsForm d bytes × (l ≡ letter.Publish i h n d (Ok n))
 Grants i h (deed.OpenSegment n ticket) l = l ≡ letter.OpenSegment i h n (Ok ticket)
 Grants i h (deed.Release ticket n) l = (left : Released) × (l ≡ letter.Release ticket i h n (Ok left))
+Grants i h (deed.Spend n) l = ⊥
+Grants i h deed.Moved l = ⊥
 
 -- The letter is the entry's access, granted.
 abbrev pub IsEntryOf : Entry → Letter → Type 0
@@ -44,13 +47,11 @@ abbrev pub Prepares : (node : ℕ) → ServiceHash → Deed → World → World 
 Prepares i h (deed.OpenSegment n ticket) old new = MayFetch i h old new
 Prepares i h _ old new = new ≡ old
 
--- The entry has its effect: its node's access is granted as the entry has it.
-pub record IsFollowed (old : World) (e : Entry) (new : World) : Type 0 where
-  pub ready : World
-  pub letter : Letter
-  pub prepares : Prepares e.node e.hash e.deed old ready
-  pub is_entry : IsEntryOf e letter
-  pub part : IsOwnPart ready letter new
+-- The entry has its effect: its node's access is granted as the entry has it, or its node spends numbers.
+pub data IsFollowed (old : World) (e : Entry) (new : World) : Type 0 where
+  granted : (ready : World) (l : Letter) → Prepares e.node e.hash e.deed old ready → IsEntryOf e l
+      → IsOwnPart ready l new → IsFollowed old e new
+  spent : (n : ℕ) → e.deed ≡ deed.Spend n → Spends e.node e.hash n old new → IsFollowed old e new
 
 -- There are accesses of this node and of no other, with whatever answers.
 abbrev pub ActsAlone : (node : ℕ) → World → World → Type 0

@@ -11,7 +11,7 @@ use Rattle.iceoryx2_log.specs.Log.{Contents, WhereKnown}
 use Rattle.iceoryx2_journal.specs.Taking.{is_own, IsAllTaken}
 use Rattle.iceoryx2_journal.specs.Journal.{JournalState, IsJournalAccess, is_mine}
 use Rattle.iceoryx2_journal.specs.Replay.{ComesTo, Replays, StandsOn, HasTaken}
-use Rattle.iceoryx2_journal.specs.Same.{IsSameButRead}
+use Rattle.iceoryx2_table.specs.Same.{IsSameButRead}
 
 -- What worlds come to by the same entries is the same, but for who has only read, where the worlds were.
 abbrev pub OneWorldEach : Type 0

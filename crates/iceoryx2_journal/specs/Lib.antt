@@ -6,6 +6,6 @@ pub mod Logged
 pub mod Journal
 pub mod Cleaning
 pub mod Replay
-pub mod Same
 pub mod Laws
 pub mod Processes
+pub mod Snapshot

@@ -17,7 +17,7 @@ use Rattle.iceoryx2_log.specs.Log.{Contents}
 use Rattle.iceoryx2_journal.specs.Taking.{is_own}
 use Rattle.iceoryx2_journal.specs.Journal.{JournalState}
 use Rattle.iceoryx2_journal.specs.Replay.{ComesTo, HasTaken}
-use Rattle.iceoryx2_journal.specs.Same.{IsSameButRead}
+use Rattle.iceoryx2_table.specs.Same.{IsSameButRead}
 
 -- ---- what the laws speak of
 

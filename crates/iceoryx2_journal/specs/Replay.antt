@@ -6,6 +6,8 @@ use Rattle.iceoryx2_access.specs.Letter.{Letter}
 use Rattle.iceoryx2_access.specs.Letter as letter
 use Rattle.iceoryx2_world.specs.World.{World, empty_world}
 use Rattle.iceoryx2_world.specs.Access.{IsOwnPart}
+use Rattle.iceoryx2_table.specs.Spending.{Spends}
+use Rattle.iceoryx2_log.specs.declared.entry.Deed.TheVariants as deed
 use Rattle.iceoryx2_log.specs.declared.entry.Entry.{Entry}
 use Rattle.iceoryx2_log.specs.Log.{Contents, WhereKnown}
 use Rattle.iceoryx2_journal.specs.Follow.{IsEntryOf}
@@ -13,14 +15,16 @@ use Rattle.iceoryx2_journal.specs.Journal.{JournalState, Begins, IsJournalAccess
 use Rattle.iceoryx2_journal.specs.Cleaning.{Adopts, CleansBy}
 use Rattle.iceoryx2_journal.specs.declared.cleaning.AdoptError.{AdoptError}
 
--- The entries come to this, in order: each is its node's access, granted as the entry has it. Between them nodes may
--- fetch, which is in no entry and changes the node's own phase alone.
+-- The entries come to this, in order: each is its node's access, granted as the entry has it, or numbers that its node
+-- spends. Between them nodes may fetch, which is in no entry and changes the node's own phase alone.
 pub data ComesTo : World → List Entry → World → Type 0 where
   nothing : {w : World} → ComesTo w [] w
   fetches : {w u v : World} {es : List Entry} (i : ℕ) (h : ServiceHash) (a : Result (ℕ × List ℕ) FetchError)
       → IsOwnPart w (letter.Fetch i h a) u → ComesTo u es v → ComesTo w es v
   happens : {w u v : World} {es : List Entry} (e : Entry) (l : Letter)
       → IsEntryOf e l → IsOwnPart w l u → ComesTo u es v → ComesTo w (e ∷ es) v
+  spends : {w u v : World} {es : List Entry} (e : Entry) (n : ℕ)
+      → e.deed ≡ deed.Spend n → Spends e.node e.hash n w u → ComesTo u es v → ComesTo w (e ∷ es) v
 
 -- These were taken over or appended, in their order.
 abbrev pub Moves : List Entry → Contents → Contents → Type 0

@@ -39,10 +39,16 @@ pub record TakesOver (nodes : List ℕ) (w v : World) (old new : Option Contents
   pub followed : Run IsFollowed w entries v
   pub taken : WhereKnown (Takes entries) old new
 
+-- Nothing is taken over any more.
+abbrev pub ends : Stop → Bool
+ends stop.Later = false
+ends stop.Moved = false
+ends stop.Over = true
+
 -- Why an entry isn't taken over, and what that leaves of the world: the entry stays unread.
 pub data Stops (nodes : List ℕ) (log : Option Contents) (w : World) (s : Stop) (v : World) : Type 0 where
-  -- the log isn't held, or can't be read
-  unread : s ≡ stop.Later → v ≡ w → Stops nodes log w s v
+  -- the log isn't held, can't be read, or goes on in another place
+  unread : ends s ≡ false → v ≡ w → Stops nodes log w s v
   -- there is no memory for another's entry: it can be followed again
   starved : (e : Entry) → s ≡ stop.Later → IsNext e log → is_own nodes e.node ≡ false
       → Prepares e.node e.hash e.deed w v → Stops nodes log w s v
@@ -51,11 +57,8 @@ pub data Stops (nodes : List ℕ) (log : Option Contents) (w : World) (s : Stop)
   -- it isn't what the table answers to another's access
   disagrees : (e : Entry) → s ≡ stop.Over → IsNext e log → is_own nodes e.node ≡ false → ActsAlone e.node w v
       → Stops nodes log w s v
-
--- Nothing is taken over any more.
-abbrev pub ends : Stop → Bool
-ends stop.Later = false
-ends stop.Over = true
+  -- what is taken over of a log that went on elsewhere isn't what its snapshot comes to
+  astray : s ≡ stop.Over → log ≡ None → v ≡ w → Stops nodes log w s v
 
 -- The next entry is another's, has its effect, and is taken over.
 pub record TakesOne (nodes : List ℕ) (w v : World) (old new : Option Contents) : Type 0 where

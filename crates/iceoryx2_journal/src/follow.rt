@@ -23,8 +23,9 @@ pub enum FollowError {
     Disagrees,
 }
 
-/// Makes the entry's access, as its node, and compares the answer. Before an opening its node fetches, where it isn't
-/// registered. Where there is no memory nothing changes, but that the node may have read.
+/// Makes the entry's access, as its node, and compares the answer, or spends numbers. Before an opening its node
+/// fetches, where it isn't registered. Where there is no memory nothing changes, but that the node may have read.
+/// `Disagrees` too where the entry marks that the log goes on elsewhere: that is for the log to see.
 pub fn follow(alloc: Global, world: &mut StoredWorld, entry: &Entry) -> Result<(), FollowError>
     ensures { Follows entry.now result world.old world.new }
 {
@@ -42,6 +43,24 @@ pub fn follow(alloc: Global, world: &mut StoredWorld, entry: &Entry) -> Result<(
         Deed::Publish { number, bytes } => publish(alloc, world, node, hash, *number, bytes),
         Deed::OpenSegment { number, ticket } => open_segment(world, node, hash, *number, *ticket),
         Deed::Release { ticket, number } => release(world, *ticket, node, hash, *number),
+        Deed::Spend { number } => spend(world, node, hash, *number),
+        Deed::Moved => Err(FollowError::Disagrees),
+    }
+}
+
+// The node spends numbers.
+fn spend(
+    world: &mut StoredWorld,
+    node: u64,
+    hash: &ServiceHash,
+    number: u64,
+) -> Result<(), FollowError>
+    ensures { Follows (record { node = node; hash = hash.now; deed = deed.Spend number }) result world.old world.new }
+{
+    if world.spend(node, hash, number) {
+        Ok(())
+    } else {
+        Err(FollowError::Disagrees)
     }
 }
 

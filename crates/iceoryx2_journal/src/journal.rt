@@ -11,7 +11,8 @@ mod accesses;
 mod cleaning;
 
 use crate::pen::Pen;
-use crate::taking::{has, take_all};
+use crate::snapshot::compact;
+use crate::taking::{has, take_over};
 use iceoryx2_access::storage::{Existence, Service, Sha1Hasher};
 use iceoryx2_description::description::ServiceHash;
 use iceoryx2_log::log::Log;
@@ -26,6 +27,8 @@ use std::marker::{Model, PhantomData};
 /// `exists`, `fetch` and `lock` wait while a node has the service's lock, as long as the log pauses. They take over
 /// what others append meanwhile, and answer by that.
 ///
+/// Where the log has grown long an access compacts it, and where another process has, it goes to where the log goes on.
+///
 /// Its accesses are in the names of its own nodes. Where an entry of another is in an own node's name, or isn't what
 /// the world answers, the journal is over: each access from then on is its general fault.
 #[derive(Drop)]
@@ -34,6 +37,8 @@ pub struct Journal<L> {
     pen: Pen<L>,
     nodes: Vec<u64>,
     is_over: bool,
+    // whether the log goes on elsewhere, and the world isn't yet what it comes to there
+    is_lost: bool,
 }
 
 impl<L> Model for Journal<L> {
@@ -66,6 +71,7 @@ impl<L> Journal<L> {
             pen: Pen { log, entry: None },
             nodes,
             is_over: false,
+            is_lost: false,
         }
     }
 
@@ -115,8 +121,17 @@ impl<L: Log> Journal<L> {
             return false;
         };
         let alloc = *self.nodes.allocator();
-        match take_all(alloc, &mut self.world, &mut self.pen.log, &self.nodes) {
-            Ok(()) => true,
+        match take_over(
+            alloc,
+            &mut self.world,
+            &mut self.pen.log,
+            &self.nodes,
+            &mut self.is_lost,
+        ) {
+            Ok(()) => {
+                compact(alloc, &self.world, &mut self.pen.log);
+                true
+            }
             Err(stop) => {
                 self.is_over = stop.ends();
                 self.pen.log.let_go();

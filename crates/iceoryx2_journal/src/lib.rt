@@ -2,9 +2,11 @@
 #![tactic(auto)]
 
 pub mod cleaning;
+pub mod course;
 pub mod follow;
 pub mod journal;
 pub mod laws;
 mod parts;
 mod pen;
+pub mod snapshot;
 pub mod taking;

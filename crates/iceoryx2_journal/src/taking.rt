@@ -1,18 +1,24 @@
 //! Taking over what others appended.
 
-ghost use Rattle.std.specs.Prelude.{◌≡◌};
+ghost use Rattle.std.specs.Prelude.{◌≡◌, false};
 ghost use Rattle.iceoryx2_journal.specs.Taking.{is_own, ends, TakesNext, TakesAllOf};
 
 use crate::follow::{FollowError, follow};
-use iceoryx2_log::log::Log;
+use crate::snapshot::catch_up;
+use iceoryx2_log::log::{Log, LogError};
 use iceoryx2_table::table::stored::StoredWorld;
 use std::alloc::Global;
+
+/// How often one access goes to where the log goes on, before it gives up.
+const MOVES: u32 = 64;
 
 /// Why an entry isn't taken over.
 #[derive(Clone, Copy, Debug, PartialEq, Eq)]
 pub enum Stop {
     /// The log can't be held or read, or there is no memory. It may go on later.
     Later,
+    /// The log goes on in another place.
+    Moved,
     /// The entry is in an own node's name, or the table doesn't answer what it has.
     Over,
 }
@@ -24,6 +30,7 @@ impl Stop {
     {
         match self {
             Stop::Later => false,
+            Stop::Moved => false,
             Stop::Over => true,
         }
     }
@@ -39,6 +46,16 @@ pub enum Next {
     Stopped(Stop),
 }
 
+/// Why nothing is taken over where the log refuses to be read.
+fn stop_for(error: LogError) -> Stop
+    ensures { ends result ≡ false }
+{
+    match error {
+        LogError::Moved => Stop::Moved,
+        _ => Stop::Later,
+    }
+}
+
 /// Whether the node is one of these.
 pub fn has(nodes: &[u64], node: u64) -> bool
     ensures { result ≡ is_own nodes.now node }
@@ -51,8 +68,9 @@ pub fn has(nodes: &[u64], node: u64) -> bool
 pub fn take_next<L: Log>(alloc: Global, world: &mut StoredWorld, log: &mut L, nodes: &[u64]) -> Next
     ensures { TakesNext nodes.now result world.old world.new (L.contents log.old) (L.contents log.new) }
 {
-    let Ok(found) = log.next() else {
-        return Next::Stopped(Stop::Later);
+    let found = match log.next() {
+        Ok(found) => found,
+        Err(error) => return Next::Stopped(stop_for(error)),
     };
     let Some(entry) = found else {
         return Next::Nothing;
@@ -70,6 +88,61 @@ pub fn take_next<L: Log>(alloc: Global, world: &mut StoredWorld, log: &mut L, no
             FollowError::Disagrees => Next::Stopped(Stop::Over),
         },
     }
+}
+
+// Takes all over that stands here. That the log goes on elsewhere is kept for later.
+fn take_here<L: Log>(
+    alloc: Global,
+    world: &mut StoredWorld,
+    log: &mut L,
+    nodes: &[u64],
+    is_lost: &mut bool,
+) -> Result<(), Stop>
+    ensures { TakesAllOf nodes.now result world.old world.new (L.contents log.old) (L.contents log.new) }
+{
+    let taken = take_all(alloc, world, log, nodes);
+    *is_lost = taken == Err(Stop::Moved);
+    taken
+}
+
+// Takes all over, from where the log goes on if it was lost.
+fn take_round<L: Log>(
+    alloc: Global,
+    world: &mut StoredWorld,
+    log: &mut L,
+    nodes: &[u64],
+    is_lost: &mut bool,
+) -> Result<(), Stop>
+    ensures { TakesAllOf nodes.now result world.old world.new (L.contents log.old) (L.contents log.new) }
+{
+    if !*is_lost {
+        return take_here(alloc, world, log, nodes, is_lost);
+    }
+    match catch_up(alloc, world, log, nodes) {
+        Ok(()) => take_here(alloc, world, log, nodes, is_lost),
+        Err(stop) => Err(stop),
+    }
+}
+
+/// Takes all over, wherever the log goes on. `is_lost` is whether it goes on elsewhere, and the world isn't yet what it
+/// comes to there.
+pub fn take_over<L: Log>(
+    alloc: Global,
+    world: &mut StoredWorld,
+    log: &mut L,
+    nodes: &[u64],
+    is_lost: &mut bool,
+) -> Result<(), Stop>
+    ensures { TakesAllOf nodes.now result world.old world.new (L.contents log.old) (L.contents log.new) }
+{
+    for _ in 0..MOVES {
+        match take_round(alloc, world, log, nodes, is_lost) {
+            Ok(()) => return Ok(()),
+            Err(Stop::Moved) => {}
+            Err(stop) => return Err(stop),
+        }
+    }
+    Err(Stop::Later)
 }
 
 /// Takes all entries over, in order, until there is none or one isn't taken over. That one stays unread, and those

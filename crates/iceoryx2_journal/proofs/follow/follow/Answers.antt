@@ -1,4 +1,4 @@
-use Rattle.iceoryx2_journal.proofs.Following.{same_entry}
+use Rattle.iceoryx2_journal.proofs.Following.{same_entry, acts_not}
 use Rattle.iceoryx2_journal.proofs.follow.follow.Goals as goal
 
 pub returns-in-MakeTag : goal.returns-in-MakeTag
@@ -27,3 +27,9 @@ returns-in-OpenSegment c = same_entry c.args.entry.now _ c.open_segment.result c
 
 pub returns-in-Release : goal.returns-in-Release
 returns-in-Release c = same_entry c.args.entry.now _ c.release.result c.args.world.now c.release.new.world c.in-Release.is c.release.ensures
+
+pub returns-in-Spend : goal.returns-in-Spend
+returns-in-Spend c = same_entry c.args.entry.now _ c.spend.result c.args.world.now c.spend.new.world c.in-Spend.is c.spend.ensures
+
+pub returns-in-Moved : goal.returns-in-Moved
+returns-in-Moved c = acts_not

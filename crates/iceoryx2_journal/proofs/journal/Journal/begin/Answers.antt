@@ -1,6 +1,7 @@
-use Rattle.std.proofs.Common.{refl, sym}
+use Rattle.std.proofs.Common.{refl, sym, subst}
+use Rattle.iceoryx2_journal.specs.Taking.{IsAllTaken}
 use Rattle.iceoryx2_journal.proofs.Begins.{held_not, fell_short, listed_some, listed_over, not_mine, over_then, may_begin, barred_from, stopped_from, all_from}
-use Rattle.iceoryx2_journal.proofs.Takes.{takes_both}
+use Rattle.iceoryx2_journal.proofs.Takes.{takes_both, same_over}
 use Rattle.iceoryx2_journal.proofs.journal.Journal.begin.Goals as goal
 
 pub returns-then-not-mine : goal.returns-then-not-mine
@@ -14,10 +15,11 @@ returns-in_default g c =
     let may = may_begin c.args.mine c.self.inside.is_over c.if-not-mine.false c.if-self.false in
     stopped_from c.self.view_is may (held_not c.in_default.ensures.err) refl c.if-self.false
 
-pub returns-in-Ok-take_all : goal.returns-in-Ok-take_all
-returns-in-Ok-take_all g c =
-    let t = c.in-Ok-take_all.ensures in
-    all_from c.self.view_is c.if-not-mine.false c.if-self.false (listed_over c.deref.ensures.value (takes_both c.in-Ok.ensures.ok t.0)) t.1 refl refl
+pub returns-in-Ok-take_over : goal.returns-in-Ok-take_over
+returns-in-Ok-take_over g c =
+    let t = c.in-Ok-take_over.ensures in
+    let over = listed_over c.deref.ensures.value (takes_both c.in-Ok.ensures.ok t.0) in
+    all_from c.self.view_is c.if-not-mine.false c.if-self.false (same_over c.compact.ensures over) (subst IsAllTaken (sym c.compact.ensures) t.1) refl refl
 
 pub returns-in-Err : goal.returns-in-Err
 returns-in-Err g c =

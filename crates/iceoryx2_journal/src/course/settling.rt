@@ -1,0 +1,265 @@
+//! How a node that has a service's lock, or was the last one to leave it, comes to where the later world has it.
+
+use super::leaving::is_published;
+use super::{Reached, entry, from_key};
+use iceoryx2_attribute::attribute::AttributeSet;
+use iceoryx2_byte_form::bytes::{self, DecodeError};
+use iceoryx2_description::description::{
+    MessagingPattern, ServiceHash, ServiceName, ServiceNameError, StaticConfig,
+};
+use iceoryx2_description::event;
+use iceoryx2_log::entry::{Deed, Entry, FormBytes};
+use iceoryx2_table::rows::{RowState, StoredRow};
+use iceoryx2_table::segments::StoredSegment;
+use iceoryx2_table::table::stored::StoredWorld;
+use iceoryx2_world::world::{Participant, Phase};
+use std::alloc::{AllocError, Global};
+
+/// The next entry of a node that isn't where the later world has it.
+pub fn next(
+    alloc: Global,
+    reached: &mut Reached,
+    from: &StoredWorld,
+    to: &StoredWorld,
+) -> Result<Option<Entry>, AllocError> {
+    for ((participant, hash), _) in from_key(from.phases_held(), &reached.place) {
+        reached.place = (*participant, *hash);
+        if let Participant::Node(node) = participant {
+            if let Some(deed) = deed(alloc, from, to, *node, hash)? {
+                return Ok(Some(entry(*node, *hash, deed)));
+            }
+        }
+    }
+    Ok(None)
+}
+
+/// What the node does next at the service, or `None` where it is as far as it comes.
+pub fn deed(
+    alloc: Global,
+    from: &StoredWorld,
+    to: &StoredWorld,
+    node: u64,
+    hash: &ServiceHash,
+) -> Result<Option<Deed>, AllocError> {
+    match from.phase(node, hash) {
+        Phase::Locked(number) | Phase::Made(number) => {
+            creating(alloc, from, to, node, hash, number)
+        }
+        Phase::Joined(number, _) => Ok(visiting(from, to, node, hash, number)),
+        Phase::Leaving(number) => Ok(leaving(to, node, hash, number)),
+        Phase::Cleared(number) => Ok(cleared(to, hash, number)),
+        _ => Ok(None),
+    }
+}
+
+// Who has the lock.
+fn creating(
+    alloc: Global,
+    from: &StoredWorld,
+    to: &StoredWorld,
+    node: u64,
+    hash: &ServiceHash,
+    number: u64,
+) -> Result<Option<Deed>, AllocError> {
+    if let Some(row) = to.row(hash) {
+        match row.state() {
+            RowState::Locked(locked) => {
+                if locked == number {
+                    return Ok(holding(from, to, node, hash, number));
+                }
+            }
+            RowState::Published(published) => {
+                if published == number {
+                    return publishing(alloc, from, to, hash, row, number);
+                }
+            }
+        }
+    }
+    giving_up(alloc, from, to, hash, number)
+}
+
+// It keeps the lock.
+fn holding(
+    from: &StoredWorld,
+    to: &StoredWorld,
+    node: u64,
+    hash: &ServiceHash,
+    number: u64,
+) -> Option<Deed> {
+    match to.segment(hash) {
+        None => clearing(from, hash),
+        Some(segment) => {
+            if to.phase(node, hash) == Phase::Made(number) {
+                return making(from, hash, number, segment.capacity());
+            }
+            None
+        }
+    }
+}
+
+// It publishes the service.
+fn publishing(
+    alloc: Global,
+    from: &StoredWorld,
+    to: &StoredWorld,
+    hash: &ServiceHash,
+    row: &StoredRow,
+    number: u64,
+) -> Result<Option<Deed>, AllocError> {
+    let capacity = match to.segment(hash) {
+        Some(segment) => segment.capacity(),
+        None => capacity_of(alloc, row)?,
+    };
+    if let Some(deed) = making(from, hash, number, capacity) {
+        return Ok(Some(deed));
+    }
+    let bytes = FormBytes::new(row.bytes().copy()?);
+    Ok(Some(Deed::Publish { number, bytes }))
+}
+
+// For how many nodes the service is described. Of what isn't a description for none, which no segment is made for.
+fn capacity_of(alloc: Global, row: &StoredRow) -> Result<u64, AllocError> {
+    match bytes::decode(alloc, row.bytes().as_slice()) {
+        Ok(description) => Ok(description.max_nodes()),
+        Err(DecodeError::OutOfMemory) => Err(AllocError),
+        Err(DecodeError::Malformed) => Ok(0),
+    }
+}
+
+// It gives the lock up, and a segment stays where the later world has it.
+fn giving_up(
+    alloc: Global,
+    from: &StoredWorld,
+    to: &StoredWorld,
+    hash: &ServiceHash,
+    number: u64,
+) -> Result<Option<Deed>, AllocError> {
+    match to.segment(hash) {
+        None => Ok(clearing(from, hash).or(Some(Deed::RemoveDescription))),
+        Some(segment) => {
+            if segment.number() == number {
+                return leaving_alone(alloc, from, hash, segment);
+            }
+            if number_of(from.segment(hash)) == Some(segment.number()) {
+                return Ok(Some(Deed::RemoveDescription));
+            }
+            Ok(clearing(from, hash).or(Some(Deed::RemoveDescription)))
+        }
+    }
+}
+
+// A segment of its number stays, marked where all have left it. Nothing is left of the description that was published
+// then, so any is published that fits.
+fn leaving_alone(
+    alloc: Global,
+    from: &StoredWorld,
+    hash: &ServiceHash,
+    segment: &StoredSegment,
+) -> Result<Option<Deed>, AllocError> {
+    let number = segment.number();
+    if let Some(deed) = making(from, hash, number, segment.capacity()) {
+        return Ok(Some(deed));
+    }
+    if !segment.is_marked() {
+        return Ok(Some(Deed::RemoveDescription));
+    }
+    let description = any_description(alloc, *hash, segment.capacity())?;
+    let bytes = FormBytes::new(bytes::encode(alloc, &description)?);
+    Ok(Some(Deed::Publish { number, bytes }))
+}
+
+// Events under the hash for so many nodes.
+fn any_description(
+    alloc: Global,
+    hash: ServiceHash,
+    max_nodes: u64,
+) -> Result<StaticConfig, AllocError> {
+    let name = match ServiceName::new(alloc, "-") {
+        Ok(name) => name,
+        Err(ServiceNameError::OutOfMemory) | Err(ServiceNameError::Length) => {
+            return Err(AllocError);
+        }
+    };
+    let events = event::StaticConfig {
+        max_notifiers: 1,
+        max_listeners: 1,
+        event_id_max_value: 0,
+        max_nodes,
+        notifier_created_event: None,
+        notifier_dropped_event: None,
+        notifier_dead_event: None,
+        deadline: None,
+    };
+    let pattern = MessagingPattern::Event(events);
+    Ok(StaticConfig::new(hash, name, AttributeSet::new(alloc), pattern))
+}
+
+// Its segment for so many nodes is made, after another one is removed. `None` where it stands.
+fn making(from: &StoredWorld, hash: &ServiceHash, number: u64, max_nodes: u64) -> Option<Deed> {
+    match from.segment(hash) {
+        None => Some(Deed::MakeSegment { number, max_nodes }),
+        Some(segment) => {
+            if segment.number() == number && segment.capacity() == max_nodes {
+                return None;
+            }
+            Some(Deed::RemoveSegment)
+        }
+    }
+}
+
+// The segment is removed, where one stands.
+fn clearing(from: &StoredWorld, hash: &ServiceHash) -> Option<Deed> {
+    match from.segment(hash) {
+        Some(_) => Some(Deed::RemoveSegment),
+        None => None,
+    }
+}
+
+// The segment's number.
+fn number_of(segment: Option<&StoredSegment>) -> Option<u64> {
+    match segment {
+        Some(segment) => Some(segment.number()),
+        None => None,
+    }
+}
+
+// Who has published what the later world doesn't have leaves it.
+fn visiting(
+    from: &StoredWorld,
+    to: &StoredWorld,
+    node: u64,
+    hash: &ServiceHash,
+    number: u64,
+) -> Option<Deed> {
+    if is_published(to, hash, number) {
+        return None;
+    }
+    let held = from.ticket(number)?;
+    if held.node != node || held.hash != *hash {
+        return None;
+    }
+    let ticket = number;
+    Some(Deed::Release { ticket, number })
+}
+
+// Who was the last one to leave.
+fn leaving(to: &StoredWorld, node: u64, hash: &ServiceHash, number: u64) -> Option<Deed> {
+    if is_published(to, hash, number) {
+        return match to.phase(node, hash) {
+            Phase::Cleared(_) => Some(Deed::RemoveSegment),
+            _ => None,
+        };
+    }
+    if number_of(to.segment(hash)) == Some(number) {
+        return Some(Deed::RemoveDescription);
+    }
+    Some(Deed::RemoveSegment)
+}
+
+// Who has removed the segment too.
+fn cleared(to: &StoredWorld, hash: &ServiceHash, number: u64) -> Option<Deed> {
+    if is_published(to, hash, number) {
+        return None;
+    }
+    Some(Deed::RemoveDescription)
+}

@@ -1,0 +1,27 @@
+//! Which tags are removed and made.
+
+use super::{Reached, entry, from_key};
+use iceoryx2_log::entry::{Deed, Entry};
+use iceoryx2_table::table::stored::StoredWorld;
+
+/// The next one that the later world doesn't have.
+pub fn to_remove(reached: &mut Reached, from: &StoredWorld, to: &StoredWorld) -> Option<Entry> {
+    for ((node, hash), _) in from_key(from.tags_held(), &reached.tag) {
+        reached.tag = (*node, *hash);
+        if !to.has_tag(*node, hash) {
+            return Some(entry(*node, *hash, Deed::RemoveTag));
+        }
+    }
+    None
+}
+
+/// The next one that only the later world has.
+pub fn to_make(reached: &mut Reached, from: &StoredWorld, to: &StoredWorld) -> Option<Entry> {
+    for ((node, hash), _) in from_key(to.tags_held(), &reached.tag) {
+        reached.tag = (*node, *hash);
+        if !from.has_tag(*node, hash) {
+            return Some(entry(*node, *hash, Deed::MakeTag));
+        }
+    }
+    None
+}

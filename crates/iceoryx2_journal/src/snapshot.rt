@@ -1,0 +1,272 @@
+//! Snapshots: entries that come to the world of a whole log. They are written where a log is compacted, and read where
+//! it goes on.
+
+ghost use Rattle.std.specs.Prelude.{◌≡◌, List, IfOk, IfSome, OnOk, None, false};
+ghost use Rattle.iceoryx2_access.specs.Run.{Run};
+ghost use Rattle.iceoryx2_log.specs.declared.entry.Entry as declared;
+ghost use Rattle.iceoryx2_world.specs.World.{World};
+ghost use Rattle.iceoryx2_table.specs.Same.{IsSameButRead};
+ghost use Rattle.iceoryx2_journal.specs.Taking.{is_own, TakesNext, TakesAllOf};
+ghost use Rattle.iceoryx2_journal.specs.Follow.{IsFollowed};
+ghost use Rattle.iceoryx2_journal.specs.Snapshot.{IsSnapshot, IsRestored, RestoresNext, WritesNext};
+
+use crate::course::Course;
+use crate::follow::{FollowError, follow};
+use crate::taking::{Next, Stop, has};
+use iceoryx2_log::entry::Entry;
+use iceoryx2_log::log::Log;
+use iceoryx2_table::table::stored::StoredWorld;
+use std::alloc::Global;
+
+/// With which number the counter of a snapshot begins.
+const FIRST_NUMBER: u64 = 0;
+
+/// By which node a snapshot's numbers are spent.
+const SPENDING_NODE: u64 = 0;
+
+// What is made of an entry that isn't followed.
+fn stop_after(error: FollowError) -> Stop {
+    match error {
+        FollowError::OutOfMemory => Stop::Later,
+        FollowError::Disagrees => Stop::Over,
+    }
+}
+
+// ---- on the way to another world
+
+// A node that isn't an own one.
+fn other_node(nodes: &[u64]) -> Option<u64>
+    ensures { IfSome result (λ node. is_own nodes.now node ≡ false) }
+{
+    for node in 0..u64::MAX {
+        if !has(nodes, node) {
+            return Some(node);
+        }
+    }
+    None
+}
+
+// Follows what comes next on the way to the other world. An own node has nothing to do there: its process did nothing
+// meanwhile.
+fn advance_next(
+    alloc: Global,
+    course: &mut Course,
+    world: &mut StoredWorld,
+    target: &StoredWorld,
+    nodes: &[u64],
+) -> Next
+    ensures { TakesNext nodes.now result world.old world.new None None }
+{
+    let Ok(found) = course.next(alloc, world, target) else {
+        return Next::Stopped(Stop::Later);
+    };
+    let Some(entry) = found else {
+        return Next::Nothing;
+    };
+    if has(nodes, entry.node) {
+        return Next::Stopped(Stop::Over);
+    }
+    match follow(alloc, world, &entry) {
+        Ok(()) => Next::Taken,
+        Err(error) => match error {
+            FollowError::OutOfMemory => Next::Stopped(Stop::Later),
+            FollowError::Disagrees => Next::Stopped(Stop::Over),
+        },
+    }
+}
+
+// Follows all that comes on the way to the other world.
+fn advance_all(
+    alloc: Global,
+    world: &mut StoredWorld,
+    target: &StoredWorld,
+    nodes: &[u64],
+) -> Result<(), Stop>
+    ensures { TakesAllOf nodes.now result world.old world.new None None }
+{
+    let Some(spare) = other_node(nodes) else {
+        return Err(Stop::Later);
+    };
+    let mut course = Course::new(spare);
+    for _ in 0..u64::MAX {
+        match advance_next(alloc, &mut course, world, target, nodes) {
+            Next::Taken => {}
+            Next::Nothing => return Ok(()),
+            Next::Stopped(stop) => return Err(stop),
+        }
+    }
+    Err(Stop::Later)
+}
+
+// Goes on to the other world by what others did meanwhile. `Over` where that leads elsewhere.
+fn advance(
+    alloc: Global,
+    world: &mut StoredWorld,
+    target: &StoredWorld,
+    nodes: &[u64],
+) -> Result<(), Stop>
+    ensures takes { TakesAllOf nodes.now result world.old world.new None None }
+    ensures same { OnOk result (IsSameButRead target.now world.new) }
+{
+    advance_all(alloc, world, target, nodes)?;
+    if target.is_same(world) {
+        Ok(())
+    } else {
+        Err(Stop::Over)
+    }
+}
+
+// ---- a snapshot that is read
+
+// Follows the next entry of the snapshot.
+fn restore_next<L: Log>(alloc: Global, world: &mut StoredWorld, log: &mut L) -> Next
+    ensures restores { RestoresNext result world.old world.new }
+    ensures log { L.contents log.new ≡ L.contents log.old }
+{
+    if !log.is_in_snapshot() {
+        return Next::Nothing;
+    }
+    let Ok(found) = log.next() else {
+        return Next::Stopped(Stop::Later);
+    };
+    let Some(entry) = found else {
+        return Next::Stopped(Stop::Over);
+    };
+    match follow(alloc, world, &entry) {
+        Ok(()) => {
+            log.accept();
+            Next::Taken
+        }
+        Err(error) => Next::Stopped(stop_after(error)),
+    }
+}
+
+// Follows the entries of the snapshot before which the handle stands.
+fn restore_all<L: Log>(alloc: Global, world: &mut StoredWorld, log: &mut L) -> Result<(), Stop>
+    ensures restores { OnOk result ((entries : List declared.Entry) × Run IsFollowed world.old entries world.new) }
+    ensures log { L.contents log.new ≡ L.contents log.old }
+{
+    for _ in 0..u64::MAX {
+        match restore_next(alloc, world, log) {
+            Next::Taken => {}
+            Next::Nothing => return Ok(()),
+            Next::Stopped(stop) => return Err(stop),
+        }
+    }
+    Err(Stop::Later)
+}
+
+// What the snapshot comes to before which the handle stands, from this number on.
+fn restored<L: Log>(alloc: Global, log: &mut L, counter: u64) -> Result<StoredWorld, Stop>
+    ensures world { IfOk result (λ world. IsRestored counter world) }
+    ensures log { L.contents log.new ≡ L.contents log.old }
+{
+    let mut world = StoredWorld::starting_at(alloc, counter);
+    restore_all(alloc, &mut world, log)?;
+    Ok(world)
+}
+
+/// Goes to where the log goes on, and from the world to what the snapshot there comes to, by what others did meanwhile.
+/// `Later` where the log can't be held or read there or there is no memory, and it has to be done again. `Over` where
+/// the snapshot is none, or comes to a world to which nobody but own nodes leads.
+pub fn catch_up<L: Log>(
+    alloc: Global,
+    world: &mut StoredWorld,
+    log: &mut L,
+    nodes: &[u64],
+) -> Result<(), Stop>
+    ensures { TakesAllOf nodes.now result world.old world.new (L.contents log.old) (L.contents log.new) }
+{
+    let Ok(counter) = log.rejoin() else {
+        return Err(Stop::Later);
+    };
+    match restored(alloc, log, counter) {
+        Ok(target) => advance(alloc, world, &target, nodes),
+        Err(stop) => Err(stop),
+    }
+}
+
+// ---- a snapshot that is written
+
+// Follows what comes next on the way to the world, and keeps it.
+fn write_next(
+    alloc: Global,
+    course: &mut Course,
+    copy: &mut StoredWorld,
+    entries: &mut Vec<Entry>,
+    world: &StoredWorld,
+) -> Next
+    ensures { WritesNext result copy.old entries.old.items copy.new entries.new.items }
+{
+    let Ok(found) = course.next(alloc, copy, world) else {
+        return Next::Stopped(Stop::Later);
+    };
+    let Some(entry) = found else {
+        return Next::Nothing;
+    };
+    if let Err(error) = follow(alloc, copy, &entry) {
+        return Next::Stopped(stop_after(error));
+    }
+    let Ok(_) = entries.push(entry) else {
+        return Next::Stopped(Stop::Later);
+    };
+    Next::Taken
+}
+
+// Entries that lead from nothing to the world, as long as the way is known. They come to some world: whether it is this
+// one is for who compares them.
+fn snapshot_of(alloc: Global, world: &StoredWorld) -> Result<Vec<Entry>, Stop>
+    ensures { IfOk result (λ entries. (w : World) × IsSnapshot FIRST_NUMBER entries.items w) }
+{
+    let mut copy = StoredWorld::starting_at(alloc, FIRST_NUMBER);
+    let mut entries = Vec::new(alloc);
+    let mut course = Course::new(SPENDING_NODE);
+    for _ in 0..u64::MAX {
+        match write_next(alloc, &mut course, &mut copy, &mut entries, world) {
+            Next::Taken => {}
+            Next::Nothing => return Ok(entries),
+            Next::Stopped(stop) => return Err(stop),
+        }
+    }
+    Err(Stop::Later)
+}
+
+// Ends a compaction whose snapshot comes to the world.
+fn finish<L: Log>(log: &mut L, world: &StoredWorld, restored: &StoredWorld)
+    requires { IsSameButRead world.now restored.now }
+    ensures { L.contents log.new ≡ L.contents log.old }
+{
+    let _ = log.finish_compaction();
+}
+
+// Ends a compaction, or gives it up where its snapshot doesn't come to the world.
+fn settle<L: Log>(log: &mut L, world: &StoredWorld, restored: &StoredWorld)
+    ensures { L.contents log.new ≡ L.contents log.old }
+{
+    if world.is_same(restored) {
+        finish(log, world, restored);
+    } else {
+        log.abandon_compaction();
+    }
+}
+
+/// Compacts a log that is long, is held, and of which all is taken over. The new place is read back before anybody
+/// finds it, and taken where it comes to the world. Where anything refuses the log stays as it is.
+pub fn compact<L: Log>(alloc: Global, world: &StoredWorld, log: &mut L)
+    ensures { L.contents log.new ≡ L.contents log.old }
+{
+    if !log.is_long() {
+        return;
+    }
+    let Ok(entries) = snapshot_of(alloc, world) else {
+        log.abandon_compaction();
+        return;
+    };
+    let Ok(counter) = log.begin_compaction(&entries) else {
+        return;
+    };
+    match restored(alloc, log, counter) {
+        Ok(copy) => settle(log, world, &copy),
+        Err(_) => log.abandon_compaction(),
+    }
+}
