@@ -11,6 +11,7 @@ from dataclasses import dataclass
 from functools import partial
 
 from logs.form import FILE_HEADER_LENGTH, read_log
+from logs.history import standing
 from logs.runs import FAULT, NO_CLEAN, Living, at_once, leave_node, node_path, snapshot
 from logs.self_test import entry_bytes
 from logs.storm import PREFIXES, PROCESSES, Process, alive_text, drawn_lines
@@ -204,7 +205,7 @@ def check_end(runs, path, processes, what):
     for process in processes:
         ran = process.end()
         runs.need((ran.status, ran.out, ran.err) == (0, [], ""), f"{what}: node {process.node} ended with {ran}")
-    replayed = runs.replay(path.read_bytes(), what)
+    replayed = runs.replay_all(path, what)
     if replayed:
         runs.need(not replayed[1].remains(), f"{what}: in the end there is {replayed[1].remains()}")
 
@@ -338,7 +339,7 @@ def again(runs, death, name, flags):
     path, maker = place(runs, f"{name}-again", death)
     old, call = path.read_bytes(), "open" if maker else "create"
     ran = runs.run(path, DEAD, ["list", death.line(call, DEAD), "close 0"], flags=flags)
-    replies = [line for line in ran.out if not line.startswith("  ")]
+    replies = [line for line in ran.out if line and not line.startswith("  ")]
     texts = "\n".join(["", *replies])
     fine = re.search(rf"\n{len(death.living)} services\nok 0 number=\d+\nclosed 0$", texts)
     runs.need(fine and ran.status == 0 and not ran.err, f"{what}: {ran}")
@@ -497,9 +498,10 @@ def stopped_within(runs):
         found = [entry for entry in read_log(data).entries if entry.at >= len(old) and entry.node == MAKER]
         runs.need(not found, f"{what}: meanwhile in its name was written {[entry.line() for entry in found]}")
         check_replies(runs, process, what)
-        replayed = runs.replay(path.read_bytes(), what)
+        replayed = runs.replay_all(path, what)
         if replayed:
-            check_entries(runs, process, replayed[0], what)
+            process.settle(replayed[0])
+            check_entries(runs, process, replayed[0].log, what)
             runs.need(not replayed[1].remains([OTHER]), f"{what}: in the end there is {replayed[1].remains([OTHER])}")
 
 
@@ -573,12 +575,13 @@ def check_rounds(runs, path, processes, old, ran, what):
     """What stands in the log is what each replied, or what was given back; and only the living one has anything."""
     for process in processes:
         check_replies(runs, process, f"{what}, node {process.node}")
-    found = appended(runs, path, old, what)
-    if not found:
+    replayed = runs.replay_all(path, what)
+    if not replayed:
         return None
-    check_counts(runs, [ran], found[0], what)
-    log, world = read_log(path.read_bytes()), found[1]
+    log, world = replayed[0].log, replayed[1]
+    check_counts(runs, [ran], [entry for entry in log.entries if entry.at >= replayed[0].place(old)], what)
     for process in processes:
+        process.settle(replayed[0])
         check_entries(runs, process, log, f"{what}, node {process.node}")
     check_given_back(runs, processes, log, what)
     runs.need(not world.remains([KEEPER]), f"{what}: there still is {world.remains([KEEPER])}")
@@ -595,7 +598,7 @@ def rounds(runs, seconds):
         replies += [keeper.reply(f"event open {KEEPER} 1 kept"), keeper.reply("close 1")]
         count += 1
     print(f"{count} rounds")
-    old, ran = path.read_bytes(), runs.clean(path)
+    old, ran = standing(path), runs.clean(path)
     wanted = ["ok 0 number=0", *["ok 1 number=0", "closed 1"] * count]
     runs.need(replies == wanted, f"{what}: who stayed replied {replies}")
     world = check_rounds(runs, path, processes, old, ran, what)

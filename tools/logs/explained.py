@@ -9,9 +9,9 @@ MAKER, NODE = 1, 2
 
 
 def blocks(lines):
-    """Each line that isn't indented, with the indented ones behind it."""
+    """Each line that is neither indented nor empty, with the indented ones behind it."""
     found = []
-    for line in lines:
+    for line in filter(None, lines):
         if line.startswith("  ") and found:
             found[-1].append(line)
         else:
@@ -49,6 +49,8 @@ def explained(runs, _data):
     fine = ran.status == 0 and not ran.err and plain.status == 0 and not plain.err
     runs.need(fine, f"explained: {ran}, and without explanations {plain}")
     found = blocks(ran.out)
+    apart = ran.out.count("") == len(lines + others) and ran.out[-1:] == [""]
+    runs.need(apart, f"explained: no empty line ends each of {ran.out}")
     runs.need([block[0] for block in found] == plain.out, f"explained: it replied {found}, and not {plain.out}")
     runs.need(found[: len(lines)] == wanted[1:-1], f"explained: it wrote {found}, and not {wanted[1:-1]}")
     runs.need(all(len(block) == 1 for block in found[len(lines) :]), f"explained: without an access: {found}")

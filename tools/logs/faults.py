@@ -152,12 +152,13 @@ def make_things(runs, data):
     os.mkfifo(things[3][0])
     things.append((runs.file("empty", b""), NO_LOG))
     things.append((runs.file("foreign", b"These are lines of another program.\n" * 9), NO_LOG))
-    things.append((runs.file("newer", data[:7] + b"\x02" + data[8:]), "is a log of version 2"))
+    things.append((runs.file("newer", data[:7] + b"\x03" + data[8:]), "is a log of version 3"))
+    things.append((runs.file("older", data[:7] + b"\x01" + data[8:]), "is a log of version 1"))
     return things
 
 
 def refused_things(runs, data):
-    """A folder, a link, a pipe, an empty and a foreign file, and one of another version."""
+    """A folder, a link, a pipe, an empty and a foreign file, and those of other versions."""
     for path, name in make_things(runs, data):
         before = snapshot(path)
         check_refused(runs, path, before, runs.run(path, NODE, LINES), [name], f"{path.parent.name}")

@@ -1,4 +1,4 @@
-"""The bytes of a log's file: its header, its entries, what stands after the last whole one, and descriptions.
+"""The bytes of a log's file: its header, its entries, what stands after the last of them, and descriptions.
 
 Made from docs/LOG_FORM.md and docs/BYTE_FORM.md alone, as a second reader beside iceoryx2_file_log, iceoryx2_log and
 iceoryx2_byte_form.
@@ -9,8 +9,8 @@ from functools import lru_cache
 
 # Of a file: what stands before the entries.
 MAGIC = b"IOX2LOG"
-VERSION = 1
-FILE_HEADER_LENGTH = 40
+VERSION = 2
+FILE_HEADER_LENGTH = 48
 NAME_LENGTH = 16
 # Of an entry.
 HEADER_LENGTH = 8
@@ -28,7 +28,11 @@ DEEDS = {
     7: ("publish", ("number", "form")),
     8: ("open_segment", ("number", "ticket")),
     9: ("release", ("ticket", "number")),
+    10: ("spend", ("number",)),
+    11: ("moved", ()),
 }
+# The deed of no access: the log goes on in another file.
+MOVED = "moved"
 # Of a description.
 FORM_MAGIC = b"IOX2"
 MOST_ATTRIBUTES = 64
@@ -290,10 +294,17 @@ def front_of(data, at):
 
 @dataclass(frozen=True)
 class Header:
-    """What stands before the entries: the log's name, and with which number its counter begins."""
+    """What stands before the entries: the log's name, with which number its counter begins, and how many bytes of
+    entries are a snapshot."""
 
     name: bytes
     counter: int
+    snapshot_length: int = 0
+
+    @property
+    def snapshot_end(self):
+        """The byte after the snapshot."""
+        return FILE_HEADER_LENGTH + self.snapshot_length
 
 
 def read_header(data):
@@ -305,30 +316,52 @@ def read_header(data):
     summed, total = data[: FILE_HEADER_LENGTH - SUM_LENGTH], data[FILE_HEADER_LENGTH - SUM_LENGTH : FILE_HEADER_LENGTH]
     if len(data) < FILE_HEADER_LENGTH or hashlib.sha1(summed).digest()[:SUM_LENGTH] != total:
         raise Wrong(0, "is damaged at byte 0")
-    begin = len(MAGIC) + 1
-    return Header(summed[begin : begin + NAME_LENGTH], int.from_bytes(summed[begin + NAME_LENGTH :], "big"))
+    parts = Parts(summed[len(MAGIC) + 1 :])
+    return Header(parts.take(NAME_LENGTH), parts.number(), parts.number())
 
 
 @dataclass
 class Log:
-    """A log as it was read: its header, its whole entries, and how many bytes of its end are torn."""
+    """A log as it was read: its header, its whole entries without a mark, and how many bytes stand after these. They
+    are torn, or the mark by which the log goes on in another file."""
 
     header: Header
     entries: list
     whole: int
     torn: int
+    is_moved: bool = False
+
+    @property
+    def snapshot(self):
+        """The entries with which a compacted log begins."""
+        return [entry for entry in self.entries if entry.at < self.header.snapshot_end]
 
 
 def entries_of(data, at=FILE_HEADER_LENGTH):
-    """Each whole entry from there on."""
+    """Each whole entry from there on, the mark among them."""
     while isinstance(entry := front_of(data, at), Entry):
+        if entry.deed == MOVED and entry.end < len(data):
+            raise Wrong(at, f"is damaged at byte {at}")
         yield entry
         at = entry.end
+
+
+def check_snapshot(header, entries):
+    """The snapshot is whole, and ends where an entry does."""
+    ends = [FILE_HEADER_LENGTH, *(entry.end for entry in entries)]
+    if ends[-1] < header.snapshot_end:
+        raise Wrong(ends[-1], f"is damaged at byte {ends[-1]}")
+    if header.snapshot_end not in ends:
+        raise Wrong(header.snapshot_end, "its snapshot ends within an entry")
 
 
 def read_log(data):
     """The log that the bytes of a file are."""
     header = read_header(data)
     entries = list(entries_of(data))
+    is_moved = bool(entries) and entries[-1].deed == MOVED
+    if is_moved:
+        entries.pop()
+    check_snapshot(header, entries)
     whole = entries[-1].end if entries else FILE_HEADER_LENGTH
-    return Log(header, entries, whole, len(data) - whole)
+    return Log(header, entries, whole, len(data) - whole, is_moved)

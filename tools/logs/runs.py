@@ -10,7 +10,8 @@ from collections import Counter
 from concurrent.futures import ThreadPoolExecutor
 from dataclasses import dataclass
 
-from logs.form import Wrong, read_header, read_log
+from logs import history
+from logs.form import FILE_HEADER_LENGTH, Wrong, read_header, read_log
 from logs.world import World
 
 # How long a run may take, and how long its program waits for a log that others hold, where nothing else is said.
@@ -40,8 +41,10 @@ class Ran:
 class Runs:
     """Runs the program, counts what is done, and keeps what is wrong."""
 
-    def __init__(self, program, room, seed):
+    def __init__(self, program, room, seed, calls):
         self.program, self.room, self.random = program, room, random.Random(seed)
+        # The library that tools/calls.c makes.
+        self.calls = calls
         self.counts, self.wrong, self.names = Counter(), [], set()
         self.mutex = threading.Lock()
 
@@ -57,6 +60,11 @@ class Runs:
                 self.wrong.append(what)
         return holds
 
+    def environment(self, path, **others):
+        """That of a program at this log: each file is kept whose path another takes."""
+        folder = history.kept_folder(path)
+        return {**os.environ, "LD_PRELOAD": self.calls, "CALLS_KEEP": str(folder), **others}
+
     def words(self, path, node, wait=PATIENCE, flags=()):
         """The words by which the program is run. Without a node it takes a free one."""
         named = [] if node is None else ["--node", str(node)]
@@ -65,6 +73,7 @@ class Runs:
     def run(self, path, node, lines, wait=PATIENCE, flags=(), **others):
         """Runs the program on some lines until it ends."""
         self.count("calls", len(lines))
+        others = {"env": self.environment(path), **others}
         return self.ran(self.words(path, node, wait, flags), lines, **others)
 
     def nodes(self, path):
@@ -73,7 +82,8 @@ class Runs:
 
     def clean(self, path, wait=PATIENCE):
         """Has the program clean up for dead nodes."""
-        return self.ran([self.program, "clean", "--at", str(path), "--wait", str(wait)])
+        words = [self.program, "clean", "--at", str(path), "--wait", str(wait)]
+        return self.ran(words, env=self.environment(path))
 
     def ran(self, words, lines=(), **others):
         """Runs the program by these words on some lines until it ends."""
@@ -108,12 +118,16 @@ class Runs:
         self.need(not world.without_effect, f"{what}: {world.without_effect} entries had no effect")
         return log, world
 
+    def replay_all(self, path, what):
+        """The log of a path with all of its files, and the world that it comes to; nothing where something is wrong."""
+        return history.replay(self, path, what)
+
     def file(self, name, data=None):
         """A path in a folder of its own, with these bytes in its file where there are some."""
-        folder = self.room / name
-        shutil.rmtree(folder, ignore_errors=True)
-        folder.mkdir(mode=0o755)
-        path = folder / "log"
+        path = self.room / name / "log"
+        for folder in (path.parent, history.kept_folder(path)):
+            shutil.rmtree(folder, ignore_errors=True)
+            folder.mkdir(mode=0o755)
         if data is not None:
             path.write_bytes(data)
         return path
@@ -122,10 +136,11 @@ class Runs:
 class Living:
     """A process of the program that is given line after line."""
 
-    def __init__(self, runs, path, node, flags=(), wait=PATIENCE):
+    def __init__(self, runs, path, node, flags=(), wait=PATIENCE, **environment):
         self.runs, self.node = runs, node
         streams = {name: subprocess.PIPE for name in ("stdin", "stdout", "stderr")}
-        self.process = subprocess.Popen(runs.words(path, node, wait, flags), **streams)
+        words = runs.words(path, node, wait, flags)
+        self.process = subprocess.Popen(words, env=runs.environment(path, **environment), **streams)
         self.timer = None
         self.watch()
         runs.count("processes")
@@ -150,6 +165,15 @@ class Living:
         while line == "list" and text and not text.endswith(b" services\n"):
             text = self.process.stdout.readline()
         return text.decode().rstrip("\n") if text else None
+
+    def listing(self):
+        """All lines of a list."""
+        self.process.stdin.write(b"list\n")
+        self.process.stdin.flush()
+        lines = [self.process.stdout.readline()]
+        while lines[-1] and not lines[-1].endswith(b" services\n"):
+            lines.append(self.process.stdout.readline())
+        return [line.decode().rstrip("\n") for line in lines]
 
     def end(self):
         """Has it end by itself, and gives what it wrote since then."""
@@ -198,7 +222,7 @@ def fronts_of(data):
     """The whole fronts of a log: where each ends, with the world's listing and counter there."""
     world = World(read_header(data).counter)
     log = read_log(data)
-    fronts = [(40, world.listing(), world.counter)]
+    fronts = [(FILE_HEADER_LENGTH, world.listing(), world.counter)]
     for entry in log.entries:
         world.follow(entry)
         fronts.append((entry.end, world.listing(), world.counter))

@@ -8,7 +8,8 @@ import hashlib
 import struct
 
 from logs.form import Entry, Header, Malformed, Wrong, front_of, read_description, read_header, read_log
-from logs.world import Phase, Row, Segment, Ticket, World, later_fault
+from logs.history import same_worlds
+from logs.world import LAST_NUMBER, Phase, Row, Segment, Ticket, World, later_fault
 
 LOCK_VECTOR = bytes.fromhex(
     "00000025 ffffffda 48de62d870bebddb 03 0000000000000002 101112131415161718191a1b1c1d1e1f20212223 0000000000000005"
@@ -24,7 +25,18 @@ PUBLISH_VECTOR = bytes.fromhex(
     "00000029 ffffffd6 2ace166e1477613e 07 0000000000000102 101112131415161718191a1b1c1d1e1f20212223"
     "0000000000000005 494f5832"
 )
-HEADER_VECTOR = bytes.fromhex("494f58324c4f47 01 202122232425262728292a2b2c2d2e2f 0000000000000102 4542139d9f15753c")
+SPEND_VECTOR = bytes.fromhex(
+    "00000025 ffffffda 64ae3c4ae1aa01b4 0a 0000000000000002 0000000000000000000000000000000000000000 0000000000000009"
+)
+MOVED_VECTOR = bytes.fromhex(
+    "0000001d ffffffe2 0e5303137d02872b 0b 0000000000000000 0000000000000000000000000000000000000000"
+)
+HEADER_VECTOR = bytes.fromhex(
+    "494f58324c4f47 02 202122232425262728292a2b2c2d2e2f 0000000000000102 0000000000000000 d401b45113382e8c"
+)
+SNAPSHOT_VECTOR = bytes.fromhex(
+    "494f58324c4f47 02 202122232425262728292a2b2c2d2e2f 0000000000000000 0000000000000035 1e9c192e950b4db6"
+)
 FORM_VECTOR = bytes.fromhex(
     "494f5832 01" + "11" * 20 + "0001 61 0000 01"
     "0000000000000010 0000000000000010 00000000000000ff 0000000000000024 00000000"
@@ -32,15 +44,18 @@ FORM_VECTOR = bytes.fromhex(
 DEADLINE_VECTOR = bytes.fromhex("01 0000000000000001 000001f4 0000000000000000 00000000")
 HASH = bytes([0x11]) * 20
 OTHER = bytes([0x22]) * 20
+ZEROS = bytes(20)
 KINDS = "make_tag remove_tag lock make_segment remove_segment remove_description publish open_segment release".split()
+KINDS += ["spend", "moved"]
+KINDS_CREATED = ["make_tag", "lock", "make_segment", "publish"]
 
 
 # ---- the writer
 
 
-def header_bytes(name=bytes(16), counter=0):
+def header_bytes(name=bytes(16), counter=0, snapshot_length=0):
     """The header of a file."""
-    summed = b"IOX2LOG\x01" + name + struct.pack(">Q", counter)
+    summed = b"IOX2LOG\x02" + name + struct.pack(">QQ", counter, snapshot_length)
     return summed + hashlib.sha1(summed).digest()[:8]
 
 
@@ -126,6 +141,15 @@ def ended(node, number, ticket, found=HASH):
 # ---- the tests
 
 
+MARK = entry_bytes("moved", 0, found=ZEROS)
+
+
+def snapshot_file(snapshot, entries=()):
+    """A compacted log: its header, a snapshot of these entries, and others."""
+    bytes_of = b"".join(snapshot)
+    return header_bytes(snapshot_length=len(bytes_of)) + bytes_of + b"".join(entries)
+
+
 def replayed(entries, counter=0):
     """The world that entries come to."""
     world = World(counter)
@@ -171,10 +195,16 @@ def test_vectors(tests):
         (MAKE_TAG_VECTOR, Entry(0, 45, "make_tag", 1, found)),
         (OPEN_VECTOR, Entry(0, 61, "open_segment", 0x0102030405060708, found, number=5, ticket=9)),
         (PUBLISH_VECTOR, Entry(0, 57, "publish", 258, found, number=5, form=b"IOX2")),
+        (SPEND_VECTOR, Entry(0, 53, "spend", 2, ZEROS, number=9)),
+        (MOVED_VECTOR, Entry(0, 45, "moved", 0, ZEROS)),
     ):
         tests.same("a vector", front_of(form, 0), wanted)
-    tests.same("the header's vector", read_header(HEADER_VECTOR), Header(name, 258))
+    tests.same("the header's vector", read_header(HEADER_VECTOR), Header(name, 258, 0))
     tests.same("the header as it is written", header_bytes(name, 258), HEADER_VECTOR)
+    tests.same("a compacted log's vector", read_header(SNAPSHOT_VECTOR), Header(name, 0, 53))
+    tests.same("the same as it is written", header_bytes(name, 0, 53), SNAPSHOT_VECTOR)
+    tests.same("spent numbers as they are written", entry_bytes("spend", 2, 9, found=ZEROS), SPEND_VECTOR)
+    tests.same("the mark as it is written", MARK, MOVED_VECTOR)
     tests.same("the lock's vector", front_of(LOCK_VECTOR + b"more", 0), lock)
     tests.same("the lock as it is written", entry_bytes("lock", 2, 5, found=lock.hash), LOCK_VECTOR)
     tests.same("events as they are written", event_form(), FORM_VECTOR)
@@ -224,10 +254,12 @@ def test_headers(tests):
     for data, word in (
         (b"", "0: is no log"),
         (HEADER_VECTOR[:7], "0: is no log"),
-        (b"iOX2LOG\x01" + HEADER_VECTOR[8:], "0: is no log"),
-        (b"IOX2LOG\x02" + HEADER_VECTOR[8:], "0: is a log of version 2"),
+        (b"iOX2LOG\x02" + HEADER_VECTOR[8:], "0: is no log"),
+        (b"IOX2LOG\x01" + HEADER_VECTOR[8:], "0: is a log of version 1"),
+        (b"IOX2LOG\x03" + HEADER_VECTOR[8:], "0: is a log of version 3"),
         (HEADER_VECTOR[:8], "0: is damaged at byte 0"),
-        (HEADER_VECTOR[:39], "0: is damaged at byte 0"),
+        (HEADER_VECTOR[:40], "0: is damaged at byte 0"),
+        (HEADER_VECTOR[:47], "0: is damaged at byte 0"),
         (bytes(changed), "0: is damaged at byte 0"),
     ):
         tests.same("a header", refusal(lambda data=data: read_header(data)), word)
@@ -247,7 +279,7 @@ def test_ends(tests):
         found = refusal(lambda other=other: read_log(front + other + first))
         tests.same(f"byte {place} before another", found, f"{len(front)}: is damaged at byte {len(front)}")
     damage = f"{len(front)}: is damaged at byte {len(front)}"
-    unknown = sealed(b"\x0a" + bytes(28))
+    unknown = sealed(b"\x0c" + bytes(28))
     longer = sealed(last[16:] + b"\x00")
     short, long = sealed(bytes(28)), sealed(bytes(1048577))
     ends = {"garbage": b"x" * 8, "a kind": unknown, "details": longer, "short": short, "long": long[:99]}
@@ -256,8 +288,58 @@ def test_ends(tests):
     tests.same("the longest", read_log(front + sealed(b"\x07" + bytes(1048575))).entries[1].form, bytes(1048539))
 
 
+def test_compacted(tests):
+    """A log that begins with a snapshot, and one that goes on in another file."""
+    snapshot = [entry_bytes("spend", 0, 7, found=ZEROS), *created(number=7)]
+    log = read_log(snapshot_file(snapshot, opened(2, 7, 8)))
+    tests.same("a snapshot", ([entry.deed for entry in log.snapshot], len(log.entries)), (["spend", *KINDS_CREATED], 7))
+    count = len(b"".join(snapshot))
+    for wrong in (1, 52, 54, count - 1):
+        data = header_bytes(snapshot_length=wrong) + b"".join(snapshot)
+        tests.names("a snapshot's end", refusal(lambda data=data: read_log(data)), "within an entry")
+    for rest in (b"", MARK, MARK[:9]):
+        for number in range(len(snapshot)):
+            front = header_bytes(snapshot_length=count) + b"".join(snapshot[:number])
+            found = refusal(lambda data=front + rest: read_log(data))
+            tests.same("a snapshot cut short", found, f"{len(front)}: is damaged at byte {len(front)}")
+    front = header_bytes() + b"".join(created())
+    log = read_log(front + MARK)
+    tests.same("a mark", (len(log.entries), log.whole, log.torn, log.is_moved), (4, len(front), len(MARK), True))
+    log = read_log(front + MARK[:-1])
+    tests.same("a torn mark", (len(log.entries), log.torn, log.is_moved), (4, len(MARK) - 1, False))
+    for rest in (b"\x00", MARK[:1], MARK, created()[0]):
+        found = refusal(lambda rest=rest: read_log(front + MARK + rest))
+        tests.same("more after a mark", found, f"{len(front)}: is damaged at byte {len(front)}")
+    world = replayed(snapshot)
+    tests.same("what was spent", (world.counter, world.rows[HASH].number, world.tickets[7].node), (8, 7, 1))
+    tests.same("none spent", replayed([entry_bytes("spend", 3, 0)]).counter, 0)
+    last = replayed([entry_bytes("spend", 3, LAST_NUMBER)])
+    tests.same("all spent", (last.counter, last.disagreement()), (LAST_NUMBER, None))
+
+
+def test_same(tests):
+    """A snapshot that comes to what stood, and those that don't, each by what differs."""
+    history = created() + opened(2, 0, 1) + [entry_bytes("open_segment", 2, 0, 2)] + left(1, 0, 0)
+    stood = replayed([*history, entry_bytes("release", 2, 1, 0)])
+    opening, spent = opened(2, 0, 2), entry_bytes("spend", 0, 2, found=ZEROS)
+    make, lock, segment, publish = created()
+    release = entry_bytes("release", 1, 0, 0)
+    whole = [lock, segment, publish, spent, *opening, release]
+    tests.same("a snapshot", same_worlds(stood, replayed(whole)), None)
+    for entries, word in (
+        ([*whole, make], "tags: "),
+        ([lock, segment, publish, spent, opening[1], release], "tags: "),
+        ([*whole, entry_bytes("spend", 0, 4, found=ZEROS)], "counter: "),
+        ([lock, segment, publish, spent, *opening], "segments: "),
+        ([lock, segment, publish, *opened(2, 0, 1), spent, release], "tickets: "),
+        ([lock, entry_bytes("make_segment", 1, 0, 9), created(form=event_form(9))[3]], "rows: "),
+        ([lock], "rows: "),
+    ):
+        tests.names("another snapshot", same_worlds(stood, replayed(entries)) or "nothing", word)
+
+
 def test_worlds(tests):
-    """What creates, opens and closes come to: all nine deeds."""
+    """What creates, opens and closes come to: the nine accesses."""
     world = replayed(created())
     tests.same("a create", world.listing(), [f"event a {HASH.hex()} number=0 nodes=1/36", "1 services"])
     tests.same("its creator", (world.left_by(1), world.counter), ((1, 1, 1), 1))
@@ -308,6 +390,11 @@ def test_refusals(tests):
         (service, entry_bytes("release", 1, 1, 0), "the ticket is of None"),
         (marked, entry_bytes("release", 1, 0, 0), "the ticket is of None"),
         (marked, entry_bytes("lock", 2, 1), "there is a row"),
+        (service, entry_bytes("spend", 1, 5), "there is a row"),
+        (service, entry_bytes("spend", 9, 5), "there is a row"),
+        (service, entry_bytes("spend", 9, 0, found=OTHER), "the counter 1"),
+        ([lock], entry_bytes("spend", 2, 4), "there is a row"),
+        ([entry_bytes("spend", 9, LAST_NUMBER)], entry_bytes("lock", 1, LAST_NUMBER), "no number is left"),
     ):
         at = len(header_bytes()) + sum(map(len, before))
         found = refusal(lambda before=before, entry=entry: replayed([*before, entry]))
@@ -362,7 +449,7 @@ def test_disagreements(tests):
 def main():
     """Runs all tests."""
     tests = Tests()
-    for test in (test_vectors, test_descriptions, test_headers, test_ends):
+    for test in (test_vectors, test_descriptions, test_headers, test_ends, test_compacted, test_same):
         test(tests)
     for test in (test_worlds, test_refusals, test_disagreements):
         test(tests)

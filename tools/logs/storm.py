@@ -1,6 +1,7 @@
 """Processes that use one log at the same time, half of which are killed."""
 import fcntl
 import hashlib
+import os
 import random
 import re
 import signal
@@ -9,7 +10,8 @@ import threading
 import time
 from collections import Counter
 
-from logs.form import FILE_HEADER_LENGTH, Entry, Wrong, entries_of, front_of, read_log
+from logs.form import FILE_HEADER_LENGTH, MOVED, Entry, Wrong, entries_of, front_of, read_log
+from logs.history import check_beside, file_number, standing
 from logs.runs import FAULT, NO_CLEAN, SECONDS, node_path
 from logs.world import World
 
@@ -65,24 +67,24 @@ class Process(threading.Thread):
         self.is_killed, self.is_late, self.replies = is_killed, False, []
         self.services, self.listings = [], []
         self.process, self.status, self.err = None, None, ""
-        # How long the log was before it began, just before it was killed, and after it had ended.
-        self.began = self.struck = self.ended = 0
-
-    def length(self):
-        """How long the log is."""
-        return self.path.stat().st_size if self.path.exists() else 0
+        # Where the log stood before it began, just before it was killed, and after it had ended; and then the places.
+        self.began = self.struck = self.ended = None
 
     def run(self):
         """Runs the process to its end, or kills it. It is started anew where its node is another's for a moment."""
-        self.began = self.length()
+        self.began = standing(self.path)
         for _ in range(STARTS):
             self.live()
-            self.ended = self.length()
+            self.ended = standing(self.path)
             if not self.is_refused():
                 break
             self.runs.count("starts refused")
         self.is_killed = self.is_killed and self.status == -signal.SIGKILL
         self.struck = self.struck if self.is_killed else self.ended
+
+    def settle(self, history):
+        """Has it know the places in the whole log."""
+        self.began, self.struck, self.ended = map(history.place, (self.began, self.struck, self.ended))
 
     def is_refused(self):
         """Whether its node was another's, who cleaned up for it or looked at it."""
@@ -92,7 +94,8 @@ class Process(threading.Thread):
         """Runs the process to its end, or kills it."""
         with open(self.path.parent / f"errors-{self.node}", "w+b") as errors:
             words = self.runs.words(self.path, self.node, flags=self.flags)
-            process = subprocess.Popen(words, stdin=subprocess.PIPE, stdout=subprocess.PIPE, stderr=errors)
+            streams = {"stdin": subprocess.PIPE, "stdout": subprocess.PIPE, "stderr": errors}
+            process = subprocess.Popen(words, env=self.runs.environment(self.path), **streams)
             self.process = process
             timer = threading.Timer(SECONDS, self.stop, [process])
             timer.start()
@@ -124,7 +127,7 @@ class Process(threading.Thread):
             process.stdin.flush()
             if begin >= last:
                 time.sleep(self.drawn.random() * KILL_SECONDS)
-                self.struck = self.length()
+                self.struck = standing(self.path)
                 process.kill()
             while len(self.replies) < end and self.read(process):
                 pass
@@ -157,12 +160,12 @@ class Process(threading.Thread):
 
 
 class Watcher(threading.Thread):
-    """Looks at the file again and again: what was whole once has to stay."""
+    """Looks at the file again and again: what was whole once has to stay, until the log goes on in another file."""
 
     def __init__(self, runs, path, what):
         super().__init__(daemon=True)
         self.runs, self.path, self.what = runs, path, what
-        self.seen, self.is_over = b"", threading.Event()
+        self.file, self.seen, self.is_over = None, b"", threading.Event()
 
     def run(self):
         """Looks until it is over."""
@@ -172,21 +175,35 @@ class Watcher(threading.Thread):
 
     def look(self):
         """Compares the file with what was seen whole of it, and adds what is whole since."""
-        data = self.path.read_bytes()
+        is_same = self.file is not None and file_number(os.fstat(self.file.fileno())) == standing(self.path)[0]
+        if self.file is not None and not self.compare(is_same):
+            return False
+        if is_same:
+            return True
+        if self.file is not None:
+            self.file.close()
+        self.file, self.seen = open(self.path, "rb"), b""
+        return True
+
+    def compare(self, is_same):
+        """Compares the file that it has open, which has the path still or ends with a mark."""
+        self.file.seek(0)
+        data = self.file.read()
         self.runs.count("looks")
         if not data.startswith(self.seen):
             why = f"{len(self.seen)} bytes were whole, and not all of them are there"
             return self.runs.need(False, f"{self.what}: {why}")
-        at = max(len(self.seen), FILE_HEADER_LENGTH)
+        at, is_moved = max(len(self.seen), FILE_HEADER_LENGTH), False
         try:
             for entry in entries_of(data, at):
-                at = entry.end
+                is_moved = entry.deed == MOVED
+                at = at if is_moved else entry.end
         except Wrong:
             # Another process may be writing there. Whether it stays so is seen when all have ended.
             pass
         if len(data) >= FILE_HEADER_LENGTH:
             self.seen = data[:at]
-        return True
+        return self.runs.need(is_same or is_moved, f"{self.what}: another file has the path, and the old one no mark")
 
 
 class DyingWriter(threading.Thread):
@@ -212,7 +229,7 @@ class DyingWriter(threading.Thread):
             first, log = front_of(data, FILE_HEADER_LENGTH), read_log(data)
         except Wrong:
             return
-        if not isinstance(first, Entry) or log.torn:
+        if not isinstance(first, Entry) or log.torn or file_number(os.fstat(file.fileno())) != standing(self.path)[0]:
             return
         form = data[first.at : first.end]
         cut = self.drawn.randrange(1, len(form) + 1)
@@ -302,18 +319,17 @@ def check_file(runs, path, log, what):
     runs.names.add(log.header.name)
 
 
-def check_afterwards(runs, path, data, processes, what):
+def check_afterwards(runs, path, before, processes, what):
     """A new process cleans up for those that were killed, goes on where the others ended, and leaves nothing."""
     node = PROCESSES + 1
     ran = runs.run(path, node, [f"event create {node} 0 afterwards", "list"])
     fine = ran.status == 0 and not ran.err and ran.out[:1] and ran.out[0].startswith("ok 0 ")
     runs.need(fine and ran.out[-1] == "1 services", f"{what}, afterwards: {ran}")
-    after = path.read_bytes()
-    whole = read_log(data).whole
-    runs.need(after[:whole] == data[:whole], f"{what}, afterwards: a whole entry is gone")
-    replayed = runs.replay(after, f"{what}, afterwards")
+    replayed = runs.replay_all(path, f"{what}, afterwards")
     if replayed:
-        log, world = replayed
+        log, world = replayed[0].log, replayed[1]
+        is_kept = log.entries[: len(before.entries)] == before.entries
+        runs.need(is_kept, f"{what}, afterwards: a whole entry is gone")
         runs.need(not log.torn, f"{what}, afterwards: {log.torn} bytes are torn")
         runs.need(not world.remains(), f"{what}, afterwards: there is {world.remains()}")
         check_given_back(runs, processes, log, f"{what}, afterwards")
@@ -350,13 +366,15 @@ def storm(runs, seed, flags=()):
         check_replies(runs, process, f"{what}, node {process.node}")
     if not runs.need(path.exists(), f"{what}: there is no log"):
         return
-    data = path.read_bytes()
-    replayed = runs.replay(data, what)
+    replayed = runs.replay_all(path, what)
     if replayed:
+        log, world = replayed[0].log, replayed[1]
         for process in processes:
-            check_entries(runs, process, replayed[0], f"{what}, node {process.node}", cleans)
-        check_given_back(runs, processes, replayed[0], what, GIVING_BACK if cleans else ())
-        check_listings(runs, processes, replayed[0], what)
-        check_world(runs, processes, replayed[1], what)
-        check_file(runs, path, replayed[0], what)
-        check_afterwards(runs, path, data, processes, what)
+            process.settle(replayed[0])
+            check_entries(runs, process, log, f"{what}, node {process.node}", cleans)
+        check_given_back(runs, processes, log, what, GIVING_BACK if cleans else ())
+        check_listings(runs, processes, log, what)
+        check_world(runs, processes, world, what)
+        check_file(runs, path, log, what)
+        check_beside(runs, path, what, most=1)
+        check_afterwards(runs, path, log, processes, what)

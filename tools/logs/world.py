@@ -77,13 +77,17 @@ class World:
     def follow(self, entry):
         """Makes the entry's access, and tests that the world is a later one and agrees."""
         before, counter = self.rows.get(entry.hash), self.counter
+        self.make(entry)
+        for why in (later_fault(before, self.rows.get(entry.hash), counter), self.disagreement()):
+            if why:
+                raise Wrong(entry.at, f"after {entry.deed} of node {entry.node} the world doesn't agree: {why}")
+
+    def make(self, entry):
+        """Makes the entry's access, and tests nothing else."""
         try:
             self.grant(entry)
         except NotGranted as refusal:
             raise Wrong(entry.at, f"node {entry.node}: {entry.deed} isn't granted: {refusal}") from None
-        for why in (later_fault(before, self.rows.get(entry.hash), counter), self.disagreement()):
-            if why:
-                raise Wrong(entry.at, f"after {entry.deed} of node {entry.node} the world doesn't agree: {why}")
 
     def grant(self, entry):
         """Makes the entry's access, or refuses it and changes nothing."""
@@ -110,7 +114,7 @@ class World:
         """The node holds nothing any more."""
         self.phases.pop((entry.node, entry.hash), None)
 
-    # ---- the nine accesses that are written down
+    # ---- the nine accesses that are written down, and numbers that are spent
 
     def make_tag(self, entry):
         """The tag is there."""
@@ -180,6 +184,13 @@ class World:
         self.move(entry, "Joined", entry.number, phase.count + 1)
         self.tickets[entry.ticket] = Ticket(entry.node, entry.hash, entry.number)
         self.counter += 1
+
+    def spend(self, entry):
+        """The counter goes on at the number: the node has locked each one before it, and given it up."""
+        need(entry.hash not in self.rows, "there is a row")
+        need(self.phase(entry) is None, f"the node is at {self.phase(entry)}")
+        need(self.counter <= entry.number, f"the number is {entry.number}, and the counter {self.counter}")
+        self.counter = entry.number
 
     def phase_for_opening(self, entry):
         """Where the node is, after it has read what is published."""

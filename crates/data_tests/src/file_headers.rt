@@ -6,10 +6,17 @@ use std::alloc::Global;
 use std::process::Abort;
 
 /// The log whose name is the bytes from `20` on, and whose counter begins with 258. The example of docs/LOG_FORM.md.
-pub const HEADER: [u8; 40] = [
-    0x49, 0x4f, 0x58, 0x32, 0x4c, 0x4f, 0x47, 0x01, 0x20, 0x21, 0x22, 0x23, 0x24, 0x25, 0x26, 0x27,
+pub const HEADER: [u8; 48] = [
+    0x49, 0x4f, 0x58, 0x32, 0x4c, 0x4f, 0x47, 0x02, 0x20, 0x21, 0x22, 0x23, 0x24, 0x25, 0x26, 0x27,
     0x28, 0x29, 0x2a, 0x2b, 0x2c, 0x2d, 0x2e, 0x2f, 0x00, 0x00, 0x00, 0x00, 0x00, 0x00, 0x01, 0x02,
-    0x45, 0x42, 0x13, 0x9d, 0x9f, 0x15, 0x75, 0x3c,
+    0x00, 0x00, 0x00, 0x00, 0x00, 0x00, 0x00, 0x00, 0xd4, 0x01, 0xb4, 0x51, 0x13, 0x38, 0x2e, 0x8c,
+];
+
+/// The same log where its counter begins with 0, and a snapshot of 53 bytes follows.
+pub const SNAPSHOT_HEADER: [u8; 48] = [
+    0x49, 0x4f, 0x58, 0x32, 0x4c, 0x4f, 0x47, 0x02, 0x20, 0x21, 0x22, 0x23, 0x24, 0x25, 0x26, 0x27,
+    0x28, 0x29, 0x2a, 0x2b, 0x2c, 0x2d, 0x2e, 0x2f, 0x00, 0x00, 0x00, 0x00, 0x00, 0x00, 0x00, 0x00,
+    0x00, 0x00, 0x00, 0x00, 0x00, 0x00, 0x00, 0x35, 0x1e, 0x9c, 0x19, 0x2e, 0x95, 0x0b, 0x4d, 0xb6,
 ];
 
 const NAME: [u8; 16] = [
@@ -17,20 +24,28 @@ const NAME: [u8; 16] = [
 ];
 
 fn example() -> Header {
-    let name = LogName(NAME);
-    Header { name, counter: 258 }
+    Header {
+        name: LogName(NAME),
+        counter: 258,
+        snapshot_length: 0,
+    }
 }
 
-/// Whether the form of the example is this one, and it is read from it.
-fn both_ways(rt: &impl Abort, alloc: Global) -> (bool, bool) {
-    let made = match encode(alloc, &example()) {
+fn with_snapshot() -> Header {
+    Header {
+        name: LogName(NAME),
+        counter: 0,
+        snapshot_length: 53,
+    }
+}
+
+/// Whether the form of the header is this one, and it is read from it.
+fn both_ways(rt: &impl Abort, alloc: Global, header: &Header, form: &[u8]) -> (bool, bool) {
+    let made = match encode(alloc, header) {
         Ok(bytes) => bytes,
         Err(_) => panic!(rt; "not encoded"),
     };
-    (
-        made.as_slice() == HEADER.as_slice(),
-        decode(&HEADER) == Ok(example()),
-    )
+    (made.as_slice() == form, decode(form) == Ok(*header))
 }
 
 /// What the example's form is read as, cut off at this length.
@@ -52,7 +67,11 @@ fn changed(place: usize, byte: u8) -> Result<Header, HeaderError> {
 
 #[test]
 fn a_header_has_its_form(rt: HostRuntime) {
-    assert_same(&rt, both_ways(&rt, rt.alloc()), (true, true));
+    let found = [
+        both_ways(&rt, rt.alloc(), &example(), &HEADER),
+        both_ways(&rt, rt.alloc(), &with_snapshot(), &SNAPSHOT_HEADER),
+    ];
+    assert_same(&rt, found, [(true, true), (true, true)]);
 }
 
 #[test]
@@ -63,10 +82,10 @@ fn bytes_without_the_magic_are_no_log(rt: HostRuntime) {
 
 #[test]
 fn another_version_is_named(rt: HostRuntime) {
-    let found = [changed(7, 0), changed(7, 2)];
+    let found = [changed(7, 1), changed(7, 3)];
     let (older, newer) = (
-        HeaderError::AnotherVersion { found: 0 },
-        HeaderError::AnotherVersion { found: 2 },
+        HeaderError::AnotherVersion { found: 1 },
+        HeaderError::AnotherVersion { found: 3 },
     );
     assert_same(&rt, found, [Err(older), Err(newer)]);
 }
@@ -75,10 +94,11 @@ fn another_version_is_named(rt: HostRuntime) {
 fn a_changed_or_cut_header_is_damaged(rt: HostRuntime) {
     let found = [
         cut(8),
-        cut(39),
+        cut(47),
         changed(8, 0x21),
         changed(31, 3),
-        changed(39, 0x3d),
+        changed(39, 1),
+        changed(47, 0x8d),
     ];
-    assert_same(&rt, found, [Err(HeaderError::Damaged); 5]);
+    assert_same(&rt, found, [Err(HeaderError::Damaged); 6]);
 }

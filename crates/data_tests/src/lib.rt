@@ -1,8 +1,11 @@
-//! Tests of attributes, names, settings, the byte forms, logs and nodes, with values from outside the program.
+//! Tests of attributes, names, settings, the byte forms, logs, nodes and what is printed of a world, with values from
+//! outside the program.
 #![tactic(auto)]
 
 #[cfg(test)]
 mod attributes;
+#[cfg(test)]
+mod crashes;
 #[cfg(test)]
 mod descriptions;
 #[cfg(test)]
@@ -19,3 +22,5 @@ mod memory_logs;
 mod nodes;
 #[cfg(test)]
 mod support;
+#[cfg(test)]
+mod views;

@@ -102,4 +102,28 @@ impl Log for ListLog {
     fn pause(&mut self, _number: u64) -> bool {
         false
     }
+
+    // It goes on nowhere else.
+
+    fn rejoin(&mut self) -> Result<u64, LogError> {
+        Err(LogError::Failed)
+    }
+
+    fn is_in_snapshot(&self) -> bool {
+        false
+    }
+
+    fn is_long(&self) -> bool {
+        false
+    }
+
+    fn begin_compaction(&mut self, _snapshot: &[Entry]) -> Result<u64, LogError> {
+        Err(LogError::Failed)
+    }
+
+    fn finish_compaction(&mut self) -> Result<(), LogError> {
+        Err(LogError::Failed)
+    }
+
+    fn abandon_compaction(&mut self) {}
 }
