@@ -36,6 +36,6 @@ fn main(rt: HostRuntime) -> ExitCode {
         }
         Err(error) => Err(tell_fault(Fault::of_reading(&error), &mut output)),
     };
-    let _ = report("explain", ended, &mut rt.stderr());
-    ExitCode::from(status(ended))
+    let _ = report("explain", &ended, &mut rt.stderr());
+    ExitCode::from(status(&ended))
 }

@@ -28,6 +28,6 @@ fn main(rt: HostRuntime) -> ExitCode {
         }
         Err(error) => Err(tell_fault(Fault::of_reading(&error), &mut output)),
     };
-    let _ = report("negotiate", ended, &mut rt.stderr());
-    ExitCode::from(status(ended))
+    let _ = report("negotiate", &ended, &mut rt.stderr());
+    ExitCode::from(status(&ended))
 }

@@ -115,8 +115,9 @@ fn draw_head(diagram: &mut String) -> Result<(), AllocError>
     diagram.push_str("    Note over storage: ")
 }
 
-/// Writes the characters of a note.
-fn draw_text(text: &str, diagram: &mut String) -> Result<(), AllocError>
+/// Writes a text with what has a meaning in Mermaid as entities, and a line's end as `<br/>`. `AllocError` where there is no
+/// memory; a front of it may then be written.
+pub fn draw_text(text: &str, diagram: &mut String) -> Result<(), AllocError>
     ensures { OnOk result (string_bytes diagram.new
         ≡ string_bytes diagram.old ++ flat_map escaped (chars text.now)) }
 {

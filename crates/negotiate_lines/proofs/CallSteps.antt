@@ -43,6 +43,9 @@ module _ {S : Type 0} (v : Vocabulary S) (admitted : Admitted) where
     pub says_nothing : ((said : Instruction S) → SaysTerm v admitted term said → ⊥) → (new : Arguments S) → TakesTerms v admitted old terms new → ⊥
     says_nothing none new run = let first = parted new run in none first.first.0 first.first.1
 
+    pub cannot_be_taken : ((mid : Arguments S) → TakesTerm v admitted old term mid → ⊥) → (new : Arguments S) → TakesTerms v admitted old terms new → ⊥
+    cannot_be_taken none new run = let first = parted new run in none first.mid first.first
+
     pub cannot_be_followed : (said : Instruction S) → SaysTerm v admitted term said → ((mid : Arguments S) → Follows old said mid → ⊥) → (new : Arguments S) → TakesTerms v admitted old terms new → ⊥
     cannot_be_followed said says none new run =
         let first = parted new run in

@@ -7,3 +7,8 @@ pub mod OneValue
 pub mod Reading
 pub mod Saying
 pub mod TermsOf
+pub mod Nearness
+pub mod Judging
+pub mod WrongTerms
+pub mod Judged
+pub mod OneCommand

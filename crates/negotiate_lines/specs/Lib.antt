@@ -4,3 +4,6 @@ pub mod CallTerms
 pub mod Vocabulary
 pub mod Values
 pub mod Terms
+pub mod Nearest
+pub mod WrongTexts
+pub mod Wrongs

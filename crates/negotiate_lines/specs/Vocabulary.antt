@@ -4,6 +4,8 @@ use Rattle.std.specs.Prelude.{if◌then◌else◌, bytes_eq, codes, IsTrue}
 use Rattle.std.specs.List.{list_any}
 use Rattle.iceoryx2_types.specs.Types.{Detail}
 use Rattle.iceoryx2_description.specs.Span.{Span}
+use Rattle.negotiate_lines.specs.declared.vocabulary.Kind.{Kind}
+use Rattle.negotiate_lines.specs.declared.vocabulary.Kind.TheVariants as kind
 use Rattle.negotiate_lines.specs.Values.{IsNatural, IsNoneOr, IsSpanTerm, IsTruthTerm, IsAlignmentTerm, IsDetailTerm}
 
 -- What kind of value a setting takes, and which setter is made of it. S are the setters of a pattern's builder.
@@ -14,6 +16,15 @@ pub data Takes (S : Type 0) : Type 0 where
   time : (Option Span → S) → Takes S
   alignment : (ℕ → S) → Takes S
   type : (Detail → S) → Takes S
+
+-- which kind of value that is
+abbrev pub kind_of : {S : Type 0} → Takes S → Kind
+kind_of (number setter) = kind.Number
+kind_of (truth setter) = kind.Truth
+kind_of (event setter) = kind.Event
+kind_of (time setter) = kind.Length
+kind_of (alignment setter) = kind.Alignment
+kind_of (type setter) = kind.Type
 
 -- the value says what the setter is given
 abbrev pub Gives : {A S : Type 0} → (List ℕ → A → Type 0) → (A → S) → List ℕ → S → Type 0
@@ -31,6 +42,10 @@ Sets (type setter) = Gives IsDetailTerm setter
 -- a row: the name of a setting, and what it takes
 abbrev pub Row : Type 0 → Type 0
 Row S = List ℕ × Takes S
+
+-- each name with the kind of value that its setting takes
+abbrev pub kinds_of : {S : Type 0} → List (Row S) → List (List ℕ × Kind)
+kinds_of rows = map (λ row. (row.0, kind_of row.1)) rows
 
 -- what stands in the first row of this name
 abbrev pub row_of : {A : Type 0} → List (List ℕ × A) → List ℕ → Option A

@@ -4,10 +4,12 @@ ghost use Rattle.std.specs.Prelude.{◌≡◌};
 ghost use Rattle.negotiate_lines.specs.Terms.{Reads, terms_of};
 ghost use Rattle.negotiate_lines.specs.CallTerms.{Follows, Arguments, TakesTerms, attribute};
 ghost use Rattle.negotiate_lines.specs.CallTerms.{instruction_of, no_arguments, required_key};
+ghost use Rattle.negotiate_lines.specs.Wrongs.{Judges, WrongStep};
 
 use crate::call_term::{Admitted, CallTerm, call_term};
 use crate::term::{TermError, next_term};
 use crate::vocabulary::HasVocabulary;
+use crate::wrong::{Flaw, Wrong};
 use iceoryx2_attribute::attribute::AttributeError::{self, KeyLength, TooMany, ValueLength};
 use iceoryx2_attribute::attribute::AttributeVerifier;
 use iceoryx2_description::time::{ClockFault, Time};
@@ -36,7 +38,7 @@ impl<S> Model for CallArguments<S> {
 
 impl<S: Drop> CallArguments<S> {
     /// No settings, no requirements, and the time zero.
-    fn new(alloc: Global) -> CallArguments<S>
+    pub(crate) fn new(alloc: Global) -> CallArguments<S>
         ensures { result ≡ no_arguments }
     {
         CallArguments {
@@ -62,40 +64,56 @@ impl<S: Drop> CallArguments<S> {
 
     /// What they are after what a term says. A pair or a key isn't taken where its length is out of
     /// range, and where it is one past 64.
-    fn follow(mut self, said: CallTerm<S>) -> Result<CallArguments<S>, TermError>
+    fn follow(self, said: CallTerm<S>) -> Result<CallArguments<S>, TermError>
         ensures { Reads (Follows self (instruction_of said.entry)) result }
+    {
+        match self.judge(said) {
+            Ok(arguments) => Ok(arguments),
+            Err(Flaw::Wrong(_)) => Err(TermError::Malformed),
+            Err(Flaw::OutOfMemory) => Err(TermError::OutOfMemory),
+        }
+    }
+
+    /// The same, or what is wrong where that can't be followed.
+    pub(crate) fn judge<'a>(mut self, said: CallTerm<'a, S>) -> Result<CallArguments<S>, Flaw<'a>>
+        ensures { Judges (Follows self (instruction_of said.entry)) (WrongStep self (instruction_of said.entry))
+            result }
     {
         match said {
             CallTerm::Setting(setting) => match self.settings.push(setting) {
                 Ok(()) => Ok(self),
-                Err(_) => Err(TermError::OutOfMemory),
+                Err(_) => Err(Flaw::OutOfMemory),
             },
             CallTerm::Now(now) => {
                 self.now = now;
                 Ok(self)
             }
-            CallTerm::Attribute(key, value) => self.require(key, value),
-            CallTerm::RequiredKey(key) => self.require_key(key),
+            CallTerm::Attribute(key, value) => self.judge_pair(key, value),
+            CallTerm::RequiredKey(key) => self.judge_key(key),
         }
     }
 
-    fn require(mut self, key: &str, value: &str) -> Result<CallArguments<S>, TermError>
-        ensures { Reads (Follows self (attribute key.now value.now)) result }
+    fn judge_pair<'a>(mut self, key: &'a str, value: &'a str) -> Result<CallArguments<S>, Flaw<'a>>
+        ensures { Judges (Follows self (attribute key.now value.now)) (WrongStep self (attribute key.now value.now))
+            result }
     {
         match self.attributes.require(key, value) {
             Ok(()) => Ok(self),
-            Err(AttributeError::OutOfMemory) => Err(TermError::OutOfMemory),
-            Err(KeyLength | ValueLength | TooMany) => Err(TermError::Malformed),
+            Err(AttributeError::OutOfMemory) => Err(Flaw::OutOfMemory),
+            Err(KeyLength) => Err(Flaw::Wrong(Wrong::KeyLength(key))),
+            Err(ValueLength) => Err(Flaw::Wrong(Wrong::ValueLength(value))),
+            Err(TooMany) => Err(Flaw::Wrong(Wrong::TooManyPairs(key, value))),
         }
     }
 
-    fn require_key(mut self, key: &str) -> Result<CallArguments<S>, TermError>
-        ensures { Reads (Follows self (required_key key.now)) result }
+    fn judge_key<'a>(mut self, key: &'a str) -> Result<CallArguments<S>, Flaw<'a>>
+        ensures { Judges (Follows self (required_key key.now)) (WrongStep self (required_key key.now)) result }
     {
         match self.attributes.require_key(key) {
             Ok(()) => Ok(self),
-            Err(AttributeError::OutOfMemory) => Err(TermError::OutOfMemory),
-            Err(KeyLength | ValueLength | TooMany) => Err(TermError::Malformed),
+            Err(AttributeError::OutOfMemory) => Err(Flaw::OutOfMemory),
+            Err(TooMany) => Err(Flaw::Wrong(Wrong::TooManyKeys(key))),
+            Err(_) => Err(Flaw::Wrong(Wrong::KeyLength(key))),
         }
     }
 }

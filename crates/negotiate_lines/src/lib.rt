@@ -3,9 +3,13 @@
 
 mod arguments;
 mod call_term;
+pub mod finding;
 pub mod line;
+mod nearest;
 mod setting_terms;
 mod term;
 mod type_term;
 mod value;
-mod vocabulary;
+pub mod vocabulary;
+pub mod wrong;
+mod wrong_terms;

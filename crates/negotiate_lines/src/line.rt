@@ -122,7 +122,7 @@ fn slot_number(term: &str) -> Result<usize, TermError>
     Ok(number_below(term, SLOTS as u64)? as usize)
 }
 
-fn how_of(term: &str) -> Result<How, TermError>
+pub(crate) fn how_of(term: &str) -> Result<How, TermError>
     ensures { Finds (λ how. term.now ≡ how_term how) result }
 {
     match term {
@@ -134,7 +134,7 @@ fn how_of(term: &str) -> Result<How, TermError>
 }
 
 /// Which of the terms that every pattern has go with such a call.
-fn admitted<V: HasVocabulary>(how: How) -> Admitted
+pub(crate) fn admitted<V: HasVocabulary>(how: How) -> Admitted
     ensures { result ≡ admitted_of V.vocabulary.has_clock how }
 {
     match how {
@@ -155,17 +155,17 @@ fn admitted<V: HasVocabulary>(how: How) -> Admitted
 
 /// A call as its line names it, whatever its pattern.
 #[derive(Drop)]
-struct NamedCall<S> {
-    how: How,
-    node: u64,
-    slot: usize,
-    name: ServiceName,
-    arguments: CallArguments<S>,
+pub(crate) struct NamedCall<S> {
+    pub(crate) how: How,
+    pub(crate) node: u64,
+    pub(crate) slot: usize,
+    pub(crate) name: ServiceName,
+    pub(crate) arguments: CallArguments<S>,
 }
 
 impl<S: Drop> NamedCall<S> {
     /// The call of a session, whose settings are made of its setters.
-    fn into_command<F: FnOnce(Vec<S>) -> Settings>(self, settings: F) -> Command
+    pub(crate) fn into_command<F: FnOnce(Vec<S>) -> Settings>(self, settings: F) -> Command
         requires { F.IsAlwaysCallable settings }
         ensures { (call : Call) × (setters : _) × (result ≡ command.Call call)
             × F.post settings setters call.settings × (self ≡ as_named call setters.items) }

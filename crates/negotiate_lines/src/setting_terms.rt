@@ -7,9 +7,20 @@ ghost use Rattle.negotiate_lines.specs.SettingTerms.{request_response_vocabulary
 use crate::term::{TermError, number};
 use crate::type_term::{alignment, type_detail};
 use crate::value::{duration_or_none, event_or_none, truth_value};
-use crate::vocabulary::HasVocabulary;
+use crate::vocabulary::{HasVocabulary, Kind};
 use iceoryx2_commands::command::{EventSetter, PublishSubscribeSetter, RequestResponseSetter};
 use std::alloc::Global;
+
+const EVENT_SETTINGS: [(&str, Kind); 8] = [
+    ("max_notifiers", Kind::Number),
+    ("max_listeners", Kind::Number),
+    ("event_id_max_value", Kind::Number),
+    ("max_nodes", Kind::Number),
+    ("notifier_created_event", Kind::Event),
+    ("notifier_dropped_event", Kind::Event),
+    ("notifier_dead_event", Kind::Event),
+    ("deadline", Kind::Length),
+];
 
 /// The terms of lines of events.
 pub(crate) struct EventTerms;
@@ -18,6 +29,14 @@ impl HasVocabulary for EventTerms {
     type Setter = EventSetter;
 
     ghost vocabulary = { event_vocabulary };
+
+    fn pattern() -> &'static str {
+        "event"
+    }
+
+    fn settings() -> &'static [(&'static str, Kind)] {
+        &EVENT_SETTINGS
+    }
 
     fn has_clock() -> bool {
         true
@@ -41,6 +60,19 @@ impl HasVocabulary for EventTerms {
     ghost is_unambiguous = { refl };
 }
 
+const PUBLISH_SUBSCRIBE_SETTINGS: [(&str, Kind); 10] = [
+    ("max_publishers", Kind::Number),
+    ("max_subscribers", Kind::Number),
+    ("subscriber_max_buffer_size", Kind::Number),
+    ("history_size", Kind::Number),
+    ("subscriber_max_borrowed_samples", Kind::Number),
+    ("enable_safe_overflow", Kind::Truth),
+    ("max_nodes", Kind::Number),
+    ("payload", Kind::Type),
+    ("user_header", Kind::Type),
+    ("payload_alignment", Kind::Alignment),
+];
+
 /// The terms of lines of publish-subscribe.
 pub(crate) struct PublishSubscribeTerms;
 
@@ -48,6 +80,14 @@ impl HasVocabulary for PublishSubscribeTerms {
     type Setter = PublishSubscribeSetter;
 
     ghost vocabulary = { publish_subscribe_vocabulary };
+
+    fn pattern() -> &'static str {
+        "pubsub"
+    }
+
+    fn settings() -> &'static [(&'static str, Kind)] {
+        &PUBLISH_SUBSCRIBE_SETTINGS
+    }
 
     fn has_clock() -> bool {
         false
@@ -75,6 +115,25 @@ impl HasVocabulary for PublishSubscribeTerms {
     ghost is_unambiguous = { refl };
 }
 
+const REQUEST_RESPONSE_SETTINGS: [(&str, Kind); 16] = [
+    ("enable_safe_overflow_for_requests", Kind::Truth),
+    ("enable_safe_overflow_for_responses", Kind::Truth),
+    ("enable_fire_and_forget_requests", Kind::Truth),
+    ("max_active_requests_per_client", Kind::Number),
+    ("max_loaned_requests", Kind::Number),
+    ("max_borrowed_responses_per_pending_response", Kind::Number),
+    ("max_response_buffer_size", Kind::Number),
+    ("max_servers", Kind::Number),
+    ("max_clients", Kind::Number),
+    ("max_nodes", Kind::Number),
+    ("request_payload", Kind::Type),
+    ("request_header", Kind::Type),
+    ("request_payload_alignment", Kind::Alignment),
+    ("response_payload", Kind::Type),
+    ("response_header", Kind::Type),
+    ("response_payload_alignment", Kind::Alignment),
+];
+
 /// The terms of lines of request-response.
 pub(crate) struct RequestResponseTerms;
 
@@ -82,6 +141,14 @@ impl HasVocabulary for RequestResponseTerms {
     type Setter = RequestResponseSetter;
 
     ghost vocabulary = { request_response_vocabulary };
+
+    fn pattern() -> &'static str {
+        "rr"
+    }
+
+    fn settings() -> &'static [(&'static str, Kind)] {
+        &REQUEST_RESPONSE_SETTINGS
+    }
 
     fn has_clock() -> bool {
         false

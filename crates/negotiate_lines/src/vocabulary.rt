@@ -1,11 +1,28 @@
 //! What a pattern calls its settings, and what their values say.
 
-ghost use Rattle.std.specs.Prelude.{◌≡◌};
+ghost use Rattle.std.specs.Prelude.{◌≡◌, map};
 ghost use Rattle.negotiate_lines.specs.Terms.{Reads};
-ghost use Rattle.negotiate_lines.specs.Vocabulary.{IsUnambiguous, SaysSetting, Vocabulary};
+ghost use Rattle.negotiate_lines.specs.Vocabulary.{IsUnambiguous, SaysSetting, Vocabulary, kinds_of};
 
 use crate::term::TermError;
 use std::alloc::Global;
+
+/// What kind of value a setting takes.
+#[derive(Clone, Copy, Debug, PartialEq, Eq)]
+pub enum Kind {
+    /// A number.
+    Number,
+    /// `true` or `false`.
+    Truth,
+    /// The number of an event, or `none`.
+    Event,
+    /// A length of time, or `none`.
+    Length,
+    /// A power of two.
+    Alignment,
+    /// What is told of a type.
+    Type,
+}
 
 /// The terms that a pattern has for itself.
 pub trait HasVocabulary {
@@ -14,6 +31,14 @@ pub trait HasVocabulary {
 
     /// The terms, and what they say.
     ghost vocabulary: { Vocabulary Self.Setter };
+
+    /// The term by which its calls begin.
+    fn pattern() -> &'static str
+        ensures { result.now ≡ vocabulary.pattern };
+
+    /// Its settings in order, by name, with the kind of value that each takes.
+    fn settings() -> &'static [(&'static str, Kind)]
+        ensures { map (λ row. (row.0.now, row.1)) result.now ≡ kinds_of vocabulary.rows };
 
     /// Whether the calls that create a service are told the time.
     fn has_clock() -> bool

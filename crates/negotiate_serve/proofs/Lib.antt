@@ -5,3 +5,4 @@ pub mod Simulated
 pub mod Telling
 pub mod Turns
 pub mod Written
+pub mod Reporting

@@ -30,7 +30,7 @@ module _ {A M : Type 0} (By : Answering A) (Of : Answering M) (Shows : A → M �
   ends_along : (ended : Result Ending Fault) (a : A) (m : M) (k : ℕ) (rest last unread : List ℕ) → EndsWith By ended a k rest last unread → Shows a m
       → EndsWith Of ended m k rest last unread
   ends_along (Ok ending.InputEnded) a m k rest last unread ends shows = ends
-  ends_along (Ok ending.NotACommand) a m k rest last unread ends shows = ends
+  ends_along (Ok (ending.NotACommand number line)) a m k rest last unread ends shows = ends
   ends_along (Err fault.Reading) a m k rest last unread ends shows = ends
   ends_along (Err fault.TooManyLines) a m k rest last unread ends shows = ends
   ends_along (Err fault.OutOfMemory) a m k rest last unread ends shows = ends

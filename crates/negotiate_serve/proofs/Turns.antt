@@ -3,13 +3,14 @@ use Rattle.std.proofs.Common.{◌≡◌, ℕ, Bool, true, false, List, [], ◌++
 use Rattle.std.specs.Prelude.{IsErrAnd}
 use Rattle.std.specs.Io.KnownBytes.{Appends}
 use Rattle.std.proofs.KnownBytes.{Appends-nil}
+use Rattle.negotiate_serve.specs.declared.ending.Ending.{Ending}
 use Rattle.negotiate_serve.specs.declared.ending.Ending.TheVariants as ending
 use Rattle.negotiate_serve.specs.declared.ending.Fault.{Fault}
 use Rattle.negotiate_serve.specs.declared.ending.Fault.TheVariants as fault
 use Rattle.negotiate_serve.specs.Endings.{IsOfReading, IsOfWriting}
 use Rattle.negotiate_serve.specs.Inputs.{ReadsLine}
 use Rattle.negotiate_serve.specs.Outputs.{Says}
-use Rattle.negotiate_serve.specs.Transcripts.{Answering, AnswersLineBy, ComesNext, answer, no_command, IsCut}
+use Rattle.negotiate_serve.specs.Transcripts.{Answering, AnswersLineBy, ComesNext, answer, no_command, IsCut, IsNoCommand}
 use Rattle.negotiate_serve.specs.Served.{EndsUntold, SaysOfLine, TakesTurn}
 
 -- what was read and said, by what the tests found
@@ -71,13 +72,19 @@ module _ {M : Type 0} (Answers : Answering M) (m n : M) (k : ℕ) where
         written = subst (Appends old new) (sym (text_is says.said says.grown)) written;
       }
 
-      pub turn_without_command : (old new : Option (List ℕ)) → SaysOfLine Answers false m k line before text n → Says text (Ok tt) old new
-          → TakesTurn Answers (Ok (Some ending.NotACommand)) m k rest left n old new
-      turn_without_command old new says written = record {
+      -- it ends with this line
+      abbrev pub EndsAtLine : Ending → Type 0
+      EndsAtLine ending.InputEnded = ⊥
+      EndsAtLine (ending.NotACommand number taken) = (number ≡ k) × (line ≡ taken.items)
+
+      pub turn_without_command : (e : Ending) (old new : Option (List ℕ)) → EndsAtLine e → SaysOfLine Answers false m k line before text n
+          → Says text (Ok tt) old new → TakesTurn Answers (Ok (Some e)) m k rest left n old new
+      turn_without_command ending.InputEnded old new at says written = absurd at
+      turn_without_command (ending.NotACommand number taken) old new at says written = record {
         said = says.said;
         answers = record {
           unread = read.0;
-          ends = record { bytes = line; stands = read.1; no_command = says.is_said.0; said = says.is_said.1 };
+          ends = (at.0, subst (λ (bytes : List ℕ). IsNoCommand k bytes rest says.said read.0) at.1 (record { stands = read.1; no_command = says.is_said.0; said = says.is_said.1 }));
           left_is = read.2;
         };
         written = subst (Appends old new) (sym (text_is says.said says.grown)) written;

@@ -1,5 +1,5 @@
 -- How the program ends.
-use Rattle.std.specs.Prelude.{ℕ, List, [], ◌++◌, codes, Result, Ok, Err}
+use Rattle.std.specs.Prelude.{ℕ, List, codes, Result, Ok, Err}
 use Rattle.std.specs.declared.io.ErrorKind.{ErrorKind}
 use Rattle.std.specs.declared.io.ErrorKind.TheVariants as kind
 use Rattle.negotiate_serve.specs.declared.ending.Ending.{Ending}
@@ -10,7 +10,7 @@ use Rattle.negotiate_serve.specs.declared.ending.Fault.TheVariants as fault
 -- 0 at the end of the input, 2 after a line that is no command, 3 after a fault
 abbrev pub status_of : Result Ending Fault → ℕ
 status_of (Ok ending.InputEnded) = 0
-status_of (Ok ending.NotACommand) = 2
+status_of (Ok (ending.NotACommand number line)) = 2
 status_of (Err f) = 3
 
 -- what a read's error is: that memory ran out, or any other
@@ -41,8 +41,3 @@ reason_of fault.Writing = codes ": writing failed\n"
 reason_of fault.TooManyLines = codes ": too many lines\n"
 reason_of fault.TooManyTries = codes ": interrupted too often\n"
 reason_of fault.OutOfMemory = codes ": out of memory\n"
-
--- what is written to the standard error where a program of this name ends: a fault's line, and else nothing
-abbrev pub report_of : (program : List ℕ) → Result Ending Fault → List ℕ
-report_of program (Ok end) = []
-report_of program (Err f) = program ++ reason_of f

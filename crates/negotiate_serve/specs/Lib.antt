@@ -4,3 +4,4 @@ pub mod Outputs
 pub mod Replies
 pub mod Served
 pub mod Transcripts
+pub mod Reports

@@ -53,8 +53,7 @@ pub data ComesNext {M : Type 0} (Answers : Answering M) (m : M) (k : ℕ) (rest 
   no_memory : ComesNext Answers m k rest out_of_memory
 
 -- The next line, which has this number, is neither blank nor a command. Nothing behind it is read.
-pub record IsNoCommand (k : ℕ) (rest last unread : List ℕ) : Type 0 where
-  pub bytes : List ℕ
+pub record IsNoCommand (k : ℕ) (bytes rest last unread : List ℕ) : Type 0 where
   pub stands : BeginsWith rest (bytes ∷ []) unread
   pub no_command : IsLine bytes line.NotACommand
   pub said : last ≡ not_a_command k
@@ -73,7 +72,8 @@ most_lines = 2 ^ 64 - 2
 abbrev pub EndsWith : {M : Type 0} → Answering M → Result Ending Fault → M → (number : ℕ)
     → (rest last unread : List ℕ) → Type 0
 EndsWith Answers (Ok ending.InputEnded) m k rest last unread = (rest ≡ []) × (last ≡ []) × (unread ≡ [])
-EndsWith Answers (Ok ending.NotACommand) m k rest last unread = IsNoCommand k rest last unread
+EndsWith Answers (Ok (ending.NotACommand number line)) m k rest last unread =
+    (number ≡ k) × IsNoCommand k line.items rest last unread
 EndsWith Answers (Err fault.Reading) m k rest last unread = last ≡ []
 EndsWith Answers (Err fault.TooManyLines) m k rest last unread = (k ≡ most_lines + 1) × (last ≡ [])
 EndsWith Answers (Err fault.OutOfMemory) m k rest last unread = last ≡ out_of_memory

@@ -10,6 +10,7 @@ use crate::output::say;
 use negotiate_lines::line::{self, Line};
 use std::alloc::{AllocError, Global};
 use std::io::{BufRead, Write};
+use std::mem;
 
 /// Answers line after line, until the input ends, a line is no command, or 2^64 - 2 lines were answered, which is
 /// a fault. A fault isn't told here.
@@ -59,7 +60,8 @@ pub fn answer_next<A: Answerer, R: BufRead, W: Write>(
     if goes_on {
         return Ok(None);
     }
-    Ok(Some(Ending::NotACommand))
+    let line = mem::replace(line, Vec::new(*text.allocator()));
+    Ok(Some(Ending::NotACommand { number, line }))
 }
 
 /// Writes the answer to one line into the text, and tells whether it was a command, or blank.

@@ -17,12 +17,17 @@ pub const NOT_A_COMMAND: u8 = 2;
 pub const FAULT: u8 = 3;
 
 /// How the program ends where nothing fails.
-#[derive(Clone, Copy, Debug, PartialEq, Eq)]
+#[derive(Debug, Drop, PartialEq, Eq)]
 pub enum Ending {
     /// The input ended, and each of its lines was answered.
     InputEnded,
     /// A line is neither blank nor a command.
-    NotACommand,
+    NotACommand {
+        /// Its number, counted from 1.
+        number: u64,
+        /// Its bytes, without its end.
+        line: Vec<u8>,
+    },
 }
 
 /// What keeps the program from going on.
@@ -77,12 +82,12 @@ impl From<AllocError> for Fault {
 }
 
 /// The status with which the program ends.
-pub fn status(ended: Result<Ending, Fault>) -> u8
-    ensures { result ≡ status_of ended }
+pub fn status(ended: &Result<Ending, Fault>) -> u8
+    ensures { result ≡ status_of ended.now }
 {
     match ended {
         Ok(Ending::InputEnded) => DONE,
-        Ok(Ending::NotACommand) => NOT_A_COMMAND,
+        Ok(Ending::NotACommand { number: _, line: _ }) => NOT_A_COMMAND,
         Err(_) => FAULT,
     }
 }

@@ -1,27 +1,77 @@
 //! What is written to the standard error where a program ends.
 
-ghost use Rattle.negotiate_serve.specs.Endings.{report_of};
+ghost use Rattle.std.specs.Prelude.{◌≡◌, IfOk, string_bytes};
 ghost use Rattle.negotiate_serve.specs.Outputs.{Says};
+ghost use Rattle.negotiate_serve.specs.Reports.{IsReport, Reports, TellsReport, fault_line, wrong_line};
 
 use crate::ending::{Ending, Fault};
 use crate::output::say;
+use negotiate_lines::finding::wrong_in;
+use negotiate_lines::wrong::Wrong;
+use std::alloc::{AllocError, Global};
 use std::io::Write;
 
-/// Writes the line of the fault by which a program of this name ended, and nothing where no fault came.
+/// Writes the line of the fault by which a program of this name ended, or of what is wrong with the line that is no
+/// command, and nothing where the input ended.
 ///
-/// `Fault` as `say` does.
+/// `Fault` as `say` does, and `OutOfMemory` where there is no memory for the line. Nothing is written then.
 pub fn report<W: Write>(
     program: &str,
-    ended: Result<Ending, Fault>,
+    ended: &Result<Ending, Fault>,
     errors: &mut W,
 ) -> Result<(), Fault>
-    ensures { Says (report_of program.now ended) result (W.contents errors.old) (W.contents errors.new) }
+    ensures { Reports program.now ended.now result (W.contents errors.old) (W.contents errors.new) }
 {
     match ended {
-        Ok(_) => Ok(()),
-        Err(fault) => {
-            say(program.as_bytes(), errors)?;
-            say(fault.reason().as_bytes(), errors)
-        }
+        Ok(ending) => match ending {
+            Ending::InputEnded => Ok(()),
+            Ending::NotACommand { number, line } => report_line(program, *number, line, errors),
+        },
+        Err(fault) => report_fault(program, *fault, errors),
     }
+}
+
+/// Writes the line of a fault by which a program of this name ended. `Fault` as `say` does.
+pub fn report_fault<W: Write>(program: &str, fault: Fault, errors: &mut W) -> Result<(), Fault>
+    ensures { Says (fault_line program.now fault) result (W.contents errors.old) (W.contents errors.new) }
+{
+    say(program.as_bytes(), errors)?;
+    say(fault.reason().as_bytes(), errors)
+}
+
+/// Writes what is wrong with the line of this number. `Fault` as `report` does.
+fn report_line<W: Write>(
+    program: &str,
+    number: u64,
+    line: &Vec<u8>,
+    errors: &mut W,
+) -> Result<(), Fault>
+    ensures { TellsReport (IsReport program.now number line.now.items) result
+        (W.contents errors.old) (W.contents errors.new) }
+{
+    match wrong_line(*line.allocator(), program, number, line) {
+        Ok(text) => say(text.as_bytes(), errors),
+        Err(_) => Err(Fault::OutOfMemory),
+    }
+}
+
+/// What is written of a line with this number: what is wrong with it, if anything is.
+fn wrong_line(alloc: Global, program: &str, number: u64, line: &[u8]) -> Result<String, AllocError>
+    ensures { IfOk result (λ text. IsReport program.now number line.now (string_bytes text)) }
+{
+    match wrong_in(alloc, line)? {
+        Some(wrong) => line_text(alloc, program, number, wrong),
+        None => Ok(String::new(alloc)),
+    }
+}
+
+fn line_text(
+    alloc: Global,
+    program: &str,
+    number: u64,
+    wrong: Wrong<'_>,
+) -> Result<String, AllocError>
+    ensures { IfOk result (λ text. string_bytes text ≡ wrong_line program.now number wrong.entry) }
+{
+    format!(in alloc; "{program}: line {number}: {wrong}\n")
 }

@@ -17,7 +17,7 @@ fn explained(alloc: Global, input: &str, format: Format, room: usize) -> (Vec<u8
         fault: None,
     };
     let ended = serve(alloc, pieces, &mut page, format);
-    (page.text, status(ended))
+    (page.text, status(&ended))
 }
 
 /// Ends a test whose input isn't explained by this text, or doesn't end with this status.

@@ -29,7 +29,7 @@ fn read_until_fault(alloc: Global, fault: ErrorKind) -> (Vec<u8>, u8) {
         fault: Some(fault),
     };
     let ended = serve(alloc, input, &mut page);
-    (page.text, status(ended))
+    (page.text, status(&ended))
 }
 
 #[test]
@@ -53,7 +53,7 @@ fn written(alloc: Global, room: usize, flushes: u64) -> (Vec<u8>, u8) {
         fault: None,
     };
     let ended = serve(alloc, input, &mut page);
-    (page.text, status(ended))
+    (page.text, status(&ended))
 }
 
 /// How much room there is, and what is printed in it.
@@ -99,7 +99,7 @@ fn ended(alloc: Global, fault: ErrorKind, room: usize) -> (Vec<u8>, u8) {
     let mut page = Page::new(alloc);
     page.room = room;
     let fault = tell_fault(Fault::of_reading(&io::Error::from(fault)), &mut page);
-    (page.text, status(Err(fault)))
+    (page.text, status(&Err(fault)))
 }
 
 #[test]

@@ -1,7 +1,7 @@
 //! A reply is written and flushed before the next line is read.
 
 use crate::support::assert_same;
-use negotiate_serve::ending::{Ending, Fault};
+use negotiate_serve::ending::status;
 use negotiate_serve::serve::serve;
 use std::alloc::Global;
 use std::cell::Cell;
@@ -54,11 +54,8 @@ impl Read for Lines<'_> {
     }
 }
 
-/// How many bytes were flushed before each read of these lines, how many reads there were, and how it ended.
-fn flushed_before_reads(
-    alloc: Global,
-    lines: &[&str],
-) -> ([u64; READS], usize, Result<Ending, Fault>) {
+/// How many bytes were flushed before each read of these lines, how many reads there were, and the status.
+fn flushed_before_reads(alloc: Global, lines: &[&str]) -> ([u64; READS], usize, u8) {
     let flushed = Cell::new(0);
     let mut input = Lines {
         lines,
@@ -71,7 +68,7 @@ fn flushed_before_reads(
         flushed: &flushed,
     };
     let ended = serve(alloc, &mut input, &mut output);
-    (input.seen, input.reads, ended)
+    (input.seen, input.reads, status(&ended))
 }
 
 /// Lines of which each is answered by so many bytes: 14, none, 9 and 13.
@@ -83,13 +80,13 @@ const NO_COMMAND: &[&str] = &["close 0\n", "listen\n", "close 0\n"];
 #[test]
 fn a_reply_is_flushed_before_the_next_line_is_read(rt: HostRuntime) {
     let found = flushed_before_reads(rt.alloc(), ANSWERED);
-    let wanted = ([0, 14, 14, 23, 36, 0, 0, 0], 5, Ok(Ending::InputEnded));
+    let wanted = ([0, 14, 14, 23, 36, 0, 0, 0], 5, 0);
     assert_same(&rt, found, wanted);
 }
 
 #[test]
 fn nothing_is_read_behind_a_line_that_is_no_command(rt: HostRuntime) {
     let found = flushed_before_reads(rt.alloc(), NO_COMMAND);
-    let wanted = ([0, 13, 0, 0, 0, 0, 0, 0], 2, Ok(Ending::NotACommand));
+    let wanted = ([0, 13, 0, 0, 0, 0, 0, 0], 2, 2);
     assert_same(&rt, found, wanted);
 }

@@ -2,7 +2,7 @@
 
 use crate::support::{Page, assert_same, text_of};
 use explain_serve::format::Format;
-use negotiate_serve::ending::{Ending, Fault};
+use negotiate_serve::ending::{Ending, Fault, status};
 use negotiate_serve::serve::serve;
 use std::alloc::Global;
 use std::io::{self, ErrorKind, Read, Write};
@@ -151,6 +151,9 @@ fn answered_at_length(alloc: Global) -> (Vec<u8>, Result<Ending, Fault>) {
 fn more_than_a_million_lines_are_answered(rt: HostRuntime) {
     let (answers, ended) = answered_at_length(rt.alloc());
     let text = text_of(&rt, answers.as_slice());
-    let wanted = ("line 1100001: not a command\n", Ok(Ending::NotACommand));
-    assert_same(&rt, (text, ended), wanted);
+    assert_same(
+        &rt,
+        (text, status(&ended)),
+        ("line 1100001: not a command\n", 2),
+    );
 }

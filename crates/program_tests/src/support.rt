@@ -83,7 +83,7 @@ pub fn answered(alloc: Global, input: &[u8], piece: usize) -> (Vec<u8>, u8) {
         fault: None,
     };
     let ended = serve(alloc, pieces, &mut page);
-    (page.text, status(ended))
+    (page.text, status(&ended))
 }
 
 /// Printed bytes as a text.

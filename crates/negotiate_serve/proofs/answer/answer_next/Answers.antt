@@ -1,4 +1,4 @@
-use Rattle.std.proofs.Common.{true, false, string_bytes, Option, Result, Ok, Err, refl, sym, subst, rules}
+use Rattle.std.proofs.Common.{true, false, string_bytes, Option, Result, Ok, Err, refl, sym, ap, subst, rules, ◌∙◌}
 use Rattle.negotiate_serve.specs.declared.ending.Ending.{Ending}
 use Rattle.negotiate_serve.specs.declared.ending.Fault.{Fault}
 use Rattle.negotiate_serve.specs.Served.{TakesTurn}
@@ -57,5 +57,5 @@ returns-clause-turn g c = λ stands rest known.
     let new = g.W.Write.contents c.say.new.output in
     turn_without_command g.A.Answerer.answers m n c.args.number rest left line before text c.clear.ensures.bytes
     (as_read rest c.next_line.new.line.items line left c.in_ok-next_line.field-0 true (c.in_ok-next_line.ensures.read rest known) (search rules) c.deref.ensures.value)
-    old new (as_said g.A.Answerer.answers m n c.args.number line before text c.in_ok-goes_on.goes_on false (c.in_ok-goes_on.ensures.said stands) c.if-goes_on.false)
+    _ old new (refl, c.deref.ensures.value ∙ sym (ap (λ v. v.items) c.replace-line.ensures.value)) (as_said g.A.Answerer.answers m n c.args.number line before text c.in_ok-goes_on.goes_on false (c.in_ok-goes_on.ensures.said stands) c.if-goes_on.false)
     (as_written c.as_bytes.result.now text (Ok tt) old new c.in_ok-say.ensures c.as_bytes.ensures.value)

@@ -1,0 +1,29 @@
+use Rattle.std.proofs.Common.{◌≡◌, None, codes, refl, sym, ◌∙◌, rules}
+use Rattle.negotiate_lines.specs.Vocabulary.{common_rows, row_of}
+use Rattle.negotiate_lines.proofs.WrongTerms.{behind_name, no_colon, key_of_create, no_row_of_kind, no_value}
+use Rattle.negotiate_lines.proofs.wrong_terms.wrong_value.Goals as goal
+
+pub wrong_now-requires : goal.wrong_now-requires
+wrong_now-requires g c = λ said says. behind_name g.V.HasVocabulary.vocabulary c.args.how c.args.name.now (codes "now") c.args.value.now c.in-now.is c.requires said says
+
+pub no_such_setting-requires-clause-row : goal.no_such_setting-requires-clause-row
+no_such_setting-requires-clause-row g c = no_row_of_kind g.V.HasVocabulary.vocabulary.rows c.args.name.now (sym c.kind_of.ensures ∙ c.in-None.is)
+
+pub returns-in-attribute : goal.returns-in-attribute
+returns-in-attribute g c =
+    let v = g.V.HasVocabulary.vocabulary in
+    (c.in-attribute.is, refl, no_colon v c.args.how c.args.value.now (behind_name v c.args.how c.args.name.now (codes "attribute") c.args.value.now c.in-attribute.is c.requires))
+
+pub returns-in-require_key : goal.returns-in-require_key
+returns-in-require_key g c =
+    let v = g.V.HasVocabulary.vocabulary in
+    (c.in-require_key.is, key_of_create v c.args.how c.args.value.now (behind_name v c.args.how c.args.name.now (codes "require_key") c.args.value.now c.in-require_key.is c.requires))
+
+pub returns-in-Some : goal.returns-in-Some
+returns-in-Some g c =
+    let v = g.V.HasVocabulary.vocabulary in
+    let common : row_of common_rows c.args.name.now ≡ None = search rules in
+    (refl, refl, no_value v c.args.how c.args.name.now c.args.value.now c.in-Some.kind c.requires common (sym c.kind_of.ensures ∙ c.in-Some.is))
+
+pub returns-in-None : goal.returns-in-None
+returns-in-None g c = c.no_such_setting.ensures c.args.value.now

@@ -1,0 +1,227 @@
+-- What is wrong with a line: the first thing, from left to right.
+use Rattle.std.specs.Prelude.{ℕ, ◌≡◌, ◌≢◌, ◌⊎◌, ◌≤◌, ◌++◌, true, false, List, [], ◌∷◌, length, Option, None}
+use Rattle.std.specs.Prelude.{Some, Result, Ok, Err, codes, cond}
+use Rattle.std.specs.Borrow.{Bor}
+use Rattle.std.specs.Str.{IsUtf8}
+use Rattle.iceoryx2_access.specs.Run.{Each}
+use Rattle.iceoryx2_attribute.specs.Additions.{HasKeyLength, HasValueLength}
+use Rattle.iceoryx2_attribute.specs.Attributes.{has_pair, pair_of}
+use Rattle.iceoryx2_attribute.specs.Requirements.{lists_key}
+use Rattle.iceoryx2_attribute.specs.declared.attribute.TheConstants.{MAX_ATTRIBUTES, MAX_REQUIRED_KEYS}
+use Rattle.iceoryx2_description.specs.Names.{IsName}
+use Rattle.iceoryx2_description.specs.Span.{Span}
+use Rattle.iceoryx2_description.specs.declared.time.ClockFault.{ClockFault}
+use Rattle.iceoryx2_commands.specs.declared.command.Command.{Command}
+use Rattle.iceoryx2_commands.specs.declared.command.How.{How}
+use Rattle.iceoryx2_commands.specs.declared.command.How.TheVariants as how
+use Rattle.iceoryx2_commands.specs.Commands.{slot_count}
+use Rattle.negotiate_lines.specs.declared.vocabulary.Kind.{Kind}
+use Rattle.negotiate_lines.specs.declared.wrong.Flaw.{Flaw}
+use Rattle.negotiate_lines.specs.declared.wrong.Flaw.TheVariants as flaw
+use Rattle.negotiate_lines.specs.declared.wrong.Wrong.{Wrong}
+use Rattle.negotiate_lines.specs.declared.wrong.Wrong.TheVariants as wrong
+use Rattle.negotiate_lines.specs.Nearest.{Suggests, now_of}
+use Rattle.negotiate_lines.specs.SettingTerms.{event_vocabulary, publish_subscribe_vocabulary}
+use Rattle.negotiate_lines.specs.SettingTerms.{request_response_vocabulary}
+use Rattle.negotiate_lines.specs.Terms.{AreAround, IsNumber, terms_of}
+use Rattle.negotiate_lines.specs.Values.{IsClockTerm, IsNatural}
+use Rattle.negotiate_lines.specs.Vocabulary.{Vocabulary, Takes, Sets, kind_of, row_of, common_rows, names_of}
+use Rattle.negotiate_lines.specs.CallTerms.{Arguments, Instruction, attribute, required_key, SaysTerm, TakesTerms, no_arguments}
+use Rattle.negotiate_lines.specs.Lines.{IsLine, AreLine, Says, admitted_of, how_term}
+use Rattle.negotiate_lines.specs.declared.line.Line.TheVariants as line
+
+-- ---- a term behind the name
+
+-- the words that could stand before `=`, with such a call
+abbrev pub setting_words : {S : Type 0} → Vocabulary S → How → List (List ℕ)
+setting_words v h =
+    ((names_of v.rows ++ cond (admitted_of v.has_clock h).now (codes "now" ∷ []) []) ++ codes "attribute" ∷ [])
+    ++ cond (admitted_of v.has_clock h).require_key (codes "require_key" ∷ []) []
+
+-- The setting of this name takes values of this kind, and this is none that it takes.
+pub record IsNoValue {S : Type 0} (v : Vocabulary S) (name value : List ℕ) (kind : Kind) : Type 0 where
+  pub takes : Takes S
+  pub row : row_of v.rows name ≡ Some takes
+  pub kind_is : kind ≡ kind_of takes
+  pub none : (s : S) → Sets takes value s → ⊥
+
+-- No setting of the pattern has this name, and no term that every pattern has.
+pub record IsNoSetting {S : Type 0} (v : Vocabulary S) (h : How) (name : List ℕ) (nearest : Option (List ℕ))
+    : Type 0 where
+  pub common : row_of common_rows name ≡ None
+  pub row : row_of v.rows name ≡ None
+  pub suggested : Suggests name (setting_words v h) nearest
+
+-- what is wrong with a value behind a name
+abbrev pub WrongValue : {S : Type 0} → Vocabulary S → How → (name value : List ℕ) → Wrong → Type 0
+WrongValue v h name value (wrong.NoColon t) =
+    (name ≡ codes "attribute") × (t.now ≡ value) × ((front back : List ℕ) → AreAround 58 value front back → ⊥)
+WrongValue v h name value wrong.KeyWithCreate = (name ≡ codes "require_key") × (h ≡ how.Create)
+WrongValue v h name value (wrong.NoTime t) =
+    (name ≡ codes "now") × (t.now ≡ value) × ((time : Result Span ClockFault) → IsClockTerm value time → ⊥)
+WrongValue v h name value wrong.NowWithOpen = (name ≡ codes "now") × (h ≡ how.Open) × (v.has_clock ≡ true)
+WrongValue v h name value (wrong.NowOfPattern t) =
+    (name ≡ codes "now") × (v.has_clock ≡ false) × (t.now ≡ v.pattern)
+WrongValue v h name value (wrong.Value n t kind) = (n.now ≡ name) × (t.now ≡ value) × IsNoValue v name value kind
+WrongValue v h name value (wrong.NoSuchSetting n t nearest) =
+    (n.now ≡ name) × (t.now ≡ v.pattern) × IsNoSetting v h name (now_of nearest)
+WrongValue v h name value _ = ⊥
+
+-- what is wrong with an instruction that can't be followed
+abbrev pub WrongStep : {S : Type 0} → Arguments S → Instruction S → Wrong → Type 0
+WrongStep old (attribute key value) (wrong.KeyLength t) = (t.now ≡ key) × (HasKeyLength key → ⊥)
+WrongStep old (attribute key value) (wrong.ValueLength t) =
+    (t.now ≡ value) × HasKeyLength key × (HasValueLength value → ⊥)
+WrongStep old (attribute key value) (wrong.TooManyPairs t u) = (t.now ≡ key) × (u.now ≡ value)
+    × (has_pair old.requirements.pairs (pair_of key value) ≡ false)
+    × (MAX_ATTRIBUTES ≤ length old.requirements.pairs)
+WrongStep old (required_key key) (wrong.KeyLength t) = (t.now ≡ key) × (HasKeyLength key → ⊥)
+WrongStep old (required_key key) (wrong.TooManyKeys t) = (t.now ≡ key)
+    × (lists_key old.requirements.keys key ≡ false) × (MAX_REQUIRED_KEYS ≤ length old.requirements.keys)
+WrongStep old said _ = ⊥
+
+-- What is wrong with a term that says nothing: it has no `=`, or its value is wrong behind its name.
+pub data WrongText {S : Type 0} (v : Vocabulary S) (h : How) (term : List ℕ) : Wrong → Type 0 where
+  no_equals_sign : {t : Bor (List ℕ)} → t.now ≡ term → ((front back : List ℕ) → AreAround 61 term front back → ⊥)
+      → WrongText v h term (wrong.NoEqualsSign t)
+  wrong_value : {w : Wrong} (name value : List ℕ) → AreAround 61 term name value → WrongValue v h name value w
+      → WrongText v h term w
+
+-- What is wrong with a term: it says nothing, or what it says can't be followed.
+pub data WrongTerm {S : Type 0} (v : Vocabulary S) (h : How) (old : Arguments S) (term : List ℕ) (w : Wrong)
+    : Type 0 where
+  unsaid : ((said : Instruction S) → SaysTerm v (admitted_of v.has_clock h) term said → ⊥) → WrongText v h term w
+      → WrongTerm v h old term w
+  refused : (said : Instruction S) → SaysTerm v (admitted_of v.has_clock h) term said
+      → WrongStep old said w → WrongTerm v h old term w
+
+-- The terms before it are taken, and it is the first that is wrong.
+pub record WrongArguments {S : Type 0} (v : Vocabulary S) (h : How) (terms : List (List ℕ)) (w : Wrong)
+    : Type 0 where
+  pub front : List (List ℕ)
+  pub term : List ℕ
+  pub behind : List (List ℕ)
+  pub are : terms ≡ front ++ term ∷ behind
+  pub mid : Arguments S
+  pub taken : TakesTerms v (admitted_of v.has_clock h) no_arguments front mid
+  pub is_wrong : WrongTerm v h mid term w
+
+-- ---- a call
+
+abbrev pub call_words : List (List ℕ)
+call_words = codes "create" ∷ codes "open" ∷ codes "open_or_create" ∷ []
+
+-- what is wrong with the first of these terms: there is none, or it is no call
+abbrev pub WrongHow : List (List ℕ) → Wrong → Type 0
+WrongHow terms wrong.NoCall = terms ≡ []
+WrongHow terms (wrong.NoSuchCall t nearest) = (rest : List (List ℕ)) × (terms ≡ t.now ∷ rest)
+    × ((h : How) → t.now ≡ how_term h → ⊥) × Suggests t.now call_words (now_of nearest)
+WrongHow terms _ = ⊥
+
+-- or it is no number of a node
+abbrev pub WrongNode : List (List ℕ) → Wrong → Type 0
+WrongNode terms wrong.NoNode = terms ≡ []
+WrongNode terms (wrong.NoNodeNumber t) =
+    (rest : List (List ℕ)) × (terms ≡ t.now ∷ rest) × ((n : ℕ) → IsNatural t.now n → ⊥)
+WrongNode terms _ = ⊥
+
+-- or it is no number, or one past the last slot
+abbrev pub WrongSlot : List (List ℕ) → Wrong → Type 0
+WrongSlot terms wrong.NoSlot = terms ≡ []
+WrongSlot terms (wrong.NoSlotNumber t) =
+    (rest : List (List ℕ)) × (terms ≡ t.now ∷ rest) × ((n : ℕ) → IsNatural t.now n → ⊥)
+WrongSlot terms (wrong.SlotTooGreat t) =
+    (rest : List (List ℕ)) × (terms ≡ t.now ∷ rest) × ((n : ℕ) × IsNatural t.now n × (slot_count ≤ n))
+WrongSlot terms _ = ⊥
+
+-- or it is no name
+abbrev pub WrongName : List (List ℕ) → Wrong → Type 0
+WrongName terms wrong.NoName = terms ≡ []
+WrongName terms (wrong.NameLength t) = (rest : List (List ℕ)) × (terms ≡ t.now ∷ rest) × (IsName t.now → ⊥)
+WrongName terms _ = ⊥
+
+-- what is wrong with the terms behind a pattern, where those before it are right
+pub data WrongCall {S : Type 0} (v : Vocabulary S) (terms : List (List ℕ)) (w : Wrong) : Type 0 where
+  at_call : WrongHow terms w → WrongCall v terms w
+  at_node : (h : How) (rest : List (List ℕ)) → terms ≡ how_term h ∷ rest → WrongNode rest w → WrongCall v terms w
+  at_slot : (h : How) (node : List ℕ) (rest : List (List ℕ)) → terms ≡ how_term h ∷ node ∷ rest
+      → ((n : ℕ) × IsNatural node n) → WrongSlot rest w → WrongCall v terms w
+  at_name : (h : How) (node slot : List ℕ) (rest : List (List ℕ)) → terms ≡ how_term h ∷ node ∷ slot ∷ rest
+      → ((n : ℕ) × IsNatural node n) → ((n : ℕ) × IsNumber slot_count slot n) → WrongName rest w
+      → WrongCall v terms w
+  at_term : (h : How) (node slot name : List ℕ) (rest : List (List ℕ))
+      → terms ≡ how_term h ∷ node ∷ slot ∷ name ∷ rest → ((n : ℕ) × IsNatural node n)
+      → ((n : ℕ) × IsNumber slot_count slot n) → IsName name → WrongArguments v h rest w → WrongCall v terms w
+
+-- ---- a line
+
+abbrev pub command_words : List (List ℕ)
+command_words = codes "list" ∷ codes "close" ∷ codes "event" ∷ codes "pubsub" ∷ codes "rr" ∷ []
+
+-- No command begins with the term. The nearest word by which one does is found.
+abbrev pub IsNoCommand : (term : List ℕ) → Wrong → Type 0
+IsNoCommand term (wrong.NoSuchCommand t nearest) = (t.now ≡ term) × Suggests term command_words (now_of nearest)
+IsNoCommand term _ = ⊥
+
+-- what is wrong with the terms of a line
+pub data WrongTerms (terms : List (List ℕ)) : Wrong → Type 0 where
+  no_command : {w : Wrong} (term : List ℕ) (rest : List (List ℕ)) → terms ≡ term ∷ rest
+      → Each (λ word. term ≢ word) command_words → IsNoCommand term w → WrongTerms terms w
+  behind_list : {t : Bor (List ℕ)} (rest : List (List ℕ)) → terms ≡ codes "list" ∷ t.now ∷ rest
+      → WrongTerms terms (wrong.BehindList t)
+  at_slot : {w : Wrong} (rest : List (List ℕ)) → terms ≡ codes "close" ∷ rest → WrongSlot rest w
+      → WrongTerms terms w
+  behind_slot : {t : Bor (List ℕ)} (slot : List ℕ) (rest : List (List ℕ))
+      → terms ≡ codes "close" ∷ slot ∷ t.now ∷ rest → ((n : ℕ) × IsNumber slot_count slot n)
+      → WrongTerms terms (wrong.BehindSlot t)
+  event : {w : Wrong} (rest : List (List ℕ)) → terms ≡ codes "event" ∷ rest → WrongCall event_vocabulary rest w
+      → WrongTerms terms w
+  publish_subscribe : {w : Wrong} (rest : List (List ℕ)) → terms ≡ codes "pubsub" ∷ rest
+      → WrongCall publish_subscribe_vocabulary rest w → WrongTerms terms w
+  request_response : {w : Wrong} (rest : List (List ℕ)) → terms ≡ codes "rr" ∷ rest
+      → WrongCall request_response_vocabulary rest w → WrongTerms terms w
+
+-- What is wrong with a line: it is no text, or something is wrong with its terms.
+pub data IsWrong (bytes : List ℕ) : Wrong → Type 0 where
+  not_utf8 : (IsUtf8 bytes → ⊥) → IsWrong bytes wrong.NotUtf8
+  in_terms : {w : Wrong} → IsUtf8 bytes → WrongTerms (terms_of bytes) w → IsWrong bytes w
+
+-- ---- what is found
+
+-- Nothing is wrong with a line that is blank or a command. Any other line is neither, and what is found is wrong.
+abbrev pub IsJudged : (bytes : List ℕ) → Option Wrong → Type 0
+IsJudged bytes None = IsLine bytes line.Blank ⊎ ((c : Command) × IsLine bytes (line.Command c))
+IsJudged bytes (Some w) = IsLine bytes line.NotACommand × IsWrong bytes w
+
+-- the same of the terms
+abbrev pub AreJudged : (terms : List (List ℕ)) → Option Wrong → Type 0
+AreJudged terms None = (terms ≡ []) ⊎ ((c : Command) × Says terms c)
+AreJudged terms (Some w) = AreLine terms line.NotACommand × WrongTerms terms w
+
+-- What is found is such. Else nothing is such, and this is what is wrong. Memory may run out.
+abbrev pub Judges : {A : Type 0} → (A → Type 0) → (Wrong → Type 0) → Result A Flaw → Type 0
+Judges IsSuch Wrongs (Ok a) = IsSuch a
+Judges {A = A} IsSuch Wrongs (Err (flaw.Wrong w)) = ((a : A) → IsSuch a → ⊥) × Wrongs w
+Judges IsSuch Wrongs (Err flaw.OutOfMemory) = Unit {0}
+
+-- Terms begin with one that says this, and these stand behind it.
+abbrev pub Begins : {A : Type 0} → (List ℕ → A → Type 0) → (terms : List (List ℕ)) → A → (rest : List (List ℕ))
+    → Type 0
+Begins Told terms a rest = (term : List ℕ) × (terms ≡ term ∷ rest) × Told term a
+
+-- What the first term says is found, with the text behind it. Else it says nothing, and this is what is wrong.
+abbrev pub JudgesFirst : {A : Type 0} → (List ℕ → A → Type 0) → (List (List ℕ) → Wrong → Type 0)
+    → (terms : List (List ℕ)) → Result (A × Bor (List ℕ)) Flaw → Type 0
+JudgesFirst Told Wrongs terms (Ok found) = Begins Told terms found.0 (terms_of found.1.now)
+JudgesFirst {A = A} Told Wrongs terms (Err (flaw.Wrong w)) =
+    ((a : A) (rest : List (List ℕ)) → Begins Told terms a rest → ⊥) × Wrongs terms w
+JudgesFirst Told Wrongs terms (Err flaw.OutOfMemory) = Unit {0}
+
+-- a term is the name of a call
+abbrev pub NamesCall : List ℕ → How → Type 0
+NamesCall term h = term ≡ how_term h
+
+-- what is found to be wrong is so
+abbrev pub Finds : (Wrong → Type 0) → Flaw → Type 0
+Finds Wrongs (flaw.Wrong w) = Wrongs w
+Finds Wrongs flaw.OutOfMemory = Unit {0}
