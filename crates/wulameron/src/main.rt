@@ -3,8 +3,8 @@
 
 use clap::Error;
 use clap::error::ErrorKind;
-use negotiate_serve::ending::{Ending, FAULT, Fault, NOT_A_COMMAND};
-use negotiate_serve::report::report;
+use negotiate_serve::ending::{FAULT, Fault, NOT_A_COMMAND};
+use negotiate_serve::report::report_fault;
 use std::process::ExitCode;
 use std::{env, io};
 use wulameron_serve::arguments::{Asked, arguments};
@@ -52,8 +52,7 @@ fn main(rt: HostRuntime) -> ExitCode {
     match words(&rt) {
         Ok(words) => ExitCode::from(carry_out(&rt, &words)),
         Err(error) => {
-            let ended: Result<Ending, Fault> = Err(Fault::of_reading(&error));
-            let _ = report("wulameron", ended, &mut rt.stderr());
+            let _ = report_fault("wulameron", Fault::of_reading(&error), &mut rt.stderr());
             ExitCode::from(FAULT)
         }
     }

@@ -1,5 +1,5 @@
 -- What a command that is explained makes of the session of a node.
-use Rattle.std.proofs.Common.{◌≡◌, ℕ, Bool, true, false, List, [], Option, Result, OnOk, append-nil, refl, sym, ap, subst, ◌∙◌}
+use Rattle.std.proofs.Common.{◌≡◌, ℕ, Bool, true, false, List, [], ◌++◌, codes, Option, Result, OnOk, append-nil, append_assoc, refl, sym, ap, subst, ◌∙◌}
 use Rattle.std.specs.declared.alloc.AllocError.{AllocError}
 use Rattle.iceoryx2_access.specs.Letter.{Letter}
 use Rattle.iceoryx2_traced.specs.Trace.{TracedState, IsTracedAccess}
@@ -23,12 +23,12 @@ use Rattle.explain_serve.specs.Traces.{TracedOver, HasItsRoom, made_between}
 use Rattle.explain_serve.proofs.Traces.{goes_traced}
 use Rattle.wulameron_serve.specs.declared.explained.ExplainedAnswerer.{ExplainedAnswerer}
 use Rattle.wulameron_serve.specs.declared.trouble.Trouble.{Trouble}
-use Rattle.wulameron_serve.specs.Explained.{IsExplained, RefreshesInside, ExplainsFor, BeginsAsAnswered, ExplainsLinesFor, of_another, called, closed, listed}
+use Rattle.wulameron_serve.specs.Explained.{IsExplained, RefreshesInside, ExplainsFor, ExplainsApart, BeginsAsAnswered, ExplainsLinesFor, of_another, called, closed, listed}
 use Rattle.wulameron_serve.specs.Lines.{AnswersWhileUsable}
 use Rattle.wulameron_serve.specs.Shared.{AnswersFor, Refreshes, fresh_session}
 use Rattle.wulameron_serve.specs.Shared as shared
 use Rattle.wulameron_serve.specs.Dead.{is_blocked}
-use Rattle.wulameron_serve.proofs.NodeAnswers.{says_grown}
+use Rattle.wulameron_serve.proofs.NodeAnswers.{grows_as}
 use Rattle.wulameron_serve.proofs.Refreshing.{refreshed_not}
 
 -- ---- a command
@@ -80,21 +80,43 @@ module _ {S : Type 0} (step : S → Letter → S → Type 0) (world : S → Worl
   begins_as_answered {old = old} (listed mid shown is) =
       record { said = is.tells.said; explanation = _; are = is.tells.are; answers = shared.listed is.reply (inside mid) (refreshed_inside old mid shown) (goes_inside is.goes.goes) is.tells.tells }
 
+  -- and so does what ends with an empty line
+  pub apart_as_answered : {old new : TracedOver S} {line text : List ℕ} {c : Command} → ExplainsApart step world own node old line c text new
+      → BeginsAsAnswered step world own node old line c text new
+  apart_as_answered {text = text} apart =
+      let begins = begins_as_answered apart.explains in
+      record {
+        said = begins.said;
+        explanation = begins.explanation ++ codes "\n";
+        are = apart.are ∙ ap (λ (t : List ℕ). t ++ codes "\n") begins.are ∙ append_assoc begins.said begins.explanation (codes "\n");
+        answers = begins.answers;
+      }
+
 -- ---- a line
 
 module _ {S : Type 0} (step : S → Letter → S → Type 0) (world : S → World) (own : S → ℕ → Bool) where
   abbrev pub ExplainsNode : Answering (ExplainedAnswerer S)
-  ExplainsNode old line c text new = (new.node ≡ old.node) × ExplainsFor step world own old.node (own_state old.session) line c text (own_state new.session)
+  ExplainsNode old line c text new = (new.node ≡ old.node) × ExplainsApart step world own old.node (own_state old.session) line c text (own_state new.session)
 
   -- an explained close is one for the node
-  pub says_closed : (old new : ExplainedAnswerer S) (line : List ℕ) (c : Command) (slot : ℕ) → c ≡ command.Close slot → new.node ≡ old.node
+  pub says_closed : (node : ℕ) (old new : TracedOver S) (line : List ℕ) (c : Command) (slot : ℕ) → c ≡ command.Close slot
       → (done : Result (Unit {0}) AllocError) (before after : List ℕ)
-      → OnOk done (GrowsBy (λ said. IsExplained step world (own_state old.session) line (command.Close slot) said (own_state new.session)) before after)
-      → OnOk done (SaysAnswer ExplainsNode old line c before after new)
-  says_closed old new line c slot is same done before after grows =
-      says_grown ExplainsNode old new line c (λ said. IsExplained step world (own_state old.session) line (command.Close slot) said (own_state new.session))
-      (λ said explained. (same, subst (λ k. ExplainsFor step world own old.node (own_state old.session) line k said (own_state new.session)) (sym is) (closed explained)))
+      → OnOk done (GrowsBy (λ said. IsExplained step world old line (command.Close slot) said new) before after)
+      → OnOk done (GrowsBy (λ said. ExplainsFor step world own node old line c said new) before after)
+  says_closed node old new line c slot is done before after grows =
+      grows_as (λ said. IsExplained step world old line (command.Close slot) said new) (λ said. ExplainsFor step world own node old line c said new)
+      (λ said explained. subst (λ k. ExplainsFor step world own node old line k said new) (sym is) (closed explained))
       done before after grows
+
+  -- an answer with an empty line behind it
+  pub says_apart : (old new : ExplainedAnswerer S) (line : List ℕ) (c : Command) → new.node ≡ old.node → (before mid after : List ℕ)
+      → GrowsBy (λ said. ExplainsFor step world own old.node (own_state old.session) line c said (own_state new.session)) before mid
+      → after ≡ mid ++ codes "\n" → SaysAnswer ExplainsNode old line c before after new
+  says_apart old new line c same before mid after grows end = record {
+    said = grows.0 ++ codes "\n";
+    is_said = (same, record { explained = grows.0; explains = grows.1; are = refl });
+    grown = end ∙ ap (λ (t : List ℕ). t ++ codes "\n") grows.2 ∙ append_assoc before grows.0 (codes "\n");
+  }
 
 -- ---- an input
 
@@ -116,7 +138,7 @@ module _ {S : Type 0} (step : S → Letter → S → Type 0) (world : S → Worl
     along a b line c text s by shows = (
       own_state b.session,
       subst (λ (r : TracedOver S). ExplainsLinesFor step world own trouble node r line c text (own_state b.session)) shows.1
-          (by.0, subst (λ (n : ℕ). ExplainsFor step world own n (own_state a.session) line c text (own_state b.session)) shows.0 by.1.1),
+          (by.0, subst (λ (n : ℕ). ExplainsApart step world own n (own_state a.session) line c text (own_state b.session)) shows.0 by.1.1),
       (by.1.0 ∙ shows.0, refl),
     )
 

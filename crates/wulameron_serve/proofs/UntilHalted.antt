@@ -39,7 +39,7 @@ module _ {M : Type 0} (By Of : Answering M) (m : M) (also : (line : List ℕ) (c
 
   ends_also : (ended : Result Ending Fault) (k : ℕ) (rest last unread : List ℕ) → EndsUntold By ended m k rest last unread → EndsUntold Of ended m k rest last unread
   ends_also (Ok ending.InputEnded) k rest last unread ends = ends
-  ends_also (Ok ending.NotACommand) k rest last unread ends = ends
+  ends_also (Ok (ending.NotACommand number line)) k rest last unread ends = ends
   ends_also (Err fault.Reading) k rest last unread ends = ends
   ends_also (Err fault.TooManyLines) k rest last unread ends = ends
   ends_also (Err fault.OutOfMemory) k rest last unread ends = ends

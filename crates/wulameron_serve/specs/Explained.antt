@@ -1,5 +1,5 @@
 -- How lines are answered over a storage that processes share, with each reply explained.
-use Rattle.std.specs.Prelude.{◌≡◌, ◌≢◌, ◌⊎◌, ℕ, Bool, true, List, [], ◌∷◌, ◌++◌, Option, Result}
+use Rattle.std.specs.Prelude.{◌≡◌, ◌≢◌, ◌⊎◌, ℕ, Bool, true, List, [], ◌∷◌, ◌++◌, codes, Option, Result}
 use Rattle.iceoryx2_access.specs.Letter.{Letter}
 use Rattle.iceoryx2_traced.specs.Trace.{TracedState, IsTracedAccess}
 use Rattle.iceoryx2_world.specs.World.{World}
@@ -66,6 +66,13 @@ module _ {S : Type 0} (step : S → Letter → S → Type 0) (world : S → Worl
     listed : {text : List ℕ} {new : TracedOver S} (mid : TracedOver S) → RefreshesInside world own old mid
         → IsExplained step world mid line command.List text new → ExplainsFor old line command.List text new
 
+  -- An answer is explained, and ends with an empty line.
+  pub record ExplainsApart (old : TracedOver S) (line : List ℕ) (c : Command) (text : List ℕ) (new : TracedOver S)
+      : Type 0 where
+    pub explained : List ℕ
+    pub explains : ExplainsFor old line c explained new
+    pub are : text ≡ explained ++ codes "\n"
+
   -- The text begins with what is said without explanations, over the storage inside.
   pub record BeginsAsAnswered (old : TracedOver S) (line : List ℕ) (c : Command) (text : List ℕ) (new : TracedOver S)
       : Type 0 where
@@ -81,7 +88,7 @@ module _ {S : Type 0} (step : S → Letter → S → Type 0) (world : S → Worl
     (trouble : S → Option Trouble) (node : ℕ) where
   -- how lines are answered for the node, as long as the log can be used
   abbrev pub ExplainsLinesFor : Answering (TracedOver S)
-  ExplainsLinesFor = AnswersWhileUsable (λ s. trouble s.table.inner) (ExplainsFor step world own node)
+  ExplainsLinesFor = AnswersWhileUsable (λ s. trouble s.table.inner) (ExplainsApart step world own node)
 
   -- The writer has taken what is said of an input for the node, from a session on that has done nothing yet, and
   -- nothing else. Then the factories of a session's slots are closed, and the world agrees.

@@ -15,6 +15,12 @@ abbrev pub trouble_of : (is_over : Bool) → Option FileFault → Option Trouble
 trouble_of true refused = Some trouble.Over
 trouble_of false refused = option_map trouble.Refused refused
 
+-- what a user has to know of why a log refused: not that it goes on elsewhere, or isn't worth a compaction
+abbrev pub concern_of : Option FileFault → Option FileFault
+concern_of (Some file.Moved) = None
+concern_of (Some file.NothingSaved) = None
+concern_of other = other
+
 -- a log that is over, is damaged, or may have an entry that nobody knows of isn't used any more
 abbrev pub is_last : Trouble → Bool
 is_last trouble.Over = true
@@ -48,6 +54,11 @@ advice_of file.HeldAlready = codes "start the program again"
 advice_of file.NotHeld = codes "start the program again"
 advice_of file.Unread = codes "start the program again"
 advice_of file.Unsure = codes "start the program again"
+advice_of file.Moved = codes "try again"
+advice_of file.AnotherLog = codes "start the program again"
+advice_of file.NothingSaved = codes "leave it"
+advice_of file.Compacting = codes "start the program again"
+advice_of file.NotCompacting = codes "start the program again"
 advice_of (file.Failed kind) = codes "see whether its disk works"
 
 -- `None` where the text is the system's own name of what it refused

@@ -14,7 +14,7 @@ ghost use Rattle.negotiate_lines.specs.Lines.{IsLine};
 ghost use Rattle.negotiate_serve.specs.Replies.{GrowsBy};
 ghost use Rattle.explain_serve.specs.Traces.{HasItsRoom, TracedOver};
 ghost use Rattle.wulameron_serve.specs.Explained.{ExplainsFor, IsExplained, ServesExplained, ServesLogExplained};
-ghost use Rattle.wulameron_serve.specs.Explained.{BeginsAsAnswered, ServesTraced, StandsExplained};
+ghost use Rattle.wulameron_serve.specs.Explained.{BeginsAsAnswered, ExplainsApart, ServesTraced, StandsExplained};
 ghost use Rattle.wulameron_serve.specs.Lines.{IsUsable};
 ghost use Rattle.wulameron_serve.specs.Shared.{fresh_session};
 
@@ -109,6 +109,24 @@ impl<S: WorldStorage> ExplainedAnswerer<S> {
         self.explain(line, Command::List, text)
     }
 
+    /// Answers a command, without the empty line at the end.
+    fn reply(&mut self, line: &[u8], command: Command, text: &mut String) -> Result<(), AllocError>
+        requires { IsLine line.now (said.Command command) }
+        ensures node { self.new.node ≡ self.old.node }
+        ensures said { StandsExplained S.world S.own self.old.node (own_state self.old.session)
+            → OnOk result (GrowsBy (λ said. ExplainsFor S.step S.world S.own self.old.node
+            (own_state self.old.session) line.now command said (own_state self.new.session))
+            (string_bytes text.old) (string_bytes text.new)) }
+        ensures stands { StandsExplained S.world S.own self.old.node (own_state self.old.session)
+            → StandsExplained S.world S.own self.old.node (own_state self.new.session) }
+    {
+        match command {
+            Command::Call(call) => self.call(line, call, text),
+            Command::Close { slot } => self.explain(line, Command::Close { slot }, text),
+            Command::List => self.list(line, text),
+        }
+    }
+
     /// Carries a command out, and writes the reply with its explanation.
     fn explain(
         &mut self,
@@ -136,11 +154,11 @@ impl<S: WorldStorage> ExplainedAnswerer<S> {
     }
 }
 
-/// Each reply is followed by its explanation. A call in the name of another node changes nothing, and a list shows the
-/// services of all processes.
+/// Each reply is followed by its explanation and an empty line. A call in the name of another node changes nothing, and
+/// a list shows the services of all processes.
 impl<S: WorldStorage> Answerer for ExplainedAnswerer<S> {
-    ghost answers = { λ old line c text new. (new.node ≡ old.node)
-        × ExplainsFor S.step S.world S.own old.node (own_state old.session) line c text (own_state new.session) };
+    ghost answers = { λ old line c text new. (new.node ≡ old.node) × ExplainsApart S.step S.world S.own old.node
+        (own_state old.session) line c text (own_state new.session) };
 
     ghost stands = { λ s. StandsExplained S.world S.own s.node (own_state s.session) };
 
@@ -150,11 +168,8 @@ impl<S: WorldStorage> Answerer for ExplainedAnswerer<S> {
         command: Command,
         text: &mut String,
     ) -> Result<(), AllocError> {
-        match command {
-            Command::Call(call) => self.call(line, call, text),
-            Command::Close { slot } => self.explain(line, Command::Close { slot }, text),
-            Command::List => self.list(line, text),
-        }
+        self.reply(line, command, text)?;
+        text.push_str("\n")
     }
 }
 
@@ -162,7 +177,7 @@ impl<S: WorldStorage> Answerer for ExplainedAnswerer<S> {
 pub fn explanations<S: Storage>()
     // It begins with what is said without explanations, over the storage inside.
     ensures { (world : S → World) (own : S → ℕ → Bool) (node : ℕ) (old new : TracedOver S)
-        (line text : List ℕ) (c : declared-command.Command) → ExplainsFor S.step world own node old line c text new
+        (line text : List ℕ) (c : declared-command.Command) → ExplainsApart S.step world own node old line c text new
         → BeginsAsAnswered S.step world own node old line c text new }
 {}
 

@@ -19,7 +19,7 @@ use iceoryx2_monitoring::token::{Token, claim, claim_free};
 use iceoryx2_session::world_storage::WorldStorage;
 use negotiate_serve::ending::{Ending, FAULT, Fault, status};
 use negotiate_serve::output::say;
-use negotiate_serve::report::report;
+use negotiate_serve::report::{report, report_fault};
 use negotiate_serve::serve::tell_fault;
 use std::alloc::Global;
 use std::fs::File;
@@ -88,7 +88,7 @@ fn run_as<
 >(rt: &F, node: u64, run: &Run<'_>, input: R, output: &mut W, errors: &mut E) -> u8 {
     let alloc = rt.alloc();
     let Ok(path) = format!(in alloc; "{}", run.at) else {
-        let _ = report("wulameron", Err(Fault::OutOfMemory), errors);
+        let _ = report_fault("wulameron", Fault::OutOfMemory, errors);
         return FAULT;
     };
     match FileLog::open(rt, path, run.options) {
@@ -116,15 +116,20 @@ fn run_as<
     }
 }
 
-/// Writes the line of a fault, and gives the status. A log that can't be used any more was told of.
+/// Writes the line of a fault or of what is wrong with a line, and gives the status. A log that can't be used any more
+/// was told of.
 fn report_end<E: Write>(ended: Result<Ending, Halt>, errors: &mut E) -> u8
     ensures { result ≡ status_with ended }
 {
     match ended {
-        Ok(ending) => status(Ok(ending)),
+        Ok(ending) => {
+            let ended: Result<Ending, Fault> = Ok(ending);
+            let _ = report("wulameron", &ended, errors);
+            status(&ended)
+        }
         Err(halt) => {
             if let Halt::Serving(fault) = halt {
-                let _ = report("wulameron", Err(fault), errors);
+                let _ = report_fault("wulameron", fault, errors);
             }
             FAULT
         }

@@ -4,7 +4,7 @@ ghost use Rattle.std.specs.Prelude.{◌≡◌, List, ℕ, Option, Some, Bool, If
 ghost use Rattle.iceoryx2_file_log.specs.declared.error.FileFault as declared-fault;
 ghost use Rattle.wulameron_serve.specs.declared.trouble.Trouble as declared;
 ghost use Rattle.wulameron_serve.specs.Troubles.{TellsLine, advice_of, is_last, last_of, trouble_line, trouble_of};
-ghost use Rattle.wulameron_serve.specs.Troubles.{trouble_text};
+ghost use Rattle.wulameron_serve.specs.Troubles.{concern_of, trouble_text};
 ghost use Rattle.iceoryx2_monitoring.specs.Errors.{fault_text as claim_text};
 
 use crate::dead::DeadNodes;
@@ -19,7 +19,9 @@ use negotiate_serve::ending::Fault;
 use negotiate_serve::output::say;
 use std::alloc::{AllocError, Global};
 use std::fmt;
+use std::fs::File;
 use std::io::Write;
+use std::rt::Files;
 use std::time::Clock;
 
 /// What goes wrong at a log.
@@ -68,6 +70,11 @@ pub fn advice(fault: FileFault) -> &'static str
         FileFault::NotHeld => "start the program again",
         FileFault::Unread => "start the program again",
         FileFault::Unsure => "start the program again",
+        FileFault::Moved => "try again",
+        FileFault::AnotherLog => "start the program again",
+        FileFault::NothingSaved => "leave it",
+        FileFault::Compacting => "start the program again",
+        FileFault::NotCompacting => "start the program again",
         FileFault::Failed { kind: _ } => "see whether its disk works",
     }
 }
@@ -102,6 +109,18 @@ pub fn trouble_with(is_over: bool, refused: Option<FileFault>) -> Option<Trouble
     }
 }
 
+/// What a user has to know of why a log refused. That it goes on in another file, and that a compaction would save too
+/// little, nobody has to: the program goes on by itself.
+fn concern(fault: Option<FileFault>) -> Option<FileFault>
+    ensures { result ≡ concern_of fault }
+{
+    match fault {
+        Some(FileFault::Moved) => None,
+        Some(FileFault::NothingSaved) => None,
+        _ => fault,
+    }
+}
+
 /// What is over a log, at which something may go wrong.
 pub trait Troubled {
     /// What goes wrong there.
@@ -122,11 +141,11 @@ pub trait Refusing: Log {
         ensures { result ≡ refused self.now };
 }
 
-impl<R: Clock + AllocGlobal> Refusing for FileLog<R> {
-    ghost refused = { λ log. log.fault };
+impl<R: Files<File = File> + Clock + AllocGlobal> Refusing for FileLog<R> {
+    ghost refused = { λ log. concern_of log.fault };
 
     fn refused(&self) -> Option<FileFault> {
-        self.fault()
+        concern(self.fault())
     }
 }
 

@@ -13,9 +13,9 @@ use iceoryx2_file_log::file_log::FileLog;
 use iceoryx2_journal::cleaning::{CleanError, Cleaned};
 use iceoryx2_journal::journal::Journal;
 use iceoryx2_monitoring::state::{NodeState, NodeStatus, list};
-use negotiate_serve::ending::{Ending, FAULT, Fault, status};
+use negotiate_serve::ending::{DONE, FAULT, Fault};
 use negotiate_serve::output::say;
-use negotiate_serve::report::report;
+use negotiate_serve::report::report_fault;
 use std::alloc::{AllocError, Global};
 use std::fs::File;
 use std::io::Write;
@@ -55,9 +55,9 @@ fn describe_nodes(nodes: &[NodeStatus], text: &mut String) -> Result<(), AllocEr
 /// The status of a program that did all, or met a fault, of which the writer of errors has a line.
 fn status_of<E: Write>(done: Result<(), Fault>, errors: &mut E) -> u8 {
     match done {
-        Ok(()) => status(Ok(Ending::InputEnded)),
+        Ok(()) => DONE,
         Err(fault) => {
-            let _ = report("wulameron", Err(fault), errors);
+            let _ = report_fault("wulameron", fault, errors);
             FAULT
         }
     }
