@@ -1,0 +1,11 @@
+//! Tests of what is printed of logs, and of what is found wrong with one, with values from outside the program.
+#![tactic(auto)]
+
+#[cfg(test)]
+mod checks;
+#[cfg(test)]
+mod logs;
+#[cfg(test)]
+mod printing;
+#[cfg(test)]
+mod support;

@@ -1,0 +1,287 @@
+//! Whether the bytes of a log's file are sound.
+
+ghost use Rattle.std.specs.Prelude.{◌≡◌, ◌↔◌, ◌++◌, ◌+◌, ◌<◌, ◌^◌, ℕ, List, IfOk, IfErr, IsTrue, take};
+ghost use Rattle.iceoryx2_world.specs.World.{World};
+ghost use Rattle.iceoryx2_log.specs.declared.entry.Entry as declared;
+ghost use Rattle.iceoryx2_log.specs.declared.entry.Deed.TheVariants.{Moved as mark};
+ghost use Rattle.iceoryx2_file_log.specs.Remainder.{IsTorn};
+ghost use Rattle.iceoryx2_file_log.specs.declared.header.TheConstants.{HEADER_LENGTH as header_length};
+ghost use Rattle.iceoryx2_log.specs.Form.{Begins};
+ghost use Rattle.iceoryx2_file_log.specs.Header.{IsForm as IsHeaderForm};
+ghost use Rattle.wulameron_trail.specs.Checking.{Fits, IsAccess, IsEnd, IsNoHeader, IsVerdict};
+ghost use Rattle.wulameron_trail.specs.Steps.{IsStep, IsVerdictOn};
+
+use iceoryx2_file_log::header::{self, HEADER_LENGTH, Header, HeaderError};
+use iceoryx2_file_log::remainder::{Front, front_of};
+use iceoryx2_journal::follow::{FollowError, follow};
+use iceoryx2_log::entry::{Deed, Entry};
+use iceoryx2_table::table::stored::StoredWorld;
+use std::alloc::{AllocError, Global};
+
+/// What stands after the last entry of a log that is sound.
+#[derive(Clone, Copy, Debug, PartialEq, Eq)]
+pub enum Ending {
+    /// Nothing.
+    Whole,
+    /// So many bytes, which a writer left that died. Who appends next cuts them off.
+    Torn(u64),
+    /// The mark that the log goes on in another file.
+    Moved,
+}
+
+/// What is known of a log that is sound.
+#[derive(Clone, Copy, Debug, PartialEq, Eq)]
+pub struct Sound {
+    /// How many entries it has, without a mark.
+    pub entries: u64,
+    /// The byte of the file at which they end.
+    pub end: u64,
+    pub ending: Ending,
+}
+
+/// What is wrong with a log.
+#[derive(Clone, Copy, Debug, PartialEq, Eq)]
+pub enum Wrong {
+    /// Its first bytes are no header.
+    BadHeader(HeaderError),
+    /// There is no entry, and no end that a writer leaves that died.
+    DamagedEntry,
+    /// The entry isn't what the world answers.
+    NotAnswered,
+    /// After the entry the world doesn't agree.
+    NoAgreement,
+    /// The snapshot ends before the length that the header has: within an entry, or with the file.
+    ShortSnapshot,
+    /// More follows the mark that the log goes on in another file.
+    MarkNotLast,
+}
+
+/// The first thing that is wrong with a log.
+#[derive(Clone, Copy, Debug, PartialEq, Eq)]
+pub struct Found {
+    pub wrong: Wrong,
+    /// The number of the entry where that is, counted from 0.
+    pub place: u64,
+    /// The byte of the file where that begins, counted from 0.
+    pub byte: u64,
+}
+
+/// What a log is.
+#[derive(Clone, Copy, Debug, PartialEq, Eq)]
+pub enum Verdict {
+    Sound(Sound),
+    Wrong(Found),
+}
+
+/// What comes of the next bytes of a log.
+#[derive(Clone, Copy)]
+enum Step {
+    /// An entry of so many bytes, which is followed.
+    Followed(usize),
+    /// Its end.
+    Ended(Ending),
+    /// Something that is wrong.
+    Failed(Wrong),
+}
+
+/// Where an entry stands.
+#[derive(Clone, Copy)]
+struct Span {
+    /// How long the log's snapshot is, in bytes.
+    snapshot: u64,
+    /// How many bytes of entries stand before it.
+    at: u64,
+    /// How many bytes it has.
+    count: usize,
+}
+
+/// The end of a log, unless the snapshot is longer than what stands before it.
+fn ended(snapshot: u64, at: u64, ending: Ending) -> Step
+    ensures { (w : World) (rest : List ℕ) → IsEnd rest ending → IsStep snapshot w at rest result w }
+{
+    if at < snapshot {
+        return Step::Failed(Wrong::ShortSnapshot);
+    }
+    Step::Ended(ending)
+}
+
+/// What stands at the end, where that is torn.
+fn torn(rest: &[u8]) -> Ending
+    requires { IsTorn rest.now }
+    ensures { IsEnd rest.now result }
+{
+    if rest.is_empty() {
+        return Ending::Whole;
+    }
+    Ending::Torn(rest.len() as u64)
+}
+
+/// Whether an entry of so many bytes ends with the snapshot at the latest, or begins after it.
+fn fits(snapshot: u64, at: u64, count: u64) -> bool
+    ensures { IsTrue result ↔ Fits snapshot at count }
+{
+    count <= snapshot.saturating_sub(at) || snapshot <= at
+}
+
+/// Whether the deed is the mark that the log goes on in another file.
+fn is_mark(deed: &Deed) -> bool
+    ensures { IsTrue result ↔ (deed.now ≡ mark) }
+{
+    match deed {
+        Deed::Moved => true,
+        _ => false,
+    }
+}
+
+/// What comes of a mark of so many bytes.
+fn marked(snapshot: u64, at: u64, rest: &[u8], count: usize) -> Step
+    ensures { (w : World) (e : declared.Entry) → Begins rest.now e count → e.deed ≡ mark
+        → IsStep snapshot w at rest.now result w }
+{
+    if count < rest.len() {
+        return Step::Failed(Wrong::MarkNotLast);
+    }
+    ended(snapshot, at, Ending::Moved)
+}
+
+/// What comes of an access of so many bytes.
+fn accessed(
+    alloc: Global,
+    world: &mut StoredWorld,
+    span: Span,
+    entry: &Entry,
+) -> Result<Step, AllocError>
+    ensures { IfOk result (λ step. (rest : List ℕ) → IsAccess rest entry.now span.count
+        → IsStep span.snapshot world.old span.at rest step world.new) }
+{
+    if !fits(span.snapshot, span.at, span.count as u64) {
+        return Ok(Step::Failed(Wrong::ShortSnapshot));
+    }
+    match follow(alloc, world, entry) {
+        Ok(()) => {
+            if world.agrees()? {
+                Ok(Step::Followed(span.count))
+            } else {
+                Ok(Step::Failed(Wrong::NoAgreement))
+            }
+        }
+        Err(error) => match error {
+            FollowError::OutOfMemory => Err(AllocError),
+            FollowError::Disagrees => Ok(Step::Failed(Wrong::NotAnswered)),
+        },
+    }
+}
+
+/// What comes of the next bytes of a log, after so many bytes of entries.
+fn next_step(
+    alloc: Global,
+    world: &mut StoredWorld,
+    snapshot: u64,
+    at: u64,
+    rest: &[u8],
+) -> Result<Step, AllocError>
+    ensures { IfOk result (λ step. IsStep snapshot world.old at rest.now step world.new) }
+{
+    match front_of(alloc, rest, rest.len() as u64)? {
+        Front::Whole { entry, count } => {
+            if is_mark(&entry.deed) {
+                return Ok(marked(snapshot, at, rest, count));
+            }
+            accessed(
+                alloc,
+                world,
+                Span {
+                    snapshot,
+                    at,
+                    count,
+                },
+                &entry,
+            )
+        }
+        Front::Torn => Ok(ended(snapshot, at, torn(rest))),
+        Front::Unfinished | Front::Damaged => Ok(Step::Failed(Wrong::DamagedEntry)),
+    }
+}
+
+/// What is known where the entries end.
+fn ended_at(entries: u64, at: usize, ending: Ending) -> Sound
+    requires { at < 2 ^ 63 }
+    ensures { result ≡ record { entries = entries; end = header_length + at; ending = ending } }
+{
+    Sound {
+        entries,
+        end: HEADER_LENGTH as u64 + at as u64,
+        ending,
+    }
+}
+
+/// What is wrong after so many bytes of entries.
+fn failed_at(wrong: Wrong, place: u64, at: usize) -> Found
+    requires { at < 2 ^ 63 }
+    ensures { result ≡ record { wrong = wrong; place = place; byte = header_length + at } }
+{
+    Found {
+        wrong,
+        place,
+        byte: HEADER_LENGTH as u64 + at as u64,
+    }
+}
+
+/// What a log is whose header is this, by the bytes after that.
+fn walk(alloc: Global, header: &Header, entries: &[u8]) -> Result<Verdict, AllocError>
+    ensures { IfOk result (IsVerdictOn header.now entries.now) }
+{
+    let mut world = StoredWorld::starting_at(alloc, header.counter);
+    let mut at = 0usize;
+    for place in 0..u64::MAX {
+        match next_step(
+            alloc,
+            &mut world,
+            header.snapshot_length,
+            at as u64,
+            &entries[at..],
+        )? {
+            Step::Followed(count) => at += count,
+            Step::Ended(ending) => return Ok(Verdict::Sound(ended_at(place, at, ending))),
+            Step::Failed(wrong) => return Ok(Verdict::Wrong(failed_at(wrong, place, at))),
+        }
+    }
+    unreachable!()
+}
+
+/// The bytes of a header, as far as they are there, and those after it.
+fn parted(bytes: &[u8]) -> (&[u8], &[u8])
+    ensures front { result.0.now ≡ take header_length bytes.now }
+    ensures all { bytes.now ≡ result.0.now ++ result.1.now }
+{
+    if bytes.len() < HEADER_LENGTH {
+        return (bytes, &[]);
+    }
+    bytes.split_at(HEADER_LENGTH)
+}
+
+/// Which header the bytes are, or why they are none.
+fn header_of(bytes: &[u8]) -> Result<Header, HeaderError>
+    ensures form { IfOk result (λ h. IsHeaderForm h bytes.now) }
+    ensures fault { IfErr result (IsNoHeader bytes.now) }
+{
+    header::decode(bytes)
+}
+
+/// What the bytes of a log's file are: sound, or not and then the first thing that is wrong. They are sound where they
+/// are a header and entries, each of which is what the world before it answers and leaves a world that agrees, with the
+/// whole snapshot among them, and after these nothing, what a writer left that died, or the mark that the log goes on
+/// in another file. `AllocError` where there is no memory. It tests the whole world after each entry.
+pub fn check(alloc: Global, bytes: &[u8]) -> Result<Verdict, AllocError>
+    ensures { IfOk result (IsVerdict bytes.now) }
+{
+    let (front, entries) = parted(bytes);
+    match header_of(front) {
+        Ok(header) => walk(alloc, &header, entries),
+        Err(error) => Ok(Verdict::Wrong(Found {
+            wrong: Wrong::BadHeader(error),
+            place: 0,
+            byte: 0,
+        })),
+    }
+}

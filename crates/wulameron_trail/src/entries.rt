@@ -1,0 +1,100 @@
+//! The lines of a log's entries.
+
+ghost use Rattle.std.specs.Prelude.{◌≡◌, ◌++◌, IfOk, OnOk, Some, codes, decimal, string_bytes};
+ghost use Rattle.hex.specs.Hex.{encode_lower};
+ghost use Rattle.wulameron_view.specs.Escapes.{escaped};
+ghost use Rattle.wulameron_trail.specs.EntryTexts.{AddsEntryLine, IsDone, doer as doer_text};
+ghost use Rattle.wulameron_trail.specs.EntryTexts.{published_as as published_text, publishing_text as publishing_line};
+
+use crate::descriptions::{read, term_of};
+use iceoryx2_description::description::StaticConfig;
+use iceoryx2_log::entry::{Deed, Entry};
+use std::alloc::{AllocError, Global};
+use wulameron_view::escape::escape;
+
+/// Writes the line of an entry, which has this number in its log, counted from 0: the number, the node, what it did,
+/// the service's hash, and the entry's numbers; of a publishing the pattern and the name too, without control
+/// characters. `AllocError` where there is no memory; a front of the line may then be written.
+pub fn entry_line(place: u64, entry: &Entry, text: &mut String) -> Result<(), AllocError>
+    ensures { OnOk result (AddsEntryLine place entry.now (string_bytes text.old) (string_bytes text.new)) }
+{
+    let doer = doer(*text.allocator(), entry)?;
+    let done = deed_text(*text.allocator(), entry)?;
+    writeln!(text, "{place} {doer}{done}")
+}
+
+/// Who did it, and then a space. Nobody did a mark.
+pub(crate) fn doer(alloc: Global, entry: &Entry) -> Result<String, AllocError>
+    ensures { IfOk result (λ text. string_bytes text ≡ doer_text entry.now) }
+{
+    let node = entry.node;
+    match &entry.deed {
+        Deed::Moved => Ok(String::new(alloc)),
+        _ => format!(in alloc; "node {node} "),
+    }
+}
+
+/// What an entry did, without who did it.
+pub(crate) fn deed_text(alloc: Global, entry: &Entry) -> Result<String, AllocError>
+    ensures { IfOk result (λ text. IsDone entry.now.hash.0 entry.now.deed (string_bytes text)) }
+{
+    let hash = entry.hash.to_text(alloc)?;
+    match &entry.deed {
+        Deed::MakeTag => format!(in alloc; "makes tag {hash}"),
+        Deed::RemoveTag => format!(in alloc; "removes tag {hash}"),
+        Deed::Lock { number } => format!(in alloc; "locks {hash} number={number}"),
+        Deed::MakeSegment { number, max_nodes } => {
+            format!(in alloc; "makes segment {hash} number={number} max_nodes={max_nodes}")
+        }
+        Deed::RemoveSegment => format!(in alloc; "removes segment {hash}"),
+        Deed::RemoveDescription => format!(in alloc; "removes description {hash}"),
+        Deed::Publish { number, bytes } => {
+            let found = read(alloc, bytes.as_slice())?;
+            publishing_text(alloc, &hash, *number, &found)
+        }
+        Deed::OpenSegment { number, ticket } => {
+            format!(in alloc; "opens {hash} number={number} ticket={ticket}")
+        }
+        Deed::Release { ticket, number: _ } => format!(in alloc; "releases {hash} ticket={ticket}"),
+        Deed::Spend { number } => format!(in alloc; "spends numbers up to {number}"),
+        Deed::Moved => String::from_str(alloc, "the log goes on in another file"),
+    }
+}
+
+/// What the publishing of this description did to the service of this hash, written in hex.
+fn publishing_text(
+    alloc: Global,
+    hash: &str,
+    number: u64,
+    found: &Option<StaticConfig>,
+) -> Result<String, AllocError>
+    ensures { IfOk result (λ text. string_bytes text
+        ≡ codes "publishes " ++ (published_text found.now ++ (codes " " ++ (hash.now
+        ++ (codes " " ++ (codes "number" ++ (codes "=" ++ decimal number))))))) }
+{
+    let what = published_as(alloc, found)?;
+    format!(in alloc; "publishes {what} {hash} number={number}")
+}
+
+/// A published service by its pattern and its name.
+fn published_as(alloc: Global, found: &Option<StaticConfig>) -> Result<String, AllocError>
+    ensures { IfOk result (λ text. string_bytes text ≡ published_text found.now) }
+{
+    match found {
+        None => String::from_str(alloc, "no description"),
+        Some(description) => pattern_and_name(alloc, description),
+    }
+}
+
+/// The term of a service's pattern, and its name without control characters.
+pub(crate) fn pattern_and_name(
+    alloc: Global,
+    description: &StaticConfig,
+) -> Result<String, AllocError>
+    ensures { IfOk result (λ text. string_bytes text ≡ published_text (Some description.now)) }
+{
+    let term = term_of(description.messaging_pattern());
+    let mut text = format!(in alloc; "{term} ")?;
+    escape(description.name().as_str(), &mut text)?;
+    Ok(text)
+}

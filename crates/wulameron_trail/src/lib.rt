@@ -1,0 +1,9 @@
+//! What `wulameron log`, `watch` and `check` print: a log's entries, what they change, and what is wrong with a log.
+#![tactic(auto)]
+
+pub mod changes;
+pub mod checker;
+mod descriptions;
+pub mod diagram;
+pub mod entries;
+pub mod verdicts;

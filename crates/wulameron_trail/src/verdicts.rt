@@ -1,0 +1,100 @@
+//! What is printed of a log that was checked.
+
+ghost use Rattle.std.specs.Prelude.{◌≡◌, ◌++◌, IfOk, OnOk, string_bytes};
+ghost use Rattle.wulameron_trail.specs.VerdictTexts.{ending_text, found_line, verdict_line, wrong_text};
+ghost use Rattle.wulameron_trail.specs.VerdictTexts.{remedy as remedy_text};
+
+use crate::checker::{Ending, Found, Verdict, Wrong};
+use iceoryx2_file_log::header::HeaderError;
+use std::alloc::{AllocError, Global};
+
+/// Writes the line of what a log is: how many entries and bytes are sound, and what stands after them; or where the
+/// first thing is that is wrong, by byte and entry, what it is, and what can be done. `AllocError` where there is no
+/// memory; a front of the line may then be written.
+pub fn verdict_text(verdict: Verdict, text: &mut String) -> Result<(), AllocError>
+    ensures { OnOk result (string_bytes text.new ≡ string_bytes text.old ++ verdict_line verdict) }
+{
+    match verdict {
+        Verdict::Sound(sound) => {
+            let entries = sound.entries;
+            let end = sound.end;
+            write!(text, "sound: {entries} entries, {end} bytes")?;
+            write_ending(sound.ending, text)
+        }
+        Verdict::Wrong(found) => write_found(found, text),
+    }
+}
+
+/// Writes where the first thing is that is wrong, what it is, and what can be done.
+fn write_found(found: Found, text: &mut String) -> Result<(), AllocError>
+    ensures { OnOk result (string_bytes text.new ≡ string_bytes text.old ++ found_line found) }
+{
+    let byte = found.byte;
+    let place = found.place;
+    let wrong = words_of(*text.allocator(), found.wrong)?;
+    let remedy = remedy(found.wrong);
+    writeln!(
+        text,
+        "wrong at byte {byte}, entry {place}: {wrong}; {remedy}"
+    )
+}
+
+/// Writes what stands after the entries.
+fn write_ending(ending: Ending, text: &mut String) -> Result<(), AllocError>
+    ensures { OnOk result (string_bytes text.new ≡ string_bytes text.old ++ ending_text ending) }
+{
+    match ending {
+        Ending::Whole => text.push_str("\n"),
+        Ending::Torn(count) => writeln!(
+            text,
+            "; then {count} bytes that a writer left which died: the next one cuts them off"
+        ),
+        Ending::Moved => text.push_str(
+            "; the log goes on in another file: check the one that has its path now\n",
+        ),
+    }
+}
+
+/// What is wrong.
+fn words_of(alloc: Global, wrong: Wrong) -> Result<String, AllocError>
+    ensures { IfOk result (λ text. string_bytes text ≡ wrong_text wrong) }
+{
+    match wrong {
+        Wrong::BadHeader(HeaderError::AnotherVersion { found }) => {
+            format!(in alloc; "this is a log of version {found}")
+        }
+        Wrong::BadHeader(HeaderError::NotALog) => String::from_str(alloc, "this is no log"),
+        Wrong::BadHeader(HeaderError::Damaged) => String::from_str(alloc, "the header is damaged"),
+        Wrong::DamagedEntry => String::from_str(alloc, "the entry is damaged"),
+        Wrong::NotAnswered => {
+            String::from_str(alloc, "the entry is not what the services before it answer")
+        }
+        Wrong::NoAgreement => String::from_str(alloc, "after the entry the services don't agree"),
+        Wrong::ShortSnapshot => {
+            String::from_str(alloc, "the snapshot is shorter than the header has it")
+        }
+        Wrong::MarkNotLast => String::from_str(
+            alloc,
+            "more follows the mark that the log goes on in another file",
+        ),
+    }
+}
+
+/// What can be done about it.
+fn remedy(wrong: Wrong) -> &'static str
+    ensures { result.now ≡ remedy_text wrong }
+{
+    match wrong {
+        Wrong::BadHeader(HeaderError::NotALog) => "name another file",
+        Wrong::BadHeader(HeaderError::AnotherVersion { found: _ }) =>
+            "use a program of that version",
+        Wrong::BadHeader(HeaderError::Damaged) => "begin another log",
+        Wrong::DamagedEntry => "begin another log",
+        Wrong::NotAnswered => "see which program wrote it, and begin another log",
+        Wrong::NoAgreement => "report it with a copy of the log, and begin another",
+        Wrong::ShortSnapshot => "begin another log",
+        Wrong::MarkNotLast => {
+            "check the file that has its path now, and begin another log where it is this one"
+        }
+    }
+}

@@ -1,0 +1,7 @@
+-- A text that grows by one part and then by another.
+use Rattle.std.proofs.Common.{◌≡◌, ℕ, List, ◌++◌, Result, Ok, Err, OnOk, ap, ◌∙◌, append_assoc}
+use Rattle.std.specs.declared.alloc.AllocError.{AllocError}
+
+pub grown_by_both : (one other old mid new : List ℕ) → mid ≡ old ++ one → (r : Result (Unit {0}) AllocError) → OnOk r (new ≡ mid ++ other) → OnOk r (new ≡ old ++ (one ++ other))
+grown_by_both one other old mid new first (Ok written) then = then ∙ ap (λ l. l ++ other) first ∙ append_assoc old one other
+grown_by_both one other old mid new first (Err error) then = tt

@@ -1,0 +1,4 @@
+pub mod Columns
+pub mod Floats
+pub mod Grown
+pub mod Listed

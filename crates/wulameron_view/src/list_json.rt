@@ -1,0 +1,88 @@
+//! The services of a world as JSON.
+
+ghost use Rattle.std.specs.Prelude.{◌≡◌, ◌++◌, IfOk, OnOk, map, string_bytes};
+ghost use Rattle.serde_json.specs.View.{view};
+ghost use Rattle.wulameron_view.specs.Data.{creation_data, json_line, list_data, service_data};
+
+use crate::json::{count_value, service_value, write_value};
+use crate::services::{Creation, Service, Services};
+use iceoryx2_monitoring::state::NodeStatus;
+use serde_json::{Value, json};
+use std::alloc::{AllocError, Global};
+
+/// Writes an array of the services, in the order of the table, as one line without a space; docs/CLI.md has the keys. A
+/// node is alive where its state is among these. `AllocError` where there is no memory.
+pub fn list_json(
+    states: &[NodeStatus],
+    services: &Services,
+    text: &mut String,
+) -> Result<(), AllocError>
+    ensures { OnOk result (string_bytes text.new
+        ≡ string_bytes text.old ++ json_line (list_data states.now services.now)) }
+{
+    let value = list_value(*text.allocator(), states, services)?;
+    write_value(&value, text)
+}
+
+/// The array.
+fn list_value(
+    alloc: Global,
+    states: &[NodeStatus],
+    services: &Services,
+) -> Result<Value, AllocError>
+    ensures { IfOk result (λ v. view v ≡ list_data states.now services.now) }
+{
+    let mut values = Vec::new(alloc);
+    add_services(alloc, states, &services.published, &mut values)?;
+    add_creations(alloc, &services.creations, &mut values)?;
+    Ok(Value::Array(values))
+}
+
+/// Adds the services that are published.
+fn add_services(
+    alloc: Global,
+    states: &[NodeStatus],
+    services: &[Service],
+    values: &mut Vec<Value>,
+) -> Result<(), AllocError>
+    ensures { OnOk result (map view values.new.items
+        ≡ map view values.old.items ++ map (service_data states.now) services.now) }
+{
+    for service in services {
+        values.push(service_value(alloc, states, service)?)?;
+    }
+    Ok(())
+}
+
+/// Adds the services that are being created.
+fn add_creations(
+    alloc: Global,
+    creations: &[Creation],
+    values: &mut Vec<Value>,
+) -> Result<(), AllocError>
+    ensures { OnOk result (map view values.new.items
+        ≡ map view values.old.items ++ map creation_data creations.now) }
+{
+    for creation in creations {
+        values.push(creation_value(alloc, creation)?)?;
+    }
+    Ok(())
+}
+
+/// A service that is being created.
+fn creation_value(alloc: Global, creation: &Creation) -> Result<Value, AllocError>
+    ensures { IfOk result (λ v. view v ≡ creation_data creation.now) }
+{
+    let creator = count_value(creation.node);
+    let hash = creation.hash.to_text(alloc)?;
+    json!(in alloc; {
+        "creator": creator,
+        "hash": hash.as_str(),
+        "max_nodes": null,
+        "name": null,
+        "nodes": [],
+        "number": creation.number,
+        "pattern": null,
+        "state": "being_created",
+    })
+}
