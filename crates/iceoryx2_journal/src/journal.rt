@@ -83,6 +83,13 @@ impl<L> Journal<L> {
         self.world.list()
     }
 
+    /// The world as far as the log has been taken over, for its readers. Once the journal is over it is what it was then.
+    pub fn world(&self) -> &StoredWorld
+        ensures { result.now ≡ self.now.world }
+    {
+        &self.world
+    }
+
     /// Whether an entry ended it.
     pub fn is_over(&self) -> bool
         ensures { result ≡ self.now.is_over }
@@ -140,6 +147,20 @@ impl<L: Log> Journal<L> {
         }
     }
 
+    /// Takes over what others appended, and tells whether that was all. It isn't where the log can't be held or read, or
+    /// the journal is over: then it stays as far as it was, or as it came.
+    pub fn catch_up(&mut self) -> bool
+        ensures takes { Begins L.contents true result self.old self.new }
+        ensures kept { Rely (is_own self.old.nodes) self.old.world self.new.world }
+        ensures nodes { self.new.nodes ≡ self.old.nodes }
+    {
+        if self.begin(true) {
+            self.pen.log.let_go();
+            return true;
+        }
+        false
+    }
+
     /// Takes over what others appended. Where the log can't be held or read, or the journal is over, it stays as far as
     /// it was.
     pub fn refresh(&mut self)
@@ -147,9 +168,7 @@ impl<L: Log> Journal<L> {
         ensures kept { Rely (is_own self.old.nodes) self.old.world self.new.world }
         ensures nodes { self.new.nodes ≡ self.old.nodes }
     {
-        if self.begin(true) {
-            self.pen.log.let_go();
-        }
+        let _ = self.catch_up();
     }
 
     // Begins an access of this node.

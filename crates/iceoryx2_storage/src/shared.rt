@@ -10,3 +10,7 @@ pub use iceoryx2_journal::journal::{Journal, Shared};
 pub use iceoryx2_log::entry::{Deed, Entry, FormBytes};
 pub use iceoryx2_log::log::{Log, LogError};
 pub use iceoryx2_log::memory::{Batch, MemoryLog};
+pub use iceoryx2_table::holdings::Holding;
+pub use iceoryx2_table::recorder::{NotWritten, Recorder, Unrecorded};
+pub use iceoryx2_table::table::stored::StoredWorld;
+pub use iceoryx2_world::world::{Participant, Phase, Ticket};
