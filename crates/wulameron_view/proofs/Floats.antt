@@ -23,6 +23,7 @@ use Rattle.wulameron_view.specs.declared.settings.Value.{Value}
 use Rattle.wulameron_view.specs.declared.settings.Value.TheVariants as value
 use Rattle.wulameron_view.specs.Settings.{Setting, settings_of}
 use Rattle.wulameron_view.specs.States.{state_of}
+use Rattle.wulameron_view.specs.Nodes.{node_data, nodes_data}
 use Rattle.wulameron_view.specs.Data.{count_or_null, alive_data, member_data, service_data, creation_data, list_data, value_data, setting_data, with_settings, attribute_data, types_data, show_data}
 
 both : (a b : Bool) → a ≡ false → b ≡ false → (a || b) ≡ false
@@ -72,6 +73,12 @@ pub list_free : (states : List NodeStatus) (all : Services) → has_float (list_
 list_free states all =
     appended (map (service_data states) all.published.items) (map creation_data all.creations.items)
     (each (service_data states) (services states) all.published.items) (each creation_data creations all.creations.items)
+
+listed : (s : NodeStatus) → has_float (node_data s) ≡ false
+listed s = both (has_float (alive_data s.state)) false (alive s.state) refl
+
+pub nodes_free : (states : List NodeStatus) → has_float (nodes_data states) ≡ false
+nodes_free states = each node_data listed states
 
 values : (v : Value) → has_float (value_data v) ≡ false
 values (value.Number n) = refl

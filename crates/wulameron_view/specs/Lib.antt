@@ -1,6 +1,7 @@
 pub mod Data
 pub mod Escapes
 pub mod ListTexts
+pub mod Nodes
 pub mod Services
 pub mod Settings
 pub mod ShowTexts

@@ -82,7 +82,7 @@ fn member_value(alloc: Global, states: &[NodeStatus], member: &Member) -> Result
 }
 
 /// Whether a node is alive, and `null` for one that was never claimed.
-fn alive_value(state: NodeState) -> Value
+pub(crate) fn alive_value(state: NodeState) -> Value
     ensures { view result ≡ alive_data state }
 {
     match state {

@@ -5,6 +5,7 @@ pub mod escape;
 mod json;
 pub mod list_json;
 pub mod list_text;
+pub mod nodes_json;
 pub mod services;
 pub mod settings;
 pub mod show_json;
