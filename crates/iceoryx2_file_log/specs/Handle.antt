@@ -9,6 +9,7 @@ use Rattle.iceoryx2_file_log.specs.declared.error.FileFault.{FileFault}
 use Rattle.iceoryx2_file_log.specs.declared.error.FileFault.TheVariants as fault
 use Rattle.iceoryx2_file_log.specs.declared.error.FileLogError.{FileLogError}
 use Rattle.iceoryx2_file_log.specs.declared.options.FileLogOptions.{FileLogOptions}
+use Rattle.iceoryx2_file_log.specs.declared.header.TheConstants.{HEADER_LENGTH}
 use Rattle.iceoryx2_file_log.specs.declared.header.Header.{Header}
 use Rattle.iceoryx2_file_log.specs.declared.cursor.State.{State}
 use Rattle.iceoryx2_file_log.specs.declared.cursor.State.TheVariants.{Free, Held}
@@ -16,8 +17,8 @@ use Rattle.iceoryx2_file_log.specs.declared.remainder.Front.{Front}
 use Rattle.iceoryx2_file_log.specs.declared.remainder.Front.TheVariants.{Whole, Unfinished, Torn, Damaged}
 use Rattle.iceoryx2_file_log.specs.Errors.{log_error_of}
 use Rattle.iceoryx2_file_log.specs.Remainder.{IsTorn}
-use Rattle.iceoryx2_file_log.specs.Compaction.{IsMark, later, snapshot_end}
-use Rattle.iceoryx2_file_log.specs.Place.{Place, left, held, cut, appended, let_go_of, state_after}
+use Rattle.iceoryx2_file_log.specs.Compaction.{IsMark, first_tried, later, snapshot_end}
+use Rattle.iceoryx2_file_log.specs.Place.{Place, start, left, held, cut, appended, let_go_of, state_after}
 
 -- Where a handle stood before the compaction that it has begun.
 pub record Former : Type 0 where
@@ -36,6 +37,18 @@ pub record HandleFacts : Type 0 where
   pub tries_from : ℕ
   -- where it stood before, while a compaction is begun and not ended
   pub former : Option Former
+
+-- of the log with this header in the file of this path: nothing is taken over of it, and no compaction is begun
+abbrev pub new_handle : (path : List ℕ) → FileLogOptions → Header → HandleFacts
+new_handle path options h = record {
+  path = path;
+  options = options;
+  header = h;
+  cursor = start HEADER_LENGTH;
+  fault = None;
+  tries_from = first_tried h;
+  former = None;
+}
 
 -- A refused call answers by why it was refused, which is kept, and leaves the state after that.
 abbrev pub IsRefused : LogError → Option FileFault → State → State → Type 0

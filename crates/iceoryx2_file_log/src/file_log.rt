@@ -22,7 +22,7 @@ ghost use Rattle.iceoryx2_file_log.specs.Place.{start, left, held, accepted, cut
 ghost use Rattle.iceoryx2_file_log.specs.Place.{why_not_free, why_not_held};
 ghost use Rattle.iceoryx2_file_log.specs.Handle.{IsRefused, Holds, Shows, SparesEntries, Appends};
 ghost use Rattle.iceoryx2_file_log.specs.Handle.{ReadsOn, IsFront, IsErrorOf, Pauses, abandoned, postponed, freed};
-ghost use Rattle.iceoryx2_file_log.specs.Handle.{IsNoMark, IsPastSnapshot, IsNotAcross, IsSureOfCuts};
+ghost use Rattle.iceoryx2_file_log.specs.Handle.{IsNoMark, IsPastSnapshot, IsNotAcross, IsSureOfCuts, new_handle};
 ghost use Rattle.iceoryx2_file_log.specs.Moving.{why_not_alone, OnlyRefuses, Rejoins, BeginsCompaction};
 ghost use Rattle.iceoryx2_file_log.specs.Moving.{RefusesCompaction, Finishes, RefusesFinish};
 
@@ -39,7 +39,7 @@ use crate::compaction::{
 use crate::cursor::{Cursor, State};
 use crate::error::{FileFault, FileLogError, log_error, system_fault};
 use crate::header::{HEADER_LENGTH, Header};
-use crate::opening::{opened, read_some};
+use crate::opening::{opened, read_some, reopened};
 use crate::options::FileLogOptions;
 use crate::remainder::{Front, front_of};
 use iceoryx2_log::entry::Entry;
@@ -319,15 +319,38 @@ impl<R: Files<File = File> + Clock + RandomSource + AllocGlobal + Drop> FileLog<
     /// A handle of the log in the file of this path, which is made where nothing has it. Nobody ever sees a part of
     /// the header, and of several processes that make it at once each takes what the first has made.
     pub fn open(rt: R, path: String, options: FileLogOptions) -> Result<FileLog<R>, FileLogError>
-        ensures cursor { IfOk result (λ log. log.cursor ≡ start HEADER_LENGTH) }
-        ensures fault { IfOk result (λ log. log.fault ≡ None) }
-        ensures options { IfOk result (λ log. log.options ≡ options) }
-        ensures path { IfOk result (λ log. log.path ≡ string_bytes path) }
-        ensures none_begun { IfOk result (λ log. (log.tries_from ≡ first_tried log.header) × (log.former ≡ None)) }
+        ensures new { IfOk result (λ log. log ≡ new_handle (string_bytes path) options log.header) }
+        ensures err { IfErr result (λ error. error.path ≡ path) }
+    {
+        let found = opened(&rt, &path, &options);
+        FileLog::of_found(rt, path, options, found)
+    }
+
+    /// A handle of the log in the file of this path, which is never made: `Failed` by `NotFound` where nothing has it.
+    pub fn open_existing(
+        rt: R,
+        path: String,
+        options: FileLogOptions,
+    ) -> Result<FileLog<R>, FileLogError>
+        ensures new { IfOk result (λ log. log ≡ new_handle (string_bytes path) options log.header) }
+        ensures err { IfErr result (λ error. error.path ≡ path) }
+    {
+        let found = reopened(&rt, &path);
+        FileLog::of_found(rt, path, options, found)
+    }
+
+    /// A handle of the log in the file that was found, or the error with its path.
+    fn of_found(
+        rt: R,
+        path: String,
+        options: FileLogOptions,
+        found: Result<(File, Header), FileFault>,
+    ) -> Result<FileLog<R>, FileLogError>
+        ensures new { IfOk result (λ log. log ≡ new_handle (string_bytes path) options log.header) }
         ensures err { IfErr result (λ error. error.path ≡ path) }
     {
         let alloc = rt.alloc();
-        match opened(&rt, &path, &options) {
+        match found {
             Ok((file, header)) => Ok(FileLog {
                 rt,
                 file,
