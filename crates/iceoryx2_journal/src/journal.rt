@@ -112,6 +112,22 @@ impl<L> Journal<L> {
     }
 }
 
+impl<L: Drop> Journal<L> {
+    /// The world as far as the log has been taken over. The journal ends, and appends nothing more.
+    pub fn into_world(self) -> StoredWorld
+        ensures { result ≡ self.world }
+    {
+        let Journal {
+            world,
+            pen: _,
+            nodes: _,
+            is_over: _,
+            is_lost: _,
+        } = self;
+        world
+    }
+}
+
 impl<L: Log> Journal<L> {
     // Holds the log and takes over what others appended, for an access that is in an own node's name. False where there
     // is no own part, and then the log isn't held.
