@@ -6,6 +6,8 @@ from logs.runs import NO_CLEAN
 # The stored run of the program explain: the lines that it is given, and what it writes of them over a table.
 STORED = pathlib.Path(__file__).resolve().parent.parent.parent / "crates/explain"
 MAKER, NODE = 1, 2
+# A line that is no command, and its reply.
+WRONG, REPLY = "evnt", "error: evnt: no such command; did you mean event?"
 
 
 def blocks(lines):
@@ -41,12 +43,12 @@ def explained(runs, _data):
     replies = runs.held(path, MAKER, given[:1])
     runs.need(replies == wanted[0][:1], f"explained: the create replied {replies}")
     lines = [for_node(line) for line in given[1:-1]]
-    others = [f"event create {NODE + 1} 5 foreign", "list"]
+    others = [f"event create {NODE + 1} 5 foreign", WRONG, "list"]
     data = path.read_bytes()
     plain = runs.run(path, NODE, lines + others, flags=[NO_CLEAN])
     path.write_bytes(data)
     ran = runs.run(path, NODE, lines + others, flags=["--explain"])
-    fine = ran.status == 0 and not ran.err and plain.status == 0 and not plain.err
+    fine = ran.status == 0 and not ran.err and plain.status == 0 and not plain.err and REPLY in plain.out
     runs.need(fine, f"explained: {ran}, and without explanations {plain}")
     found = blocks(ran.out)
     apart = ran.out.count("") == len(lines + others) and ran.out[-1:] == [""]

@@ -11,8 +11,8 @@ use Rattle.negotiate_serve.specs.declared.ending.Fault.TheVariants as fault
 use Rattle.negotiate_serve.specs.Endings.{IsOfReading}
 use Rattle.negotiate_serve.specs.Inputs.{lines_of, BeginsWith}
 use Rattle.negotiate_serve.specs.Outputs.{IsFrontOf}
-use Rattle.negotiate_serve.specs.Transcripts.{Answering, AnswersLineBy, no_memory, IsAnswered, IsCut, EndsWith, most_lines, out_of_memory}
-use Rattle.negotiate_serve.specs.Served.{EndsUntold, GoesOn, Stops, TakesTurn, AnswersAll, TellsFault, SaysFault, ServesBy}
+use Rattle.negotiate_serve.specs.Transcripts.{AnsweringLines, no_memory, IsAnswered, IsCut, EndsWith, most_lines, out_of_memory}
+use Rattle.negotiate_serve.specs.Served.{EndsUntold, GoesOn, Stops, TakesTurn, AnswersAll, TellsFault, SaysFault, ServesLines}
 
 -- ---- the first lines of an input
 
@@ -32,17 +32,17 @@ one_text_more [] text = sym (append-nil text)
 one_text_more (t ∷ ts) text = append_assoc t (concat ts) text ∙ ap (λ l. t ++ l) (one_text_more ts text)
 
 -- The transcript so far. The next line has this number, and the reader has it and those behind it left.
-pub record SoFar {M : Type 0} (Answers : Answering M) (first : M) (input : List ℕ) (number : ℕ) (left old now : Option (List ℕ)) (m : M) : Type 0 where
+pub record SoFar {M : Type 0} (Answers : AnsweringLines M) (first : M) (input : List ℕ) (number : ℕ) (left old now : Option (List ℕ)) (m : M) : Type 0 where
   pub lines : List (List ℕ)
   pub rest : List ℕ
   pub begins : BeginsWith input lines rest
   pub texts : List (List ℕ)
-  pub answered : CarriesOut (AnswersLineBy Answers) first lines texts m
+  pub answered : CarriesOut Answers first lines texts m
   pub counted : number ≡ length lines + 1
   pub left_is : left ≡ Some rest
   pub written : Appends old now (concat texts)
 
-module _ {M : Type 0} (Answers : Answering M) (first : M) (input : List ℕ) where
+module _ {M : Type 0} (Answers : AnsweringLines M) (first : M) (input : List ℕ) where
   pub nothing_so_far : (left old : Option (List ℕ)) → left ≡ Some input → SoFar Answers first input 1 left old old first
   nothing_so_far left old left_is = record {
     lines = [];
@@ -150,11 +150,11 @@ module _ {M : Type 0} (Answers : Answering M) (first : M) (input : List ℕ) whe
       (subst (IsCut Answers m k rest) (sym (ap (λ l. last ++ l) tells.1 ∙ append-nil last)) cut)
 
   pub served : (e : Ending) (left old new : Option (List ℕ)) → AnswersAll Answers first (Ok e) input left old new
-      → (unread : List ℕ) × ServesBy Answers first (Ok e) input unread old new × (left ≡ Some unread)
+      → (unread : List ℕ) × ServesLines Answers first (Ok e) input unread old new × (left ≡ Some unread)
   served e left old new a = (a.unread, record { said = a.said; transcript = a.answered; written = a.written }, a.left_is)
 
   pub served_to_fault : (before after : Fault) (left old mid new : Option (List ℕ)) → AnswersAll Answers first (Err before) input left old mid → SaysFault before after mid new
-      → (unread : List ℕ) × ServesBy Answers first (Err after) input unread old new
+      → (unread : List ℕ) × ServesLines Answers first (Err after) input unread old new
   served_to_fault before after left old mid new a b = (
     a.unread,
     record {
@@ -174,7 +174,7 @@ module _ {M : Type 0} (Answers : Answering M) (first : M) (input : List ℕ) whe
 
   -- nothing is read
   pub served_nothing : (before after : Fault) (old new : Option (List ℕ)) → IsOfReading before → SaysFault before after old new
-      → (unread : List ℕ) × ServesBy Answers first (Err after) input unread old new
+      → (unread : List ℕ) × ServesLines Answers first (Err after) input unread old new
   served_nothing before after old new is b = served_to_fault before after None old old new (record {
     said = [];
     unread = [];

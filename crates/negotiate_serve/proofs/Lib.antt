@@ -6,3 +6,4 @@ pub mod Telling
 pub mod Turns
 pub mod Written
 pub mod Reporting
+pub mod Refusing

@@ -1,7 +1,6 @@
 -- What is written of a line.
-use Rattle.std.proofs.Common.{◌≡◌, ℕ, List, Option, Some, string_bytes, subst}
+use Rattle.std.proofs.Common.{◌≡◌, ℕ, List, Option, Some, subst}
 use Rattle.std.specs.Prelude.{Result, Ok, Err, IfOk}
-use Rattle.std.specs.declared.alloc.AllocError.{AllocError}
 use Rattle.negotiate_lines.specs.declared.wrong.Wrong.{Wrong}
 use Rattle.negotiate_lines.specs.Wrongs.{IsJudged}
 use Rattle.negotiate_serve.specs.Reports.{IsReport, of_wrong, wrong_line}

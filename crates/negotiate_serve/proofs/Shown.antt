@@ -1,5 +1,5 @@
 -- A session that shows a machine, and what becomes of it.
-use Rattle.std.proofs.Common.{◌≡◌, ℕ, true, false, List, [], ◌++◌, Option, None, Result, Ok, Err, OnOk, refl, sym, ap, subst, ◌∙◌, append-nil, replicate}
+use Rattle.std.proofs.Common.{◌≡◌, ℕ, true, List, [], Option, None, Result, Ok, Err, OnOk, refl, sym, ap, subst, ◌∙◌, append-nil, replicate}
 use Rattle.std.specs.declared.alloc.AllocError.{AllocError}
 use Rattle.iceoryx2_access.specs.Registered.{Registered}
 use Rattle.iceoryx2_description.specs.declared.config.Config.{Config}
@@ -20,8 +20,10 @@ use Rattle.iceoryx2_session.specs.declared.session.Session.{Session}
 use Rattle.iceoryx2_session.specs.SessionStates.{own_state}
 use Rattle.negotiate_serve.specs.declared.ending.Ending.{Ending}
 use Rattle.negotiate_serve.specs.declared.ending.Fault.{Fault}
+use Rattle.negotiate_serve.specs.declared.ending.WrongLines.{WrongLines}
+use Rattle.negotiate_serve.specs.declared.ending.WrongLines.TheVariants as wrong_lines
 use Rattle.negotiate_serve.specs.Replies.{GrowsBy, Tells}
-use Rattle.negotiate_serve.specs.Transcripts.{Answering, blank, answered, Machine, first_machine, Replies, not_a_command, slot_named}
+use Rattle.negotiate_serve.specs.Transcripts.{Answering, AnswersLineBy, LinesBy, as_command, blank, answered, Machine, first_machine, Replies, slot_named}
 use Rattle.negotiate_serve.proofs.Simulated.{transcript_along}
 use Rattle.negotiate_serve.specs.Served.{SaysAnswer, SaysOfLine, ServesBy, Serves, ShowsMachine, ShowsSome, SessionReplies}
 
@@ -77,15 +79,19 @@ module _ (a b : Session TableState) (c : Command) (r : Reply) (quiet : (q : Quie
 
 -- ---- a line
 
-module _ {M : Type 0} (Answers : Answering M) (m : M) (k : ℕ) (bytes old : List ℕ) (l : Line) (is : IsLine bytes l) where
-  pub says_nothing : l ≡ line.Blank → SaysOfLine Answers true m k bytes old old m
-  says_nothing nothing = record { said = []; is_said = blank (subst (IsLine bytes) nothing is); grown = sym (append-nil old) }
+module _ {M : Type 0} (Answers : Answering M) (m : M) (k : ℕ) (bytes old : List ℕ) where
+  in_lines : (w : WrongLines) (n : M) (text : List ℕ) → AnswersLineBy Answers m bytes text n → LinesBy w Answers m bytes text n
+  in_lines wrong_lines.End n text by = by
+  in_lines wrong_lines.Reply n text by = as_command by
+  in_lines wrong_lines.ReplyApart n text by = as_command by
 
-  pub says_no_command : (n : M) (new : List ℕ) → l ≡ line.NotACommand → new ≡ old ++ not_a_command k → SaysOfLine Answers false m k bytes old new n
-  says_no_command n new other grown = record { said = not_a_command k; is_said = (subst (IsLine bytes) other is, refl); grown = grown }
+  module _ (w : WrongLines) (l : Line) (is : IsLine bytes l) where
+    pub says_nothing : l ≡ line.Blank → SaysOfLine (LinesBy w Answers) true m k bytes old old m
+    says_nothing nothing = record { said = []; is_said = in_lines w m [] (blank (subst (IsLine bytes) nothing is)); grown = sym (append-nil old) }
 
-  pub says_answer : (n : M) (new : List ℕ) (c : Command) → l ≡ line.Command c → SaysAnswer Answers m bytes c old new n → SaysOfLine Answers true m k bytes old new n
-  says_answer n new c command says = record { said = says.said; is_said = answered (subst (IsLine bytes) command is) says.is_said; grown = says.grown }
+    pub says_answer : (n : M) (new : List ℕ) (c : Command) → l ≡ line.Command c → SaysAnswer Answers m bytes c old new n
+        → SaysOfLine (LinesBy w Answers) true m k bytes old new n
+    says_answer n new c command says = record { said = says.said; is_said = in_lines w n says.said (answered (subst (IsLine bytes) command is) says.is_said); grown = says.grown }
 
 -- ---- the start
 

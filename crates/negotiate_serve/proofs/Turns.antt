@@ -10,7 +10,7 @@ use Rattle.negotiate_serve.specs.declared.ending.Fault.TheVariants as fault
 use Rattle.negotiate_serve.specs.Endings.{IsOfReading, IsOfWriting}
 use Rattle.negotiate_serve.specs.Inputs.{ReadsLine}
 use Rattle.negotiate_serve.specs.Outputs.{Says}
-use Rattle.negotiate_serve.specs.Transcripts.{Answering, AnswersLineBy, ComesNext, answer, no_command, IsCut, IsNoCommand}
+use Rattle.negotiate_serve.specs.Transcripts.{AnsweringLines, ComesNext, answer, no_command, IsCut, IsNoCommand}
 use Rattle.negotiate_serve.specs.Served.{EndsUntold, SaysOfLine, TakesTurn}
 
 -- what was read and said, by what the tests found
@@ -25,7 +25,7 @@ pub as_fault : {T : Type 0} (r : Result T Fault) (f : Fault) → IsErrAnd r (λ 
 as_fault (Ok x) f is = absurd is
 as_fault (Err e) f is = ap Err is
 
-module _ {M : Type 0} (Answers : Answering M) (m n : M) (k : ℕ) where
+module _ {M : Type 0} (Answers : AnsweringLines M) (m n : M) (k : ℕ) where
   pub as_said : (line before text : List ℕ) (goes_on is : Bool) → SaysOfLine Answers goes_on m k line before text n → goes_on ≡ is → SaysOfLine Answers is m k line before text n
   as_said line before text goes_on is says test = subst (λ (b : Bool). SaysOfLine Answers b m k line before text n) test says
 
@@ -92,7 +92,7 @@ module _ {M : Type 0} (Answers : Answering M) (m n : M) (k : ℕ) where
 
       -- what comes next is the text
       comes_next : (goes_on : Bool) → SaysOfLine Answers goes_on m k line before text n → ComesNext Answers m k rest text
-      comes_next true says = answer read.1 (subst (λ t. AnswersLineBy Answers m line t n) (text_is says.said says.grown) says.is_said)
+      comes_next true says = answer read.1 (subst (λ t. Answers m line t n) (text_is says.said says.grown) says.is_said)
       comes_next false says = subst (ComesNext Answers m k rest) (sym says.is_said.1 ∙ text_is says.said says.grown) (no_command read.1 says.is_said.0)
 
       pub turn_cut : (goes_on : Bool) (f : Fault) (old new : Option (List ℕ)) → SaysOfLine Answers goes_on m k line before text n → Says text (Err f) old new

@@ -1,5 +1,6 @@
 -- What the parts of the program do, one line at a time.
 use Rattle.std.specs.Prelude.{◌≡◌, ℕ, Bool, true, false, List, [], ◌∷◌, ◌++◌, Option, Some, None, Result, Ok, Err, OnOk}
+use Rattle.std.specs.Prelude.{codes}
 use Rattle.std.specs.Io.KnownBytes.{Appends}
 use Rattle.iceoryx2_commands.specs.declared.command.Command.{Command}
 use Rattle.iceoryx2_description.specs.declared.description.ServiceHash.{ServiceHash}
@@ -15,10 +16,13 @@ use Rattle.negotiate_lines.specs.Lines.{IsLine}
 use Rattle.negotiate_serve.specs.declared.ending.Ending.{Ending}
 use Rattle.negotiate_serve.specs.declared.ending.Fault.{Fault}
 use Rattle.negotiate_serve.specs.declared.ending.Fault.TheVariants as fault
+use Rattle.negotiate_serve.specs.declared.ending.WrongLines.{WrongLines}
+use Rattle.negotiate_serve.specs.declared.ending.WrongLines.TheVariants as wrong_lines
 use Rattle.negotiate_serve.specs.Endings.{IsOfWriting}
 use Rattle.negotiate_serve.specs.Inputs.{BeginsWith}
 use Rattle.negotiate_serve.specs.Outputs.{IsFrontOf}
-use Rattle.negotiate_serve.specs.Transcripts.{Answering, AnswersLineBy, IsAnswered, EndsWith, IsTranscriptBy}
+use Rattle.negotiate_serve.specs.Transcripts.{Answering, AnsweringLines, AnswersLineBy, IsAnswered, EndsWith}
+use Rattle.negotiate_serve.specs.Transcripts.{IsErrorReply, IsTranscriptOf}
 use Rattle.negotiate_serve.specs.Transcripts.{Machine, Replies, first_machine, not_a_command, out_of_memory}
 
 -- ---- a command
@@ -32,14 +36,20 @@ pub record SaysAnswer {M : Type 0} (Answers : Answering M) (m : M) (line : List 
 
 -- ---- a line
 
+-- what is said of a line that is neither blank nor a command, which has this number, and whether the program goes on
+abbrev pub IsSaidOfWrong : WrongLines → (goes_on : Bool) → (number : ℕ) → (bytes said : List ℕ) → Type 0
+IsSaidOfWrong wrong_lines.End goes_on k bytes said = (goes_on ≡ false) × (said ≡ not_a_command k)
+IsSaidOfWrong wrong_lines.Reply goes_on k bytes said = (goes_on ≡ true) × IsErrorReply [] bytes said
+IsSaidOfWrong wrong_lines.ReplyApart goes_on k bytes said = (goes_on ≡ true) × IsErrorReply (codes "\n") bytes said
+
 -- what is said of a line with this number, and whether the program goes on behind it
-abbrev pub IsSaidOf : {M : Type 0} → Answering M → (goes_on : Bool) → M → (number : ℕ) → (bytes said : List ℕ)
+abbrev pub IsSaidOf : {M : Type 0} → AnsweringLines M → (goes_on : Bool) → M → (number : ℕ) → (bytes said : List ℕ)
     → M → Type 0
-IsSaidOf Answers true m k bytes said n = AnswersLineBy Answers m bytes said n
+IsSaidOf Answers true m k bytes said n = Answers m bytes said n
 IsSaidOf Answers false m k bytes said n = IsLine bytes line.NotACommand × (said ≡ not_a_command k)
 
 -- The text has grown by what is said of the line.
-pub record SaysOfLine {M : Type 0} (Answers : Answering M) (goes_on : Bool) (m : M) (number : ℕ)
+pub record SaysOfLine {M : Type 0} (Answers : AnsweringLines M) (goes_on : Bool) (m : M) (number : ℕ)
     (bytes old new : List ℕ) (n : M) : Type 0 where
   pub said : List ℕ
   pub is_said : IsSaidOf Answers goes_on m number bytes said n
@@ -48,37 +58,37 @@ pub record SaysOfLine {M : Type 0} (Answers : Answering M) (goes_on : Bool) (m :
 -- ---- a turn: a line is read and answered
 
 -- how it ends, before a fault is told
-abbrev pub EndsUntold : {M : Type 0} → Answering M → Result Ending Fault → M → (number : ℕ)
+abbrev pub EndsUntold : {M : Type 0} → AnsweringLines M → Result Ending Fault → M → (number : ℕ)
     → (rest last unread : List ℕ) → Type 0
 EndsUntold Answers (Err fault.OutOfMemory) m k rest last unread = last ≡ []
 EndsUntold Answers ended m k rest last unread = EndsWith Answers ended m k rest last unread
 
 -- The next line is answered.
-pub record GoesOn {M : Type 0} (Answers : Answering M) (m : M) (rest said : List ℕ) (left : Option (List ℕ))
+pub record GoesOn {M : Type 0} (Answers : AnsweringLines M) (m : M) (rest said : List ℕ) (left : Option (List ℕ))
     (n : M) : Type 0 where
   pub bytes : List ℕ
   pub behind : List ℕ
   pub begins : BeginsWith rest (bytes ∷ []) behind
-  pub answered : AnswersLineBy Answers m bytes said n
+  pub answered : Answers m bytes said n
   pub left_is : left ≡ Some behind
 
 -- It ends so, and what is unread then is left.
-pub record Stops {M : Type 0} (Answers : Answering M) (ended : Result Ending Fault) (m : M) (number : ℕ)
+pub record Stops {M : Type 0} (Answers : AnsweringLines M) (ended : Result Ending Fault) (m : M) (number : ℕ)
     (rest said : List ℕ) (left : Option (List ℕ)) : Type 0 where
   pub unread : List ℕ
   pub ends : EndsUntold Answers ended m number rest said unread
   pub left_is : OnOk ended (left ≡ Some unread)
 
 -- the next line is answered, or it ends
-abbrev pub AnswersNext : {M : Type 0} → Answering M → Result (Option Ending) Fault → M → (number : ℕ)
+abbrev pub AnswersNext : {M : Type 0} → AnsweringLines M → Result (Option Ending) Fault → M → (number : ℕ)
     → (rest said : List ℕ) → (left : Option (List ℕ)) → M → Type 0
 AnswersNext Answers (Ok None) m k rest said left n = GoesOn Answers m rest said left n
 AnswersNext Answers (Ok (Some e)) m k rest said left n = Stops Answers (Ok e) m k rest said left
 AnswersNext Answers (Err f) m k rest said left n = Stops Answers (Err f) m k rest said left
 
 -- The writer has taken what is said in a turn.
-pub record TakesTurn {M : Type 0} (Answers : Answering M) (result : Result (Option Ending) Fault) (m : M) (number : ℕ)
-    (rest : List ℕ) (left : Option (List ℕ)) (n : M) (old new : Option (List ℕ)) : Type 0 where
+pub record TakesTurn {M : Type 0} (Answers : AnsweringLines M) (result : Result (Option Ending) Fault) (m : M)
+    (number : ℕ) (rest : List ℕ) (left : Option (List ℕ)) (n : M) (old new : Option (List ℕ)) : Type 0 where
   pub said : List ℕ
   pub answers : AnswersNext Answers result m number rest said left n
   pub written : Appends old new said
@@ -87,8 +97,8 @@ pub record TakesTurn {M : Type 0} (Answers : Answering M) (result : Result (Opti
 
 -- Lines are answered, and it ends so, with no fault told. The writer has taken what is said, and what is unread is
 -- left.
-pub record AnswersAll {M : Type 0} (Answers : Answering M) (first : M) (ended : Result Ending Fault) (input : List ℕ)
-    (left old new : Option (List ℕ)) : Type 0 where
+pub record AnswersAll {M : Type 0} (Answers : AnsweringLines M) (first : M) (ended : Result Ending Fault)
+    (input : List ℕ) (left old new : Option (List ℕ)) : Type 0 where
   pub said : List ℕ
   pub unread : List ℕ
   pub answered : IsAnswered Answers first (EndsUntold Answers ended) input said unread
@@ -110,11 +120,16 @@ pub record SaysFault (before after : Fault) (old new : Option (List ℕ)) : Type
 -- ---- a program
 
 -- The writer has taken what is said of an input, and nothing else. This is unread then.
-pub record ServesBy {M : Type 0} (Answers : Answering M) (first : M) (ended : Result Ending Fault)
+pub record ServesLines {M : Type 0} (Answers : AnsweringLines M) (first : M) (ended : Result Ending Fault)
     (input unread : List ℕ) (old new : Option (List ℕ)) : Type 0 where
   pub said : List ℕ
-  pub transcript : IsTranscriptBy Answers first input ended said unread
+  pub transcript : IsTranscriptOf Answers first input ended said unread
   pub written : Appends old new said
+
+-- The same where what is neither blank nor a command ends it.
+abbrev pub ServesBy : {M : Type 0} → Answering M → (first : M) → Result Ending Fault → (input unread : List ℕ)
+    → (old new : Option (List ℕ)) → Type 0
+ServesBy Answers = ServesLines (AnswersLineBy Answers)
 
 -- ---- `negotiate`, over a session
 

@@ -13,10 +13,15 @@ use Rattle.iceoryx2_session.specs.CommandLists.{CarriesOut}
 use Rattle.iceoryx2_session.specs.QuietSessions.{Moves}
 use Rattle.negotiate_lines.specs.declared.line.Line.TheVariants as line
 use Rattle.negotiate_lines.specs.Lines.{IsLine}
+use Rattle.negotiate_lines.specs.declared.wrong.Wrong.{Wrong}
+use Rattle.negotiate_lines.specs.Wrongs.{IsWrong}
+use Rattle.negotiate_lines.specs.WrongTexts.{text_of}
 use Rattle.negotiate_serve.specs.declared.ending.Ending.{Ending}
 use Rattle.negotiate_serve.specs.declared.ending.Ending.TheVariants as ending
 use Rattle.negotiate_serve.specs.declared.ending.Fault.{Fault}
 use Rattle.negotiate_serve.specs.declared.ending.Fault.TheVariants as fault
+use Rattle.negotiate_serve.specs.declared.ending.WrongLines.{WrongLines}
+use Rattle.negotiate_serve.specs.declared.ending.WrongLines.TheVariants as wrong_lines
 use Rattle.negotiate_serve.specs.Inputs.{BeginsWith}
 use Rattle.negotiate_serve.specs.Outputs.{IsFrontOf}
 use Rattle.negotiate_serve.specs.Replies.{Tells}
@@ -27,11 +32,39 @@ use Rattle.negotiate_serve.specs.Replies.{Tells}
 abbrev pub Answering : Type 0 → Type 1
 Answering M = M → (line : List ℕ) → Command → (text : List ℕ) → M → Type 0
 
+-- how a line is answered by a text
+abbrev pub AnsweringLines : Type 0 → Type 1
+AnsweringLines M = M → (line text : List ℕ) → M → Type 0
+
 -- A line is answered, by nothing where it is blank, and where it is a command as that is. This leaves a new state.
 pub data AnswersLineBy {M : Type 0} (Answers : Answering M) (m : M) : (line text : List ℕ) → M → Type 0 where
   blank : {bytes : List ℕ} → IsLine bytes line.Blank → AnswersLineBy Answers m bytes [] m
   answered : {bytes text : List ℕ} {c : Command} {n : M} → IsLine bytes (line.Command c)
       → Answers m bytes c text n → AnswersLineBy Answers m bytes text n
+
+-- the reply to a line of which this is wrong, with an end after it
+abbrev pub error_reply : Wrong → (end : List ℕ) → List ℕ
+error_reply w end = codes "error: " ++ (text_of w ++ (codes "\n" ++ end))
+
+-- The text is the reply to a line that is neither blank nor a command.
+pub record IsErrorReply (end bytes text : List ℕ) : Type 0 where
+  pub no_command : IsLine bytes line.NotACommand
+  pub wrong : Wrong
+  pub is_wrong : IsWrong bytes wrong
+  pub text_is : text ≡ error_reply wrong end
+
+-- Each line is answered, also one that is neither blank nor a command, by what is wrong with it. That leaves the state.
+pub data AnswersEachBy {M : Type 0} (end : List ℕ) (Answers : Answering M) (m : M) : (line text : List ℕ) → M
+    → Type 0 where
+  as_command : {bytes text : List ℕ} {n : M} → AnswersLineBy Answers m bytes text n
+      → AnswersEachBy end Answers m bytes text n
+  refused : {bytes text : List ℕ} → IsErrorReply end bytes text → AnswersEachBy end Answers m bytes text m
+
+-- which lines are answered, where commands are so: those that are blank or a command, or each
+abbrev pub LinesBy : {M : Type 0} → WrongLines → Answering M → AnsweringLines M
+LinesBy wrong_lines.End Answers = AnswersLineBy Answers
+LinesBy wrong_lines.Reply Answers = AnswersEachBy [] Answers
+LinesBy wrong_lines.ReplyApart Answers = AnswersEachBy (codes "\n") Answers
 
 -- what is said of the line with this number where it is neither blank nor a command
 abbrev pub not_a_command : ℕ → List ℕ
@@ -45,9 +78,9 @@ out_of_memory = codes "out of memory\n"
 
 -- What comes next, behind the answers to lines: that to the next line, which has this number; that it is neither blank
 -- nor a command; or that memory ran out.
-pub data ComesNext {M : Type 0} (Answers : Answering M) (m : M) (k : ℕ) (rest : List ℕ) : List ℕ → Type 0 where
+pub data ComesNext {M : Type 0} (Answers : AnsweringLines M) (m : M) (k : ℕ) (rest : List ℕ) : List ℕ → Type 0 where
   answer : {bytes text behind : List ℕ} {n : M} → BeginsWith rest (bytes ∷ []) behind
-      → AnswersLineBy Answers m bytes text n → ComesNext Answers m k rest text
+      → Answers m bytes text n → ComesNext Answers m k rest text
   no_command : {bytes behind : List ℕ} → BeginsWith rest (bytes ∷ []) behind
       → IsLine bytes line.NotACommand → ComesNext Answers m k rest (not_a_command k)
   no_memory : ComesNext Answers m k rest out_of_memory
@@ -59,8 +92,13 @@ pub record IsNoCommand (k : ℕ) (bytes rest last unread : List ℕ) : Type 0 wh
   pub said : last ≡ not_a_command k
 
 -- The writer has taken a front of what comes next.
-abbrev pub IsCut : {M : Type 0} → Answering M → M → (number : ℕ) → (rest last : List ℕ) → Type 0
+abbrev pub IsCut : {M : Type 0} → AnsweringLines M → M → (number : ℕ) → (rest last : List ℕ) → Type 0
 IsCut Answers m k rest last = (next : List ℕ) × ComesNext Answers m k rest next × IsFrontOf last next
+
+-- It may end so. A line that is neither blank nor a command ends it only where such a line has no reply.
+abbrev pub MayEnd : WrongLines → Ending → Type 0
+MayEnd w ending.InputEnded = Unit {0}
+MayEnd w (ending.NotACommand number line) = w ≡ wrong_lines.End
 
 -- how many lines are answered at most
 abbrev pub most_lines : ℕ
@@ -69,7 +107,7 @@ most_lines = 2 ^ 64 - 2
 -- what is said last, behind the answers to lines, and what is left unread: at the end of the input, at a line that is
 -- neither blank nor a command, where reading failed, behind as many lines as are answered at most, where memory ran
 -- out, and where the writer failed or was interrupted too often, which has taken a front of what comes next
-abbrev pub EndsWith : {M : Type 0} → Answering M → Result Ending Fault → M → (number : ℕ)
+abbrev pub EndsWith : {M : Type 0} → AnsweringLines M → Result Ending Fault → M → (number : ℕ)
     → (rest last unread : List ℕ) → Type 0
 EndsWith Answers (Ok ending.InputEnded) m k rest last unread = (rest ≡ []) × (last ≡ []) × (unread ≡ [])
 EndsWith Answers (Ok (ending.NotACommand number line)) m k rest last unread =
@@ -82,23 +120,28 @@ EndsWith Answers (Err fault.TooManyTries) m k rest last unread = IsCut Answers m
 
 -- The first lines of an input are answered one after the other, each by its text, and then it ends so. The number of
 -- the line that would be the next is counted from 1.
-pub record IsAnswered {M : Type 0} (Answers : Answering M) (first : M)
+pub record IsAnswered {M : Type 0} (Answers : AnsweringLines M) (first : M)
     (Ends : M → ℕ → (rest last unread : List ℕ) → Type 0) (input said unread : List ℕ) : Type 0 where
   pub lines : List (List ℕ)
   pub rest : List ℕ
   pub begins : BeginsWith input lines rest
   pub texts : List (List ℕ)
   pub machine : M
-  pub answered : CarriesOut (AnswersLineBy Answers) first lines texts machine
+  pub answered : CarriesOut Answers first lines texts machine
   pub last : List ℕ
   pub ends : Ends machine (length lines + 1) rest last unread
   pub are : said ≡ concat texts ++ last
 
 -- What is said of an input by what answers so from this state on, and what is left unread, where it ends so.
+abbrev pub IsTranscriptOf : {M : Type 0} → AnsweringLines M → (first : M) → (input : List ℕ) → Result Ending Fault
+    → (said unread : List ℕ) → Type 0
+IsTranscriptOf Answers first input ended said unread =
+    IsAnswered Answers first (EndsWith Answers ended) input said unread
+
+-- The same where what is neither blank nor a command ends it.
 abbrev pub IsTranscriptBy : {M : Type 0} → Answering M → (first : M) → (input : List ℕ) → Result Ending Fault
     → (said unread : List ℕ) → Type 0
-IsTranscriptBy Answers first input ended said unread =
-    IsAnswered Answers first (EndsWith Answers ended) input said unread
+IsTranscriptBy Answers = IsTranscriptOf (AnswersLineBy Answers)
 
 -- ---- what `negotiate` says
 

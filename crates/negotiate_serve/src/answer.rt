@@ -1,13 +1,20 @@
 //! Lines in, answers out.
 
-ghost use Rattle.std.specs.Prelude.{◌≡◌, ℕ, List, Some, IfOk, string_bytes};
-ghost use Rattle.negotiate_serve.specs.Served.{AnswersAll, SaysOfLine, TakesTurn};
+ghost use Rattle.std.specs.Prelude.{◌≡◌, ℕ, List, Some, IfOk, IfSome, OnOk, false, string_bytes};
+ghost use Rattle.negotiate_lines.specs.declared.line.Line.TheVariants as said;
+ghost use Rattle.negotiate_lines.specs.Lines.{IsLine};
+ghost use Rattle.negotiate_serve.specs.declared.ending.WrongLines.TheVariants as wrong;
+ghost use Rattle.negotiate_serve.specs.Replies.{GrowsBy};
+ghost use Rattle.negotiate_serve.specs.Served.{AnswersAll, IsSaidOfWrong, SaysOfLine, TakesTurn};
+ghost use Rattle.negotiate_serve.specs.Transcripts.{AnswersLineBy, IsErrorReply, LinesBy, MayEnd, error_reply};
 
 use crate::answerer::Answerer;
-use crate::ending::{Ending, Fault};
+use crate::ending::{Ending, Fault, WrongLines};
 use crate::input::next_line;
 use crate::output::say;
+use negotiate_lines::finding::wrong_in;
 use negotiate_lines::line::{self, Line};
+use negotiate_lines::wrong::Wrong;
 use std::alloc::{AllocError, Global};
 use std::io::{BufRead, Write};
 use std::mem;
@@ -21,14 +28,22 @@ pub fn answer_lines<A: Answerer, R: BufRead, W: Write>(
     answerer: &mut A,
 ) -> Result<Ending, Fault>
     requires { A.stands answerer.old }
-    ensures said { (input : List ℕ) → R.remaining reader.old ≡ Some input → AnswersAll A.answers answerer.old
-        result input (R.remaining reader.new) (W.contents output.old) (W.contents output.new) }
+    ensures said { (input : List ℕ) → R.remaining reader.old ≡ Some input → AnswersAll (AnswersLineBy A.answers)
+        answerer.old result input (R.remaining reader.new) (W.contents output.old) (W.contents output.new) }
     ensures stands { A.stands answerer.new }
 {
     let mut line = Vec::new(alloc);
     let mut text = String::new(alloc);
     for number in 1..u64::MAX {
-        let ending = answer_next(number, reader, output, answerer, &mut line, &mut text)?;
+        let ending = answer_next(
+            number,
+            WrongLines::End,
+            reader,
+            output,
+            answerer,
+            &mut line,
+            &mut text,
+        )?;
         if let Some(ending) = ending {
             return Ok(ending);
         }
@@ -37,9 +52,11 @@ pub fn answer_lines<A: Answerer, R: BufRead, W: Write>(
 }
 
 /// Reads the next line and answers it by one write, which is flushed. It is the line with this number,
-/// counted from 1. Tells how the program ends, if it does.
+/// counted from 1. Tells how the program ends, if it does. Where it is neither blank nor a command, `wrong_lines` has
+/// what becomes of it.
 pub fn answer_next<A: Answerer, R: BufRead, W: Write>(
     number: u64,
+    wrong_lines: WrongLines,
     reader: &mut R,
     output: &mut W,
     answerer: &mut A,
@@ -47,15 +64,16 @@ pub fn answer_next<A: Answerer, R: BufRead, W: Write>(
     text: &mut String,
 ) -> Result<Option<Ending>, Fault>
     ensures turn { A.stands answerer.old → (rest : List ℕ) → R.remaining reader.old ≡ Some rest
-        → TakesTurn A.answers result answerer.old number rest
+        → TakesTurn (LinesBy wrong_lines A.answers) result answerer.old number rest
         (R.remaining reader.new) answerer.new (W.contents output.old) (W.contents output.new) }
+    ensures ends { IfOk result (λ ended. IfSome ended (MayEnd wrong_lines)) }
     ensures stands { A.stands answerer.old → A.stands answerer.new }
 {
     if !next_line(reader, line)? {
         return Ok(Some(Ending::InputEnded));
     }
     text.clear();
-    let goes_on = answer_line(number, line, answerer, text)?;
+    let goes_on = answer_line(number, wrong_lines, line, answerer, text)?;
     say(text.as_bytes(), output)?;
     if goes_on {
         return Ok(None);
@@ -64,26 +82,70 @@ pub fn answer_next<A: Answerer, R: BufRead, W: Write>(
     Ok(Some(Ending::NotACommand { number, line }))
 }
 
-/// Writes the answer to one line into the text, and tells whether it was a command, or blank.
+/// Writes the answer to one line into the text, and tells whether the program goes on.
 fn answer_line<A: Answerer>(
     number: u64,
+    wrong_lines: WrongLines,
     line: &[u8],
     answerer: &mut A,
     text: &mut String,
 ) -> Result<bool, AllocError>
-    ensures said { A.stands answerer.old → IfOk result (λ goes_on. SaysOfLine A.answers goes_on
+    ensures said { A.stands answerer.old → IfOk result (λ goes_on. SaysOfLine (LinesBy wrong_lines A.answers) goes_on
         answerer.old number line.now (string_bytes text.old) (string_bytes text.new) answerer.new) }
+    ensures ends { IfOk result (λ goes_on. goes_on ≡ false → wrong_lines ≡ wrong.End) }
     ensures stands { A.stands answerer.old → A.stands answerer.new }
 {
     match line::parse(*text.allocator(), line)? {
         Line::Blank => Ok(true),
-        Line::NotACommand => {
-            writeln!(text, "line {number}: not a command")?;
-            Ok(false)
-        }
+        Line::NotACommand => answer_wrong(number, wrong_lines, line, text),
         Line::Command(command) => {
             answerer.answer(line, command, text)?;
             Ok(true)
         }
     }
+}
+
+/// Writes what is said of a line that is neither blank nor a command, and tells whether the program goes on.
+fn answer_wrong(
+    number: u64,
+    wrong_lines: WrongLines,
+    line: &[u8],
+    text: &mut String,
+) -> Result<bool, AllocError>
+    requires { IsLine line.now said.NotACommand }
+    ensures { IfOk result (λ goes_on. GrowsBy (IsSaidOfWrong wrong_lines goes_on number line.now)
+        (string_bytes text.old) (string_bytes text.new)) }
+{
+    match wrong_lines {
+        WrongLines::End => {
+            writeln!(text, "line {number}: not a command")?;
+            Ok(false)
+        }
+        WrongLines::Reply => {
+            reply_wrong(line, "", text)?;
+            Ok(true)
+        }
+        WrongLines::ReplyApart => {
+            reply_wrong(line, "\n", text)?;
+            Ok(true)
+        }
+    }
+}
+
+/// Writes the reply to a line that is neither blank nor a command, and an end after it.
+fn reply_wrong(line: &[u8], end: &str, text: &mut String) -> Result<(), AllocError>
+    requires { IsLine line.now said.NotACommand }
+    ensures { OnOk result (GrowsBy (IsErrorReply end.now line.now) (string_bytes text.old) (string_bytes text.new)) }
+{
+    match wrong_in(*text.allocator(), line)? {
+        Some(wrong) => write_wrong(wrong, end, text),
+        None => Ok(()),
+    }
+}
+
+fn write_wrong(wrong: Wrong<'_>, end: &str, text: &mut String) -> Result<(), AllocError>
+    ensures { OnOk result (GrowsBy (λ said. said ≡ error_reply wrong.entry end.now)
+        (string_bytes text.old) (string_bytes text.new)) }
+{
+    write!(text, "error: {wrong}\n{end}")
 }

@@ -30,6 +30,17 @@ pub enum Ending {
     },
 }
 
+/// What becomes of lines that are neither blank nor a command.
+#[derive(Clone, Copy, Debug, PartialEq, Eq)]
+pub enum WrongLines {
+    /// The first of them ends the program.
+    End,
+    /// Each has a reply: what is wrong with it.
+    Reply,
+    /// The same, with an empty line after the reply.
+    ReplyApart,
+}
+
 /// What keeps the program from going on.
 #[derive(Clone, Copy, Debug, PartialEq, Eq)]
 pub enum Fault {

@@ -23,3 +23,5 @@ mod scripts;
 mod setting_terms;
 #[cfg(test)]
 mod support;
+#[cfg(test)]
+mod wrong_lines;

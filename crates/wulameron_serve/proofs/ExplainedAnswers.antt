@@ -14,17 +14,18 @@ use Rattle.iceoryx2_session.specs.SessionStates.{own_state}
 use Rattle.iceoryx2_session.proofs.Shown.{goes_shown}
 use Rattle.negotiate_serve.specs.declared.ending.Ending.{Ending}
 use Rattle.negotiate_serve.specs.declared.ending.Fault.{Fault}
+use Rattle.negotiate_serve.specs.declared.ending.WrongLines.{WrongLines}
 use Rattle.negotiate_serve.specs.Replies.{GrowsBy, Tells}
-use Rattle.negotiate_serve.specs.Served.{SaysAnswer, ServesBy}
-use Rattle.negotiate_serve.specs.Transcripts.{Answering, slot_named}
-use Rattle.negotiate_serve.proofs.Simulated.{transcript_along}
+use Rattle.negotiate_serve.specs.Served.{SaysAnswer, ServesLines}
+use Rattle.negotiate_serve.specs.Transcripts.{Answering, AnsweringLines, LinesBy, slot_named}
+use Rattle.negotiate_serve.proofs.Simulated.{lines_by_along, lines_transcript_along}
 use Rattle.explain_serve.specs.Explained.{TellsLines}
 use Rattle.explain_serve.specs.Traces.{TracedOver, HasItsRoom, made_between}
 use Rattle.explain_serve.proofs.Traces.{goes_traced}
 use Rattle.wulameron_serve.specs.declared.explained.ExplainedAnswerer.{ExplainedAnswerer}
 use Rattle.wulameron_serve.specs.declared.trouble.Trouble.{Trouble}
 use Rattle.wulameron_serve.specs.Explained.{IsExplained, RefreshesInside, ExplainsFor, ExplainsApart, BeginsAsAnswered, ExplainsLinesFor, of_another, called, closed, listed}
-use Rattle.wulameron_serve.specs.Lines.{AnswersWhileUsable}
+use Rattle.wulameron_serve.specs.Lines.{AnswersWhileUsable, IsUsable}
 use Rattle.wulameron_serve.specs.Shared.{AnswersFor, Refreshes, fresh_session}
 use Rattle.wulameron_serve.specs.Shared as shared
 use Rattle.wulameron_serve.specs.Dead.{is_blocked}
@@ -126,28 +127,35 @@ module _ {S : Type 0} (step : S → Letter → S → Type 0) (world : S → Worl
   trouble_inside a = let s : TracedOver S = own_state a.session in trouble s.table.inner
 
   -- how the answerer answers
-  abbrev pub AnswersOf : Answering (ExplainedAnswerer S)
-  AnswersOf = AnswersWhileUsable trouble_inside (ExplainsNode step world own)
+  abbrev pub AnswersOf : WrongLines → AnsweringLines (ExplainedAnswerer S)
+  AnswersOf w = AnswersWhileUsable trouble_inside (LinesBy w (ExplainsNode step world own))
 
   module _ (node : ℕ) where
     abbrev Shows : ExplainedAnswerer S → TracedOver S → Type 0
     Shows a s = (a.node ≡ node) × (own_state a.session ≡ s)
 
-    along : (a b : ExplainedAnswerer S) (line : List ℕ) (c : Command) (text : List ℕ) (s : TracedOver S) → AnswersOf a line c text b → Shows a s
-        → (t : TracedOver S) × ExplainsLinesFor step world own trouble node s line c text t × Shows b t
+    along : (a b : ExplainedAnswerer S) (line : List ℕ) (c : Command) (text : List ℕ) (s : TracedOver S) → ExplainsNode step world own a line c text b → Shows a s
+        → (t : TracedOver S) × ExplainsApart step world own node s line c text t × Shows b t
     along a b line c text s by shows = (
       own_state b.session,
-      subst (λ (r : TracedOver S). ExplainsLinesFor step world own trouble node r line c text (own_state b.session)) shows.1
-          (by.0, subst (λ (n : ℕ). ExplainsApart step world own n (own_state a.session) line c text (own_state b.session)) shows.0 by.1.1),
-      (by.1.0 ∙ shows.0, refl),
+      subst (λ (r : TracedOver S). ExplainsApart step world own node r line c text (own_state b.session)) shows.1
+          (subst (λ (n : ℕ). ExplainsApart step world own n (own_state a.session) line c text (own_state b.session)) shows.0 by.1),
+      (by.0 ∙ shows.0, refl),
     )
 
+    usable_along : (w : WrongLines) (a b : ExplainedAnswerer S) (line text : List ℕ) (s : TracedOver S) → AnswersOf w a line text b → Shows a s
+        → (t : TracedOver S) × ExplainsLinesFor step world own trouble node w s line text t × Shows b t
+    usable_along w a b line text s by shows =
+        let next = lines_by_along (ExplainsNode step world own) (ExplainsApart step world own node) Shows along w a b line text s by.1 shows in
+        (next.0, (subst (λ (r : TracedOver S). IsUsable (trouble r.table.inner)) shows.1 by.0, next.1), next.2)
+
     -- what is said of an input is said of the session alone
-    pub serves_explained : (a : ExplainedAnswerer S) (traced : TracedState S) (ended : Result Ending Fault) (input unread : List ℕ) (old new : Option (List ℕ)) → a.node ≡ node
-        → own_state a.session ≡ fresh_session traced → ServesBy AnswersOf a ended input unread old new
-        → ServesBy (ExplainsLinesFor step world own trouble node) (fresh_session traced) ended input unread old new
-    serves_explained a traced ended input unread old new is fresh by = record {
+    pub serves_explained : (w : WrongLines) (a : ExplainedAnswerer S) (traced : TracedState S) (ended : Result Ending Fault) (input unread : List ℕ) (old new : Option (List ℕ))
+        → a.node ≡ node → own_state a.session ≡ fresh_session traced → ServesLines (AnswersOf w) a ended input unread old new
+        → ServesLines (ExplainsLinesFor step world own trouble node w) (fresh_session traced) ended input unread old new
+    serves_explained w a traced ended input unread old new is fresh by = record {
       said = by.said;
-      transcript = transcript_along AnswersOf (ExplainsLinesFor step world own trouble node) Shows along a (fresh_session traced) input ended by.said unread by.transcript (is, fresh);
+      transcript = lines_transcript_along (AnswersOf w) (ExplainsLinesFor step world own trouble node w) Shows (usable_along w) a (fresh_session traced) input ended by.said unread
+          by.transcript (is, fresh);
       written = by.written;
     }

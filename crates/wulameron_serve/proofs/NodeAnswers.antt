@@ -12,13 +12,14 @@ use Rattle.iceoryx2_session.specs.SessionStates.{own_state}
 use Rattle.iceoryx2_session.specs.StandingSlots.{SlotsStandInWorld, IsOfOwn}
 use Rattle.negotiate_serve.specs.declared.ending.Ending.{Ending}
 use Rattle.negotiate_serve.specs.declared.ending.Fault.{Fault}
+use Rattle.negotiate_serve.specs.declared.ending.WrongLines.{WrongLines}
 use Rattle.negotiate_serve.specs.Replies.{GrowsBy}
-use Rattle.negotiate_serve.specs.Served.{SaysAnswer, ServesBy}
-use Rattle.negotiate_serve.specs.Transcripts.{Answering}
-use Rattle.negotiate_serve.proofs.Simulated.{transcript_along}
+use Rattle.negotiate_serve.specs.Served.{SaysAnswer, ServesLines}
+use Rattle.negotiate_serve.specs.Transcripts.{Answering, AnsweringLines, LinesBy}
+use Rattle.negotiate_serve.proofs.Simulated.{lines_by_along, lines_transcript_along}
 use Rattle.wulameron_serve.specs.declared.shared.SharedAnswerer.{SharedAnswerer}
 use Rattle.wulameron_serve.specs.declared.trouble.Trouble.{Trouble}
-use Rattle.wulameron_serve.specs.Lines.{AnswersWhileUsable}
+use Rattle.wulameron_serve.specs.Lines.{AnswersWhileUsable, IsUsable}
 use Rattle.wulameron_serve.specs.Served.{AnswersLinesFor}
 use Rattle.wulameron_serve.specs.Shared.{StandsFor, AnswersFor}
 use Rattle.wulameron_serve.proofs.CallNodes.{caller_named}
@@ -53,31 +54,43 @@ module _ {M : Type 0} (Answers : Answering M) (m n : M) (line : List ℕ) (c : C
 
 -- ---- an input
 
+-- how the session of a node answers commands
+abbrev AnswersNamed : {S : Type 0} → (S → Letter → S → Type 0) → (S → World) → (S → ℕ → Bool) → (node : ℕ) → Answering (SessionOver S)
+AnswersNamed step world own node old line c text new = AnswersFor step world own node line old c text new
+
 module _ {S D : Type 0} (step : S → Letter → S → Type 0) (world : S → World) (own : S → ℕ → Bool) (trouble : S → Option Trouble) where
-  -- how the answerer answers
-  abbrev pub AnswersOf : Answering (SharedAnswerer S D)
-  AnswersOf = AnswersWhileUsable (λ a. trouble (own_state a.session).table)
-      (λ old line c text new. (new.node ≡ old.node) × AnswersFor step world own old.node line (own_state old.session) c text (own_state new.session))
+  -- how the answerer answers commands, and lines
+  abbrev AnswersNode : Answering (SharedAnswerer S D)
+  AnswersNode old line c text new = (new.node ≡ old.node) × AnswersFor step world own old.node line (own_state old.session) c text (own_state new.session)
+
+  abbrev pub AnswersOf : WrongLines → AnsweringLines (SharedAnswerer S D)
+  AnswersOf w = AnswersWhileUsable (λ a. trouble (own_state a.session).table) (LinesBy w AnswersNode)
 
   module _ (node : ℕ) where
     abbrev Shows : SharedAnswerer S D → SessionOver S → Type 0
     Shows a s = (a.node ≡ node) × (own_state a.session ≡ s)
 
-    along : (a b : SharedAnswerer S D) (line : List ℕ) (c : Command) (text : List ℕ) (s : SessionOver S) → AnswersOf a line c text b → Shows a s
-        → (t : SessionOver S) × AnswersLinesFor step world own trouble node s line c text t × Shows b t
+    along : (a b : SharedAnswerer S D) (line : List ℕ) (c : Command) (text : List ℕ) (s : SessionOver S) → AnswersNode a line c text b → Shows a s
+        → (t : SessionOver S) × AnswersNamed step world own node s line c text t × Shows b t
     along a b line c text s by shows = (
       own_state b.session,
-      subst (λ (r : SessionOver S). AnswersLinesFor step world own trouble node r line c text (own_state b.session)) shows.1
-          (by.0, subst (λ (n : ℕ). AnswersFor step world own n line (own_state a.session) c text (own_state b.session)) shows.0 by.1.1),
-      (by.1.0 ∙ shows.0, refl),
+      subst (λ (r : SessionOver S). AnswersNamed step world own node r line c text (own_state b.session)) shows.1
+          (subst (λ (n : ℕ). AnswersFor step world own n line (own_state a.session) c text (own_state b.session)) shows.0 by.1),
+      (by.0 ∙ shows.0, refl),
     )
 
+    usable_along : (w : WrongLines) (a b : SharedAnswerer S D) (line text : List ℕ) (s : SessionOver S) → AnswersOf w a line text b → Shows a s
+        → (t : SessionOver S) × AnswersLinesFor step world own trouble node w s line text t × Shows b t
+    usable_along w a b line text s by shows =
+        let next = lines_by_along AnswersNode (AnswersNamed step world own node) Shows along w a b line text s by.1 shows in
+        (next.0, (subst (λ (r : SessionOver S). IsUsable (trouble r.table)) shows.1 by.0, next.1), next.2)
+
     -- what is said of an input is said of the session alone
-    pub serves_for : (a : SharedAnswerer S D) (ended : Result Ending Fault) (input unread : List ℕ) (old new : Option (List ℕ)) → a.node ≡ node
-        → ServesBy AnswersOf a ended input unread old new
-        → ServesBy (AnswersLinesFor step world own trouble node) (own_state a.session) ended input unread old new
-    serves_for a ended input unread old new is by = record {
+    pub serves_for : (w : WrongLines) (a : SharedAnswerer S D) (ended : Result Ending Fault) (input unread : List ℕ) (old new : Option (List ℕ)) → a.node ≡ node
+        → ServesLines (AnswersOf w) a ended input unread old new
+        → ServesLines (AnswersLinesFor step world own trouble node w) (own_state a.session) ended input unread old new
+    serves_for w a ended input unread old new is by = record {
       said = by.said;
-      transcript = transcript_along AnswersOf (AnswersLinesFor step world own trouble node) Shows along a (own_state a.session) input ended by.said unread by.transcript (is, refl);
+      transcript = lines_transcript_along (AnswersOf w) (AnswersLinesFor step world own trouble node w) Shows (usable_along w) a (own_state a.session) input ended by.said unread by.transcript (is, refl);
       written = by.written;
     }

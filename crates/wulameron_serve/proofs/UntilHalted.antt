@@ -6,10 +6,9 @@ use Rattle.negotiate_serve.specs.declared.ending.Ending.{Ending}
 use Rattle.negotiate_serve.specs.declared.ending.Fault.{Fault}
 use Rattle.negotiate_serve.specs.declared.ending.Fault.TheVariants as fault
 use Rattle.negotiate_serve.specs.declared.ending.Ending.TheVariants as ending
-use Rattle.negotiate_serve.specs.Transcripts.{Answering, AnswersLineBy, blank, answered, ComesNext, answer, no_command, no_memory}
-use Rattle.negotiate_serve.specs.Served.{AnswersAll, EndsUntold, ServesBy, TakesTurn}
+use Rattle.negotiate_serve.specs.Transcripts.{AnsweringLines, ComesNext, answer, no_command, no_memory}
+use Rattle.negotiate_serve.specs.Served.{AnswersAll, EndsUntold, ServesLines, TakesTurn}
 use Rattle.negotiate_serve.proofs.Answering.{SoFar, turn_fails}
-use Rattle.iceoryx2_commands.specs.declared.command.Command.{Command}
 use Rattle.wulameron_serve.specs.declared.lines.Halt.{Halt}
 use Rattle.wulameron_serve.specs.declared.lines.Halt.TheVariants as halt
 use Rattle.wulameron_serve.specs.declared.trouble.Trouble.{Trouble}
@@ -27,13 +26,9 @@ serving_is_no_end found (Err e) f is = subst (λ (h : Halt). IsEndOf found (Err 
 
 -- ---- what is said by one that answers is also said by another one
 
-module _ {M : Type 0} (By Of : Answering M) (m : M) (also : (line : List ℕ) (c : Command) (text : List ℕ) (n : M) → By m line c text n → Of m line c text n) where
-  line_also : (n : M) (bytes text : List ℕ) → AnswersLineBy By m bytes text n → AnswersLineBy Of m bytes text n
-  line_also n bytes text (blank is) = blank is
-  line_also n bytes text (answered {c = c} is by) = answered is (also bytes c text n by)
-
+module _ {M : Type 0} (By Of : AnsweringLines M) (m : M) (also : (line text : List ℕ) (n : M) → By m line text n → Of m line text n) where
   next_also : (k : ℕ) (rest next : List ℕ) → ComesNext By m k rest next → ComesNext Of m k rest next
-  next_also k rest next (answer {bytes = bytes} {n = n} begins by) = answer begins (line_also n bytes next by)
+  next_also k rest next (answer {bytes = bytes} {n = n} begins by) = answer begins (also bytes next n by)
   next_also k rest next (no_command begins is) = no_command begins is
   next_also k rest next no_memory = no_memory
 
@@ -54,7 +49,7 @@ module _ {M : Type 0} (By Of : Answering M) (m : M) (also : (line : List ℕ) (c
       bytes = t.answers.bytes;
       behind = t.answers.behind;
       begins = t.answers.begins;
-      answered = line_also n t.answers.bytes t.said t.answers.answered;
+      answered = also t.answers.bytes t.said n t.answers.answered;
       left_is = t.answers.left_is;
     };
     written = t.written;
@@ -72,7 +67,7 @@ module _ {M : Type 0} (By Of : Answering M) (m : M) (also : (line : List ℕ) (c
 
 -- ---- the log ends it
 
-module _ {M : Type 0} (Answers : Answering M) (first : M) (input : List ℕ) where
+module _ {M : Type 0} (Answers : AnsweringLines M) (first : M) (input : List ℕ) where
   -- The log ends it after some lines: nothing more is said.
   pub log_ends : (k : ℕ) (left old new : Option (List ℕ)) (m : M) → SoFar Answers first input k left old new m → AnswersAll Answers first (Err fault.Reading) input left old new
   log_ends k left old new m a = turn_fails Answers first input k left left old new new m m a fault.Reading
@@ -80,5 +75,5 @@ module _ {M : Type 0} (Answers : Answering M) (first : M) (input : List ℕ) whe
 
   -- and what was written is a transcript that ends so
   pub served_to_halt : (left old new : Option (List ℕ)) → AnswersAll Answers first (Err fault.Reading) input left old new
-      → (unread : List ℕ) × ServesBy Answers first (Err fault.Reading) input unread old new
+      → (unread : List ℕ) × ServesLines Answers first (Err fault.Reading) input unread old new
   served_to_halt left old new a = (a.unread, record { said = a.said; transcript = a.answered; written = a.written })

@@ -1,5 +1,5 @@
 -- How lines are answered over a storage that processes share, with each reply explained.
-use Rattle.std.specs.Prelude.{◌≡◌, ◌≢◌, ◌⊎◌, ℕ, Bool, true, List, [], ◌∷◌, ◌++◌, codes, Option, Result}
+use Rattle.std.specs.Prelude.{◌≡◌, ◌≢◌, ◌⊎◌, ℕ, Bool, true, List, [], ◌∷◌, ◌++◌, codes, Option, Result, IfOk}
 use Rattle.iceoryx2_access.specs.Letter.{Letter}
 use Rattle.iceoryx2_traced.specs.Trace.{TracedState, IsTracedAccess}
 use Rattle.iceoryx2_world.specs.World.{World}
@@ -16,8 +16,9 @@ use Rattle.iceoryx2_commands.specs.declared.command.Command.TheVariants as comma
 use Rattle.iceoryx2_commands.specs.declared.command.Reply.{Reply}
 use Rattle.iceoryx2_session.specs.Sessions.{ClosesSlotsBy, shown_session}
 use Rattle.negotiate_serve.specs.declared.ending.Ending.{Ending}
-use Rattle.negotiate_serve.specs.Served.{ServesBy}
-use Rattle.negotiate_serve.specs.Transcripts.{Answering, slot_named}
+use Rattle.negotiate_serve.specs.declared.ending.WrongLines.{WrongLines}
+use Rattle.negotiate_serve.specs.Served.{ServesLines}
+use Rattle.negotiate_serve.specs.Transcripts.{AnsweringLines, LinesBy, MayEnd, slot_named}
 use Rattle.explain_serve.specs.Explained.{TellsLines}
 use Rattle.explain_serve.specs.Traces.{TracedOver, GoesTracedBy, HasItsRoom, fresh_trace, made_between}
 use Rattle.wulameron_serve.specs.declared.lines.Halt.{Halt}
@@ -85,17 +86,18 @@ module _ {S : Type 0} (step : S → Letter → S → Type 0) (world : S → Worl
 -- ---- an input
 
 module _ {S : Type 0} (step : S → Letter → S → Type 0) (world : S → World) (own : S → ℕ → Bool)
-    (trouble : S → Option Trouble) (node : ℕ) where
+    (trouble : S → Option Trouble) (node : ℕ) (w : WrongLines) where
   -- how lines are answered for the node, as long as the log can be used
-  abbrev pub ExplainsLinesFor : Answering (TracedOver S)
-  ExplainsLinesFor = AnswersWhileUsable (λ s. trouble s.table.inner) (ExplainsApart step world own node)
+  abbrev pub ExplainsLinesFor : AnsweringLines (TracedOver S)
+  ExplainsLinesFor = AnswersWhileUsable (λ s. trouble s.table.inner) (LinesBy w (ExplainsApart step world own node))
 
   -- The writer has taken what is said of an input for the node, from a session on that has done nothing yet, and
   -- nothing else. Then the factories of a session's slots are closed, and the world agrees.
   pub record ServesExplained (traced : TracedState S) (ended : Result Ending Halt) (left : TracedState S)
       (input : List ℕ) (old new : Option (List ℕ)) : Type 0 where
     pub unread : List ℕ
-    pub serves : ServesBy ExplainsLinesFor (fresh_session traced) (seen_as ended) input unread old new
+    pub serves : ServesLines ExplainsLinesFor (fresh_session traced) (seen_as ended) input unread old new
+    pub may_end : IfOk ended (MayEnd w)
     pub last : TracedOver S
     pub closed : ClosesSlotsBy (IsTracedAccess step) last.table last.slots left
     pub agrees : Agrees (world left.inner)
@@ -109,20 +111,21 @@ module _ {S : Type 0} (step : S → Letter → S → Type 0) (world : S → Worl
 
 -- The same over a journal of a log that has this node alone, after what the node had was given back.
 pub record StartsLogExplained {L : Type 0} (contents : L → Option Contents) (refused : L → Option FileFault) (log : L)
-    (counter node : ℕ) (ended : Result Ending Halt) (input : List ℕ)
+    (counter node : ℕ) (w : WrongLines) (ended : Result Ending Halt) (input : List ℕ)
     (old new : Option (List ℕ)) : Type 0 where
   pub journal : JournalState L
   pub lives : Lives contents (first_journal log counter) journal
   pub nodes : journal.nodes ≡ node ∷ []
   pub unread : List ℕ
-  pub serves : ServesBy
+  pub serves : ServesLines
       (ExplainsLinesFor (IsJournalAccess contents) (λ j. j.world) (λ j. is_own j.nodes)
-      (λ j. trouble_of j.is_over (refused j.log)) node)
+      (λ j. trouble_of j.is_over (refused j.log)) node w)
       (fresh_session (fresh_trace journal)) (seen_as ended) input unread old new
+  pub may_end : IfOk ended (MayEnd w)
 
 -- It does so; or it ends by the log or out of memory, and nothing is written.
 abbrev pub ServesLogExplained : {L : Type 0} → (contents : L → Option Contents) → (refused : L → Option FileFault) → L
-    → (counter node : ℕ) → Result Ending Halt → (input : List ℕ) → (old new : Option (List ℕ)) → Type 0
-ServesLogExplained contents refused log counter node ended input old new =
-    StartsLogExplained contents refused log counter node ended input old new
+    → (counter node : ℕ) → WrongLines → Result Ending Halt → (input : List ℕ) → (old new : Option (List ℕ)) → Type 0
+ServesLogExplained contents refused log counter node w ended input old new =
+    StartsLogExplained contents refused log counter node w ended input old new
     ⊎ (is_not_started ended ≡ true) × (new ≡ old)

@@ -3,8 +3,10 @@ use Rattle.std.specs.Prelude.{◌≡◌, ℕ, Bool, true, false, Result, Ok, Err
 use Rattle.negotiate_serve.specs.declared.ending.Ending.{Ending}
 use Rattle.negotiate_serve.specs.declared.ending.Fault.{Fault}
 use Rattle.negotiate_serve.specs.declared.ending.Fault.TheVariants as fault
+use Rattle.negotiate_serve.specs.declared.ending.WrongLines.{WrongLines}
+use Rattle.negotiate_serve.specs.declared.ending.WrongLines.TheVariants as wrong_lines
 use Rattle.negotiate_serve.specs.Endings.{status_of}
-use Rattle.negotiate_serve.specs.Transcripts.{Answering}
+use Rattle.negotiate_serve.specs.Transcripts.{AnsweringLines}
 use Rattle.wulameron_serve.specs.declared.lines.Halt.{Halt}
 use Rattle.wulameron_serve.specs.declared.lines.Halt.TheVariants as halt
 use Rattle.wulameron_serve.specs.declared.trouble.Trouble.{Trouble}
@@ -14,9 +16,9 @@ use Rattle.wulameron_serve.specs.Troubles.{last_of}
 abbrev pub IsUsable : Option Trouble → Type 0
 IsUsable found = last_of found ≡ None
 
--- Commands are answered so, and only where the log can still be used.
-abbrev pub AnswersWhileUsable : {M : Type 0} → (trouble : M → Option Trouble) → Answering M → Answering M
-AnswersWhileUsable trouble Answers m line c text n = IsUsable (trouble m) × Answers m line c text n
+-- Lines are answered so, and only where the log can still be used.
+abbrev pub AnswersWhileUsable : {M : Type 0} → (trouble : M → Option Trouble) → AnsweringLines M → AnsweringLines M
+AnswersWhileUsable trouble Answers m line text n = IsUsable (trouble m) × Answers m line text n
 
 -- how it ends as far as it is seen at the input and the output: where the log ends it nothing more is said, as where
 -- reading fails
@@ -35,6 +37,13 @@ is_not_started _ = false
 abbrev pub IsEndOf : Option Trouble → Result Ending Halt → Type 0
 IsEndOf found (Err (halt.Log t)) = last_of found ≡ Some t
 IsEndOf found _ = Unit {0}
+
+-- what becomes of lines that are neither blank nor a command, by whether the first of them ends the program, and else
+-- by whether each reply ends with an empty line
+abbrev pub wrong_lines_of : (strict explains : Bool) → WrongLines
+wrong_lines_of true explains = wrong_lines.End
+wrong_lines_of false true = wrong_lines.ReplyApart
+wrong_lines_of false false = wrong_lines.Reply
 
 -- 0 at the end of the input, 2 after a line that is no command, 3 after a fault and where the log ends it
 abbrev pub status_with : Result Ending Halt → ℕ

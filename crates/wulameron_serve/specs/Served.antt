@@ -1,5 +1,5 @@
 -- What a program answers to an input for its node.
-use Rattle.std.specs.Prelude.{◌≡◌, ◌⊎◌, ℕ, Bool, true, false, List, [], ◌∷◌, Option, Result}
+use Rattle.std.specs.Prelude.{◌≡◌, ◌⊎◌, ℕ, Bool, true, false, List, [], ◌∷◌, Option, Result, IfOk}
 use Rattle.iceoryx2_access.specs.Letter.{Letter}
 use Rattle.iceoryx2_world.specs.World.{World, empty_world}
 use Rattle.iceoryx2_world.specs.Across.{Agrees}
@@ -10,8 +10,9 @@ use Rattle.iceoryx2_journal.specs.Taking.{is_own}
 use Rattle.iceoryx2_log.specs.Log.{Contents}
 use Rattle.iceoryx2_session.specs.Sessions.{SessionOver, ClosesSlotsBy}
 use Rattle.negotiate_serve.specs.declared.ending.Ending.{Ending}
-use Rattle.negotiate_serve.specs.Transcripts.{Answering}
-use Rattle.negotiate_serve.specs.Served.{ServesBy}
+use Rattle.negotiate_serve.specs.declared.ending.WrongLines.{WrongLines}
+use Rattle.negotiate_serve.specs.Transcripts.{AnsweringLines, LinesBy, MayEnd}
+use Rattle.negotiate_serve.specs.Served.{ServesLines}
 use Rattle.wulameron_serve.specs.declared.lines.Halt.{Halt}
 use Rattle.wulameron_serve.specs.Lines.{AnswersWhileUsable, is_not_started, seen_as}
 use Rattle.wulameron_serve.specs.Shared.{AnswersFor, Refreshes, fresh_session}
@@ -19,11 +20,11 @@ use Rattle.wulameron_serve.specs.Troubles.{trouble_of}
 use Rattle.wulameron_serve.specs.declared.trouble.Trouble.{Trouble}
 
 module _ {S : Type 0} (step : S → Letter → S → Type 0) (world : S → World) (own : S → ℕ → Bool)
-    (trouble : S → Option Trouble) (node : ℕ) where
+    (trouble : S → Option Trouble) (node : ℕ) (w : WrongLines) where
   -- how lines are answered for the node, as long as the log can be used
-  abbrev pub AnswersLinesFor : Answering (SessionOver S)
+  abbrev pub AnswersLinesFor : AnsweringLines (SessionOver S)
   AnswersLinesFor = AnswersWhileUsable (λ s. trouble s.table)
-      (λ old line c text new. AnswersFor step world own node line old c text new)
+      (LinesBy w (λ old line c text new. AnswersFor step world own node line old c text new))
 
   -- What dead nodes have is given back, from a session on that has done nothing yet. Then the writer has taken what is
   -- said of an input for the node, and nothing else. At last the factories of a session's slots are closed, and the
@@ -33,7 +34,8 @@ module _ {S : Type 0} (step : S → Letter → S → Type 0) (world : S → Worl
     pub first : SessionOver S
     pub cleaned : Refreshes world own (fresh_session storage) first
     pub unread : List ℕ
-    pub serves : ServesBy AnswersLinesFor first (seen_as ended) input unread old new
+    pub serves : ServesLines AnswersLinesFor first (seen_as ended) input unread old new
+    pub may_end : IfOk ended (MayEnd w)
     pub last : SessionOver S
     pub closed : ClosesSlotsBy step last.table last.slots left
     pub agrees : Agrees (world left)
@@ -44,7 +46,7 @@ first_journal log counter = record { world = empty_world counter; log = log; nod
 
 -- The same over a journal that has this node alone, after what the node had was given back.
 pub record StartsLog {L : Type 0} (contents : L → Option Contents) (refused : L → Option FileFault) (log : L)
-    (counter node : ℕ) (ended : Result Ending Halt) (input : List ℕ)
+    (counter node : ℕ) (w : WrongLines) (ended : Result Ending Halt) (input : List ℕ)
     (old new : Option (List ℕ)) : Type 0 where
   pub journal : JournalState L
   pub lives : Lives contents (first_journal log counter) journal
@@ -52,14 +54,15 @@ pub record StartsLog {L : Type 0} (contents : L → Option Contents) (refused : 
   pub first : SessionOver (JournalState L)
   pub cleaned : Refreshes (λ j. j.world) (λ j. is_own j.nodes) (fresh_session journal) first
   pub unread : List ℕ
-  pub serves : ServesBy
+  pub serves : ServesLines
       (AnswersLinesFor (IsJournalAccess contents) (λ j. j.world) (λ j. is_own j.nodes)
-      (λ j. trouble_of j.is_over (refused j.log)) node)
+      (λ j. trouble_of j.is_over (refused j.log)) node w)
       first (seen_as ended) input unread old new
+  pub may_end : IfOk ended (MayEnd w)
 
 -- It does so; or it ends by the log or out of memory, and nothing is written.
 abbrev pub ServesLog : {L : Type 0} → (contents : L → Option Contents) → (refused : L → Option FileFault) → L
-    → (counter node : ℕ) → Result Ending Halt → (input : List ℕ) → (old new : Option (List ℕ)) → Type 0
-ServesLog contents refused log counter node ended input old new =
-    StartsLog contents refused log counter node ended input old new
+    → (counter node : ℕ) → WrongLines → Result Ending Halt → (input : List ℕ) → (old new : Option (List ℕ)) → Type 0
+ServesLog contents refused log counter node w ended input old new =
+    StartsLog contents refused log counter node w ended input old new
     ⊎ (is_not_started ended ≡ true) × (new ≡ old)

@@ -18,6 +18,8 @@ pub struct Run<'a> {
     pub node: Option<u64>,
     /// Whether each reply is explained.
     pub explains: bool,
+    /// Whether the first line that is no command ends it. Else each has a reply.
+    pub strict: bool,
     pub options: FileLogOptions,
     /// Whether what dead nodes have is given back.
     pub cleans: bool,
@@ -122,6 +124,7 @@ fn run_command<'a>(alloc: Global) -> Result<Command<'a>, AllocError> {
             "explain",
             "Explains each reply, as the program explain does",
         ))?
+        .arg(flag(alloc, "strict", "Ends at the first line that is no command"))?
         .arg(flag(
             alloc,
             "no-clean",
@@ -177,6 +180,7 @@ fn run_of<'a>(matches: &ArgMatches<'a>) -> Option<Run<'a>>
         node: matches.get_one::<u64>("node"),
         options: place.options,
         explains: matches.get_flag("explain"),
+        strict: matches.get_flag("strict"),
         cleans: !matches.get_flag("no-clean"),
     })
 }

@@ -33,7 +33,7 @@ use iceoryx2_session::session::Session;
 use iceoryx2_session::world_storage::WorldStorage;
 use iceoryx2_traced::traced::Traced;
 use negotiate_serve::answerer::{Answerer, slot_of};
-use negotiate_serve::ending::{Ending, Fault};
+use negotiate_serve::ending::{Ending, Fault, WrongLines};
 use std::alloc::{AllocError, Global};
 use std::io::{Read, Write};
 
@@ -210,17 +210,26 @@ pub fn serve_explained<S: WorldStorage + Troubled, R: Read + Drop, W: Write, E: 
     output: &mut W,
     errors: &mut E,
     watch: &mut Watch<'_>,
+    wrong_lines: WrongLines,
 ) -> (Result<Ending, Halt>, Traced<S>)
     requires agrees { Agrees (S.world traced.inner) }
     requires of_own { S.own traced.inner node ≡ true }
     requires room { HasItsRoom traced }
     requires usable { IsUsable (S.trouble traced.inner) }
     ensures { (bytes : List ℕ) → R.remaining input ≡ Some bytes
-        → ServesExplained S.step S.world S.own S.trouble node traced result.0 result.1 bytes
+        → ServesExplained S.step S.world S.own S.trouble node wrong_lines traced result.0 result.1 bytes
         (W.contents output.old) (W.contents output.new) }
 {
     let mut answerer = ExplainedAnswerer::new(node, traced);
-    let ended = serve_until(alloc, input, output, errors, &mut answerer, watch);
+    let ended = serve_until(
+        alloc,
+        input,
+        output,
+        errors,
+        &mut answerer,
+        watch,
+        wrong_lines,
+    );
     (ended, answerer.finish())
 }
 
@@ -233,18 +242,26 @@ fn serve_traced<S: WorldStorage + Troubled + Drop, R: Read + Drop, W: Write, E: 
     output: &mut W,
     errors: &mut E,
     watch: &mut Watch<'_>,
+    wrong_lines: WrongLines,
 ) -> Result<Ending, Halt>
     requires agrees { Agrees (S.world storage) }
     requires of_own { S.own storage node ≡ true }
     requires usable { IsUsable (S.trouble storage) }
     ensures { (bytes : List ℕ) → R.remaining input ≡ Some bytes
-        → ServesTraced S.step S.world S.own S.trouble node storage result bytes
+        → ServesTraced S.step S.world S.own S.trouble node wrong_lines storage result bytes
         (W.contents output.old) (W.contents output.new) }
 {
     match with_room(alloc, storage) {
         Ok(traced) => {
             let (ended, traced) = serve_explained(
-                alloc, node, traced, input, output, errors, watch,
+                alloc,
+                node,
+                traced,
+                input,
+                output,
+                errors,
+                watch,
+                wrong_lines,
             );
             let _ = watch.look(&traced, errors);
             ended
@@ -264,9 +281,10 @@ pub fn serve_log_explained<L: Refusing + Drop, R: Read + Drop, W: Write, E: Writ
     input: R,
     output: &mut W,
     errors: &mut E,
+    wrong_lines: WrongLines,
 ) -> Result<Ending, Halt>
     ensures { (bytes : List ℕ) → R.remaining input ≡ Some bytes
-        → ServesLogExplained L.contents L.refused log counter node result bytes
+        → ServesLogExplained L.contents L.refused log counter node wrong_lines result bytes
         (W.contents output.old) (W.contents output.new) }
 {
     let mut journal = Journal::starting_at(alloc, log, Vec::new(alloc), counter);
@@ -276,7 +294,16 @@ pub fn serve_log_explained<L: Refusing + Drop, R: Read + Drop, W: Write, E: Writ
         return Err(Halt::Log(trouble));
     }
     match started {
-        Ok(()) => serve_traced(alloc, node, journal, input, output, errors, &mut watch),
+        Ok(()) => serve_traced(
+            alloc,
+            node,
+            journal,
+            input,
+            output,
+            errors,
+            &mut watch,
+            wrong_lines,
+        ),
         Err(_) => Err(halt_by(journal.trouble())),
     }
 }

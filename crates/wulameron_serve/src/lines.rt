@@ -1,13 +1,14 @@
 //! Lines in, answers out, as long as the log can be used.
 
-ghost use Rattle.std.specs.Prelude.{◌≡◌, ℕ, List, Some};
-ghost use Rattle.negotiate_serve.specs.Served.{AnswersAll, ServesBy};
+ghost use Rattle.std.specs.Prelude.{◌≡◌, ℕ, List, Some, IfOk};
+ghost use Rattle.negotiate_serve.specs.Served.{AnswersAll, ServesLines};
+ghost use Rattle.negotiate_serve.specs.Transcripts.{LinesBy, MayEnd};
 ghost use Rattle.wulameron_serve.specs.Lines.{AnswersWhileUsable, IsEndOf, IsUsable, seen_as};
 
 use crate::trouble::{Trouble, Troubled, Watch};
 use negotiate_serve::answer::answer_next;
 use negotiate_serve::answerer::Answerer;
-use negotiate_serve::ending::{Ending, Fault};
+use negotiate_serve::ending::{Ending, Fault, WrongLines};
 use negotiate_serve::serve::tell_fault;
 use std::alloc::Global;
 use std::io::{BufRead, BufReader, Read, Write};
@@ -31,9 +32,9 @@ impl From<Fault> for Halt {
     }
 }
 
-/// Answers each line of an input, until it ends as in `serve_by`, or the log can't be used any more. It writes what the
-/// answerer says and nothing else, and on the writer of errors what goes wrong at the log, after the line at which it
-/// does.
+/// Answers each line of an input, until it ends as in `serve_by`, or the log can't be used any more. A line that is
+/// neither blank nor a command ends it or has a reply, by `wrong_lines`. It writes what the answerer says, such replies
+/// and nothing else, and on the writer of errors what goes wrong at the log, after the line at which it does.
 pub fn serve_until<A: Answerer + Troubled, R: Read + Drop, W: Write, E: Write>(
     alloc: Global,
     input: R,
@@ -41,17 +42,27 @@ pub fn serve_until<A: Answerer + Troubled, R: Read + Drop, W: Write, E: Write>(
     errors: &mut E,
     answerer: &mut A,
     watch: &mut Watch<'_>,
+    wrong_lines: WrongLines,
 ) -> Result<Ending, Halt>
     requires stands { A.stands answerer.old }
     requires usable { IsUsable (A.trouble answerer.old) }
     ensures serves { (bytes : List ℕ) → R.remaining input ≡ Some bytes → (unread : List ℕ)
-        × ServesBy (AnswersWhileUsable A.trouble A.answers) answerer.old (seen_as result) bytes unread
-        (W.contents output.old) (W.contents output.new) }
+        × ServesLines (AnswersWhileUsable A.trouble (LinesBy wrong_lines A.answers)) answerer.old (seen_as result)
+        bytes unread (W.contents output.old) (W.contents output.new) }
+    ensures may_end { IfOk result (MayEnd wrong_lines) }
     ensures stands { A.stands answerer.new }
     ensures log { IsEndOf (A.trouble answerer.new) result }
 {
     match BufReader::new(alloc, input) {
-        Ok(mut reader) => serve_lines(alloc, &mut reader, output, errors, answerer, watch),
+        Ok(mut reader) => serve_lines(
+            alloc,
+            &mut reader,
+            output,
+            errors,
+            answerer,
+            watch,
+            wrong_lines,
+        ),
         Err(error) => {
             let fault = tell_fault(Fault::of_reading(&error), output);
             Err(Halt::Serving(fault))
@@ -67,16 +78,18 @@ fn serve_lines<A: Answerer + Troubled, R: BufRead, W: Write, E: Write>(
     errors: &mut E,
     answerer: &mut A,
     watch: &mut Watch<'_>,
+    wrong_lines: WrongLines,
 ) -> Result<Ending, Halt>
     requires stands { A.stands answerer.old }
     requires usable { IsUsable (A.trouble answerer.old) }
     ensures serves { (input : List ℕ) → R.remaining reader.old ≡ Some input → (unread : List ℕ)
-        × ServesBy (AnswersWhileUsable A.trouble A.answers) answerer.old (seen_as result) input unread
-        (W.contents output.old) (W.contents output.new) }
+        × ServesLines (AnswersWhileUsable A.trouble (LinesBy wrong_lines A.answers)) answerer.old (seen_as result)
+        input unread (W.contents output.old) (W.contents output.new) }
+    ensures may_end { IfOk result (MayEnd wrong_lines) }
     ensures stands { A.stands answerer.new }
     ensures log { IsEndOf (A.trouble answerer.new) result }
 {
-    match answer_lines(alloc, reader, output, errors, answerer, watch) {
+    match answer_lines(alloc, reader, output, errors, answerer, watch, wrong_lines) {
         Ok(ending) => Ok(ending),
         Err(halt) => match halt {
             Halt::Log(trouble) => Err(Halt::Log(trouble)),
@@ -96,19 +109,29 @@ fn answer_lines<A: Answerer + Troubled, R: BufRead, W: Write, E: Write>(
     errors: &mut E,
     answerer: &mut A,
     watch: &mut Watch<'_>,
+    wrong_lines: WrongLines,
 ) -> Result<Ending, Halt>
     requires stands { A.stands answerer.old }
     requires usable { IsUsable (A.trouble answerer.old) }
     ensures said { (input : List ℕ) → R.remaining reader.old ≡ Some input
-        → AnswersAll (AnswersWhileUsable A.trouble A.answers) answerer.old (seen_as result) input
+        → AnswersAll (AnswersWhileUsable A.trouble (LinesBy wrong_lines A.answers)) answerer.old (seen_as result) input
         (R.remaining reader.new) (W.contents output.old) (W.contents output.new) }
+    ensures may_end { IfOk result (MayEnd wrong_lines) }
     ensures stands { A.stands answerer.new }
     ensures log { IsEndOf (A.trouble answerer.new) result }
 {
     let mut line = Vec::new(alloc);
     let mut text = String::new(alloc);
     for number in 1..u64::MAX {
-        let ending = answer_next(number, reader, output, answerer, &mut line, &mut text)?;
+        let ending = answer_next(
+            number,
+            wrong_lines,
+            reader,
+            output,
+            answerer,
+            &mut line,
+            &mut text,
+        )?;
         if let Some(ending) = ending {
             return Ok(ending);
         }

@@ -2,7 +2,7 @@
 
 ghost use Rattle.std.specs.Prelude.{◌≡◌, ◌⊎◌, ℕ, List, Err, Some, true};
 ghost use Rattle.iceoryx2_world.specs.Across.{Agrees};
-ghost use Rattle.wulameron_serve.specs.Lines.{is_not_started, status_with};
+ghost use Rattle.wulameron_serve.specs.Lines.{is_not_started, status_with, wrong_lines_of};
 ghost use Rattle.wulameron_serve.specs.Served.{Serves, ServesLog};
 
 use crate::arguments::Run;
@@ -17,7 +17,7 @@ use iceoryx2_journal::journal::Journal;
 use iceoryx2_monitoring::error::MonitoringError;
 use iceoryx2_monitoring::token::{Token, claim, claim_free};
 use iceoryx2_session::world_storage::WorldStorage;
-use negotiate_serve::ending::{Ending, FAULT, Fault, status};
+use negotiate_serve::ending::{Ending, FAULT, Fault, WrongLines, status};
 use negotiate_serve::output::say;
 use negotiate_serve::report::{report, report_fault};
 use negotiate_serve::serve::tell_fault;
@@ -29,8 +29,8 @@ use std::rt::Files;
 use std::time::Clock;
 
 /// Answers the lines of an input over the log in a file, which is made where there is none, and gives the status with
-/// which the program ends: 0 at the end of the input, 2 after a line that is no command, and 3 after a fault, of which
-/// the writer of errors has a line. The node is claimed as long as it runs.
+/// which the program ends: 0 at the end of the input, 2 after a line that ends a strict run, and 3 after a fault, of
+/// which the writer of errors has a line. The node is claimed as long as it runs.
 pub fn run<
     F: Files<File = File> + Clock + RandomSource + AllocGlobal + Drop,
     R: Read + Drop,
@@ -94,8 +94,11 @@ fn run_as<
     match FileLog::open(rt, path, run.options) {
         Ok(log) => {
             let counter = log.header().counter;
+            let wrong = wrong_lines_of(run.strict, run.explains);
             let ended = if run.explains {
-                serve_log_explained(alloc, log, counter, run.at, node, input, output, errors)
+                serve_log_explained(
+                    alloc, log, counter, run.at, node, input, output, errors, wrong,
+                )
             } else {
                 let dead = NodeFiles {
                     rt,
@@ -104,7 +107,7 @@ fn run_as<
                     cleans: run.cleans,
                 };
                 serve_log(
-                    alloc, log, counter, run.at, node, dead, input, output, errors,
+                    alloc, log, counter, run.at, node, dead, input, output, errors, wrong,
                 )
             };
             report_end(ended, errors)
@@ -114,6 +117,20 @@ fn run_as<
             FAULT
         }
     }
+}
+
+/// What becomes of lines that are neither blank nor a command, by whether the first of them ends the program, and else
+/// by whether each reply is explained.
+fn wrong_lines_of(strict: bool, explains: bool) -> WrongLines
+    ensures { result ≡ wrong_lines_of strict explains }
+{
+    if strict {
+        return WrongLines::End;
+    }
+    if explains {
+        return WrongLines::ReplyApart;
+    }
+    WrongLines::Reply
 }
 
 /// Writes the line of a fault or of what is wrong with a line, and gives the status. A log that can't be used any more
@@ -148,9 +165,10 @@ fn serve_log<L: Refusing + Drop, D: DeadNodes + Drop, R: Read + Drop, W: Write, 
     input: R,
     output: &mut W,
     errors: &mut E,
+    wrong_lines: WrongLines,
 ) -> Result<Ending, Halt>
     ensures { (bytes : List ℕ) → R.remaining input ≡ Some bytes
-        → ServesLog L.contents L.refused log counter node result bytes
+        → ServesLog L.contents L.refused log counter node wrong_lines result bytes
         (W.contents output.old) (W.contents output.new) }
 {
     let mut journal = Journal::starting_at(alloc, log, Vec::new(alloc), counter);
@@ -162,7 +180,15 @@ fn serve_log<L: Refusing + Drop, D: DeadNodes + Drop, R: Read + Drop, W: Write, 
     match started {
         Ok(()) => {
             let (ended, journal) = serve(
-                alloc, node, journal, dead, input, output, errors, &mut watch,
+                alloc,
+                node,
+                journal,
+                dead,
+                input,
+                output,
+                errors,
+                &mut watch,
+                wrong_lines,
             );
             let _ = watch.look(&journal, errors);
             ended
@@ -192,11 +218,12 @@ pub fn serve<S: WorldStorage + Troubled, D: DeadNodes + Drop, R: Read + Drop, W:
     output: &mut W,
     errors: &mut E,
     watch: &mut Watch<'_>,
+    wrong_lines: WrongLines,
 ) -> (Result<Ending, Halt>, S)
     requires agrees { Agrees (S.world storage) }
     requires of_own { S.own storage node ≡ true }
     ensures { (bytes : List ℕ) → R.remaining input ≡ Some bytes
-        → Serves S.step S.world S.own S.trouble node storage result.0 result.1 bytes
+        → Serves S.step S.world S.own S.trouble node wrong_lines storage result.0 result.1 bytes
         (W.contents output.old) (W.contents output.new)
         ⊎ (is_not_started result.0 ≡ true) × (W.contents output.new ≡ W.contents output.old) }
 {
@@ -205,6 +232,14 @@ pub fn serve<S: WorldStorage + Troubled, D: DeadNodes + Drop, R: Read + Drop, W:
     if let Some(trouble) = watch.look(&answerer, errors) {
         return (Err(Halt::Log(trouble)), answerer.finish());
     }
-    let ended = serve_until(alloc, input, output, errors, &mut answerer, watch);
+    let ended = serve_until(
+        alloc,
+        input,
+        output,
+        errors,
+        &mut answerer,
+        watch,
+        wrong_lines,
+    );
     (ended, answerer.finish())
 }

@@ -1,5 +1,6 @@
 use Rattle.negotiate_serve.specs.declared.ending.Fault.TheVariants as fault
 use Rattle.explain_serve.specs.Answered.{Explains, first_state}
+use Rattle.negotiate_serve.specs.Transcripts.{AnswersLineBy}
 use Rattle.negotiate_serve.proofs.Answering.{served_nothing}
 use Rattle.explain_serve.proofs.Explaining.{serves_explained}
 use Rattle.explain_serve.proofs.serve.serve_lines.Goals as goal
@@ -18,5 +19,5 @@ returns-in-Ok g c = λ bytes known.
 
 pub returns-in-Err : goal.returns-in-Err
 returns-in-Err g c = λ bytes known.
-    served_nothing (Explains c.args.format) first_state bytes fault.OutOfMemory c.tell_fault.result (g.W.Write.contents c.args.output.now) (g.W.Write.contents c.tell_fault.new.output)
+    served_nothing (AnswersLineBy (Explains c.args.format)) first_state bytes fault.OutOfMemory c.tell_fault.result (g.W.Write.contents c.args.output.now) (g.W.Write.contents c.tell_fault.new.output)
     tt c.tell_fault.ensures

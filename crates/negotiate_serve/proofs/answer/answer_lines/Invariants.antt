@@ -1,10 +1,11 @@
 use Rattle.std.proofs.Common.{◌≡◌, List, ℕ, Some}
 use Rattle.negotiate_serve.proofs.Answering.{SoFar}
+use Rattle.negotiate_serve.specs.Transcripts.{AnswersLineBy}
 use Rattle.negotiate_serve.proofs.answer.answer_lines.Given as goal
 
 abbrev pub invariant-loop-number : goal.invariant-loop-number
 invariant-loop-number g l = record {
   said : (input : List ℕ) → g.R.Read.remaining l.fn.reader ≡ Some input
-      → SoFar g.A.Answerer.answers l.fn.answerer input l.number (g.R.Read.remaining l.reader) (g.W.Write.contents l.fn.output) (g.W.Write.contents l.output) l.answerer;
+      → SoFar (AnswersLineBy g.A.Answerer.answers) l.fn.answerer input l.number (g.R.Read.remaining l.reader) (g.W.Write.contents l.fn.output) (g.W.Write.contents l.output) l.answerer;
   stands : g.A.Answerer.stands l.answerer;
 }

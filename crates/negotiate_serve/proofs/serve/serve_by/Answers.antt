@@ -1,5 +1,6 @@
 use Rattle.std.proofs.Common.{ap, ◌∙◌}
 use Rattle.negotiate_serve.proofs.Answering.{read_ahead, served_nothing}
+use Rattle.negotiate_serve.specs.Transcripts.{AnswersLineBy}
 use Rattle.negotiate_serve.proofs.serve.serve_by.Goals as goal
 
 pub returns-in-Ok-clause-serves : goal.returns-in-Ok-clause-serves
@@ -11,5 +12,5 @@ returns-in-Ok-clause-serves g c = λ bytes known.
 
 pub returns-in-Err-clause-serves : goal.returns-in-Err-clause-serves
 returns-in-Err-clause-serves g c = λ bytes known.
-    served_nothing g.A.Answerer.answers c.args.answerer.now bytes c.of_reading.result c.tell_fault.result (g.W.Write.contents c.args.output.now) (g.W.Write.contents c.tell_fault.new.output)
+    served_nothing (AnswersLineBy g.A.Answerer.answers) c.args.answerer.now bytes c.of_reading.result c.tell_fault.result (g.W.Write.contents c.args.output.now) (g.W.Write.contents c.tell_fault.new.output)
     c.of_reading.ensures.of_reading c.tell_fault.ensures
