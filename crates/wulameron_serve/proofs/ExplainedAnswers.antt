@@ -23,7 +23,7 @@ use Rattle.explain_serve.specs.Explained.{TellsLines}
 use Rattle.explain_serve.specs.Traces.{TracedOver, HasItsRoom, made_between}
 use Rattle.explain_serve.proofs.Traces.{goes_traced}
 use Rattle.wulameron_serve.specs.declared.explained.ExplainedAnswerer.{ExplainedAnswerer}
-use Rattle.wulameron_serve.specs.declared.trouble.Trouble.{Trouble}
+use Rattle.wulameron_trouble.specs.declared.trouble.Trouble.{Trouble}
 use Rattle.wulameron_serve.specs.Explained.{IsExplained, RefreshesInside, ExplainsFor, ExplainsApart, BeginsAsAnswered, ExplainsLinesFor, of_another, called, closed, listed}
 use Rattle.wulameron_serve.specs.Lines.{AnswersWhileUsable, IsUsable}
 use Rattle.wulameron_serve.specs.Shared.{AnswersFor, Refreshes, fresh_session}

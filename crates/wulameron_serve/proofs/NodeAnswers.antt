@@ -18,7 +18,7 @@ use Rattle.negotiate_serve.specs.Served.{SaysAnswer, ServesLines}
 use Rattle.negotiate_serve.specs.Transcripts.{Answering, AnsweringLines, LinesBy}
 use Rattle.negotiate_serve.proofs.Simulated.{lines_by_along, lines_transcript_along}
 use Rattle.wulameron_serve.specs.declared.shared.SharedAnswerer.{SharedAnswerer}
-use Rattle.wulameron_serve.specs.declared.trouble.Trouble.{Trouble}
+use Rattle.wulameron_trouble.specs.declared.trouble.Trouble.{Trouble}
 use Rattle.wulameron_serve.specs.Lines.{AnswersWhileUsable, IsUsable}
 use Rattle.wulameron_serve.specs.Served.{AnswersLinesFor}
 use Rattle.wulameron_serve.specs.Shared.{StandsFor, AnswersFor}

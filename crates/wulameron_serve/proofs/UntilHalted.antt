@@ -11,7 +11,7 @@ use Rattle.negotiate_serve.specs.Served.{AnswersAll, EndsUntold, ServesLines, Ta
 use Rattle.negotiate_serve.proofs.Answering.{SoFar, turn_fails}
 use Rattle.wulameron_serve.specs.declared.lines.Halt.{Halt}
 use Rattle.wulameron_serve.specs.declared.lines.Halt.TheVariants as halt
-use Rattle.wulameron_serve.specs.declared.trouble.Trouble.{Trouble}
+use Rattle.wulameron_trouble.specs.declared.trouble.Trouble.{Trouble}
 use Rattle.wulameron_serve.specs.Lines.{seen_as, IsEndOf}
 
 -- a fault that is passed on

@@ -22,11 +22,11 @@ use Rattle.negotiate_serve.specs.Transcripts.{AnsweringLines, LinesBy, MayEnd, s
 use Rattle.explain_serve.specs.Explained.{TellsLines}
 use Rattle.explain_serve.specs.Traces.{TracedOver, GoesTracedBy, HasItsRoom, fresh_trace, made_between}
 use Rattle.wulameron_serve.specs.declared.lines.Halt.{Halt}
-use Rattle.wulameron_serve.specs.declared.trouble.Trouble.{Trouble}
+use Rattle.wulameron_trouble.specs.declared.trouble.Trouble.{Trouble}
 use Rattle.wulameron_serve.specs.Lines.{AnswersWhileUsable, is_not_started, seen_as}
 use Rattle.wulameron_serve.specs.Served.{first_journal}
 use Rattle.wulameron_serve.specs.Shared.{AnswersFor, StandsFor, fresh_session, not_ours}
-use Rattle.wulameron_serve.specs.Troubles.{trouble_of}
+use Rattle.wulameron_trouble.specs.Troubles.{trouble_of}
 
 -- ---- a command
 

@@ -4,5 +4,4 @@ pub mod Lines
 pub mod Served
 pub mod Shared
 pub mod Starting
-pub mod Troubles
 pub mod Upkeep

@@ -9,8 +9,8 @@ use Rattle.negotiate_serve.specs.Endings.{status_of}
 use Rattle.negotiate_serve.specs.Transcripts.{AnsweringLines}
 use Rattle.wulameron_serve.specs.declared.lines.Halt.{Halt}
 use Rattle.wulameron_serve.specs.declared.lines.Halt.TheVariants as halt
-use Rattle.wulameron_serve.specs.declared.trouble.Trouble.{Trouble}
-use Rattle.wulameron_serve.specs.Troubles.{last_of}
+use Rattle.wulameron_trouble.specs.declared.trouble.Trouble.{Trouble}
+use Rattle.wulameron_trouble.specs.Troubles.{last_of}
 
 -- A log can be used: nothing went wrong, or not for the last time.
 abbrev pub IsUsable : Option Trouble → Type 0

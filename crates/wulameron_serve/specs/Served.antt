@@ -16,8 +16,8 @@ use Rattle.negotiate_serve.specs.Served.{ServesLines}
 use Rattle.wulameron_serve.specs.declared.lines.Halt.{Halt}
 use Rattle.wulameron_serve.specs.Lines.{AnswersWhileUsable, is_not_started, seen_as}
 use Rattle.wulameron_serve.specs.Shared.{AnswersFor, Refreshes, fresh_session}
-use Rattle.wulameron_serve.specs.Troubles.{trouble_of}
-use Rattle.wulameron_serve.specs.declared.trouble.Trouble.{Trouble}
+use Rattle.wulameron_trouble.specs.Troubles.{trouble_of}
+use Rattle.wulameron_trouble.specs.declared.trouble.Trouble.{Trouble}
 
 module _ {S : Type 0} (step : S → Letter → S → Type 0) (world : S → World) (own : S → ℕ → Bool)
     (trouble : S → Option Trouble) (node : ℕ) (w : WrongLines) where

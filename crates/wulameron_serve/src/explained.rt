@@ -22,7 +22,6 @@ use crate::lines::{Halt, serve_until};
 use crate::run::halt_by;
 use crate::shared::refuse_node;
 use crate::starting::start;
-use crate::trouble::{Refusing, Trouble, Troubled, Watch};
 use explain_serve::explainer::with_room;
 use explain_serve::lines::describe_lines;
 use iceoryx2_access::storage::Storage;
@@ -36,6 +35,7 @@ use negotiate_serve::answerer::{Answerer, slot_of};
 use negotiate_serve::ending::{Ending, Fault, WrongLines};
 use std::alloc::{AllocError, Global};
 use std::io::{Read, Write};
+use wulameron_trouble::trouble::{Refusing, Trouble, Troubled, Watch};
 
 /// A session that keeps the accesses of its storage, and the node in whose name its lines are. It has to be spent by
 /// `finish`.

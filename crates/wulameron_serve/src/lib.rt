@@ -1,12 +1,10 @@
 //! What the program `wulameron` does: each line is answered over a log that processes share.
 #![tactic(auto)]
 
-pub mod arguments;
 pub mod dead;
 pub mod explained;
 pub mod lines;
 pub mod run;
 pub mod shared;
 pub mod starting;
-pub mod trouble;
 pub mod upkeep;

@@ -5,13 +5,13 @@ ghost use Rattle.negotiate_serve.specs.Served.{AnswersAll, ServesLines};
 ghost use Rattle.negotiate_serve.specs.Transcripts.{LinesBy, MayEnd};
 ghost use Rattle.wulameron_serve.specs.Lines.{AnswersWhileUsable, IsEndOf, IsUsable, seen_as};
 
-use crate::trouble::{Trouble, Troubled, Watch};
 use negotiate_serve::answer::answer_next;
 use negotiate_serve::answerer::Answerer;
 use negotiate_serve::ending::{Ending, Fault, WrongLines};
 use negotiate_serve::serve::tell_fault;
 use std::alloc::Global;
 use std::io::{BufRead, BufReader, Read, Write};
+use wulameron_trouble::trouble::{Trouble, Troubled, Watch};
 
 /// What keeps the program from going on.
 #[derive(Clone, Copy, Debug, PartialEq, Eq)]

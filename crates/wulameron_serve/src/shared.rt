@@ -19,6 +19,7 @@ use negotiate_lines::line::{self, Line};
 use negotiate_serve::answerer::Answerer;
 use negotiate_serve::reply::describe;
 use std::alloc::{AllocError, Global};
+use wulameron_trouble::trouble::{Trouble, Troubled};
 
 /// Writes that a line names another node. `AllocError` where there is no memory for the text.
 pub fn refuse_node(node: u64, text: &mut String) -> Result<(), AllocError>
@@ -206,5 +207,13 @@ impl<S: WorldStorage, D: DeadNodes + Drop> Answerer for SharedAnswerer<S, D> {
             Command::Close { slot } => self.close(line, slot, text),
             Command::List => self.list(line, text),
         }
+    }
+}
+
+impl<S: WorldStorage + Troubled, D: DeadNodes + Drop> Troubled for SharedAnswerer<S, D> {
+    ghost trouble = { λ answerer. S.trouble (own_state answerer.session).table };
+
+    fn trouble(&self) -> Option<Trouble> {
+        self.storage().trouble()
     }
 }

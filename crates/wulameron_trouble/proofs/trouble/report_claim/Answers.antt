@@ -1,9 +1,9 @@
 use Rattle.std.proofs.Common.{◌≡◌, List, ℕ, string_bytes, ap, subst, ◌∙◌}
 use Rattle.iceoryx2_monitoring.specs.Errors.{fault_text}
 use Rattle.negotiate_serve.specs.Outputs.{Says}
-use Rattle.wulameron_serve.specs.Troubles.{TellsLine, trouble_line}
-use Rattle.wulameron_serve.proofs.ToldLines.{tells_line}
-use Rattle.wulameron_serve.proofs.trouble.report_claim.Goals as goal
+use Rattle.wulameron_trouble.specs.Troubles.{TellsLine, trouble_line}
+use Rattle.wulameron_trouble.proofs.ToldLines.{tells_line}
+use Rattle.wulameron_trouble.proofs.trouble.report_claim.Goals as goal
 
 pub returns-in-Ok : goal.returns-in-Ok
 returns-in-Ok g c = λ text known.

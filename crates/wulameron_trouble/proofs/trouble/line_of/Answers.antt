@@ -1,6 +1,6 @@
 use Rattle.std.proofs.Common.{List, ℕ, Option, Some, IfOk, IfSome, ◌≡◌, ◌++◌, codes, string_bytes, sym, ap, subst, ◌∙◌, append_assoc}
 use Rattle.std.specs.Fmt.{option_append}
-use Rattle.wulameron_serve.proofs.trouble.line_of.Goals as goal
+use Rattle.wulameron_trouble.proofs.trouble.line_of.Goals as goal
 
 pub returns : goal.returns
 returns g c = λ text known.

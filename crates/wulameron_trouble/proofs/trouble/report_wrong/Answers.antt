@@ -1,8 +1,8 @@
 use Rattle.std.proofs.Common.{◌≡◌, List, ℕ, Option, Some, Result, Ok, Err, ◌∷◌, ◌++◌, refl, sym, ap, subst, ◌∙◌, rules, arith}
 use Rattle.negotiate_serve.specs.Outputs.{Says}
-use Rattle.wulameron_serve.specs.Troubles.{trouble_text, TellsLine, trouble_line}
-use Rattle.wulameron_serve.proofs.ToldLines.{tells_line}
-use Rattle.wulameron_serve.proofs.trouble.report_trouble.Goals as goal
+use Rattle.wulameron_trouble.specs.Troubles.{trouble_text, TellsLine, trouble_line}
+use Rattle.wulameron_trouble.proofs.ToldLines.{tells_line}
+use Rattle.wulameron_trouble.proofs.trouble.report_wrong.Goals as goal
 
 pub returns-in-Ok : goal.returns-in-Ok
 returns-in-Ok g c = λ text known.

@@ -3,7 +3,7 @@ use Rattle.std.proofs.Common.{List, ℕ, Option, Result, Ok, Err}
 use Rattle.negotiate_serve.specs.declared.ending.Fault.{Fault}
 use Rattle.negotiate_serve.specs.declared.ending.Fault.TheVariants as fault
 use Rattle.negotiate_serve.specs.Outputs.{Says}
-use Rattle.wulameron_serve.specs.Troubles.{TellsLine}
+use Rattle.wulameron_trouble.specs.Troubles.{TellsLine}
 
 -- Writing runs out of no memory.
 pub tells_line : (line : List ℕ) (r : Result (Unit {0}) Fault) (old new : Option (List ℕ)) → Says line r old new → TellsLine line r old new

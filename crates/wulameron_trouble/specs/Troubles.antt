@@ -7,8 +7,8 @@ use Rattle.iceoryx2_file_log.specs.Errors.{fault_text}
 use Rattle.negotiate_serve.specs.declared.ending.Fault.{Fault}
 use Rattle.negotiate_serve.specs.declared.ending.Fault.TheVariants as fault
 use Rattle.negotiate_serve.specs.Outputs.{Says}
-use Rattle.wulameron_serve.specs.declared.trouble.Trouble.{Trouble}
-use Rattle.wulameron_serve.specs.declared.trouble.Trouble.TheVariants as trouble
+use Rattle.wulameron_trouble.specs.declared.trouble.Trouble.{Trouble}
+use Rattle.wulameron_trouble.specs.declared.trouble.Trouble.TheVariants as trouble
 
 -- what goes wrong at a journal: an entry ended it, or else what its log refused last
 abbrev pub trouble_of : (is_over : Bool) → Option FileFault → Option Trouble

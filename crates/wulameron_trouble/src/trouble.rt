@@ -2,19 +2,16 @@
 
 ghost use Rattle.std.specs.Prelude.{◌≡◌, List, ℕ, Option, Some, Bool, IfOk, string_bytes};
 ghost use Rattle.iceoryx2_file_log.specs.declared.error.FileFault as declared-fault;
-ghost use Rattle.wulameron_serve.specs.declared.trouble.Trouble as declared;
-ghost use Rattle.wulameron_serve.specs.Troubles.{TellsLine, advice_of, is_last, last_of, trouble_line, trouble_of};
-ghost use Rattle.wulameron_serve.specs.Troubles.{concern_of, trouble_text};
+ghost use Rattle.wulameron_trouble.specs.declared.trouble.Trouble as declared;
+ghost use Rattle.wulameron_trouble.specs.Troubles.{TellsLine, advice_of, is_last, last_of, trouble_line, trouble_of};
+ghost use Rattle.wulameron_trouble.specs.Troubles.{concern_of, trouble_text};
 ghost use Rattle.iceoryx2_monitoring.specs.Errors.{fault_text as claim_text};
 
-use crate::dead::DeadNodes;
-use crate::shared::SharedAnswerer;
 use iceoryx2_file_log::error::FileFault;
 use iceoryx2_file_log::file_log::FileLog;
 use iceoryx2_journal::journal::Journal;
 use iceoryx2_log::log::Log;
 use iceoryx2_monitoring::error::MonitoringError;
-use iceoryx2_session::world_storage::WorldStorage;
 use negotiate_serve::ending::Fault;
 use negotiate_serve::output::say;
 use std::alloc::{AllocError, Global};
@@ -80,7 +77,7 @@ pub fn advice(fault: FileFault) -> &'static str
 }
 
 impl fmt::Display for Trouble {
-    ghost use Rattle.wulameron_serve.specs.Troubles.{trouble_text};
+    ghost use Rattle.wulameron_trouble.specs.Troubles.{trouble_text};
     ghost use Rattle.iceoryx2_monitoring.specs.Errors.{fault_text as claim_text};
 
     ghost output = { trouble_text };
@@ -157,16 +154,6 @@ impl<L: Refusing> Troubled for Journal<L> {
     }
 }
 
-impl<S: WorldStorage + Troubled, D: DeadNodes + Drop> Troubled for SharedAnswerer<S, D> {
-    ghost use Rattle.iceoryx2_session.specs.SessionStates.{own_state};
-
-    ghost trouble = { λ answerer. S.trouble (own_state answerer.session).table };
-
-    fn trouble(&self) -> Option<Trouble> {
-        self.storage().trouble()
-    }
-}
-
 /// Writes the line of a trouble with the log of this path.
 ///
 /// `Fault` as `say` does, and where there is no memory for the line.
@@ -180,6 +167,24 @@ pub fn report_trouble<E: Write>(
         → TellsLine (trouble_line path.now text) result (E.contents errors.old) (E.contents errors.new) }
 {
     match line_of(alloc, path, trouble) {
+        Ok(line) => say(line.as_bytes(), errors),
+        Err(_) => Err(Fault::OutOfMemory),
+    }
+}
+
+/// Writes the line of what is wrong with the log of this path, or is wanted of it.
+///
+/// `Fault` as `say` does, and where there is no memory for the line.
+pub fn report_wrong<D: fmt::Display + Copy, E: Write>(
+    alloc: Global,
+    path: &str,
+    wrong: D,
+    errors: &mut E,
+) -> Result<(), Fault>
+    ensures { (text : List ℕ) → D.output wrong ≡ Some text
+        → TellsLine (trouble_line path.now text) result (E.contents errors.old) (E.contents errors.new) }
+{
+    match line_of(alloc, path, wrong) {
         Ok(line) => say(line.as_bytes(), errors),
         Err(_) => Err(Fault::OutOfMemory),
     }
