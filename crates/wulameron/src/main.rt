@@ -7,9 +7,12 @@ use negotiate_serve::ending::{FAULT, Fault, NOT_A_COMMAND};
 use negotiate_serve::report::report_fault;
 use std::process::ExitCode;
 use std::{env, io};
-use wulameron_serve::arguments::{Asked, arguments};
+use wulameron_arguments::arguments::arguments;
+use wulameron_arguments::asked::Asked;
+use wulameron_arguments::home::{DefaultLog, default_log, make_folder};
 use wulameron_serve::run::run;
 use wulameron_serve::upkeep::{clean, nodes};
+use wulameron_trouble::trouble::report_wrong;
 
 /// Prints what the words asked for, or what is wrong with them, and gives the status.
 fn print(rt: &HostRuntime, error: &Error) -> u8 {
@@ -25,19 +28,53 @@ fn words(rt: &HostRuntime) -> io::Result<Vec<String>> {
     Ok(env::args(rt)?.collect(rt.alloc())?)
 }
 
+/// Makes the folder of the log where no word names the log and the command makes one. False where it can't be used, of
+/// which the standard error has a line.
+fn is_prepared(rt: &HostRuntime, default: Option<&DefaultLog>, asked: &Asked<'_>) -> bool {
+    let Some(log) = default else {
+        return true;
+    };
+    let Some(path) = asked.made_log() else {
+        return true;
+    };
+    let Some(folder) = log.folder_for(path) else {
+        return true;
+    };
+    match make_folder(rt, folder) {
+        Ok(()) => true,
+        Err(error) => {
+            let _ = report_wrong(rt.alloc(), folder, error, &mut rt.stderr());
+            false
+        }
+    }
+}
+
+/// Carries out what is asked for, and gives the status.
+fn answer(rt: &HostRuntime, asked: Asked<'_>) -> u8 {
+    let mut output = io::writer(rt);
+    match asked {
+        Asked::Run(asked) => run(rt, &asked, rt.reader(), &mut output, &mut rt.stderr()),
+        Asked::Nodes(look) => nodes(&rt, &look, &mut output, &mut rt.stderr()),
+        Asked::Clean(asked) => clean(&rt, &asked, &mut output, &mut rt.stderr()),
+        _ => NOT_A_COMMAND,
+    }
+}
+
 /// Carries out what the words ask for, and gives the status.
-fn carry_out(rt: &HostRuntime, words: &[String]) -> u8 {
-    match arguments(rt.alloc(), words) {
-        Ok(Some(found)) => {
-            let mut output = io::writer(rt);
-            match found {
-                Asked::Run(asked) => run(rt, &asked, rt.reader(), &mut output, &mut rt.stderr()),
-                Asked::Nodes(place) => nodes(&rt, &place, &mut output, &mut rt.stderr()),
-                Asked::Clean(place) => clean(&rt, &place, &mut output, &mut rt.stderr()),
+fn carry_out(rt: &HostRuntime, default: Option<&DefaultLog>, words: &[String]) -> u8 {
+    let home = match default {
+        Some(log) => Some(log.path.as_str()),
+        None => None,
+    };
+    match arguments(rt.alloc(), home, words) {
+        Ok(Some(asked)) => {
+            if is_prepared(rt, default, &asked) {
+                return answer(rt, asked);
             }
+            FAULT
         }
         Ok(None) => {
-            let _ = eprintln!(rt; "usage: wulameron run|nodes|clean --at FILE");
+            let _ = eprintln!(rt; "usage: wulameron COMMAND; wulameron --help lists the commands");
             NOT_A_COMMAND
         }
         Err(error) => print(rt, &error),
@@ -49,11 +86,17 @@ fn carry_out(rt: &HostRuntime, words: &[String]) -> u8 {
 /// Ends with status 0, with 2 at a line that is no command and where the words are wrong, and with 3 where there is a
 /// fault, of which the standard error has a line.
 fn main(rt: HostRuntime) -> ExitCode {
+    let Ok(default) = default_log(&rt) else {
+        return ExitCode::from(fault(&rt, Fault::OutOfMemory));
+    };
     match words(&rt) {
-        Ok(words) => ExitCode::from(carry_out(&rt, &words)),
-        Err(error) => {
-            let _ = report_fault("wulameron", Fault::of_reading(&error), &mut rt.stderr());
-            ExitCode::from(FAULT)
-        }
+        Ok(words) => ExitCode::from(carry_out(&rt, default.as_ref(), &words)),
+        Err(error) => ExitCode::from(fault(&rt, Fault::of_reading(&error))),
     }
+}
+
+/// Writes the line of a fault on the standard error, and gives its status.
+fn fault(rt: &HostRuntime, fault: Fault) -> u8 {
+    let _ = report_fault("wulameron", fault, &mut rt.stderr());
+    FAULT
 }

@@ -5,13 +5,11 @@ ghost use Rattle.iceoryx2_world.specs.Across.{Agrees};
 ghost use Rattle.wulameron_serve.specs.Lines.{is_not_started, status_with, wrong_lines_of};
 ghost use Rattle.wulameron_serve.specs.Served.{Serves, ServesLog};
 
-use crate::arguments::Run;
 use crate::dead::{DeadNodes, NodeFiles};
 use crate::explained::serve_log_explained;
 use crate::lines::{Halt, serve_until};
 use crate::shared::SharedAnswerer;
 use crate::starting::start;
-use crate::trouble::{Refusing, Trouble, Troubled, Watch, report_claim, report_trouble};
 use iceoryx2_file_log::file_log::FileLog;
 use iceoryx2_journal::journal::Journal;
 use iceoryx2_monitoring::error::MonitoringError;
@@ -27,6 +25,10 @@ use std::io::{Read, Write};
 use std::random::RandomSource;
 use std::rt::Files;
 use std::time::Clock;
+use wulameron_arguments::asked::Run;
+use wulameron_trouble::trouble::{
+    Refusing, Trouble, Troubled, Watch, report_claim, report_trouble,
+};
 
 /// Answers the lines of an input over the log in a file, which is made where there is none, and gives the status with
 /// which the program ends: 0 at the end of the input, 2 after a line that ends a strict run, and 3 after a fault, of
@@ -94,7 +96,7 @@ fn run_as<
     match FileLog::open(rt, path, run.options) {
         Ok(log) => {
             let counter = log.header().counter;
-            let wrong = wrong_lines_of(run.strict, run.explains);
+            let wrong = wrong_lines_of(run.is_strict, run.explains);
             let ended = if run.explains {
                 serve_log_explained(
                     alloc, log, counter, run.at, node, input, output, errors, wrong,

@@ -6,9 +6,7 @@ ghost use Rattle.iceoryx2_world.specs.Interference.{Rely};
 ghost use Rattle.negotiate_serve.specs.Replies.{GrowsBy};
 ghost use Rattle.wulameron_serve.specs.Upkeep.{node_line, state_text};
 
-use crate::arguments::Place;
 use crate::dead::{DeadNodes, NodeFiles, Unclaimed, dead_of};
-use crate::trouble::{Refusing, Trouble, Watch, report_claim, report_trouble};
 use iceoryx2_file_log::file_log::FileLog;
 use iceoryx2_journal::cleaning::{CleanError, Cleaned};
 use iceoryx2_journal::journal::Journal;
@@ -22,6 +20,8 @@ use std::io::Write;
 use std::random::RandomSource;
 use std::rt::Files;
 use std::time::Clock;
+use wulameron_arguments::asked::{Clean, Look, Place};
+use wulameron_trouble::trouble::{Refusing, Trouble, Watch, report_claim, report_trouble};
 
 /// Whether a node is alive, in a word.
 pub fn state_word(state: NodeState) -> &'static str
@@ -76,12 +76,12 @@ fn say_nodes<W: Write>(alloc: Global, nodes: &[NodeStatus], output: &mut W) -> R
 /// which the program ends: 0, or 3 after a fault, of which the writer of errors has a line.
 pub fn nodes<F: Files<File = File> + AllocGlobal, W: Write, E: Write>(
     rt: &F,
-    place: &Place<'_>,
+    look: &Look<'_>,
     output: &mut W,
     errors: &mut E,
 ) -> u8 {
     let alloc = rt.alloc();
-    match list(rt, place.at) {
+    match list(rt, look.place.at) {
         Ok(found) => status_of(say_nodes(alloc, &found, output), errors),
         Err(error) => {
             let _ = report_claim(alloc, &error, errors);
@@ -95,13 +95,13 @@ pub fn nodes<F: Files<File = File> + AllocGlobal, W: Write, E: Write>(
 /// line.
 pub fn clean<F: Files<File = File> + Clock + RandomSource + AllocGlobal, W: Write, E: Write>(
     rt: &F,
-    place: &Place<'_>,
+    clean: &Clean<'_>,
     output: &mut W,
     errors: &mut E,
 ) -> u8 {
     let alloc = rt.alloc();
-    match list(rt, place.at) {
-        Ok(found) => clean_found(rt, place, &dead_of(alloc, &found), output, errors),
+    match list(rt, clean.place.at) {
+        Ok(found) => clean_found(rt, &clean.place, &dead_of(alloc, &found), output, errors),
         Err(error) => {
             let _ = report_claim(alloc, &error, errors);
             FAULT

@@ -1,0 +1,205 @@
+//! What the words ask for, read by what the program takes.
+
+ghost use Rattle.std.specs.Prelude.{◌≡◌, Some, IfSome, cond, codes};
+ghost use Rattle.clap.specs.Words.{found_of, first_value};
+ghost use Rattle.iceoryx2_file_log.specs.declared.options.Sharing.TheVariants as sharing;
+
+use crate::asked::{Asked, Clean, Hold, LogLook, Look, Pattern, Place, Run, Show, Wanted};
+use crate::commands::command;
+use clap::{ArgMatches, Error};
+use iceoryx2_file_log::options::{FileLogOptions, Sharing};
+use std::alloc::{AllocError, Global};
+use std::time::Duration;
+
+/// What the words ask for, the first of which is the program's name. `home` is the log where no word names one; without
+/// it a word has to. `None` where they name no command.
+///
+/// `Error` where the words are wrong, or ask for help or the version, and where there is no memory.
+pub fn arguments<'a>(
+    alloc: Global,
+    home: Option<&'a str>,
+    words: &'a [String],
+) -> Result<Option<Asked<'a>>, Error> {
+    let matches = command(alloc, home)?.try_get_matches_from(words)?;
+    if let Some(matches) = matches.subcommand_matches("hold") {
+        return Ok(hold_of(alloc, matches)?);
+    }
+    Ok(asked_by(&matches))
+}
+
+fn asked_by<'a>(matches: &ArgMatches<'a>) -> Option<Asked<'a>> {
+    if let Some(matches) = matches.subcommand_matches("run") {
+        return Some(Asked::Run(run_of(matches)?));
+    }
+    if let Some(matches) = matches.subcommand_matches("clean") {
+        return Some(Asked::Clean(clean_of(matches)?));
+    }
+    if let Some(matches) = matches.subcommand_matches("log") {
+        return Some(Asked::Log(log_look_of(matches)?));
+    }
+    if let Some(matches) = matches.subcommand_matches("check") {
+        return Some(Asked::Check(place_of(matches)?));
+    }
+    viewing_by(matches)
+}
+
+/// What a command that shows something asks for.
+fn viewing_by<'a>(matches: &ArgMatches<'a>) -> Option<Asked<'a>> {
+    if let Some(matches) = matches.subcommand_matches("list") {
+        return Some(Asked::List(look_of(matches)?));
+    }
+    if let Some(matches) = matches.subcommand_matches("show") {
+        return Some(Asked::Show(show_of(matches)?));
+    }
+    if let Some(matches) = matches.subcommand_matches("nodes") {
+        return Some(Asked::Nodes(look_of(matches)?));
+    }
+    if let Some(matches) = matches.subcommand_matches("watch") {
+        return Some(Asked::Watch(look_of(matches)?));
+    }
+    None
+}
+
+/// The run that was matched. `None` where a value is missing that each match has.
+fn run_of<'a>(matches: &ArgMatches<'a>) -> Option<Run<'a>>
+    ensures at { IfSome result (λ run. first_value (found_of matches.now) (codes "at") ≡ Some run.at.now) }
+{
+    let place = making_place_of(matches)?;
+    Some(Run {
+        at: place.at,
+        node: matches.get_one::<u64>("node"),
+        options: place.options,
+        explains: matches.get_flag("explain"),
+        cleans: !matches.get_flag("no-clean"),
+        is_strict: matches.get_flag("strict"),
+    })
+}
+
+/// The call that was matched. `None` where a value is missing that each match has.
+fn hold_of<'a>(alloc: Global, matches: &ArgMatches<'a>) -> Result<Option<Asked<'a>>, AllocError> {
+    let terms = terms_of(alloc, matches)?;
+    Ok(hold_with(matches, terms))
+}
+
+/// The same with these terms.
+fn hold_with<'a>(matches: &ArgMatches<'a>, terms: Vec<&'a str>) -> Option<Asked<'a>> {
+    let place = making_place_of(matches)?;
+    let pattern = matches.get_str("pattern")?;
+    let how = matches.get_str("call")?;
+    let name = matches.get_str("name")?;
+    Some(Asked::Hold(Hold {
+        place,
+        node: matches.get_one::<u64>("node"),
+        pattern,
+        how,
+        name,
+        terms,
+    }))
+}
+
+/// The terms that were matched.
+fn terms_of<'a>(alloc: Global, matches: &ArgMatches<'a>) -> Result<Vec<&'a str>, AllocError> {
+    let mut terms = Vec::new(alloc);
+    if let Some(found) = matches.get_strs("terms") {
+        terms.extend_from_slice(found)?;
+    }
+    Ok(terms)
+}
+
+/// The look that was matched. `None` where a value is missing that each match has.
+fn look_of<'a>(matches: &ArgMatches<'a>) -> Option<Look<'a>>
+    ensures at { IfSome result (λ look. first_value (found_of matches.now) (codes "at") ≡ Some look.place.at.now) }
+{
+    Some(Look {
+        place: place_of(matches)?,
+        is_json: matches.get_flag("json"),
+    })
+}
+
+/// The service that was matched. `None` where a value is missing that each match has.
+fn show_of<'a>(matches: &ArgMatches<'a>) -> Option<Show<'a>>
+    ensures at { IfSome result (λ show.
+        first_value (found_of matches.now) (codes "at") ≡ Some show.look.place.at.now) }
+{
+    let look = look_of(matches)?;
+    let name = matches.get_str("name")?;
+    Some(Show {
+        look,
+        wanted: wanted(name, matches.get_str("pattern")),
+    })
+}
+
+/// The service of this name, and of the pattern that the word names, if there is one.
+fn wanted<'a>(name: &'a str, pattern: Option<&str>) -> Wanted<'a> {
+    match pattern {
+        Some("event") => Wanted::OfPattern(name, Pattern::Event),
+        Some("pubsub") => Wanted::OfPattern(name, Pattern::PublishSubscribe),
+        Some("rr") => Wanted::OfPattern(name, Pattern::RequestResponse),
+        _ => Wanted::Named(name),
+    }
+}
+
+/// The cleaning that was matched. `None` where a value is missing that each match has.
+fn clean_of<'a>(matches: &ArgMatches<'a>) -> Option<Clean<'a>>
+    ensures at { IfSome result (λ clean.
+        first_value (found_of matches.now) (codes "at") ≡ Some clean.place.at.now) }
+{
+    Some(Clean {
+        place: making_place_of(matches)?,
+        node: matches.get_one::<u64>("node"),
+        is_dry_run: matches.get_flag("dry-run"),
+    })
+}
+
+/// The look at entries that was matched. `None` where a value is missing that each match has.
+fn log_look_of<'a>(matches: &ArgMatches<'a>) -> Option<LogLook<'a>>
+    ensures at { IfSome result (λ look. first_value (found_of matches.now) (codes "at") ≡ Some look.place.at.now) }
+{
+    let place = place_of(matches)?;
+    let from = matches.get_one::<u64>("from")?;
+    Some(LogLook {
+        place,
+        follows: matches.get_flag("follow"),
+        is_diagram: matches.get_flag("diagram"),
+        from,
+    })
+}
+
+/// The log that was matched, which is made where there is none. `None` where a value is missing that each match has.
+fn making_place_of<'a>(matches: &ArgMatches<'a>) -> Option<Place<'a>>
+    ensures at { IfSome result (λ place. first_value (found_of matches.now) (codes "at") ≡ Some place.at.now) }
+{
+    let place = place_of(matches)?;
+    Some(Place {
+        at: place.at,
+        options: FileLogOptions {
+            synchronizes: matches.get_flag("sync"),
+            sharing: sharing_of(matches.get_flag("group")),
+            ..place.options
+        },
+    })
+}
+
+/// The log that was matched. `None` where a value is missing that each match has.
+fn place_of<'a>(matches: &ArgMatches<'a>) -> Option<Place<'a>>
+    ensures at { IfSome result (λ place. first_value (found_of matches.now) (codes "at") ≡ Some place.at.now) }
+{
+    let at = matches.get_str("at")?;
+    let wait = matches.get_one::<u64>("wait")?;
+    Some(Place {
+        at,
+        options: FileLogOptions {
+            patience: Duration::from_millis(wait),
+            creation_timeout: Duration::from_millis(500),
+            synchronizes: false,
+            sharing: Sharing::User,
+        },
+    })
+}
+
+/// Who may read and write a file that is made, by whether its group may.
+fn sharing_of(group: bool) -> Sharing
+    ensures { result ≡ cond group sharing.Group sharing.User }
+{
+    if group { Sharing::Group } else { Sharing::User }
+}

@@ -1,0 +1,175 @@
+//! Where the log lies that no word names.
+
+ghost use Rattle.std.specs.Prelude.{◌≡◌, IfOk, None, bytes_eq, cond, option_map, string_bytes};
+ghost use Rattle.wulameron_arguments.specs.Home.{default_path, log_in};
+
+use iceoryx2_file_log::error::{FileFault, system_fault};
+use std::alloc::{AllocError, Global};
+use std::env::{self, VarError};
+use std::fmt;
+use std::fs::{self, DirBuilder, File};
+use std::io::ErrorKind;
+use std::os::unix::fs::{DirBuilderExt, MetadataExt, PermissionsExt};
+use std::rt::{Env, Files};
+
+/// The variable of the environment that names the log.
+const LOG_VARIABLE: &str = "WULAMERON_LOG";
+
+/// The variable of the environment that names the folder of what a user's programs share until a restart.
+const RUNTIME_VARIABLE: &str = "XDG_RUNTIME_DIR";
+
+/// Whose owner is the user of this process.
+const OWN_PROCESS: &str = "/proc/self";
+
+/// The log that no word names.
+#[derive(Debug, Drop)]
+pub struct DefaultLog {
+    pub path: String,
+    /// The folder that has to be this user's. `None` where the environment names the log itself.
+    pub folder: Option<String>,
+}
+
+impl DefaultLog {
+    /// The folder that has to be this user's for a log of this path, where that is this log's.
+    pub fn folder_for(&self, path: &str) -> Option<&str>
+        ensures { option_map (λ folder. folder.now) result
+            ≡ cond (bytes_eq (string_bytes self.now.path) path.now) (option_map string_bytes self.now.folder) None }
+    {
+        if self.path.as_str() != path {
+            return None;
+        }
+        match &self.folder {
+            Some(folder) => Some(folder.as_str()),
+            None => None,
+        }
+    }
+}
+
+/// What the environment and the system tell of where a log may lie.
+#[derive(Debug, Drop)]
+struct Surroundings {
+    /// The log that is named.
+    named: Option<String>,
+    /// The folder of what a user's programs share.
+    runtime: Option<String>,
+    /// The number of the user.
+    user: Option<u32>,
+}
+
+/// Where the log lies that no word names: where the environment's `WULAMERON_LOG` names it, in `wulameron/log` in the
+/// folder of `XDG_RUNTIME_DIR`, or else in a folder of the user's under `/dev/shm`. `None` where none of these is known.
+/// A variable that is empty or isn't UTF-8 names nothing, and a folder has to be an absolute path.
+///
+/// `AllocError` where there is no memory.
+pub fn default_log<R: Env + Files<File = File> + AllocGlobal>(
+    rt: &R,
+) -> Result<Option<DefaultLog>, AllocError> {
+    let surroundings = Surroundings {
+        named: variable(rt, LOG_VARIABLE)?,
+        runtime: variable(rt, RUNTIME_VARIABLE)?.filter(|folder| folder.as_str().starts_with('/')),
+        user: user(rt),
+    };
+    default_log_in(rt.alloc(), surroundings)
+}
+
+/// The variable, where it is there and not empty.
+fn variable<R: Env + AllocGlobal>(rt: &R, name: &str) -> Result<Option<String>, AllocError> {
+    match env::var(rt, name) {
+        Ok(text) => Ok(Some(text).filter(|text| !text.as_str().is_empty())),
+        Err(VarError::OutOfMemory) => Err(AllocError),
+        Err(_) => Ok(None),
+    }
+}
+
+/// The number of this process's user, where the system tells it.
+fn user<R: Files<File = File>>(rt: &R) -> Option<u32> {
+    match fs::metadata(rt, OWN_PROCESS) {
+        Ok(metadata) => Some(metadata.uid()),
+        Err(_) => None,
+    }
+}
+
+/// Where the log lies by these.
+fn default_log_in(
+    alloc: Global,
+    surroundings: Surroundings,
+) -> Result<Option<DefaultLog>, AllocError>
+    ensures path { IfOk result (λ found. option_map (λ log. string_bytes log.path) found ≡ default_path surroundings) }
+{
+    let Surroundings {
+        named,
+        runtime,
+        user,
+    } = surroundings;
+    if let Some(path) = named {
+        return Ok(Some(DefaultLog { path, folder: None }));
+    }
+    if let Some(runtime) = runtime {
+        return Ok(Some(in_folder(alloc, format!(in alloc; "{runtime}/wulameron")?)?));
+    }
+    match user {
+        Some(user) => Ok(Some(in_folder(alloc, format!(in alloc; "/dev/shm/wulameron-{user}")?)?)),
+        None => Ok(None),
+    }
+}
+
+/// The log in this folder.
+fn in_folder(alloc: Global, folder: String) -> Result<DefaultLog, AllocError>
+    ensures path { IfOk result (λ log. string_bytes log.path ≡ log_in (string_bytes folder)) }
+{
+    let path = format!(in alloc; "{folder}/log")?;
+    Ok(DefaultLog {
+        path,
+        folder: Some(folder),
+    })
+}
+
+/// Why the folder of the log isn't used.
+#[derive(Clone, Copy, Debug, PartialEq, Eq)]
+pub enum FolderError {
+    /// Another user has it or may change it, or it is no folder.
+    NotOwn,
+    /// The system refused.
+    Refused(FileFault),
+}
+
+impl fmt::Display for FolderError {
+    ghost use Rattle.wulameron_arguments.specs.Home.{folder_error_text};
+
+    ghost output = { folder_error_text };
+
+    fn fmt<W: fmt::Write>(&self, f: &mut fmt::Formatter<W>) -> fmt::Result {
+        match self {
+            FolderError::NotOwn => write!(
+                f,
+                "is no folder of this user's alone; name a log with --at"
+            ),
+            FolderError::Refused(fault) => write!(f, "{fault}; name a log with --at"),
+        }
+    }
+}
+
+/// Makes the folder of the log where there is none, for this user alone. One that is there has to be this user's alone.
+///
+/// `NotOwn`, and `Refused` where the system refuses.
+pub fn make_folder<R: Files<File = File>>(rt: &R, folder: &str) -> Result<(), FolderError> {
+    match DirBuilder::new().mode(0o700).create(rt, folder) {
+        Ok(()) => Ok(()),
+        Err(error) if error.kind() == ErrorKind::AlreadyExists => test_folder(rt, folder),
+        Err(error) => Err(FolderError::Refused(system_fault(&error))),
+    }
+}
+
+/// Whether a folder is this user's alone.
+fn test_folder<R: Files<File = File>>(rt: &R, folder: &str) -> Result<(), FolderError> {
+    match fs::symlink_metadata(rt, folder) {
+        Ok(found) => {
+            let is_private = found.permissions().mode() & 0o077 == 0;
+            if found.is_dir() && is_private && user(rt) == Some(found.uid()) {
+                return Ok(());
+            }
+            Err(FolderError::NotOwn)
+        }
+        Err(error) => Err(FolderError::Refused(system_fault(&error))),
+    }
+}
