@@ -1,8 +1,8 @@
 -- Lists of slots, where one of them changes.
-use Rattle.std.proofs.Common.{◌≡◌, ◌≢◌, ℕ, zero, suc, List, [], ◌∷◌, Option, Some, None, replicate, ◌⊎◌, inl, inr, refl, ap, subst, arith}
-use Rattle.std.specs.Prelude.{slice_get, slice_set}
+use Rattle.std.proofs.Common.{◌≡◌, ◌≢◌, ◌<◌, ℕ, zero, suc, true, false, List, [], ◌∷◌, Option, Some, None, length, replicate, ◌⊎◌, inl, inr, refl, ap, subst, arith}
+use Rattle.std.specs.Prelude.{is_some, slice_get, slice_set}
 use Rattle.iceoryx2_access.specs.Registered.{Registered}
-use Rattle.iceoryx2_session.specs.Slots.{FreeAt, HoldsAt}
+use Rattle.iceoryx2_session.specs.Slots.{FreeAt, HoldsAt, held_at}
 
 is_value : {X : Type 0} (x y : X) (a b : Option X) → a ≡ Some x → b ≡ Some y → a ≡ b → x ≡ y
 is_value x y a b e f g = cc
@@ -30,6 +30,19 @@ pub set_here : {X : Type 0} (xs : List X) (i : ℕ) (v x : X) → slice_get xs i
 set_here [] i v x e = absurd cc
 set_here (y ∷ xs) zero v x e = refl
 set_here (y ∷ xs) (suc i) v x e = set_here xs i v x e
+
+-- a slot that holds nothing, or isn't there, stays as it is where nothing is put into it
+pub set_free : (slots : List (Option Registered)) (k : ℕ) → is_some (held_at slots k) ≡ false → slice_set slots k None ≡ slots
+set_free [] k free = refl
+set_free (None ∷ slots) zero free = refl
+set_free (Some f ∷ slots) zero free = absurd cc
+set_free (o ∷ slots) (suc k) free = ap (λ (l : List (Option Registered)). o ∷ l) (set_free slots k free)
+
+-- one that holds something is there
+pub held_below : (slots : List (Option Registered)) (k : ℕ) → is_some (held_at slots k) ≡ true → k < length slots
+held_below [] k held = absurd cc
+held_below (o ∷ slots) zero held = omega arith
+held_below (o ∷ slots) (suc k) held = omega (arith, held_below slots k held)
 
 pub set_there : {X : Type 0} (xs : List X) (i j : ℕ) (v : X) → j ≢ i
     → slice_get (slice_set xs i v) j ≡ slice_get xs j

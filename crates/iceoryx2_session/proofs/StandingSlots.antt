@@ -113,6 +113,19 @@ module _ {own : ℕ → Bool} {w v : World} {slots : List (Option Registered)} (
     ];
   }
 
+-- and after one of them is let go of, the others
+pub dropped_stand : {own : ℕ → Bool} {w : World} {slots : List (Option Registered)} → SlotsStandUnder own w slots → (k : ℕ) → SlotsStandUnder own w (slice_set slots k None)
+dropped_stand {slots = slots} old k =
+    let before : (j : ℕ) (f : Registered) → HoldsAt (slice_set slots k None) j f → HoldsAt slots j f = λ j f at. elim (set_cases slots k j None (Some f) at) [
+      | inl e ↦ absurd (no_factory f (sym e.1))
+      | inr e ↦ e.1
+    ] in
+    record {
+      of_own = λ j f at. old.of_own j f (before j f at);
+      stand = λ j f at. old.stand j f (before j f at);
+      apart = λ i j f g at_i at_j same. old.apart i j f g (before i f at_i) (before j g at_j) same;
+    }
+
 pub none_stand : (own : ℕ → Bool) (w : World) (slots : List (Option Registered)) → slots ≡ replicate slot_count None → SlotsStandUnder own w slots
 none_stand own w slots e =
     let nothing : (k : ℕ) (f : Registered) → HoldsAt slots k f → ⊥ = λ k f at. none_held slot_count k f (subst (λ (l : List (Option Registered)). HoldsAt l k f) e at) in

@@ -82,6 +82,7 @@ fn close_slot<S: Storage>(slots: &mut Slots, slot: usize, storage: &mut S)
 }
 
 impl<S: WorldStorage> Session<S> {
+    ghost use Rattle.std.specs.Prelude.{is_some, option_copied};
     ghost use Rattle.iceoryx2_access.specs.Run.{Each};
     ghost use Rattle.iceoryx2_world.specs.Across.{Agrees};
     ghost use Rattle.iceoryx2_world.specs.Interference.{Rely};
@@ -91,6 +92,7 @@ impl<S: WorldStorage> Session<S> {
     ghost use Rattle.iceoryx2_session.specs.Promised.{CallsAsPromisedInWorld};
     ghost use Rattle.iceoryx2_session.specs.SessionStates.{own_nodes, own_state, world_state};
     ghost use Rattle.iceoryx2_session.specs.Sessions.{ClosesSlotsBy, ClosesSlotsInWorld, GoesBy, GoesInWorld};
+    ghost use Rattle.iceoryx2_session.specs.Slots.{held_at};
     ghost use Rattle.iceoryx2_session.specs.StandingSlots.{GoesStandingInWorld, IsOfOwn, OwnsTicketsInWorld};
     ghost use Rattle.iceoryx2_session.specs.StandingSlots.{SlotsStandInWorld};
 
@@ -312,6 +314,38 @@ impl<S: WorldStorage> Session<S> {
         ensures { result.now ≡ (own_state self.now).table }
     {
         &self.storage
+    }
+
+    /// What the slot holds: the node, and what it and its service agreed on. `None` where the slot is free, and past
+    /// slot 63.
+    pub fn registration(&self, slot: usize) -> Option<&Registration>
+        ensures { option_copied result ≡ held_at (own_state self.now).slots slot }
+    {
+        self.slots.get(slot)
+    }
+
+    /// Lets go of what the slot holds without an access, and gives whether it held something. The slot is free then.
+    /// The node keeps its place at the service, until it is cleaned.
+    pub fn abandon(&mut self, slot: usize) -> bool
+        ensures held { result ≡ is_some (held_at (own_state self.old).slots slot) }
+
+        // The storage stays as it was, and so do the other slots.
+        ensures after { own_state self.new ≡ record (own_state self.old) {
+          slots = slice_set (own_state self.old).slots slot None;
+        } }
+
+        // So the factories of the other slots stand as before.
+        ensures stands { let own = own_nodes S.own self.old in
+            SlotsStandInWorld own (world_state S.world self.old)
+            → SlotsStandInWorld own (world_state S.world self.new) }
+    {
+        match self.slots.remove(slot) {
+            Some(registration) => {
+                registration.abandon();
+                true
+            }
+            None => false,
+        }
     }
 
     /// Closes the factories of all slots, in ascending order, and gives the storage back. What it refused to release

@@ -48,7 +48,8 @@ fn abandon_all(places: [Option<Registration>; SLOTS]) {
 
 impl Slots {
     ghost use Rattle.iceoryx2_commands.specs.Commands.{slot_count};
-    ghost use Rattle.iceoryx2_session.specs.Slots.{FreeAt, TakenAt};
+    ghost use Rattle.std.specs.Prelude.{is_some, option_copied};
+    ghost use Rattle.iceoryx2_session.specs.Slots.{FreeAt, TakenAt, held_at};
 
     /// Slots that are all free.
     pub fn new() -> Slots
@@ -69,6 +70,28 @@ impl Slots {
         }
     }
 
+    /// What the slot holds, where there is such a slot.
+    pub fn get(&self, slot: usize) -> Option<&Registration>
+        ensures value { option_copied result ≡ held_at self.now slot }
+        ensures length { length self.now ≡ slot_count }
+    {
+        match self.places.get(slot) {
+            Some(place) => place.as_ref(),
+            None => None,
+        }
+    }
+
+    /// Whether there is such a slot, and it holds something.
+    fn holds(&self, slot: usize) -> bool
+        ensures value { result ≡ is_some (held_at self.now slot) }
+        ensures length { length self.now ≡ slot_count }
+    {
+        match self.get(slot) {
+            Some(_) => true,
+            None => false,
+        }
+    }
+
     /// What the slot holds. It is free then.
     pub fn take(&mut self, slot: usize) -> Option<Registration>
         requires { slot < slot_count }
@@ -76,6 +99,17 @@ impl Slots {
         ensures after { self.new ≡ slice_set self.old slot None }
     {
         self.places[slot].take()
+    }
+
+    /// What the slot holds, where there is such a slot. It is free then.
+    pub fn remove(&mut self, slot: usize) -> Option<Registration>
+        ensures value { result ≡ held_at self.old slot }
+        ensures after { self.new ≡ slice_set self.old slot None }
+    {
+        if self.holds(slot) {
+            return self.take(slot);
+        }
+        None
     }
 
     /// Puts a registration into a free slot.
