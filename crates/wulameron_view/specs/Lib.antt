@@ -1,9 +1,11 @@
 pub mod Data
 pub mod Escapes
 pub mod ListTexts
+pub mod Looking
 pub mod Nodes
 pub mod Services
 pub mod Settings
 pub mod ShowTexts
 pub mod States
 pub mod Tables
+pub mod Viewing

@@ -276,7 +276,8 @@ fn write_member_with(state: &str, member: &Member, text: &mut String) -> Result<
     writeln!(text, "node {node}: {factories} factories, {state}")
 }
 
-fn word_of(state: NodeState) -> &'static str
+/// Whether a node is alive, in a word.
+pub(crate) fn word_of(state: NodeState) -> &'static str
     ensures { result.now ≡ state_text state }
 {
     match state {

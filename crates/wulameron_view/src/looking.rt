@@ -1,0 +1,237 @@
+//! Which services there are over a journal, and what was agreed of one: nothing is claimed, made or appended.
+
+ghost use Rattle.std.specs.Prelude.{◌≡◌, IfErr, IfOk, string_bytes};
+ghost use Rattle.std.specs.List.{filter};
+ghost use Rattle.wulameron_view.specs.Looking.{IsListed, IsShown, IsUnshown, LooksAt, NeverUnshown};
+ghost use Rattle.wulameron_view.specs.Looking.{KeepsWhy, WritesMade, is_of, is_wanted as is_wanted_spec};
+ghost use Rattle.wulameron_view.specs.Looking.{list_printed, look_status, show_printed};
+
+use crate::list_json::list_json;
+use crate::list_text::list_text;
+use crate::services::{Service, Services, services_of};
+use crate::show_json::show_json;
+use crate::show_text::show_text;
+use iceoryx2_description::description::MessagingPattern;
+use iceoryx2_journal::journal::Journal;
+use iceoryx2_log::log::Log;
+use iceoryx2_monitoring::state::NodeStatus;
+use iceoryx2_table::table::stored::StoredWorld;
+use negotiate_serve::ending::{DONE, FAULT, Fault};
+use negotiate_serve::output::say;
+use std::alloc::{AllocError, Global};
+use std::io::Write;
+use wulameron_arguments::asked::{Pattern, Wanted};
+
+/// The status where what was asked for isn't there, or is refused.
+pub const REFUSED: u8 = 1;
+
+/// Why nothing, or not all, is printed.
+#[derive(Clone, Copy, Debug, PartialEq, Eq)]
+pub enum LookError {
+    /// The log can't be held or read, or not be followed.
+    Unread,
+    /// No service is the wanted one.
+    NoService,
+    /// Several services are.
+    SeveralServices,
+    /// The output refused, or there was no memory.
+    Failed(Fault),
+}
+
+impl From<AllocError> for LookError {
+    ghost use Rattle.negotiate_serve.specs.declared.ending.Fault.TheVariants as fault;
+    ghost use Rattle.wulameron_view.specs.declared.looking.LookError.TheVariants as look;
+
+    ghost from_gives = { λ error given. given ≡ look.Failed fault.OutOfMemory };
+
+    fn from(_: AllocError) -> LookError {
+        LookError::Failed(Fault::OutOfMemory)
+    }
+}
+
+/// The status with which a look ends: 0, 1 where not one service is the wanted one, and else 3.
+pub fn status_of_look(looked: Result<(), LookError>) -> u8
+    ensures { result ≡ look_status looked }
+{
+    match looked {
+        Ok(()) => DONE,
+        Err(LookError::NoService) => REFUSED,
+        Err(LookError::SeveralServices) => REFUSED,
+        Err(LookError::Unread) => FAULT,
+        Err(LookError::Failed(_)) => FAULT,
+    }
+}
+
+// ---- which one
+
+/// Whether the pattern is this one.
+fn is_of_pattern(wanted: Pattern, pattern: &MessagingPattern) -> bool
+    ensures { result ≡ is_of wanted pattern.now }
+{
+    match (wanted, pattern) {
+        (Pattern::Event, MessagingPattern::Event(_)) => true,
+        (Pattern::PublishSubscribe, MessagingPattern::PublishSubscribe(_)) => true,
+        (Pattern::RequestResponse, MessagingPattern::RequestResponse(_)) => true,
+        _ => false,
+    }
+}
+
+/// Whether the service is the wanted one.
+fn is_wanted(wanted: Wanted<'_>, service: &Service) -> bool
+    ensures { result ≡ is_wanted_spec wanted.entry service.now }
+{
+    match wanted {
+        Wanted::Named(name) => service.description.name().as_str() == name,
+        Wanted::OfPattern(name, pattern) => {
+            let is_named = service.description.name().as_str() == name;
+            is_named && is_of_pattern(pattern, service.description.messaging_pattern())
+        }
+        Wanted::Numbered(number) => service.number == number,
+    }
+}
+
+/// Leaves those that are wanted, in their order.
+fn keep_wanted(wanted: Wanted<'_>, services: &mut Vec<Service>)
+    ensures { services.new.items ≡ filter (is_wanted_spec wanted.entry) services.old.items }
+{
+    services.retain(|service| is_wanted(wanted, service));
+}
+
+// ---- the texts
+
+/// What is printed of these services.
+fn list_all(
+    alloc: Global,
+    states: &[NodeStatus],
+    services: &Services,
+    is_json: bool,
+) -> Result<String, AllocError>
+    ensures { IfOk result (λ text. string_bytes text ≡ list_printed is_json states.now services.now) }
+{
+    let mut text = String::new(alloc);
+    if is_json {
+        list_json(states, services, &mut text)?;
+    } else {
+        list_text(services, &mut text)?;
+    }
+    Ok(text)
+}
+
+/// What is printed of the services of a world. `Failed(OutOfMemory)` where there is no memory.
+fn list_in(
+    alloc: Global,
+    states: &[NodeStatus],
+    world: &StoredWorld,
+    is_json: bool,
+) -> Result<String, LookError>
+    ensures listed { IfOk result (λ text. IsListed is_json states.now world.now (string_bytes text)) }
+    ensures unlisted { IfErr result (NeverUnshown world.now) }
+{
+    let services = services_of(alloc, world)?;
+    Ok(list_all(alloc, states, &services, is_json)?)
+}
+
+/// What is printed of a service.
+fn show_one(
+    alloc: Global,
+    states: &[NodeStatus],
+    service: &Service,
+    is_json: bool,
+) -> Result<String, AllocError>
+    ensures { IfOk result (λ text. string_bytes text ≡ show_printed is_json states.now service.now) }
+{
+    let mut text = String::new(alloc);
+    if is_json {
+        show_json(states, service, &mut text)?;
+    } else {
+        show_text(states, service, &mut text)?;
+    }
+    Ok(text)
+}
+
+/// What is printed of the wanted service of a world: lines, or JSON. Of the nodes these states are known.
+///
+/// `NoService` and `SeveralServices` where not one is wanted, `Failed(OutOfMemory)` where there is no memory.
+pub fn show_in(
+    alloc: Global,
+    states: &[NodeStatus],
+    world: &StoredWorld,
+    wanted: Wanted<'_>,
+    is_json: bool,
+) -> Result<String, LookError>
+    ensures shown { IfOk result (λ text. IsShown is_json states.now world.now wanted.entry (string_bytes text)) }
+    ensures unshown { IfErr result (IsUnshown world.now wanted.entry) }
+{
+    let mut services = services_of(alloc, world)?;
+    keep_wanted(wanted, &mut services.published);
+    match services.published.as_slice() {
+        [] => Err(LookError::NoService),
+        [service] => Ok(show_one(alloc, states, service, is_json)?),
+        _ => Err(LookError::SeveralServices),
+    }
+}
+
+/// Writes a text that was made on the output. Where it wasn't made, nothing is written, and the reason is the same.
+///
+/// `Failed` where the output refuses; it has a front of the text then.
+pub fn print<W: Write>(made: Result<String, LookError>, output: &mut W) -> Result<(), LookError>
+    ensures said { IfOk made (λ text. WritesMade (string_bytes text) result
+        (W.contents output.old) (W.contents output.new)) }
+    ensures why { IfErr made (λ why. KeepsWhy why result (W.contents output.old) (W.contents output.new)) }
+{
+    match made {
+        Err(why) => Err(why),
+        Ok(text) => match say(text.as_bytes(), output) {
+            Ok(()) => Ok(()),
+            Err(fault) => Err(LookError::Failed(fault)),
+        },
+    }
+}
+
+// ---- over a journal
+
+/// Takes over all that others appended, and prints which services there are then, as a table or as JSON. Of the nodes
+/// these states are known.
+///
+/// `Unread` where not all can be taken over, and nothing is printed; `Failed` where the output refuses, or there is no
+/// memory.
+pub fn print_list<L: Log, W: Write>(
+    alloc: Global,
+    journal: &mut Journal<L>,
+    states: &[NodeStatus],
+    is_json: bool,
+    output: &mut W,
+) -> Result<(), LookError>
+    ensures { LooksAt L.contents (IsListed is_json states.now) NeverUnshown
+        journal.old journal.new result (W.contents output.old) (W.contents output.new) }
+{
+    if !journal.catch_up() {
+        return Err(LookError::Unread);
+    }
+    print(list_in(alloc, states, journal.world(), is_json), output)
+}
+
+/// Takes over all that others appended, and prints all that is known of the wanted service then, as lines or as JSON.
+///
+/// `Unread` where not all can be taken over, `NoService` and `SeveralServices` where not one is wanted, and nothing is
+/// printed; `Failed` where the output refuses, or there is no memory.
+pub fn print_show<L: Log, W: Write>(
+    alloc: Global,
+    journal: &mut Journal<L>,
+    states: &[NodeStatus],
+    wanted: Wanted<'_>,
+    is_json: bool,
+    output: &mut W,
+) -> Result<(), LookError>
+    ensures { LooksAt L.contents (λ w text. IsShown is_json states.now w wanted.entry text)
+        (λ w why. IsUnshown w wanted.entry why)
+        journal.old journal.new result (W.contents output.old) (W.contents output.new) }
+{
+    if !journal.catch_up() {
+        return Err(LookError::Unread);
+    }
+    print(
+        show_in(alloc, states, journal.world(), wanted, is_json),
+        output,
+    )
+}
