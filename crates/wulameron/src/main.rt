@@ -11,8 +11,9 @@ use wulameron_arguments::arguments::arguments;
 use wulameron_arguments::asked::Asked;
 use wulameron_arguments::home::{DefaultLog, default_log, make_folder};
 use wulameron_serve::run::run;
-use wulameron_serve::upkeep::{clean, nodes};
+use wulameron_serve::upkeep::clean;
 use wulameron_trouble::trouble::report_wrong;
+use wulameron_view::viewing::{list, nodes, show};
 
 /// Prints what the words asked for, or what is wrong with them, and gives the status.
 fn print(rt: &HostRuntime, error: &Error) -> u8 {
@@ -54,6 +55,8 @@ fn answer(rt: &HostRuntime, asked: Asked<'_>) -> u8 {
     let mut output = io::writer(rt);
     match asked {
         Asked::Run(asked) => run(rt, &asked, rt.reader(), &mut output, &mut rt.stderr()),
+        Asked::List(look) => list(&rt, &look, &mut output, &mut rt.stderr()),
+        Asked::Show(asked) => show(&rt, &asked, &mut output, &mut rt.stderr()),
         Asked::Nodes(look) => nodes(&rt, &look, &mut output, &mut rt.stderr()),
         Asked::Clean(asked) => clean(&rt, &asked, &mut output, &mut rt.stderr()),
         _ => NOT_A_COMMAND,
