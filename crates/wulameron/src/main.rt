@@ -10,8 +10,8 @@ use std::{env, io};
 use wulameron_arguments::arguments::arguments;
 use wulameron_arguments::asked::Asked;
 use wulameron_arguments::home::{DefaultLog, default_log, make_folder};
+use wulameron_clean::clean::clean;
 use wulameron_serve::run::run;
-use wulameron_serve::upkeep::clean;
 use wulameron_trouble::trouble::report_wrong;
 use wulameron_view::viewing::{list, nodes, show};
 

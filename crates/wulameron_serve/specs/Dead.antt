@@ -1,9 +1,5 @@
 -- Which refusals may come of a dead node.
 use Rattle.std.specs.Prelude.{Bool, true, false}
-use Rattle.iceoryx2_monitoring.specs.declared.error.MonitoringFault.{MonitoringFault}
-use Rattle.iceoryx2_monitoring.specs.declared.error.MonitoringFault.TheVariants as fault
-use Rattle.wulameron_serve.specs.declared.dead.Unclaimed.{Unclaimed}
-use Rattle.wulameron_serve.specs.declared.dead.Unclaimed.TheVariants as unclaimed
 use Rattle.iceoryx2_commands.specs.declared.command.Refusal.{Refusal}
 use Rattle.iceoryx2_commands.specs.declared.command.Refusal.TheVariants as refusal
 use Rattle.iceoryx2_commands.specs.declared.command.Reply.{Reply}
@@ -78,11 +74,6 @@ abbrev pub blocks_request_response_open_or_create : RequestResponseOpenOrCreateE
 blocks_request_response_open_or_create (request_either.RequestResponseOpenError e) = blocks_request_response_open e
 blocks_request_response_open_or_create (request_either.RequestResponseCreateError e) = blocks_request_response_create e
 blocks_request_response_open_or_create request_either.SystemInFlux = true
-
--- why a node isn't claimed, by the fault of its file
-abbrev pub unclaimed_by : MonitoringFault → Unclaimed
-unclaimed_by (fault.NodeIsAlive i) = unclaimed.IsAlive
-unclaimed_by other = unclaimed.Refused
 
 -- A dead node may be the reason of the refusal.
 abbrev pub blocks : Refusal → Bool

@@ -1,4 +1,4 @@
--- What is said of nodes, and of what they left.
+-- What is said of nodes.
 use Rattle.std.specs.Prelude.{ℕ, List, ◌++◌, codes, decimal}
 use Rattle.iceoryx2_monitoring.specs.declared.state.NodeState.{NodeState}
 use Rattle.iceoryx2_monitoring.specs.declared.state.NodeState.TheVariants as state

@@ -1,8 +1,8 @@
-//! Nodes whose processes are gone, and what these left.
+//! Which refusals may come of dead nodes, and what is done about it.
 
 ghost use Rattle.std.specs.Prelude.{◌≡◌};
 ghost use Rattle.iceoryx2_session.specs.SessionStates.{own_state};
-ghost use Rattle.wulameron_serve.specs.Dead.{blocks, is_blocked as is_blocked_spec, unclaimed_by};
+ghost use Rattle.wulameron_serve.specs.Dead.{blocks, is_blocked as is_blocked_spec};
 ghost use Rattle.wulameron_serve.specs.Dead.{blocks_event_create, blocks_event_open, blocks_event_open_or_create};
 ghost use Rattle.wulameron_serve.specs.Dead.{blocks_publish_subscribe_create, blocks_publish_subscribe_open};
 ghost use Rattle.wulameron_serve.specs.Dead.{blocks_publish_subscribe_open_or_create};
@@ -16,92 +16,11 @@ use iceoryx2_errors::error::{
     PublishSubscribeOpenError, PublishSubscribeOpenOrCreateError, RequestResponseCreateError,
     RequestResponseOpenError, RequestResponseOpenOrCreateError,
 };
-use iceoryx2_file_log::options::Sharing;
 use iceoryx2_journal::cleaning::{CleanError, Cleaned};
-use iceoryx2_monitoring::error::MonitoringFault;
-use iceoryx2_monitoring::state::{NodeState, NodeStatus, list};
-use iceoryx2_monitoring::token::{Token, claim};
 use iceoryx2_session::session::Session;
 use iceoryx2_session::world_storage::WorldStorage;
 use std::alloc::Global;
-use std::fs::File;
-use std::random::RandomSource;
-use std::rt::Files;
-use std::time::Clock;
-
-/// Who finds nodes that are dead, and claims them.
-pub trait DeadNodes {
-    /// What keeps others from claiming a node, until it is dropped.
-    type Claim: Drop;
-
-    /// Nodes that were dead a moment ago. Those are left out that can't be had.
-    fn found(&self, alloc: Global) -> Vec<u64>;
-
-    /// Claims a node, where it is dead still.
-    fn claim(&self, node: u64) -> Result<Self::Claim, Unclaimed>;
-}
-
-/// Why a node isn't claimed.
-#[derive(Clone, Copy, Debug, PartialEq, Eq)]
-pub enum Unclaimed {
-    /// It is alive, or another has claimed it meanwhile.
-    IsAlive,
-    /// Its file refused.
-    Refused,
-}
-
-/// Why a node isn't claimed whose file refused so.
-fn why_unclaimed(fault: MonitoringFault) -> Unclaimed
-    ensures { result ≡ unclaimed_by fault }
-{
-    match fault {
-        MonitoringFault::NodeIsAlive { node: _ } => Unclaimed::IsAlive,
-        _ => Unclaimed::Refused,
-    }
-}
-
-/// The nodes by their files beside a log. Where nothing is to be cleaned up it finds none.
-#[derive(Drop)]
-pub struct NodeFiles<'a, F> {
-    pub rt: &'a F,
-    /// The path of the log.
-    pub path: &'a str,
-    pub sharing: Sharing,
-    pub cleans: bool,
-}
-
-/// The dead ones, as far as there is memory.
-pub fn dead_of(alloc: Global, nodes: &[NodeStatus]) -> Vec<u64> {
-    let mut dead = Vec::new(alloc);
-    for status in nodes {
-        if status.state == NodeState::Dead {
-            let _ = dead.push(status.node);
-        }
-    }
-    dead
-}
-
-impl<'a, F: Files<File = File> + Clock + RandomSource + AllocGlobal> DeadNodes
-    for NodeFiles<'a, F> {
-    type Claim = Token;
-
-    fn found(&self, alloc: Global) -> Vec<u64> {
-        if !self.cleans {
-            return Vec::new(alloc);
-        }
-        match list(self.rt, self.path) {
-            Ok(nodes) => dead_of(alloc, &nodes),
-            Err(_) => Vec::new(alloc),
-        }
-    }
-
-    fn claim(&self, node: u64) -> Result<Token, Unclaimed> {
-        match claim(self.rt, self.path, node, self.sharing) {
-            Ok(token) => Ok(token),
-            Err(error) => Err(why_unclaimed(error.fault())),
-        }
-    }
-}
+use wulameron_clean::dead::DeadNodes;
 
 // Whether a dead node may be the reason.
 fn event_open_is_blocked(error: EventOpenError) -> bool

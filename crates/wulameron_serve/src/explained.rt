@@ -181,22 +181,13 @@ pub fn explanations<S: Storage>()
         → BeginsAsAnswered S.step world own node old line c text new }
 {}
 
-// What goes wrong at what is traced does so at the storage inside.
-impl<S: Troubled> Troubled for Traced<S> {
-    ghost trouble = { λ traced. S.trouble traced.inner };
-
-    fn trouble(&self) -> Option<Trouble> {
-        self.inner().trouble()
-    }
-}
-
 impl<S: WorldStorage + Troubled> Troubled for ExplainedAnswerer<S> {
     ghost use Rattle.iceoryx2_session.specs.SessionStates.{own_state};
 
     ghost trouble = { λ answerer. S.trouble (own_state answerer.session).table.inner };
 
     fn trouble(&self) -> Option<Trouble> {
-        self.storage().trouble()
+        self.storage().inner().trouble()
     }
 }
 
@@ -263,7 +254,7 @@ fn serve_traced<S: WorldStorage + Troubled + Drop, R: Read + Drop, W: Write, E: 
                 watch,
                 wrong_lines,
             );
-            let _ = watch.look(&traced, errors);
+            let _ = watch.look(traced.inner(), errors);
             ended
         }
         Err(_) => Err(Halt::Serving(Fault::OutOfMemory)),

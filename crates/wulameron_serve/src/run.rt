@@ -1,16 +1,16 @@
 //! The whole program: an input in, its answers out, over the log in a file.
 
-ghost use Rattle.std.specs.Prelude.{◌≡◌, ◌⊎◌, ℕ, List, Err, Some, true};
+ghost use Rattle.std.specs.Prelude.{◌≡◌, ◌⊎◌, ℕ, List, Err, IfOk, IfSome, Some, true};
 ghost use Rattle.iceoryx2_world.specs.Across.{Agrees};
 ghost use Rattle.wulameron_serve.specs.Lines.{is_not_started, status_with, wrong_lines_of};
 ghost use Rattle.wulameron_serve.specs.Served.{Serves, ServesLog};
 
-use crate::dead::{DeadNodes, NodeFiles};
 use crate::explained::serve_log_explained;
 use crate::lines::{Halt, serve_until};
 use crate::shared::SharedAnswerer;
 use crate::starting::start;
 use iceoryx2_file_log::file_log::FileLog;
+use iceoryx2_file_log::options::Sharing;
 use iceoryx2_journal::journal::Journal;
 use iceoryx2_monitoring::error::MonitoringError;
 use iceoryx2_monitoring::token::{Token, claim, claim_free};
@@ -26,6 +26,7 @@ use std::random::RandomSource;
 use std::rt::Files;
 use std::time::Clock;
 use wulameron_arguments::asked::Run;
+use wulameron_clean::dead::{DeadNodes, NodeFiles};
 use wulameron_trouble::trouble::{
     Refusing, Trouble, Troubled, Watch, report_claim, report_trouble,
 };
@@ -40,7 +41,7 @@ pub fn run<
     E: Write,
 >(rt: F, run: &Run<'_>, input: R, output: &mut W, errors: &mut E) -> u8 {
     let alloc = rt.alloc();
-    match claimed(&rt, run) {
+    match claimed(&rt, run.at, run.node, run.options.sharing) {
         Ok(token) => {
             let node = token.node();
             if run.node.is_none() {
@@ -70,14 +71,18 @@ fn report_node<E: Write>(
     }
 }
 
-/// The claim of the node that is named, or of the lowest that is free.
-fn claimed<F: Files<File = File> + Clock + RandomSource + AllocGlobal>(
+/// The claim of the node that is named beside the log of this path, or of the lowest that is free.
+pub fn claimed<F: Files<File = File> + Clock + RandomSource + AllocGlobal>(
     rt: &F,
-    run: &Run<'_>,
-) -> Result<Token, MonitoringError> {
-    match run.node {
-        Some(node) => claim(rt, run.at, node, run.options.sharing),
-        None => claim_free(rt, run.at, run.options.sharing),
+    path: &str,
+    node: Option<u64>,
+    sharing: Sharing,
+) -> Result<Token, MonitoringError>
+    ensures named { IfOk result (λ token. IfSome node (λ named. token.node ≡ named)) }
+{
+    match node {
+        Some(node) => claim(rt, path, node, sharing),
+        None => claim_free(rt, path, sharing),
     }
 }
 

@@ -10,7 +10,7 @@ ghost use Rattle.negotiate_lines.specs.declared.line.Line.TheVariants as said;
 ghost use Rattle.negotiate_lines.specs.Lines.{IsLine};
 ghost use Rattle.wulameron_serve.specs.Shared.{AnswersFor, Refreshes, SaysAgain, StandsFor, fresh_session, not_ours};
 
-use crate::dead::{DeadNodes, clean_dead, is_blocked};
+use crate::dead::{clean_dead, is_blocked};
 use iceoryx2_commands::command::{Call, Command, Reply};
 use iceoryx2_description::config::Config;
 use iceoryx2_session::session::Session;
@@ -19,6 +19,7 @@ use negotiate_lines::line::{self, Line};
 use negotiate_serve::answerer::Answerer;
 use negotiate_serve::reply::describe;
 use std::alloc::{AllocError, Global};
+use wulameron_clean::dead::DeadNodes;
 use wulameron_trouble::trouble::{Trouble, Troubled};
 
 /// Writes that a line names another node. `AllocError` where there is no memory for the text.
@@ -156,7 +157,7 @@ impl<S: WorldStorage, D: DeadNodes + Drop> SharedAnswerer<S, D> {
 }
 
 /// The call of a line, where it is one in the name of this node and there is memory for it.
-fn call_of(alloc: Global, line: &[u8], node: u64) -> Option<Call>
+pub fn call_of(alloc: Global, line: &[u8], node: u64) -> Option<Call>
     ensures { IfSome result (λ call. IsLine line.now (said.Command (command.Call call)) × (call.node ≡ node)) }
 {
     match line::parse(alloc, line) {

@@ -3,7 +3,7 @@ use Rattle.iceoryx2_journal.specs.Journal.{JournalState}
 use Rattle.iceoryx2_journal.specs.Taking.{is_own}
 use Rattle.iceoryx2_world.specs.Interference.{Rely}
 use Rattle.iceoryx2_world.proofs.agreement.Interference.{rely_both}
-use Rattle.wulameron_serve.proofs.upkeep.clean_nodes.Goals as goal
+use Rattle.wulameron_clean.proofs.clean.clean_nodes.Goals as goal
 
 -- what one node after another was cleaned up for keeps
 more_kept : {L : Type 0} (a b c : JournalState L) → Rely (is_own a.nodes) a.world b.world → b.nodes ≡ a.nodes → Rely (is_own b.nodes) b.world c.world → Rely (is_own a.nodes) a.world c.world

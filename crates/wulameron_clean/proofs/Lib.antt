@@ -1,0 +1,2 @@
+pub mod Rehearsing
+pub mod Rehearsals

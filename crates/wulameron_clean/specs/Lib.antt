@@ -1,0 +1,4 @@
+pub mod Clean
+pub mod Dead
+pub mod Rehearsal
+pub mod Texts
