@@ -10,7 +10,7 @@ ghost use Rattle.wulameron_trail.specs.Changes.{happened as happened_spec};
 ghost use Rattle.wulameron_trail.specs.Changes.{change_data as data_of};
 ghost use Rattle.serde_json.specs.View.{view};
 
-use crate::descriptions::{read, term_of};
+use crate::descriptions::read;
 use crate::entries::pattern_and_name;
 use iceoryx2_description::description::{ServiceHash, StaticConfig};
 use iceoryx2_log::entry::Entry;
@@ -19,6 +19,7 @@ use iceoryx2_table::table::stored::StoredWorld;
 use iceoryx2_world::world::Phase;
 use serde_json::{Value, json};
 use std::alloc::{AllocError, Global};
+use wulameron_view::list_text::term_of;
 
 /// A service that is published.
 #[derive(Debug, Drop)]

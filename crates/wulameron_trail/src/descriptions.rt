@@ -1,11 +1,10 @@
 //! Reading descriptions that are published.
 
-ghost use Rattle.std.specs.Prelude.{◌≡◌, IfOk};
-ghost use Rattle.wulameron_view.specs.ListTexts.{pattern_term};
+ghost use Rattle.std.specs.Prelude.{IfOk};
 ghost use Rattle.wulameron_trail.specs.Descriptions.{IsRead};
 
 use iceoryx2_byte_form::bytes::{DecodeError, decode};
-use iceoryx2_description::description::{MessagingPattern, StaticConfig};
+use iceoryx2_description::description::StaticConfig;
 use std::alloc::{AllocError, Global};
 
 /// The description whose byte form the bytes are. `None` where they are no description's. `AllocError` where there is
@@ -17,16 +16,5 @@ pub(crate) fn read(alloc: Global, bytes: &[u8]) -> Result<Option<StaticConfig>, 
         Ok(description) => Ok(Some(description)),
         Err(DecodeError::Malformed) => Ok(None),
         Err(DecodeError::OutOfMemory) => Err(AllocError),
-    }
-}
-
-/// The term by which a pattern's command lines begin.
-pub(crate) fn term_of(pattern: &MessagingPattern) -> &'static str
-    ensures { result.now ≡ pattern_term pattern.now }
-{
-    match pattern {
-        MessagingPattern::Event(_) => "event",
-        MessagingPattern::PublishSubscribe(_) => "pubsub",
-        MessagingPattern::RequestResponse(_) => "rr",
     }
 }

@@ -6,11 +6,12 @@ ghost use Rattle.wulameron_view.specs.Escapes.{escaped};
 ghost use Rattle.wulameron_trail.specs.EntryTexts.{AddsEntryLine, IsDone, doer as doer_text};
 ghost use Rattle.wulameron_trail.specs.EntryTexts.{published_as as published_text, publishing_text as publishing_line};
 
-use crate::descriptions::{read, term_of};
+use crate::descriptions::read;
 use iceoryx2_description::description::StaticConfig;
 use iceoryx2_log::entry::{Deed, Entry};
 use std::alloc::{AllocError, Global};
 use wulameron_view::escape::escape;
+use wulameron_view::list_text::term_of;
 
 /// Writes the line of an entry, which has this number in its log, counted from 0: the number, the node, what it did,
 /// the service's hash, and the entry's numbers; of a publishing the pattern and the name too, without control

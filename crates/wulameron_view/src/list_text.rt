@@ -211,7 +211,7 @@ fn widest(lines: &[Line], column: Column) -> usize
 }
 
 /// The term by which a pattern's command lines begin.
-pub(crate) fn term_of(pattern: &MessagingPattern) -> &'static str
+pub fn term_of(pattern: &MessagingPattern) -> &'static str
     ensures { result.now ≡ pattern_term pattern.now }
 {
     match pattern {
