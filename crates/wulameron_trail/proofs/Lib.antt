@@ -1,1 +1,4 @@
+pub mod Pieces
+pub mod Showings
+pub mod Shown
 pub mod Walking

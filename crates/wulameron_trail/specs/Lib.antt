@@ -1,7 +1,13 @@
 pub mod Changes
 pub mod Checking
+pub mod Commands
 pub mod Descriptions
 pub mod Drawings
 pub mod EntryTexts
+pub mod Pieces
+pub mod Showing
+pub mod Showings
 pub mod Steps
+pub mod Stopping
+pub mod Unread
 pub mod VerdictTexts

@@ -124,7 +124,7 @@ fn fits(snapshot: u64, at: u64, count: u64) -> bool
 }
 
 /// Whether the deed is the mark that the log goes on in another file.
-fn is_mark(deed: &Deed) -> bool
+pub(crate) fn is_mark(deed: &Deed) -> bool
     ensures { IsTrue result ↔ (deed.now ≡ mark) }
 {
     match deed {

@@ -3,7 +3,14 @@
 
 pub mod changes;
 pub mod checker;
+pub mod commands;
 mod descriptions;
 pub mod diagram;
 pub mod entries;
+pub mod following;
+pub mod input;
+pub mod printing;
+mod reading;
+pub mod showing;
+pub mod stopping;
 pub mod verdicts;

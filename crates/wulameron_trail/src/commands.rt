@@ -1,0 +1,253 @@
+//! The commands that print a log: its entries, what they change, and whether it is sound.
+
+ghost use Rattle.std.specs.Prelude.{◌≡◌};
+ghost use Rattle.wulameron_trail.specs.Commands.{SaysVerdict, TellsVerdict, status_of, verdict_status as status_of_verdict};
+
+use crate::checker::{Verdict, check as verdict_on};
+use crate::diagram::begin_diagram;
+use crate::following::{LogFile, follow, open_file};
+use crate::input::Pauses;
+use crate::printing::{Rest, show_entry};
+use crate::showing::{Changes, Lines};
+use crate::stopping::Stop;
+use crate::verdicts::verdict_text;
+use iceoryx2_file_log::error::{FileFault, system_fault};
+use negotiate_serve::ending::{DONE, FAULT, Fault};
+use negotiate_serve::output::say;
+use negotiate_serve::report::report_fault;
+use std::alloc::Global;
+use std::fmt;
+use std::fs::File;
+use std::io::{Read, Write};
+use std::rt::Files;
+use wulameron_arguments::asked::{LogLook, Look, Place};
+use wulameron_trouble::trouble::{Trouble, report_trouble, report_wrong};
+
+/// The status where a log isn't sound.
+pub const NOT_SOUND: u8 = 1;
+
+/// Prints the entries of a log, and gives the status: 0, or 3 where the log can't be read to its end, the output fails
+/// or there is no memory, of which the writer of errors has a line. Where it is to follow the log it goes on as that
+/// grows, until the input ends.
+pub fn log<F: Files<File = File> + AllocGlobal, I: Pauses, W: Write, E: Write>(
+    rt: &F,
+    asked: &LogLook<'_>,
+    input: &mut I,
+    output: &mut W,
+    errors: &mut E,
+) -> u8 {
+    let alloc = rt.alloc();
+    match LogFile::open(rt, asked.place.at) {
+        Ok(mut log) => {
+            let ended = print_log(rt, asked, &mut log, input, output);
+            report_end(alloc, asked.place.at, log.at(), ended, errors)
+        }
+        Err(fault) => report_refused(alloc, asked.place.at, fault, errors),
+    }
+}
+
+fn print_log<F: Files<File = File> + AllocGlobal, I: Pauses, W: Write>(
+    rt: &F,
+    asked: &LogLook<'_>,
+    log: &mut LogFile,
+    input: &mut I,
+    output: &mut W,
+) -> Result<(), Stop> {
+    if asked.is_diagram {
+        print_head(rt.alloc(), output)?;
+    }
+    let mut lines = Lines {
+        place: 0,
+        from: asked.from,
+        is_diagram: asked.is_diagram,
+    };
+    if asked.follows {
+        return follow(rt, asked.place.at, log, &mut lines, input, output);
+    }
+    print_once(rt.alloc(), log, &mut lines, output)
+}
+
+/// Prints what a diagram begins with.
+fn print_head<W: Write>(alloc: Global, output: &mut W) -> Result<(), Stop> {
+    let mut text = String::new(alloc);
+    if begin_diagram(&mut text).is_err() {
+        return Err(Stop::Failed(Fault::OutOfMemory));
+    }
+    match say(text.as_bytes(), output) {
+        Ok(()) => Ok(()),
+        Err(fault) => Err(Stop::Failed(fault)),
+    }
+}
+
+/// Prints the entries that are written, and a mark after them.
+fn print_once<W: Write>(
+    alloc: Global,
+    log: &mut LogFile,
+    lines: &mut Lines,
+    output: &mut W,
+) -> Result<(), Stop> {
+    match log.look(alloc, lines, output)? {
+        Rest::Ended => Ok(()),
+        Rest::Moved(mark) => {
+            let mut text = String::new(alloc);
+            show_entry(&mark, lines, &mut text, output)
+        }
+    }
+}
+
+/// Prints what each entry changes that comes from now on, until the input ends, and gives the status as `log` does.
+pub fn watch<F: Files<File = File> + AllocGlobal, I: Pauses, W: Write, E: Write>(
+    rt: &F,
+    asked: &Look<'_>,
+    input: &mut I,
+    output: &mut W,
+    errors: &mut E,
+) -> u8 {
+    let alloc = rt.alloc();
+    match LogFile::open(rt, asked.place.at) {
+        Ok(mut log) => {
+            let ended = print_changes(rt, asked, &mut log, input, output);
+            report_end(alloc, asked.place.at, log.at(), ended, errors)
+        }
+        Err(fault) => report_refused(alloc, asked.place.at, fault, errors),
+    }
+}
+
+fn print_changes<F: Files<File = File> + AllocGlobal, I: Pauses, W: Write>(
+    rt: &F,
+    asked: &Look<'_>,
+    log: &mut LogFile,
+    input: &mut I,
+    output: &mut W,
+) -> Result<(), Stop> {
+    let mut changes = Changes {
+        world: log.services(rt.alloc())?,
+        is_json: asked.is_json,
+    };
+    follow(rt, asked.place.at, log, &mut changes, input, output)
+}
+
+/// Prints whether a log is sound, and gives the status: 0, 1 where it isn't, or 3 where its file can't be read, the
+/// output fails or there is no memory, of which the writer of errors has a line.
+pub fn check<F: Files<File = File> + AllocGlobal, W: Write, E: Write>(
+    rt: &F,
+    place: &Place<'_>,
+    output: &mut W,
+    errors: &mut E,
+) -> u8 {
+    let alloc = rt.alloc();
+    match read_whole(rt, place.at) {
+        Ok(bytes) => match print_verdict(alloc, &bytes, output) {
+            Ok(status) => status,
+            Err(fault) => {
+                let _ = report_fault("wulameron", fault, errors);
+                FAULT
+            }
+        },
+        Err(fault) => report_refused(alloc, place.at, fault, errors),
+    }
+}
+
+/// The bytes of the file of this path.
+fn read_whole<F: Files<File = File> + AllocGlobal>(
+    rt: &F,
+    path: &str,
+) -> Result<Vec<u8>, FileFault> {
+    let mut file = open_file(rt, path)?;
+    let mut bytes = Vec::new(rt.alloc());
+    match file.read_to_end(&mut bytes) {
+        Ok(_) => Ok(bytes),
+        Err(error) => Err(system_fault(&error)),
+    }
+}
+
+/// Prints what a log's bytes are, and gives the status: 0 where they are sound, and else 1.
+///
+/// `Fault` as `say` does, and where there is no memory; nothing is written then.
+pub fn print_verdict<W: Write>(alloc: Global, bytes: &[u8], output: &mut W) -> Result<u8, Fault>
+    ensures { TellsVerdict bytes.now result (W.contents output.old) (W.contents output.new) }
+{
+    match verdict_on(alloc, bytes) {
+        Ok(verdict) => say_verdict(alloc, verdict, output),
+        Err(_) => Err(Fault::OutOfMemory),
+    }
+}
+
+/// Writes the line of a verdict, and gives its status.
+fn say_verdict<W: Write>(alloc: Global, verdict: Verdict, output: &mut W) -> Result<u8, Fault>
+    ensures { SaysVerdict verdict result (W.contents output.old) (W.contents output.new) }
+{
+    let mut text = String::new(alloc);
+    match verdict_text(verdict, &mut text) {
+        Ok(()) => match say(text.as_bytes(), output) {
+            Ok(()) => Ok(verdict_status(verdict)),
+            Err(fault) => Err(fault),
+        },
+        Err(_) => Err(Fault::OutOfMemory),
+    }
+}
+
+/// The status of a verdict.
+fn verdict_status(verdict: Verdict) -> u8
+    ensures { result ≡ status_of_verdict verdict }
+{
+    match verdict {
+        Verdict::Sound(_) => DONE,
+        Verdict::Wrong(_) => NOT_SOUND,
+    }
+}
+
+/// An entry that isn't followed.
+#[derive(Clone, Copy, Debug)]
+struct NotAnswered {
+    /// The byte where it begins.
+    at: u64,
+}
+
+impl fmt::Display for NotAnswered {
+    fn fmt<W: fmt::Write>(&self, f: &mut fmt::Formatter<W>) -> fmt::Result {
+        let at = self.at;
+        write!(
+            f,
+            "the entry at byte {at} is not what the services before it answer; check the log"
+        )
+    }
+}
+
+/// Writes the line of what stopped a command over the log of this path, where the next entry begins at this byte, and
+/// gives the status.
+fn report_end<E: Write>(
+    alloc: Global,
+    path: &str,
+    at: u64,
+    ended: Result<(), Stop>,
+    errors: &mut E,
+) -> u8
+    ensures { result ≡ status_of ended }
+{
+    match ended {
+        Ok(()) => DONE,
+        Err(stop) => {
+            let _ = match stop {
+                Stop::Damaged => {
+                    let trouble = Trouble::Refused(FileFault::Damaged { at });
+                    report_trouble(alloc, path, trouble, errors)
+                }
+                Stop::NotAnswered => report_wrong(alloc, path, NotAnswered { at }, errors),
+                Stop::Refused(fault) => {
+                    report_trouble(alloc, path, Trouble::Refused(fault), errors)
+                }
+                Stop::Failed(fault) => report_fault("wulameron", fault, errors),
+            };
+            FAULT
+        }
+    }
+}
+
+/// Writes why a log's file refused, and gives the status.
+fn report_refused<E: Write>(alloc: Global, path: &str, fault: FileFault, errors: &mut E) -> u8
+    ensures { result ≡ 3 }
+{
+    let _ = report_trouble(alloc, path, Trouble::Refused(fault), errors);
+    FAULT
+}

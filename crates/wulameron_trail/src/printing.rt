@@ -1,0 +1,141 @@
+//! What is shown of a log's entries, on an output.
+
+ghost use Rattle.std.specs.Prelude.{◌≡◌, ◌≤◌, ◌++◌, ℕ, List, Option, Some, OnOk, length, string_bytes};
+ghost use Rattle.iceoryx2_log.specs.declared.entry.Entry as declared;
+ghost use Rattle.iceoryx2_log.specs.Form.{Begins};
+ghost use Rattle.wulameron_trail.specs.Showing.{ShowsNext, ShowsOne, ShowsRest};
+ghost use Rattle.wulameron_trail.specs.Unread.{IsUnread};
+
+use crate::checker::is_mark;
+use crate::reading::{TOO_OFTEN, next_front};
+use crate::stopping::{ShowError, Stop, stop_at};
+use iceoryx2_file_log::ahead::Ahead;
+use iceoryx2_file_log::remainder::Front;
+use iceoryx2_log::entry::Entry;
+use negotiate_serve::output::say;
+use std::alloc::Global;
+use std::io::{Read, Write};
+
+/// What is left of a log's bytes where its entries were shown.
+#[derive(Debug, Drop)]
+pub enum Rest {
+    /// Nothing, or what a writer leaves that died, or has not written whole yet.
+    Ended,
+    /// This mark: the log goes on in another file.
+    Moved(Entry),
+}
+
+/// What shows the entries of a log.
+pub trait Shows {
+    /// What is shown of an entry, and what becomes of what shows it.
+    ghost shows: { Self → declared.Entry → List ℕ → Self → Type 0 };
+
+    /// Adds what is shown of an entry to a text: lines, or nothing.
+    fn show(&mut self, entry: &Entry, text: &mut String) -> Result<(), ShowError>
+        ensures { OnOk result ((line : List ℕ) × shows self.old entry.now line self.new
+            × (string_bytes text.new ≡ string_bytes text.old ++ line)) };
+}
+
+/// Shows an entry. The text is a place to write it in.
+///
+/// `NotAnswered` where the entry isn't shown, `Failed` by memory or the output, which has taken a front of it then.
+pub(crate) fn show_entry<P: Shows, W: Write>(
+    entry: &Entry,
+    shown: &mut P,
+    text: &mut String,
+    output: &mut W,
+) -> Result<(), Stop>
+    ensures { ShowsOne P.shows entry.now shown.old shown.new result (W.contents output.old) (W.contents output.new) }
+{
+    text.clear();
+    match shown.show(entry, text) {
+        Ok(()) => match say(text.as_bytes(), output) {
+            Ok(()) => Ok(()),
+            Err(fault) => Err(Stop::Failed(fault)),
+        },
+        Err(error) => Err(stop_at(error)),
+    }
+}
+
+/// Shows the entry of so many bytes with which begins what was read ahead, unless it is a mark: that ends it.
+fn show_found<P: Shows, W: Write>(
+    entry: Entry,
+    count: usize,
+    ahead: &mut Ahead,
+    shown: &mut P,
+    at: &mut u64,
+    text: &mut String,
+    output: &mut W,
+) -> Result<Option<Rest>, Stop>
+    requires { count ≤ length ahead.old }
+    ensures { (left : Option (List ℕ)) (bytes : List ℕ) → IsUnread ahead.old left bytes → Begins bytes entry count
+        → ShowsNext P.shows bytes shown.old shown.new result ahead.new left
+        (W.contents output.old) (W.contents output.new) }
+{
+    if is_mark(&entry.deed) {
+        return Ok(Some(Rest::Moved(entry)));
+    }
+    match show_entry(&entry, shown, text, output) {
+        Ok(()) => {
+            ahead.take(count);
+            *at = at.saturating_add(count as u64);
+            Ok(None)
+        }
+        Err(stop) => Err(stop),
+    }
+}
+
+/// Shows the next entry, unless that is a mark or there is none: these end it.
+fn show_next<R: Read, P: Shows, W: Write>(
+    alloc: Global,
+    reader: &mut R,
+    ahead: &mut Ahead,
+    shown: &mut P,
+    at: &mut u64,
+    text: &mut String,
+    output: &mut W,
+) -> Result<Option<Rest>, Stop>
+    ensures { (bytes : List ℕ) → IsUnread ahead.old (R.remaining reader.old) bytes
+        → ShowsNext P.shows bytes shown.old shown.new result ahead.new (R.remaining reader.new)
+        (W.contents output.old) (W.contents output.new) }
+{
+    match next_front(alloc, reader, ahead) {
+        Ok(front) => match front {
+            Front::Whole { entry, count } => {
+                show_found(entry, count, ahead, shown, at, text, output)
+            }
+            Front::Torn => Ok(Some(Rest::Ended)),
+            Front::Unfinished | Front::Damaged => Err(Stop::Damaged),
+        },
+        Err(stop) => Err(stop),
+    }
+}
+
+/// Shows the entries that a reader has left, and tells what is left after them: nothing, what a writer leaves that died
+/// or has not written whole, or a mark, which isn't shown. The byte goes on by those of the entries that are shown.
+///
+/// `Damaged` where what is left is none of these, `NotAnswered` where an entry isn't shown, `Refused` where the reader
+/// answers an error, `Failed` by memory or the output, which has taken a front of what is shown then.
+pub fn show_rest<R: Read, P: Shows, W: Write>(
+    alloc: Global,
+    reader: &mut R,
+    shown: &mut P,
+    at: &mut u64,
+    output: &mut W,
+) -> Result<Rest, Stop>
+    ensures { (bytes : List ℕ) → R.remaining reader.old ≡ Some bytes
+        → ShowsRest P.shows bytes shown.old shown.new result (W.contents output.old) (W.contents output.new) }
+{
+    let mut ahead = Ahead::new(alloc);
+    let mut text = String::new(alloc);
+    for _ in 0..u64::MAX {
+        match show_next(alloc, reader, &mut ahead, shown, at, &mut text, output) {
+            Ok(turn) => match turn {
+                None => {}
+                Some(rest) => return Ok(rest),
+            },
+            Err(stop) => return Err(stop),
+        }
+    }
+    Err(TOO_OFTEN)
+}

@@ -1,0 +1,50 @@
+//! Why no more of a log is shown.
+
+ghost use Rattle.std.specs.Prelude.{◌≡◌};
+ghost use Rattle.wulameron_trail.specs.Stopping.{stop_of};
+
+use iceoryx2_file_log::error::FileFault;
+use negotiate_serve::ending::Fault;
+use std::alloc::AllocError;
+
+/// Why no more of a log is shown.
+#[derive(Clone, Copy, Debug, PartialEq, Eq)]
+pub enum Stop {
+    /// What stands there is no entry, and nothing that a writer leaves that died.
+    Damaged,
+    /// The entry isn't what the services before it answer.
+    NotAnswered,
+    /// The log's file refused.
+    Refused(FileFault),
+    /// The output failed, or there was no memory.
+    Failed(Fault),
+}
+
+/// Why an entry isn't shown.
+#[derive(Clone, Copy, Debug, PartialEq, Eq)]
+pub enum ShowError {
+    /// There was no memory.
+    OutOfMemory,
+    /// The entry isn't what the services before it answer.
+    NotAnswered,
+}
+
+impl From<AllocError> for ShowError {
+    ghost use Rattle.wulameron_trail.specs.declared.stopping.ShowError.TheVariants as why;
+
+    ghost from_gives = { λ _ given. given ≡ why.OutOfMemory };
+
+    fn from(_: AllocError) -> ShowError {
+        ShowError::OutOfMemory
+    }
+}
+
+/// The stop at an entry that isn't shown.
+pub(crate) fn stop_at(error: ShowError) -> Stop
+    ensures { result ≡ stop_of error }
+{
+    match error {
+        ShowError::OutOfMemory => Stop::Failed(Fault::OutOfMemory),
+        ShowError::NotAnswered => Stop::NotAnswered,
+    }
+}
