@@ -16,7 +16,7 @@ use wulameron_trail::entries::entry_line;
 use wulameron_trail::verdicts::verdict_text;
 
 /// The lines of the log's entries.
-const LINES: &str = "\
+pub const LINES: &str = "\
 0 node 2 makes tag 1111111111111111111111111111111111111111\n\
 1 node 2 locks 1111111111111111111111111111111111111111 number=5\n\
 2 node 2 makes segment 1111111111111111111111111111111111111111 number=5 max_nodes=4\n\
@@ -34,7 +34,7 @@ const LINES: &str = "\
 14 node 0 spends numbers up to 40\n";
 
 /// The log as a diagram.
-const DIAGRAM: &str = "\
+pub const DIAGRAM: &str = "\
 sequenceDiagram\n\
 \x20   participant log\n\
 \x20   node 2->>log: makes tag 1111111111111111111111111111111111111111\n\
@@ -54,7 +54,7 @@ sequenceDiagram\n\
 \x20   node 0->>log: spends numbers up to 40\n";
 
 /// What the log's entries change, for people.
-const CHANGES: &str = "\
+pub const CHANGES: &str = "\
 created event l;m\\n by node 2\n\
 opened event l;m\\n by node 3\n\
 left event l;m\\n by node 3\n\
@@ -62,12 +62,17 @@ left event l;m\\n by node 2\n\
 removed event l;m\\n by node 2\n";
 
 /// The same for programs.
-const JSON: &str = "\
-{\"change\":\"created\",\"hash\":\"1111111111111111111111111111111111111111\",\"name\":\"l;m\\n\",\"node\":2,\"number\":5,\"pattern\":\"event\"}\n\
-{\"change\":\"opened\",\"hash\":\"1111111111111111111111111111111111111111\",\"name\":\"l;m\\n\",\"node\":3,\"number\":5,\"pattern\":\"event\"}\n\
-{\"change\":\"left\",\"hash\":\"1111111111111111111111111111111111111111\",\"name\":\"l;m\\n\",\"node\":3,\"number\":5,\"pattern\":\"event\"}\n\
-{\"change\":\"left\",\"hash\":\"1111111111111111111111111111111111111111\",\"name\":\"l;m\\n\",\"node\":2,\"number\":5,\"pattern\":\"event\"}\n\
-{\"change\":\"removed\",\"hash\":\"1111111111111111111111111111111111111111\",\"name\":\"l;m\\n\",\"node\":2,\"number\":5,\"pattern\":\"event\"}\n";
+pub const JSON: &str = "\
+{\"change\":\"created\",\"hash\":\"1111111111111111111111111111111111111111\",\"name\":\"l;m\\n\"\
+,\"node\":2,\"number\":5,\"pattern\":\"event\"}\n\
+{\"change\":\"opened\",\"hash\":\"1111111111111111111111111111111111111111\",\"name\":\"l;m\\n\"\
+,\"node\":3,\"number\":5,\"pattern\":\"event\"}\n\
+{\"change\":\"left\",\"hash\":\"1111111111111111111111111111111111111111\",\"name\":\"l;m\\n\"\
+,\"node\":3,\"number\":5,\"pattern\":\"event\"}\n\
+{\"change\":\"left\",\"hash\":\"1111111111111111111111111111111111111111\",\"name\":\"l;m\\n\"\
+,\"node\":2,\"number\":5,\"pattern\":\"event\"}\n\
+{\"change\":\"removed\",\"hash\":\"1111111111111111111111111111111111111111\",\"name\":\"l;m\\n\"\
+,\"node\":2,\"number\":5,\"pattern\":\"event\"}\n";
 
 /// The entries whose forms these bytes are, one after the other.
 fn entries_of(rt: &impl Abort, alloc: Global, bytes: &[u8]) -> Vec<Entry> {
