@@ -11,7 +11,10 @@ use wulameron_arguments::arguments::arguments;
 use wulameron_arguments::asked::Asked;
 use wulameron_arguments::home::{DefaultLog, default_log, make_folder};
 use wulameron_clean::clean::clean;
+use wulameron_hold::hold::hold;
 use wulameron_serve::run::run;
+use wulameron_trail::commands::{check, log, watch};
+use wulameron_trail::input::StandardInput;
 use wulameron_trouble::trouble::report_wrong;
 use wulameron_view::viewing::{list, nodes, show};
 
@@ -59,7 +62,16 @@ fn answer(rt: &HostRuntime, asked: Asked<'_>) -> u8 {
         Asked::Show(asked) => show(&rt, &asked, &mut output, &mut rt.stderr()),
         Asked::Nodes(look) => nodes(&rt, &look, &mut output, &mut rt.stderr()),
         Asked::Clean(asked) => clean(&rt, &asked, &mut output, &mut rt.stderr()),
-        _ => NOT_A_COMMAND,
+        Asked::Log(asked) => {
+            let mut input = StandardInput::new(rt);
+            log(&rt, &asked, &mut input, &mut output, &mut rt.stderr())
+        }
+        Asked::Watch(look) => {
+            let mut input = StandardInput::new(rt);
+            watch(&rt, &look, &mut input, &mut output, &mut rt.stderr())
+        }
+        Asked::Check(place) => check(&rt, &place, &mut output, &mut rt.stderr()),
+        Asked::Hold(asked) => hold(rt, &asked, rt.reader(), &mut output, &mut rt.stderr()),
     }
 }
 
