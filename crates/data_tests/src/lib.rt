@@ -9,6 +9,8 @@ mod crashes;
 #[cfg(test)]
 mod descriptions;
 #[cfg(test)]
+mod existing_logs;
+#[cfg(test)]
 mod file_headers;
 #[cfg(test)]
 mod file_logs;
