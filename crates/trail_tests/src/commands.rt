@@ -26,14 +26,17 @@ struct Events<'a> {
     rt: &'a HostRuntime,
     path: &'a str,
     events: &'a [Event<'a>],
+    /// How many have happened.
+    count: usize,
 }
 
 impl<'a> Pauses for Events<'a> {
     fn pause(&mut self) -> bool {
-        let Some((event, rest)) = self.events.split_first() else {
+        let Some(event) = self.events.get(self.count) else {
             return false;
         };
-        self.events = rest;
+        let event = *event;
+        self.count = self.count.saturating_add(1);
         happen(self.rt, self.path, event).is_some()
     }
 }
@@ -47,7 +50,7 @@ fn fill(rt: &HostRuntime, path: &str, parts: &[&[u8]]) -> Option<()> {
     fs::write(rt, path, bytes.as_slice()).ok()
 }
 
-fn happen(rt: &HostRuntime, path: &str, event: &Event<'_>) -> Option<()> {
+fn happen(rt: &HostRuntime, path: &str, event: Event<'_>) -> Option<()> {
     match event {
         Event::Holds(parts) => fill(rt, path, parts),
         Event::Moves(parts, others) => {
@@ -92,7 +95,12 @@ struct Ran {
 
 /// What a command comes to over the file of a path, to which this happens meanwhile.
 fn carried_out(rt: &HostRuntime, path: &str, command: Command, events: &[Event<'_>]) -> Ran {
-    let mut input = Events { rt, path, events };
+    let mut input = Events {
+        rt,
+        path,
+        events,
+        count: 0,
+    };
     let mut output = Vec::new(rt.alloc());
     let mut errors = Vec::new(rt.alloc());
     let place = Place {
@@ -143,7 +151,12 @@ fn carried_out(rt: &HostRuntime, path: &str, command: Command, events: &[Event<'
 }
 
 /// What a command comes to over a file with these bytes, to which this happens meanwhile.
-fn ran(rt: &HostRuntime, command: Command, parts: &[&[u8]], events: &[Event<'_>]) -> Option<Ran> {
+fn run_over(
+    rt: &HostRuntime,
+    command: Command,
+    parts: &[&[u8]],
+    events: &[Event<'_>],
+) -> Option<Ran> {
     let path = new_path(rt)?;
     fill(rt, &path, parts)?;
     let mut ran = carried_out(rt, &path, command, events);
@@ -193,25 +206,25 @@ fn first_lines(text: &str, number: usize) -> &str {
 
 #[test]
 fn a_log_is_printed(rt: HostRuntime) {
-    let found = ran(&rt, Command::Log(0), &[&LOG], &[]);
+    let found = run_over(&rt, Command::Log(0), &[&LOG], &[]);
     assert_same(&rt, found, wanted(&rt, 0, &[LINES], ""));
 }
 
 #[test]
 fn a_log_is_printed_from_an_entry_on(rt: HostRuntime) {
-    let found = ran(&rt, Command::Log(13), &[&LOG], &[]);
+    let found = run_over(&rt, Command::Log(13), &[&LOG], &[]);
     assert_same(&rt, found, wanted(&rt, 0, &[from_line(LINES, 13)], ""));
 }
 
 #[test]
 fn a_log_is_drawn_as_a_diagram(rt: HostRuntime) {
-    let found = ran(&rt, Command::Diagram, &[&LOG], &[]);
+    let found = run_over(&rt, Command::Diagram, &[&LOG], &[]);
     assert_same(&rt, found, wanted(&rt, 0, &[DIAGRAM], ""));
 }
 
 #[test]
 fn a_mark_is_the_last_line(rt: HostRuntime) {
-    let found = ran(&rt, Command::Log(0), &[&LOG, &MARK], &[]);
+    let found = run_over(&rt, Command::Log(0), &[&LOG, &MARK], &[]);
     assert_same(
         &rt,
         found,
@@ -221,20 +234,20 @@ fn a_mark_is_the_last_line(rt: HostRuntime) {
 
 #[test]
 fn an_entry_that_is_not_written_whole_has_no_line(rt: HostRuntime) {
-    let found = ran(&rt, Command::Log(0), &[&LOG[..900]], &[]);
+    let found = run_over(&rt, Command::Log(0), &[&LOG[..900]], &[]);
     assert_same(&rt, found, wanted(&rt, 0, &[first_lines(LINES, 14)], ""));
 }
 
 #[test]
 fn damage_ends_a_log(rt: HostRuntime) {
-    let found = ran(&rt, Command::Log(0), &[&LOG, &[0; 8]], &[]);
+    let found = run_over(&rt, Command::Log(0), &[&LOG, &[0; 8]], &[]);
     let told = "is damaged at byte 913; begin another log\n";
     assert_same(&rt, found, wanted(&rt, 3, &[LINES], told));
 }
 
 #[test]
 fn what_is_no_log_is_not_printed(rt: HostRuntime) {
-    let found = ran(&rt, Command::Log(0), &[b"lamps"], &[]);
+    let found = run_over(&rt, Command::Log(0), &[b"lamps"], &[]);
     assert_same(
         &rt,
         found,
@@ -270,7 +283,7 @@ fn entries_are_printed_as_they_come(rt: HostRuntime) {
         Event::Holds(&[&LOG[..375]]),
         Event::Holds(&[&LOG]),
     ];
-    let found = ran(&rt, Command::Follow(0), &[&LOG[..146]], &events);
+    let found = run_over(&rt, Command::Follow(0), &[&LOG[..146]], &events);
     assert_same(&rt, found, wanted(&rt, 0, &[LINES], ""));
 }
 
@@ -278,14 +291,14 @@ fn entries_are_printed_as_they_come(rt: HostRuntime) {
 fn what_a_writer_left_is_read_again(rt: HostRuntime) {
     let torn: &[u8] = &LOG[146..180];
     let events = [Event::Holds(&[&LOG[..93], torn]), Event::Holds(&[&LOG])];
-    let found = ran(&rt, Command::Follow(0), &[&LOG[..93]], &events);
+    let found = run_over(&rt, Command::Follow(0), &[&LOG[..93]], &events);
     assert_same(&rt, found, wanted(&rt, 0, &[LINES], ""));
 }
 
 #[test]
 fn a_log_is_followed_into_another_file(rt: HostRuntime) {
     let events = [Event::Moves(&[&LOG[..436], &MARK], &[&MOVED_HEADER, &LOG[48..]])];
-    let found = ran(&rt, Command::Follow(3), &[&LOG[..436]], &events);
+    let found = run_over(&rt, Command::Follow(3), &[&LOG[..436]], &events);
     let first = from_line(first_lines(LINES, 6), 3);
     let texts = [first, "6 the log goes on in another file\n", LINES];
     assert_same(&rt, found, wanted(&rt, 0, &texts, ""));
@@ -294,14 +307,14 @@ fn a_log_is_followed_into_another_file(rt: HostRuntime) {
 #[test]
 fn a_mark_of_a_move_that_was_not_made_has_no_line(rt: HostRuntime) {
     let events = [Event::Holds(&[&LOG[..436], &MARK]), Event::Holds(&[&LOG])];
-    let found = ran(&rt, Command::Follow(0), &[&LOG[..436]], &events);
+    let found = run_over(&rt, Command::Follow(0), &[&LOG[..436]], &events);
     assert_same(&rt, found, wanted(&rt, 0, &[LINES], ""));
 }
 
 #[test]
 fn another_log_is_not_followed(rt: HostRuntime) {
     let events = [Event::Moves(&[&LOG[..93], &MARK], &[&ANOTHER_HEADER])];
-    let found = ran(&rt, Command::Follow(0), &[&LOG[..93]], &events);
+    let found = run_over(&rt, Command::Follow(0), &[&LOG[..93]], &events);
     let told = "is another log; start the program again\n";
     assert_same(&rt, found, wanted(&rt, 3, &[first_lines(LINES, 1)], told));
 }
@@ -309,14 +322,14 @@ fn another_log_is_not_followed(rt: HostRuntime) {
 #[test]
 fn damage_that_passes_is_none(rt: HostRuntime) {
     let events = [Event::Holds(&[&LOG[..436], &[0; 8]]), Event::Holds(&[&LOG])];
-    let found = ran(&rt, Command::Follow(0), &[&LOG[..436]], &events);
+    let found = run_over(&rt, Command::Follow(0), &[&LOG[..436]], &events);
     assert_same(&rt, found, wanted(&rt, 0, &[LINES], ""));
 }
 
 #[test]
 fn damage_that_stays_is_told(rt: HostRuntime) {
     let damaged = Event::Holds(&[&LOG[..93], &[0; 8]]);
-    let found = ran(&rt, Command::Follow(0), &[&LOG[..93]], &[damaged, damaged]);
+    let found = run_over(&rt, Command::Follow(0), &[&LOG[..93]], &[damaged, damaged]);
     let told = "is damaged at byte 93; begin another log\n";
     assert_same(&rt, found, wanted(&rt, 3, &[first_lines(LINES, 1)], told));
 }
@@ -324,13 +337,13 @@ fn damage_that_stays_is_told(rt: HostRuntime) {
 #[test]
 fn changes_are_printed_as_they_come(rt: HostRuntime) {
     let events = [Event::Holds(&[&LOG[..456]]), Event::Holds(&[&LOG])];
-    let found = ran(&rt, Command::Watch, &[&LOG[..330]], &events);
+    let found = run_over(&rt, Command::Watch, &[&LOG[..330]], &events);
     assert_same(&rt, found, wanted(&rt, 0, &[from_line(CHANGES, 1)], ""));
 }
 
 #[test]
 fn changes_are_printed_as_json(rt: HostRuntime) {
-    let found = ran(
+    let found = run_over(
         &rt,
         Command::WatchJson,
         &[&LOG[..330]],
@@ -345,7 +358,7 @@ fn changes_are_followed_into_another_file(rt: HostRuntime) {
         Event::Moves(&[&LOG[..436], &MARK], &[&MOVED_HEADER, &LOG[48..436]]),
         Event::Holds(&[&MOVED_HEADER, &LOG[48..]]),
     ];
-    let found = ran(&rt, Command::Watch, &[&LOG[..330]], &events);
+    let found = run_over(&rt, Command::Watch, &[&LOG[..330]], &events);
     let texts = [from_line(CHANGES, 1)];
     assert_same(&rt, found, wanted(&rt, 0, &texts, ""));
 }
@@ -353,14 +366,14 @@ fn changes_are_followed_into_another_file(rt: HostRuntime) {
 #[test]
 fn an_entry_that_is_not_answered_ends_it(rt: HostRuntime) {
     let events = [Event::Holds(&[&LOG[..93], &LOG[146..207]])];
-    let found = ran(&rt, Command::Watch, &[&LOG[..93]], &events);
+    let found = run_over(&rt, Command::Watch, &[&LOG[..93]], &events);
     let told = "the entry at byte 93 is not what the services before it answer; check the log\n";
     assert_same(&rt, found, wanted(&rt, 3, &[], told));
 }
 
 #[test]
 fn a_sound_log_is_told_by_its_status(rt: HostRuntime) {
-    let found = ran(&rt, Command::Check, &[&LOG], &[]);
+    let found = run_over(&rt, Command::Check, &[&LOG], &[]);
     assert_same(
         &rt,
         found,
@@ -370,7 +383,7 @@ fn a_sound_log_is_told_by_its_status(rt: HostRuntime) {
 
 #[test]
 fn a_wrong_log_is_told_by_its_status(rt: HostRuntime) {
-    let found = ran(&rt, Command::Check, &[&LOG, &[0; 8]], &[]);
+    let found = run_over(&rt, Command::Check, &[&LOG, &[0; 8]], &[]);
     let line = "wrong at byte 913, entry 15: the entry is damaged; begin another log\n";
     assert_same(&rt, found, wanted(&rt, 1, &[line], ""));
 }
