@@ -1,7 +1,8 @@
 //! The commands that print a log: its entries, what they change, and whether it is sound.
 
 ghost use Rattle.std.specs.Prelude.{◌≡◌};
-ghost use Rattle.wulameron_trail.specs.Commands.{SaysVerdict, TellsVerdict, status_of, verdict_status as status_of_verdict};
+ghost use Rattle.wulameron_trail.specs.Commands.{SaysVerdict, TellsVerdict, status_of};
+ghost use Rattle.wulameron_trail.specs.Commands.{verdict_status as status_of_verdict};
 
 use crate::checker::{Verdict, check as verdict_on};
 use crate::diagram::begin_diagram;
