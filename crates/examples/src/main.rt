@@ -1,9 +1,10 @@
 //! Examples that run: what nodes ask of a service, what they agree on, and what is refused.
 //!
-//! Each module but `node`, `pose` and `route` is an example. All of them share one table, the storage in which
+//! Each module but `node`, `pose` and `route` is an example. All but `accesses` share one table, the storage in which
 //! their services stand.
 #![tactic(auto)]
 
+mod accesses;
 mod buffers;
 mod events;
 mod node;
@@ -28,6 +29,8 @@ fn run(rt: &HostRuntime, table: &mut Table) -> Result<()> {
     open_or_create::run(rt, table)?;
     println!(rt; "buffers: a subscriber makes room for what was agreed")?;
     buffers::run(rt, table)?;
+    println!(rt; "accesses: a storage of one's own, which counts them")?;
+    accesses::run(rt)?;
     println!(rt; "services that are left: {}", table.list()?.len())?;
     Ok(())
 }

@@ -5,6 +5,7 @@ use iceoryx2_service::builder::{Builder, Node};
 use iceoryx2_service::description::{Config, ServiceName};
 use iceoryx2_service::port_factory::CloseError;
 use iceoryx2_service::port_factory::factory::{Kind, PortFactory};
+use iceoryx2_service::storage::Service;
 use iceoryx2_service::table::{Local, Table};
 use std::alloc::Global;
 
@@ -14,13 +15,16 @@ pub fn service_builder(alloc: Global, node: u64, name: &str) -> Result<Builder<L
     Ok(Node::<Local>::new(node, Config::default()).service_builder(name))
 }
 
-/// Closes a factory of any pattern. One whose ticket isn't this table's comes back, and has to be spent too.
-pub fn close<K: Kind>(factory: PortFactory<Local, K>, table: &mut Table) -> Result<()> {
-    match factory.close(table) {
+/// Closes a factory of any pattern. One whose ticket isn't this storage's comes back, and has to be spent too.
+pub fn close<S: Service, K: Kind>(
+    factory: PortFactory<S, K>,
+    storage: &mut S::Storage,
+) -> Result<()> {
+    match factory.close(storage) {
         Ok(()) => Ok(()),
         Err(CloseError::NotHere(factory)) => {
             factory.abandon();
-            bail!("it was opened at another table")
+            bail!("it was opened at another storage")
         }
         Err(CloseError::TagNotRemoved) => bail!("the node's tag is left"),
         Err(CloseError::SegmentNotRemoved) => bail!("the service's segment is left"),
