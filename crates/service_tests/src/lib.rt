@@ -12,8 +12,6 @@ mod maps;
 #[cfg(test)]
 mod paths;
 #[cfg(test)]
-mod readme;
-#[cfg(test)]
 mod scripts;
 #[cfg(test)]
 mod services;
