@@ -1,7 +1,7 @@
 //! Examples that run: what nodes ask of a service, what they agree on, and what is refused.
 //!
-//! Each module but `node`, `pose` and `route` is an example. All but `accesses` share one table, the storage in which
-//! their services stand.
+//! Each module but `node`, `pose` and `route` is an example. All but `accesses` and `shared` share one table, the storage
+//! in which their services stand.
 #![tactic(auto)]
 
 mod accesses;
@@ -13,6 +13,7 @@ mod pose;
 mod publish_subscribe;
 mod request_response;
 mod route;
+mod shared;
 
 use anyhow::Result;
 use iceoryx2_service::table::Table;
@@ -31,6 +32,8 @@ fn run(rt: &HostRuntime, table: &mut Table) -> Result<()> {
     buffers::run(rt, table)?;
     println!(rt; "accesses: a storage of one's own, which counts them")?;
     accesses::run(rt)?;
+    println!(rt; "shared: two nodes meet over a log in a file")?;
+    shared::run(rt)?;
     println!(rt; "services that are left: {}", table.list()?.len())?;
     Ok(())
 }
