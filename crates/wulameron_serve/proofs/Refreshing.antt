@@ -1,9 +1,9 @@
 -- A session that shows another world, in which all stayed that its own nodes rely on.
-use Rattle.std.proofs.Common.{◌≡◌, ℕ, Bool, refl, sym, ap, subst, ◌∙◌}
+use Rattle.std.proofs.Common.{ℕ, Bool, refl, sym, ap, subst, ◌∙◌}
 use Rattle.iceoryx2_world.specs.World.{World}
 use Rattle.iceoryx2_world.specs.Interference.{Rely}
 use Rattle.iceoryx2_world.proofs.agreement.Interference.{rely_same, rely_both}
-use Rattle.iceoryx2_session.specs.Sessions.{SessionOver, shown_session}
+use Rattle.iceoryx2_session.specs.Sessions.{SessionOver}
 use Rattle.iceoryx2_session.specs.StandingSlots.{SlotsStandUnder}
 use Rattle.iceoryx2_session.proofs.StandingSlots.{stand_kept}
 use Rattle.wulameron_serve.specs.Shared.{Refreshes, StandsFor}

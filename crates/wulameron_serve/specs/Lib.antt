@@ -4,4 +4,3 @@ pub mod Lines
 pub mod Served
 pub mod Shared
 pub mod Starting
-pub mod Upkeep

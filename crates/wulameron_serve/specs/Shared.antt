@@ -1,6 +1,5 @@
 -- How lines are answered over a storage that processes share.
-use Rattle.std.specs.Prelude.{◌≡◌, ◌≢◌, ℕ, Bool, true, false, List, Option, None, ◌++◌, codes, decimal, replicate}
-use Rattle.iceoryx2_description.specs.declared.config.Config.{Config}
+use Rattle.std.specs.Prelude.{◌≡◌, ◌≢◌, ℕ, Bool, true, false, List, None, ◌++◌, codes, decimal, replicate}
 use Rattle.iceoryx2_description.specs.Defaults.{default_config}
 use Rattle.iceoryx2_access.specs.Letter.{Letter}
 use Rattle.iceoryx2_world.specs.World.{World}

@@ -7,4 +7,3 @@ pub mod lines;
 pub mod run;
 pub mod shared;
 pub mod starting;
-pub mod upkeep;

@@ -1,10 +1,10 @@
-use Rattle.std.proofs.Common.{ℕ, ◌+◌, List, Option, Result, Ok, Err, refl, sym, subst, rules, arith, ◌∙◌}
+use Rattle.std.proofs.Common.{◌+◌, Result, Ok, Err, refl, sym, subst, rules, arith, ◌∙◌}
 use Rattle.negotiate_serve.specs.declared.ending.Ending.{Ending}
 use Rattle.negotiate_serve.specs.declared.ending.Fault.{Fault}
-use Rattle.negotiate_serve.specs.Served.{AnswersAll, TakesTurn}
+use Rattle.negotiate_serve.specs.Served.{AnswersAll}
 use Rattle.negotiate_serve.proofs.Answering.{nothing_so_far, turn_goes_on, turn_ends, turn_fails, too_many}
 use Rattle.negotiate_serve.specs.Transcripts.{LinesBy}
-use Rattle.wulameron_serve.specs.Lines.{AnswersWhileUsable, IsUsable}
+use Rattle.wulameron_serve.specs.Lines.{AnswersWhileUsable}
 use Rattle.wulameron_serve.proofs.UntilHalted.{seen_fault, serving_is_no_end, log_ends, turn_also}
 use Rattle.wulameron_serve.proofs.lines.answer_lines.Goals as goal
 

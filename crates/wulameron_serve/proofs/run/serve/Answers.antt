@@ -1,4 +1,4 @@
-use Rattle.std.proofs.Common.{◌≡◌, inl, subst, ◌∙◌}
+use Rattle.std.proofs.Common.{inl, subst, ◌∙◌}
 use Rattle.iceoryx2_session.specs.Sessions.{SessionOver}
 use Rattle.iceoryx2_session.specs.SessionStates.{own_state}
 use Rattle.wulameron_serve.specs.Lines.{seen_as}

@@ -1,1 +1,0 @@
-use Rattle.wulameron_serve.proofs.explained.ExplainedAnswererAnswerer.answer.Goals as goal

@@ -1,9 +1,5 @@
-use Rattle.std.proofs.Common.{◌≡◌, IfSome, List, ℕ, Option, Some, string_bytes, sym, subst, ◌∙◌}
-use Rattle.iceoryx2_commands.specs.declared.command.Call.{Call}
-use Rattle.iceoryx2_commands.specs.declared.command.Command.TheVariants as command
+use Rattle.std.proofs.Common.{string_bytes, ◌∙◌}
 use Rattle.iceoryx2_session.specs.SessionStates.{own_state}
-use Rattle.negotiate_lines.specs.declared.line.Line.TheVariants as said
-use Rattle.negotiate_lines.specs.Lines.{IsLine}
 use Rattle.negotiate_serve.specs.Replies.{Tells}
 use Rattle.wulameron_serve.specs.Shared.{SaysAgain, again}
 use Rattle.wulameron_serve.proofs.NodeAnswers.{call_of_own, stands_after, grows_as}

@@ -1,6 +1,5 @@
-use Rattle.std.proofs.Common.{◌≡◌, sym, ap, subst, ◌∙◌}
+use Rattle.std.proofs.Common.{sym, ap, subst, ◌∙◌}
 use Rattle.iceoryx2_world.specs.Across.{Agrees}
-use Rattle.iceoryx2_session.specs.Sessions.{SessionOver}
 use Rattle.wulameron_serve.proofs.shared.SharedAnswerer.new.Goals as goal
 
 pub returns-clause-stands : goal.returns-clause-stands
