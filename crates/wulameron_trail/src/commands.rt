@@ -23,6 +23,7 @@ use std::io::{Read, Write};
 use std::rt::Files;
 use wulameron_arguments::asked::{LogLook, Look, Place};
 use wulameron_trouble::trouble::{Trouble, report_trouble, report_wrong};
+use wulameron_view::viewing::report_unopened;
 
 /// The status where a log isn't sound.
 pub const NOT_SOUND: u8 = 1;
@@ -249,6 +250,6 @@ fn report_end<E: Write>(
 fn report_refused<E: Write>(alloc: Global, path: &str, fault: FileFault, errors: &mut E) -> u8
     ensures { result ≡ 3 }
 {
-    let _ = report_trouble(alloc, path, Trouble::Refused(fault), errors);
+    let _ = report_unopened(alloc, path, fault, errors);
     FAULT
 }

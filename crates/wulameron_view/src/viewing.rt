@@ -4,7 +4,7 @@ ghost use Rattle.std.specs.Prelude.{◌≡◌, ℕ, List, Some, IfOk, string_byt
 ghost use Rattle.wulameron_trouble.specs.Troubles.{TellsLine, trouble_line};
 ghost use Rattle.wulameron_view.specs.Looking.{IsListed, IsShown, IsUnshown, NeverUnshown, look_status};
 ghost use Rattle.wulameron_view.specs.Nodes.{nodes_printed};
-ghost use Rattle.wulameron_view.specs.Viewing.{EndsLook, EndsNodes, look_text, nodes_status};
+ghost use Rattle.wulameron_view.specs.Viewing.{EndsLook, EndsNodes, look_text, nodes_status, unopened_text};
 
 use crate::looking::{LookError, print_list, print_show, status_of_look};
 use crate::nodes_json::nodes_json;
@@ -169,13 +169,18 @@ fn view_of<'a, F: Files<File = File> + Clock + RandomSource + AllocGlobal, E: Wr
     }
 }
 
-/// Writes why a log isn't opened.
-fn report_unopened<E: Write>(
+/// Writes the line of why the log of this path isn't opened.
+///
+/// `Fault` as `say` does, and where there is no memory for the line.
+pub fn report_unopened<E: Write>(
     alloc: Global,
     path: &str,
     fault: FileFault,
     errors: &mut E,
-) -> Result<(), Fault> {
+) -> Result<(), Fault>
+    ensures { (text : List ℕ) → unopened_text fault ≡ Some text
+        → TellsLine (trouble_line path.now text) result (E.contents errors.old) (E.contents errors.new) }
+{
     match fault {
         FileFault::Failed {
             kind: ErrorKind::NotFound,
