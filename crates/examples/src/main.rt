@@ -1,7 +1,7 @@
 //! Examples that run: what nodes ask of a service, what they agree on, and what is refused.
 //!
-//! Each module but `node`, `pose` and `route` is an example. All but `accesses` and `shared` share one table, the storage
-//! in which their services stand.
+//! Each module but `node`, `pose` and `route` is an example. All but `accesses` and `shared` share one table, the
+//! storage in which their services stand.
 #![tactic(auto)]
 
 mod accesses;
