@@ -1,0 +1,11 @@
+use Rattle.wulameron_request.proofs.Putting.{events, publish_subscribe, request_response}
+use Rattle.wulameron_request.proofs.request.with_number.Goals as goal
+
+pub returns-in-Event : goal.returns-in-Event
+returns-in-Event c = events c.in-Event.is c.put_number-setters.ensures
+
+pub returns-in-PublishSubscribe : goal.returns-in-PublishSubscribe
+returns-in-PublishSubscribe c = publish_subscribe c.in-PublishSubscribe.is c.put_number-setters-in-PublishSubscribe.ensures
+
+pub returns-in-RequestResponse : goal.returns-in-RequestResponse
+returns-in-RequestResponse c = request_response c.in-RequestResponse.is c.put_number-setters-in-RequestResponse.ensures
