@@ -5,3 +5,5 @@ pub mod RequestResponse
 pub mod Requests
 pub mod Pending
 pub mod Reading
+pub mod Refusals
+pub mod Codes

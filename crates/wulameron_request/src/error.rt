@@ -1,5 +1,8 @@
 //! Why a piece of a request isn't taken, and why a value isn't read.
 
+ghost use Rattle.std.specs.Prelude.{◌≡◌};
+ghost use Rattle.wulameron_request.specs.Codes as codes;
+
 /// Why a piece of a request isn't taken, and why a value isn't read.
 #[derive(Clone, Copy, Debug, PartialEq, Eq)]
 pub enum RequestError {
@@ -25,4 +28,35 @@ pub enum RequestError {
     TooMany,
     /// There was no memory.
     OutOfMemory,
+}
+
+impl RequestError {
+    /// Its code. It stays what it is in each version.
+    pub fn code(self) -> u32
+        ensures { result ≡ codes.code_of self }
+    {
+        match self {
+            RequestError::NoRequest => 15,
+            RequestError::UnknownPattern => 13,
+            RequestError::UnknownCall => 14,
+            RequestError::UnknownSetting => 12,
+            RequestError::BadValue => 8,
+            RequestError::NotUtf8 => 6,
+            RequestError::BadName => 7,
+            RequestError::BadType => 9,
+            RequestError::BadAttribute => 10,
+            RequestError::TooMany => 11,
+            RequestError::OutOfMemory => 4,
+        }
+    }
+}
+
+/// The code of an answer: 0 where it was done.
+pub fn code_of_answer(answer: Result<(), RequestError>) -> u32
+    ensures { result ≡ codes.code_of_answer answer }
+{
+    match answer {
+        Ok(()) => 0,
+        Err(error) => error.code(),
+    }
 }

@@ -6,6 +6,7 @@ pub mod events;
 pub mod pending;
 pub mod publish_subscribe;
 pub mod reading;
+pub mod refusal;
 pub mod request;
 pub mod request_response;
 pub mod table;
