@@ -1,0 +1,33 @@
+-- How the request that is pending is sent.
+use Rattle.std.proofs.Common.{◌≡◌, ℕ, Option, Some, None, Result, Ok, Err, sym, subst}
+use Rattle.iceoryx2_commands.specs.declared.command.Call.{Call}
+use Rattle.iceoryx2_commands.specs.declared.command.Command.{Command}
+use Rattle.iceoryx2_commands.specs.declared.command.Command.TheVariants as command
+use Rattle.iceoryx2_session.specs.Sessions.{SessionState}
+use Rattle.wulameron_request.specs.Pending.{for_slot}
+use Rattle.wulameron_state.specs.Slots.{sent}
+use Rattle.wulameron_state.specs.States.{GoesAs, Sends, nothing, goes}
+use Rattle.wulameron_state.specs.declared.error.SlotError.{SlotError}
+use Rattle.wulameron_state.specs.declared.error.SlotError.TheVariants.{NoRequest}
+
+abbrev none : Option Call
+none = None
+
+abbrev not_pending : Result ℕ SlotError
+not_pending = Err NoRequest
+
+same_call : (f g : Call) → Some f ≡ Some g → f ≡ g
+same_call f g e = cc
+
+module _ {old : SessionState} {slot : ℕ} where
+  pub not_sent : (pending left : Option Call) → None ≡ for_slot slot pending → left ≡ None → Sends old slot pending (Err NoRequest) old left
+  not_sent None left is after = subst (λ (o : Option Call). Sends old slot none not_pending old o) (sym after) nothing
+  not_sent (Some call) left is after = absurd cc
+
+  pub is_sent : {answer : Result ℕ SlotError} {new : SessionState} (pending left : Option Call) (call : Call) → Some call ≡ for_slot slot pending → left ≡ None
+      → GoesAs sent old (command.Call call) answer new → Sends old slot pending answer new left
+  is_sent None left call is after so = absurd cc
+  is_sent {answer = answer} {new = new} (Some own) left call is after so =
+      let same : call ≡ record own { slot = slot } = same_call call (record own { slot = slot }) is in
+      subst (λ (o : Option Call). Sends old slot (Some own) answer new o) (sym after)
+      (goes (subst (λ (c : Call). GoesAs sent old (command.Call c) answer new) same so))

@@ -1,0 +1,17 @@
+use Rattle.std.proofs.Common.{sym, arith}
+use Rattle.wulameron_state.specs.States.{no_slot, in_use}
+use Rattle.wulameron_state.proofs.Sending.{not_sent, is_sent}
+use Rattle.wulameron_state.proofs.state.send.Goals as goal
+
+pub returns-then-slot-ge-SLOTS-clause-sends : goal.returns-then-slot-ge-SLOTS-clause-sends
+returns-then-slot-ge-SLOTS-clause-sends c = no_slot (omega arith)
+
+pub returns-then-is_taken-clause-sends : goal.returns-then-is_taken-clause-sends
+returns-then-is_taken-clause-sends c = in_use (sym c.if-is_taken.ensures)
+
+pub returns-in-None-clause-sends : goal.returns-in-None-clause-sends
+returns-in-None-clause-sends c = not_sent c.args.pending.now c.take.new.self c.in-None.ensures.taken c.take.ensures.after
+
+pub returns-in-Some-clause-sends : goal.returns-in-Some-clause-sends
+returns-in-Some-clause-sends c = is_sent c.args.pending.now c.take.new.self c.in-Some.call c.in-Some.ensures.taken c.take.ensures.after
+    (c.apply-reply.result, c.apply-reply.ensures.goes, c.sent.ensures)

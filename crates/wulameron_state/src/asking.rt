@@ -1,0 +1,193 @@
+//! What a caller in C asks of a state: each by numbers and bytes, answered by a code.
+
+ghost use Rattle.std.specs.Prelude.{◌≡◌, Err};
+ghost use Rattle.iceoryx2_session.specs.SessionStates.{own_state};
+ghost use Rattle.wulameron_request.specs.Events as event_table;
+ghost use Rattle.wulameron_request.specs.Pending.{InSettings, Pieces};
+ghost use Rattle.wulameron_request.specs.PublishSubscribe as publish_table;
+ghost use Rattle.wulameron_request.specs.RequestResponse as request_table;
+ghost use Rattle.wulameron_request.specs.Requests.{Sets};
+ghost use Rattle.wulameron_state.specs.Asks.{IsCoded};
+ghost use Rattle.wulameron_state.specs.States.{Stands};
+
+use crate::error::SlotError;
+use crate::state::{self, State};
+use iceoryx2_description::time::{ClockFault, Duration, Time};
+use iceoryx2_types::types::{TypeDetail, TypeDetailError};
+use std::alloc::Global;
+use wulameron_request::error::{RequestError, code_of_answer};
+use wulameron_request::reading::variant_of;
+use wulameron_request::refusal::number_of;
+
+/// `Pending::begin`.
+pub fn begin(
+    state: &mut State,
+    alloc: Global,
+    pattern: u32,
+    how: u32,
+    node: u64,
+    name: &[u8],
+) -> u32
+    ensures { state.new.session ≡ state.old.session }
+{
+    code_of_answer(state.pending.begin(alloc, pattern, how, node, name))
+}
+
+/// `Pending::set_number`.
+pub fn set_number(state: &mut State, setting: u32, value: u64) -> u32
+    ensures piece { IsCoded (Pieces (InSettings (Sets (event_table.number_setter setting value)
+        (publish_table.number_setter setting value) (request_table.number_setter setting value))))
+        state.old.pending result state.new.pending }
+    ensures session { state.new.session ≡ state.old.session }
+{
+    let answer = state.pending.set_number(setting, value);
+    code_of_answer(answer)
+}
+
+/// `Pending::set_none`.
+pub fn set_none(state: &mut State, setting: u32) -> u32
+    ensures piece { IsCoded (Pieces (InSettings (Sets (event_table.none_setter setting) (Err RequestError.UnknownSetting)
+        (Err RequestError.UnknownSetting)))) state.old.pending result state.new.pending }
+    ensures session { state.new.session ≡ state.old.session }
+{
+    let answer = state.pending.set_none(setting);
+    code_of_answer(answer)
+}
+
+/// `Pending::set_duration`, and 8 from 1,000,000,000 nanoseconds on.
+pub fn set_duration(state: &mut State, setting: u32, seconds: u64, nanoseconds: u32) -> u32
+    ensures { state.new.session ≡ state.old.session }
+{
+    match Duration::new(seconds, nanoseconds) {
+        Some(value) => code_of_answer(state.pending.set_duration(setting, value)),
+        None => RequestError::BadValue.code(),
+    }
+}
+
+/// A type's details: what a message holds by its number, the name, the size and the alignment. `BadValue`, `NotUtf8`,
+/// `BadType`, `OutOfMemory`.
+fn detail_of(
+    alloc: Global,
+    variant: u32,
+    name: &[u8],
+    size: u64,
+    alignment: u64,
+) -> Result<TypeDetail, RequestError> {
+    let variant = variant_of(variant)?;
+    let Ok(name) = std::str::from_utf8(name) else {
+        return Err(RequestError::NotUtf8);
+    };
+    match TypeDetail::new(alloc, variant, name, size, alignment) {
+        Ok(detail) => Ok(detail),
+        Err(TypeDetailError::OutOfMemory) => Err(RequestError::OutOfMemory),
+        Err(_) => Err(RequestError::BadType),
+    }
+}
+
+/// `Pending::set_type`, and 8 where `variant` is none, 6 where the name isn't UTF-8, and 9 where there is no such type.
+pub fn set_type(
+    state: &mut State,
+    alloc: Global,
+    part: u32,
+    variant: u32,
+    name: &[u8],
+    size: u64,
+    alignment: u64,
+) -> u32
+    ensures { state.new.session ≡ state.old.session }
+{
+    match detail_of(alloc, variant, name, size, alignment) {
+        Ok(detail) => code_of_answer(state.pending.set_type(part, detail)),
+        Err(error) => error.code(),
+    }
+}
+
+/// `Pending::add_attribute`, and 6 where a text isn't UTF-8.
+pub fn add_attribute(state: &mut State, key: &[u8], value: &[u8]) -> u32
+    ensures { state.new.session ≡ state.old.session }
+{
+    let Ok(key) = std::str::from_utf8(key) else {
+        return RequestError::NotUtf8.code();
+    };
+    let Ok(value) = std::str::from_utf8(value) else {
+        return RequestError::NotUtf8.code();
+    };
+    code_of_answer(state.pending.add_attribute(key, value))
+}
+
+/// `Pending::require_key`, and 6 where the key isn't UTF-8.
+pub fn require_key(state: &mut State, key: &[u8]) -> u32
+    ensures { state.new.session ≡ state.old.session }
+{
+    let Ok(key) = std::str::from_utf8(key) else {
+        return RequestError::NotUtf8.code();
+    };
+    code_of_answer(state.pending.require_key(key))
+}
+
+/// `Pending::set_time`, and 8 from 1,000,000,000 nanoseconds on.
+pub fn set_time(state: &mut State, seconds: u64, nanoseconds: u32) -> u32
+    ensures { state.new.session ≡ state.old.session }
+{
+    match Time::new(seconds, nanoseconds) {
+        Some(time) => code_of_answer(state.pending.set_time(Ok(time))),
+        None => RequestError::BadValue.code(),
+    }
+}
+
+/// `Pending::set_time`, where the clock can't be read.
+pub fn set_clock_fault(state: &mut State) -> u32
+    ensures { state.new.session ≡ state.old.session }
+{
+    code_of_answer(state.pending.set_time(Err(ClockFault)))
+}
+
+/// `state::send`: the service's number, or with code 20 the refusal's, is in its place.
+pub fn send(state: &mut State, slot: usize, number: &mut u64, refusal: &mut u32) -> u32
+    ensures { Stands (own_state state.old.session) → Stands (own_state state.new.session) }
+{
+    match state::send(&mut state.session, &mut state.pending, slot) {
+        Ok(found) => {
+            *number = found;
+            0
+        }
+        Err(error) => {
+            if let SlotError::Refused(why) = error {
+                *refusal = number_of(why);
+            }
+            error.code()
+        }
+    }
+}
+
+fn code_of(answer: Result<(), SlotError>) -> u32 {
+    match answer {
+        Ok(()) => 0,
+        Err(error) => error.code(),
+    }
+}
+
+/// `state::close`.
+pub fn close(state: &mut State, slot: usize) -> u32
+    ensures { Stands (own_state state.old.session) → Stands (own_state state.new.session) }
+{
+    code_of(state::close(&mut state.session, slot))
+}
+
+/// `state::abandon`.
+pub fn abandon(state: &mut State, slot: usize) -> u32 {
+    code_of(state::abandon(&mut state.session, slot))
+}
+
+/// `State::list`.
+pub fn list(state: &mut State, count: &mut u64) -> u32
+    ensures { state.new.session ≡ state.old.session }
+{
+    match state.list() {
+        Ok(found) => {
+            *count = found as u64;
+            0
+        }
+        Err(error) => error.code(),
+    }
+}
