@@ -1,0 +1,269 @@
+/* Calls each function of wulameron.h, and compares what it gives with what the pages tell. Ends with the line
+ * `N passed, M failed`, and with status 1 where one failed. */
+#include "wulameron.h"
+
+#include <stdio.h>
+#include <string.h>
+
+static unsigned passed, failed;
+
+static void check(int holds, const char *what, int line)
+{
+    if (holds) {
+        passed++;
+    } else {
+        failed++;
+        printf("calls.c:%d: failed: %s\n", line, what);
+    }
+}
+
+#define CHECK(test) check((test), #test, __LINE__)
+#define GIVES(code, call) check((call) == (code), #call " is " #code, __LINE__)
+
+static wulameron_session *opened(void)
+{
+    wulameron_session *session = NULL;
+    GIVES(WULAMERON_OK, wulameron_open_table(WULAMERON_VERSION, &session));
+    CHECK(session != NULL);
+    return session;
+}
+
+static uint32_t asked(wulameron_session *session, uint32_t pattern, uint32_t how, uint64_t node, const char *name)
+{
+    return wulameron_begin(session, pattern, how, node, name, strlen(name));
+}
+
+/* Big-endian, as docs/BYTE_FORM.md tells. */
+static uint8_t *put(uint8_t *at, uint64_t number, int bytes)
+{
+    while (bytes-- > 0) *at++ = (uint8_t)(number >> (8 * bytes));
+    return at;
+}
+
+/* The hash of the service of events `lamps`: SHA-1 of `e` and the name, as sha1sum tells it. */
+static const uint8_t lamps_hash[WULAMERON_HASH_SIZE] = {0xf5, 0x10, 0xed, 0xf5, 0x36, 0xa9, 0x75, 0x62, 0x60, 0xad,
+    0x33, 0x23, 0x6a, 0xec, 0x91, 0x12, 0xb9, 0x37, 0xb5, 0x44};
+
+static void create_lamps(wulameron_session *session)
+{
+    uint64_t number = 99;
+    uint32_t refusal = 0;
+    GIVES(WULAMERON_OK, asked(session, WULAMERON_EVENT, WULAMERON_CREATE, 7, "lamps"));
+    GIVES(WULAMERON_OK, wulameron_set_number(session, WULAMERON_MAX_NOTIFIERS, 2));
+    GIVES(WULAMERON_OK, wulameron_set_number(session, WULAMERON_MAX_LISTENERS, 3));
+    GIVES(WULAMERON_OK, wulameron_set_number(session, WULAMERON_MAX_LISTENERS, 4));
+    GIVES(WULAMERON_OK, wulameron_set_number(session, WULAMERON_EVENT_ID_MAX_VALUE, 255));
+    GIVES(WULAMERON_OK, wulameron_set_number(session, WULAMERON_MAX_NODES, 2));
+    GIVES(WULAMERON_OK, wulameron_set_number(session, WULAMERON_NOTIFIER_CREATED_EVENT, 9));
+    GIVES(WULAMERON_OK, wulameron_set_none(session, WULAMERON_NOTIFIER_DROPPED_EVENT));
+    GIVES(WULAMERON_OK, wulameron_set_none(session, WULAMERON_NOTIFIER_DEAD_EVENT));
+    GIVES(WULAMERON_OK, wulameron_set_duration(session, WULAMERON_DEADLINE, 1, 500));
+    GIVES(WULAMERON_OK, wulameron_set_time(session, 1700000000, 5));
+    GIVES(WULAMERON_OK, wulameron_add_attribute(session, WULAMERON_TEXT("place"), WULAMERON_TEXT("attic")));
+    GIVES(WULAMERON_OK, wulameron_add_attribute(session, WULAMERON_TEXT("color"), NULL, 0));
+    GIVES(WULAMERON_OK, wulameron_send(session, 0, &number, &refusal));
+    CHECK(number == 0);
+    GIVES(WULAMERON_NO_REQUEST, wulameron_send(session, 1, &number, &refusal));
+}
+
+static void events(void)
+{
+    wulameron_session *session = opened();
+    uint64_t value = 0, seconds = 0, node = 0, count = 0;
+    uint32_t nanoseconds = 0, pattern = 0;
+    uint8_t hash[WULAMERON_HASH_SIZE], bytes[256], wanted[256], *at = wanted;
+    char text[16], other[16];
+    size_t length = 0, other_length = 0;
+    create_lamps(session);
+    GIVES(WULAMERON_OK, wulameron_get_service(session, 0, &pattern, &value, &node));
+    CHECK(pattern == WULAMERON_EVENT && value == 0 && node == 7);
+    GIVES(WULAMERON_OK, wulameron_get_number(session, 0, WULAMERON_MAX_LISTENERS, &value));
+    CHECK(value == 4);
+    GIVES(WULAMERON_OK, wulameron_get_number(session, 0, WULAMERON_NOTIFIER_CREATED_EVENT, &value));
+    CHECK(value == 9);
+    GIVES(WULAMERON_NONE, wulameron_get_number(session, 0, WULAMERON_NOTIFIER_DEAD_EVENT, &value));
+    CHECK(value == 9);
+    GIVES(WULAMERON_UNKNOWN_SETTING, wulameron_get_number(session, 0, WULAMERON_MAX_CLIENTS, &value));
+    GIVES(WULAMERON_OK, wulameron_get_duration(session, 0, WULAMERON_DEADLINE, &seconds, &nanoseconds));
+    CHECK(seconds == 1 && nanoseconds == 500);
+    GIVES(WULAMERON_OK, wulameron_get_duration(session, 0, WULAMERON_CREATION_TIME, &seconds, &nanoseconds));
+    CHECK(seconds == 1700000000 && nanoseconds == 5);
+    GIVES(WULAMERON_OK, wulameron_get_hash(session, 0, hash, sizeof hash, &length));
+    CHECK(length == sizeof hash && memcmp(hash, lamps_hash, sizeof hash) == 0);
+    GIVES(WULAMERON_TOO_SMALL, wulameron_get_name(session, 0, NULL, 0, &length));
+    CHECK(length == 5);
+    memset(text, 'x', sizeof text);
+    GIVES(WULAMERON_TOO_SMALL, wulameron_get_name(session, 0, text, 4, &length));
+    CHECK(text[0] == 'x');
+    GIVES(WULAMERON_OK, wulameron_get_name(session, 0, text, sizeof text, &length));
+    CHECK(length == 5 && memcmp(text, "lampsx", 6) == 0);
+    GIVES(WULAMERON_OK, wulameron_get_attribute_count(session, 0, &count));
+    CHECK(count == 2);
+    GIVES(WULAMERON_OK, wulameron_get_attribute(session, 0, 1, text, 16, &length, other, 16, &other_length));
+    CHECK(length == 5 && memcmp(text, "place", 5) == 0 && other_length == 5 && memcmp(other, "attic", 5) == 0);
+    GIVES(WULAMERON_OK, wulameron_get_attribute(session, 0, 0, text, 16, &length, NULL, 0, &other_length));
+    CHECK(length == 5 && memcmp(text, "color", 5) == 0 && other_length == 0);
+    GIVES(WULAMERON_NO_SUCH_ITEM, wulameron_get_attribute(session, 0, 2, text, 16, &length, other, 16, &other_length));
+    /* The description's bytes, put together by the page. */
+    memcpy(at, "IOX2\2", 5);
+    at = put(at + 5, 7, 8);
+    memcpy(at, lamps_hash, 20);
+    memcpy(at + 20, "\0\5lamps\0\2\0\5color\0\0\0\5place\0\5attic\1", 33);
+    at = put(put(put(put(at + 53, 2, 8), 4, 8), 255, 8), 2, 8);
+    at = put(put(put(put(put(at, 1, 1), 9, 8), 0, 1), 0, 1), 1, 1);
+    at = put(put(put(put(at, 1, 8), 500, 4), 1700000000, 8), 5, 4);
+    GIVES(WULAMERON_OK, wulameron_get_bytes(session, 0, bytes, sizeof bytes, &length));
+    CHECK(length == (size_t)(at - wanted) && memcmp(bytes, wanted, length) == 0);
+    GIVES(WULAMERON_OK, wulameron_close_session(session));
+}
+
+static void two_nodes(void)
+{
+    wulameron_session *session = opened();
+    uint64_t number = 0, value = 0, count = 9;
+    uint32_t refusal = 0;
+    create_lamps(session);
+    /* Another node opens it with less, and gets what was agreed on. */
+    GIVES(WULAMERON_OK, asked(session, WULAMERON_EVENT, WULAMERON_OPEN, 8, "lamps"));
+    GIVES(WULAMERON_OK, wulameron_set_number(session, WULAMERON_MAX_LISTENERS, 3));
+    GIVES(WULAMERON_SLOT_IN_USE, wulameron_send(session, 0, &number, &refusal));
+    GIVES(WULAMERON_NO_SUCH_SLOT, wulameron_send(session, 64, &number, &refusal));
+    GIVES(WULAMERON_OK, wulameron_send(session, 63, &number, &refusal));
+    GIVES(WULAMERON_OK, wulameron_get_number(session, 63, WULAMERON_MAX_LISTENERS, &value));
+    CHECK(value == 4);
+    /* With more it is refused: the 13th value of EventOpenError. */
+    GIVES(WULAMERON_OK, asked(session, WULAMERON_EVENT, WULAMERON_OPEN, 7, "lamps"));
+    GIVES(WULAMERON_OK, wulameron_set_number(session, WULAMERON_MAX_LISTENERS, 5));
+    GIVES(WULAMERON_REFUSED, wulameron_send(session, 1, &number, &refusal));
+    CHECK(refusal == WULAMERON_EVENT_OPEN_ERROR + 13);
+    GIVES(WULAMERON_SLOT_EMPTY, wulameron_get_number(session, 1, WULAMERON_MAX_LISTENERS, &value));
+    /* A key that the service hasn't: the 5th. */
+    GIVES(WULAMERON_OK, asked(session, WULAMERON_EVENT, WULAMERON_OPEN, 7, "lamps"));
+    GIVES(WULAMERON_OK, wulameron_require_key(session, WULAMERON_TEXT("wall")));
+    GIVES(WULAMERON_REFUSED, wulameron_send(session, 1, &number, &refusal));
+    CHECK(refusal == WULAMERON_EVENT_OPEN_ERROR + 5);
+    /* It is there already: the 4th value of EventCreateError. */
+    GIVES(WULAMERON_OK, asked(session, WULAMERON_EVENT, WULAMERON_CREATE, 9, "lamps"));
+    GIVES(WULAMERON_REFUSED, wulameron_send(session, 1, &number, &refusal));
+    CHECK(refusal == WULAMERON_EVENT_CREATE_ERROR + 4);
+    /* There is room for two nodes: the 16th. */
+    GIVES(WULAMERON_OK, asked(session, WULAMERON_EVENT, WULAMERON_OPEN, 9, "lamps"));
+    GIVES(WULAMERON_REFUSED, wulameron_send(session, 1, &number, &refusal));
+    CHECK(refusal == WULAMERON_EVENT_OPEN_ERROR + 16);
+    GIVES(WULAMERON_OK, wulameron_list(session, &count));
+    CHECK(count == 1);
+    /* Both leave, and nothing of it is left. */
+    GIVES(WULAMERON_OK, wulameron_close(session, 0));
+    GIVES(WULAMERON_SLOT_EMPTY, wulameron_close(session, 0));
+    GIVES(WULAMERON_OK, wulameron_close(session, 63));
+    GIVES(WULAMERON_NO_SUCH_SLOT, wulameron_close(session, 64));
+    GIVES(WULAMERON_OK, wulameron_list(session, &count));
+    CHECK(count == 0);
+    /* The one who opens a service that isn't there is refused: the 1st. An open or create creates it. */
+    GIVES(WULAMERON_OK, asked(session, WULAMERON_EVENT, WULAMERON_OPEN, 7, "lamps"));
+    GIVES(WULAMERON_REFUSED, wulameron_send(session, 1, &number, &refusal));
+    CHECK(refusal == WULAMERON_EVENT_OPEN_ERROR + 1);
+    GIVES(WULAMERON_OK, asked(session, WULAMERON_EVENT, WULAMERON_OPEN_OR_CREATE, 7, "lamps"));
+    GIVES(WULAMERON_OK, wulameron_send(session, 1, &number, &refusal));
+    /* Who lets go of it keeps its place. */
+    GIVES(WULAMERON_OK, wulameron_abandon(session, 1));
+    GIVES(WULAMERON_SLOT_EMPTY, wulameron_abandon(session, 1));
+    GIVES(WULAMERON_NO_SUCH_SLOT, wulameron_abandon(session, 64));
+    GIVES(WULAMERON_OK, wulameron_list(session, &count));
+    CHECK(count == 1);
+    GIVES(WULAMERON_OK, wulameron_close_session(session));
+}
+
+static void messages(void)
+{
+    wulameron_session *session = opened();
+    uint64_t number = 0, value = 0, size = 0, alignment = 0;
+    uint32_t refusal = 0, variant = 0;
+    char text[32];
+    size_t length = 0;
+    GIVES(WULAMERON_OK, asked(session, WULAMERON_PUBLISH_SUBSCRIBE, WULAMERON_CREATE, 1, "camera"));
+    GIVES(WULAMERON_OK, wulameron_set_number(session, WULAMERON_MAX_SUBSCRIBERS, 6));
+    GIVES(WULAMERON_OK, wulameron_set_number(session, WULAMERON_ENABLE_SAFE_OVERFLOW, 0));
+    GIVES(WULAMERON_OK, wulameron_set_type(session, WULAMERON_PAYLOAD, WULAMERON_DYNAMIC, WULAMERON_TEXT("u8"), 1, 1));
+    GIVES(WULAMERON_OK, wulameron_set_number(session, WULAMERON_PAYLOAD_ALIGNMENT, 64));
+    GIVES(WULAMERON_OK, wulameron_send(session, 0, &number, &refusal));
+    GIVES(WULAMERON_OK, wulameron_get_number(session, 0, WULAMERON_ENABLE_SAFE_OVERFLOW, &value));
+    CHECK(value == 0);
+    GIVES(WULAMERON_OK, wulameron_get_type(session, 0, WULAMERON_PAYLOAD, &variant, &size, &alignment));
+    CHECK(variant == WULAMERON_DYNAMIC && size == 1 && alignment == 64);
+    GIVES(WULAMERON_OK, wulameron_get_type_name(session, 0, WULAMERON_PAYLOAD, text, sizeof text, &length));
+    CHECK(length == 2 && memcmp(text, "u8", 2) == 0);
+    GIVES(WULAMERON_OK, wulameron_get_type(session, 0, WULAMERON_USER_HEADER, &variant, &size, &alignment));
+    CHECK(variant == WULAMERON_FIXED_SIZE && size == 0 && alignment == 1);
+    GIVES(WULAMERON_OK, asked(session, WULAMERON_REQUEST_RESPONSE, WULAMERON_CREATE, 1, "camera"));
+    GIVES(WULAMERON_OK, wulameron_set_number(session, WULAMERON_MAX_SERVERS, 3));
+    GIVES(WULAMERON_OK, wulameron_set_number(session, WULAMERON_ENABLE_FIRE_AND_FORGET_REQUESTS, 1));
+    GIVES(WULAMERON_OK,
+        wulameron_set_type(session, WULAMERON_RESPONSE_PAYLOAD, WULAMERON_FIXED_SIZE, WULAMERON_TEXT("Pose"), 24, 8));
+    GIVES(WULAMERON_OK, wulameron_send(session, 1, &number, &refusal));
+    GIVES(WULAMERON_OK, wulameron_get_number(session, 1, WULAMERON_MAX_SERVERS, &value));
+    CHECK(value == 3);
+    GIVES(WULAMERON_OK, wulameron_get_type(session, 1, WULAMERON_RESPONSE_PAYLOAD, &variant, &size, &alignment));
+    CHECK(variant == WULAMERON_FIXED_SIZE && size == 24 && alignment == 8);
+    GIVES(WULAMERON_UNKNOWN_SETTING, wulameron_get_type(session, 1, WULAMERON_PAYLOAD, &variant, &size, &alignment));
+    GIVES(WULAMERON_OK, wulameron_close_session(session));
+}
+
+static void what_is_wrong(void)
+{
+    static const char bad[] = "\377";
+    wulameron_session *session = NULL;
+    uint64_t number = 5;
+    uint32_t refusal = 6;
+    char name[256];
+    memset(name, 'n', sizeof name);
+    GIVES(WULAMERON_NULL, wulameron_open_table(WULAMERON_VERSION, NULL));
+    GIVES(WULAMERON_VERSION_DIFFERS, wulameron_open_table(WULAMERON_VERSION + 1, &session));
+    CHECK(session == NULL);
+    session = opened();
+    GIVES(WULAMERON_NULL, asked(NULL, WULAMERON_EVENT, WULAMERON_OPEN, 1, "lamps"));
+    GIVES(WULAMERON_NULL, wulameron_begin(session, WULAMERON_EVENT, WULAMERON_OPEN, 1, NULL, 1));
+    GIVES(WULAMERON_NULL, wulameron_send(session, 0, NULL, &refusal));
+    GIVES(WULAMERON_NO_REQUEST, wulameron_set_number(session, WULAMERON_MAX_NODES, 1));
+    GIVES(WULAMERON_NO_REQUEST, wulameron_set_clock_fault(session));
+    GIVES(WULAMERON_UNKNOWN_PATTERN, asked(session, 4, WULAMERON_OPEN, 1, "lamps"));
+    GIVES(WULAMERON_UNKNOWN_CALL, asked(session, WULAMERON_EVENT, 0, 1, "lamps"));
+    GIVES(WULAMERON_BAD_NAME, wulameron_begin(session, WULAMERON_EVENT, WULAMERON_OPEN, 1, NULL, 0));
+    GIVES(WULAMERON_BAD_NAME, wulameron_begin(session, WULAMERON_EVENT, WULAMERON_OPEN, 1, name, 256));
+    GIVES(WULAMERON_NOT_UTF8, wulameron_begin(session, WULAMERON_EVENT, WULAMERON_OPEN, 1, bad, 1));
+    GIVES(WULAMERON_NO_REQUEST, wulameron_send(session, 0, &number, &refusal));
+    GIVES(WULAMERON_OK, wulameron_begin(session, WULAMERON_PUBLISH_SUBSCRIBE, WULAMERON_CREATE, 1, name, 255));
+    GIVES(WULAMERON_UNKNOWN_SETTING, wulameron_set_number(session, WULAMERON_MAX_LISTENERS, 1));
+    GIVES(WULAMERON_UNKNOWN_SETTING, wulameron_set_none(session, WULAMERON_DEADLINE));
+    GIVES(WULAMERON_UNKNOWN_SETTING, wulameron_set_duration(session, WULAMERON_DEADLINE, 1, 0));
+    GIVES(WULAMERON_BAD_VALUE, wulameron_set_duration(session, WULAMERON_DEADLINE, 1, 1000000000));
+    GIVES(WULAMERON_BAD_VALUE, wulameron_set_time(session, 1, 1000000000));
+    GIVES(WULAMERON_BAD_VALUE, wulameron_set_number(session, WULAMERON_ENABLE_SAFE_OVERFLOW, 2));
+    GIVES(WULAMERON_BAD_VALUE, wulameron_set_number(session, WULAMERON_PAYLOAD_ALIGNMENT, 3));
+    GIVES(WULAMERON_BAD_VALUE, wulameron_set_type(session, WULAMERON_PAYLOAD, 3, WULAMERON_TEXT("u8"), 1, 1));
+    GIVES(WULAMERON_BAD_TYPE, wulameron_set_type(session, WULAMERON_PAYLOAD, 1, WULAMERON_TEXT("u8"), 1, 3));
+    GIVES(WULAMERON_BAD_TYPE, wulameron_set_type(session, WULAMERON_PAYLOAD, 1, NULL, 0, 1, 1));
+    GIVES(WULAMERON_NOT_UTF8, wulameron_set_type(session, WULAMERON_PAYLOAD, 1, bad, 1, 1, 1));
+    GIVES(WULAMERON_UNKNOWN_SETTING, wulameron_set_type(session, WULAMERON_REQUEST_PAYLOAD, 1, WULAMERON_TEXT("u8"), 1, 1));
+    GIVES(WULAMERON_BAD_ATTRIBUTE, wulameron_add_attribute(session, NULL, 0, WULAMERON_TEXT("v")));
+    GIVES(WULAMERON_BAD_ATTRIBUTE, wulameron_require_key(session, name, 65));
+    GIVES(WULAMERON_NOT_UTF8, wulameron_add_attribute(session, WULAMERON_TEXT("k"), bad, 1));
+    CHECK(number == 5 && refusal == 6);
+    GIVES(WULAMERON_OK, wulameron_send(session, 0, &number, &refusal));
+    CHECK(number == 0);
+    GIVES(WULAMERON_OK, wulameron_close_session(session));
+    GIVES(WULAMERON_OK, wulameron_close_session(NULL));
+    CHECK(strcmp(wulameron_code_text(WULAMERON_OK), "done") == 0);
+    CHECK(strcmp(wulameron_code_text(WULAMERON_NONE), "the setting has no value") == 0);
+    CHECK(strcmp(wulameron_code_text(1000), "no such code") == 0);
+}
+
+int main(void)
+{
+    events();
+    two_nodes();
+    messages();
+    what_is_wrong();
+    printf("%u passed, %u failed\n", passed, failed);
+    return failed == 0 ? 0 : 1;
+}

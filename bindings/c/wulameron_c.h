@@ -1,0 +1,66 @@
+/* The exports of libwulameron_c.a, one for one with crates/wulameron_c. A caller owes what stands here; wulameron.h has
+ * the same calls with each of that tested. tools/check-bindings compares the names with those of the archive. */
+#ifndef WULAMERON_C_H
+#define WULAMERON_C_H
+
+#include <stddef.h>
+#include <stdint.h>
+
+#ifdef __cplusplus
+extern "C" {
+#endif
+
+/* All zero before it is opened and after it is closed. It may be moved while no call runs. Never copy an open one and
+ * use both, never write its fields, and keep it on the thread that opened it. */
+typedef struct wulameron_c_handle {
+    uint64_t mark;
+    void *held;
+} wulameron_c_handle;
+
+/* No pointer is null, also at a length of 0. Inputs, outputs and the handle don't overlap. The bytes of an output are
+ * written, never read, and a place that isn't written stays as it was. */
+uint32_t wulameron_c_version(void);
+uint32_t wulameron_c_open_table(wulameron_c_handle *handle);
+uint32_t wulameron_c_close_session(wulameron_c_handle *handle);
+
+uint32_t wulameron_c_begin(wulameron_c_handle *handle, uint32_t pattern, uint32_t how, uint64_t node,
+    const uint8_t *name, size_t name_length);
+uint32_t wulameron_c_set_number(wulameron_c_handle *handle, uint32_t setting, uint64_t value);
+uint32_t wulameron_c_set_none(wulameron_c_handle *handle, uint32_t setting);
+uint32_t wulameron_c_set_duration(wulameron_c_handle *handle, uint32_t setting, uint64_t seconds,
+    uint32_t nanoseconds);
+uint32_t wulameron_c_set_type(wulameron_c_handle *handle, uint32_t part, uint32_t variant, const uint8_t *name,
+    size_t name_length, uint64_t size, uint64_t alignment);
+uint32_t wulameron_c_add_attribute(wulameron_c_handle *handle, const uint8_t *key, size_t key_length,
+    const uint8_t *value, size_t value_length);
+uint32_t wulameron_c_require_key(wulameron_c_handle *handle, const uint8_t *key, size_t key_length);
+uint32_t wulameron_c_set_time(wulameron_c_handle *handle, uint64_t seconds, uint32_t nanoseconds);
+uint32_t wulameron_c_set_clock_fault(wulameron_c_handle *handle);
+uint32_t wulameron_c_send(wulameron_c_handle *handle, size_t slot, uint64_t *number, uint32_t *refusal);
+uint32_t wulameron_c_close(wulameron_c_handle *handle, size_t slot);
+uint32_t wulameron_c_abandon(wulameron_c_handle *handle, size_t slot);
+uint32_t wulameron_c_list(wulameron_c_handle *handle, uint64_t *count);
+
+uint32_t wulameron_c_service(wulameron_c_handle *handle, size_t slot, uint32_t *pattern, uint64_t *number,
+    uint64_t *node);
+uint32_t wulameron_c_number(wulameron_c_handle *handle, size_t slot, uint32_t setting, uint64_t *value);
+uint32_t wulameron_c_time(wulameron_c_handle *handle, size_t slot, uint32_t setting, uint64_t *seconds,
+    uint32_t *nanoseconds);
+uint32_t wulameron_c_type_of(wulameron_c_handle *handle, size_t slot, uint32_t part, uint32_t *variant,
+    uint64_t *size, uint64_t *alignment);
+uint32_t wulameron_c_type_name(wulameron_c_handle *handle, size_t slot, uint32_t part, uint8_t *output,
+    size_t output_size, size_t *written);
+uint32_t wulameron_c_name(wulameron_c_handle *handle, size_t slot, uint8_t *output, size_t output_size,
+    size_t *written);
+uint32_t wulameron_c_hash(wulameron_c_handle *handle, size_t slot, uint8_t *output, size_t output_size,
+    size_t *written);
+uint32_t wulameron_c_attributes(wulameron_c_handle *handle, size_t slot, uint64_t *count);
+uint32_t wulameron_c_attribute(wulameron_c_handle *handle, size_t slot, size_t index, uint8_t *key, size_t key_size,
+    size_t *key_length, uint8_t *value, size_t value_size, size_t *value_length);
+uint32_t wulameron_c_bytes(wulameron_c_handle *handle, size_t slot, uint8_t *output, size_t output_size,
+    size_t *written);
+
+#ifdef __cplusplus
+}
+#endif
+#endif
