@@ -1,7 +1,9 @@
 -- What a caller gets by a read: a code, and values in their places.
-use Rattle.std.specs.Prelude.{◌≡◌, ◌<◌, ◌≤◌, ◌++◌, ℕ, List, length, drop, Option, Some, None, Result, Ok, Err, if◌then◌else◌}
-use Rattle.std.specs.Prelude.{nat_lt}
+use Rattle.std.specs.Prelude.{◌≡◌, ◌<◌, ◌≤◌, ◌++◌, ℕ, List, length, drop, nat_lt}
+use Rattle.std.specs.Prelude.{Option, Some, None, Result, Ok, Err, if◌then◌else◌}
 use Rattle.iceoryx2_commands.specs.Commands.{slot_count}
+use Rattle.iceoryx2_access.specs.Registered.{Registered}
+use Rattle.iceoryx2_description.specs.Description.{Description}
 use Rattle.iceoryx2_description.specs.Span.{Span}
 use Rattle.wulameron_request.specs.Codes.{code_of}
 use Rattle.wulameron_request.specs.declared.error.RequestError.{RequestError}
@@ -10,6 +12,11 @@ use Rattle.wulameron_state.specs.declared.reading.TheConstants.{DONE, NONE, TOO_
 -- the code of a slot that holds nothing
 abbrev pub empty_code : ℕ → ℕ
 empty_code slot = if nat_lt slot slot_count then 18 else 16
+
+-- What is read of what a slot holds, where it holds something. Else there is the code of that, and all places stay.
+pub data FromSlot (reads : Description → Type 0) (slot code : ℕ) (kept : Type 0) : Option Registered → Type 0 where
+  of_none : code ≡ empty_code slot → kept → FromSlot reads slot code kept None
+  of_held : {held : Registered} → reads held.description → FromSlot reads slot code kept (Some held)
 
 -- A number is in its place, or the place is as it was.
 abbrev pub ReadsNumber : Result (Option ℕ) RequestError → (old code new : ℕ) → Type 0

@@ -1,5 +1,11 @@
 //! What was agreed on in a slot, as a caller in C reads it: a code, and values in their places.
 
+ghost use Rattle.std.specs.Prelude.{◌≡◌, length};
+ghost use Rattle.iceoryx2_session.specs.SessionStates.{own_state};
+ghost use Rattle.iceoryx2_session.specs.Slots.{held_at};
+ghost use Rattle.wulameron_request.specs.Reading as by_number;
+ghost use Rattle.wulameron_state.specs.Reads.{FromSlot, ReadsNumber, ReadsTime};
+
 use crate::reading::{
     DONE, NO_SUCH_ITEM, TOO_SMALL, agreed, code_of_empty, read_number, read_time, write_text,
 };
@@ -28,7 +34,10 @@ pub fn service(
 }
 
 /// What was agreed on of a setting that is a number or a flag.
-pub fn number(state: &State, slot: usize, setting: u32, value: &mut u64) -> u32 {
+pub fn number(state: &State, slot: usize, setting: u32, value: &mut u64) -> u32
+    ensures { FromSlot (λ d. ReadsNumber (by_number.number_in d.pattern setting) value.old result value.new)
+        slot result (value.new ≡ value.old) (held_at (own_state state.now.session).slots slot) }
+{
     match agreed(&state.session, slot) {
         Some(description) => read_number(description, setting, value),
         None => code_of_empty(slot),
@@ -42,7 +51,12 @@ pub fn time(
     setting: u32,
     seconds: &mut u64,
     nanoseconds: &mut u32,
-) -> u32 {
+) -> u32
+    ensures { FromSlot (λ d. ReadsTime (by_number.time_in d.pattern setting) seconds.old nanoseconds.old
+        result seconds.new nanoseconds.new)
+        slot result ((seconds.new ≡ seconds.old) × (nanoseconds.new ≡ nanoseconds.old))
+        (held_at (own_state state.now.session).slots slot) }
+{
     match agreed(&state.session, slot) {
         Some(description) => read_time(description, setting, seconds, nanoseconds),
         None => code_of_empty(slot),
@@ -106,7 +120,10 @@ pub fn hash(state: &State, slot: usize, output: &mut [u8], written: &mut usize) 
 }
 
 /// How many attributes the service has.
-pub fn attributes(state: &State, slot: usize, count: &mut u64) -> u32 {
+pub fn attributes(state: &State, slot: usize, count: &mut u64) -> u32
+    ensures { FromSlot (λ d. (result ≡ 0) × (count.new ≡ length d.attributes))
+        slot result (count.new ≡ count.old) (held_at (own_state state.now.session).slots slot) }
+{
     match agreed(&state.session, slot) {
         Some(description) => {
             *count = description.attributes().len() as u64;

@@ -1,14 +1,17 @@
 //! What a caller in C asks of a state: each by numbers and bytes, answered by a code.
 
-ghost use Rattle.std.specs.Prelude.{◌≡◌, Err};
+ghost use Rattle.std.specs.Prelude.{◌≡◌, ℕ, Err, None, Result, slice_set};
+ghost use Rattle.iceoryx2_commands.specs.declared.command.Command.TheVariants as command;
 ghost use Rattle.iceoryx2_session.specs.SessionStates.{own_state};
 ghost use Rattle.wulameron_request.specs.Events as event_table;
 ghost use Rattle.wulameron_request.specs.Pending.{InSettings, Pieces};
 ghost use Rattle.wulameron_request.specs.PublishSubscribe as publish_table;
 ghost use Rattle.wulameron_request.specs.RequestResponse as request_table;
 ghost use Rattle.wulameron_request.specs.Requests.{Sets};
-ghost use Rattle.wulameron_state.specs.Asks.{IsCoded};
-ghost use Rattle.wulameron_state.specs.States.{Stands};
+ghost use Rattle.wulameron_state.specs.Asks.{Begins, IsCoded, TellsSent, code_of_slot};
+ghost use Rattle.wulameron_state.specs.Slots.{closed};
+ghost use Rattle.wulameron_state.specs.States.{GoesAs, Sends, Stands};
+ghost use Rattle.wulameron_state.specs.declared.error.SlotError.{SlotError};
 
 use crate::error::SlotError;
 use crate::state::{self, State};
@@ -28,9 +31,11 @@ pub fn begin(
     node: u64,
     name: &[u8],
 ) -> u32
-    ensures { state.new.session ≡ state.old.session }
+    ensures begins { IsCoded (Begins pattern how node name.now) state.old.pending result state.new.pending }
+    ensures session { state.new.session ≡ state.old.session }
 {
-    code_of_answer(state.pending.begin(alloc, pattern, how, node, name))
+    let answer = state.pending.begin(alloc, pattern, how, node, name);
+    code_of_answer(answer)
 }
 
 /// `Pending::set_number`.
@@ -46,8 +51,9 @@ pub fn set_number(state: &mut State, setting: u32, value: u64) -> u32
 
 /// `Pending::set_none`.
 pub fn set_none(state: &mut State, setting: u32) -> u32
-    ensures piece { IsCoded (Pieces (InSettings (Sets (event_table.none_setter setting) (Err RequestError.UnknownSetting)
-        (Err RequestError.UnknownSetting)))) state.old.pending result state.new.pending }
+    ensures piece { IsCoded (Pieces (InSettings (Sets (event_table.none_setter setting)
+        (Err RequestError.UnknownSetting) (Err RequestError.UnknownSetting))))
+        state.old.pending result state.new.pending }
     ensures session { state.new.session ≡ state.old.session }
 {
     let answer = state.pending.set_none(setting);
@@ -144,23 +150,38 @@ pub fn set_clock_fault(state: &mut State) -> u32
 
 /// `state::send`: the service's number, or with code 20 the refusal's, is in its place.
 pub fn send(state: &mut State, slot: usize, number: &mut u64, refusal: &mut u32) -> u32
-    ensures { Stands (own_state state.old.session) → Stands (own_state state.new.session) }
+    ensures sends { (answer : Result ℕ SlotError)
+        × Sends (own_state state.old.session) slot state.old.pending answer
+        (own_state state.new.session) state.new.pending
+        × TellsSent answer result number.old refusal.old number.new refusal.new }
+    ensures stands { Stands (own_state state.old.session) → Stands (own_state state.new.session) }
 {
-    match state::send(&mut state.session, &mut state.pending, slot) {
+    let answer = state::send(&mut state.session, &mut state.pending, slot);
+    tell_sent(answer, number, refusal)
+}
+
+/// Writes what is told of a request that was sent into its place, and gives the code.
+fn tell_sent(answer: Result<u64, SlotError>, number: &mut u64, refusal: &mut u32) -> u32
+    ensures { TellsSent answer result number.old refusal.old number.new refusal.new }
+{
+    match answer {
         Ok(found) => {
             *number = found;
             0
         }
-        Err(error) => {
-            if let SlotError::Refused(why) = error {
+        Err(error) => match error {
+            SlotError::Refused(why) => {
                 *refusal = number_of(why);
+                20
             }
-            error.code()
-        }
+            _ => error.code(),
+        },
     }
 }
 
-fn code_of(answer: Result<(), SlotError>) -> u32 {
+fn code_of(answer: Result<(), SlotError>) -> u32
+    ensures { result ≡ code_of_slot answer }
+{
     match answer {
         Ok(()) => 0,
         Err(error) => error.code(),
@@ -169,13 +190,21 @@ fn code_of(answer: Result<(), SlotError>) -> u32 {
 
 /// `state::close`.
 pub fn close(state: &mut State, slot: usize) -> u32
-    ensures { Stands (own_state state.old.session) → Stands (own_state state.new.session) }
+    ensures goes { (answer : Result (Unit {0}) SlotError)
+        × GoesAs closed (own_state state.old.session) (command.Close slot) answer (own_state state.new.session)
+        × (result ≡ code_of_slot answer) }
+    ensures stands { Stands (own_state state.old.session) → Stands (own_state state.new.session) }
 {
-    code_of(state::close(&mut state.session, slot))
+    let answer = state::close(&mut state.session, slot);
+    code_of(answer)
 }
 
 /// `state::abandon`.
-pub fn abandon(state: &mut State, slot: usize) -> u32 {
+pub fn abandon(state: &mut State, slot: usize) -> u32
+    ensures { own_state state.new.session ≡ record (own_state state.old.session) {
+      slots = slice_set (own_state state.old.session).slots slot None;
+    } }
+{
     code_of(state::abandon(&mut state.session, slot))
 }
 

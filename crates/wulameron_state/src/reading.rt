@@ -34,7 +34,8 @@ pub fn codes_of_reads()
 
 /// The description that the slot's node and its service agreed on, where the slot holds something.
 pub fn agreed(session: &Session<Table>, slot: usize) -> Option<&StaticConfig>
-    ensures { option_copied result ≡ option_map (λ held. held.description) (held_at (own_state session.now).slots slot) }
+    ensures { option_copied result
+        ≡ option_map (λ held. held.description) (held_at (own_state session.now).slots slot) }
 {
     match session.registration(slot) {
         Some(registration) => Some(registration.description()),
