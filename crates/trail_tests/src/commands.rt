@@ -9,7 +9,7 @@ use std::random::RandomSource;
 use std::{env, fs};
 use wulameron_arguments::asked::{LogLook, Look, Place};
 use wulameron_trail::commands::{check, log, watch};
-use wulameron_trail::input::Pauses;
+use wulameron_trail::pauses::Pauses;
 
 /// What happens to a log's file in a pause.
 #[derive(Clone, Copy)]

@@ -14,7 +14,7 @@ use wulameron_clean::clean::clean;
 use wulameron_hold::hold::hold;
 use wulameron_serve::run::run;
 use wulameron_trail::commands::{check, log, watch};
-use wulameron_trail::input::StandardInput;
+use wulameron_trail::pauses::Sleeper;
 use wulameron_trouble::trouble::report_wrong;
 use wulameron_view::viewing::{list, nodes, show};
 
@@ -63,12 +63,12 @@ fn answer(rt: &HostRuntime, asked: Asked<'_>) -> u8 {
         Asked::Nodes(look) => nodes(&rt, &look, &mut output, &mut rt.stderr()),
         Asked::Clean(asked) => clean(&rt, &asked, &mut output, &mut rt.stderr()),
         Asked::Log(asked) => {
-            let mut input = StandardInput::new(rt);
-            log(&rt, &asked, &mut input, &mut output, &mut rt.stderr())
+            let mut pauses = Sleeper::new(rt);
+            log(&rt, &asked, &mut pauses, &mut output, &mut rt.stderr())
         }
         Asked::Watch(look) => {
-            let mut input = StandardInput::new(rt);
-            watch(&rt, &look, &mut input, &mut output, &mut rt.stderr())
+            let mut pauses = Sleeper::new(rt);
+            watch(&rt, &look, &mut pauses, &mut output, &mut rt.stderr())
         }
         Asked::Check(place) => check(&rt, &place, &mut output, &mut rt.stderr()),
         Asked::Hold(asked) => hold(rt, &asked, rt.reader(), &mut output, &mut rt.stderr()),

@@ -143,7 +143,7 @@ fn log<'a>(alloc: Global, home: Option<&'a str>) -> Result<Command<'a>, AllocErr
         .arg(flag(
             alloc,
             "follow",
-            "Waits for more entries until the standard input ends",
+            "Waits for more entries until it is interrupted",
         ))?
         .arg(flag(
             alloc,
@@ -156,7 +156,7 @@ fn watch<'a>(alloc: Global, home: Option<&'a str>) -> Result<Command<'a>, AllocE
     let command = command_of(
         alloc,
         "watch",
-        "Prints each change of a service as it comes, until the standard input ends",
+        "Prints each change of a service as it comes, until it is interrupted",
     );
     with_json(alloc, home, command)
 }

@@ -7,7 +7,7 @@ ghost use Rattle.wulameron_trail.specs.Commands.{verdict_status as status_of_ver
 use crate::checker::{Verdict, check as verdict_on};
 use crate::diagram::begin_diagram;
 use crate::following::{LogFile, follow, open_file};
-use crate::input::Pauses;
+use crate::pauses::Pauses;
 use crate::printing::{Rest, show_entry};
 use crate::showing::{Changes, Lines};
 use crate::stopping::Stop;
@@ -30,18 +30,18 @@ pub const NOT_SOUND: u8 = 1;
 
 /// Prints the entries of a log, and gives the status: 0, or 3 where the log can't be read to its end, the output fails
 /// or there is no memory, of which the writer of errors has a line. Where it is to follow the log it goes on as that
-/// grows, until the input ends.
+/// grows, until a pause ends it.
 pub fn log<F: Files<File = File> + AllocGlobal, I: Pauses, W: Write, E: Write>(
     rt: &F,
     asked: &LogLook<'_>,
-    input: &mut I,
+    pauses: &mut I,
     output: &mut W,
     errors: &mut E,
 ) -> u8 {
     let alloc = rt.alloc();
     match LogFile::open(rt, asked.place.at) {
         Ok(mut log) => {
-            let ended = print_log(rt, asked, &mut log, input, output);
+            let ended = print_log(rt, asked, &mut log, pauses, output);
             report_end(alloc, asked.place.at, log.at(), ended, errors)
         }
         Err(fault) => report_refused(alloc, asked.place.at, fault, errors),
@@ -52,7 +52,7 @@ fn print_log<F: Files<File = File> + AllocGlobal, I: Pauses, W: Write>(
     rt: &F,
     asked: &LogLook<'_>,
     log: &mut LogFile,
-    input: &mut I,
+    pauses: &mut I,
     output: &mut W,
 ) -> Result<(), Stop> {
     if asked.is_diagram {
@@ -64,7 +64,7 @@ fn print_log<F: Files<File = File> + AllocGlobal, I: Pauses, W: Write>(
         is_diagram: asked.is_diagram,
     };
     if asked.follows {
-        return follow(rt, asked.place.at, log, &mut lines, input, output);
+        return follow(rt, asked.place.at, log, &mut lines, pauses, output);
     }
     print_once(rt.alloc(), log, &mut lines, output)
 }
@@ -97,18 +97,18 @@ fn print_once<W: Write>(
     }
 }
 
-/// Prints what each entry changes that comes from now on, until the input ends, and gives the status as `log` does.
+/// Prints what each entry changes that comes from now on, until a pause ends it, and gives the status as `log` does.
 pub fn watch<F: Files<File = File> + AllocGlobal, I: Pauses, W: Write, E: Write>(
     rt: &F,
     asked: &Look<'_>,
-    input: &mut I,
+    pauses: &mut I,
     output: &mut W,
     errors: &mut E,
 ) -> u8 {
     let alloc = rt.alloc();
     match LogFile::open(rt, asked.place.at) {
         Ok(mut log) => {
-            let ended = print_changes(rt, asked, &mut log, input, output);
+            let ended = print_changes(rt, asked, &mut log, pauses, output);
             report_end(alloc, asked.place.at, log.at(), ended, errors)
         }
         Err(fault) => report_refused(alloc, asked.place.at, fault, errors),
@@ -119,14 +119,14 @@ fn print_changes<F: Files<File = File> + AllocGlobal, I: Pauses, W: Write>(
     rt: &F,
     asked: &Look<'_>,
     log: &mut LogFile,
-    input: &mut I,
+    pauses: &mut I,
     output: &mut W,
 ) -> Result<(), Stop> {
     let mut changes = Changes {
         world: log.services(rt.alloc())?,
         is_json: asked.is_json,
     };
-    follow(rt, asked.place.at, log, &mut changes, input, output)
+    follow(rt, asked.place.at, log, &mut changes, pauses, output)
 }
 
 /// Prints whether a log is sound, and gives the status: 0, 1 where it isn't, or 3 where its file can't be read, the

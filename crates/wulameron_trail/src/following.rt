@@ -7,7 +7,7 @@
 ghost use Rattle.std.specs.Prelude.{◌≡◌};
 ghost use Rattle.iceoryx2_file_log.specs.Opening.{header_fault_of};
 
-use crate::input::Pauses;
+use crate::pauses::Pauses;
 use crate::printing::{Rest, Shows, show_entry, show_rest};
 use crate::showing::{Changes, Lines, Silence};
 use crate::stopping::Stop;
@@ -238,13 +238,13 @@ fn is_passing(stop: Stop, at: u64, damaged_at: Option<u64>) -> bool {
     stop == Stop::Damaged && damaged_at != Some(at)
 }
 
-/// Shows a log's entries as they come, until the input ends. What is written before that is shown.
+/// Shows a log's entries as they come, until a pause ends it. What is written before that is shown.
 pub fn follow<F: Files<File = File> + AllocGlobal, P: Follows, I: Pauses, W: Write>(
     rt: &F,
     path: &str,
     log: &mut LogFile,
     shown: &mut P,
-    input: &mut I,
+    pauses: &mut I,
     output: &mut W,
 ) -> Result<(), Stop> {
     let mut goes_on = true;
@@ -263,7 +263,7 @@ pub fn follow<F: Files<File = File> + AllocGlobal, P: Follows, I: Pauses, W: Wri
         if !goes_on {
             return Ok(());
         }
-        goes_on = input.pause();
+        goes_on = pauses.pause();
     }
     Err(Stop::Failed(Fault::TooManyTries))
 }

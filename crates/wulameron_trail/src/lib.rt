@@ -8,7 +8,7 @@ mod descriptions;
 pub mod diagram;
 pub mod entries;
 pub mod following;
-pub mod input;
+pub mod pauses;
 pub mod printing;
 mod reading;
 pub mod showing;
