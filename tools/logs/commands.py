@@ -58,9 +58,12 @@ class Command:
             found.append(self.lines.get())
         return found
 
-    def end(self):
-        """Ends its input, and gives its status and what it printed since then on both streams."""
-        self.process.stdin.close()
+    def end(self, interrupt=False):
+        """Ends its input, or interrupts it, and gives its status and what it printed since then on both streams."""
+        if interrupt:
+            self.process.send_signal(signal.SIGINT)
+        else:
+            self.process.stdin.close()
         try:
             status = self.process.wait(SECONDS)
         except subprocess.TimeoutExpired:
@@ -131,13 +134,14 @@ def check_dead(runs, path):
 def check_log(runs, path, first, follower):
     """The lines that log printed as they came, the first of which was read, are the entries of the file, and those that
     log prints at once."""
-    status, rest, err = follower.end()
-    lines = [first, *rest]
-    runs.need(status == 0, f"log --follow ended with {status}: {err}")
     replayed = runs.replay(path.read_bytes(), "after all commands")
     if not replayed:
         return
     entries = replayed[0].entries
+    lines = [first, *(follower.line() for _ in entries[1:])]
+    status, rest, err = follower.end(interrupt=True)
+    lines += rest
+    runs.need(status == -signal.SIGINT, f"log --follow ended with {status}: {err}")
     wanted = [f"{at} node {one.node} {VERBS[one.deed]} " for at, one in enumerate(entries)]
     runs.need(lines[0] is not None and len(lines) == len(wanted), f"log --follow printed {len(lines)} lines of {len(wanted)} entries")
     for line, front in zip(lines, wanted):
@@ -179,8 +183,8 @@ def commands(runs):
     runs.need(ended[0] == 0 and not ended[2], f"hold ended with {ended}")
     check_change(runs, watch, "left", 1)
     check_change(runs, watch, "removed", 1)
-    status, _, err = watch.end()
-    runs.need(status == 0, f"watch ended with {status}: {err}")
+    status, rest, err = watch.end(interrupt=True)
+    runs.need(status == -signal.SIGINT and not rest, f"watch ended with {status}, {rest}: {err}")
     check_listed(runs, path, {}, "after all have ended")
     check_log(runs, path, first, follower)
     check_checked(runs, path)
