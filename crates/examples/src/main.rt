@@ -2,6 +2,10 @@
 //!
 //! Each module but `node`, `pose` and `route` is an example. All but `accesses` and `shared` share one table, the
 //! storage in which their services stand.
+//!
+//! `Pose` and `Route`, two payload types: the size and the alignment that each states are those of `size_of` and
+//! `align_of`. `buffers::samples`: how many samples a subscriber holds is the sum of both agreed settings, and
+//! `None` exactly where that is 2^64 or more. What they print is stored.
 #![tactic(auto)]
 
 mod accesses;

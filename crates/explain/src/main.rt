@@ -1,4 +1,6 @@
-//! The program `explain`: the lines of `negotiate`, and behind each reply what it comes from.
+//! The program `explain`: the lines of `negotiate`, and after each reply what it comes from.
+//!
+//! `main` hands the standard streams to `serve` of `explain_serve`. Only that it is safe and ends is proved of it.
 #![tactic(auto)]
 
 use explain_serve::format::Format;

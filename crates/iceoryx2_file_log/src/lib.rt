@@ -1,4 +1,20 @@
 //! A log in a file: its header, what is done about unread bytes, where a handle stands, and why it refuses.
+//!
+//! `header::encode` and `decode` are exact; a log has one header, of 48 bytes. `remainder::front_of` finds exactly
+//! with what unread bytes begin: a whole entry, one of which more has to be read, what a writer left that died
+//! (`IsTorn`), or damage. `laws_of_tearing()`: no torn bytes begin with an entry. `laws_of_crashes()`, over bytes,
+//! with any bytes in place of a write that isn't synchronized: a crash of an append leaves the entries before it,
+//! with this one or without; each synchronized one stays; a cut takes none; a reader skips and invents none. Its
+//! premise: what is left in that place begins with no other entry.
+//!
+//! `snapshot_of` is exactly a header and the entries' forms. `finish_compaction` leaves a handle at the snapshot's
+//! end (`Finishes`) or, as `abandon_compaction` does, where it stood; `rejoin` stands before the snapshot of a file
+//! of the same log (`Rejoins`). A mark is cut off only where it is all that is left (`IsMarkCutOff`). `FileLog` has
+//! of each call what it makes of where the handle stands (`Place`): `next` shows the entry with which the bytes
+//! that it read begin; the file gets shorter only where all that is left is torn, or a mark (`SparesEntries`);
+//! `append` puts the whole form at the end (`Appends`) or leaves the position. After damage, or where nobody knows
+//! whether an append stands, each call is refused by that name. Handles begin after the header (`new_handle`);
+//! errors of `open` and `open_existing` have the path; `path::split` is exact. What a file holds no clause states.
 #![tactic(auto)]
 
 pub mod ahead;

@@ -1,4 +1,20 @@
 //! A storage that processes share: the world that each makes of one log.
+//!
+//! `follow` makes another's entry its node's access, or finds that the world grants it otherwise (`Follows`).
+//! `take_all` takes over what others appended, in order, and stops at an entry in an own node's name (`TakesOver`).
+//! Where the log goes on in another file the world comes to the snapshot's, but for who has only read
+//! (`IsSameButRead`, of the private `advance`); the way there (`course`) has no contract, and is compared. Each
+//! access of `Journal` is its fault with more entries taken over, or the own part after all entries, with its entry
+//! appended exactly where it is written down, or refused (`IsJournalAccess`). `refresh` and `adopt` keep what own
+//! nodes rely on (`Adopts`). `clean` gives back what another node has (`Cleans`): at Ok it has nothing, else what
+//! was given back stays so.
+//!
+//! `laws::journals()`: any run over any log is accesses of own nodes, of which any may be refused, after what
+//! others do; where entries are known the world is what they come to, in order. `laws::processes()`, of processes
+//! that began empty and have read fronts of one list (`HasRead`): each world agrees, no number is published twice,
+//! factories of one service and number carry one description, one that stands here stands wherever more is read
+//! unless its ticket is released there, and together no more nodes have one than its description allows (`few`).
+//! `laws::cleaning()`: cleaning leaves all others' factories standing (`spares`).
 #![tactic(auto)]
 
 pub mod cleaning;

@@ -1,4 +1,14 @@
 //! A log of accesses that processes share: its entries with their byte form, what a log is, and a log in memory.
+//!
+//! `form::encode` gives the form of the entry (`IsForm`), and `TooLong` exactly where its body is longer than the
+//! longest. `form::decode` finds an entry exactly where the bytes begin with its form, with how many bytes that
+//! has, unless memory runs out; `CutShort` comes exactly where the bytes end within a header, or sooner than a
+//! header that fits has it (`IsCutShort`); the rest is `Malformed`. `form::laws_of_forms()`: an entry has one form,
+//! entries with one form are equal, no form is the front of another, and a form whose end is missing is cut short.
+//!
+//! The trait `Log` has what each call makes of what the handle has taken and of what is unread, where these are
+//! known (`WhereKnown`). `MemoryLog` keeps it, and its holds and appends are exact but for memory (`Holds`,
+//! `AppendsOne`).
 #![tactic(auto)]
 
 pub mod entry;

@@ -1,5 +1,7 @@
 //! The storages that a builder works over, under one name: the trait, the table, journals of a log that processes
 //! share, scripts, and traces of any.
+//!
+//! No code: the crates that it names state what they prove.
 #![tactic(auto)]
 
 pub mod shared;

@@ -1,4 +1,18 @@
 //! A table in which nodes keep what they agreed on: rows, segments, phases and a counter.
+//!
+//! Each of the twelve accesses of `Table` answers and changes exactly what `IsTableAccess` has: the next batch of
+//! peers' steps, if one waits, and then the tests in their order and one step of the world at most; nothing is
+//! changed by a refusal, and out of memory comes only where every test passed. Each keeps the agreement of the
+//! table's world and gives a later one (`agrees`, `later`). `Table::new` and `starting_at` are the empty world,
+//! which agrees, with counter 0 and n; `schedule` replaces what waits; `pending`, `skipped`, `list`, `has_tag`,
+//! `tickets` and `counter` are exact.
+//!
+//! Below it stands `StoredWorld`, whose nine accesses that change what others may have to know take what writes
+//! them down (`Recorder`). Each is the node's own part with nothing written, a granted own part that was written
+//! once, or the general fault with the world as it was, and the recorder refused (`IsRecordedPart`); the first two
+//! are told apart by answer and world (`is_written`). `StoredWorld::agrees` is true exactly where the world agrees,
+//! and `agrees_at`, `tickets_agree_at` and `numbers_agree` likewise, unless a description finds no memory;
+//! `is_same` is exact. `spend` spends a number as locks that are given up do (`laws_of_spending()`).
 #![tactic(auto)]
 
 pub mod agreeing;

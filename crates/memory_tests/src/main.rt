@@ -3,6 +3,10 @@
 //! The program asks for blocks of reserved sizes to say which requests are to be refused, and a preloaded
 //! allocator obeys (`tools/refuse.c`). Without one nothing is refused, and each scenario ends at its first
 //! try. Each line tells a scenario and how many requests were refused in it.
+//!
+//! Each request of a call is refused in turn, alone and with all later ones (`tools/check-memory`): the right error
+//! comes, nothing has changed but at most one spent number, and the same call is granted afterwards. How many
+//! requests each scenario has stands in `crates/memory_tests/refused`.
 #![tactic(auto)]
 
 mod asks;

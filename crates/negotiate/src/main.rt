@@ -1,4 +1,8 @@
 //! The program `negotiate`: commands by line, over a table of its own.
+//!
+//! `main` hands the standard streams to `serve` of `negotiate_serve`, and turns its ending into a status and a line
+//! on the standard error. What the streams hold no contract can state, so of `main` only that it is safe and ends
+//! is proved.
 #![tactic(auto)]
 
 use negotiate_serve::ending::{Fault, NOT_A_COMMAND, status};

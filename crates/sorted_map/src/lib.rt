@@ -1,4 +1,8 @@
 //! A map as a vector in the order of its keys.
+//!
+//! Its functions are those of a finite map (`map_of`): `get`, `insert`, `remove`, `replace`, and a value that is
+//! lent for writing. `reserve` is refused only where there is no room, and `insert` needs room only for a new key
+//! (`HasRoom`).
 #![tactic(auto)]
 
 ghost use Rattle.std.specs.Prelude.{◌≡◌, ◌<◌, ◌≤◌, true, vec_len, vec_capacity, nat_lt};

@@ -1,4 +1,6 @@
 //! Tests of what is printed of logs, and of what is found wrong with one, with values from outside the program.
+//!
+//! Logs that Python wrote are checked whole and with each byte changed, and what is printed of them is compared.
 #![tactic(auto)]
 
 #[cfg(test)]

@@ -1,4 +1,6 @@
 //! The program `wulameron`: commands by line, over a log that processes share.
+//!
+//! `main` hands its words to the command that they ask for. Only that it is safe and ends is proved of it.
 #![tactic(auto)]
 
 use clap::Error;

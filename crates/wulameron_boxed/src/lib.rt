@@ -1,4 +1,6 @@
 //! A box by its pointer, for values of any type: where C holds a value, it holds such a pointer.
+//!
+//! `Apart::take` and `Apart::join` take a box of any type apart and put it together again. Both are proved by hand.
 #![tactic(auto)]
 
 ghost use Rattle.std.specs.Prelude.{◌≡◌};

@@ -1,6 +1,10 @@
 //! The library for callers in C: a session that is opened, asked again and again, and closed.
 //!
 //! Nothing here blocks, locks or starts a thread. What a caller owes stands in `bindings/c/wulameron_c.h`.
+//!
+//! Each export leaves a sound handle sound (`IsSound`): a state is freed once. The three functions of a state's
+//! pointer are proved by hand. What an export does to the state is the function below it, by reading. The header
+//! and the shim are tested by `tools/check-bindings` alone.
 #![tactic(auto)]
 
 mod calls;

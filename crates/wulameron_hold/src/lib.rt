@@ -1,4 +1,9 @@
 //! The command that makes one call over a log that processes share, and holds what it gives until an input ends.
+//!
+//! `holding::hold_call`, over a session of a journal: the call is made by its own grammar; where it gives a factory
+//! exactly what `show` prints of it is written, or a front of that, and the slot is closed afterwards, whatever
+//! came; where it is refused nothing is written (`Holds`, `HoldsMade`). Its status is exact (`hold_status`). That
+//! it waits until the input ends is tested.
 #![tactic(auto)]
 
 pub mod hold;

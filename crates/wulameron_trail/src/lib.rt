@@ -1,4 +1,16 @@
 //! What `wulameron log`, `watch` and `check` print: a log's entries, what they change, and what is wrong with a log.
+//!
+//! `entries::entry_line`, `changes::change_text`, `changes::change_json` and the diagram are exactly their
+//! definitions; `change_of` is what an entry changes of a service, and at most one thing (`IsChangeOf`).
+//! `printing::show_rest`, over any reader whose bytes are known: an output gets exactly what is shown of the
+//! entries there, in order, up to a torn end, a mark, damage, or an entry that isn't followed; where it fails, a
+//! front of that (`ShowsRest`).
+//!
+//! `checker::check`: where it finds a log sound, the bytes are a header and entries each of which is followed to a
+//! world that agrees, and then nothing, or what a writer left that died (`IsSound`); what else it names is there,
+//! after a sound front (`IsVerdict`), but for an entry that isn't answered: any world meets that clause, and only
+//! tests show that no sound log is refused so. `print_verdict` writes its line (`TellsVerdict`). Of the loops that
+//! look at a file again, and go over to the file in which a log goes on, only that they are safe is proved.
 #![tactic(auto)]
 
 pub mod changes;

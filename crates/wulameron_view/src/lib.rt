@@ -1,4 +1,15 @@
 //! The commands `list`, `show` and `nodes` of `wulameron`, and what they print: texts for people and for programs.
+//!
+//! `services::services_of` lists each published service of a world once, by its name, its pattern and its hash, and
+//! those that are being created (`AreServicesOf`). The table, all that is known of one service, and both as JSON
+//! are exactly their definitions (`list_text`, `show_text`, `list_json`, `show_json`).
+//!
+//! `looking::print_list` and `print_show`, over any log: either all that others appended was taken over, and
+//! exactly the text of the world then is written, or a front of it where the output refuses; or not all was, and
+//! nothing is written. `show` prints a service only where it is the one that is wanted, and there is none, or there
+//! are several, only where that is so (`LooksAt`, `IsListed`, `IsShown`, `IsUnshown`). The status follows
+//! (`EndsLook`, `EndsNodes`). Of `list`, `show` and `nodes`, which open the file, only that they are safe is
+//! proved.
 #![tactic(auto)]
 
 pub mod escape;
