@@ -1,4 +1,4 @@
--- What the program prints, by what it is told.
+-- What the program prints, by its argument.
 use Rattle.std.specs.Prelude.{ℕ, List, [], Option, Some, None, bytes_eq, codes, if◌then◌else◌}
 use Rattle.explain_serve.specs.declared.format.Format.{Format}
 use Rattle.explain_serve.specs.declared.format.Format.TheVariants as format

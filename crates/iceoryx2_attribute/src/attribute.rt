@@ -73,7 +73,7 @@ impl fmt::Display for AttributeError {
 
 impl Error for AttributeError {}
 
-/// Why a pair isn't put behind the others.
+/// Why a pair isn't put after the others.
 #[derive(Clone, Copy, Debug, PartialEq, Eq)]
 pub enum PushError {
     /// With it the pairs would not ascend, or it or their number would be past its limit.

@@ -6,7 +6,7 @@ ghost use Rattle.iceoryx2_builder_common.specs.Requested.{no_types, requested_me
 use iceoryx2_types::types::{Alignment, MessageTypeDetails, TypeDetail, ZeroCopySend};
 use std::alloc::{AllocError, Global};
 
-/// What is told in place of a message's own types, and how far its payload is to be aligned.
+/// What is given in place of a message's own types, and how far its payload is to be aligned.
 #[derive(Debug, Drop, PartialEq, Eq)]
 pub struct RequestedTypes {
     /// In place of the user header's own type.

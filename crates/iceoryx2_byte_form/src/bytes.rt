@@ -16,19 +16,19 @@ use std::alloc::{AllocError, Global};
 /// The four characters with which each form begins.
 pub const MAGIC: [u8; 4] = *b"IOX2";
 
-/// The version of the form of a description that tells no creator, the byte behind the magic.
+/// The version of the form of a description without a creator, the byte after the magic.
 pub const VERSION_WITHOUT_CREATOR: u8 = 1;
 
-/// The version of the form of a description that tells its creator. The creator's id stands behind it.
+/// The version of the form of a description with its creator. The creator's id stands behind it.
 pub const VERSION_WITH_CREATOR: u8 = 2;
 
-/// The byte that says that a service is one of events.
+/// The byte of a service of events.
 pub const EVENT_BYTE: u8 = 1;
 
-/// The byte that says that a service is one of publish-subscribe.
+/// The byte of a service of publish-subscribe.
 pub const PUBLISH_SUBSCRIBE_BYTE: u8 = 2;
 
-/// The byte that says that a service is one of request-response.
+/// The byte of a service of request-response.
 pub const REQUEST_RESPONSE_BYTE: u8 = 3;
 
 /// The bytes of the patterns as numbers, since a wrong constant would go with the form that cites it.

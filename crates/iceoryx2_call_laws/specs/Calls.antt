@@ -1,4 +1,4 @@
--- What is said of whole calls: of the worlds that their accesses lead through, and of each access.
+-- What is stated of whole calls: of the worlds that their accesses lead through, and of each access.
 use Rattle.std.specs.Prelude.{◌≡◌, ◌+◌, ℕ, Bool, List, [], ◌∷◌}
 use Rattle.iceoryx2_description.specs.declared.description.ServiceHash.{ServiceHash}
 use Rattle.iceoryx2_world.specs.declared.world.Participant.TheVariants.{Node}

@@ -1,4 +1,4 @@
--- What a session is told.
+-- What a session is given.
 use Rattle.std.specs.Prelude.{ℕ}
 use Rattle.iceoryx2_commands.specs.declared.command.TheConstants.{SLOTS}
 

@@ -57,7 +57,7 @@ pub struct Call {
     pub now: Result<Time, ClockFault>,
 }
 
-/// What a session is told.
+/// What a session is given.
 #[derive(Debug, Drop)]
 pub enum Command {
     Call(Call),

@@ -1,4 +1,4 @@
--- Answers told in another way.
+-- Answers put in another way.
 use Rattle.std.specs.Prelude.{Result, Ok, Err}
 
 -- the answer with something else made of its success

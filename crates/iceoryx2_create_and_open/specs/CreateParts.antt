@@ -1,4 +1,4 @@
--- What the parts of the code of create are said by.
+-- What the contracts of the parts of create cite.
 use Rattle.std.specs.Prelude.{◌≡◌, Bool, false, List, [], ◌∷◌, ◌++◌, Result, Err, Option, Some, None, ℕ}
 use Rattle.iceoryx2_description.specs.declared.description.ServiceHash.{ServiceHash}
 use Rattle.iceoryx2_description.specs.Description.{Description}

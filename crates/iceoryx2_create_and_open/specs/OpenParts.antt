@@ -1,4 +1,4 @@
--- What the parts of the code of open are said by.
+-- What the contracts of the parts of open cite.
 use Rattle.std.specs.Prelude.{◌≡◌, ℕ, List, [], ◌∷◌, ◌++◌, Result, Ok, Err, Option, Some, None}
 use Rattle.iceoryx2_description.specs.declared.description.ServiceHash.{ServiceHash}
 use Rattle.iceoryx2_description.specs.Description.{Description}

@@ -1,4 +1,4 @@
--- What a description tells of messages.
+-- What a description has of messages.
 use Rattle.std.specs.Prelude.{◌<◌, ◌^◌}
 use Rattle.iceoryx2_types.specs.Types.{Detail, IsDetail, Message}
 

@@ -303,7 +303,7 @@ impl Model for StaticConfig {
 impl StaticConfig {
     ghost use Rattle.iceoryx2_description.specs.Description.{IsDescription, max_nodes_of};
 
-    /// The description of these parts, which tells no creator.
+    /// The description of these parts, without a creator.
     pub fn new(
         hash: ServiceHash,
         name: ServiceName,
@@ -332,7 +332,7 @@ impl StaticConfig {
         }
     }
 
-    /// The same description with this node as its creator, in place of any that it told before.
+    /// The same description with this node as its creator, in place of any that it had before.
     pub fn with_creator(self, creator: u64) -> StaticConfig
         ensures value { result ≡ record self { creator = Some creator } }
         ensures limits { IsDescription result }
@@ -386,7 +386,7 @@ impl StaticConfig {
         &self.pattern
     }
 
-    /// The id of the node that created the service, where the description tells it.
+    /// The id of the node that created the service, where the description has it.
     pub fn creator(&self) -> Option<u64>
         ensures value { result ≡ self.now.creator }
         ensures limits { IsDescription self.now }

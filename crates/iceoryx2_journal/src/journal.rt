@@ -163,7 +163,7 @@ impl<L: Log> Journal<L> {
         }
     }
 
-    /// Takes over what others appended, and tells whether that was all. It isn't where the log can't be held or read, or
+    /// Takes over what others appended, and answers whether that was all. It isn't where the log can't be held or read, or
     /// the journal is over: then it stays as far as it was, or as it came.
     pub fn catch_up(&mut self) -> bool
         ensures takes { Begins L.contents true result self.old self.new }

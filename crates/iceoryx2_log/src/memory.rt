@@ -12,7 +12,7 @@ use crate::log::{Log, LogError};
 use std::alloc::{AllocError, Global};
 use std::marker::Model;
 
-/// Entries that others append, one behind the other.
+/// Entries that others append, one after the other.
 #[derive(Debug)]
 pub struct Batch {
     entries: Vec<Entry>,
@@ -176,7 +176,7 @@ impl MemoryLog {
         entries
     }
 
-    /// Lets a batch come behind those that wait. An `Err` changes nothing.
+    /// Lets a batch come after those that wait. An `Err` changes nothing.
     pub fn schedule(&mut self, batch: Batch) -> Result<(), AllocError>
         ensures ok { OnOk result (self.new ≡ record self.old { batches = self.old.batches ++ batch ∷ [] }) }
         ensures err { OnErr result (self.new ≡ self.old) }

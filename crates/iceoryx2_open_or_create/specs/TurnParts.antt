@@ -1,4 +1,4 @@
--- What the code of open or create, and one round of it, are said by.
+-- What the contracts of open or create, and of one round of it, cite.
 use Rattle.std.specs.Prelude.{false, List, Result, Option, Some, None}
 use Rattle.iceoryx2_access.specs.Registered.{Registered}
 use Rattle.iceoryx2_access.specs.Letter.{Letter}

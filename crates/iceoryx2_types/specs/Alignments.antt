@@ -1,4 +1,4 @@
--- That the alignments of types that say theirs are powers of two, which the tests find by counting bits.
+-- That the stated alignments of types are powers of two, which the tests find by counting bits.
 use Rattle.std.specs.Prelude.{◌≡◌, true, refl}
 use Rattle.std.specs.Int.{is_power_of_two}
 use Rattle.std.specs.Int.Count.{ones}

@@ -1,4 +1,4 @@
--- Types of messages: what is told of one, and when what one message is made of fits another.
+-- Types of messages: what is known of one, and when what one message is made of fits another.
 use Rattle.std.specs.Prelude.{ℕ, ◌≡◌, ◌≤◌, ◌*◌, List, length, max, Option, Some, None}
 use Rattle.std.specs.Prelude.{Bool, true, false, ◌&&◌, IsTrue, bytes_eq, nat_eq, nat_le}
 use Rattle.std.specs.Int.{is_power_of_two}

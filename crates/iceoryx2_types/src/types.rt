@@ -36,7 +36,7 @@ pub fn limits_of_type_names()
     ensures max_name { MAX_TYPE_NAME_LENGTH ≡ 256 }
 {}
 
-/// Whether a message holds one value of its type, or a number of them that is told when it is sent.
+/// Whether a message holds one value of its type, or a number of them that is known when it is sent.
 #[derive(Clone, Copy, Debug, PartialEq, Eq)]
 pub enum TypeVariant {
     /// One value.

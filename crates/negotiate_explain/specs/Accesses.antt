@@ -1,4 +1,4 @@
--- What is told of the accesses of a call.
+-- What is printed of the accesses of a call.
 use Rattle.std.specs.Prelude.{ℕ, ◌-◌, List, [], ◌++◌, length, codes, decimal, nat_eq, if◌then◌else◌}
 use Rattle.std.specs.List.{flat_map}
 use Rattle.iceoryx2_traced.specs.declared.traced.entry.Entry.{Entry}

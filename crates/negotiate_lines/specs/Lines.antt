@@ -1,4 +1,4 @@
--- What a line says.
+-- What a line is.
 use Rattle.std.specs.Prelude.{ℕ, ◌≡◌, ◌≢◌, ◌^◌, ◌-◌, ◌==◌, Bool, true, false, List, [], ◌∷◌, codes}
 use Rattle.std.specs.Prelude.{length, take, slice_index, if◌then◌else◌}
 use Rattle.std.specs.Str.{IsUtf8}

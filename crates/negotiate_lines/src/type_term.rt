@@ -47,7 +47,7 @@ fn parts(value: &str) -> Option<(&str, &str, &str, &str)>
     Some((first, second, third, fourth))
 }
 
-/// What is told of a type: `fixed` or `dynamic`, its name, its size and its alignment in bytes, with
+/// What is known of a type: `fixed` or `dynamic`, its name, its size and its alignment in bytes, with
 /// three commas between them. `AllocError` where the copy of the name finds no memory.
 pub fn type_detail(alloc: Global, value: &str) -> Result<TypeDetail, TermError>
     ensures { Reads (IsDetailTerm value.now) result }

@@ -1,4 +1,4 @@
--- What a program says of an input, line by line. docs/PROGRAM.md tells the same in words.
+-- What a program writes of an input, line by line. docs/PROGRAM.md has the same in words.
 use Rattle.std.specs.Prelude.{◌≡◌, ℕ, ◌+◌, ◌-◌, ◌^◌, List, [], ◌∷◌, ◌++◌, Option, None, Result, Ok, Err}
 use Rattle.std.specs.Prelude.{codes, decimal, length, replicate}
 use Rattle.std.specs.List.{concat}

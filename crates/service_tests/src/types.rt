@@ -18,7 +18,7 @@ use std::alloc::Global;
 use std::mem::{align_of, size_of};
 use std::process::Abort;
 
-/// What is told of a type: its variant, its name, its size and its alignment.
+/// What is known of a type: its variant, its name, its size and its alignment.
 pub type Told<'a> = (TypeVariant, &'a str, u64, u64);
 
 /// What is told of one `i64`.

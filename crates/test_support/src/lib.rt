@@ -1,5 +1,5 @@
 //! What the crates of tests share: settings, what is listed, calls of any pattern, and what their refusals
-//! say. Nothing of it is expected of the layer by itself: the tests say what they want.
+//! are called. Nothing of it is expected of the layer by itself: the tests have what they want.
 #![tactic(auto)]
 
 pub mod calls;

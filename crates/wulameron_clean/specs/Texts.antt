@@ -1,4 +1,4 @@
--- What is said of cleaning up for nodes.
+-- What is written of cleaning up for nodes.
 use Rattle.std.specs.Prelude.{◌≡◌, ℕ, Bool, ◌==◌, ◌&&◌, cond, List, [], ◌++◌, map, Some, codes, decimal}
 use Rattle.std.specs.List.{flat_map}
 use Rattle.iceoryx2_access.specs.Run.{Run}

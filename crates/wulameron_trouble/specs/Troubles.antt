@@ -1,4 +1,4 @@
--- What goes wrong at a log, and what is told of it.
+-- What goes wrong at a log, and what is written of it.
 use Rattle.std.specs.Prelude.{◌≡◌, ℕ, Bool, true, false, List, ◌++◌, Option, Some, None, Result, Ok, Err}
 use Rattle.std.specs.Prelude.{option_map, codes}
 use Rattle.iceoryx2_file_log.specs.declared.error.FileFault.{FileFault}

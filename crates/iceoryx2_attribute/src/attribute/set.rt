@@ -166,7 +166,7 @@ impl AttributeSet {
         self.pairs.is_empty()
     }
 
-    /// Puts a pair behind the others, without a search. It is refused where with it the pairs would
+    /// Puts a pair after the others, without a search. It is refused where with it the pairs would
     /// not ascend, where there are 64 already, and where a length is past its limit; then nothing
     /// changes, and nothing does where memory runs out.
     pub fn push_ascending(&mut self, key: String, value: String) -> Result<(), PushError>

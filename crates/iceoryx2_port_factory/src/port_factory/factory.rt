@@ -11,7 +11,7 @@ use iceoryx2_attribute::attribute::AttributeSet;
 use iceoryx2_description::description::{MessagingPattern, ServiceHash, ServiceName};
 use std::marker::{Model, PhantomData};
 
-/// What tells the services of one pattern from those of others.
+/// How the services of one pattern differ from those of others.
 pub trait Kind {
     /// The settings of its services.
     type StaticConfig;
@@ -80,7 +80,7 @@ impl<S: Service, K: Kind> PortFactory<S, K> {
         self.registration.description().attributes()
     }
 
-    /// The id of the node that created the service, where its description tells it.
+    /// The id of the node that created the service, where its description has it.
     pub fn creator(&self) -> Option<u64>
         ensures { result ≡ self.now.description.creator }
     {

@@ -9,7 +9,7 @@ use iceoryx2_types::types::ZeroCopySend;
 use iceoryx2_types::types::request_response::{RequestHeader, ResponseHeader};
 use std::alloc::{AllocError, Global};
 
-/// What is told in place of the own types of a request and of a response, and how far their
+/// What is given in place of the own types of a request and of a response, and how far their
 /// payloads are to be aligned.
 #[derive(Debug, Drop, PartialEq, Eq)]
 pub struct RequestedMessages {

@@ -86,7 +86,7 @@ struct Fields {
     alignment: Alignment,
 }
 
-/// What is told of a type: whether a message holds one value or a number of them, and the name, the
+/// What is known of a type: whether a message holds one value or a number of them, and the name, the
 /// size and the alignment of one. It is kept in memory of its own, so that what holds it stays small.
 #[derive(Debug)]
 pub struct TypeDetail {

@@ -63,7 +63,7 @@ impl MessageTypeDetails {
         }
     }
 
-    /// What the three types say of themselves: one header, one user header, and a payload of one
+    /// What the three types state of themselves: one header, one user header, and a payload of one
     /// value or a number of them. `AllocError` where there was no memory for their names.
     pub fn from<H: ZeroCopySend, U: ZeroCopySend, P: ZeroCopySend>(
         alloc: Global,

@@ -41,7 +41,7 @@ pub trait ZeroCopySend {
         ensures { result ≡ detail.alignment };
 }
 
-/// A number of values of one type, one behind the other.
+/// A number of values of one type, one after the other.
 pub struct Slice<P> {
     of: PhantomData<P>,
 }
