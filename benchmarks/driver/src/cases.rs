@@ -1,13 +1,13 @@
 //! What is measured.
 
 use crate::Program;
-use crate::maps::SortedVecs;
 use crate::plain::description::Config;
-use crate::plain::lines::{Line, parse};
+use crate::plain::lines::{Line, parse, serve};
+use crate::plain::records::Records;
 use crate::plain::services::ListedRow;
 use crate::plain::session::Session;
 use crate::plain::table::Table;
-use crate::scenarios::{Names, Steps, used_time};
+use crate::scenarios::{Names, Steps};
 use crate::texts::{
     PATTERNS, PatternTexts, SERVICES, mixed_chunks, mixed_steps, mixed_texts, plain_lines,
 };
@@ -88,19 +88,26 @@ fn pattern_case(pattern: PatternTexts, with_attributes: bool, rounds: usize) -> 
     }
 }
 
-/// Texts of lines, each by a new session.
+/// How long the replies to lines are.
+fn room_for(text: &[u8]) -> usize {
+    let mut replies = Vec::new();
+    serve::<Records>(text, &mut replies);
+    replies.len()
+}
+
+/// Texts of lines, each by a new session, with just the room for the replies.
 fn lines_case(name: &str, texts: Vec<Vec<u8>>) -> Case {
+    let rooms: Vec<usize> = texts.iter().map(|text| room_for(text)).collect();
     let lines = texts.iter().flatten().filter(|byte| **byte == b'\n');
     Case {
         parts: vec![part(name, 0, "line", lines.count())],
         sections: [None, Some(0)].repeat(texts.len()),
         run: Box::new(move |program| {
             let (mut time, mut sum) = (0, 0);
-            for text in &texts {
-                let begin = used_time();
-                let replies = (program.lines)(text, 40 * text.len());
-                time += used_time() - begin;
-                sum = add_bytes(sum, &replies.text);
+            for (text, room) in texts.iter().zip(&rooms) {
+                let (taken, replies) = (program.lines)(text, *room);
+                time += taken;
+                sum = add_bytes(sum, &replies);
             }
             (vec![time], sum)
         }),
@@ -127,7 +134,7 @@ fn peers_case(texts: usize) -> Case {
 
 /// The byte form of what a line creates. It has no bytes where the line creates nothing.
 fn form_of(line: &str) -> Vec<u8> {
-    let mut session = Session::new(Config::default(), Table::<SortedVecs>::new());
+    let mut session = Session::new(Config::default(), Table::<Records>::new());
     if let Ok(Line::Command(command)) = parse(line.as_bytes()) {
         session.apply(command);
     }

@@ -15,7 +15,9 @@ mod texts;
 
 use crate::cases::{Case, Part, Scale, cases, services};
 use crate::maps::{SortedVecs, Trees};
-use crate::scenarios::{Names, Replies, Steps, Times};
+use crate::plain::five_maps::FiveMaps;
+use crate::plain::records::Records;
+use crate::scenarios::{Names, Steps, Times};
 use std::process::ExitCode;
 
 /// A program that is measured.
@@ -24,12 +26,12 @@ pub struct Program {
     services: fn(&Names) -> (Times, u64),
     standing: fn(&[u8]) -> u64,
     commands: fn(&[u8], &Steps, &mut [u64]) -> u64,
-    lines: fn(&[u8], usize) -> Replies,
+    lines: fn(&[u8], usize) -> (u64, Vec<u8>),
     decode: fn(&[u8], u64) -> (u64, u64),
     encode: fn(&[u8], u64) -> (u64, Vec<u8>),
 }
 
-const PROGRAMS: [Program; 3] = [
+const PROGRAMS: [Program; 4] = [
     Program {
         name: "proved",
         services: measured::services,
@@ -41,19 +43,28 @@ const PROGRAMS: [Program; 3] = [
     },
     Program {
         name: "map",
-        services: scenarios::services::<Trees>,
-        standing: scenarios::standing::<Trees>,
-        commands: scenarios::commands::<Trees>,
-        lines: scenarios::lines::<Trees>,
+        services: scenarios::services::<FiveMaps<Trees>>,
+        standing: scenarios::standing::<FiveMaps<Trees>>,
+        commands: scenarios::commands::<FiveMaps<Trees>>,
+        lines: scenarios::lines::<FiveMaps<Trees>>,
         decode: scenarios::decode,
         encode: scenarios::encode,
     },
     Program {
         name: "vectors",
-        services: scenarios::services::<SortedVecs>,
-        standing: scenarios::standing::<SortedVecs>,
-        commands: scenarios::commands::<SortedVecs>,
-        lines: scenarios::lines::<SortedVecs>,
+        services: scenarios::services::<FiveMaps<SortedVecs>>,
+        standing: scenarios::standing::<FiveMaps<SortedVecs>>,
+        commands: scenarios::commands::<FiveMaps<SortedVecs>>,
+        lines: scenarios::lines::<FiveMaps<SortedVecs>>,
+        decode: scenarios::decode,
+        encode: scenarios::encode,
+    },
+    Program {
+        name: "records",
+        services: scenarios::services::<Records>,
+        standing: scenarios::standing::<Records>,
+        commands: scenarios::commands::<Records>,
+        lines: scenarios::lines::<Records>,
         decode: scenarios::decode,
         encode: scenarios::encode,
     },

@@ -1,6 +1,6 @@
 //! The static library of the proved layer.
 
-use crate::scenarios::{Names, Replies, Steps, Times};
+use crate::scenarios::{Names, Steps, Times};
 
 // In the library a slice crosses as a pointer and then a length, and a `Global` as nothing.
 unsafe extern "C" {
@@ -32,6 +32,7 @@ unsafe extern "C" {
         input_len: usize,
         output: *mut u8,
         output_len: usize,
+        time: *mut u64,
     ) -> usize;
 
     fn measured_decode(form: *const u8, form_len: usize, count: u64, sum: *mut u64) -> u64;
@@ -89,14 +90,21 @@ pub fn commands(text: &[u8], steps: &Steps, times: &mut [u64]) -> u64 {
     }
 }
 
-/// The replies of the proved program to lines.
-pub fn lines(input: &[u8], room: usize) -> Replies {
-    let mut text = vec![0; room];
+/// Answers lines: the time, and the replies, for which there is so much room.
+pub fn lines(input: &[u8], room: usize) -> (u64, Vec<u8>) {
+    let (mut text, mut time) = (vec![0; room], 0);
     // SAFETY: as above.
-    let used =
-        unsafe { measured_lines(input.as_ptr(), input.len(), text.as_mut_ptr(), text.len()) };
+    let used = unsafe {
+        measured_lines(
+            input.as_ptr(),
+            input.len(),
+            text.as_mut_ptr(),
+            text.len(),
+            &mut time,
+        )
+    };
     text.truncate(used);
-    Replies { text }
+    (time, text)
 }
 
 /// Reads a form so many times: the time, and a sum of what was read.

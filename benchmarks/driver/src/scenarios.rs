@@ -1,13 +1,12 @@
 //! The scenarios, by plain Rust. `measured` has the same by the proved layer.
 
-use crate::maps::Maps;
 use crate::plain::attribute::{AttributeSet, AttributeVerifier};
 use crate::plain::byte_form::{decode as decode_form, encode as encode_form};
 use crate::plain::description::{Config, EventConfig, ServiceHash, ServiceName};
 use crate::plain::lines::{Line, describe, parse, serve};
 use crate::plain::patterns::event::EventDemand;
 use crate::plain::rounds::create;
-use crate::plain::services::{Entry, ListedRow};
+use crate::plain::services::{Entry, ListedRow, Services};
 use crate::plain::session::{Call, Command, How, Reply, Session, Settings};
 use crate::plain::table::{Act, Step, Table};
 use std::io;
@@ -33,11 +32,6 @@ pub struct Times {
     pub pairs: u64,
     /// All are listed once.
     pub list: u64,
-}
-
-/// What was written for lines.
-pub struct Replies {
-    pub text: Vec<u8>,
 }
 
 /// Steps of peers that wait at a table.
@@ -152,6 +146,7 @@ fn answer_of(reply: Reply) -> u64 {
         Reply::NoSuchSlot => 5,
         Reply::Listing(entries) => entries.len() as u64,
         Reply::OutOfMemory => 6,
+        Reply::NotClosed { .. } => 7,
     }
 }
 
@@ -160,7 +155,7 @@ fn name_of(bytes: &[u8]) -> Option<ServiceName> {
 }
 
 /// Creates the service as node 1, and lets it stand for good.
-fn stand<M: Maps>(table: &mut Table<M>, name: ServiceName) -> u64 {
+fn stand<S: Services>(table: &mut Table<S>, name: ServiceName) -> u64 {
     let asked = EventDemand::new(EventConfig::default());
     let now = Ok(Duration::ZERO);
     match create(asked, 1, name, AttributeSet::default(), now, table) {
@@ -169,14 +164,14 @@ fn stand<M: Maps>(table: &mut Table<M>, name: ServiceName) -> u64 {
     }
 }
 
-fn stand_all<M: Maps>(table: &mut Table<M>, names: &[u8]) -> u64 {
+fn stand_all<S: Services>(table: &mut Table<S>, names: &[u8]) -> u64 {
     let names = names.chunks(NAME_LENGTH).filter_map(name_of);
     names.fold(0, |sum, name| add_answer(sum, stand(table, name)))
 }
 
 /// Creates or opens the service of each name in slot 0, and closes it.
-fn call_and_close<M: Maps>(
-    session: &mut Session<M>,
+fn call_and_close<S: Services>(
+    session: &mut Session<S>,
     how: How,
     node: u64,
     names: &[u8],
@@ -200,8 +195,8 @@ fn call_and_close<M: Maps>(
 }
 
 /// The services' scenario: the times of its parts, and a sum of the answers and of the listing.
-pub fn services<M: Maps>(names: &Names) -> (Times, u64) {
-    let mut table = Table::<M>::new();
+pub fn services<S: Services>(names: &Names) -> (Times, u64) {
+    let mut table = Table::<S>::new();
     let begin = used_time();
     let sum = stand_all(&mut table, &names.standing);
     let stood = used_time();
@@ -227,8 +222,8 @@ pub fn services<M: Maps>(names: &Names) -> (Times, u64) {
 }
 
 /// Lets a service stand for each name, and gives a sum of the answers.
-pub fn standing<M: Maps>(names: &[u8]) -> u64 {
-    stand_all(&mut Table::<M>::new(), names)
+pub fn standing<S: Services>(names: &[u8]) -> u64 {
+    stand_all(&mut Table::<S>::new(), names)
 }
 
 fn act_of(act: u8, max_nodes: u8, form: &[u8]) -> Option<Act> {
@@ -271,8 +266,8 @@ fn batches_of(steps: &Steps) -> Vec<Vec<Step>> {
     batches
 }
 
-fn run_chunk<M: Maps>(
-    session: &mut Session<M>,
+fn run_chunk<S: Services>(
+    session: &mut Session<S>,
     commands: Vec<Command>,
     time: &mut u64,
     sum: u64,
@@ -290,7 +285,11 @@ fn run_chunk<M: Maps>(
     Ok(sum)
 }
 
-fn run_all<M: Maps>(session: &mut Session<M>, text: &[u8], times: &mut [u64]) -> io::Result<u64> {
+fn run_all<S: Services>(
+    session: &mut Session<S>,
+    text: &[u8],
+    times: &mut [u64],
+) -> io::Result<u64> {
     let mut sum = 0;
     let mut chunk = 0;
     let mut commands = Vec::new();
@@ -315,8 +314,8 @@ fn run_all<M: Maps>(session: &mut Session<M>, text: &[u8], times: &mut [u64]) ->
 
 /// Carries out chunks of commands, adds their times, and gives a sum of the replies and of what is
 /// listed then. A blank line ends a chunk.
-pub fn commands<M: Maps>(text: &[u8], steps: &Steps, times: &mut [u64]) -> u64 {
-    let mut table = Table::<M>::new();
+pub fn commands<S: Services>(text: &[u8], steps: &Steps, times: &mut [u64]) -> u64 {
+    let mut table = Table::<S>::new();
     table.schedule(batches_of(steps));
     let mut session = Session::new(Config::default(), table);
     let sum = run_all(&mut session, text, times).unwrap_or(0);
@@ -328,11 +327,12 @@ pub fn commands<M: Maps>(text: &[u8], steps: &Steps, times: &mut [u64]) -> u64 {
     sum
 }
 
-/// The replies of the plain program to lines.
-pub fn lines<M: Maps>(input: &[u8], room: usize) -> Replies {
+/// Answers lines: the time, and the replies, for which there is so much room.
+pub fn lines<S: Services>(input: &[u8], room: usize) -> (u64, Vec<u8>) {
     let mut text = Vec::with_capacity(room);
-    serve::<M>(input, &mut text);
-    Replies { text }
+    let begin = used_time();
+    serve::<S>(input, &mut text);
+    (used_time() - begin, text)
 }
 
 /// Reads a form so many times: the time, and a sum of what was read.

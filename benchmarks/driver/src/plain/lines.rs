@@ -8,11 +8,10 @@ use super::patterns::event::EventSetter;
 use super::patterns::publish_subscribe::PublishSubscribeSetter;
 use super::patterns::request_response::RequestResponseSetter;
 use super::rounds::ClockFault;
-use super::services::{Entry, ListedRow};
+use super::services::{Entry, ListedRow, Services};
 use super::session::{Call, CallError, Command, How, Refusal, Reply, SLOTS, Session, Settings};
 use super::table::Table;
 use super::types::{Alignment, TypeDetail, TypeDetailError, TypeVariant};
-use crate::maps::Maps;
 use std::collections::TryReserveError;
 use std::fmt::{Debug, Write as _};
 use std::io::{self, BufRead, BufReader, Read, Write};
@@ -383,6 +382,9 @@ pub fn describe(reply: &Reply, slot: usize, text: &mut String) -> io::Result<()>
         Reply::Closed { slot } => {
             let _ = writeln!(text, "closed {slot}");
         }
+        Reply::NotClosed { slot } => {
+            let _ = writeln!(text, "not closed {slot}");
+        }
         Reply::SlotInUse => {
             let _ = writeln!(text, "slot {slot} in use");
         }
@@ -404,10 +406,10 @@ pub fn describe(reply: &Reply, slot: usize, text: &mut String) -> io::Result<()>
     Ok(())
 }
 
-fn answer_lines<M: Maps>(
+fn answer_lines<S: Services>(
     input: impl Read,
     output: &mut impl Write,
-    session: &mut Session<M>,
+    session: &mut Session<S>,
 ) -> io::Result<u8> {
     let mut reader = BufReader::new(input);
     let mut bytes = Vec::new();
@@ -444,8 +446,8 @@ fn answer_lines<M: Maps>(
 }
 
 /// Answers each line of the input on the output, and gives the status.
-pub fn serve<M: Maps>(input: impl Read, mut output: impl Write) -> u8 {
-    let mut session = Session::new(Config::default(), Table::<M>::new());
+pub fn serve<S: Services>(input: impl Read, mut output: impl Write) -> u8 {
+    let mut session = Session::new(Config::default(), Table::<S>::new());
     let status = match answer_lines(input, &mut output, &mut session) {
         Ok(status) => status,
         Err(error) => {

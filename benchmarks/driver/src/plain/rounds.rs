@@ -7,9 +7,9 @@ use super::errors::{CreateRefusal, OpenOrCreateError, OpenRefusal, ServiceState}
 use super::patterns::Pattern;
 use super::services::{
     Existence, FetchError, LockError, MakeSegmentError, OpenSegmentError, PublishError, Release,
+    Services, Tag,
 };
-use super::table::{Table, Tag};
-use crate::maps::Maps;
+use super::table::Table;
 use std::time::Duration;
 
 /// How often an open, a making of a segment, and an open or create try.
@@ -30,11 +30,11 @@ pub struct Registration {
 
 /// Asks whether there is a service of this hash, reads its description, and asks whether it is one
 /// of the pattern and of the types.
-fn look<P: Pattern, M: Maps>(
+fn look<P: Pattern, S: Services>(
     asked: &P,
     node: u64,
     hash: &ServiceHash,
-    table: &mut Table<M>,
+    table: &mut Table<S>,
 ) -> Result<Option<(u64, StaticConfig)>, P::Fault> {
     if table.exists(hash) == Existence::No {
         return Ok(None);
@@ -45,7 +45,7 @@ fn look<P: Pattern, M: Maps>(
         Err(FetchError::NotFinalized) => return Err(ServiceState::HangsInCreation.into()),
         Err(FetchError::OutOfMemory) => return Err(ServiceState::OutOfMemory.into()),
     };
-    let description = decode(&bytes).map_err(|error| match error {
+    let description = decode(bytes.as_ref()).map_err(|error| match error {
         DecodeError::Malformed => ServiceState::Corrupted,
         DecodeError::OutOfMemory => ServiceState::OutOfMemory,
     })?;
@@ -58,34 +58,34 @@ fn look<P: Pattern, M: Maps>(
     }
 }
 
-fn give_back_tag<M: Maps>(node: u64, hash: &ServiceHash, tag: Tag, table: &mut Table<M>) {
+fn give_back_tag<S: Services>(node: u64, hash: &ServiceHash, tag: Tag, table: &mut Table<S>) {
     if tag == Tag::Made {
         table.remove_tag(node, hash);
     }
 }
 
 /// Creates the service of this name, with these attributes.
-pub fn create<P: Pattern, M: Maps>(
+pub fn create<P: Pattern, S: Services>(
     mut asked: P,
     node: u64,
     name: ServiceName,
     attributes: AttributeSet,
     now: Result<Duration, ClockFault>,
-    table: &mut Table<M>,
+    table: &mut Table<S>,
 ) -> Result<Registration, P::CreateError> {
     let hash = ServiceHash::of(P::PREFIX, &name);
     asked.adjust();
     create_adjusted(asked, node, hash, name, attributes, now, table)
 }
 
-fn create_adjusted<P: Pattern, M: Maps>(
+fn create_adjusted<P: Pattern, S: Services>(
     asked: P,
     node: u64,
     hash: ServiceHash,
     name: ServiceName,
     attributes: AttributeSet,
     now: Result<Duration, ClockFault>,
-    table: &mut Table<M>,
+    table: &mut Table<S>,
 ) -> Result<Registration, P::CreateError> {
     if let Some(error) = asked.settings_refusal() {
         return Err(error);
@@ -127,10 +127,10 @@ fn create_adjusted<P: Pattern, M: Maps>(
 
 /// Locks the hash, makes the segment, and publishes the description: the service's number, and the
 /// node's ticket.
-fn make_service<M: Maps>(
+fn make_service<S: Services>(
     node: u64,
     description: &StaticConfig,
-    table: &mut Table<M>,
+    table: &mut Table<S>,
 ) -> Result<(u64, u64), CreateRefusal> {
     let hash = &description.hash;
     let number = table.lock(node, hash).map_err(|error| match error {
@@ -157,12 +157,12 @@ fn make_service<M: Maps>(
 }
 
 /// Makes the segment, and removes between two attempts what was left of another.
-fn make_segment<M: Maps>(
+fn make_segment<S: Services>(
     node: u64,
     hash: &ServiceHash,
     number: u64,
     max_nodes: u64,
-    table: &mut Table<M>,
+    table: &mut Table<S>,
 ) -> Result<(), CreateRefusal> {
     for attempt in 1..=TRIES {
         match table.make_segment(node, hash, number, max_nodes) {
@@ -179,12 +179,12 @@ fn make_segment<M: Maps>(
 }
 
 /// Opens the service of this name, in at most six rounds.
-pub fn open<P: Pattern, M: Maps>(
+pub fn open<P: Pattern, S: Services>(
     asked: &P,
     node: u64,
     name: &ServiceName,
     verifier: &AttributeVerifier,
-    table: &mut Table<M>,
+    table: &mut Table<S>,
 ) -> Result<Registration, P::OpenError> {
     open_hash(
         asked,
@@ -195,12 +195,12 @@ pub fn open<P: Pattern, M: Maps>(
     )
 }
 
-fn open_hash<P: Pattern, M: Maps>(
+fn open_hash<P: Pattern, S: Services>(
     asked: &P,
     node: u64,
     hash: &ServiceHash,
     verifier: &AttributeVerifier,
-    table: &mut Table<M>,
+    table: &mut Table<S>,
 ) -> Result<Registration, P::OpenError> {
     for _round in 0..TRIES {
         if let Some(registration) = try_open(asked, node, hash, verifier, table)? {
@@ -211,12 +211,12 @@ fn open_hash<P: Pattern, M: Maps>(
 }
 
 /// One round. `None` asks for another one.
-fn try_open<P: Pattern, M: Maps>(
+fn try_open<P: Pattern, S: Services>(
     asked: &P,
     node: u64,
     hash: &ServiceHash,
     verifier: &AttributeVerifier,
-    table: &mut Table<M>,
+    table: &mut Table<S>,
 ) -> Result<Option<Registration>, P::OpenError> {
     let found = look(asked, node, hash, table)?;
     let (number, description) = found.ok_or(OpenRefusal::DoesNotExist)?;
@@ -277,13 +277,13 @@ type Answer<P> = OpenOrCreateError<<P as Pattern>::OpenError, <P as Pattern>::Cr
 
 /// Opens the service of this name, or creates it with the required pairs where there is none, in at
 /// most six rounds.
-pub fn open_or_create<P: Pattern, M: Maps>(
+pub fn open_or_create<P: Pattern, S: Services>(
     mut asked: P,
     node: u64,
     name: ServiceName,
     verifier: &AttributeVerifier,
     now: Result<Duration, ClockFault>,
-    table: &mut Table<M>,
+    table: &mut Table<S>,
 ) -> Result<Registration, Answer<P>> {
     let hash = ServiceHash::of(P::PREFIX, &name);
     for _round in 0..TRIES {
@@ -308,14 +308,14 @@ pub fn open_or_create<P: Pattern, M: Maps>(
 }
 
 /// Creates the service of copies, since there may be another round.
-fn create_copy<P: Pattern, M: Maps>(
+fn create_copy<P: Pattern, S: Services>(
     asked: &P,
     node: u64,
     hash: ServiceHash,
     name: &ServiceName,
     verifier: &AttributeVerifier,
     now: Result<Duration, ClockFault>,
-    table: &mut Table<M>,
+    table: &mut Table<S>,
 ) -> Result<Registration, P::CreateError> {
     let out_of_memory = |_| CreateRefusal::OutOfMemory;
     let asked = asked.try_clone().map_err(out_of_memory)?;
@@ -329,7 +329,6 @@ fn create_copy<P: Pattern, M: Maps>(
 #[derive(Debug)]
 pub enum CloseError {
     /// The ticket isn't at this table, and here is what was to be closed.
-    #[allow(dead_code)]
     NotHere(Box<Registration>),
     SegmentNotRemoved,
     DescriptionNotRemoved,
@@ -337,7 +336,7 @@ pub enum CloseError {
 
 impl Registration {
     /// Gives the ticket back. The last node removes the service.
-    pub fn close<M: Maps>(self, table: &mut Table<M>) -> Result<(), CloseError> {
+    pub fn close<S: Services>(self, table: &mut Table<S>) -> Result<(), CloseError> {
         let hash = self.description.hash;
         let node = self.node;
         let Ok(left) = table.release(self.ticket, node, &hash, self.number) else {

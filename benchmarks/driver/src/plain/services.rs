@@ -1,8 +1,6 @@
-//! What stands for each service, and where each participant is with it.
+//! What stands for each service, where each participant is with it, and what a participant may do there.
 
-use super::byte_form::encode;
 use super::description::{ServiceHash, StaticConfig};
-use crate::maps::{Entry as Found, Maps, OccupiedEntry, OrderedMap, VacantEntry};
 use std::collections::TryReserveError;
 
 #[derive(Clone, Copy, Debug, PartialEq, Eq)]
@@ -54,6 +52,15 @@ pub enum OpenSegmentError {
 }
 
 #[derive(Clone, Copy, Debug, PartialEq, Eq)]
+pub struct NoSuchTicket;
+
+#[derive(Clone, Copy, Debug, PartialEq, Eq)]
+pub enum Tag {
+    Made,
+    Found,
+}
+
+#[derive(Clone, Copy, Debug, PartialEq, Eq)]
 pub enum Release {
     StillCounted,
     Left,
@@ -78,19 +85,6 @@ pub enum Phase {
     Cleared(u64),
 }
 
-/// What is written under a hash. It is locked until a form is published.
-struct Row {
-    number: u64,
-    form: Option<Box<[u8]>>,
-}
-
-struct Segment<M: Maps> {
-    number: u64,
-    capacity: u64,
-    participants: M::Map<Participant, ()>,
-    marked: bool,
-}
-
 /// What is written under a hash, as it is listed.
 #[derive(Debug)]
 pub enum ListedRow {
@@ -108,29 +102,9 @@ pub struct ListedSegment {
     pub marked: bool,
 }
 
-/// What there is of one service.
-#[derive(Debug)]
-pub struct Entry {
-    pub hash: ServiceHash,
-    pub row: ListedRow,
-    pub segment: Option<ListedSegment>,
-}
-
-/// The rows, the segments, the phases, and a counter for numbers.
-pub struct Services<M: Maps> {
-    rows: M::Map<ServiceHash, Row>,
-    segments: M::Map<ServiceHash, Segment<M>>,
-    phases: M::Map<(Participant, ServiceHash), Phase>,
-    counter: u64,
-}
-
-impl<M: Maps> Segment<M> {
-    fn has_room(&self) -> bool {
-        (self.participants.len() as u64) < self.capacity
-    }
-
+impl ListedSegment {
     /// How often who is in this phase is registered at the number, or why it can't be once more.
-    fn join_count(&self, number: u64, phase: Option<&Phase>) -> Result<u64, OpenSegmentError> {
+    pub fn join_count(&self, number: u64, phase: Option<&Phase>) -> Result<u64, OpenSegmentError> {
         if self.number != number {
             return Err(OpenSegmentError::Failed);
         }
@@ -139,7 +113,7 @@ impl<M: Maps> Segment<M> {
         }
         match phase {
             Some(Phase::Read(read)) if *read == number => {
-                if !self.has_room() {
+                if self.participants >= self.max_nodes {
                     return Err(OpenSegmentError::Full);
                 }
                 Ok(0)
@@ -150,278 +124,94 @@ impl<M: Maps> Segment<M> {
             _ => Err(OpenSegmentError::Failed),
         }
     }
-
-    fn listed(&self) -> ListedSegment {
-        ListedSegment {
-            number: self.number,
-            max_nodes: self.capacity,
-            participants: self.participants.len() as u64,
-            marked: self.marked,
-        }
-    }
 }
 
-impl Row {
-    fn listed(&self) -> Result<ListedRow, TryReserveError> {
-        match &self.form {
-            None => Ok(ListedRow::Locked(self.number)),
-            Some(form) => {
-                let copy = super::copy_bytes(form)?.into_boxed_slice();
-                Ok(ListedRow::Published(self.number, copy))
-            }
-        }
-    }
+/// What there is of one service.
+#[derive(Debug)]
+pub struct Entry {
+    pub hash: ServiceHash,
+    pub row: ListedRow,
+    pub segment: Option<ListedSegment>,
 }
 
-impl<M: Maps> Services<M> {
-    pub fn new() -> Services<M> {
-        Services {
-            rows: Default::default(),
-            segments: Default::default(),
-            phases: Default::default(),
-            counter: 0,
-        }
-    }
+/// The services, the phases of participants at them, and the tags and tickets of nodes.
+pub trait Services: Default {
+    /// A description's bytes, as a fetch hands them out.
+    type Form<'a>: AsRef<[u8]>
+    where
+        Self: 'a;
 
     /// Each service with a row or a segment, in the order of the hashes.
-    pub fn list(&self) -> Result<Vec<Entry>, TryReserveError> {
-        let mut entries = Vec::new();
-        let mut rows = self.rows.iter().peekable();
-        let mut segments = self.segments.iter().peekable();
-        while let Some(hash) = match (rows.peek(), segments.peek()) {
-            (Some((row, _)), Some((segment, _))) => Some(**row.min(segment)),
-            (Some((hash, _)), None) | (None, Some((hash, _))) => Some(**hash),
-            (None, None) => None,
-        } {
-            let row = match rows.next_if(|(key, _)| **key == hash) {
-                Some((_, row)) => row.listed()?,
-                None => ListedRow::Absent,
-            };
-            let segment = segments.next_if(|(key, _)| **key == hash);
-            let segment = segment.map(|(_, segment)| segment.listed());
-            entries.try_reserve(1)?;
-            entries.push(Entry { hash, row, segment });
-        }
-        Ok(entries)
-    }
+    fn list(&self) -> Result<Vec<Entry>, TryReserveError>;
 
-    pub fn counter(&self) -> u64 {
-        self.counter
-    }
+    fn phase(&self, participant: Participant, hash: &ServiceHash) -> Option<Phase>;
 
-    /// Hands out the next number.
-    pub fn next_number(&mut self) -> u64 {
-        self.counter += 1;
-        self.counter - 1
-    }
+    fn exists(&self, hash: &ServiceHash) -> Existence;
 
-    pub fn phase(&self, participant: Participant, hash: &ServiceHash) -> Option<Phase> {
-        self.phases.get(&(participant, *hash)).copied()
-    }
+    /// The participant reads under which number a description is published.
+    fn read(&mut self, participant: Participant, hash: &ServiceHash) -> Result<u64, FetchError>;
 
-    pub fn exists(&self, hash: &ServiceHash) -> Existence {
-        match self.rows.get(hash) {
-            None => Existence::No,
-            Some(Row { form: None, .. }) => Existence::BeingSetUp,
-            Some(Row { form: Some(_), .. }) => Existence::Yes,
-        }
-    }
-
-    /// The service's number and its description's bytes, where they are published.
-    pub fn published(&self, hash: &ServiceHash) -> Result<(u64, &[u8]), FetchError> {
-        let row = self.rows.get(hash).ok_or(FetchError::DoesNotExist)?;
-        let form = row.form.as_deref().ok_or(FetchError::NotFinalized)?;
-        Ok((row.number, form))
-    }
-
-    /// The participant has read what is published under the number.
-    pub fn read(
+    /// As `read`, with the description's bytes.
+    fn fetch(
         &mut self,
         participant: Participant,
         hash: &ServiceHash,
-        number: u64,
-    ) -> Result<(), TryReserveError> {
-        match self.phases.entry((participant, *hash)) {
-            Found::Occupied(mut phase) => {
-                if let Phase::Read(read) = phase.get_mut() {
-                    *read = number;
-                }
-            }
-            Found::Vacant(mut phase) => {
-                phase.reserve()?;
-                phase.insert(Phase::Read(number));
-            }
-        }
-        Ok(())
-    }
+    ) -> Result<(u64, Self::Form<'_>), FetchError>;
+
+    fn make_tag(&mut self, node: u64, hash: &ServiceHash) -> Result<Tag, TryReserveError>;
+
+    fn remove_tag(&mut self, node: u64, hash: &ServiceHash);
 
     /// Locks the hash for a new service, and gives that service's number.
-    pub fn lock(&mut self, participant: Participant, hash: &ServiceHash) -> Result<u64, LockError> {
-        let mut row = match self.rows.entry(*hash) {
-            Found::Occupied(row) => {
-                return Err(match row.get().form {
-                    None => LockError::Creation,
-                    Some(_) => LockError::AlreadyExists,
-                });
-            }
-            Found::Vacant(row) => row,
-        };
-        let number = self.counter;
-        let next = number.checked_add(1).ok_or(LockError::Other)?;
-        row.reserve().map_err(|_| LockError::OutOfMemory)?;
-        match self.phases.entry((participant, *hash)) {
-            Found::Occupied(mut phase) => match phase.get() {
-                Phase::Read(_) => phase.set(Phase::Locked(number)),
-                _ => return Err(LockError::Other),
-            },
-            Found::Vacant(mut phase) => {
-                phase.reserve().map_err(|_| LockError::OutOfMemory)?;
-                phase.insert(Phase::Locked(number));
-            }
-        }
-        row.insert(Row { number, form: None });
-        self.counter = next;
-        Ok(number)
-    }
+    fn lock(&mut self, participant: Participant, hash: &ServiceHash) -> Result<u64, LockError>;
 
     /// Makes the locked service's segment, with the participant in it.
-    pub fn make_segment(
+    fn make_segment(
         &mut self,
         participant: Participant,
         hash: &ServiceHash,
         number: u64,
         capacity: u64,
-    ) -> Result<(), MakeSegmentError> {
-        let phase = self.phases.get_mut(&(participant, *hash));
-        let Some(phase) = phase.filter(|phase| **phase == Phase::Locked(number)) else {
-            return Err(MakeSegmentError::Other);
-        };
-        if capacity == 0 {
-            return Err(MakeSegmentError::Other);
-        }
-        let Found::Vacant(mut place) = self.segments.entry(*hash) else {
-            return Err(MakeSegmentError::AlreadyExists);
-        };
-        let mut participants = M::Map::default();
-        let joined = participants.insert(participant, ());
-        joined.map_err(|_| MakeSegmentError::OutOfMemory)?;
-        place.reserve().map_err(|_| MakeSegmentError::OutOfMemory)?;
-        place.insert(Segment {
-            number,
-            capacity,
-            participants,
-            marked: false,
-        });
-        *phase = Phase::Made(number);
-        Ok(())
-    }
+    ) -> Result<(), MakeSegmentError>;
 
-    pub fn remove_segment(
+    fn remove_segment(
         &mut self,
         participant: Participant,
         hash: &ServiceHash,
-    ) -> Result<(), NotAllowed> {
-        let phase = self.phases.get_mut(&(participant, *hash));
-        let phase = phase.ok_or(NotAllowed)?;
-        *phase = match *phase {
-            Phase::Locked(number) | Phase::Made(number) => Phase::Locked(number),
-            Phase::Leaving(number) => Phase::Cleared(number),
-            _ => return Err(NotAllowed),
-        };
-        self.segments.remove(hash);
-        Ok(())
-    }
+    ) -> Result<(), NotAllowed>;
 
-    pub fn remove_description(
+    fn remove_description(
         &mut self,
         participant: Participant,
         hash: &ServiceHash,
-    ) -> Result<(), NotAllowed> {
-        let phase = self.phases.entry((participant, *hash));
-        let phase = phase.occupied().ok_or(NotAllowed)?;
-        if let Phase::Read(_) | Phase::Joined(_, _) = phase.get() {
-            return Err(NotAllowed);
-        }
-        phase.remove();
-        self.rows.remove(hash);
-        Ok(())
-    }
+    ) -> Result<(), NotAllowed>;
 
-    /// Puts the description in the lock's place, and registers the participant. Before it does,
-    /// `reserve` asks for what else is wanted.
-    pub fn publish(
+    /// Puts the description in the lock's place, and registers the participant. A node gets a ticket,
+    /// the service's number.
+    fn publish(
         &mut self,
         participant: Participant,
         hash: &ServiceHash,
         number: u64,
         description: &StaticConfig,
-        reserve: impl FnOnce() -> Result<(), TryReserveError>,
-    ) -> Result<(), PublishError> {
-        let phase = self.phases.get_mut(&(participant, *hash));
-        let Some(phase) = phase.filter(|phase| **phase == Phase::Made(number)) else {
-            return Err(PublishError::Other);
-        };
-        let segment = self.segments.get(hash).ok_or(PublishError::Other)?;
-        if description.hash != *hash || description.max_nodes() != segment.capacity {
-            return Err(PublishError::Other);
-        }
-        reserve().map_err(|_| PublishError::OutOfMemory)?;
-        let form = encode(description).map_err(|_| PublishError::OutOfMemory)?;
-        let form = Some(form.into_boxed_slice());
-        let written = self.rows.insert(*hash, Row { number, form });
-        written.map_err(|_| PublishError::OutOfMemory)?;
-        *phase = Phase::Joined(number, 1);
-        Ok(())
-    }
+    ) -> Result<(), PublishError>;
 
-    /// Registers the participant in the segment of this number. Before it does, `admit` may still
-    /// refuse it.
-    pub fn join(
+    /// Registers the node in the segment of this number, and gives a ticket.
+    fn open(&mut self, node: u64, hash: &ServiceHash, number: u64)
+    -> Result<u64, OpenSegmentError>;
+
+    /// Registers a peer in the segment of this number.
+    fn join(&mut self, peer: u64, hash: &ServiceHash, number: u64) -> Result<(), OpenSegmentError>;
+
+    /// A node leaves by its ticket, and is told what is left.
+    fn release(
         &mut self,
-        participant: Participant,
+        ticket: u64,
+        node: u64,
         hash: &ServiceHash,
         number: u64,
-        admit: impl FnOnce() -> Result<(), OpenSegmentError>,
-    ) -> Result<(), OpenSegmentError> {
-        let segment = self.segments.get_mut(hash);
-        let segment = segment.ok_or(OpenSegmentError::DoesNotExist)?;
-        let phase = self.phases.get_mut(&(participant, *hash));
-        let count = segment.join_count(number, phase.as_deref())?;
-        let phase = phase.ok_or(OpenSegmentError::Failed)?;
-        admit()?;
-        if count == 0 {
-            let joined = segment.participants.insert(participant, ());
-            joined.map_err(|_| OpenSegmentError::OutOfMemory)?;
-        }
-        *phase = Phase::Joined(number, count + 1);
-        Ok(())
-    }
+    ) -> Result<Release, NoSuchTicket>;
 
-    /// The participant leaves once, and is told what is left.
-    pub fn leave(
-        &mut self,
-        participant: Participant,
-        hash: &ServiceHash,
-    ) -> Result<Release, NotAllowed> {
-        let phase = self.phases.entry((participant, *hash));
-        let mut phase = phase.occupied().ok_or(NotAllowed)?;
-        let Phase::Joined(number, count) = phase.get_mut() else {
-            return Err(NotAllowed);
-        };
-        if *count > 1 {
-            *count -= 1;
-            return Ok(Release::StillCounted);
-        }
-        let number = *number;
-        let segment = self.segments.get_mut(hash).ok_or(NotAllowed)?;
-        if segment.participants.len() > 1 {
-            segment.participants.remove(&participant);
-            phase.remove();
-            return Ok(Release::Left);
-        }
-        segment.participants.clear();
-        segment.marked = true;
-        phase.set(Phase::Leaving(number));
-        Ok(Release::Last)
-    }
+    /// A peer leaves once.
+    fn leave(&mut self, peer: u64, hash: &ServiceHash) -> Result<Release, NotAllowed>;
 }

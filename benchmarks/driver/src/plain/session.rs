@@ -10,10 +10,9 @@ use super::patterns::Pattern;
 use super::patterns::event::{EventDemand, EventSetter};
 use super::patterns::publish_subscribe::{PublishSubscribeBuilder, PublishSubscribeSetter};
 use super::patterns::request_response::{RequestResponseBuilder, RequestResponseSetter};
-use super::rounds::{ClockFault, Registration, create, open, open_or_create};
-use super::services::Entry;
+use super::rounds::{ClockFault, CloseError, Registration, create, open, open_or_create};
+use super::services::{Entry, Services};
 use super::table::Table;
-use crate::maps::Maps;
 use std::collections::TryReserveError;
 use std::time::Duration;
 
@@ -71,9 +70,18 @@ pub enum Refusal {
 
 #[derive(Debug)]
 pub enum Reply {
-    Opened { slot: usize, number: u64 },
+    Opened {
+        slot: usize,
+        number: u64,
+    },
     Refused(Refusal),
-    Closed { slot: usize },
+    Closed {
+        slot: usize,
+    },
+    /// The slot holds what it held.
+    NotClosed {
+        slot: usize,
+    },
     SlotInUse,
     SlotEmpty,
     NoSuchSlot,
@@ -82,9 +90,9 @@ pub enum Reply {
 }
 
 /// A table, and slots for what commands open over it.
-pub struct Session<M: Maps> {
+pub struct Session<S> {
     config: Config,
-    table: Table<M>,
+    table: Table<S>,
     slots: [Option<Registration>; SLOTS],
 }
 
@@ -99,10 +107,10 @@ struct Caller {
 
 impl Caller {
     /// A create defines the required pairs.
-    fn call<P: Pattern, M: Maps>(
+    fn call<P: Pattern, S: Services>(
         self,
         asked: P,
-        table: &mut Table<M>,
+        table: &mut Table<S>,
     ) -> Result<Registration, CallError<P::OpenError, P::CreateError>> {
         let Caller {
             how,
@@ -132,11 +140,11 @@ impl Caller {
     }
 }
 
-fn call_event<M: Maps>(
+fn call_event<S: Services>(
     config: &Config,
     setters: Vec<EventSetter>,
     caller: Caller,
-    table: &mut Table<M>,
+    table: &mut Table<S>,
 ) -> Result<Registration, Refusal> {
     let mut asked = EventDemand::new(config.event);
     for setter in setters {
@@ -145,11 +153,11 @@ fn call_event<M: Maps>(
     caller.call(asked, table).map_err(Refusal::Event)
 }
 
-fn call_publish_subscribe<M: Maps>(
+fn call_publish_subscribe<S: Services>(
     config: &Config,
     setters: Vec<PublishSubscribeSetter>,
     caller: Caller,
-    table: &mut Table<M>,
+    table: &mut Table<S>,
 ) -> Result<Registration, Refusal> {
     let mut builder = PublishSubscribeBuilder::new(config.publish_subscribe);
     for setter in setters {
@@ -165,11 +173,11 @@ fn call_publish_subscribe<M: Maps>(
     .map_err(Refusal::PublishSubscribe)
 }
 
-fn call_request_response<M: Maps>(
+fn call_request_response<S: Services>(
     config: &Config,
     setters: Vec<RequestResponseSetter>,
     caller: Caller,
-    table: &mut Table<M>,
+    table: &mut Table<S>,
 ) -> Result<Registration, Refusal> {
     let mut builder = RequestResponseBuilder::new(config.request_response);
     for setter in setters {
@@ -185,8 +193,8 @@ fn call_request_response<M: Maps>(
     .map_err(Refusal::RequestResponse)
 }
 
-impl<M: Maps> Session<M> {
-    pub fn new(config: Config, table: Table<M>) -> Session<M> {
+impl<S: Services> Session<S> {
+    pub fn new(config: Config, table: Table<S>) -> Session<S> {
         Session {
             config,
             table,
@@ -252,22 +260,27 @@ impl<M: Maps> Session<M> {
     }
 
     fn close(&mut self, slot: usize) -> Reply {
-        match self.slots.get_mut(slot).map(Option::take) {
-            None => Reply::NoSuchSlot,
-            Some(None) => Reply::SlotEmpty,
-            Some(Some(registration)) => {
-                let _ = registration.close(&mut self.table);
-                Reply::Closed { slot }
+        let Some(place) = self.slots.get_mut(slot) else {
+            return Reply::NoSuchSlot;
+        };
+        let Some(registration) = place.take() else {
+            return Reply::SlotEmpty;
+        };
+        match registration.close(&mut self.table) {
+            Err(CloseError::NotHere(registration)) => {
+                *place = Some(*registration);
+                Reply::NotClosed { slot }
             }
+            _ => Reply::Closed { slot },
         }
     }
 
-    pub fn table(&self) -> &Table<M> {
+    pub fn table(&self) -> &Table<S> {
         &self.table
     }
 
     /// Closes what all slots hold, in ascending order, and gives the table back.
-    pub fn finish(mut self) -> Table<M> {
+    pub fn finish(mut self) -> Table<S> {
         for slot in 0..SLOTS {
             self.close(slot);
         }

@@ -1,29 +1,11 @@
 //! A storage within one process.
 
-use super::copy_bytes;
 use super::description::{ServiceHash, StaticConfig};
 use super::services::{
-    Entry, Existence, FetchError, LockError, MakeSegmentError, NotAllowed, OpenSegmentError,
-    Participant, Phase, PublishError, Release, Services,
+    Entry, Existence, FetchError, LockError, MakeSegmentError, NoSuchTicket, NotAllowed,
+    OpenSegmentError, Participant, Phase, PublishError, Release, Services, Tag,
 };
-use crate::maps::{Entry as Found, Maps, OccupiedEntry, OrderedMap, VacantEntry};
 use std::collections::TryReserveError;
-
-#[derive(Clone, Copy, Debug, PartialEq, Eq)]
-pub enum Tag {
-    Made,
-    Found,
-}
-
-#[derive(Clone, Copy, Debug, PartialEq, Eq)]
-pub struct NoSuchTicket;
-
-#[derive(Clone, Copy, Debug, PartialEq, Eq)]
-struct Ticket {
-    node: u64,
-    hash: ServiceHash,
-    number: u64,
-}
 
 /// What a participant may do at a service.
 #[derive(Debug)]
@@ -46,25 +28,17 @@ pub struct Step {
     pub act: Act,
 }
 
-/// The services, the nodes' tags and tickets, and batches of peers' steps, of which the next one is
-/// carried out before each access.
-pub struct Table<M: Maps> {
-    services: Services<M>,
-    tags: M::Map<(u64, ServiceHash), ()>,
-    tickets: M::Map<u64, Ticket>,
+/// The services, and batches of peers' steps, of which the next one is carried out before each access.
+#[derive(Default)]
+pub struct Table<S> {
+    services: S,
     waiting: Vec<Vec<Step>>,
     skipped: u64,
 }
 
-impl<M: Maps> Table<M> {
-    pub fn new() -> Table<M> {
-        Table {
-            services: Services::new(),
-            tags: Default::default(),
-            tickets: Default::default(),
-            waiting: Vec::new(),
-            skipped: 0,
-        }
+impl<S: Services> Table<S> {
+    pub fn new() -> Table<S> {
+        Table::default()
     }
 
     /// Puts these batches in the place of those that wait, the first of them to run next.
@@ -90,37 +64,34 @@ impl<M: Maps> Table<M> {
     /// Carries out a step, where it is allowed. True where it was and found no memory.
     fn take(&mut self, step: &Step) -> bool {
         let Step { peer, hash, act } = step;
-        let peer = Participant::Peer(*peer);
+        let participant = Participant::Peer(*peer);
         let services = &mut self.services;
         // A peer's step names no number: it is that of its phase.
-        match (act, services.phase(peer, hash)) {
-            (Act::Read, _) => match services.published(hash) {
-                Ok((number, _)) => services.read(peer, hash, number).is_err(),
-                Err(_) => false,
-            },
-            (Act::Lock, _) => services.lock(peer, hash) == Err(LockError::OutOfMemory),
+        match (act, services.phase(participant, hash)) {
+            (Act::Read, _) => services.read(participant, hash) == Err(FetchError::OutOfMemory),
+            (Act::Lock, _) => services.lock(participant, hash) == Err(LockError::OutOfMemory),
             (Act::RemoveSegment, _) => {
-                let _ = services.remove_segment(peer, hash);
+                let _ = services.remove_segment(participant, hash);
                 false
             }
             (Act::RemoveDescription, _) => {
-                let _ = services.remove_description(peer, hash);
+                let _ = services.remove_description(participant, hash);
                 false
             }
             (Act::Make { max_nodes }, Some(Phase::Locked(number))) => {
-                let made = services.make_segment(peer, hash, number, *max_nodes);
+                let made = services.make_segment(participant, hash, number, *max_nodes);
                 made == Err(MakeSegmentError::OutOfMemory)
             }
             (Act::Publish(description), Some(Phase::Made(number))) => {
-                let published = services.publish(peer, hash, number, description, || Ok(()));
+                let published = services.publish(participant, hash, number, description);
                 published == Err(PublishError::OutOfMemory)
             }
             (Act::Join, Some(Phase::Read(number) | Phase::Joined(number, _))) => {
-                let joined = services.join(peer, hash, number, || Ok(()));
+                let joined = services.join(*peer, hash, number);
                 joined == Err(OpenSegmentError::OutOfMemory)
             }
             (Act::Leave, _) => {
-                let _ = services.leave(peer, hash);
+                let _ = services.leave(*peer, hash);
                 false
             }
             (Act::Make { .. } | Act::Publish(_) | Act::Join, _) => false,
@@ -137,13 +108,13 @@ impl<M: Maps> Table<M> {
     }
 
     /// The service's number and its description's bytes.
-    pub fn fetch(&mut self, node: u64, hash: &ServiceHash) -> Result<(u64, Vec<u8>), FetchError> {
+    pub fn fetch(
+        &mut self,
+        node: u64,
+        hash: &ServiceHash,
+    ) -> Result<(u64, S::Form<'_>), FetchError> {
         self.run_batch();
-        let (number, bytes) = self.services.published(hash)?;
-        let copy = copy_bytes(bytes).map_err(|_| FetchError::OutOfMemory)?;
-        let read = self.services.read(Participant::Node(node), hash, number);
-        read.map_err(|_| FetchError::OutOfMemory)?;
-        Ok((number, copy))
+        self.services.fetch(Participant::Node(node), hash)
     }
 
     /// Whether the node is registered at the service already.
@@ -155,19 +126,12 @@ impl<M: Maps> Table<M> {
 
     pub fn make_tag(&mut self, node: u64, hash: &ServiceHash) -> Result<Tag, TryReserveError> {
         self.run_batch();
-        match self.tags.entry((node, *hash)) {
-            Found::Occupied(_) => Ok(Tag::Found),
-            Found::Vacant(mut tag) => {
-                tag.reserve()?;
-                tag.insert(());
-                Ok(Tag::Made)
-            }
-        }
+        self.services.make_tag(node, hash)
     }
 
     pub fn remove_tag(&mut self, node: u64, hash: &ServiceHash) {
         self.run_batch();
-        self.tags.remove(&(node, *hash));
+        self.services.remove_tag(node, hash);
     }
 
     /// Locks the hash for a new service, and gives that service's number.
@@ -209,12 +173,9 @@ impl<M: Maps> Table<M> {
         description: &StaticConfig,
     ) -> Result<u64, PublishError> {
         self.run_batch();
-        let tickets = &mut self.tickets;
         let participant = Participant::Node(node);
         self.services
-            .publish(participant, hash, number, description, || tickets.reserve())?;
-        self.keep_ticket(number, node, hash, number)
-            .map_err(|_| PublishError::OutOfMemory)?;
+            .publish(participant, hash, number, description)?;
         Ok(number)
     }
 
@@ -226,32 +187,7 @@ impl<M: Maps> Table<M> {
         number: u64,
     ) -> Result<u64, OpenSegmentError> {
         self.run_batch();
-        let tickets = &mut self.tickets;
-        let has_numbers = self.services.counter() < u64::MAX;
-        self.services
-            .join(Participant::Node(node), hash, number, || {
-                if !has_numbers {
-                    return Err(OpenSegmentError::OutOfNumbers);
-                }
-                let reserved = tickets.reserve();
-                reserved.map_err(|_| OpenSegmentError::OutOfMemory)
-            })?;
-        let ticket = self.services.next_number();
-        self.keep_ticket(ticket, node, hash, number)
-            .map_err(|_| OpenSegmentError::OutOfMemory)?;
-        Ok(ticket)
-    }
-
-    /// Keeps a ticket for which there is room.
-    fn keep_ticket(
-        &mut self,
-        ticket: u64,
-        node: u64,
-        hash: &ServiceHash,
-        number: u64,
-    ) -> Result<(), TryReserveError> {
-        let hash = *hash;
-        self.tickets.insert(ticket, Ticket { node, hash, number })
+        self.services.open(node, hash, number)
     }
 
     /// Spends the ticket.
@@ -263,18 +199,6 @@ impl<M: Maps> Table<M> {
         number: u64,
     ) -> Result<Release, NoSuchTicket> {
         self.run_batch();
-        let wanted = Ticket {
-            node,
-            hash: *hash,
-            number,
-        };
-        let ticket = self.tickets.entry(ticket).occupied().ok_or(NoSuchTicket)?;
-        if *ticket.get() != wanted {
-            return Err(NoSuchTicket);
-        }
-        let left = self.services.leave(Participant::Node(node), hash);
-        let left = left.map_err(|NotAllowed| NoSuchTicket)?;
-        ticket.remove();
-        Ok(left)
+        self.services.release(ticket, node, hash, number)
     }
 }
