@@ -8,10 +8,15 @@ libraries="iceoryx2_session iceoryx2_commands iceoryx2_builder iceoryx2_table ic
 libraries="$libraries iceoryx2_description iceoryx2_attribute"
 driver=$scratch/driver/target/release/driver
 
+# Tells how far a script is, and how many seconds it took up to here.
+tell() {
+    printf '[%5d s] %s\n' "$SECONDS" "$*" >&2
+}
+
 # Installs packages where a command or a folder isn't there.
 need() {
     if ! compgen -G "$1" >/dev/null && ! command -v "$1" >/dev/null; then
-        echo "installing $2" >&2
+        tell "installing $2"
         apt-get update >/dev/null
         apt-get install -y "$2" >/dev/null
     fi
@@ -48,9 +53,16 @@ copy_library() {
     echo "$name staticlib: $below" >>"$repository/crates.txt"
 }
 
+# Proves and builds a static library, and tells of each crate below it when rt comes to it, and how far rt is.
 prove_library() {
-    local name=$1 repository=$2
-    (cd "$repository/crates/$name" && rt lib) >"$scratch/proof.log" 2>&1 || {
+    local name=$1 repository=$2 line
+    tell "proving and building $name; from nothing each crate below it is proved first"
+    (set -o pipefail
+        cd "$repository/crates/$name" && rt lib 2>&1 | tee "$scratch/proof.log" | while IFS= read -r line; do
+            case "$line" in
+                rt:* | 'so far:'*) tell "${line#rt: }" ;;
+            esac
+        done) || {
         tail -n 40 "$scratch/proof.log" >&2
         exit 1
     }
@@ -83,6 +95,7 @@ rustflags = [
 ]
 CONFIG
     touch "$built/src/main.rs"
+    tell "building the program in Rust"
     (cd "$built" && cargo build --quiet --release --offline)
 }
 
@@ -110,6 +123,7 @@ callgrind_options=()
 count_sections() {
     local program=$1 counts=$scratch/counts-$1
     shift
+    tell "counting instructions: $program${1:+, beside $*}"
     rm -rf "$counts"
     mkdir -p "$counts"
     GLIBC_TUNABLES=glibc.cpu.x86_rep_movsb_threshold=2000000000 \

@@ -30,7 +30,7 @@ fi
 if [ -n "$count" ]; then
     need valgrind valgrind
     [ $# -gt 0 ] || set -- 1000 10000
-    for program in proved map vectors; do
+    for program in proved map vectors records; do
         count_sections "$program" "$@"
     done
     python3 "$top/benchmarks/report.py" instructions "$scratch"
@@ -41,17 +41,19 @@ fi
 starts=${STARTS:-5}
 rm -f "$scratch"/times-*.csv
 for ((start = 1; start <= starts; start++)); do
+    tell "start $start of $starts"
     "$driver" time >"$scratch/times-$start.csv"
     for number in "$@"; do
         # A start beside more than 50,000 services takes minutes, so there are half as many.
         if ((number <= 50000 || 2 * start <= starts + 1)); then
+            tell "start $start of $starts, beside $number"
             "$driver" beside "$number" >"$scratch/times-$start-$number.csv"
         fi
     done
 done
 for number in "$@"; do
     if ((number <= 50000)); then
-        for program in proved map vectors; do
+        for program in proved map vectors records; do
             "$driver" peak "$program" "$number"
         done
     fi

@@ -91,7 +91,7 @@ fn pattern_case(pattern: PatternTexts, with_attributes: bool, rounds: usize) -> 
 /// How long the replies to lines are.
 fn room_for(text: &[u8]) -> usize {
     let mut replies = Vec::new();
-    serve::<Records>(text, &mut replies);
+    serve(Table::<Records>::new(), text, &mut replies);
     replies.len()
 }
 

@@ -5,6 +5,9 @@
 //! [NUMBER ..]` runs all once by one program, and prints for each reading of the clock what was done
 //! since the one before. `peak PROGRAM NUMBER` prints how much more memory the process had with so
 //! many standing services. The answers have to be the same.
+//!
+//! `log PATH` answers the lines of standard input by plain Rust over a log that processes share, and
+//! `files FOLDER` over files alone, which are in no order but the file system's.
 
 mod cases;
 mod maps;
@@ -15,9 +18,14 @@ mod texts;
 
 use crate::cases::{Case, Part, Scale, cases, services};
 use crate::maps::{SortedVecs, Trees};
+use crate::plain::files::Files;
 use crate::plain::five_maps::FiveMaps;
+use crate::plain::lines::serve;
 use crate::plain::records::Records;
+use crate::plain::shared_log::SharedLog;
+use crate::plain::storage::Storage;
 use crate::scenarios::{Names, Steps, Times};
+use std::io;
 use std::process::ExitCode;
 
 /// A program that is measured.
@@ -177,6 +185,14 @@ fn number_of(word: &str) -> Result<usize, String> {
         .map_err(|error| format!("{word} is no number of standing services: {error}"))
 }
 
+/// Answers the lines of standard input over a storage that processes share.
+fn serve_standard(storage: impl Storage) -> Result<(), String> {
+    match serve(storage, io::stdin().lock(), io::stdout().lock()) {
+        0 => Ok(()),
+        status => Err(format!("status {status}")),
+    }
+}
+
 fn run(words: &[String]) -> Result<(), String> {
     match words {
         [mode] if mode == "time" => time_all(cases(&TIMED)),
@@ -186,6 +202,11 @@ fn run(words: &[String]) -> Result<(), String> {
             print_sections(program_of(program)?, &numbers?);
             Ok(())
         }
+        [mode, path] if mode == "log" => {
+            let log = SharedLog::<Records>::open(path).map_err(|error| error.to_string())?;
+            serve_standard(log)
+        }
+        [mode, folder] if mode == "files" => serve_standard(Files::new(folder)),
         [mode, program, number] if mode == "peak" => {
             let number = number_of(number)?;
             let names = Names::new(number, 0, 0);
@@ -195,7 +216,8 @@ fn run(words: &[String]) -> Result<(), String> {
             Ok(())
         }
         _ => Err(
-            "time | beside NUMBER | sections PROGRAM [NUMBER ..] | peak PROGRAM NUMBER".to_owned(),
+            "time | beside NUMBER | sections PROGRAM [NUMBER ..] | peak PROGRAM NUMBER | log PATH | files FOLDER"
+                .to_owned(),
         ),
     }
 }

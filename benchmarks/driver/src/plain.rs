@@ -4,6 +4,7 @@ pub mod attribute;
 pub mod byte_form;
 pub mod description;
 pub mod errors;
+pub mod files;
 pub mod five_maps;
 pub mod lines;
 pub mod patterns;
@@ -11,6 +12,8 @@ pub mod records;
 pub mod rounds;
 pub mod services;
 pub mod session;
+pub mod shared_log;
+pub mod storage;
 pub mod table;
 pub mod types;
 

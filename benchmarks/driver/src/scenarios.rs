@@ -171,7 +171,7 @@ fn stand_all<S: Services>(table: &mut Table<S>, names: &[u8]) -> u64 {
 
 /// Creates or opens the service of each name in slot 0, and closes it.
 fn call_and_close<S: Services>(
-    session: &mut Session<S>,
+    session: &mut Session<Table<S>>,
     how: How,
     node: u64,
     names: &[u8],
@@ -267,7 +267,7 @@ fn batches_of(steps: &Steps) -> Vec<Vec<Step>> {
 }
 
 fn run_chunk<S: Services>(
-    session: &mut Session<S>,
+    session: &mut Session<Table<S>>,
     commands: Vec<Command>,
     time: &mut u64,
     sum: u64,
@@ -286,7 +286,7 @@ fn run_chunk<S: Services>(
 }
 
 fn run_all<S: Services>(
-    session: &mut Session<S>,
+    session: &mut Session<Table<S>>,
     text: &[u8],
     times: &mut [u64],
 ) -> io::Result<u64> {
@@ -331,7 +331,7 @@ pub fn commands<S: Services>(text: &[u8], steps: &Steps, times: &mut [u64]) -> u
 pub fn lines<S: Services>(input: &[u8], room: usize) -> (u64, Vec<u8>) {
     let mut text = Vec::with_capacity(room);
     let begin = used_time();
-    serve::<S>(input, &mut text);
+    serve(Table::<S>::new(), input, &mut text);
     (used_time() - begin, text)
 }
 

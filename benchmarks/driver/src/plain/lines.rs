@@ -8,9 +8,9 @@ use super::patterns::event::EventSetter;
 use super::patterns::publish_subscribe::PublishSubscribeSetter;
 use super::patterns::request_response::RequestResponseSetter;
 use super::rounds::ClockFault;
-use super::services::{Entry, ListedRow, Services};
+use super::services::{Entry, ListedRow};
 use super::session::{Call, CallError, Command, How, Refusal, Reply, SLOTS, Session, Settings};
-use super::table::Table;
+use super::storage::Storage;
 use super::types::{Alignment, TypeDetail, TypeDetailError, TypeVariant};
 use std::collections::TryReserveError;
 use std::fmt::{Debug, Write as _};
@@ -406,7 +406,7 @@ pub fn describe(reply: &Reply, slot: usize, text: &mut String) -> io::Result<()>
     Ok(())
 }
 
-fn answer_lines<S: Services>(
+fn answer_lines<S: Storage>(
     input: impl Read,
     output: &mut impl Write,
     session: &mut Session<S>,
@@ -446,8 +446,8 @@ fn answer_lines<S: Services>(
 }
 
 /// Answers each line of the input on the output, and gives the status.
-pub fn serve<S: Services>(input: impl Read, mut output: impl Write) -> u8 {
-    let mut session = Session::new(Config::default(), Table::<S>::new());
+pub fn serve<S: Storage>(storage: S, input: impl Read, mut output: impl Write) -> u8 {
+    let mut session = Session::new(Config::default(), storage);
     let status = match answer_lines(input, &mut output, &mut session) {
         Ok(status) => status,
         Err(error) => {

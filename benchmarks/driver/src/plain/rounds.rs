@@ -7,9 +7,9 @@ use super::errors::{CreateRefusal, OpenOrCreateError, OpenRefusal, ServiceState}
 use super::patterns::Pattern;
 use super::services::{
     Existence, FetchError, LockError, MakeSegmentError, OpenSegmentError, PublishError, Release,
-    Services, Tag,
+    Tag,
 };
-use super::table::Table;
+use super::storage::Storage;
 use std::time::Duration;
 
 /// How often an open, a making of a segment, and an open or create try.
@@ -30,11 +30,11 @@ pub struct Registration {
 
 /// Asks whether there is a service of this hash, reads its description, and asks whether it is one
 /// of the pattern and of the types.
-fn look<P: Pattern, S: Services>(
+fn look<P: Pattern, S: Storage>(
     asked: &P,
     node: u64,
     hash: &ServiceHash,
-    table: &mut Table<S>,
+    table: &mut S,
 ) -> Result<Option<(u64, StaticConfig)>, P::Fault> {
     if table.exists(hash) == Existence::No {
         return Ok(None);
@@ -58,34 +58,34 @@ fn look<P: Pattern, S: Services>(
     }
 }
 
-fn give_back_tag<S: Services>(node: u64, hash: &ServiceHash, tag: Tag, table: &mut Table<S>) {
+fn give_back_tag<S: Storage>(node: u64, hash: &ServiceHash, tag: Tag, table: &mut S) {
     if tag == Tag::Made {
         table.remove_tag(node, hash);
     }
 }
 
 /// Creates the service of this name, with these attributes.
-pub fn create<P: Pattern, S: Services>(
+pub fn create<P: Pattern, S: Storage>(
     mut asked: P,
     node: u64,
     name: ServiceName,
     attributes: AttributeSet,
     now: Result<Duration, ClockFault>,
-    table: &mut Table<S>,
+    table: &mut S,
 ) -> Result<Registration, P::CreateError> {
     let hash = ServiceHash::of(P::PREFIX, &name);
     asked.adjust();
     create_adjusted(asked, node, hash, name, attributes, now, table)
 }
 
-fn create_adjusted<P: Pattern, S: Services>(
+fn create_adjusted<P: Pattern, S: Storage>(
     asked: P,
     node: u64,
     hash: ServiceHash,
     name: ServiceName,
     attributes: AttributeSet,
     now: Result<Duration, ClockFault>,
-    table: &mut Table<S>,
+    table: &mut S,
 ) -> Result<Registration, P::CreateError> {
     if let Some(error) = asked.settings_refusal() {
         return Err(error);
@@ -127,10 +127,10 @@ fn create_adjusted<P: Pattern, S: Services>(
 
 /// Locks the hash, makes the segment, and publishes the description: the service's number, and the
 /// node's ticket.
-fn make_service<S: Services>(
+fn make_service<S: Storage>(
     node: u64,
     description: &StaticConfig,
-    table: &mut Table<S>,
+    table: &mut S,
 ) -> Result<(u64, u64), CreateRefusal> {
     let hash = &description.hash;
     let number = table.lock(node, hash).map_err(|error| match error {
@@ -157,12 +157,12 @@ fn make_service<S: Services>(
 }
 
 /// Makes the segment, and removes between two attempts what was left of another.
-fn make_segment<S: Services>(
+fn make_segment<S: Storage>(
     node: u64,
     hash: &ServiceHash,
     number: u64,
     max_nodes: u64,
-    table: &mut Table<S>,
+    table: &mut S,
 ) -> Result<(), CreateRefusal> {
     for attempt in 1..=TRIES {
         match table.make_segment(node, hash, number, max_nodes) {
@@ -179,12 +179,12 @@ fn make_segment<S: Services>(
 }
 
 /// Opens the service of this name, in at most six rounds.
-pub fn open<P: Pattern, S: Services>(
+pub fn open<P: Pattern, S: Storage>(
     asked: &P,
     node: u64,
     name: &ServiceName,
     verifier: &AttributeVerifier,
-    table: &mut Table<S>,
+    table: &mut S,
 ) -> Result<Registration, P::OpenError> {
     open_hash(
         asked,
@@ -195,12 +195,12 @@ pub fn open<P: Pattern, S: Services>(
     )
 }
 
-fn open_hash<P: Pattern, S: Services>(
+fn open_hash<P: Pattern, S: Storage>(
     asked: &P,
     node: u64,
     hash: &ServiceHash,
     verifier: &AttributeVerifier,
-    table: &mut Table<S>,
+    table: &mut S,
 ) -> Result<Registration, P::OpenError> {
     for _round in 0..TRIES {
         if let Some(registration) = try_open(asked, node, hash, verifier, table)? {
@@ -211,12 +211,12 @@ fn open_hash<P: Pattern, S: Services>(
 }
 
 /// One round. `None` asks for another one.
-fn try_open<P: Pattern, S: Services>(
+fn try_open<P: Pattern, S: Storage>(
     asked: &P,
     node: u64,
     hash: &ServiceHash,
     verifier: &AttributeVerifier,
-    table: &mut Table<S>,
+    table: &mut S,
 ) -> Result<Option<Registration>, P::OpenError> {
     let found = look(asked, node, hash, table)?;
     let (number, description) = found.ok_or(OpenRefusal::DoesNotExist)?;
@@ -277,13 +277,13 @@ type Answer<P> = OpenOrCreateError<<P as Pattern>::OpenError, <P as Pattern>::Cr
 
 /// Opens the service of this name, or creates it with the required pairs where there is none, in at
 /// most six rounds.
-pub fn open_or_create<P: Pattern, S: Services>(
+pub fn open_or_create<P: Pattern, S: Storage>(
     mut asked: P,
     node: u64,
     name: ServiceName,
     verifier: &AttributeVerifier,
     now: Result<Duration, ClockFault>,
-    table: &mut Table<S>,
+    table: &mut S,
 ) -> Result<Registration, Answer<P>> {
     let hash = ServiceHash::of(P::PREFIX, &name);
     for _round in 0..TRIES {
@@ -308,14 +308,14 @@ pub fn open_or_create<P: Pattern, S: Services>(
 }
 
 /// Creates the service of copies, since there may be another round.
-fn create_copy<P: Pattern, S: Services>(
+fn create_copy<P: Pattern, S: Storage>(
     asked: &P,
     node: u64,
     hash: ServiceHash,
     name: &ServiceName,
     verifier: &AttributeVerifier,
     now: Result<Duration, ClockFault>,
-    table: &mut Table<S>,
+    table: &mut S,
 ) -> Result<Registration, P::CreateError> {
     let out_of_memory = |_| CreateRefusal::OutOfMemory;
     let asked = asked.try_clone().map_err(out_of_memory)?;
@@ -336,7 +336,7 @@ pub enum CloseError {
 
 impl Registration {
     /// Gives the ticket back. The last node removes the service.
-    pub fn close<S: Services>(self, table: &mut Table<S>) -> Result<(), CloseError> {
+    pub fn close<S: Storage>(self, table: &mut S) -> Result<(), CloseError> {
         let hash = self.description.hash;
         let node = self.node;
         let Ok(left) = table.release(self.ticket, node, &hash, self.number) else {

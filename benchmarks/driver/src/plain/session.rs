@@ -11,8 +11,8 @@ use super::patterns::event::{EventDemand, EventSetter};
 use super::patterns::publish_subscribe::{PublishSubscribeBuilder, PublishSubscribeSetter};
 use super::patterns::request_response::{RequestResponseBuilder, RequestResponseSetter};
 use super::rounds::{ClockFault, CloseError, Registration, create, open, open_or_create};
-use super::services::{Entry, Services};
-use super::table::Table;
+use super::services::Entry;
+use super::storage::Storage;
 use std::collections::TryReserveError;
 use std::time::Duration;
 
@@ -92,7 +92,7 @@ pub enum Reply {
 /// A table, and slots for what commands open over it.
 pub struct Session<S> {
     config: Config,
-    table: Table<S>,
+    table: S,
     slots: [Option<Registration>; SLOTS],
 }
 
@@ -107,10 +107,10 @@ struct Caller {
 
 impl Caller {
     /// A create defines the required pairs.
-    fn call<P: Pattern, S: Services>(
+    fn call<P: Pattern, S: Storage>(
         self,
         asked: P,
-        table: &mut Table<S>,
+        table: &mut S,
     ) -> Result<Registration, CallError<P::OpenError, P::CreateError>> {
         let Caller {
             how,
@@ -140,11 +140,11 @@ impl Caller {
     }
 }
 
-fn call_event<S: Services>(
+fn call_event<S: Storage>(
     config: &Config,
     setters: Vec<EventSetter>,
     caller: Caller,
-    table: &mut Table<S>,
+    table: &mut S,
 ) -> Result<Registration, Refusal> {
     let mut asked = EventDemand::new(config.event);
     for setter in setters {
@@ -153,11 +153,11 @@ fn call_event<S: Services>(
     caller.call(asked, table).map_err(Refusal::Event)
 }
 
-fn call_publish_subscribe<S: Services>(
+fn call_publish_subscribe<S: Storage>(
     config: &Config,
     setters: Vec<PublishSubscribeSetter>,
     caller: Caller,
-    table: &mut Table<S>,
+    table: &mut S,
 ) -> Result<Registration, Refusal> {
     let mut builder = PublishSubscribeBuilder::new(config.publish_subscribe);
     for setter in setters {
@@ -173,11 +173,11 @@ fn call_publish_subscribe<S: Services>(
     .map_err(Refusal::PublishSubscribe)
 }
 
-fn call_request_response<S: Services>(
+fn call_request_response<S: Storage>(
     config: &Config,
     setters: Vec<RequestResponseSetter>,
     caller: Caller,
-    table: &mut Table<S>,
+    table: &mut S,
 ) -> Result<Registration, Refusal> {
     let mut builder = RequestResponseBuilder::new(config.request_response);
     for setter in setters {
@@ -193,8 +193,8 @@ fn call_request_response<S: Services>(
     .map_err(Refusal::RequestResponse)
 }
 
-impl<S: Services> Session<S> {
-    pub fn new(config: Config, table: Table<S>) -> Session<S> {
+impl<S: Storage> Session<S> {
+    pub fn new(config: Config, table: S) -> Session<S> {
         Session {
             config,
             table,
@@ -275,12 +275,12 @@ impl<S: Services> Session<S> {
         }
     }
 
-    pub fn table(&self) -> &Table<S> {
+    pub fn table(&self) -> &S {
         &self.table
     }
 
     /// Closes what all slots hold, in ascending order, and gives the table back.
-    pub fn finish(mut self) -> Table<S> {
+    pub fn finish(mut self) -> S {
         for slot in 0..SLOTS {
             self.close(slot);
         }

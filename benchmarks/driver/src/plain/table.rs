@@ -5,6 +5,7 @@ use super::services::{
     Entry, Existence, FetchError, LockError, MakeSegmentError, NoSuchTicket, NotAllowed,
     OpenSegmentError, Participant, Phase, PublishError, Release, Services, Tag,
 };
+use super::storage::Storage;
 use std::collections::TryReserveError;
 
 /// What a participant may do at a service.
@@ -101,47 +102,54 @@ impl<S: Services> Table<S> {
     pub fn list(&self) -> Result<Vec<Entry>, TryReserveError> {
         self.services.list()
     }
+}
 
-    pub fn exists(&mut self, hash: &ServiceHash) -> Existence {
+impl<S: Services> Storage for Table<S> {
+    type Form<'a>
+        = S::Form<'a>
+    where
+        S: 'a;
+
+    fn list(&mut self) -> Result<Vec<Entry>, TryReserveError> {
+        Table::list(self)
+    }
+
+    fn exists(&mut self, hash: &ServiceHash) -> Existence {
         self.run_batch();
         self.services.exists(hash)
     }
 
-    /// The service's number and its description's bytes.
-    pub fn fetch(
+    fn fetch(
         &mut self,
         node: u64,
         hash: &ServiceHash,
-    ) -> Result<(u64, S::Form<'_>), FetchError> {
+    ) -> Result<(u64, Self::Form<'_>), FetchError> {
         self.run_batch();
         self.services.fetch(Participant::Node(node), hash)
     }
 
-    /// Whether the node is registered at the service already.
-    pub fn counts(&mut self, node: u64, hash: &ServiceHash) -> bool {
+    fn counts(&mut self, node: u64, hash: &ServiceHash) -> bool {
         self.run_batch();
         let phase = self.services.phase(Participant::Node(node), hash);
         matches!(phase, Some(Phase::Joined(_, _)))
     }
 
-    pub fn make_tag(&mut self, node: u64, hash: &ServiceHash) -> Result<Tag, TryReserveError> {
+    fn make_tag(&mut self, node: u64, hash: &ServiceHash) -> Result<Tag, TryReserveError> {
         self.run_batch();
         self.services.make_tag(node, hash)
     }
 
-    pub fn remove_tag(&mut self, node: u64, hash: &ServiceHash) {
+    fn remove_tag(&mut self, node: u64, hash: &ServiceHash) {
         self.run_batch();
         self.services.remove_tag(node, hash);
     }
 
-    /// Locks the hash for a new service, and gives that service's number.
-    pub fn lock(&mut self, node: u64, hash: &ServiceHash) -> Result<u64, LockError> {
+    fn lock(&mut self, node: u64, hash: &ServiceHash) -> Result<u64, LockError> {
         self.run_batch();
         self.services.lock(Participant::Node(node), hash)
     }
 
-    /// Makes the locked service's segment, with the node in it.
-    pub fn make_segment(
+    fn make_segment(
         &mut self,
         node: u64,
         hash: &ServiceHash,
@@ -153,19 +161,18 @@ impl<S: Services> Table<S> {
         self.services.make_segment(node, hash, number, max_nodes)
     }
 
-    pub fn remove_segment(&mut self, node: u64, hash: &ServiceHash) -> Result<(), NotAllowed> {
+    fn remove_segment(&mut self, node: u64, hash: &ServiceHash) -> Result<(), NotAllowed> {
         self.run_batch();
         self.services.remove_segment(Participant::Node(node), hash)
     }
 
-    pub fn remove_description(&mut self, node: u64, hash: &ServiceHash) -> Result<(), NotAllowed> {
+    fn remove_description(&mut self, node: u64, hash: &ServiceHash) -> Result<(), NotAllowed> {
         self.run_batch();
         self.services
             .remove_description(Participant::Node(node), hash)
     }
 
-    /// Puts the description in the lock's place, and gives a ticket for the node.
-    pub fn publish(
+    fn publish(
         &mut self,
         node: u64,
         hash: &ServiceHash,
@@ -179,8 +186,7 @@ impl<S: Services> Table<S> {
         Ok(number)
     }
 
-    /// Registers the node in the segment of this number, and gives a ticket.
-    pub fn open_segment(
+    fn open_segment(
         &mut self,
         node: u64,
         hash: &ServiceHash,
@@ -190,8 +196,7 @@ impl<S: Services> Table<S> {
         self.services.open(node, hash, number)
     }
 
-    /// Spends the ticket.
-    pub fn release(
+    fn release(
         &mut self,
         ticket: u64,
         node: u64,
