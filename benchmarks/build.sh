@@ -119,6 +119,7 @@ describe_run() {
 # Counts the instructions of each section of a program's run, beside so many standing services. Without
 # `rep movsb`, of which valgrind counts each byte. Further options for callgrind stand in `callgrind_options`.
 callgrind_options=()
+counted_beside=(1000 10000)
 
 count_sections() {
     local program=$1 counts=$scratch/counts-$1

@@ -8,8 +8,10 @@ import subprocess
 import sys
 from pathlib import Path
 
-PROGRAMS = ["proved", "map", "vectors"]
-NAMES = {"proved": "proved", "map": "ordered map", "vectors": "sorted vectors"}
+PROGRAMS = ["proved", "map", "vectors", "records"]
+NAMES = {"proved": "proved", "map": "ordered maps", "vectors": "sorted vectors", "records": "records"}
+OTHERS = PROGRAMS[1:]
+TO_OTHERS = [f"to {other}" for other in OTHERS]
 
 # The rows of operations and lines that are printed, in order.
 PAGE = [
@@ -25,11 +27,7 @@ FORMS = [f"{what} {pattern}{more}" for pattern in ("event", "pubsub", "rr") for 
 BESIDE = ["creates by node 1", "open and close by node 2", "open and close by node 0",
           "create and close beside", "list"]
 
-# What guard compares.
-GUARDED = [("event create", 0), ("event open", 0), ("event last close", 0), ("event open with 4 attributes", 0),
-           ("pubsub create", 0), ("pubsub open", 0), ("rr create", 0), ("rr open", 0), ("line", 0),
-           ("mixed line", 0), ("encode rr", 0), ("decode rr", 0), ("creates by node 1", 1000),
-           ("open and close by node 2", 1000), ("create and close beside", 1000), ("list", 1000)]
+# By how much a part may differ from what is stored, before guard names it.
 ALLOWED = 0.03
 
 
@@ -76,18 +74,23 @@ def ratios(programs, other):
     return [one / two for one, two in zip(programs["proved"], programs[other])]
 
 
+def multiple(number):
+    """Two digits, and behind the point none where there are three before it."""
+    return f"{number:.2f}" if number < 100 else f"{number:.0f}"
+
+
 def time_row(label, programs, scale, digits):
-    """The medians, their greatest spread, the medians of the ratios, and the last one's least and greatest."""
+    """The medians, their greatest spread, the medians of the ratios, and least and greatest of that to vectors."""
     medians = [statistics.median(programs[program]) for program in PROGRAMS]
-    to_map, to_vectors = ratios(programs, "map"), ratios(programs, "vectors")
     worst = max(spread(programs[program]) for program in PROGRAMS)
+    to_vectors = ratios(programs, "vectors")
     return (label + [f"{scale(median):.{digits}f}" for median in medians] + [f"{100 * worst:.0f} %"]
-            + [f"{statistics.median(some):.2f}" for some in (to_map, to_vectors)]
+            + [multiple(statistics.median(ratios(programs, other))) for other in OTHERS]
             + [f"{min(to_vectors):.2f} to {max(to_vectors):.2f}"])
 
 
 def print_times(times, peaks):
-    head = [NAMES[program] for program in PROGRAMS] + ["spread", "to map", "to vectors", "in the starts"]
+    head = [NAMES[program] for program in PROGRAMS] + ["spread"] + TO_OTHERS + ["to vectors in the starts"]
     print("Microseconds of processor time for one, medians of the starts:\n")
     table(["part"] + head, [time_row([case], times[case, 0], lambda one: one / 1000, 2) for case in PAGE])
     print("Megabytes of forms a second:\n")
@@ -104,8 +107,8 @@ def print_times(times, peaks):
 
 
 # The picture: four panels, each with a curve for each program.
-COLOURS = {"proved": "#0b5394", "map": "#b45309", "vectors": "#2f7d32"}
-DASHES = {"proved": "", "map": "7 4", "vectors": "2 3"}
+COLOURS = {"proved": "#0b5394", "map": "#b45309", "vectors": "#2f7d32", "records": "#8e24aa"}
+DASHES = {"proved": "", "map": "7 4", "vectors": "2 3", "records": "10 3 2 3"}
 WIDTH, HEIGHT, PANEL_WIDTH, PANEL_HEIGHT = 960, 700, 350, 215
 
 
@@ -253,28 +256,28 @@ def read_instructions(folder, program):
             for part, (total, count, costs, unit) in sums.items()}
 
 
-def report_instructions(folder):
+def report_instructions(folder, stored):
     counts = {program: read_instructions(folder, program) for program in PROGRAMS}
-    with (folder / "instructions.csv").open("w", newline="") as file:
+    with stored.open("w", newline="") as file:
         out = csv.writer(file, lineterminator="\n")
         out.writerow(["case", "standing", "unit"] + PROGRAMS)
         for part, (_, _, unit) in counts["proved"].items():
-            out.writerow([*part, unit] + [f"{counts[program][part][0]:.1f}" for program in PROGRAMS])
+            out.writerow([*part, unit] + [f"{counts[program][part][0]:.3f}" for program in PROGRAMS])
     rows = []
     for part, (proved, _, unit) in counts["proved"].items():
-        others = [counts[program][part][0] for program in PROGRAMS[1:]]
+        others = [counts[program][part][0] for program in OTHERS]
         digits = 1 if unit == "byte" else 0
         numbers = [f"{number:,.{digits}f}" for number in [proved] + others]
         label = f"{part[0]}, a {unit}" if unit == "byte" else part[0]
-        rows.append([label, f"{part[1]:,}"] + numbers + [f"{proved / other:.2f}" for other in others])
+        rows.append([label, f"{part[1]:,}"] + numbers + [multiple(proved / other) for other in others])
     print("Instructions for one:\n")
-    table(["part", "standing"] + [NAMES[program] for program in PROGRAMS] + ["to map", "to vectors"], rows)
+    table(["part", "standing"] + [NAMES[program] for program in PROGRAMS] + TO_OTHERS, rows)
     groups = [name for name, _ in GROUPS] + ["the rest"]
     rows = []
     for part in [("event create", 0), ("event open", 0), ("event last close", 0), ("rr open", 0),
                  ("event open with 4 attributes", 0), ("line", 0), ("create and close beside", 1000)]:
         if part in counts["proved"]:
-            for program in ("proved", "vectors"):
+            for program in ("proved", "vectors", "records"):
                 total, costs, _ = counts[program][part]
                 rows.append([part[0], NAMES[program], f"{total:,.0f}"]
                             + [f"{costs.get(group, 0):,.0f}" for group in groups])
@@ -352,18 +355,18 @@ def report_causes(folder, program):
     table(["part", "to vectors", "more"] + CAUSES, rows)
 
 
-def read_counted(folder):
+def read_counted(stored):
     """What a run that counted instructions wrote."""
     counted = {}
-    for row in csv.DictReader((folder / "instructions.csv").open()):
+    for row in csv.DictReader(stored.open()):
         counted[row["case"], int(row["standing"])] = [float(row[program]) for program in PROGRAMS]
     return counted
 
 
-def report_page(folder):
+def report_page(folder, stored):
     """The page's table, of the last run that timed and the last one that counted."""
     times, units = read_times(folder)
-    counted = read_counted(folder)
+    counted = read_counted(stored)
     forms = [f"{what} {pattern}" for pattern in ("event", "pubsub", "rr") for what in ("encode", "decode")]
     beside = [(case, standing) for standing in sorted({standing for _, standing in counted}) for case in BESIDE]
     rows = []
@@ -374,18 +377,17 @@ def report_page(folder):
             proved, *others = counted[part]
             digits = 1 if units[part] == "byte" else 0
             label = f"{part[0]}, a byte" if units[part] == "byte" else part[0]
-            fewer = [f"{proved / other:.2f}" for other in others]
+            fewer = [multiple(proved / other) for other in others]
             rows.append([label, f"{part[1]:,}" if part[1] else "", f"{proved:,.{digits}f}"] + fewer
-                        + [time[0]] + time[4:])
-    table(["part", "standing", "instructions", "to map", "to vectors", "time", "to map", "to vectors",
-           "in the starts"], rows)
+                        + [time[0]] + time[len(PROGRAMS) + 1 :])
+    table(["part", "standing", "instructions"] + TO_OTHERS + ["time"] + TO_OTHERS + ["to vectors in the starts"], rows)
 
 
 def guard(folder, stored):
     counts = read_instructions(folder, "proved")
     differing = 0
     for row in csv.DictReader(stored.open()):
-        part, before = (row["case"], int(row["standing"])), float(row["instructions"])
+        part, before = (row["case"], int(row["standing"])), float(row["proved"])
         now = counts[part][0] if part in counts else 0
         change = now / before - 1
         if abs(change) > ALLOWED:
@@ -397,32 +399,20 @@ def guard(folder, stored):
     return 1 if differing else 0
 
 
-def store(folder, stored):
-    counts = read_instructions(folder, "proved")
-    with stored.open("w", newline="") as file:
-        out = csv.writer(file, lineterminator="\n")
-        out.writerow(["case", "standing", "instructions"])
-        for case, standing in GUARDED:
-            out.writerow([case, standing, f"{counts[case, standing][0]:.3f}"])
-    return 0
-
-
 def main(words):
     match words:
         case ["times", folder, results, picture]:
             report_times(Path(folder), Path(results), Path(picture))
-        case ["instructions", folder]:
-            report_instructions(Path(folder))
+        case ["instructions", folder, stored]:
+            report_instructions(Path(folder), Path(stored))
         case ["causes", folder, program]:
             report_causes(Path(folder), program)
-        case ["page", folder]:
-            report_page(Path(folder))
+        case ["page", folder, stored]:
+            report_page(Path(folder), Path(stored))
         case ["guard", folder, stored]:
             return guard(Path(folder), Path(stored))
-        case ["--store", folder, stored]:
-            return store(Path(folder), Path(stored))
         case _:
-            print("usage: guard [--store]", file=sys.stderr)
+            print(f"not a report: {words}", file=sys.stderr)
             return 2
     return 0
 

@@ -9,7 +9,7 @@ case "${1:-}" in
         shift
         ;;
     --page)
-        exec python3 "$top/benchmarks/report.py" page "$scratch"
+        exec python3 "$top/benchmarks/report.py" page "$scratch" "$top/benchmarks/instructions.csv"
         ;;
 esac
 build
@@ -29,11 +29,10 @@ fi
 
 if [ -n "$count" ]; then
     need valgrind valgrind
-    [ $# -gt 0 ] || set -- 1000 10000
     for program in proved map vectors records; do
-        count_sections "$program" "$@"
+        count_sections "$program" "${counted_beside[@]}"
     done
-    python3 "$top/benchmarks/report.py" instructions "$scratch"
+    python3 "$top/benchmarks/report.py" instructions "$scratch" "$top/benchmarks/instructions.csv"
     exit
 fi
 
