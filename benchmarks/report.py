@@ -373,14 +373,14 @@ def report_page(folder, stored):
     for part in [(case, 0) for case in SHORT + forms] + beside:
         if part in times and part in counted:
             scale = 1 if units[part] == "byte" else 1000
-            time = time_row([], times[part], lambda one: one / scale, 2)
+            time = [f"{statistics.median(times[part]['proved']) / scale:.2f}"]
+            time += [multiple(statistics.median(ratios(times[part], other))) for other in OTHERS]
             proved, *others = counted[part]
             digits = 1 if units[part] == "byte" else 0
             label = f"{part[0]}, a byte" if units[part] == "byte" else part[0]
             fewer = [multiple(proved / other) for other in others]
-            rows.append([label, f"{part[1]:,}" if part[1] else "", f"{proved:,.{digits}f}"] + fewer
-                        + [time[0]] + time[len(PROGRAMS) + 1 :])
-    table(["part", "standing", "instructions"] + TO_OTHERS + ["time"] + TO_OTHERS + ["to vectors in the starts"], rows)
+            rows.append([label, f"{part[1]:,}" if part[1] else "", f"{proved:,.{digits}f}"] + fewer + time)
+    table(["part", "standing", "instructions"] + TO_OTHERS + ["time"] + TO_OTHERS, rows)
 
 
 def guard(folder, stored):
