@@ -1,4 +1,4 @@
-# Builds the proved layer and the driver: sourced by run.sh, by guard and by kit/count.
+# Builds the proved layer and the driver: run.sh, guard and kit/count read this.
 set -eu
 
 top=$(cd "$(dirname "${BASH_SOURCE[0]}")/.." && pwd)
@@ -39,30 +39,34 @@ copy_crates() {
         done
     done
     cp "$top/crates.txt" "$scratch/crates.txt"
-    copy_library measured "$scratch" "negotiate_serve negotiate_lines $libraries libc"
+    copy_crate "measured staticlib" "$scratch" "negotiate_serve negotiate_lines $libraries libc"
+    copy_crate shared_lines "$scratch" "negotiate_serve negotiate_lines $libraries iceoryx2_file_log iceoryx2_journal"
 }
 
-# Puts a static library beside the crates of a repository: a folder of benchmarks/ whose files end in `.rattle`.
-copy_library() {
-    local name=$1 repository=$2 below=$3
+# Puts a crate beside those of a repository: a folder of benchmarks/ whose files end in `.rattle`.
+copy_crate() {
+    local name=${1%% *} repository=$2 below=$3
     mkdir -p "$repository/crates/$name/src"
     rm -f "$repository/crates/$name/src"/*
     for file in "$top/benchmarks/$name"/*.rattle; do
         cp "$file" "$repository/crates/$name/src/$(basename "$file" .rattle).rt"
     done
-    echo "$name staticlib: $below" >>"$repository/crates.txt"
+    echo "$1: $below" >>"$repository/crates.txt"
 }
 
-# Proves and builds a static library, and tells of each crate below it when rt comes to it, and how far rt is.
-prove_library() {
-    local name=$1 repository=$2 line
+# Proves and builds a crate by `rt lib` or `rt run`, which then makes this file. Tells of each crate below it when rt
+# comes to it, and how far rt is.
+prove_crate() {
+    local name=$1 repository=$2 how=$3 made=$4 line
     tell "proving and building $name; from nothing each crate below it is proved first"
-    (set -o pipefail
-        cd "$repository/crates/$name" && rt lib 2>&1 | tee "$scratch/proof.log" | while IFS= read -r line; do
+    rm -f "$repository/crates/$name/out/$made"
+    (set +e
+        cd "$repository/crates/$name" && rt "$how" </dev/null 2>&1 | tee "$scratch/proof.log" | while IFS= read -r line; do
             case "$line" in
                 rt:* | 'so far:'*) tell "${line#rt: }" ;;
             esac
-        done) || {
+        done)
+    [ -e "$repository/crates/$name/out/$made" ] || {
         tail -n 40 "$scratch/proof.log" >&2
         exit 1
     }
@@ -102,7 +106,7 @@ CONFIG
 build() {
     need "$sources/sha1-0.10.*" librust-sha1-dev
     copy_crates
-    prove_library measured "$scratch"
+    prove_crate measured "$scratch" lib libmeasured.a
     build_program "$top/benchmarks/driver" "$scratch/driver" measured "$scratch"
 }
 

@@ -4,7 +4,7 @@ source "$(dirname "$0")/build.sh"
 
 count=
 case "${1:-}" in
-    --instructions | --causes)
+    --instructions | --causes | --shared)
         count=$1
         shift
         ;;
@@ -15,6 +15,12 @@ esac
 build
 describe_run
 echo
+
+if [ "$count" = --shared ]; then
+    need valgrind valgrind
+    prove_crate shared_lines "$scratch" run shared_lines
+    exec python3 "$top/benchmarks/shared_log.py" "$scratch/crates/shared_lines/out/shared_lines" "$driver" "$@"
+fi
 
 if [ "$count" = --causes ]; then
     need valgrind valgrind

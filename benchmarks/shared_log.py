@@ -1,17 +1,17 @@
 #!/usr/bin/env python3
-"""How much processor time calls take that go over what processes share, by the built program `wulameron`.
+"""How much processor time calls take that go over what processes share.
 
-    benchmarks/shared_log.py [PROGRAM] [--driver DRIVER] [--folder FOLDER] [--services N ..] [--pairs N] [--calls-only]
+    benchmarks/run.sh --shared [--folder FOLDER] [--services N ..] [--wulameron PROGRAM] [--pairs N]
 
-Three programs answer the same lines: `wulameron` over a log, the benchmark's driver in plain Rust over a log of the same
-form, and the driver over files alone: a description, a lock, a tag and a segment of shared memory are a file each. All
-of it lies in a folder of a memory file system (/dev/shm where none is given). So many services stand (10 and 1,000
-where nothing is said), held by as many processes as that takes, while one more process is measured: creates with their
-closes, opens with theirs, and lists. Their replies have to be the same, and so have the entries of both logs.
+Three programs answer the same lines: `shared_lines` in Rattle over a log, the benchmark's driver in plain Rust over a
+log of the same form, and the driver over files alone: a description, a lock, a tag and a segment of shared memory are a
+file each. All of it lies in a folder of a memory file system (/dev/shm where none is given). So many services stand (10
+and 1,000 where nothing is said), held by as many processes as that takes, while one more process is measured: creates
+with their closes, opens with theirs, and lists. Their replies have to be the same, and so have the entries of both logs.
 
-Then a start of `wulameron` is measured after so many pairs (a million where nothing is said), and what a compaction
-takes beside 0, 1,000 and 10,000 services. Prints tables; each time is the least of five runs, in which the programs
-take turns.
+With the built program `wulameron` a start of it is measured after so many pairs (a million where nothing is said), and
+what a compaction takes beside 0, 1,000 and 10,000 services. Prints tables; each time is the least of five runs, in
+which the programs take turns.
 """
 import argparse
 import hashlib
@@ -61,9 +61,9 @@ class Program:
 
 
 def programs(proved, driver):
-    """The three programs."""
+    """The three programs whose calls are compared."""
     return [
-        Program("proved", [proved, "run", "--at", "{place}", "--node", "{node}", "--wait", "60000"]),
+        Program("proved", [proved, "{place}", "{node}"]),
         Program("plain", [driver, "log", "{place}"]),
         Program("files", [driver, "files", "{place}"]),
     ]
@@ -304,13 +304,12 @@ def print_calls(found, folder, numbers):
 
 def main():
     parser = argparse.ArgumentParser(description=__doc__, formatter_class=argparse.RawDescriptionHelpFormatter)
-    built = pathlib.Path(os.environ.get("BENCHMARK_FOLDER", "/tmp/negotiation-benchmark"))
-    parser.add_argument("program", nargs="?", default=str(TOP / "crates/wulameron/out/wulameron"))
-    parser.add_argument("--driver", default=str(built / "driver/target/release/driver"))
+    parser.add_argument("program", help="the built program shared_lines")
+    parser.add_argument("driver")
     parser.add_argument("--folder", default="/dev/shm")
     parser.add_argument("--services", type=int, nargs="*", default=[10, 1000])
+    parser.add_argument("--wulameron")
     parser.add_argument("--pairs", type=int, default=1000000)
-    parser.add_argument("--calls-only", action="store_true")
     asked = parser.parse_args()
     folder = pathlib.Path(tempfile.mkdtemp(dir=asked.folder))
     found = programs(asked.program, asked.driver)
@@ -318,9 +317,11 @@ def main():
     try:
         compare_entries(found, folder)
         rows = print_calls(found, folder, asked.services)
-        if not asked.calls_only:
-            rows += after_pairs(found[0], folder, asked.pairs)
-            rows += compactions(found[0], folder)
+        if asked.wulameron:
+            words = [asked.wulameron, "run", "--at", "{place}", "--node", "{node}", "--wait", "60000"]
+            wulameron = Program("wulameron", words)
+            rows += after_pairs(wulameron, folder, asked.pairs)
+            rows += compactions(wulameron, folder)
         for name, value in rows:
             print(f"  {name}: {value}")
     finally:
