@@ -1,8 +1,8 @@
 /* Wulameron for C: which settings the nodes of a named service agree on, for services of events, publish-subscribe and
  * request-response. The rules are those of iceoryx2; the project isn't iceoryx2's.
  *
- * A session holds a table of services within this process, and 64 slots. A request creates or opens a service for a
- * node, and the slot holds what they agreed on until it is closed.
+ * A session is over a table of services within this process, or over a log in a file that processes share. It has 64
+ * slots. A request creates or opens a service for a node, and the slot holds what they agreed on until it is closed.
  *
  *   wulameron_session *session;
  *   uint64_t number;
@@ -21,8 +21,9 @@
  * after which nothing is written and nothing is lost: ask with (NULL, 0, &length) first, or again.
  * Threads: a session is for one thread at a time, the one that opened it. A call beside another gives WULAMERON_BUSY;
  * a close beside a call isn't caught. Sessions share nothing. No call from a signal handler.
- * Ends: no call panics, aborts, blocks or calls back. Without memory it gives WULAMERON_OUT_OF_MEMORY, or a refusal
- * that is named so.
+ * Ends: no call panics, aborts or calls back. Without memory it gives WULAMERON_OUT_OF_MEMORY, or a refusal that is
+ * named so. Over a table no call blocks; over a log it waits for the program that holds the session, and for at most
+ * WULAMERON_PATIENCE seconds in which that sends nothing.
  * Versions: numbers stay what they are; WULAMERON_VERSION grows where a caller has to be compiled again. */
 #ifndef WULAMERON_H
 #define WULAMERON_H
@@ -34,9 +35,12 @@
 extern "C" {
 #endif
 
-#define WULAMERON_VERSION 1u
+#define WULAMERON_VERSION 2u
 #define WULAMERON_SLOTS 64u
 #define WULAMERON_HASH_SIZE 20u
+#define WULAMERON_PATIENCE 60u
+/* In place of a node: any one that is free, or each one that is dead. */
+#define WULAMERON_ANY_NODE UINT64_MAX
 /* A literal as a text: its pointer and its length. */
 #define WULAMERON_TEXT(literal) ("" literal), (sizeof(literal) - 1u)
 
@@ -66,6 +70,15 @@ typedef struct wulameron_session wulameron_session;
 #define WULAMERON_REFUSED 20u         /* the call was carried out and refused: *refusal tells why */
 #define WULAMERON_NOT_CLOSED 21u      /* the storage didn't release it, and the slot holds it as before */
 #define WULAMERON_NONE 22u            /* the setting has no value */
+/* Over a log. */
+#define WULAMERON_OTHER_NODE 25u      /* a request is in the name of the session's own node */
+#define WULAMERON_LOG 26u             /* the log can't be opened, or not be used any more: close the session */
+#define WULAMERON_ENDED 27u           /* the program that holds the session has ended, or doesn't answer: close it */
+#define WULAMERON_NO_PROGRAM 28u      /* the program can't be started */
+#define WULAMERON_NODE_IN_USE 29u     /* a process that is alive has the node, or no node is free */
+#define WULAMERON_ONLY_OVER_LOG 30u   /* a table has no nodes of its own, and nothing to clean up */
+#define WULAMERON_BAD_LINE 31u        /* the line is no command: wulameron_get_reply tells what is wrong with it */
+#define WULAMERON_NODE_ALIVE 32u      /* nothing is given back for it */
 
 /* Patterns, and how a service is wanted. */
 #define WULAMERON_EVENT 1u
@@ -117,6 +130,14 @@ typedef struct wulameron_session wulameron_session;
 #define WULAMERON_FIXED_SIZE 1u /* one value */
 #define WULAMERON_DYNAMIC 2u    /* a number of values */
 
+/* What stands of a service, and of a node. */
+#define WULAMERON_BEING_CREATED 1u
+#define WULAMERON_PUBLISHED 2u
+#define WULAMERON_MARKED 3u       /* its last node has left, and something of it is left */
+#define WULAMERON_SEGMENT_ALONE 4u
+#define WULAMERON_ALIVE 1u
+#define WULAMERON_DEAD 2u
+
 /* Why a call was refused: a thousand for the error's enum, and the place of the value in it, counted from 1. An open or
  * create has those of its open from 3001, 6001 and 9001 on, those of its create from 3501, 6501 and 9501 on, and 3999,
  * 6999 and 9999 for SystemInFlux. */
@@ -132,12 +153,29 @@ typedef struct wulameron_session wulameron_session;
 
 /* What a code says, in words: never null, static. */
 const char *wulameron_code_text(uint32_t code);
+/* A refusal's name, as EventOpenError::DoesNotExist, when it comes, and what can be done. WULAMERON_NO_SUCH_ITEM for a
+ * number that is none. */
+uint32_t wulameron_refusal_name(uint32_t refusal, char *output, size_t size, size_t *length);
+uint32_t wulameron_refusal_text(uint32_t refusal, char *output, size_t size, size_t *length);
+uint32_t wulameron_refusal_advice(uint32_t refusal, char *output, size_t size, size_t *length);
 
 /* ---- sessions */
 
 /* Opens a session over a new table. `version` is WULAMERON_VERSION. *out is null where the code isn't WULAMERON_OK. */
 uint32_t wulameron_open_table(uint32_t version, wulameron_session **out);
-/* Closes what each slot holds, and frees the session. Null is done already. */
+/* Opens a session over the log in the file `path`, which is made where there is none, and claims `node` there, or with
+ * WULAMERON_ANY_NODE the lowest that is free. A program holds it, `wulameron session`: `program` is its path, or a name
+ * that is looked for on the PATH; null stands for what the variable WULAMERON_PROGRAM names, or else for `wulameron`. A
+ * null `path` stands for that program's own default. Both end with a 0. What is wrong is told in `message`: as much of
+ * it as there is room for. *length is how many bytes the whole has; `length` may be null. *out is null then.
+ * The program has its own process group, and a socket as its standard input and output. Where this process ends in
+ * whatever way, it closes what the slots hold, and ends. Where it is killed itself, its node is dead, and what that had
+ * is given back by the next one that starts at the log. In the child of a fork the session gives WULAMERON_ENDED. */
+uint32_t wulameron_open_log(uint32_t version, const char *program, const char *path, uint64_t node,
+    wulameron_session **out, char *message, size_t size, size_t *length);
+/* Closes what each slot holds, ends the program that holds the session, and frees the session. Null is done already.
+ * WULAMERON_NOT_CLOSED where a slot's service couldn't be closed, WULAMERON_LOG where the log was at fault, and
+ * WULAMERON_ENDED where the program had ended before; the session is freed all the same. */
 uint32_t wulameron_close_session(wulameron_session *session);
 
 /* ---- the request. A session has at most one: begin drops the last one, send takes it, and a call that isn't done
@@ -193,8 +231,41 @@ uint32_t wulameron_get_attribute(wulameron_session *session, uint32_t slot, uint
 /* The description as it is stored, byte for byte: docs/BYTE_FORM.md. */
 uint32_t wulameron_get_bytes(wulameron_session *session, uint32_t slot, uint8_t *output, size_t size, size_t *length);
 
-/* Takes a listing of the table, and tells how many entries it has. */
+/* ---- all services. A listing stands until the next one is taken. */
+
+/* Takes a listing of the table or the log, and tells how many entries it has. */
 uint32_t wulameron_list(wulameron_session *session, uint64_t *count);
+/* The entry of this index: what stands of it, and its number. What isn't known of a service that is being created is 0:
+ * the pattern, how many nodes it has, and for how many it is. */
+uint32_t wulameron_get_entry(wulameron_session *session, uint64_t index, uint32_t *state, uint32_t *pattern,
+    uint64_t *number, uint64_t *nodes, uint64_t *max_nodes);
+/* Its name, empty where it isn't known, and the 20 bytes by which it is found. */
+uint32_t wulameron_get_entry_name(wulameron_session *session, uint64_t index, char *output, size_t size,
+    size_t *length);
+uint32_t wulameron_get_entry_hash(wulameron_session *session, uint64_t index, uint8_t *output, size_t size,
+    size_t *length);
+
+/* ---- lines: docs/PROGRAM.md */
+
+/* Carries out a line, without its end: WULAMERON_OK where it is a command, also one that is refused. */
+uint32_t wulameron_line(wulameron_session *session, const char *line, size_t length);
+/* The reply to the last line; after WULAMERON_BAD_LINE what is wrong with it, and after WULAMERON_LOG what is wrong
+ * with the log. It stands until the next of these. WULAMERON_OUT_OF_MEMORY where there was no memory for it. */
+uint32_t wulameron_get_reply(wulameron_session *session, char *output, size_t size, size_t *length);
+
+/* ---- nodes, over a log alone: over a table WULAMERON_ONLY_OVER_LOG */
+
+/* The node that the session claimed. */
+uint32_t wulameron_node(wulameron_session *session, uint64_t *node);
+/* Looks which nodes were ever claimed at the log, and tells how many. */
+uint32_t wulameron_nodes(wulameron_session *session, uint64_t *count);
+/* The node of this index of the last look, by rising number, and whether it is WULAMERON_ALIVE or WULAMERON_DEAD. */
+uint32_t wulameron_get_node(wulameron_session *session, uint64_t index, uint64_t *node, uint32_t *state);
+/* Gives back what a dead node has, or with WULAMERON_ANY_NODE what each has: tells of how many nodes, how many places
+ * among a service's nodes, and how many services were removed. With `dry_run` 1 it only tells. WULAMERON_NODE_ALIVE
+ * where the node's process is alive, WULAMERON_NO_SUCH_ITEM where the node was never claimed. */
+uint32_t wulameron_clean(wulameron_session *session, uint64_t node, uint32_t dry_run, uint64_t *nodes, uint64_t *places,
+    uint64_t *services);
 
 #ifdef __cplusplus
 }
