@@ -1,4 +1,5 @@
-/* Calls each function of wulameron.h, and compares what it gives with what the pages tell. Ends with the line
+/* Calls each function of wulameron.h, and compares what it gives with what the pages tell: over tables, or with a
+ * folder as its argument over logs in it, where each node has a session of its own. Ends with the line
  * `N passed, M failed`, and with status 1 where one failed. */
 #include "wulameron.h"
 
@@ -6,6 +7,8 @@
 #include <string.h>
 
 static unsigned passed, failed;
+static const char *folder; /* null over tables */
+static unsigned logs;
 
 static void check(int holds, const char *what, int line)
 {
@@ -20,12 +23,42 @@ static void check(int holds, const char *what, int line)
 #define CHECK(test) check((test), #test, __LINE__)
 #define GIVES(code, call) check((call) == (code), #call " is " #code, __LINE__)
 
-static wulameron_session *opened(void)
+/* A session of a node over the last log. */
+static wulameron_session *over_log(uint64_t node)
 {
     wulameron_session *session = NULL;
+    char path[512], message[256];
+    size_t length = 99;
+    uint64_t claimed = node + 1;
+    snprintf(path, sizeof path, "%s/log-%u", folder, logs);
+    GIVES(WULAMERON_OK,
+        wulameron_open_log(WULAMERON_VERSION, NULL, path, node, &session, message, sizeof message, &length));
+    CHECK(session != NULL && length == 0);
+    GIVES(WULAMERON_OK, wulameron_node(session, &claimed));
+    CHECK(claimed == node);
+    return session;
+}
+
+/* A session over a new table, or one of a node over a new log. */
+static wulameron_session *opened(uint64_t node)
+{
+    wulameron_session *session = NULL;
+    logs++;
+    if (folder != NULL) return over_log(node);
     GIVES(WULAMERON_OK, wulameron_open_table(WULAMERON_VERSION, &session));
     CHECK(session != NULL);
     return session;
+}
+
+/* The session of another node over the same table or log. */
+static wulameron_session *beside(wulameron_session *session, uint64_t node)
+{
+    return folder != NULL ? over_log(node) : session;
+}
+
+static void closes(wulameron_session *session)
+{
+    GIVES(WULAMERON_OK, wulameron_close_session(session));
 }
 
 static uint32_t asked(wulameron_session *session, uint32_t pattern, uint32_t how, uint64_t node, const char *name)
@@ -68,7 +101,7 @@ static void create_lamps(wulameron_session *session)
 
 static void events(void)
 {
-    wulameron_session *session = opened();
+    wulameron_session *session = opened(7);
     uint64_t value = 0, seconds = 0, node = 0, count = 0;
     uint32_t nanoseconds = 0, pattern = 0;
     uint8_t hash[WULAMERON_HASH_SIZE], bytes[256], wanted[256], *at = wanted;
@@ -114,69 +147,194 @@ static void events(void)
     at = put(put(put(put(at, 1, 8), 500, 4), 1700000000, 8), 5, 4);
     GIVES(WULAMERON_OK, wulameron_get_bytes(session, 0, bytes, sizeof bytes, &length));
     CHECK(length == (size_t)(at - wanted) && memcmp(bytes, wanted, length) == 0);
-    GIVES(WULAMERON_OK, wulameron_close_session(session));
+    closes(session);
 }
 
+/* Two nodes agree, and the second is refused what doesn't fit. */
 static void two_nodes(void)
 {
-    wulameron_session *session = opened();
-    uint64_t number = 0, value = 0, count = 9;
+    wulameron_session *first = opened(7), *second = beside(first, 8);
+    uint64_t number = 0, value = 0;
     uint32_t refusal = 0;
-    create_lamps(session);
+    create_lamps(first);
     /* Another node opens it with less, and gets what was agreed on. */
-    GIVES(WULAMERON_OK, asked(session, WULAMERON_EVENT, WULAMERON_OPEN, 8, "lamps"));
-    GIVES(WULAMERON_OK, wulameron_set_number(session, WULAMERON_MAX_LISTENERS, 3));
-    GIVES(WULAMERON_SLOT_IN_USE, wulameron_send(session, 0, &number, &refusal));
-    GIVES(WULAMERON_NO_SUCH_SLOT, wulameron_send(session, 64, &number, &refusal));
-    GIVES(WULAMERON_OK, wulameron_send(session, 63, &number, &refusal));
-    GIVES(WULAMERON_OK, wulameron_get_number(session, 63, WULAMERON_MAX_LISTENERS, &value));
+    GIVES(WULAMERON_OK, asked(second, WULAMERON_EVENT, WULAMERON_OPEN, 8, "lamps"));
+    GIVES(WULAMERON_OK, wulameron_set_number(second, WULAMERON_MAX_LISTENERS, 3));
+    GIVES(WULAMERON_NO_SUCH_SLOT, wulameron_send(second, 64, &number, &refusal));
+    GIVES(WULAMERON_OK, wulameron_send(second, 63, &number, &refusal));
+    GIVES(WULAMERON_OK, wulameron_get_number(second, 63, WULAMERON_MAX_LISTENERS, &value));
     CHECK(value == 4);
     /* With more it is refused: the 13th value of EventOpenError. */
-    GIVES(WULAMERON_OK, asked(session, WULAMERON_EVENT, WULAMERON_OPEN, 7, "lamps"));
-    GIVES(WULAMERON_OK, wulameron_set_number(session, WULAMERON_MAX_LISTENERS, 5));
-    GIVES(WULAMERON_REFUSED, wulameron_send(session, 1, &number, &refusal));
+    GIVES(WULAMERON_OK, asked(second, WULAMERON_EVENT, WULAMERON_OPEN, 8, "lamps"));
+    GIVES(WULAMERON_OK, wulameron_set_number(second, WULAMERON_MAX_LISTENERS, 5));
+    GIVES(WULAMERON_SLOT_IN_USE, wulameron_send(second, 63, &number, &refusal));
+    GIVES(WULAMERON_REFUSED, wulameron_send(second, 1, &number, &refusal));
     CHECK(refusal == WULAMERON_EVENT_OPEN_ERROR + 13);
-    GIVES(WULAMERON_SLOT_EMPTY, wulameron_get_number(session, 1, WULAMERON_MAX_LISTENERS, &value));
+    GIVES(WULAMERON_SLOT_EMPTY, wulameron_get_number(second, 1, WULAMERON_MAX_LISTENERS, &value));
     /* A key that the service hasn't: the 5th. */
-    GIVES(WULAMERON_OK, asked(session, WULAMERON_EVENT, WULAMERON_OPEN, 7, "lamps"));
-    GIVES(WULAMERON_OK, wulameron_require_key(session, WULAMERON_TEXT("wall")));
-    GIVES(WULAMERON_REFUSED, wulameron_send(session, 1, &number, &refusal));
+    GIVES(WULAMERON_OK, asked(second, WULAMERON_EVENT, WULAMERON_OPEN, 8, "lamps"));
+    GIVES(WULAMERON_OK, wulameron_require_key(second, WULAMERON_TEXT("wall")));
+    GIVES(WULAMERON_REFUSED, wulameron_send(second, 1, &number, &refusal));
     CHECK(refusal == WULAMERON_EVENT_OPEN_ERROR + 5);
+    /* Both leave, and nothing of it is left. */
+    GIVES(WULAMERON_OK, wulameron_close(first, 0));
+    GIVES(WULAMERON_SLOT_EMPTY, wulameron_close(first, 0));
+    GIVES(WULAMERON_OK, wulameron_close(second, 63));
+    GIVES(WULAMERON_NO_SUCH_SLOT, wulameron_close(second, 64));
+    GIVES(WULAMERON_OK, wulameron_list(first, &number));
+    CHECK(number == 0);
+    if (second != first) closes(second);
+    closes(first);
+}
+
+/* A third node finds no room, and who comes later finds what is left. */
+static void three_nodes(void)
+{
+    wulameron_session *first = opened(7), *second = beside(first, 8), *third = beside(first, 9);
+    uint64_t number = 0, count = 9;
+    uint32_t refusal = 0;
+    create_lamps(first);
+    GIVES(WULAMERON_OK, asked(second, WULAMERON_EVENT, WULAMERON_OPEN, 8, "lamps"));
+    GIVES(WULAMERON_OK, wulameron_send(second, 63, &number, &refusal));
     /* It is there already: the 4th value of EventCreateError. */
-    GIVES(WULAMERON_OK, asked(session, WULAMERON_EVENT, WULAMERON_CREATE, 9, "lamps"));
-    GIVES(WULAMERON_REFUSED, wulameron_send(session, 1, &number, &refusal));
+    GIVES(WULAMERON_OK, asked(third, WULAMERON_EVENT, WULAMERON_CREATE, 9, "lamps"));
+    GIVES(WULAMERON_REFUSED, wulameron_send(third, 1, &number, &refusal));
     CHECK(refusal == WULAMERON_EVENT_CREATE_ERROR + 4);
     /* There is room for two nodes: the 16th. */
-    GIVES(WULAMERON_OK, asked(session, WULAMERON_EVENT, WULAMERON_OPEN, 9, "lamps"));
-    GIVES(WULAMERON_REFUSED, wulameron_send(session, 1, &number, &refusal));
+    GIVES(WULAMERON_OK, asked(third, WULAMERON_EVENT, WULAMERON_OPEN, 9, "lamps"));
+    GIVES(WULAMERON_REFUSED, wulameron_send(third, 1, &number, &refusal));
     CHECK(refusal == WULAMERON_EVENT_OPEN_ERROR + 16);
-    GIVES(WULAMERON_OK, wulameron_list(session, &count));
+    GIVES(WULAMERON_OK, wulameron_list(third, &count));
     CHECK(count == 1);
-    /* Both leave, and nothing of it is left. */
-    GIVES(WULAMERON_OK, wulameron_close(session, 0));
-    GIVES(WULAMERON_SLOT_EMPTY, wulameron_close(session, 0));
-    GIVES(WULAMERON_OK, wulameron_close(session, 63));
-    GIVES(WULAMERON_NO_SUCH_SLOT, wulameron_close(session, 64));
+    GIVES(WULAMERON_OK, wulameron_close(first, 0));
+    GIVES(WULAMERON_OK, wulameron_close(second, 63));
+    /* The one who opens a service that isn't there is refused: the 1st. An open or create creates it. */
+    GIVES(WULAMERON_OK, asked(first, WULAMERON_EVENT, WULAMERON_OPEN, 7, "lamps"));
+    GIVES(WULAMERON_REFUSED, wulameron_send(first, 1, &number, &refusal));
+    CHECK(refusal == WULAMERON_EVENT_OPEN_ERROR + 1);
+    GIVES(WULAMERON_OK, asked(first, WULAMERON_EVENT, WULAMERON_OPEN_OR_CREATE, 7, "lamps"));
+    GIVES(WULAMERON_OK, wulameron_send(first, 1, &number, &refusal));
+    /* Who lets go of it keeps its place. */
+    GIVES(WULAMERON_OK, wulameron_abandon(first, 1));
+    GIVES(WULAMERON_SLOT_EMPTY, wulameron_abandon(first, 1));
+    GIVES(WULAMERON_NO_SUCH_SLOT, wulameron_abandon(first, 64));
+    GIVES(WULAMERON_OK, wulameron_list(third, &count));
+    CHECK(count == 1);
+    if (third != first) closes(third);
+    if (second != first) closes(second);
+    closes(first);
+}
+
+/* The entries of a listing, by what wulameron.h tells. */
+static void listing(void)
+{
+    wulameron_session *session = opened(7);
+    uint64_t count = 9, number = 9, nodes = 9, max_nodes = 9;
+    uint32_t state = 9, pattern = 9;
+    uint8_t hash[WULAMERON_HASH_SIZE];
+    char name[8];
+    size_t length = 0;
     GIVES(WULAMERON_OK, wulameron_list(session, &count));
     CHECK(count == 0);
-    /* The one who opens a service that isn't there is refused: the 1st. An open or create creates it. */
-    GIVES(WULAMERON_OK, asked(session, WULAMERON_EVENT, WULAMERON_OPEN, 7, "lamps"));
-    GIVES(WULAMERON_REFUSED, wulameron_send(session, 1, &number, &refusal));
-    CHECK(refusal == WULAMERON_EVENT_OPEN_ERROR + 1);
-    GIVES(WULAMERON_OK, asked(session, WULAMERON_EVENT, WULAMERON_OPEN_OR_CREATE, 7, "lamps"));
-    GIVES(WULAMERON_OK, wulameron_send(session, 1, &number, &refusal));
-    /* Who lets go of it keeps its place. */
-    GIVES(WULAMERON_OK, wulameron_abandon(session, 1));
-    GIVES(WULAMERON_SLOT_EMPTY, wulameron_abandon(session, 1));
-    GIVES(WULAMERON_NO_SUCH_SLOT, wulameron_abandon(session, 64));
+    create_lamps(session);
+    GIVES(WULAMERON_NO_SUCH_ITEM, wulameron_get_entry(session, 0, &state, &pattern, &number, &nodes, &max_nodes));
+    CHECK(state == 9 && max_nodes == 9);
     GIVES(WULAMERON_OK, wulameron_list(session, &count));
-    CHECK(count == 1);
-    GIVES(WULAMERON_OK, wulameron_close_session(session));
+    GIVES(WULAMERON_OK, wulameron_get_entry(session, 0, &state, &pattern, &number, &nodes, &max_nodes));
+    CHECK(state == WULAMERON_PUBLISHED && pattern == WULAMERON_EVENT && number == 0 && nodes == 1 && max_nodes == 2);
+    GIVES(WULAMERON_TOO_SMALL, wulameron_get_entry_name(session, 0, name, 4, &length));
+    GIVES(WULAMERON_OK, wulameron_get_entry_name(session, 0, name, sizeof name, &length));
+    CHECK(length == 5 && memcmp(name, "lamps", 5) == 0);
+    GIVES(WULAMERON_OK, wulameron_get_entry_hash(session, 0, hash, sizeof hash, &length));
+    CHECK(length == sizeof hash && memcmp(hash, lamps_hash, sizeof hash) == 0);
+    GIVES(WULAMERON_NO_SUCH_ITEM, wulameron_get_entry_name(session, 1, name, sizeof name, &length));
+    closes(session);
+}
+
+/* Lines in the words of negotiate, by the replies of docs/PROGRAM.md. */
+static void lines(void)
+{
+    wulameron_session *session = opened(7);
+    static char many[65537];
+    char reply[256];
+    size_t length = 9;
+    uint64_t value = 0;
+    GIVES(WULAMERON_OK, wulameron_get_reply(session, reply, sizeof reply, &length));
+    CHECK(length == 0);
+    GIVES(WULAMERON_OK, wulameron_line(session, WULAMERON_TEXT("event create 7 5 lamps max_listeners=4")));
+    GIVES(WULAMERON_TOO_SMALL, wulameron_get_reply(session, reply, 3, &length));
+    GIVES(WULAMERON_OK, wulameron_get_reply(session, reply, sizeof reply, &length));
+    CHECK(length >= 13 && memcmp(reply, "ok 5 number=0", 13) == 0);
+    GIVES(WULAMERON_OK, wulameron_get_number(session, 5, WULAMERON_MAX_LISTENERS, &value));
+    CHECK(value == 4);
+    GIVES(WULAMERON_OK, wulameron_line(session, WULAMERON_TEXT("event open 7 6 lamps max_listeners=5")));
+    GIVES(WULAMERON_OK, wulameron_get_reply(session, reply, sizeof reply, &length));
+    CHECK(length < sizeof reply);
+    reply[length < sizeof reply ? length : 0] = 0;
+    CHECK(strstr(reply, "DoesNotSupportRequestedAmountOfListeners") != NULL);
+    GIVES(WULAMERON_BAD_LINE, wulameron_line(session, WULAMERON_TEXT("event crate 7 6 lamps")));
+    GIVES(WULAMERON_OK, wulameron_get_reply(session, reply, sizeof reply - 1, &length));
+    CHECK(length > 0);
+    memset(many, ' ', sizeof many);
+    GIVES(WULAMERON_BAD_LINE, wulameron_line(session, many, sizeof many));
+    GIVES(WULAMERON_NULL, wulameron_line(session, NULL, 1));
+    GIVES(WULAMERON_OK, wulameron_close(session, 5));
+    closes(session);
+}
+
+/* The names and texts of refusals, as docs/REFUSALS.md has them. */
+static void refusals(void)
+{
+    char text[512];
+    size_t length = 0;
+    GIVES(WULAMERON_OK, wulameron_refusal_name(WULAMERON_EVENT_OPEN_ERROR + 13, text, sizeof text, &length));
+    CHECK(length == 56 && memcmp(text, "EventOpenError::DoesNotSupportRequestedAmountOfListeners", 56) == 0);
+    GIVES(WULAMERON_TOO_SMALL, wulameron_refusal_name(9999, NULL, 0, &length));
+    CHECK(length == strlen("RequestResponseOpenOrCreateError::SystemInFlux"));
+    GIVES(WULAMERON_OK, wulameron_refusal_text(WULAMERON_EVENT_OPEN_ERROR + 13, text, sizeof text, &length));
+    CHECK(length > 0 && memcmp(text, "at the second setting: ", 23) == 0);
+    GIVES(WULAMERON_OK, wulameron_refusal_advice(WULAMERON_EVENT_OPEN_ERROR + 13, text, sizeof text, &length));
+    CHECK(length > 0 && memcmp(text, "ask for at most as many", 23) == 0);
+    GIVES(WULAMERON_NO_SUCH_ITEM, wulameron_refusal_name(1000, text, sizeof text, &length));
+    GIVES(WULAMERON_NO_SUCH_ITEM, wulameron_refusal_text(1019, text, sizeof text, &length));
+    GIVES(WULAMERON_NULL, wulameron_refusal_name(1001, text, sizeof text, NULL));
+}
+
+/* Nodes are there over a log alone. */
+static void nodes(void)
+{
+    wulameron_session *session = opened(7), *other;
+    uint64_t node = 0, count = 0, places = 9, services = 9;
+    uint32_t state = 0, only = folder != NULL ? WULAMERON_OK : WULAMERON_ONLY_OVER_LOG;
+    GIVES(only, wulameron_node(session, &node));
+    GIVES(only, wulameron_nodes(session, &count));
+    GIVES(only, wulameron_clean(session, WULAMERON_ANY_NODE, 1, &count, &places, &services));
+    if (folder != NULL) {
+        CHECK(count == 0 && places == 0 && services == 0);
+        other = beside(session, 9);
+        GIVES(WULAMERON_OTHER_NODE, asked(session, WULAMERON_EVENT, WULAMERON_CREATE, 9, "lamps"));
+        GIVES(WULAMERON_NO_REQUEST, wulameron_set_number(session, WULAMERON_MAX_NODES, 1));
+        GIVES(WULAMERON_OK, wulameron_nodes(session, &count));
+        CHECK(count == 2);
+        GIVES(WULAMERON_OK, wulameron_get_node(session, 1, &node, &state));
+        CHECK(node == 9 && state == WULAMERON_ALIVE);
+        GIVES(WULAMERON_NODE_ALIVE, wulameron_clean(session, 9, 0, &count, &places, &services));
+        GIVES(WULAMERON_NO_SUCH_ITEM, wulameron_clean(session, 10, 0, &count, &places, &services));
+        GIVES(WULAMERON_BAD_VALUE, wulameron_clean(session, 9, 2, &count, &places, &services));
+        closes(other);
+        GIVES(WULAMERON_OK, wulameron_nodes(session, &count));
+        GIVES(WULAMERON_OK, wulameron_get_node(session, 1, &node, &state));
+        CHECK(node == 9 && state == WULAMERON_DEAD);
+        GIVES(WULAMERON_OK, wulameron_clean(session, 9, 0, &count, &places, &services));
+        CHECK(places == 0 && services == 0);
+    }
+    GIVES(folder != NULL ? WULAMERON_NO_SUCH_ITEM : only, wulameron_get_node(session, 5, &node, &state));
+    closes(session);
 }
 
 static void messages(void)
 {
-    wulameron_session *session = opened();
+    wulameron_session *session = opened(1);
     uint64_t number = 0, value = 0, size = 0, alignment = 0;
     uint32_t refusal = 0, variant = 0;
     char text[32];
@@ -206,7 +364,7 @@ static void messages(void)
     GIVES(WULAMERON_OK, wulameron_get_type(session, 1, WULAMERON_RESPONSE_PAYLOAD, &variant, &size, &alignment));
     CHECK(variant == WULAMERON_FIXED_SIZE && size == 24 && alignment == 8);
     GIVES(WULAMERON_UNKNOWN_SETTING, wulameron_get_type(session, 1, WULAMERON_PAYLOAD, &variant, &size, &alignment));
-    GIVES(WULAMERON_OK, wulameron_close_session(session));
+    closes(session);
 }
 
 static void what_is_wrong(void)
@@ -215,12 +373,12 @@ static void what_is_wrong(void)
     wulameron_session *session = NULL;
     uint64_t number = 5;
     uint32_t refusal = 6;
-    char name[256];
+    static char name[70000];
     memset(name, 'n', sizeof name);
     GIVES(WULAMERON_NULL, wulameron_open_table(WULAMERON_VERSION, NULL));
     GIVES(WULAMERON_VERSION_DIFFERS, wulameron_open_table(WULAMERON_VERSION + 1, &session));
     CHECK(session == NULL);
-    session = opened();
+    session = opened(1);
     GIVES(WULAMERON_NULL, asked(NULL, WULAMERON_EVENT, WULAMERON_OPEN, 1, "lamps"));
     GIVES(WULAMERON_NULL, wulameron_begin(session, WULAMERON_EVENT, WULAMERON_OPEN, 1, NULL, 1));
     GIVES(WULAMERON_NULL, wulameron_send(session, 0, NULL, &refusal));
@@ -230,6 +388,9 @@ static void what_is_wrong(void)
     GIVES(WULAMERON_UNKNOWN_CALL, asked(session, WULAMERON_EVENT, 0, 1, "lamps"));
     GIVES(WULAMERON_BAD_NAME, wulameron_begin(session, WULAMERON_EVENT, WULAMERON_OPEN, 1, NULL, 0));
     GIVES(WULAMERON_BAD_NAME, wulameron_begin(session, WULAMERON_EVENT, WULAMERON_OPEN, 1, name, 256));
+    GIVES(WULAMERON_BAD_NAME, wulameron_begin(session, WULAMERON_EVENT, WULAMERON_OPEN, 1, name, sizeof name));
+    memcpy(name + 65535, "\303\244", 2);
+    GIVES(WULAMERON_BAD_NAME, wulameron_begin(session, WULAMERON_EVENT, WULAMERON_OPEN, 1, name, sizeof name));
     GIVES(WULAMERON_NOT_UTF8, wulameron_begin(session, WULAMERON_EVENT, WULAMERON_OPEN, 1, bad, 1));
     GIVES(WULAMERON_NO_REQUEST, wulameron_send(session, 0, &number, &refusal));
     GIVES(WULAMERON_OK, wulameron_begin(session, WULAMERON_PUBLISH_SUBSCRIBE, WULAMERON_CREATE, 1, name, 255));
@@ -244,25 +405,33 @@ static void what_is_wrong(void)
     GIVES(WULAMERON_BAD_TYPE, wulameron_set_type(session, WULAMERON_PAYLOAD, 1, WULAMERON_TEXT("u8"), 1, 3));
     GIVES(WULAMERON_BAD_TYPE, wulameron_set_type(session, WULAMERON_PAYLOAD, 1, NULL, 0, 1, 1));
     GIVES(WULAMERON_NOT_UTF8, wulameron_set_type(session, WULAMERON_PAYLOAD, 1, bad, 1, 1, 1));
-    GIVES(WULAMERON_UNKNOWN_SETTING, wulameron_set_type(session, WULAMERON_REQUEST_PAYLOAD, 1, WULAMERON_TEXT("u8"), 1, 1));
+    GIVES(WULAMERON_UNKNOWN_SETTING,
+        wulameron_set_type(session, WULAMERON_REQUEST_PAYLOAD, 1, WULAMERON_TEXT("u8"), 1, 1));
     GIVES(WULAMERON_BAD_ATTRIBUTE, wulameron_add_attribute(session, NULL, 0, WULAMERON_TEXT("v")));
     GIVES(WULAMERON_BAD_ATTRIBUTE, wulameron_require_key(session, name, 65));
     GIVES(WULAMERON_NOT_UTF8, wulameron_add_attribute(session, WULAMERON_TEXT("k"), bad, 1));
     CHECK(number == 5 && refusal == 6);
     GIVES(WULAMERON_OK, wulameron_send(session, 0, &number, &refusal));
     CHECK(number == 0);
-    GIVES(WULAMERON_OK, wulameron_close_session(session));
-    GIVES(WULAMERON_OK, wulameron_close_session(NULL));
+    closes(session);
+    closes(NULL);
     CHECK(strcmp(wulameron_code_text(WULAMERON_OK), "done") == 0);
     CHECK(strcmp(wulameron_code_text(WULAMERON_NONE), "the setting has no value") == 0);
-    CHECK(strcmp(wulameron_code_text(1000), "no such code") == 0);
+    CHECK(strcmp(wulameron_code_text(WULAMERON_NODE_ALIVE), "the node is alive") == 0);
+    CHECK(strcmp(wulameron_code_text(WULAMERON_NODE_ALIVE + 1), "no such code") == 0);
 }
 
-int main(void)
+int main(int count, char **words)
 {
+    folder = count > 1 ? words[1] : NULL;
     events();
     two_nodes();
+    three_nodes();
     messages();
+    listing();
+    lines();
+    refusals();
+    nodes();
     what_is_wrong();
     printf("%u passed, %u failed\n", passed, failed);
     return failed == 0 ? 0 : 1;

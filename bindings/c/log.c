@@ -21,7 +21,8 @@
 #define PATIENCE WULAMERON_PATIENCE
 #endif
 
-enum { HEAD = 48, FORM = 1, CLOSE = 11, LARGEST_CODE = WULAMERON_NODE_ALIVE };
+/* NOT_STARTED is the status of a program that posix_spawnp couldn't start, where the system tells so late. */
+enum { HEAD = 48, FORM = 1, LARGEST_CODE = WULAMERON_NODE_ALIVE, NOT_STARTED = 127 };
 
 extern char **environ;
 
@@ -428,8 +429,10 @@ uint32_t wulameron_log_open(const char *program, const char *path, uint64_t node
     }
     code = greets(log, name, message);
     if (code != WULAMERON_OK) {
-        (void)finishes(log);
+        int status = finishes(log);
         frees(log);
+        if (code == WULAMERON_ENDED && status != -1 && WIFEXITED(status) && WEXITSTATUS(status) == NOT_STARTED)
+            return blames(message, name, "it can't be started", WULAMERON_NO_PROGRAM);
         return code;
     }
     *out = log;

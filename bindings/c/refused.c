@@ -1,6 +1,6 @@
-/* Refuses each request for memory in turn, and then each from there on. Each call has to give WULAMERON_OUT_OF_MEMORY
- * then, or a refusal that is named so, and whatever was refused, the session goes on and nothing is lost. Linked with
- * -Wl,--wrap=malloc,--wrap=realloc,--wrap=calloc. */
+/* Refuses each request for memory in turn, and then each from there on: over a table, or with a folder as its argument
+ * over logs in it. Each call has to give WULAMERON_OUT_OF_MEMORY then, or a refusal that is named so, and whatever was
+ * refused, the session goes on and nothing is lost. Linked with -Wl,--wrap=malloc,--wrap=realloc,--wrap=calloc. */
 #include "wulameron.h"
 
 #include <stdio.h>
@@ -13,8 +13,9 @@ void *__wrap_malloc(size_t size);
 void *__wrap_realloc(void *pointer, size_t size);
 void *__wrap_calloc(size_t count, size_t size);
 
-static unsigned requests, refused, first, last;
+static unsigned requests, refused, first, last, logs;
 static int counts;
+static const char *folder; /* null over tables */
 
 static int is_refused(void)
 {
@@ -75,6 +76,29 @@ static void asks(wulameron_session *session, uint32_t how, uint64_t node, uint32
     (void)done(code, refusal, before);
 }
 
+static uint32_t opens(wulameron_session **session)
+{
+    char path[512];
+    if (folder == NULL) return wulameron_open_table(WULAMERON_VERSION, session);
+    snprintf(path, sizeof path, "%s/refused-%u", folder, logs++);
+    return wulameron_open_log(WULAMERON_VERSION, NULL, path, 1, session, NULL, 0, NULL);
+}
+
+/* A line, and its reply, which is lost where there is no memory for it. */
+static void writes_line(wulameron_session *session)
+{
+    char reply[256];
+    size_t length = 0;
+    unsigned before = refused;
+    uint32_t code = wulameron_line(session, WULAMERON_TEXT("list"));
+    if (!done(code, 0, before)) return;
+    code = wulameron_get_reply(session, reply, sizeof reply, &length);
+    if (done(code, 0, before) && length == 0) {
+        wrong++;
+        printf("requests %u to %u refused: a reply has no text\n", first, last);
+    }
+}
+
 static void runs(void)
 {
     wulameron_session *session = NULL;
@@ -82,11 +106,14 @@ static void runs(void)
     size_t length = 0;
     uint64_t count = 0;
     unsigned before = refused;
-    if (!done(wulameron_open_table(WULAMERON_VERSION, &session), 0, before)) return;
+    if (!done(opens(&session), 0, before)) return;
     asks(session, WULAMERON_CREATE, 1, 0);
-    if (wulameron_get_bytes(session, 0, bytes, sizeof bytes, &length) == WULAMERON_OK) {
-        asks(session, WULAMERON_OPEN, 2, 1);
+    before = refused;
+    if (wulameron_get_number(session, 0, WULAMERON_MAX_NODES, &count) == WULAMERON_OK) {
+        (void)done(wulameron_get_bytes(session, 0, bytes, sizeof bytes, &length), 0, before);
+        asks(session, WULAMERON_OPEN, folder == NULL ? 2 : 1, 1);
     }
+    writes_line(session);
     before = refused;
     (void)done(wulameron_list(session, &count), 0, before);
     /* Nothing is refused any more, and the session goes on. */
@@ -100,10 +127,11 @@ static void runs(void)
     (void)wulameron_close_session(session);
 }
 
-int main(void)
+int main(int words, char **word)
 {
     unsigned round, passed = 0;
     int alone;
+    folder = words > 1 ? word[1] : NULL;
     for (alone = 0; alone < 2; alone++) {
         for (round = 1; round < 1000; round++) {
             unsigned before = wrong;
