@@ -1,9 +1,21 @@
-"""Tests of wulameron.py: what the pages tell, by `python3 -m unittest` in this folder, behind `tools/build-c`."""
+"""Tests of wulameron.py: what the pages tell, by `python3 -m unittest` in this folder, after `tools/build-c`.
+
+Those over a log need the program `wulameron`, which WULAMERON_PROGRAM names, or else is crates/wulameron/out/wulameron.
+"""
 import hashlib
+import os
+import pathlib
 import struct
+import subprocess
+import sys
+import tempfile
+import time
 import unittest
 
 import wulameron as w
+
+HERE = pathlib.Path(__file__).resolve().parent
+os.environ.setdefault("WULAMERON_PROGRAM", str(HERE.parent.parent / "crates/wulameron/out/wulameron"))
 
 
 class Calls(unittest.TestCase):
@@ -12,7 +24,8 @@ class Calls(unittest.TestCase):
     def create_lamps(self, session):
         """A service of events with room for four listeners and two nodes."""
         session.begin(w.EVENT, w.CREATE, 7, "lamps")
-        for setting, value in ((w.MAX_NOTIFIERS, 2), (w.MAX_LISTENERS, 4), (w.EVENT_ID_MAX_VALUE, 255), (w.MAX_NODES, 2)):
+        wanted = {w.MAX_NOTIFIERS: 2, w.MAX_LISTENERS: 4, w.EVENT_ID_MAX_VALUE: 255, w.MAX_NODES: 2}
+        for setting, value in wanted.items():
             session.set_number(setting, value)
         session.add_attribute("place", "attic")
         return session.send(0)
@@ -69,13 +82,132 @@ class Calls(unittest.TestCase):
                 with self.assertRaises(w.WulameronError) as error:
                     call()
                 self.assertEqual(error.exception.code, code)
+            with self.assertRaises(OverflowError):
+                session.begin(w.EVENT, w.OPEN, -1, "lamps")
+            with self.assertRaises(w.WulameronError) as error:
+                session.nodes()
+            self.assertIs(error.exception.code, w.Code.ONLY_OVER_LOG)
+
+    def test_refusals(self):
+        """A refusal has the class of its enum, its name and its texts, which docs/REFUSALS.md has too."""
+        page = (HERE.parent.parent / "docs/REFUSALS.md").read_text(encoding="utf-8")
+        with w.Session() as session:
+            session.begin(w.PUBLISH_SUBSCRIBE, w.OPEN, 1, "camera")
+            with self.assertRaises(w.PublishSubscribeOpenError) as refused:
+                session.send(0)
+            error = refused.exception
+            self.assertEqual((error.code, error.refusal, error.value), (w.Code.REFUSED, 4001, "DoesNotExist"))
+            self.assertEqual(error.name, "PublishSubscribeOpenError::DoesNotExist")
+            section = page.partition("### `PublishSubscribeOpenError`")[2]
+            row = section[section.index("| `DoesNotExist` |") :].partition("\n")[0]
+            self.assertEqual(row, f"| `DoesNotExist` | {error.text} | {error.advice} |")
+
+    def test_listing(self):
+        """The entries of a listing."""
+        with w.Session() as session:
+            self.create_lamps(session)
+            hash_of = hashlib.sha1(b"elamps").digest()
+            self.assertEqual(session.entries(), [w.Entry(w.PUBLISHED, w.EVENT, 0, 1, 2, "lamps", hash_of)])
+
+    def test_lines(self):
+        """Lines have the replies of docs/PROGRAM.md, and one that is no command a text."""
+        with w.Session() as session:
+            self.assertEqual(session.line("event create 1 0 lamps").strip(), "ok 0 number=0")
+            self.assertEqual(session.number(0, w.MAX_LISTENERS), 16)
+            with self.assertRaises(w.WulameronError) as error:
+                session.line("event crate 1 0 lamps")
+            self.assertIs(error.exception.code, w.Code.BAD_LINE)
+            self.assertIn("create", error.exception.message)
 
     def test_numbers(self):
-        """The numbers here are those of the header."""
-        for name, number in w.numbers_of_header().items():
+        """The numbers here are those of the header, and so are the codes."""
+        header = w.numbers_of_header()
+        for name, number in header.items():
             if hasattr(w, name):
                 self.assertEqual(getattr(w, name), number, name)
-        self.assertGreater(len(w.numbers_of_header()), 60)
+        for code in w.Code:
+            self.assertEqual(header[code.name], code, code.name)
+        self.assertGreater(len(header), 90)
+
+
+CREATOR = """
+import sys, wulameron as w
+with w.Session(sys.argv[1]) as session:
+    session.begin(w.EVENT, w.CREATE, session.node, "lamps")
+    session.set_number(w.MAX_LISTENERS, 4)
+    print(session.send(0), session.node, flush=True)
+    sys.stdin.read()
+"""
+
+
+class OverLog(unittest.TestCase):
+    """Sessions over a log that processes share."""
+
+    def setUp(self):
+        folder = tempfile.TemporaryDirectory(prefix="wulameron-")
+        self.addCleanup(folder.cleanup)
+        self.path = pathlib.Path(folder.name) / "log"
+
+    def creator(self):
+        """Another process that holds the service of events `lamps` for four listeners."""
+        words = [sys.executable, "-B", "-c", CREATOR, str(self.path)]
+        other = subprocess.Popen(words, cwd=HERE, stdin=subprocess.PIPE, stdout=subprocess.PIPE, text=True)
+        self.addCleanup(other.stdout.close)
+        self.addCleanup(other.communicate)
+        self.assertEqual(other.stdout.readline(), "0 0\n")
+        return other
+
+    def test_processes_meet(self):
+        """Two processes agree, and the second is refused what doesn't fit."""
+        other = self.creator()
+        with w.Session(self.path, node=5) as session:
+            self.assertEqual(session.node, 5)
+            session.begin(w.EVENT, w.OPEN, 5, "lamps")
+            session.set_number(w.MAX_LISTENERS, 3)
+            session.send(0)
+            self.assertEqual(session.number(0, w.MAX_LISTENERS), 4)
+            session.begin(w.EVENT, w.OPEN, 5, "lamps")
+            session.set_number(w.MAX_LISTENERS, 5)
+            with self.assertRaises(w.EventOpenError) as refused:
+                session.send(1)
+            self.assertEqual(refused.exception.value, "DoesNotSupportRequestedAmountOfListeners")
+            self.assertEqual(session.nodes(), [(0, True), (5, True)])
+            self.assertEqual([entry.nodes for entry in session.entries()], [2])
+            other.communicate()
+            self.assertEqual([entry.nodes for entry in session.entries()], [1])
+            self.assertEqual(session.nodes(), [(0, False), (5, True)])
+            with self.assertRaises(w.WulameronError) as error:
+                session.begin(w.EVENT, w.OPEN, 6, "lamps")
+            self.assertIs(error.exception.code, w.Code.OTHER_NODE)
+
+    def test_caller_dies(self):
+        """The program of a caller that is killed closes what it has."""
+        other = self.creator()
+        with w.Session(self.path) as session:
+            self.assertEqual(session.node, 1)
+            self.assertEqual(session.list(), 1)
+            other.kill()
+            other.wait()
+            end = time.monotonic() + 20
+            while session.nodes()[0] != (0, False) and time.monotonic() < end:
+                time.sleep(0.02)
+            self.assertEqual(session.list(), 0)
+            self.assertEqual(session.clean(), w.Cleaned(0, 0, 0))
+
+    def test_refused_opens(self):
+        """What can't be opened is named."""
+        with w.Session(self.path, node=3):
+            for code, call in (
+                (w.Code.NODE_IN_USE, lambda: w.Session(self.path, node=3)),
+                (w.Code.NO_PROGRAM, lambda: w.Session(self.path, program="/not/here")),
+                (w.Code.LOG, lambda: w.Session(self.path.parent / "not/here")),
+            ):
+                with self.assertRaises(w.WulameronError) as error:
+                    call()
+                self.assertIs(error.exception.code, code)
+                self.assertGreater(len(error.exception.message), 0)
+        with self.assertRaises(ValueError):
+            w.Session("a\0b")
 
 
 if __name__ == "__main__":
