@@ -1,64 +1,180 @@
 //! What the pages tell of calls.
-use wulameron::{Error, Node, Table, TypeDetail};
+use std::error::Error;
+use std::fmt::Debug;
+use std::path::PathBuf;
+use std::process::{Command, Stdio};
+use std::time::Duration;
+use wulameron::*;
+
+type Outcome = Result<(), Box<dyn Error>>;
 
 #[test]
-fn nodes_agree() -> Result<(), Error> {
+fn nodes_agree() -> Outcome {
     let table = Table::new()?;
     let [first, second] = [1, 2].map(|id| Node::new(&table, id));
     let created = first.service_builder("My/Funk/ServiceName").event().max_listeners(4).create()?;
     let opened = second.service_builder("My/Funk/ServiceName").event().max_listeners(3).open()?;
-    assert_eq!(opened.max_listeners(), 4);
-    let refused = second.service_builder("My/Funk/ServiceName").event().max_listeners(5).open();
-    // The 13th value of EventOpenError: DoesNotSupportRequestedAmountOfListeners.
-    assert_eq!(refused.err(), Some(Error::Refused(1013)));
+    assert_eq!(opened.max_listeners()?, 4);
+    assert_eq!(opened.notifier_dead_event()?, None);
+    let refused = second.service_builder("My/Funk/ServiceName").event().max_listeners(5).open().err();
+    assert_eq!(refused, Some(EventOpenError::DoesNotSupportRequestedAmountOfListeners));
     let again = second.service_builder("My/Funk/ServiceName").event().create();
-    // The 4th value of EventCreateError: AlreadyExists.
-    assert_eq!(again.err(), Some(Error::Refused(2004)));
-    drop(created);
-    assert_eq!(table.len()?, 1);
+    assert_eq!(again.err(), Some(EventCreateError::AlreadyExists));
+    created.close()?;
+    assert_eq!(second.services()?, 1);
     drop(opened);
-    assert!(table.is_empty()?);
+    assert_eq!(second.services()?, 0);
     Ok(())
 }
 
 #[test]
-fn messages_have_types() -> Result<(), Error> {
+fn messages_have_types() -> Outcome {
     let table = Table::new()?;
     let detail = |name: &str| TypeDetail { is_dynamic: false, name: name.to_string(), size: 8, alignment: 8 };
     let node = Node::new(&table, 1);
     let camera = node.service_builder("camera").publish_subscribe().payload(detail("Frame"));
     let camera = camera.enable_safe_overflow(false).create()?;
-    assert!(!camera.enable_safe_overflow());
+    assert!(!camera.enable_safe_overflow()?);
     let other = node.service_builder("camera").publish_subscribe().payload(detail("Other")).open();
-    // The 3rd value of PublishSubscribeOpenError: IncompatibleTypes.
-    assert_eq!(other.err(), Some(Error::Refused(4003)));
+    assert_eq!(other.err(), Some(PublishSubscribeOpenError::IncompatibleTypes));
     let oven = node.service_builder("oven").request_response().max_servers(3).open_or_create()?;
-    assert_eq!(oven.max_servers(), 3);
+    assert_eq!(oven.max_servers()?, 3);
     assert!(oven.bytes()?.starts_with(b"IOX2\x02\0\0\0\0\0\0\0\x01"));
+    assert_eq!(oven.max_listeners().err().map(|error| error.code), Some(Code::UnknownSetting));
+    let more = node.service_builder("oven").request_response().max_servers(4).open_or_create().err();
+    let inner = RequestResponseOpenError::DoesNotSupportRequestedAmountOfServers;
+    assert_eq!(more, Some(RequestResponseOpenOrCreateError::RequestResponseOpenError(inner)));
     Ok(())
 }
 
 #[test]
-fn what_is_wrong_has_a_text() -> Result<(), Error> {
+fn deadlines_have_a_time() -> Outcome {
     let table = Table::new()?;
-    let error = Node::new(&table, 1).service_builder("").event().open().err();
-    assert_eq!(error.map(|error| error.to_string()).as_deref(), Some("a service's name has 1 to 255 bytes"));
-    let node = Node::new(&table, 1);
-    let wrong = node.service_builder("camera").publish_subscribe().payload_alignment(3).create().err();
-    assert_eq!(wrong, Some(Error::Code(8)));
+    let event = || Node::new(&table, 1).service_builder("lamps").event();
+    let _lamps = event().deadline(Some(Duration::new(1, 500))).create()?;
+    let _same = event().deadline(Some(Duration::new(1, 500))).open()?;
+    for deadline in [None, Some(Duration::new(1, 501))] {
+        assert_eq!(event().deadline(deadline).open().err(), Some(EventOpenError::IncompatibleDeadline));
+    }
     Ok(())
 }
 
 #[test]
-fn slots_end() -> Result<(), Error> {
+fn what_is_wrong_has_a_text() -> Outcome {
+    let table = Table::new()?;
+    let node = Node::new(&table, 1);
+    let error = node.service_builder("").event().open().err();
+    assert_eq!(error.map(|error| error.to_string()).as_deref(), Some("a service's name has 1 to 255 bytes"));
+    let wrong = node.service_builder("camera").publish_subscribe().payload_alignment(3).create().err();
+    let Some(PublishSubscribeCreateError::NotDone(failure)) = wrong else { panic!("it isn't carried out") };
+    assert_eq!(failure.code, Code::BadValue);
+    let absent = EventOpenError::DoesNotExist;
+    let [name, when, what] = absent.texts();
+    assert_eq!((absent.number(), name.as_str()), (Some(1001), "EventOpenError::DoesNotExist"));
+    assert_eq!(absent.to_string(), format!("EventOpenError::DoesNotExist: {when}; {what}"));
+    Ok(())
+}
+
+/// Each value's number leads back to it, and its name is that of the library.
+#[test]
+fn numbers_lead_back() {
+    fn leads_back<E: Refusal + Debug>(thousands: u32, values: &[u32]) {
+        let name = std::any::type_name::<E>().rsplit("::").next().unwrap_or_default().to_string();
+        for place in values {
+            let error = E::of(thousands + place);
+            assert_eq!(error.number(), Some(thousands + place));
+            let [named, when, what] = error.texts();
+            assert_eq!(named, format!("{name}::{error:?}"));
+            assert!(!when.is_empty() && !what.is_empty());
+        }
+        assert_eq!(E::of(thousands).number(), None);
+        assert_eq!(E::of(thousands + 400).number(), None);
+    }
+    let to = |end: u32| (1..=end).collect::<Vec<u32>>();
+    let both = |open: u32, create: u32| {
+        let mut values = to(open);
+        values.extend(501..=500 + create);
+        values.push(999);
+        values
+    };
+    leads_back::<EventOpenError>(1000, &to(18));
+    leads_back::<EventCreateError>(2000, &to(7));
+    leads_back::<EventOpenOrCreateError>(3000, &both(18, 7));
+    leads_back::<PublishSubscribeOpenError>(4000, &to(18));
+    leads_back::<PublishSubscribeCreateError>(5000, &to(8));
+    leads_back::<PublishSubscribeOpenOrCreateError>(6000, &both(18, 8));
+    leads_back::<RequestResponseOpenError>(7000, &to(22));
+    leads_back::<RequestResponseCreateError>(8000, &to(7));
+    leads_back::<RequestResponseOpenOrCreateError>(9000, &both(22, 7));
+}
+
+#[test]
+fn slots_end() -> Outcome {
     let table = Table::new()?;
     let mut held = Vec::new();
     for id in 0..64 {
         held.push(Node::new(&table, id).service_builder("many").event().max_nodes(64).open_or_create()?);
     }
     let more = Node::new(&table, 64).service_builder("more").event().create();
-    assert_eq!(more.err(), Some(Error::NoFreeSlot));
+    let Some(EventCreateError::NotDone(failure)) = more.err() else { panic!("there is no slot") };
+    assert_eq!((failure.code, failure.to_string().as_str()), (Code::NoFreeSlot, "all 64 slots are taken"));
     held.pop();
     let _more = Node::new(&table, 64).service_builder("more").event().create()?;
+    Ok(())
+}
+
+/// A log in a folder of its own, which goes with it.
+struct Log(PathBuf);
+
+impl Log {
+    fn new(name: &str) -> Result<Log, std::io::Error> {
+        let folder = std::env::temp_dir().join(format!("wulameron-{}-{name}", std::process::id()));
+        std::fs::create_dir(&folder)?;
+        Ok(Log(folder))
+    }
+
+    fn path(&self) -> PathBuf {
+        self.0.join("log")
+    }
+}
+
+impl Drop for Log {
+    fn drop(&mut self) {
+        let _ = std::fs::remove_dir_all(&self.0);
+    }
+}
+
+#[test]
+fn nodes_meet_over_a_log() -> Outcome {
+    let log = Log::new("meet")?;
+    let builder = NodeBuilder { path: Some(log.path()), ..NodeBuilder::default() };
+    let first = NodeBuilder { number: Some(5), ..builder.clone() }.create()?;
+    let second = Node::over_log(log.path())?;
+    assert_eq!((first.number(), second.number()), (5, 0));
+    let created = first.service_builder("lamps").event().max_listeners(4).create()?;
+    let opened = second.service_builder("lamps").event().max_listeners(3).open()?;
+    assert_eq!(opened.max_listeners()?, 4);
+    let refused = second.service_builder("lamps").event().max_listeners(5).open().err();
+    assert_eq!(refused, Some(EventOpenError::DoesNotSupportRequestedAmountOfListeners));
+    drop((created, first));
+    assert_eq!(second.services()?, 1);
+    opened.close()?;
+    assert_eq!(second.services()?, 0);
+    let taken = NodeBuilder { number: Some(0), ..builder.clone() }.create().err();
+    assert_eq!(taken.map(|failure| failure.code), Some(Code::NodeInUse));
+    let absent = NodeBuilder { program: Some("/not/here".into()), ..builder }.create().err();
+    assert_eq!(absent.map(|failure| failure.code), Some(Code::NoProgram));
+    Ok(())
+}
+
+/// Another process finds what this one holds, by the program's own words.
+#[test]
+fn other_programs_find_it() -> Outcome {
+    let log = Log::new("find")?;
+    let node = Node::over_log(log.path())?;
+    let _lamps = node.service_builder("lamps").event().create()?;
+    let program = std::env::var_os("WULAMERON_PROGRAM").ok_or("WULAMERON_PROGRAM names the program")?;
+    let list = Command::new(program).arg("list").arg("--at").arg(log.path()).stderr(Stdio::inherit()).output()?;
+    assert!(String::from_utf8_lossy(&list.stdout).contains("lamps"));
     Ok(())
 }

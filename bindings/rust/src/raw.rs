@@ -1,0 +1,70 @@
+//! The functions of wulameron.h, and the numbers of it that are named here.
+use std::ffi::{c_char, c_void};
+
+pub const VERSION: u32 = 2;
+pub const ANY_NODE: u64 = u64::MAX;
+pub const OK: u32 = 0;
+pub const TOO_SMALL: u32 = 5;
+pub const REFUSED: u32 = 20;
+pub const NONE: u32 = 22;
+pub const LOG: u32 = 26;
+/// None of wulameron.h: all 64 slots are taken.
+pub const NO_FREE_SLOT: u32 = 100;
+
+type Session = *mut c_void;
+type Number = *mut u64;
+type Length = *mut usize;
+
+#[rustfmt::skip]
+unsafe extern "C" {
+    pub fn wulameron_code_text(code: u32) -> *const c_char;
+    pub fn wulameron_refusal_name(refusal: u32, output: *mut u8, size: usize, length: Length) -> u32;
+    pub fn wulameron_refusal_text(refusal: u32, output: *mut u8, size: usize, length: Length) -> u32;
+    pub fn wulameron_refusal_advice(refusal: u32, output: *mut u8, size: usize, length: Length) -> u32;
+    pub fn wulameron_open_table(version: u32, out: *mut Session) -> u32;
+    pub fn wulameron_open_log(version: u32, program: *const c_char, path: *const c_char, node: u64, out: *mut Session,
+        message: *mut u8, size: usize, length: Length) -> u32;
+    pub fn wulameron_close_session(session: Session) -> u32;
+    pub fn wulameron_begin(session: Session, pattern: u32, how: u32, node: u64, name: *const u8, size: usize) -> u32;
+    pub fn wulameron_set_number(session: Session, setting: u32, value: u64) -> u32;
+    pub fn wulameron_set_none(session: Session, setting: u32) -> u32;
+    pub fn wulameron_set_duration(session: Session, setting: u32, seconds: u64, nanoseconds: u32) -> u32;
+    pub fn wulameron_set_type(session: Session, part: u32, variant: u32, name: *const u8, length: usize, size: u64,
+        alignment: u64) -> u32;
+    pub fn wulameron_add_attribute(session: Session, key: *const u8, key_length: usize, value: *const u8,
+        value_length: usize) -> u32;
+    pub fn wulameron_require_key(session: Session, key: *const u8, length: usize) -> u32;
+    pub fn wulameron_set_time(session: Session, seconds: u64, nanoseconds: u32) -> u32;
+    pub fn wulameron_set_clock_fault(session: Session) -> u32;
+    pub fn wulameron_send(session: Session, slot: u32, number: Number, refusal: *mut u32) -> u32;
+    pub fn wulameron_close(session: Session, slot: u32) -> u32;
+    pub fn wulameron_get_number(session: Session, slot: u32, setting: u32, value: Number) -> u32;
+    pub fn wulameron_get_bytes(session: Session, slot: u32, output: *mut u8, size: usize, length: Length) -> u32;
+    pub fn wulameron_list(session: Session, count: Number) -> u32;
+    pub fn wulameron_get_reply(session: Session, output: *mut u8, size: usize, length: Length) -> u32;
+    pub fn wulameron_node(session: Session, node: Number) -> u32;
+}
+
+/// Makes a call. What each use keeps: the session is open and of this thread, a text has as many bytes as is told or
+/// ends with a 0, and a place is there for what is written to it.
+macro_rules! call {
+    ($name:ident $(, $word:expr)*) => {
+        // SAFETY: as above.
+        unsafe { $crate::raw::$name($($word),*) }
+    };
+}
+pub(crate) use call;
+
+/// The bytes that a call writes: it takes a place, its size, and where the length is told.
+pub fn bytes(call: impl Fn(*mut u8, usize, Length) -> u32) -> Result<Vec<u8>, u32> {
+    let (mut bytes, mut length) = (Vec::new(), 0);
+    loop {
+        match call(bytes.as_mut_ptr(), bytes.len(), &mut length) {
+            OK => break,
+            TOO_SMALL => bytes = vec![0; length],
+            code => return Err(code),
+        }
+    }
+    bytes.truncate(length);
+    Ok(bytes)
+}
