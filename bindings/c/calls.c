@@ -304,13 +304,13 @@ static void refusals(void)
 static void nodes(void)
 {
     wulameron_session *session = opened(7), *other;
-    uint64_t node = 0, count = 0, places = 9, services = 9;
+    uint64_t node = 0, count = 0, releases = 9, removals = 9;
     uint32_t state = 0, only = folder != NULL ? WULAMERON_OK : WULAMERON_ONLY_OVER_LOG;
     GIVES(only, wulameron_node(session, &node));
     GIVES(only, wulameron_nodes(session, &count));
-    GIVES(only, wulameron_clean(session, WULAMERON_ANY_NODE, 1, &count, &places, &services));
+    GIVES(only, wulameron_clean(session, WULAMERON_ANY_NODE, 1, &count, &releases, &removals));
     if (folder != NULL) {
-        CHECK(count == 0 && places == 0 && services == 0);
+        CHECK(count == 0 && releases == 0 && removals == 0);
         other = beside(session, 9);
         GIVES(WULAMERON_OTHER_NODE, asked(session, WULAMERON_EVENT, WULAMERON_CREATE, 9, "lamps"));
         GIVES(WULAMERON_NO_REQUEST, wulameron_set_number(session, WULAMERON_MAX_NODES, 1));
@@ -318,15 +318,15 @@ static void nodes(void)
         CHECK(count == 2);
         GIVES(WULAMERON_OK, wulameron_get_node(session, 1, &node, &state));
         CHECK(node == 9 && state == WULAMERON_ALIVE);
-        GIVES(WULAMERON_NODE_ALIVE, wulameron_clean(session, 9, 0, &count, &places, &services));
-        GIVES(WULAMERON_NO_SUCH_ITEM, wulameron_clean(session, 10, 0, &count, &places, &services));
-        GIVES(WULAMERON_BAD_VALUE, wulameron_clean(session, 9, 2, &count, &places, &services));
+        GIVES(WULAMERON_NODE_ALIVE, wulameron_clean(session, 9, 0, &count, &releases, &removals));
+        GIVES(WULAMERON_NO_SUCH_ITEM, wulameron_clean(session, 10, 0, &count, &releases, &removals));
+        GIVES(WULAMERON_BAD_VALUE, wulameron_clean(session, 9, 2, &count, &releases, &removals));
         closes(other);
         GIVES(WULAMERON_OK, wulameron_nodes(session, &count));
         GIVES(WULAMERON_OK, wulameron_get_node(session, 1, &node, &state));
         CHECK(node == 9 && state == WULAMERON_DEAD);
-        GIVES(WULAMERON_OK, wulameron_clean(session, 9, 0, &count, &places, &services));
-        CHECK(places == 0 && services == 0);
+        GIVES(WULAMERON_OK, wulameron_clean(session, 9, 0, &count, &releases, &removals));
+        CHECK(releases == 0 && removals == 0);
     }
     GIVES(folder != NULL ? WULAMERON_NO_SUCH_ITEM : only, wulameron_get_node(session, 5, &node, &state));
     closes(session);

@@ -125,7 +125,7 @@ static void each_ends(wulameron_session *session)
 static void killed_program(void)
 {
     wulameron_session *first = opened(1), *second = NULL;
-    uint64_t node = 0, nodes = 9, places = 9, services = 9;
+    uint64_t node = 0, nodes = 9, releases = 9, removals = 9;
     uint32_t state = 0;
     GIVES(WULAMERON_OK, creates(first, 1));
     kill(newest(), SIGKILL);
@@ -136,16 +136,16 @@ static void killed_program(void)
     CHECK(nodes == 2 && node == 1 && state == WULAMERON_DEAD);
     /* It began by giving back what dead nodes had. */
     CHECK(listed(second) == 0);
-    /* One that dies beside it is given back when it is asked for. */
+    /* One that dies beside it is given back when it is asked for: its place, its tag, the segment, the description. */
     first = opened(1);
     GIVES(WULAMERON_OK, creates(first, 1));
     kill(newest(), SIGKILL);
     GIVES(WULAMERON_ENDED, wulameron_close_session(first));
     CHECK(listed(second) == 1);
-    GIVES(WULAMERON_OK, wulameron_clean(second, 1, 1, &nodes, &places, &services));
-    CHECK(nodes == 1 && places == 1 && services == 1 && listed(second) == 1);
-    GIVES(WULAMERON_OK, wulameron_clean(second, WULAMERON_ANY_NODE, 0, &nodes, &places, &services));
-    CHECK(nodes == 1 && places == 1 && services == 1 && listed(second) == 0);
+    GIVES(WULAMERON_OK, wulameron_clean(second, 1, 1, &nodes, &releases, &removals));
+    CHECK(nodes == 1 && releases == 1 && removals == 3 && listed(second) == 1);
+    GIVES(WULAMERON_OK, wulameron_clean(second, WULAMERON_ANY_NODE, 0, &nodes, &releases, &removals));
+    CHECK(nodes == 1 && releases == 1 && removals == 3 && listed(second) == 0);
     GIVES(WULAMERON_OK, wulameron_close_session(second));
 }
 

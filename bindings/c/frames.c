@@ -246,15 +246,15 @@ uint32_t wulameron_log_get_node(wulameron_log *log, uint64_t index, uint64_t *no
     return code;
 }
 
-uint32_t wulameron_log_clean(wulameron_log *log, uint64_t node, uint32_t dry_run, uint64_t *nodes, uint64_t *places,
-    uint64_t *services)
+uint32_t wulameron_log_clean(wulameron_log *log, uint64_t node, uint32_t dry_run, uint64_t *nodes, uint64_t *releases,
+    uint64_t *removals)
 {
     int is_each = node == WULAMERON_ANY_NODE;
     wulameron_frame call = {.number = CLEAN, .a = is_each ? 0 : 1, .b = dry_run, .x = is_each ? 0 : node}, reply;
     uint32_t code = wulameron_log_call(log, &call, &reply);
     if (code != WULAMERON_OK) return code;
     *nodes = reply.x;
-    *places = reply.y;
-    *services = reply.z;
+    *releases = reply.y;
+    *removals = reply.z;
     return code;
 }

@@ -89,6 +89,6 @@ WITHIN uint32_t wulameron_log_line(wulameron_log *log, const char *line, size_t 
 WITHIN uint32_t wulameron_log_nodes(wulameron_log *log, uint64_t *count);
 WITHIN uint32_t wulameron_log_get_node(wulameron_log *log, uint64_t index, uint64_t *node, uint32_t *state);
 WITHIN uint32_t wulameron_log_clean(wulameron_log *log, uint64_t node, uint32_t dry_run, uint64_t *nodes,
-    uint64_t *places, uint64_t *services);
+    uint64_t *releases, uint64_t *removals);
 
 #endif

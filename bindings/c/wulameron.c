@@ -356,14 +356,14 @@ uint32_t wulameron_get_node(wulameron_session *session, uint64_t index, uint64_t
     return leaves(session, wulameron_log_get_node(session->log, index, node, state));
 }
 
-uint32_t wulameron_clean(wulameron_session *session, uint64_t node, uint32_t dry_run, uint64_t *nodes, uint64_t *places,
-    uint64_t *services)
+uint32_t wulameron_clean(wulameron_session *session, uint64_t node, uint32_t dry_run, uint64_t *nodes,
+    uint64_t *releases, uint64_t *removals)
 {
-    if (session == NULL || nodes == NULL || places == NULL || services == NULL) return WULAMERON_NULL;
+    if (session == NULL || nodes == NULL || releases == NULL || removals == NULL) return WULAMERON_NULL;
     if (!enters(session)) return WULAMERON_BUSY;
     if (session->log == NULL) return leaves(session, WULAMERON_ONLY_OVER_LOG);
     if (dry_run > 1) return leaves(session, WULAMERON_BAD_VALUE);
-    return leaves(session, wulameron_log_clean(session->log, node, dry_run, nodes, places, services));
+    return leaves(session, wulameron_log_clean(session->log, node, dry_run, nodes, releases, removals));
 }
 
 /* ---- texts */

@@ -261,11 +261,12 @@ uint32_t wulameron_node(wulameron_session *session, uint64_t *node);
 uint32_t wulameron_nodes(wulameron_session *session, uint64_t *count);
 /* The node of this index of the last look, by rising number, and whether it is WULAMERON_ALIVE or WULAMERON_DEAD. */
 uint32_t wulameron_get_node(wulameron_session *session, uint64_t index, uint64_t *node, uint32_t *state);
-/* Gives back what a dead node has, or with WULAMERON_ANY_NODE what each has: tells of how many nodes, how many places
- * among a service's nodes, and how many services were removed. With `dry_run` 1 it only tells. WULAMERON_NODE_ALIVE
- * where the node's process is alive, WULAMERON_NO_SUCH_ITEM where the node was never claimed. */
-uint32_t wulameron_clean(wulameron_session *session, uint64_t node, uint32_t dry_run, uint64_t *nodes, uint64_t *places,
-    uint64_t *services);
+/* Gives back what a dead node has, or with WULAMERON_ANY_NODE what each has: tells how many nodes had something, how
+ * many places at services they left, and how many things were removed, such as tags, segments and descriptions. With
+ * `dry_run` 1 it only tells. WULAMERON_NODE_ALIVE where the node's process is alive, WULAMERON_NO_SUCH_ITEM where the
+ * node was never claimed. */
+uint32_t wulameron_clean(wulameron_session *session, uint64_t node, uint32_t dry_run, uint64_t *nodes,
+    uint64_t *releases, uint64_t *removals);
 
 #ifdef __cplusplus
 }

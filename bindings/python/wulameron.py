@@ -189,11 +189,11 @@ class KnownNode(NamedTuple):
 
 
 class Cleaned(NamedTuple):
-    """What was given back: of how many nodes, how many places, and how many services were removed."""
+    """What was given back: of how many nodes, how many places at services, and how many things were removed."""
 
     nodes: int
-    places: int
-    services: int
+    releases: int
+    removals: int
 
 
 def _u32(value: int) -> ctypes.c_uint32:
