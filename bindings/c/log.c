@@ -22,7 +22,7 @@
 #endif
 
 /* NOT_STARTED is the status of a program that posix_spawnp couldn't start, where the system tells so late. */
-enum { HEAD = 48, FORM = 1, LARGEST_CODE = WULAMERON_NODE_ALIVE, NOT_STARTED = 127 };
+enum { HEAD = 48, SHORT = 512, FORM = 1, LARGEST_CODE = WULAMERON_NODE_ALIVE, NOT_STARTED = 127 };
 
 extern char **environ;
 
@@ -130,12 +130,18 @@ static uint64_t number_at(const uint8_t *at, unsigned bytes)
 
 static int writes_frame(wulameron_log *log, const wulameron_frame *frame)
 {
-    uint8_t head[HEAD], *at = head;
+    uint8_t bytes[HEAD + SHORT], *at = bytes;
     at = put(put(put(put(at, frame->number, 4), frame->a, 4), frame->b, 4), frame->c, 4);
     at = put(put(put(at, frame->x, 8), frame->y, 8), frame->z, 8);
-    put(put(at, frame->first_length, 4), frame->second_length, 4);
-    return writes(log, head, HEAD) && writes(log, frame->first, frame->first_length) &&
-        writes(log, frame->second, frame->second_length);
+    at = put(put(at, frame->first_length, 4), frame->second_length, 4);
+    if (frame->first_length + frame->second_length > SHORT)
+        return writes(log, bytes, HEAD) && writes(log, frame->first, frame->first_length) &&
+            writes(log, frame->second, frame->second_length);
+    /* Short texts go with the head at once. */
+    if (frame->first_length > 0) memcpy(at, frame->first, frame->first_length);
+    at += frame->first_length;
+    if (frame->second_length > 0) memcpy(at, frame->second, frame->second_length);
+    return writes(log, bytes, HEAD + frame->first_length + frame->second_length);
 }
 
 /* Reads a frame but for its texts. */
