@@ -1,6 +1,6 @@
 /* What a session over a log gives where something goes wrong: its program is killed or stopped, this process is killed
  * or forks, the node is taken. Takes a folder for logs; WULAMERON_PROGRAM names the program. Compiled with log.c and
- * -DPATIENCE=1, so that who waits for a program that is stopped waits a second. Ends with `N passed, M failed`. */
+ * -DPATIENCE=3, so that who waits for a program that is stopped waits three seconds. Ends with `N passed, M failed`. */
 #define _POSIX_C_SOURCE 200809L
 #include "wulameron.h"
 

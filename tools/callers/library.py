@@ -6,13 +6,14 @@ from callers.checks import C, OUT, TOP, VALGRIND
 FLAGS = ["-std=c99", "-Wall", "-Wextra", "-Wpedantic", "-Werror", "-O1", "-g", f"-I{C}"]
 SANITIZED = ["-fsanitize=address,undefined", "-fno-sanitize-recover=all"]
 WRAPPED = ["-Wl,--wrap=malloc,--wrap=realloc,--wrap=calloc"]
-IMPATIENT = ["-DPATIENCE=1", "-pthread"]
+IMPATIENT = ["-DPATIENCE=3", "-pthread"]
 SHIM = [C / f"{name}.c" for name in ("wulameron", "log", "frames")]
 # The programs, their flags, the sources that they are compiled with beside the archive, and over what they run.
 PROGRAMS = (
     ("calls", [], [], ("tables", "logs")),
     ("refused", WRAPPED, [], ("tables", "logs")),
     ("faults", IMPATIENT, SHIM, ("logs",)),
+    ("forms", IMPATIENT, SHIM, ("logs",)),
 )
 PAGES = ("README.md", "docs/C.md")
 
