@@ -9,6 +9,8 @@ TOP = pathlib.Path(__file__).resolve().parent.parent.parent
 C = TOP / "bindings/c"
 OUT = C / "out"
 SECONDS = 240
+# How many lines of a program that fails are printed.
+LINES = 20
 VALGRIND = ["valgrind", "-q", "--error-exitcode=9", "--leak-check=full", "--show-leak-kinds=all"]
 VALGRIND += ["--child-silent-after-fork=yes"]
 
@@ -56,13 +58,14 @@ class Checks:
             self.counts(False, f"{what}: it runs for more than {SECONDS} seconds")
             return
         counted = re.search(r"^(\d+) passed, (\d+) failed$", ran.stdout, re.MULTILINE)
+        said = "".join(f"{ran.stdout}{ran.stderr}".splitlines(True)[:LINES])
         if counted is None:
-            self.counts(False, f"{what}: status {ran.returncode}, {ran.stdout}{ran.stderr}")
+            self.counts(False, f"{what}: status {ran.returncode}, {said}")
             return
         passed, failed = (int(word) for word in counted.groups())
         self.passed += passed
         self.failed += failed
-        self.counts(ran.returncode == 0 and passed > 0, f"{what}: status {ran.returncode}, {ran.stdout}{ran.stderr}")
+        self.counts(ran.returncode == 0 and passed > 0, f"{what}: status {ran.returncode}, {said}")
         print(f"{what}: {passed} passed, {failed} failed", flush=True)
 
     def has(self, command):
