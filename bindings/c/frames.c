@@ -23,7 +23,7 @@ static size_t sent(const char *text, size_t length)
 }
 
 /* A call whose reply has a code alone. */
-static uint32_t told(wulameron_log *log, wulameron_frame call)
+static uint32_t code_of(wulameron_log *log, wulameron_frame call)
 {
     wulameron_frame reply;
     return wulameron_log_call(log, &call, &reply);
@@ -51,52 +51,52 @@ static uint32_t number(wulameron_log *log, wulameron_frame call, uint64_t *value
 uint32_t wulameron_log_begin(wulameron_log *log, uint32_t pattern, uint32_t how, uint64_t node, const char *name,
     size_t name_length)
 {
-    return told(log, (wulameron_frame){.number = BEGIN, .a = pattern, .b = how, .x = node, .first = name,
+    return code_of(log, (wulameron_frame){.number = BEGIN, .a = pattern, .b = how, .x = node, .first = name,
         .first_length = sent(name, name_length)});
 }
 
 uint32_t wulameron_log_set_number(wulameron_log *log, uint32_t setting, uint64_t value)
 {
-    return told(log, (wulameron_frame){.number = SET_NUMBER, .a = setting, .x = value});
+    return code_of(log, (wulameron_frame){.number = SET_NUMBER, .a = setting, .x = value});
 }
 
 uint32_t wulameron_log_set_none(wulameron_log *log, uint32_t setting)
 {
-    return told(log, (wulameron_frame){.number = SET_NONE, .a = setting});
+    return code_of(log, (wulameron_frame){.number = SET_NONE, .a = setting});
 }
 
 uint32_t wulameron_log_set_duration(wulameron_log *log, uint32_t setting, uint64_t seconds, uint32_t nanoseconds)
 {
-    return told(log, (wulameron_frame){.number = SET_DURATION, .a = setting, .b = nanoseconds, .x = seconds});
+    return code_of(log, (wulameron_frame){.number = SET_DURATION, .a = setting, .b = nanoseconds, .x = seconds});
 }
 
 uint32_t wulameron_log_set_type(wulameron_log *log, uint32_t part, uint32_t variant, const char *name,
     size_t name_length, uint64_t size, uint64_t alignment)
 {
-    return told(log, (wulameron_frame){.number = SET_TYPE, .a = part, .b = variant, .x = size, .y = alignment,
+    return code_of(log, (wulameron_frame){.number = SET_TYPE, .a = part, .b = variant, .x = size, .y = alignment,
         .first = name, .first_length = sent(name, name_length)});
 }
 
 uint32_t wulameron_log_add_attribute(wulameron_log *log, const char *key, size_t key_length, const char *value,
     size_t value_length)
 {
-    return told(log, (wulameron_frame){.number = ADD_ATTRIBUTE, .first = key, .first_length = sent(key, key_length),
+    return code_of(log, (wulameron_frame){.number = ADD_ATTRIBUTE, .first = key, .first_length = sent(key, key_length),
         .second = value, .second_length = sent(value, value_length)});
 }
 
 uint32_t wulameron_log_require_key(wulameron_log *log, const char *key, size_t key_length)
 {
-    return told(log, (wulameron_frame){.number = REQUIRE_KEY, .first = key, .first_length = sent(key, key_length)});
+    return code_of(log, (wulameron_frame){.number = REQUIRE_KEY, .first = key, .first_length = sent(key, key_length)});
 }
 
 uint32_t wulameron_log_set_time(wulameron_log *log, uint64_t seconds, uint32_t nanoseconds)
 {
-    return told(log, (wulameron_frame){.number = SET_TIME, .b = nanoseconds, .x = seconds});
+    return code_of(log, (wulameron_frame){.number = SET_TIME, .b = nanoseconds, .x = seconds});
 }
 
 uint32_t wulameron_log_set_clock_fault(wulameron_log *log)
 {
-    return told(log, (wulameron_frame){.number = SET_CLOCK_FAULT});
+    return code_of(log, (wulameron_frame){.number = SET_CLOCK_FAULT});
 }
 
 uint32_t wulameron_log_send(wulameron_log *log, uint32_t slot, uint64_t *number, uint32_t *refusal)
@@ -110,12 +110,12 @@ uint32_t wulameron_log_send(wulameron_log *log, uint32_t slot, uint64_t *number,
 
 uint32_t wulameron_log_close(wulameron_log *log, uint32_t slot)
 {
-    return told(log, (wulameron_frame){.number = CLOSE, .a = slot});
+    return code_of(log, (wulameron_frame){.number = CLOSE, .a = slot});
 }
 
 uint32_t wulameron_log_abandon(wulameron_log *log, uint32_t slot)
 {
-    return told(log, (wulameron_frame){.number = ABANDON, .a = slot});
+    return code_of(log, (wulameron_frame){.number = ABANDON, .a = slot});
 }
 
 /* ---- what was agreed on */

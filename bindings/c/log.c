@@ -194,7 +194,7 @@ static uint32_t loads(wulameron_log *log)
     return WULAMERON_OK;
 }
 
-/* Whether a text has room in its place. How long it is is told. */
+/* Whether a text has room in its place, which gets its length. */
 static int fits(wulameron_place place, size_t length)
 {
     if (place.length == NULL) return 1;

@@ -97,7 +97,7 @@ class Code(enum.IntEnum):
 
 
 class WulameronError(Exception):
-    """A call that isn't done, by its code, with what the library says of it."""
+    """A call that isn't done, by its code, with the library's text of it."""
 
     def __init__(self, code: int, message: str = "") -> None:
         text = _LIBRARY.wulameron_code_text(_U32(code)).decode()

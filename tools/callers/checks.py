@@ -69,7 +69,7 @@ class Checks:
         print(f"{what}: {passed} passed, {failed} failed", flush=True)
 
     def has(self, command):
-        """Whether a command is there, which is told where it isn't."""
+        """Whether a command is there; a line is printed where it isn't."""
         found = shutil.which(command) is not None
         if not found:
             print(f"{command} isn't here")

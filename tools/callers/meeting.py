@@ -117,8 +117,8 @@ def agree(checks, found):
                 ("create", room, IS_THERE),
             ):
                 reply = caller.asks(how, other.name, listeners)
-                told = wanted(other.name, room) if callable(wanted) else f"(refused: )?{wanted}(;.*)?"
-                checks.counts(re.fullmatch(told, reply), f"{caller.name} asks to {how} {other.name}: {reply}")
+                text = wanted(other.name, room) if callable(wanted) else f"(refused: )?{wanted}(;.*)?"
+                checks.counts(re.fullmatch(text, reply), f"{caller.name} asks to {how} {other.name}: {reply}")
 
 
 def killed_caller(checks, log, caller):

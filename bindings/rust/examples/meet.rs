@@ -10,7 +10,7 @@ use std::error::Error;
 use std::io::BufRead;
 use wulameron::{Node, PortFactory, Refusal};
 
-/// What an error of a call says: of a refusal its name, and what can be done.
+/// The text of an error: of a refusal its name, and what can be done.
 fn refused<E: Refusal + Error>(error: E) -> String {
     let [name, _, advice] = error.texts();
     if error.number().is_some() {

@@ -42,7 +42,7 @@ value! { TypeDetail: detail, session, part => {
     let (variant, name, length) = (1 + u32::from(detail.is_dynamic), detail.name.as_ptr(), detail.name.len());
     call!(wulameron_set_type, session, part, variant, name, length, detail.size, detail.alignment)
 } }
-// With a length of time goes what the clock says, since a create with a deadline has that too.
+// With a length of time goes the time by the clock, since a create with a deadline has that too.
 value! { Option<Duration>: value, session, setting => {
     let Some(value) = value else { return None::<u64>.set(session, setting) };
     let now = SystemTime::now().duration_since(UNIX_EPOCH);

@@ -73,7 +73,7 @@ pub trait Refusal: Clone + PartialEq + From<Failure> {
         let calls: [Text; 3] =
             [raw::wulameron_refusal_name, raw::wulameron_refusal_text, raw::wulameron_refusal_advice];
         calls.map(|call| {
-            // SAFETY: the place has as many bytes as is told.
+            // SAFETY: the place has as many bytes as it is given.
             let text = |number| raw::bytes(|output, size, length| unsafe { call(number, output, size, length) }).ok();
             String::from_utf8_lossy(&self.number().and_then(text).unwrap_or_default()).into_owned()
         })

@@ -48,7 +48,7 @@ struct Session {
 }
 
 impl Session {
-    /// What a code says, and with a fault of the log what is wrong with it.
+    /// What a code stands for, and with a fault of the log what is wrong with it.
     fn failure(&self, code: u32) -> Failure {
         let reply = |output, size, length| call!(wulameron_get_reply, self.pointer, output, size, length);
         let message = if code == raw::LOG { raw::bytes(reply).unwrap_or_default() } else { Vec::new() };

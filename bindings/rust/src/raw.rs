@@ -45,7 +45,7 @@ unsafe extern "C" {
     pub fn wulameron_node(session: Session, node: Number) -> u32;
 }
 
-/// Makes a call. What each use keeps: the session is open and of this thread, a text has as many bytes as is told or
+/// Makes a call. What each use keeps: the session is open and of this thread, a text has as many bytes as its length or
 /// ends with a 0, and a place is there for what is written to it.
 macro_rules! call {
     ($name:ident $(, $word:expr)*) => {
@@ -55,7 +55,7 @@ macro_rules! call {
 }
 pub(crate) use call;
 
-/// The bytes that a call writes: it takes a place, its size, and where the length is told.
+/// The bytes that a call writes: it takes a place, its size, and a place for the length.
 pub fn bytes(call: impl Fn(*mut u8, usize, Length) -> u32) -> Result<Vec<u8>, u32> {
     let (mut bytes, mut length) = (Vec::new(), 0);
     loop {
