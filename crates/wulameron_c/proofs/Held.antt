@@ -27,8 +27,8 @@ use Rattle.std.proofs.alloc.Global.TheLaws as heap_laws
 use Rattle.std.specs.contracts.impls.GlobalAllocator.TheImpl.{ghosts}
 use Rattle.wulameron_boxed.proofs.Stored as stored
 use Rattle.wulameron_boxed.proofs.Stored.{pair}
-use Rattle.wulameron_state.specs.contracts.state.State as state
-use Rattle.wulameron_state.specs.declared.state.State.{State}
+use Rattle.wulameron_state.specs.contracts.state.TableState as state
+use Rattle.wulameron_state.specs.declared.state.TableState.{TableState}
 use Rattle.wulameron_c.specs.Pointers.{pointer_owns}
 use Rattle.wulameron_c.specs.contracts.pointer.StatePointer as held
 
@@ -50,13 +50,13 @@ abbrev pub Row : RattleType
 Row = held.the_row
 
 -- the state that is held
-pub found : (value : Option State) → IsSome value → (x : State) × (value ≡ Some x)
+pub found : (value : Option TableState) → IsSome value → (x : TableState) × (value ≡ Some x)
 found None wrong = absurd (true≢false (sym wrong))
 found (Some x) is = (x, refl)
 
 module _ {M : Type 1} {𝓤 : Ura M} {𝓛 : Logic 𝓤} {K : Type 0} {Γ : List (Item 𝓤)} {G : Goal 𝓤 𝓛.H} (t : K) where
   -- one that holds a state lies as a pointer into a block, beside its allocator
-  pub opened : (d : Row.Denot) (x : State) → d.state ≡ Some x → (words : List Val)
+  pub opened : (d : Row.Denot) (x : TableState) → d.state ≡ Some x → (words : List Val)
       → ((block offset : ℕ) (word : Val) → words ≡ pair (vptr block offset) word ∷ [] → Good (layout A) word
       → Seq K 𝓛 (‵ (stored.Owned V A laws ghosts d.alloc block offset x) ∷ ‵ (A.own_val d.alloc (word ∷ [])) ∷ Γ) G)
       → Seq K 𝓛 (‵ (Row.own_val d words) ∷ Γ) G
@@ -64,7 +64,7 @@ module _ {M : Type 1} {𝓤 : Ura M} {𝓛 : Logic 𝓤} {K : Type 0} {Γ : List
       let of_pointer : Ptr → List Val → List Val = λ p rest. vstruct (of_list (ptr_val p ∷ rest)) ∷ [] in
       fsplit t $ fpick t (λ fields. fsplit t $ feq_l t (λ is_struct. fsplit t $ feq_l t (λ is_pointer. fsplit t $
       handle_tells (stored.allocator V A laws ghosts) t d.alloc fields.1.0 (λ word is_alloc fits. move t (1 ∷ []) $ drop t $ move t (1 ∷ []) $
-      rewrite t 0 (λ (y : Option State). ‵ (pointer_owns d.alloc d.pointer y)) holds refl $
+      rewrite t 0 (λ (y : Option TableState). ‵ (pointer_owns d.alloc d.pointer y)) holds refl $
       in_a_block t d.pointer (λ p. box_owns (ghosts.dealloc_token d.alloc) V p x)
       (fst∗ 𝓤 (never 𝓤) (sem 𝓛 (ghosts.dealloc_token d.alloc (bare (lone V.mir)) null_ptr))) (λ block offset in_block.
       on block offset word
@@ -73,7 +73,7 @@ module _ {M : Type 1} {𝓤 : Ura M} {𝓛 : Logic 𝓤} {K : Type 0} {Γ : List
       (subst (λ ps. words ≡ vstruct (of_list (ps ++ (fields.1.0 ++ []))) ∷ []) is_pointer is_struct))) fits)))))
 
   -- one that lies so holds that state
-  pub closed : (block offset : ℕ) (word : Val) (alloc : A.Denot) (x : State)
+  pub closed : (block offset : ℕ) (word : Val) (alloc : A.Denot) (x : TableState)
       → Step K 𝓛 (‵ (Row.own_val (record { pointer = block_ptr block offset; alloc = alloc; state = Some x }) (pair (vptr block offset) word ∷ [])) ∷ Γ) G
       (‵ (stored.Owned V A laws ghosts alloc block offset x) ∷ ‵ (A.own_val alloc (word ∷ [])) ∷ Γ) G
   closed block offset word alloc x = step (λ rest.

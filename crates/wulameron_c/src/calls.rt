@@ -27,7 +27,7 @@ pub extern "C" fn wulameron_c_begin(
     }
     let held = std::mem::replace(&mut handle.held, StatePointer::null(alloc));
     let mut state = held.into_apart().join();
-    let code = asking::begin(&mut state, alloc, pattern, how, node, name);
+    let code = asking::begin(&mut state.state, alloc, pattern, how, node, name);
     handle.held = StatePointer::of(Apart::take(state));
     code
 }
@@ -48,7 +48,7 @@ pub extern "C" fn wulameron_c_set_number(
     }
     let held = std::mem::replace(&mut handle.held, StatePointer::null(alloc));
     let mut state = held.into_apart().join();
-    let code = asking::set_number(&mut state, setting, value);
+    let code = asking::set_number(&mut state.state, setting, value);
     handle.held = StatePointer::of(Apart::take(state));
     code
 }
@@ -64,7 +64,7 @@ pub extern "C" fn wulameron_c_set_none(alloc: Global, handle: &mut Handle, setti
     }
     let held = std::mem::replace(&mut handle.held, StatePointer::null(alloc));
     let mut state = held.into_apart().join();
-    let code = asking::set_none(&mut state, setting);
+    let code = asking::set_none(&mut state.state, setting);
     handle.held = StatePointer::of(Apart::take(state));
     code
 }
@@ -86,7 +86,7 @@ pub extern "C" fn wulameron_c_set_duration(
     }
     let held = std::mem::replace(&mut handle.held, StatePointer::null(alloc));
     let mut state = held.into_apart().join();
-    let code = asking::set_duration(&mut state, setting, seconds, nanoseconds);
+    let code = asking::set_duration(&mut state.state, setting, seconds, nanoseconds);
     handle.held = StatePointer::of(Apart::take(state));
     code
 }
@@ -110,7 +110,7 @@ pub extern "C" fn wulameron_c_set_type(
     }
     let held = std::mem::replace(&mut handle.held, StatePointer::null(alloc));
     let mut state = held.into_apart().join();
-    let code = asking::set_type(&mut state, alloc, part, variant, name, size, alignment);
+    let code = asking::set_type(&mut state.state, alloc, part, variant, name, size, alignment);
     handle.held = StatePointer::of(Apart::take(state));
     code
 }
@@ -131,7 +131,7 @@ pub extern "C" fn wulameron_c_add_attribute(
     }
     let held = std::mem::replace(&mut handle.held, StatePointer::null(alloc));
     let mut state = held.into_apart().join();
-    let code = asking::add_attribute(&mut state, key, value);
+    let code = asking::add_attribute(&mut state.state, key, value);
     handle.held = StatePointer::of(Apart::take(state));
     code
 }
@@ -147,7 +147,7 @@ pub extern "C" fn wulameron_c_require_key(alloc: Global, handle: &mut Handle, ke
     }
     let held = std::mem::replace(&mut handle.held, StatePointer::null(alloc));
     let mut state = held.into_apart().join();
-    let code = asking::require_key(&mut state, key);
+    let code = asking::require_key(&mut state.state, key);
     handle.held = StatePointer::of(Apart::take(state));
     code
 }
@@ -168,7 +168,7 @@ pub extern "C" fn wulameron_c_set_time(
     }
     let held = std::mem::replace(&mut handle.held, StatePointer::null(alloc));
     let mut state = held.into_apart().join();
-    let code = asking::set_time(&mut state, seconds, nanoseconds);
+    let code = asking::set_time(&mut state.state, seconds, nanoseconds);
     handle.held = StatePointer::of(Apart::take(state));
     code
 }
@@ -184,7 +184,7 @@ pub extern "C" fn wulameron_c_set_clock_fault(alloc: Global, handle: &mut Handle
     }
     let held = std::mem::replace(&mut handle.held, StatePointer::null(alloc));
     let mut state = held.into_apart().join();
-    let code = asking::set_clock_fault(&mut state);
+    let code = asking::set_clock_fault(&mut state.state);
     handle.held = StatePointer::of(Apart::take(state));
     code
 }
@@ -206,7 +206,7 @@ pub extern "C" fn wulameron_c_send(
     }
     let held = std::mem::replace(&mut handle.held, StatePointer::null(alloc));
     let mut state = held.into_apart().join();
-    let code = asking::send(&mut state, slot, number, refusal);
+    let code = asking::send(&mut state.state, slot, number, refusal);
     handle.held = StatePointer::of(Apart::take(state));
     code
 }
@@ -222,7 +222,7 @@ pub extern "C" fn wulameron_c_close(alloc: Global, handle: &mut Handle, slot: us
     }
     let held = std::mem::replace(&mut handle.held, StatePointer::null(alloc));
     let mut state = held.into_apart().join();
-    let code = asking::close(&mut state, slot);
+    let code = asking::close(&mut state.state, slot);
     handle.held = StatePointer::of(Apart::take(state));
     code
 }
@@ -238,7 +238,7 @@ pub extern "C" fn wulameron_c_abandon(alloc: Global, handle: &mut Handle, slot: 
     }
     let held = std::mem::replace(&mut handle.held, StatePointer::null(alloc));
     let mut state = held.into_apart().join();
-    let code = asking::abandon(&mut state, slot);
+    let code = asking::abandon(&mut state.state, slot);
     handle.held = StatePointer::of(Apart::take(state));
     code
 }
@@ -254,7 +254,7 @@ pub extern "C" fn wulameron_c_list(alloc: Global, handle: &mut Handle, count: &m
     }
     let held = std::mem::replace(&mut handle.held, StatePointer::null(alloc));
     let mut state = held.into_apart().join();
-    let code = asking::list(&mut state, count);
+    let code = asking::list(&mut state.state, count);
     handle.held = StatePointer::of(Apart::take(state));
     code
 }

@@ -17,7 +17,7 @@ ghost use Rattle.wulameron_c.specs.Pointers.{IsSound};
 use crate::pointer::StatePointer;
 use std::alloc::Global;
 use wulameron_boxed::Apart;
-use wulameron_state::state::State;
+use wulameron_state::state::TableState;
 
 /// It was done.
 const DONE: u32 = 0;
@@ -59,7 +59,7 @@ pub extern "C" fn wulameron_c_open_table(alloc: Global, handle: &mut Handle) -> 
     if handle.mark == OPEN {
         return IS_OPEN;
     }
-    match Box::new(alloc, State::new(alloc)) {
+    match Box::new(alloc, TableState::new(alloc)) {
         Ok(state) => {
             handle.held = StatePointer::of(Apart::take(state));
             handle.mark = OPEN;

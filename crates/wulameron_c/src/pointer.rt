@@ -2,12 +2,12 @@
 
 ghost use Rattle.std.specs.Prelude.{◌≡◌, Option, Some, None, IsSome};
 ghost use Rattle.wulameron_c.specs.Pointers.{pointer_owns, state_coded};
-ghost use Rattle.wulameron_state.specs.declared.state.State.{State};
+ghost use Rattle.wulameron_state.specs.declared.state.TableState.{TableState};
 
 use std::alloc::Global;
 use std::marker::Model;
 use wulameron_boxed::Apart;
-use wulameron_state::state::State;
+use wulameron_state::state::TableState;
 
 /// A state by its pointer, or none. C sees the pointer alone: a `Global` takes no bytes.
 #[repr(C)]
@@ -15,7 +15,7 @@ use wulameron_state::state::State;
 pub struct StatePointer {
     pointer: *mut u8,
     alloc: Global,
-    pub ghost state: { Option State } by { state_coded },
+    pub ghost state: { Option TableState } by { state_coded },
 }
 
 impl Model for StatePointer {
@@ -34,7 +34,7 @@ impl StatePointer {
     }
 
     /// The state of a box that was taken apart.
-    pub(crate) fn of(apart: Apart<State, Global>) -> StatePointer
+    pub(crate) fn of(apart: Apart<TableState, Global>) -> StatePointer
         ensures { result.state ≡ Some apart.value }
     {
         let Apart { pointer, alloc } = apart;
@@ -45,13 +45,13 @@ impl StatePointer {
     }
 
     /// What the box of the state was taken apart to.
-    pub(crate) fn into_apart(self) -> Apart<State, Global>
+    pub(crate) fn into_apart(self) -> Apart<TableState, Global>
         requires { IsSome self.state }
         ensures { Some result.value ≡ self.state }
     {
         let StatePointer { pointer, alloc } = self;
         Apart {
-            pointer: pointer as *mut State,
+            pointer: pointer as *mut TableState,
             alloc,
         }
     }

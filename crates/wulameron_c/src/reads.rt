@@ -27,7 +27,7 @@ pub extern "C" fn wulameron_c_service(
     }
     let held = std::mem::replace(&mut handle.held, StatePointer::null(alloc));
     let state = held.into_apart().join();
-    let code = agreed::service(&state, slot, pattern, number, node);
+    let code = agreed::service(&state.state, slot, pattern, number, node);
     handle.held = StatePointer::of(Apart::take(state));
     code
 }
@@ -49,7 +49,7 @@ pub extern "C" fn wulameron_c_number(
     }
     let held = std::mem::replace(&mut handle.held, StatePointer::null(alloc));
     let state = held.into_apart().join();
-    let code = agreed::number(&state, slot, setting, value);
+    let code = agreed::number(&state.state, slot, setting, value);
     handle.held = StatePointer::of(Apart::take(state));
     code
 }
@@ -72,7 +72,7 @@ pub extern "C" fn wulameron_c_time(
     }
     let held = std::mem::replace(&mut handle.held, StatePointer::null(alloc));
     let state = held.into_apart().join();
-    let code = agreed::time(&state, slot, setting, seconds, nanoseconds);
+    let code = agreed::time(&state.state, slot, setting, seconds, nanoseconds);
     handle.held = StatePointer::of(Apart::take(state));
     code
 }
@@ -96,7 +96,7 @@ pub extern "C" fn wulameron_c_type_of(
     }
     let held = std::mem::replace(&mut handle.held, StatePointer::null(alloc));
     let state = held.into_apart().join();
-    let code = agreed::type_of(&state, slot, part, variant, size, alignment);
+    let code = agreed::type_of(&state.state, slot, part, variant, size, alignment);
     handle.held = StatePointer::of(Apart::take(state));
     code
 }
@@ -119,7 +119,7 @@ pub extern "C" fn wulameron_c_type_name(
     }
     let held = std::mem::replace(&mut handle.held, StatePointer::null(alloc));
     let state = held.into_apart().join();
-    let code = agreed::type_name(&state, slot, part, output, written);
+    let code = agreed::type_name(&state.state, slot, part, output, written);
     handle.held = StatePointer::of(Apart::take(state));
     code
 }
@@ -141,7 +141,7 @@ pub extern "C" fn wulameron_c_name(
     }
     let held = std::mem::replace(&mut handle.held, StatePointer::null(alloc));
     let state = held.into_apart().join();
-    let code = agreed::name(&state, slot, output, written);
+    let code = agreed::name(&state.state, slot, output, written);
     handle.held = StatePointer::of(Apart::take(state));
     code
 }
@@ -163,7 +163,7 @@ pub extern "C" fn wulameron_c_hash(
     }
     let held = std::mem::replace(&mut handle.held, StatePointer::null(alloc));
     let state = held.into_apart().join();
-    let code = agreed::hash(&state, slot, output, written);
+    let code = agreed::hash(&state.state, slot, output, written);
     handle.held = StatePointer::of(Apart::take(state));
     code
 }
@@ -184,7 +184,7 @@ pub extern "C" fn wulameron_c_attributes(
     }
     let held = std::mem::replace(&mut handle.held, StatePointer::null(alloc));
     let state = held.into_apart().join();
-    let code = agreed::attributes(&state, slot, count);
+    let code = agreed::attributes(&state.state, slot, count);
     handle.held = StatePointer::of(Apart::take(state));
     code
 }
@@ -209,7 +209,7 @@ pub extern "C" fn wulameron_c_attribute(
     }
     let held = std::mem::replace(&mut handle.held, StatePointer::null(alloc));
     let state = held.into_apart().join();
-    let code = agreed::attribute(&state, slot, index, key, key_length, value, value_length);
+    let code = agreed::attribute(&state.state, slot, index, key, key_length, value, value_length);
     handle.held = StatePointer::of(Apart::take(state));
     code
 }
@@ -231,7 +231,7 @@ pub extern "C" fn wulameron_c_bytes(
     }
     let held = std::mem::replace(&mut handle.held, StatePointer::null(alloc));
     let state = held.into_apart().join();
-    let code = agreed::bytes(&state, alloc, slot, output, written);
+    let code = agreed::bytes(&state.state, alloc, slot, output, written);
     handle.held = StatePointer::of(Apart::take(state));
     code
 }

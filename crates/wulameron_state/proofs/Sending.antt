@@ -3,7 +3,9 @@ use Rattle.std.proofs.Common.{◌≡◌, ℕ, Option, Some, None, Result, Ok, Er
 use Rattle.iceoryx2_commands.specs.declared.command.Call.{Call}
 use Rattle.iceoryx2_commands.specs.declared.command.Command.{Command}
 use Rattle.iceoryx2_commands.specs.declared.command.Command.TheVariants as command
-use Rattle.iceoryx2_session.specs.Sessions.{SessionState}
+use Rattle.iceoryx2_access.specs.Letter.{Letter}
+use Rattle.iceoryx2_session.specs.Sessions.{SessionOver}
+use Rattle.iceoryx2_world.specs.World.{World}
 use Rattle.wulameron_request.specs.Pending.{for_slot}
 use Rattle.wulameron_state.specs.Slots.{sent}
 use Rattle.wulameron_state.specs.States.{GoesAs, Sends, nothing, goes}
@@ -19,15 +21,15 @@ not_pending = Err NoRequest
 same_call : (f g : Call) → Some f ≡ Some g → f ≡ g
 same_call f g e = cc
 
-module _ {old : SessionState} {slot : ℕ} where
-  pub not_sent : (pending left : Option Call) → None ≡ for_slot slot pending → left ≡ None → Sends old slot pending (Err NoRequest) old left
-  not_sent None left is after = subst (λ (o : Option Call). Sends old slot none not_pending old o) (sym after) nothing
+module _ {S : Type 0} {step : S → Letter → S → Type 0} {world : S → World} {old : SessionOver S} {slot : ℕ} where
+  pub not_sent : (pending left : Option Call) → None ≡ for_slot slot pending → left ≡ None → Sends step world old slot pending (Err NoRequest) old left
+  not_sent None left is after = subst (λ (o : Option Call). Sends step world old slot none not_pending old o) (sym after) nothing
   not_sent (Some call) left is after = absurd cc
 
-  pub is_sent : {answer : Result ℕ SlotError} {new : SessionState} (pending left : Option Call) (call : Call) → Some call ≡ for_slot slot pending → left ≡ None
-      → GoesAs sent old (command.Call call) answer new → Sends old slot pending answer new left
+  pub is_sent : {answer : Result ℕ SlotError} {new : SessionOver S} (pending left : Option Call) (call : Call) → Some call ≡ for_slot slot pending → left ≡ None
+      → GoesAs step world sent old (command.Call call) answer new → Sends step world old slot pending answer new left
   is_sent None left call is after so = absurd cc
   is_sent {answer = answer} {new = new} (Some own) left call is after so =
       let same : call ≡ record own { slot = slot } = same_call call (record own { slot = slot }) is in
-      subst (λ (o : Option Call). Sends old slot (Some own) answer new o) (sym after)
-      (goes (subst (λ (c : Call). GoesAs sent old (command.Call c) answer new) same so))
+      subst (λ (o : Option Call). Sends step world old slot (Some own) answer new o) (sym after)
+      (goes (subst (λ (c : Call). GoesAs step world sent old (command.Call c) answer new) same so))

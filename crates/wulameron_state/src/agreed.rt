@@ -11,12 +11,13 @@ use crate::reading::{
 };
 use crate::state::State;
 use iceoryx2_byte_form::bytes::encode;
+use iceoryx2_session::world_storage::WorldStorage;
 use std::alloc::Global;
 use wulameron_request::reading::{number_of_variant, pattern_of, type_in};
 
 /// The service's pattern and number, and the slot's node.
-pub fn service(
-    state: &State,
+pub fn service<S: WorldStorage>(
+    state: &State<S>,
     slot: usize,
     pattern: &mut u32,
     number: &mut u64,
@@ -34,7 +35,7 @@ pub fn service(
 }
 
 /// What was agreed on of a setting that is a number or a flag.
-pub fn number(state: &State, slot: usize, setting: u32, value: &mut u64) -> u32
+pub fn number<S: WorldStorage>(state: &State<S>, slot: usize, setting: u32, value: &mut u64) -> u32
     ensures { FromSlot (λ d. ReadsNumber (by_number.number_in d.pattern setting) value.old result value.new)
         slot result (value.new ≡ value.old) (held_at (own_state state.now.session).slots slot) }
 {
@@ -45,8 +46,8 @@ pub fn number(state: &State, slot: usize, setting: u32, value: &mut u64) -> u32
 }
 
 /// What was agreed on of a setting that is a length of time.
-pub fn time(
-    state: &State,
+pub fn time<S: WorldStorage>(
+    state: &State<S>,
     slot: usize,
     setting: u32,
     seconds: &mut u64,
@@ -64,8 +65,8 @@ pub fn time(
 }
 
 /// The type of a part of a message, without its name.
-pub fn type_of(
-    state: &State,
+pub fn type_of<S: WorldStorage>(
+    state: &State<S>,
     slot: usize,
     part: u32,
     variant: &mut u32,
@@ -87,8 +88,8 @@ pub fn type_of(
 }
 
 /// The name of the type of a part of a message.
-pub fn type_name(
-    state: &State,
+pub fn type_name<S: WorldStorage>(
+    state: &State<S>,
     slot: usize,
     part: u32,
     output: &mut [u8],
@@ -104,7 +105,7 @@ pub fn type_name(
 }
 
 /// The service's name.
-pub fn name(state: &State, slot: usize, output: &mut [u8], written: &mut usize) -> u32 {
+pub fn name<S: WorldStorage>(state: &State<S>, slot: usize, output: &mut [u8], written: &mut usize) -> u32 {
     match agreed(&state.session, slot) {
         Some(description) => write_text(description.name().as_str().as_bytes(), output, written),
         None => code_of_empty(slot),
@@ -112,7 +113,7 @@ pub fn name(state: &State, slot: usize, output: &mut [u8], written: &mut usize) 
 }
 
 /// The service's hash.
-pub fn hash(state: &State, slot: usize, output: &mut [u8], written: &mut usize) -> u32 {
+pub fn hash<S: WorldStorage>(state: &State<S>, slot: usize, output: &mut [u8], written: &mut usize) -> u32 {
     match agreed(&state.session, slot) {
         Some(description) => write_text(description.service_hash().as_bytes(), output, written),
         None => code_of_empty(slot),
@@ -120,7 +121,7 @@ pub fn hash(state: &State, slot: usize, output: &mut [u8], written: &mut usize) 
 }
 
 /// How many attributes the service has.
-pub fn attributes(state: &State, slot: usize, count: &mut u64) -> u32
+pub fn attributes<S: WorldStorage>(state: &State<S>, slot: usize, count: &mut u64) -> u32
     ensures { FromSlot (λ d. (result ≡ 0) × (count.new ≡ length d.attributes))
         slot result (count.new ≡ count.old) (held_at (own_state state.now.session).slots slot) }
 {
@@ -135,8 +136,8 @@ pub fn attributes(state: &State, slot: usize, count: &mut u64) -> u32
 
 /// The attribute of this index, ascending by key and then by value. Where one of them has more bytes than its place,
 /// the lengths of both are told.
-pub fn attribute(
-    state: &State,
+pub fn attribute<S: WorldStorage>(
+    state: &State<S>,
     slot: usize,
     index: usize,
     key: &mut [u8],
@@ -159,8 +160,8 @@ pub fn attribute(
 }
 
 /// The description's bytes, as they are stored. 4 where there was no memory.
-pub fn bytes(
-    state: &State,
+pub fn bytes<S: WorldStorage>(
+    state: &State<S>,
     alloc: Global,
     slot: usize,
     output: &mut [u8],

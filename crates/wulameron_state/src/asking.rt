@@ -2,7 +2,8 @@
 
 ghost use Rattle.std.specs.Prelude.{◌≡◌, ℕ, Err, None, Result, slice_set};
 ghost use Rattle.iceoryx2_commands.specs.declared.command.Command.TheVariants as command;
-ghost use Rattle.iceoryx2_session.specs.SessionStates.{own_state};
+ghost use Rattle.iceoryx2_session.specs.SessionStates.{own_nodes, own_state, world_state};
+ghost use Rattle.iceoryx2_world.specs.Across.{Agrees};
 ghost use Rattle.wulameron_request.specs.Events as event_table;
 ghost use Rattle.wulameron_request.specs.Pending.{InSettings, Pieces};
 ghost use Rattle.wulameron_request.specs.PublishSubscribe as publish_table;
@@ -10,12 +11,13 @@ ghost use Rattle.wulameron_request.specs.RequestResponse as request_table;
 ghost use Rattle.wulameron_request.specs.Requests.{Sets};
 ghost use Rattle.wulameron_state.specs.Asks.{Begins, IsCoded, TellsSent, code_of_slot};
 ghost use Rattle.wulameron_state.specs.Slots.{closed};
-ghost use Rattle.wulameron_state.specs.States.{GoesAs, Sends, Stands};
+ghost use Rattle.wulameron_state.specs.States.{GoesAs, IsOfOwnNode, Sends, Stands};
 ghost use Rattle.wulameron_state.specs.declared.error.SlotError.{SlotError};
 
 use crate::error::SlotError;
 use crate::state::{self, State};
 use iceoryx2_description::time::{ClockFault, Duration, Time};
+use iceoryx2_session::world_storage::WorldStorage;
 use iceoryx2_types::types::{TypeDetail, TypeDetailError};
 use std::alloc::Global;
 use wulameron_request::error::{RequestError, code_of_answer};
@@ -23,8 +25,8 @@ use wulameron_request::reading::variant_of;
 use wulameron_request::refusal::number_of;
 
 /// `Pending::begin`.
-pub fn begin(
-    state: &mut State,
+pub fn begin<S>(
+    state: &mut State<S>,
     alloc: Global,
     pattern: u32,
     how: u32,
@@ -39,7 +41,7 @@ pub fn begin(
 }
 
 /// `Pending::set_number`.
-pub fn set_number(state: &mut State, setting: u32, value: u64) -> u32
+pub fn set_number<S>(state: &mut State<S>, setting: u32, value: u64) -> u32
     ensures piece { IsCoded (Pieces (InSettings (Sets (event_table.number_setter setting value)
         (publish_table.number_setter setting value) (request_table.number_setter setting value))))
         state.old.pending result state.new.pending }
@@ -50,7 +52,7 @@ pub fn set_number(state: &mut State, setting: u32, value: u64) -> u32
 }
 
 /// `Pending::set_none`.
-pub fn set_none(state: &mut State, setting: u32) -> u32
+pub fn set_none<S>(state: &mut State<S>, setting: u32) -> u32
     ensures piece { IsCoded (Pieces (InSettings (Sets (event_table.none_setter setting)
         (Err RequestError.UnknownSetting) (Err RequestError.UnknownSetting))))
         state.old.pending result state.new.pending }
@@ -61,7 +63,7 @@ pub fn set_none(state: &mut State, setting: u32) -> u32
 }
 
 /// `Pending::set_duration`, and 8 from 1,000,000,000 nanoseconds on.
-pub fn set_duration(state: &mut State, setting: u32, seconds: u64, nanoseconds: u32) -> u32
+pub fn set_duration<S>(state: &mut State<S>, setting: u32, seconds: u64, nanoseconds: u32) -> u32
     ensures { state.new.session ≡ state.old.session }
 {
     match Duration::new(seconds, nanoseconds) {
@@ -91,8 +93,8 @@ fn detail_of(
 }
 
 /// `Pending::set_type`, and 8 where `variant` is none, 6 where the name isn't UTF-8, and 9 where there is no such type.
-pub fn set_type(
-    state: &mut State,
+pub fn set_type<S>(
+    state: &mut State<S>,
     alloc: Global,
     part: u32,
     variant: u32,
@@ -109,7 +111,7 @@ pub fn set_type(
 }
 
 /// `Pending::add_attribute`, and 6 where a text isn't UTF-8.
-pub fn add_attribute(state: &mut State, key: &[u8], value: &[u8]) -> u32
+pub fn add_attribute<S>(state: &mut State<S>, key: &[u8], value: &[u8]) -> u32
     ensures { state.new.session ≡ state.old.session }
 {
     let Ok(key) = std::str::from_utf8(key) else {
@@ -122,7 +124,7 @@ pub fn add_attribute(state: &mut State, key: &[u8], value: &[u8]) -> u32
 }
 
 /// `Pending::require_key`, and 6 where the key isn't UTF-8.
-pub fn require_key(state: &mut State, key: &[u8]) -> u32
+pub fn require_key<S>(state: &mut State<S>, key: &[u8]) -> u32
     ensures { state.new.session ≡ state.old.session }
 {
     let Ok(key) = std::str::from_utf8(key) else {
@@ -132,7 +134,7 @@ pub fn require_key(state: &mut State, key: &[u8]) -> u32
 }
 
 /// `Pending::set_time`, and 8 from 1,000,000,000 nanoseconds on.
-pub fn set_time(state: &mut State, seconds: u64, nanoseconds: u32) -> u32
+pub fn set_time<S>(state: &mut State<S>, seconds: u64, nanoseconds: u32) -> u32
     ensures { state.new.session ≡ state.old.session }
 {
     match Time::new(seconds, nanoseconds) {
@@ -142,19 +144,24 @@ pub fn set_time(state: &mut State, seconds: u64, nanoseconds: u32) -> u32
 }
 
 /// `Pending::set_time`, where the clock can't be read.
-pub fn set_clock_fault(state: &mut State) -> u32
+pub fn set_clock_fault<S>(state: &mut State<S>) -> u32
     ensures { state.new.session ≡ state.old.session }
 {
     code_of_answer(state.pending.set_time(Err(ClockFault)))
 }
 
 /// `state::send`: the service's number, or with code 20 the refusal's, is in its place.
-pub fn send(state: &mut State, slot: usize, number: &mut u64, refusal: &mut u32) -> u32
+pub fn send<S: WorldStorage>(state: &mut State<S>, slot: usize, number: &mut u64, refusal: &mut u32) -> u32
     ensures sends { (answer : Result ℕ SlotError)
-        × Sends (own_state state.old.session) slot state.old.pending answer
+        × Sends S.step S.world (own_state state.old.session) slot state.old.pending answer
         (own_state state.new.session) state.new.pending
         × TellsSent answer result number.old refusal.old number.new refusal.new }
-    ensures stands { Stands (own_state state.old.session) → Stands (own_state state.new.session) }
+    ensures nodes { own_nodes S.own state.new.session ≡ own_nodes S.own state.old.session }
+    ensures agrees { Agrees (world_state S.world state.old.session).table
+        → Agrees (world_state S.world state.new.session).table }
+    ensures stands { let own = own_nodes S.own state.old.session in Stands own (world_state S.world state.old.session)
+        → IsOfOwnNode own (own_state state.old.session).config state.old.pending
+        → Stands own (world_state S.world state.new.session) }
 {
     let answer = state::send(&mut state.session, &mut state.pending, slot);
     tell_sent(answer, number, refusal)
@@ -189,18 +196,22 @@ fn code_of(answer: Result<(), SlotError>) -> u32
 }
 
 /// `state::close`.
-pub fn close(state: &mut State, slot: usize) -> u32
+pub fn close<S: WorldStorage>(state: &mut State<S>, slot: usize) -> u32
     ensures goes { (answer : Result (Unit {0}) SlotError)
-        × GoesAs closed (own_state state.old.session) (command.Close slot) answer (own_state state.new.session)
+        × GoesAs S.step S.world closed (own_state state.old.session) (command.Close slot) answer (own_state state.new.session)
         × (result ≡ code_of_slot answer) }
-    ensures stands { Stands (own_state state.old.session) → Stands (own_state state.new.session) }
+    ensures nodes { own_nodes S.own state.new.session ≡ own_nodes S.own state.old.session }
+    ensures agrees { Agrees (world_state S.world state.old.session).table
+        → Agrees (world_state S.world state.new.session).table }
+    ensures stands { let own = own_nodes S.own state.old.session in
+        Stands own (world_state S.world state.old.session) → Stands own (world_state S.world state.new.session) }
 {
     let answer = state::close(&mut state.session, slot);
     code_of(answer)
 }
 
 /// `state::abandon`.
-pub fn abandon(state: &mut State, slot: usize) -> u32
+pub fn abandon<S: WorldStorage>(state: &mut State<S>, slot: usize) -> u32
     ensures { own_state state.new.session ≡ record (own_state state.old.session) {
       slots = slice_set (own_state state.old.session).slots slot None;
     } }
@@ -209,7 +220,7 @@ pub fn abandon(state: &mut State, slot: usize) -> u32
 }
 
 /// `State::list`.
-pub fn list(state: &mut State, count: &mut u64) -> u32
+pub fn list<S: WorldStorage>(state: &mut State<S>, count: &mut u64) -> u32
     ensures { state.new.session ≡ state.old.session }
 {
     match state.list() {

@@ -1,4 +1,4 @@
-//! What a handle of C is over: a session over a table of its own, and the request that is pending.
+//! What a caller of another language is over: a session, and the request that is pending.
 //!
 //! `state::send` and `close` are commands of a session over a table, with what a caller gets for the reply
 //! (`Sends`, `GoesAs`); the world agrees afterwards and the slots' factories stand where so it was (`Stands`).

@@ -9,7 +9,7 @@ ghost use Rattle.wulameron_state.specs.Reads.{ReadsNumber, ReadsTime, WritesText
 use iceoryx2_commands::command::SLOTS;
 use iceoryx2_description::description::StaticConfig;
 use iceoryx2_session::session::Session;
-use iceoryx2_table::table::Table;
+use iceoryx2_session::world_storage::WorldStorage;
 use wulameron_request::reading::{number_in, time_in};
 
 /// It was done.
@@ -33,7 +33,7 @@ pub fn codes_of_reads()
 {}
 
 /// The description that the slot's node and its service agreed on, where the slot holds something.
-pub fn agreed(session: &Session<Table>, slot: usize) -> Option<&StaticConfig>
+pub fn agreed<S: WorldStorage>(session: &Session<S>, slot: usize) -> Option<&StaticConfig>
     ensures { option_copied result
         ≡ option_map (λ held. held.description) (held_at (own_state session.now).slots slot) }
 {

@@ -4,7 +4,7 @@ use Rattle.wulameron_state.proofs.HeldReads.{from_held, from_none}
 use Rattle.wulameron_state.proofs.agreed.number.Goals as goal
 
 pub returns-in-Some : goal.returns-in-Some
-returns-in-Some c = from_held (held_at c.args.state.now.session.slots c.args.slot) c.in-Some.description.now c.in-Some.ensures c.read_number.ensures
+returns-in-Some g c = from_held (held_at c.args.state.now.session.slots c.args.slot) c.in-Some.description.now c.in-Some.ensures c.read_number.ensures
 
 pub returns-in-None : goal.returns-in-None
-returns-in-None c = from_none (held_at c.args.state.now.session.slots c.args.slot) c.in-None.ensures c.code_of_empty.ensures refl
+returns-in-None g c = from_none (held_at c.args.state.now.session.slots c.args.slot) c.in-None.ensures c.code_of_empty.ensures refl

@@ -4,14 +4,14 @@ use Rattle.wulameron_state.proofs.Sending.{not_sent, is_sent}
 use Rattle.wulameron_state.proofs.state.send.Goals as goal
 
 pub returns-then-slot-ge-SLOTS-clause-sends : goal.returns-then-slot-ge-SLOTS-clause-sends
-returns-then-slot-ge-SLOTS-clause-sends c = no_slot (omega arith)
+returns-then-slot-ge-SLOTS-clause-sends g c = no_slot (omega arith)
 
 pub returns-then-is_taken-clause-sends : goal.returns-then-is_taken-clause-sends
-returns-then-is_taken-clause-sends c = in_use (sym c.if-is_taken.ensures)
+returns-then-is_taken-clause-sends g c = in_use (sym c.if-is_taken.ensures)
 
 pub returns-in-None-clause-sends : goal.returns-in-None-clause-sends
-returns-in-None-clause-sends c = not_sent c.args.pending.now c.take.new.self c.in-None.ensures.taken c.take.ensures.after
+returns-in-None-clause-sends g c = not_sent c.args.pending.now c.take.new.self c.in-None.ensures.taken c.take.ensures.after
 
 pub returns-in-Some-clause-sends : goal.returns-in-Some-clause-sends
-returns-in-Some-clause-sends c = is_sent c.args.pending.now c.take.new.self c.in-Some.call c.in-Some.ensures.taken c.take.ensures.after
-    (c.apply-reply.result, c.apply-reply.ensures.goes, c.sent.ensures)
+returns-in-Some-clause-sends g c = is_sent c.args.pending.now c.take.new.self c.in-Some.call c.in-Some.ensures.taken c.take.ensures.after
+    (c.carry_out-reply.result, c.carry_out-reply.ensures.own, c.sent.ensures)

@@ -18,7 +18,7 @@ use denote.Steps.{nothing, heard}
 use denote.Triple.Walked.{Stays, stay_dropped, walk_of, Goes-dropped}
 use Rattle.std.specs.declared.option.Option.TheVariants.{Some}
 use Rattle.std.specs.Prelude.{IsSome}
-use Rattle.wulameron_state.specs.declared.state.State.{State}
+use Rattle.wulameron_state.specs.declared.state.TableState.{TableState}
 use Rattle.std.proofs.raw_atomic.Walks.{proved_at, leaves}
 use Rattle.std.specs.contracts.impls.GlobalAllocator.TheImpl.{ghosts}
 use Rattle.wulameron_boxed.proofs.Stored as stored
@@ -37,7 +37,7 @@ into_apart_spec 𝓤 𝓛 𝓜 𝓡 wired =
     proved_at 𝓛 ended stays c 𝓜 𝓡 (Goes-dropped 𝓛 0 taken yes (λ κs x f. refl), tt) #self fn (code.unfolded 𝓤 H 𝓜 𝓡 wired) (λ z are.
     let κs = z.0.0 in let v = z.0.3.0 in let Post : Val → SProp 𝓤 = (walk_of 𝓛 ended stays c).post z in let Run : List Val → SProp 𝓤 = λ ws. WpFn 𝓤 H 𝓣.C 𝓣.Λ fn ws Post in
     qed 𝓛 ((‵ ftrue ⊛ ‵ (owns (types_at ended.signature.params κs) z.0.3 z.0.4)) ∷ raw ((c κs z.0.3).requires z.1) ∷ []) ∵ split ! $ move ! (1 ∷ []) $ fsplit ! $
-    move ! (3 ∷ []) $ heard ! (IsSome v.state) (λ is. let x : State = (found v.state is).0 in let holds : v.state ≡ Some x = (found v.state is).1 in
+    move ! (3 ∷ []) $ heard ! (IsSome v.state) (λ is. let x : TableState = (found v.state is).0 in let holds : v.state ≡ Some x = (found v.state is).1 in
     held.opened ! v x holds z.0.4.0 (λ b o h is_pair fits. let w : Val = pair (vptr b o) h in let typed = pair_fits V A laws ghosts b o h fits in
     suffices ! (Run (w ∷ [])) (subst (λ (us : List Val). ent 𝓤 (Run (w ∷ [])) (Run us)) (sym (λ i. is_pair i ++ [])) (id⊢ 𝓤 (Run (w ∷ [])))) $
     enter ! 𝓣.C 𝓣.Λ fn (w ∷ []) Post $ alloc_all ! (λ l. pass_all ! refl (typed, tt) $
