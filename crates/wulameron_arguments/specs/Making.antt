@@ -7,4 +7,5 @@ use Rattle.wulameron_arguments.specs.declared.asked.Asked.TheVariants as asked
 abbrev pub made_log : Asked → Option (List ℕ)
 made_log (asked.Run run) = Some run.at.now
 made_log (asked.Hold hold) = Some hold.place.at.now
+made_log (asked.Session session) = Some session.place.at.now
 made_log _ = None

@@ -42,6 +42,16 @@ pub struct Hold<'a> {
     pub terms: Vec<&'a str>,
 }
 
+/// That the calls of the program that started this one are to be answered.
+#[derive(Clone, Copy, Debug)]
+pub struct Session<'a> {
+    pub place: Place<'a>,
+    /// The node in whose name the calls are. `None` where any will do.
+    pub node: Option<u64>,
+    /// Whether what dead nodes have is given back.
+    pub cleans: bool,
+}
+
 /// A look at a log.
 #[derive(Clone, Copy, Debug)]
 pub struct Look<'a> {
@@ -106,6 +116,8 @@ pub enum Asked<'a> {
     Run(Run<'a>),
     /// A call is to be held.
     Hold(Hold<'a>),
+    /// Calls are to be answered.
+    Session(Session<'a>),
     /// The services are to be listed.
     List(Look<'a>),
     /// One service is to be shown.
@@ -130,6 +142,7 @@ impl<'a> Asked<'a> {
         match self {
             Asked::Run(run) => Some(run.at),
             Asked::Hold(hold) => Some(hold.place.at),
+            Asked::Session(session) => Some(session.place.at),
             _ => None,
         }
     }

@@ -19,7 +19,8 @@ pub(crate) fn command<'a>(alloc: Global, home: Option<&'a str>) -> Result<Comman
         .about("Creates and opens named services over a log that processes share")
         .subcommand_required(true)
         .subcommand(run(alloc, home)?)?
-        .subcommand(hold(alloc, home)?)?;
+        .subcommand(hold(alloc, home)?)?
+        .subcommand(session(alloc, home)?)?;
     let command = with_views(alloc, home, command)?;
     command
         .subcommand(clean(alloc, home)?)?
@@ -59,11 +60,19 @@ fn run<'a>(alloc: Global, home: Option<&'a str>) -> Result<Command<'a>, AllocErr
             "Explains each reply, as the program explain does",
         ))?
         .arg(flag(alloc, "strict", "Ends at the first line that is no command"))?
-        .arg(flag(
-            alloc,
-            "no-clean",
-            "Leaves what nodes have whose processes are gone",
-        ))
+        .arg(no_clean(alloc))
+}
+
+/// The session that a program in another language has by this one.
+fn session<'a>(alloc: Global, home: Option<&'a str>) -> Result<Command<'a>, AllocError> {
+    let command = command_of(
+        alloc,
+        "session",
+        "Answers the calls of a library that started it, in bytes",
+    );
+    with_making(alloc, home, command)?
+        .arg(node(alloc))?
+        .arg(no_clean(alloc))
 }
 
 fn hold<'a>(alloc: Global, home: Option<&'a str>) -> Result<Command<'a>, AllocError> {
@@ -224,6 +233,15 @@ fn node<'a>(alloc: Global) -> Arg<'a> {
         .value_name("NUMBER")
         .value_parser(value_parser!(u64))
         .help("The node of this process; the lowest free one without it")
+}
+
+/// That what dead nodes have isn't given back.
+fn no_clean<'a>(alloc: Global) -> Arg<'a> {
+    flag(
+        alloc,
+        "no-clean",
+        "Leaves what nodes have whose processes are gone",
+    )
 }
 
 /// How long it is tried to hold the log.

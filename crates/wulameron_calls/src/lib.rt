@@ -1,0 +1,8 @@
+//! What the calls of a session come to, each of a frame and answered by one, over a session that holds what they ask for.
+#![tactic(auto)]
+
+pub mod agreed;
+pub mod listing;
+pub mod pieces;
+pub mod replies;
+pub mod slots;
