@@ -15,6 +15,7 @@ use wulameron_arguments::home::{DefaultLog, default_log, make_folder};
 use wulameron_clean::clean::clean;
 use wulameron_hold::hold::hold;
 use wulameron_serve::run::run;
+use wulameron_session::session::session;
 use wulameron_trail::commands::{check, log, watch};
 use wulameron_trail::pauses::Sleeper;
 use wulameron_trouble::trouble::report_wrong;
@@ -73,6 +74,7 @@ fn answer(rt: &HostRuntime, asked: Asked<'_>) -> u8 {
             watch(&rt, &look, &mut pauses, &mut output, &mut rt.stderr())
         }
         Asked::Check(place) => check(&rt, &place, &mut output, &mut rt.stderr()),
+        Asked::Session(asked) => session(rt, &asked, rt.reader(), &mut output),
         Asked::Hold(asked) => hold(rt, &asked, rt.reader(), &mut output, &mut rt.stderr()),
     }
 }

@@ -34,7 +34,8 @@ pub const NOT_DEAD: u8 = 1;
 const NO_LOG: &str = "there is no log; name another file, or make it by `wulameron run`";
 
 /// What a world has where a step of a rehearsal is refused.
-const STAYS: &str = "has something of a dead node that can't be given back; see `wulameron check`";
+pub const STAYS: &str =
+    "has something of a dead node that can't be given back; see `wulameron check`";
 
 /// Why there are no nodes to clean up for.
 #[derive(Debug, Drop)]
@@ -282,7 +283,7 @@ fn clean_node<L: Refusing, D: DeadNodes>(journal: &mut Journal<L>, dead: &D, nod
 }
 
 /// What became of a dead node.
-fn found_by(cleaned: Result<Cleaned, CleanError>) -> Found {
+pub fn found_by(cleaned: Result<Cleaned, CleanError>) -> Found {
     match cleaned {
         Ok(cleaned) => Found::Cleaned(cleaned),
         Err(_) => Found::Refused,

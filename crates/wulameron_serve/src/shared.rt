@@ -51,6 +51,30 @@ impl<S: WorldStorage, D: DeadNodes + Drop> SharedAnswerer<S, D> {
         }
     }
 
+    /// The same for a session that has done something already.
+    pub fn over(node: u64, session: Session<S>, dead: D) -> SharedAnswerer<S, D>
+        ensures node { result.node ≡ node }
+        ensures session { result.session ≡ session }
+    {
+        SharedAnswerer {
+            node,
+            session,
+            dead,
+        }
+    }
+
+    /// Its session, and who finds nodes that are dead.
+    pub fn into_parts(self) -> (Session<S>, D)
+        ensures { result.0 ≡ self.session }
+    {
+        let SharedAnswerer {
+            node: _,
+            session,
+            dead,
+        } = self;
+        (session, dead)
+    }
+
     /// Gives back what dead nodes have. True where anything was given back.
     pub fn clean(&mut self, alloc: Global) -> bool
         ensures node { self.new.node ≡ self.old.node }

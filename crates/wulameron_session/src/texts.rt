@@ -1,0 +1,78 @@
+//! The replies that tell by a text what is wrong.
+
+ghost use Rattle.std.specs.Prelude.{◌≡◌};
+
+use iceoryx2_monitoring::error::{MonitoringError, MonitoringFault};
+use std::alloc::{AllocError, Global};
+use wulameron_calls::replies::{DONE, OUT_OF_MEMORY, only, with_code};
+use wulameron_frame::frame::Frame;
+use wulameron_trouble::trouble::{Trouble, Troubled};
+
+/// The log or a node's file refused; the text tells which and why.
+pub const LOG: u32 = 26;
+
+/// The node is claimed by a process that is alive, or no node is free.
+pub const NODE_IN_USE: u32 = 29;
+
+/// The line is no command; the text tells what is wrong with it.
+pub const BAD_LINE: u32 = 31;
+
+/// The node is alive, so nothing of it is given back.
+pub const NODE_ALIVE: u32 = 32;
+
+/// The codes as numbers, since a wrong constant would go with the definitions that cite it.
+pub fn codes_of_texts()
+    ensures log { LOG ≡ 26 }
+    ensures node_in_use { NODE_IN_USE ≡ 29 }
+    ensures bad_line { BAD_LINE ≡ 31 }
+    ensures node_alive { NODE_ALIVE ≡ 32 }
+{}
+
+/// A reply of a code and a text, or that there was no memory.
+pub fn telling(alloc: Global, code: u32, text: Result<String, AllocError>) -> Frame {
+    match text {
+        Ok(text) => Frame {
+            numbers: only(code),
+            first: text.into_bytes(),
+            second: Vec::new(alloc),
+        },
+        Err(_) => with_code(alloc, OUT_OF_MEMORY),
+    }
+}
+
+/// A reply of a text.
+pub fn saying(alloc: Global, text: Result<String, AllocError>) -> Frame {
+    telling(alloc, DONE, text)
+}
+
+/// The reply where this goes wrong at the log.
+pub fn of_trouble(alloc: Global, trouble: Trouble) -> Frame {
+    telling(alloc, LOG, format!(in alloc; "the log {trouble}"))
+}
+
+/// The reply where a node's file or the log's folder refuses.
+pub fn of_monitoring(alloc: Global, error: &MonitoringError) -> Frame {
+    let code = match error.fault() {
+        MonitoringFault::NodeIsAlive { node: _ } => NODE_IN_USE,
+        MonitoringFault::NoFreeNode => NODE_IN_USE,
+        MonitoringFault::File(_) => LOG,
+    };
+    telling(
+        alloc,
+        code,
+        format!(in alloc; "{}: {}", error.path(), error.fault()),
+    )
+}
+
+/// The reply where the log can't be used any more. `None` where it can.
+pub fn of_last_trouble<S: Troubled>(alloc: Global, watched: &S) -> Option<Frame> {
+    match watched.trouble() {
+        Some(trouble) => {
+            if trouble.is_last() {
+                return Some(of_trouble(alloc, trouble));
+            }
+            None
+        }
+        None => None,
+    }
+}
