@@ -73,7 +73,7 @@ fn told(alloc: Global, answer: Result<u64, SlotError>) -> Frame {
         Err(SlotError::Refused(why)) => with_numbers(
             alloc,
             Numbers {
-                b: number_of(why),
+                a: number_of(why),
                 ..only(20)
             },
         ),
