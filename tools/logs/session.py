@@ -12,15 +12,18 @@ VERSION = 1
 HEAD = struct.Struct("<IIIIQQQII")
 LONGEST = 65536
 # The calls.
-BEGIN, SET_NUMBER, SET_NONE, SET_DURATION, SET_TYPE, ADD_ATTRIBUTE, REQUIRE_KEY, SET_TIME, SET_CLOCK_FAULT = range(1, 10)
-SEND, CLOSE, ABANDON, GET_SERVICE, GET_NUMBER, GET_DURATION, GET_TYPE, GET_TYPE_NAME, GET_NAME = range(10, 19)
-GET_HASH, GET_ATTRIBUTE_COUNT, GET_ATTRIBUTE, GET_BYTES, LIST, GET_ENTRY, LINE, NODES, GET_NODE, CLEAN = range(19, 29)
+BEGIN, SET_NUMBER, SET_DURATION, SEND, CLOSE = 1, 2, 4, 10, 11
+GET_SERVICE, GET_NUMBER, GET_NAME, GET_HASH, GET_BYTES = 13, 14, 18, 19, 22
+LIST, LINE, NODES, GET_NODE, CLEAN = 23, 25, 26, 27, 28
 # The codes.
-OK, TOO_MANY, UNKNOWN_CALL, NO_REQUEST, SLOT_IN_USE, SLOT_EMPTY, NO_SUCH_ITEM = 0, 11, 14, 15, 17, 18, 19
+OK, BAD_VALUE, TOO_MANY, UNKNOWN_CALL, NO_REQUEST = 0, 8, 11, 14, 15
+NO_SUCH_SLOT, SLOT_IN_USE, SLOT_EMPTY, NO_SUCH_ITEM = 16, 17, 18, 19
 REFUSED, OTHER_NODE, LOG, NODE_IN_USE, BAD_LINE, NODE_ALIVE = 20, 25, 26, 29, 31, 32
-# What the header for C has: a pattern, how a service is wanted, a setting, and a refusal of an open.
+# What the header for C has: a pattern, how a service is wanted, settings, and the refusals of an open of events.
 EVENT, CREATE, OPEN = 1, 1, 2
 MAX_NODES, MAX_LISTENERS, DEADLINE = 1, 102, 121
+# DoesNotSupportRequestedAmountOfListeners and ExceedsMaxNumberOfNodes, by their places in docs/REFUSALS.md.
+TOO_FEW_LISTENERS, TOO_MANY_NODES = 1013, 1016
 
 
 class Client:
@@ -85,7 +88,7 @@ def begin(client, how, node, name=NAME, **settings):
 def shown(runs, path):
     """What the command show has of the service, as another process sees it. Nothing where there is none."""
     ran = runs.ran([runs.program, "show", "--at", str(path), "--json", NAME])
-    return json.loads("".join(ran.out)) if ran.status == 0 else None
+    return json.loads("".join(ran.out))["service"] if ran.status == 0 else None
 
 
 def check_shown(runs, path, alive, what):
@@ -124,9 +127,10 @@ def check_misuse(runs, client, node):
     """What is no call, or not this session's, changes nothing and has its code."""
     runs.need(client.code(0) == UNKNOWN_CALL, "the call 0 is known")
     runs.need(client.code(1000) == UNKNOWN_CALL, "the call 1000 is known")
-    runs.need(client.code(BEGIN, a=EVENT, b=OPEN, x=node + 1, first=b"x") == OTHER_NODE, "another node's request is begun")
+    another = client.code(BEGIN, a=EVENT, b=OPEN, x=node + 1, first=b"x")
+    runs.need(another == OTHER_NODE, f"another node's request is answered by {another}")
     runs.need(client.code(SEND, a=5) == NO_REQUEST, "a request that wasn't begun is sent")
-    runs.need(client.code(SEND, a=64) == 16, "a request is sent for slot 64")
+    runs.need(client.code(SEND, a=64) == NO_SUCH_SLOT, "a request is sent for slot 64")
     check_line(runs, client, "nonsense", (BAD_LINE, client.call(LINE, first=b"nonsense")[7].decode()))
     check_line(runs, client, "", (OK, ""))
     check_line(runs, client, f"event open {node + 1} 9 x", (OK, f"node {node + 1} is not this program's\n"))
@@ -143,10 +147,10 @@ def check_dead(runs, path, client):
     runs.need(client.code(CLEAN, a=1, x=7) == NO_SUCH_ITEM, "a node that was never claimed is cleaned up for")
     before = path.read_bytes()
     dry = client.call(CLEAN, b=1)
-    runs.need(dry[:1] + dry[4:7] == (OK, 1, 1, 0), f"a dry run of cleaning tells {dry}")
+    runs.need(dry[:1] + dry[4:7] == (OK, 1, 1, 1), f"a dry run of cleaning tells {dry}")
     runs.need(path.read_bytes() == before, "a dry run of cleaning changed the log")
     cleaned = client.call(CLEAN)
-    runs.need(cleaned[:1] + cleaned[4:7] == (OK, 1, 1, 0), f"cleaning tells {cleaned}")
+    runs.need(cleaned[:1] + cleaned[4:7] == (OK, 1, 1, 1), f"cleaning tells {cleaned}")
     check_shown(runs, path, {1: True}, "after a clean")
 
 
@@ -158,7 +162,7 @@ def check_blocked(runs, path, maker):
     third = Client(runs, path, "--node", "3")
     begin(third, OPEN, 3)
     refused = third.call(SEND, a=0)
-    runs.need(refused[0] == REFUSED and refused[1] // 1000 == 1, f"a third node is answered by {refused}")
+    runs.need(refused[:2] == (REFUSED, TOO_MANY_NODES), f"a third node is answered by {refused}")
     opener.kill()
     begin(third, OPEN, 3)
     runs.need(third.code(SEND, a=0) == OK, "a node isn't taken in place of one that is dead")
@@ -175,11 +179,13 @@ def check_starts(runs, path):
     runs.need(again.end() == (FAULT, b"", b""), "a session whose node is in use ends otherwise")
     other = runs.file("session_of_no_log", b"no log at all, but a text that is long enough to be read as one")
     none = Client(runs, other, "--node", "1")
-    runs.need(none.first is not None and none.first[0] == LOG and b"no log" in none.first[7], f"no log is answered by {none.first}")
+    told = none.first is not None and none.first[0] == LOG and b"no log" in none.first[7]
+    runs.need(told, f"no log is answered by {none.first}")
     runs.need(none.end() == (FAULT, b"", b""), "a session over no log ends otherwise")
     long = Client(runs, path)
     runs.need(long.first is not None and long.first[:2] == (OK, VERSION), f"a session begins by {long.first}")
-    long.put(LINE, first=b"a" * (LONGEST + 1))
+    long.process.stdin.write(HEAD.pack(LINE, 0, 0, 0, 0, 0, 0, LONGEST + 1, 0))
+    long.process.stdin.flush()
     reply = long.reply()
     runs.need(reply is not None and reply[0] == TOO_MANY, f"a text that is too long is answered by {reply}")
     runs.need(long.end()[0] == FAULT, "a session with too long a text ends with another status")
@@ -192,9 +198,10 @@ def sessions(runs):
     """Sessions of several programs over one log, of which one is killed."""
     path = runs.file("session")
     maker = Client(runs, path, "--node", "1")
-    runs.need(maker.first is not None and maker.first[:2] == (OK, VERSION) and maker.first[4] == 1, f"a session begins by {maker.first}")
+    begun = maker.first is not None and maker.first[:2] == (OK, VERSION) and maker.first[4] == 1
+    runs.need(begun, f"a session begins by {maker.first}")
     begin(maker, CREATE, 1, nodes=(MAX_NODES, 2), listeners=(MAX_LISTENERS, 4))
-    runs.need(maker.code(SET_DURATION, a=DEADLINE, x=1, b=1_000_000_000) == 8, "a second has 1000000000 nanoseconds")
+    runs.need(maker.code(SET_DURATION, a=DEADLINE, x=1, b=1_000_000_000) == BAD_VALUE, "a second has 1000000000 nanoseconds")
     created = maker.call(SEND, a=0)
     runs.need((created[0], created[4]) == (OK, 0), f"a create is answered by {created}")
     check_agreed(runs, maker, 0, 4)
@@ -206,7 +213,7 @@ def sessions(runs):
     opener = Client(runs, path, "--node", "2")
     begin(opener, OPEN, 2, listeners=(MAX_LISTENERS, 5))
     refused = opener.call(SEND, a=0)
-    runs.need(refused[0] == REFUSED and refused[1] // 1000 == 1, f"an open for too many listeners is answered by {refused}")
+    runs.need(refused[:2] == (REFUSED, TOO_FEW_LISTENERS), f"an open for too many listeners is answered by {refused}")
     begin(opener, OPEN, 2, listeners=(MAX_LISTENERS, 3))
     runs.need(opener.code(SEND, a=0) == OK, "an open isn't taken")
     check_shown(runs, path, {1: True, 2: True}, "with two nodes")

@@ -1,1 +1,4 @@
 pub mod Replies
+pub mod Pieces
+pub mod Given
+pub mod Copies

@@ -1,5 +1,9 @@
 //! The calls by which it is read what was agreed on in a slot.
 
+ghost use Rattle.iceoryx2_session.specs.SessionStates.{own_state};
+ghost use Rattle.iceoryx2_session.specs.Slots.{held_at};
+ghost use Rattle.wulameron_calls.specs.Given.{GivesCount, GivesNumber, GivesText, GivesTime, name_of, hash_of};
+
 use crate::replies::{DONE, OUT_OF_MEMORY, only, with_code, with_numbers, with_text, with_texts};
 use iceoryx2_byte_form::bytes::encode;
 use iceoryx2_session::world_storage::WorldStorage;
@@ -27,7 +31,10 @@ pub fn service<S: WorldStorage>(alloc: Global, state: &State<S>, call: &Frame) -
 }
 
 /// What was agreed on of a setting that is a number or a flag.
-pub fn number<S: WorldStorage>(alloc: Global, state: &State<S>, call: &Frame) -> Frame {
+pub fn number<S: WorldStorage>(alloc: Global, state: &State<S>, call: &Frame) -> Frame
+    ensures { GivesNumber call.now.numbers result
+        (held_at (own_state state.now.session).slots call.now.numbers.a) }
+{
     let mut value = 0;
     let slot = call.numbers.a as usize;
     let code = agreed::number(state, slot, call.numbers.b, &mut value);
@@ -41,7 +48,10 @@ pub fn number<S: WorldStorage>(alloc: Global, state: &State<S>, call: &Frame) ->
 }
 
 /// What was agreed on of a setting that is a length of time.
-pub fn time<S: WorldStorage>(alloc: Global, state: &State<S>, call: &Frame) -> Frame {
+pub fn time<S: WorldStorage>(alloc: Global, state: &State<S>, call: &Frame) -> Frame
+    ensures { GivesTime call.now.numbers result
+        (held_at (own_state state.now.session).slots call.now.numbers.a) }
+{
     let mut seconds = 0;
     let mut nanoseconds = 0;
     let slot = call.numbers.a as usize;
@@ -90,7 +100,10 @@ pub fn type_name<S: WorldStorage>(alloc: Global, state: &State<S>, call: &Frame)
 }
 
 /// The service's name.
-pub fn name<S: WorldStorage>(alloc: Global, state: &State<S>, call: &Frame) -> Frame {
+pub fn name<S: WorldStorage>(alloc: Global, state: &State<S>, call: &Frame) -> Frame
+    ensures { GivesText name_of call.now.numbers.a result
+        (held_at (own_state state.now.session).slots call.now.numbers.a) }
+{
     let slot = call.numbers.a as usize;
     match reading::agreed(&state.session, slot) {
         Some(description) => with_text(alloc, description.name().as_str().as_bytes()),
@@ -99,7 +112,10 @@ pub fn name<S: WorldStorage>(alloc: Global, state: &State<S>, call: &Frame) -> F
 }
 
 /// The service's hash.
-pub fn hash<S: WorldStorage>(alloc: Global, state: &State<S>, call: &Frame) -> Frame {
+pub fn hash<S: WorldStorage>(alloc: Global, state: &State<S>, call: &Frame) -> Frame
+    ensures { GivesText hash_of call.now.numbers.a result
+        (held_at (own_state state.now.session).slots call.now.numbers.a) }
+{
     let slot = call.numbers.a as usize;
     match reading::agreed(&state.session, slot) {
         Some(description) => with_text(alloc, description.service_hash().as_bytes()),
@@ -108,7 +124,10 @@ pub fn hash<S: WorldStorage>(alloc: Global, state: &State<S>, call: &Frame) -> F
 }
 
 /// How many attributes the service has.
-pub fn attribute_count<S: WorldStorage>(alloc: Global, state: &State<S>, call: &Frame) -> Frame {
+pub fn attribute_count<S: WorldStorage>(alloc: Global, state: &State<S>, call: &Frame) -> Frame
+    ensures { GivesCount call.now.numbers.a result
+        (held_at (own_state state.now.session).slots call.now.numbers.a) }
+{
     let mut count = 0;
     let code = agreed::attributes(state, call.numbers.a as usize, &mut count);
     with_numbers(

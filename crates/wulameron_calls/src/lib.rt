@@ -2,6 +2,7 @@
 #![tactic(auto)]
 
 pub mod agreed;
+pub mod copying;
 pub mod listing;
 pub mod pieces;
 pub mod replies;

@@ -1,1 +1,2 @@
-pub mod Session
+pub mod Codes
+pub mod Sending

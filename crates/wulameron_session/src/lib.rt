@@ -2,7 +2,6 @@
 #![tactic(auto)]
 
 pub mod cleaning;
-pub mod copying;
 pub mod log_nodes;
 pub mod node_session;
 pub mod sending;

@@ -1,10 +1,17 @@
 //! The call by which a request is sent.
 
-use crate::copying::copy_of;
+ghost use Rattle.std.specs.Prelude.{◌≡◌, ℕ, IfErr, IfSome};
+ghost use Rattle.iceoryx2_session.specs.SessionStates.{own_state};
+ghost use Rattle.wulameron_calls.specs.Copies.{IsCopyOf};
+ghost use Rattle.wulameron_serve.specs.Shared.{StandsFor};
+ghost use Rattle.wulameron_session.specs.Codes.{TellsSent};
+ghost use Rattle.wulameron_session.specs.Sending.{IsNoFreeSlot, Makes, MakesAgain, SendsFor};
+
 use iceoryx2_commands::command::{Call, Command, Reply, SLOTS};
 use iceoryx2_session::session::Session;
 use iceoryx2_session::world_storage::WorldStorage;
 use std::alloc::Global;
+use wulameron_calls::copying::copy_of;
 use wulameron_calls::replies::{DONE, OTHER_NODE, only, with_code, with_numbers};
 use wulameron_clean::dead::DeadNodes;
 use wulameron_frame::frame::{Frame, Numbers};
@@ -14,13 +21,25 @@ use wulameron_state::error::{SlotError, sent};
 use wulameron_state::state::State;
 
 /// Whether a request may go for the slot.
-fn test_slot<S: WorldStorage>(session: &Session<S>, slot: usize) -> Result<(), SlotError> {
+fn test_slot<S: WorldStorage>(session: &Session<S>, slot: usize) -> Result<(), SlotError>
+    ensures { IfErr result (IsNoFreeSlot (own_state session.now).slots slot) }
+{
     if slot >= SLOTS {
         return Err(SlotError::NoSuchSlot);
     }
     match session.registration(slot) {
         Some(_) => Err(SlotError::SlotInUse),
         None => Ok(()),
+    }
+}
+
+/// A copy of a call, where there is memory for it.
+fn kept_copy(alloc: Global, call: &Call) -> Option<Call>
+    ensures { IsCopyOf call.now result }
+{
+    match copy_of(alloc, call) {
+        Ok(copy) => Some(copy),
+        Err(_) => None,
     }
 }
 
@@ -31,7 +50,12 @@ fn call_again<S: WorldStorage, D: DeadNodes>(
     dead: &D,
     refused: Reply,
     copy: Option<Call>,
-) -> Reply {
+) -> Reply
+    ensures makes { MakesAgain S.step S.world S.own refused copy (own_state session.old) result
+        (own_state session.new) }
+    ensures stands { (node : ℕ) → IfSome copy (λ call. call.node ≡ node)
+        → StandsFor S.world S.own node (own_state session.old) → StandsFor S.world S.own node (own_state session.new) }
+{
     if !clean_dead(alloc, session, dead) {
         return refused;
     }
@@ -48,11 +72,12 @@ fn make<S: WorldStorage, D: DeadNodes>(
     session: &mut Session<S>,
     dead: &D,
     call: Call,
-) -> Reply {
-    let copy = match copy_of(alloc, &call) {
-        Ok(copy) => Some(copy),
-        Err(_) => None,
-    };
+) -> Reply
+    ensures makes { Makes S.step S.world S.own call (own_state session.old) result (own_state session.new) }
+    ensures stands { StandsFor S.world S.own call.node (own_state session.old)
+        → StandsFor S.world S.own call.node (own_state session.new) }
+{
+    let copy = kept_copy(alloc, &call);
     let reply = session.carry_out(Command::Call(call));
     if is_blocked(&reply) {
         return call_again(alloc, session, dead, reply, copy);
@@ -61,7 +86,9 @@ fn make<S: WorldStorage, D: DeadNodes>(
 }
 
 /// What is told of a request that was sent.
-fn told(alloc: Global, answer: Result<u64, SlotError>) -> Frame {
+fn told(alloc: Global, answer: Result<u64, SlotError>) -> Frame
+    ensures { TellsSent answer result }
+{
     match answer {
         Ok(number) => with_numbers(
             alloc,
@@ -70,14 +97,16 @@ fn told(alloc: Global, answer: Result<u64, SlotError>) -> Frame {
                 ..only(DONE)
             },
         ),
-        Err(SlotError::Refused(why)) => with_numbers(
-            alloc,
-            Numbers {
-                a: number_of(why),
-                ..only(20)
-            },
-        ),
-        Err(error) => with_code(alloc, error.code()),
+        Err(error) => match error {
+            SlotError::Refused(why) => with_numbers(
+                alloc,
+                Numbers {
+                    a: number_of(why),
+                    ..only(error.code())
+                },
+            ),
+            _ => with_code(alloc, error.code()),
+        },
     }
 }
 
@@ -88,7 +117,12 @@ pub fn send<S: WorldStorage, D: DeadNodes>(
     state: &mut State<S>,
     dead: &D,
     call: &Frame,
-) -> Frame {
+) -> Frame
+    ensures sends { SendsFor S.step S.world S.own node call.now.numbers.a (own_state state.old.session) result
+        state.old.pending (own_state state.new.session) state.new.pending }
+    ensures stands { StandsFor S.world S.own node (own_state state.old.session)
+        → StandsFor S.world S.own node (own_state state.new.session) }
+{
     let slot = call.numbers.a as usize;
     if let Err(error) = test_slot(&state.session, slot) {
         return with_code(alloc, error.code());

@@ -1,11 +1,18 @@
 //! A copy of a request.
 
-use iceoryx2_commands::command::{Call, PublishSubscribeSetter, RequestResponseSetter, Settings};
+ghost use Rattle.std.specs.Prelude.{◌≡◌, IfOk};
+ghost use Rattle.wulameron_calls.specs.Copies.{IsCopy, SameSettings};
+
+use iceoryx2_commands::command::{
+    Call, EventSetter, PublishSubscribeSetter, RequestResponseSetter, Settings,
+};
 use std::alloc::{AllocError, Global};
 
 fn copy_of_publish_subscribe(
     setter: &PublishSubscribeSetter,
-) -> Result<PublishSubscribeSetter, AllocError> {
+) -> Result<PublishSubscribeSetter, AllocError>
+    ensures { IfOk result (λ copy. copy ≡ setter.now) }
+{
     match setter {
         PublishSubscribeSetter::MaxPublishers(value) => Ok(PublishSubscribeSetter::MaxPublishers(
             *value,
@@ -40,7 +47,9 @@ fn copy_of_publish_subscribe(
 
 fn copy_of_request_response(
     setter: &RequestResponseSetter,
-) -> Result<RequestResponseSetter, AllocError> {
+) -> Result<RequestResponseSetter, AllocError>
+    ensures { IfOk result (λ copy. copy ≡ setter.now) }
+{
     match setter {
         RequestResponseSetter::EnableSafeOverflowForRequests(value) => Ok(
             RequestResponseSetter::EnableSafeOverflowForRequests(*value),
@@ -90,7 +99,9 @@ fn copy_of_request_response(
 fn copies_of_publish_subscribe(
     alloc: Global,
     setters: &[PublishSubscribeSetter],
-) -> Result<Vec<PublishSubscribeSetter>, AllocError> {
+) -> Result<Vec<PublishSubscribeSetter>, AllocError>
+    ensures { IfOk result (λ copies. copies.items ≡ setters.now) }
+{
     let mut copies = Vec::new(alloc);
     for setter in setters {
         copies.push(copy_of_publish_subscribe(setter)?)?;
@@ -101,7 +112,9 @@ fn copies_of_publish_subscribe(
 fn copies_of_request_response(
     alloc: Global,
     setters: &[RequestResponseSetter],
-) -> Result<Vec<RequestResponseSetter>, AllocError> {
+) -> Result<Vec<RequestResponseSetter>, AllocError>
+    ensures { IfOk result (λ copies. copies.items ≡ setters.now) }
+{
     let mut copies = Vec::new(alloc);
     for setter in setters {
         copies.push(copy_of_request_response(setter)?)?;
@@ -109,9 +122,19 @@ fn copies_of_request_response(
     Ok(copies)
 }
 
-fn copy_of_settings(alloc: Global, settings: &Settings) -> Result<Settings, AllocError> {
+fn copies_of_events(alloc: Global, setters: &[EventSetter]) -> Result<Vec<EventSetter>, AllocError>
+    ensures { IfOk result (λ copies. copies.items ≡ setters.now) }
+{
+    let mut copies = Vec::new(alloc);
+    copies.extend_from_slice(setters)?;
+    Ok(copies)
+}
+
+fn copy_of_settings(alloc: Global, settings: &Settings) -> Result<Settings, AllocError>
+    ensures { IfOk result (SameSettings settings.now) }
+{
     match settings {
-        Settings::Event(setters) => Ok(Settings::Event(setters.clone()?)),
+        Settings::Event(setters) => Ok(Settings::Event(copies_of_events(alloc, setters)?)),
         Settings::PublishSubscribe(setters) => Ok(Settings::PublishSubscribe(
             copies_of_publish_subscribe(alloc, setters)?,
         )),
@@ -122,7 +145,9 @@ fn copy_of_settings(alloc: Global, settings: &Settings) -> Result<Settings, Allo
 }
 
 /// A copy of a request. `AllocError` where there was no memory.
-pub fn copy_of(alloc: Global, call: &Call) -> Result<Call, AllocError> {
+pub fn copy_of(alloc: Global, call: &Call) -> Result<Call, AllocError>
+    ensures { IfOk result (IsCopy call.now) }
+{
     let settings = copy_of_settings(alloc, &call.settings)?;
     let name = call.name.clone()?;
     let attributes = call.attributes.clone()?;
