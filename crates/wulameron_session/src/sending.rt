@@ -1,12 +1,5 @@
 //! The call by which a request is sent.
 
-ghost use Rattle.std.specs.Prelude.{◌≡◌, ℕ, IfErr, IfSome};
-ghost use Rattle.iceoryx2_session.specs.SessionStates.{own_state};
-ghost use Rattle.wulameron_calls.specs.Copies.{IsCopyOf};
-ghost use Rattle.wulameron_serve.specs.Shared.{StandsFor};
-ghost use Rattle.wulameron_session.specs.Codes.{TellsSent};
-ghost use Rattle.wulameron_session.specs.Sending.{IsNoFreeSlot, Makes, MakesAgain, SendsFor};
-
 use iceoryx2_commands::command::{Call, Command, Reply, SLOTS};
 use iceoryx2_session::session::Session;
 use iceoryx2_session::world_storage::WorldStorage;
@@ -21,9 +14,7 @@ use wulameron_state::error::{SlotError, sent};
 use wulameron_state::state::State;
 
 /// Whether a request may go for the slot.
-fn test_slot<S: WorldStorage>(session: &Session<S>, slot: usize) -> Result<(), SlotError>
-    ensures { IfErr result (IsNoFreeSlot (own_state session.now).slots slot) }
-{
+fn test_slot<S: WorldStorage>(session: &Session<S>, slot: usize) -> Result<(), SlotError> {
     if slot >= SLOTS {
         return Err(SlotError::NoSuchSlot);
     }
@@ -34,9 +25,7 @@ fn test_slot<S: WorldStorage>(session: &Session<S>, slot: usize) -> Result<(), S
 }
 
 /// A copy of a call, where there is memory for it.
-fn kept_copy(alloc: Global, call: &Call) -> Option<Call>
-    ensures { IsCopyOf call.now result }
-{
+fn kept_copy(alloc: Global, call: &Call) -> Option<Call> {
     match copy_of(alloc, call) {
         Ok(copy) => Some(copy),
         Err(_) => None,
@@ -50,12 +39,7 @@ fn call_again<S: WorldStorage, D: DeadNodes>(
     dead: &D,
     refused: Reply,
     copy: Option<Call>,
-) -> Reply
-    ensures makes { MakesAgain S.step S.world S.own refused copy (own_state session.old) result
-        (own_state session.new) }
-    ensures stands { (node : ℕ) → IfSome copy (λ call. call.node ≡ node)
-        → StandsFor S.world S.own node (own_state session.old) → StandsFor S.world S.own node (own_state session.new) }
-{
+) -> Reply {
     if !clean_dead(alloc, session, dead) {
         return refused;
     }
@@ -72,11 +56,7 @@ fn make<S: WorldStorage, D: DeadNodes>(
     session: &mut Session<S>,
     dead: &D,
     call: Call,
-) -> Reply
-    ensures makes { Makes S.step S.world S.own call (own_state session.old) result (own_state session.new) }
-    ensures stands { StandsFor S.world S.own call.node (own_state session.old)
-        → StandsFor S.world S.own call.node (own_state session.new) }
-{
+) -> Reply {
     let copy = kept_copy(alloc, &call);
     let reply = session.carry_out(Command::Call(call));
     if is_blocked(&reply) {
@@ -86,9 +66,7 @@ fn make<S: WorldStorage, D: DeadNodes>(
 }
 
 /// What is told of a request that was sent.
-fn told(alloc: Global, answer: Result<u64, SlotError>) -> Frame
-    ensures { TellsSent answer result }
-{
+fn told(alloc: Global, answer: Result<u64, SlotError>) -> Frame {
     match answer {
         Ok(number) => with_numbers(
             alloc,
@@ -117,12 +95,7 @@ pub fn send<S: WorldStorage, D: DeadNodes>(
     state: &mut State<S>,
     dead: &D,
     call: &Frame,
-) -> Frame
-    ensures sends { SendsFor S.step S.world S.own node call.now.numbers.a (own_state state.old.session) result
-        state.old.pending (own_state state.new.session) state.new.pending }
-    ensures stands { StandsFor S.world S.own node (own_state state.old.session)
-        → StandsFor S.world S.own node (own_state state.new.session) }
-{
+) -> Frame {
     let slot = call.numbers.a as usize;
     if let Err(error) = test_slot(&state.session, slot) {
         return with_code(alloc, error.code());
