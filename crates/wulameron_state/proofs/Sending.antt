@@ -1,14 +1,17 @@
 -- How the request that is pending is sent.
-use Rattle.std.proofs.Common.{◌≡◌, ℕ, Option, Some, None, Result, Ok, Err, sym, subst}
+use Rattle.std.proofs.Common.{◌≡◌, ℕ, Bool, Option, Some, None, Result, Ok, Err, refl, sym, subst}
+use Rattle.iceoryx2_description.specs.declared.config.Config.{Config}
+use Rattle.iceoryx2_world.specs.Interference.{everyone}
 use Rattle.iceoryx2_commands.specs.declared.command.Call.{Call}
 use Rattle.iceoryx2_commands.specs.declared.command.Command.{Command}
 use Rattle.iceoryx2_commands.specs.declared.command.Command.TheVariants as command
 use Rattle.iceoryx2_access.specs.Letter.{Letter}
 use Rattle.iceoryx2_session.specs.Sessions.{SessionOver}
+use Rattle.iceoryx2_session.specs.StandingSlots.{IsOfOwn}
 use Rattle.iceoryx2_world.specs.World.{World}
 use Rattle.wulameron_request.specs.Pending.{for_slot}
 use Rattle.wulameron_state.specs.Slots.{sent}
-use Rattle.wulameron_state.specs.States.{GoesAs, Sends, nothing, goes}
+use Rattle.wulameron_state.specs.States.{GoesAs, IsOfOwnNode, Sends, nothing, goes}
 use Rattle.wulameron_state.specs.declared.error.SlotError.{SlotError}
 use Rattle.wulameron_state.specs.declared.error.SlotError.TheVariants.{NoRequest}
 
@@ -33,3 +36,15 @@ module _ {S : Type 0} {step : S → Letter → S → Type 0} {world : S → Worl
       let same : call ≡ record own { slot = slot } = same_call call (record own { slot = slot }) is in
       subst (λ (o : Option Call). Sends step world old slot (Some own) answer new o) (sym after)
       (goes (subst (λ (c : Call). GoesAs step world sent old (command.Call c) answer new) same so))
+
+-- the requests of any node, where each is an own one
+pub of_everyone : (config : Config) (pending : Option Call) → IsOfOwnNode everyone config pending
+of_everyone config None = tt
+of_everyone config (Some call) = refl
+
+-- the request that is sent is of an own node where the one that was pending is
+pub of_own_sent : (own : ℕ → Bool) (config : Config) (slot : ℕ) (pending : Option Call) (call : Call) → Some call ≡ for_slot slot pending
+    → IsOfOwnNode own config pending → IsOfOwn own config (command.Call call)
+of_own_sent own config slot None call is of_own = absurd cc
+of_own_sent own config slot (Some given) call is of_own =
+    subst (λ (c : Call). IsOfOwn own config (command.Call c)) (sym (same_call call (record given { slot = slot }) is)) of_own

@@ -1,6 +1,7 @@
 use Rattle.std.proofs.Common.{sym, arith}
 use Rattle.wulameron_state.specs.States.{no_slot, in_use}
-use Rattle.wulameron_state.proofs.Sending.{not_sent, is_sent}
+use Rattle.iceoryx2_session.specs.SessionStates.{own_nodes, own_state}
+use Rattle.wulameron_state.proofs.Sending.{not_sent, is_sent, of_own_sent}
 use Rattle.wulameron_state.proofs.state.send.Goals as goal
 
 pub returns-then-slot-ge-SLOTS-clause-sends : goal.returns-then-slot-ge-SLOTS-clause-sends
@@ -15,3 +16,10 @@ returns-in-None-clause-sends g c = not_sent c.args.pending.now c.take.new.self c
 pub returns-in-Some-clause-sends : goal.returns-in-Some-clause-sends
 returns-in-Some-clause-sends g c = is_sent c.args.pending.now c.take.new.self c.in-Some.call c.in-Some.ensures.taken c.take.ensures.after
     (c.carry_out-reply.result, c.carry_out-reply.ensures.own, c.sent.ensures)
+
+pub returns-in-Some-clause-stands : goal.returns-in-Some-clause-stands
+returns-in-Some-clause-stands g c = λ before of_own. (
+  c.carry_out-reply.ensures.agrees before.0,
+  c.carry_out-reply.ensures.stands before.0 before.1
+      (of_own_sent (own_nodes g.S.WorldStorage.own c.args.session.now) (own_state c.args.session.now).config c.args.slot c.args.pending.now c.in-Some.call c.in-Some.ensures.taken of_own),
+)
