@@ -6,4 +6,5 @@ pub mod Requests
 pub mod Pending
 pub mod Reading
 pub mod Refusals
+pub mod Numbered
 pub mod Codes

@@ -1,5 +1,5 @@
--- The number of each refusal: a thousand for the error's enum, and the place in it, counted from 1. Numbers are never used
--- again.
+-- The number of each refusal: a thousand for the error's enum, and the place in it, counted from 1. Numbers are never
+-- used again.
 use Rattle.std.specs.Prelude.{ℕ, ◌+◌}
 use Rattle.iceoryx2_commands.specs.declared.command.Refusal.{Refusal}
 use Rattle.iceoryx2_commands.specs.declared.command.Refusal.TheVariants as refusal
@@ -93,8 +93,10 @@ publish_subscribe_create publish_subscribe_create_error.OutOfMemory = 8
 
 -- the number of an error of open or create for publish-subscribe: its create's are 500 above its open's
 abbrev pub publish_subscribe_open_or_create : PublishSubscribeOpenOrCreateError → ℕ
-publish_subscribe_open_or_create (publish_subscribe_open_or_create_error.PublishSubscribeOpenError error) = 6000 + publish_subscribe_open error
-publish_subscribe_open_or_create (publish_subscribe_open_or_create_error.PublishSubscribeCreateError error) = 6500 + publish_subscribe_create error
+publish_subscribe_open_or_create (publish_subscribe_open_or_create_error.PublishSubscribeOpenError error) =
+    6000 + publish_subscribe_open error
+publish_subscribe_open_or_create (publish_subscribe_open_or_create_error.PublishSubscribeCreateError error) =
+    6500 + publish_subscribe_create error
 publish_subscribe_open_or_create publish_subscribe_open_or_create_error.SystemInFlux = 6999
 
 -- the place of an error of open for request-response
@@ -134,8 +136,10 @@ request_response_create request_response_create_error.OutOfMemory = 7
 
 -- the number of an error of open or create for request-response: its create's are 500 above its open's
 abbrev pub request_response_open_or_create : RequestResponseOpenOrCreateError → ℕ
-request_response_open_or_create (request_response_open_or_create_error.RequestResponseOpenError error) = 9000 + request_response_open error
-request_response_open_or_create (request_response_open_or_create_error.RequestResponseCreateError error) = 9500 + request_response_create error
+request_response_open_or_create (request_response_open_or_create_error.RequestResponseOpenError error) =
+    9000 + request_response_open error
+request_response_open_or_create (request_response_open_or_create_error.RequestResponseCreateError error) =
+    9500 + request_response_create error
 request_response_open_or_create request_response_open_or_create_error.SystemInFlux = 9999
 
 -- the number of a refusal

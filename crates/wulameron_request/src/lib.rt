@@ -8,6 +8,7 @@
 
 pub mod error;
 pub mod events;
+pub mod numbered;
 pub mod pending;
 pub mod publish_subscribe;
 pub mod reading;
