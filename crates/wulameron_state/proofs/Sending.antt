@@ -37,14 +37,15 @@ module _ {S : Type 0} {step : S → Letter → S → Type 0} {world : S → Worl
       subst (λ (o : Option Call). Sends step world old slot (Some own) answer new o) (sym after)
       (goes (subst (λ (c : Call). GoesAs step world sent old (command.Call c) answer new) same so))
 
+-- the call of a request of an own node is of that node, for whatever slot
+pub own_call : (own : ℕ → Bool) (config : Config) (slot : ℕ) (pending : Option Call) (call : Call) → Some call ≡ for_slot slot pending
+    → IsOfOwnNode own config pending → IsOfOwn own config (command.Call call)
+own_call own config slot None call is mine = absurd cc
+own_call own config slot (Some p) call is mine =
+    let same : call ≡ record p { slot = slot } = same_call call (record p { slot = slot }) is in
+    subst (λ (c : Call). IsOfOwn own config (command.Call c)) (sym same) mine
+
 -- the requests of any node, where each is an own one
 pub of_everyone : (config : Config) (pending : Option Call) → IsOfOwnNode everyone config pending
 of_everyone config None = tt
 of_everyone config (Some call) = refl
-
--- the request that is sent is of an own node where the one that was pending is
-pub of_own_sent : (own : ℕ → Bool) (config : Config) (slot : ℕ) (pending : Option Call) (call : Call) → Some call ≡ for_slot slot pending
-    → IsOfOwnNode own config pending → IsOfOwn own config (command.Call call)
-of_own_sent own config slot None call is of_own = absurd cc
-of_own_sent own config slot (Some given) call is of_own =
-    subst (λ (c : Call). IsOfOwn own config (command.Call c)) (sym (same_call call (record given { slot = slot }) is)) of_own

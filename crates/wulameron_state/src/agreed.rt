@@ -105,7 +105,12 @@ pub fn type_name<S: WorldStorage>(
 }
 
 /// The service's name.
-pub fn name<S: WorldStorage>(state: &State<S>, slot: usize, output: &mut [u8], written: &mut usize) -> u32 {
+pub fn name<S: WorldStorage>(
+    state: &State<S>,
+    slot: usize,
+    output: &mut [u8],
+    written: &mut usize,
+) -> u32 {
     match agreed(&state.session, slot) {
         Some(description) => write_text(description.name().as_str().as_bytes(), output, written),
         None => code_of_empty(slot),
@@ -113,7 +118,12 @@ pub fn name<S: WorldStorage>(state: &State<S>, slot: usize, output: &mut [u8], w
 }
 
 /// The service's hash.
-pub fn hash<S: WorldStorage>(state: &State<S>, slot: usize, output: &mut [u8], written: &mut usize) -> u32 {
+pub fn hash<S: WorldStorage>(
+    state: &State<S>,
+    slot: usize,
+    output: &mut [u8],
+    written: &mut usize,
+) -> u32 {
     match agreed(&state.session, slot) {
         Some(description) => write_text(description.service_hash().as_bytes(), output, written),
         None => code_of_empty(slot),

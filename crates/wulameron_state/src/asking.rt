@@ -151,7 +151,12 @@ pub fn set_clock_fault<S>(state: &mut State<S>) -> u32
 }
 
 /// `state::send`: the service's number, or with code 20 the refusal's, is in its place.
-pub fn send<S: WorldStorage>(state: &mut State<S>, slot: usize, number: &mut u64, refusal: &mut u32) -> u32
+pub fn send<S: WorldStorage>(
+    state: &mut State<S>,
+    slot: usize,
+    number: &mut u64,
+    refusal: &mut u32,
+) -> u32
     ensures sends { (answer : Result ℕ SlotError)
         × Sends S.step S.world (own_state state.old.session) slot state.old.pending answer
         (own_state state.new.session) state.new.pending

@@ -1,7 +1,6 @@
 use Rattle.std.proofs.Common.{sym, arith}
 use Rattle.wulameron_state.specs.States.{no_slot, in_use}
-use Rattle.iceoryx2_session.specs.SessionStates.{own_nodes, own_state}
-use Rattle.wulameron_state.proofs.Sending.{not_sent, is_sent, of_own_sent}
+use Rattle.wulameron_state.proofs.Sending.{not_sent, is_sent, own_call}
 use Rattle.wulameron_state.proofs.state.send.Goals as goal
 
 pub returns-then-slot-ge-SLOTS-clause-sends : goal.returns-then-slot-ge-SLOTS-clause-sends
@@ -18,8 +17,8 @@ returns-in-Some-clause-sends g c = is_sent c.args.pending.now c.take.new.self c.
     (c.carry_out-reply.result, c.carry_out-reply.ensures.own, c.sent.ensures)
 
 pub returns-in-Some-clause-stands : goal.returns-in-Some-clause-stands
-returns-in-Some-clause-stands g c = λ before of_own. (
-  c.carry_out-reply.ensures.agrees before.0,
-  c.carry_out-reply.ensures.stands before.0 before.1
-      (of_own_sent (own_nodes g.S.WorldStorage.own c.args.session.now) (own_state c.args.session.now).config c.args.slot c.args.pending.now c.in-Some.call c.in-Some.ensures.taken of_own),
+returns-in-Some-clause-stands g c = λ old mine. (
+  c.carry_out-reply.ensures.agrees old.0,
+  c.carry_out-reply.ensures.stands old.0 old.1 (own_call (g.S.WorldStorage.own c.args.session.now.storage) c.args.session.now.config c.args.slot
+      c.args.pending.now c.in-Some.call c.in-Some.ensures.taken mine),
 )
