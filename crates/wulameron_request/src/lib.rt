@@ -2,8 +2,9 @@
 //!
 //! `Pending`: a request begins with a pattern, a call and a name (`IsBegun`), or a code has why it doesn't
 //! (`BeginsNot`); each piece is put after the others or changes nothing (`Pieces`, `Sets`, `Puts`), and each
-//! setting's number is a row of a table. `number_of` and `code` are tables of refusals and errors. What a service
-//! has of a setting is read by the same numbers.
+//! setting's number is a row of a table. `number_of` and `code` are tables of refusals and errors; `refusal_of` finds
+//! the refusal of a number (`IsNumbered`), and no two have one (`numbers_of_refusals_differ`). What a service has of a
+//! setting is read by the same numbers.
 #![tactic(auto)]
 
 pub mod error;
