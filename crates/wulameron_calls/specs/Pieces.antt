@@ -1,5 +1,5 @@
 -- What the calls make by which a request is put together.
-use Rattle.std.specs.Prelude.{◌≡◌, ℕ, Option, Err}
+use Rattle.std.specs.Prelude.{Option, Err}
 use Rattle.iceoryx2_commands.specs.declared.command.Call.{Call}
 use Rattle.wulameron_frame.specs.declared.frame.Frame.{Frame}
 use Rattle.wulameron_frame.specs.declared.frame.Numbers.{Numbers}

@@ -146,7 +146,7 @@ fn copy_of_settings(alloc: Global, settings: &Settings) -> Result<Settings, Allo
 
 /// A copy of a request. `AllocError` where there was no memory.
 pub fn copy_of(alloc: Global, call: &Call) -> Result<Call, AllocError>
-    ensures { IfOk result (IsCopy call.now) }
+    ensures { IfOk result (IsCopy call.entry.now) }
 {
     let settings = copy_of_settings(alloc, &call.settings)?;
     let name = call.name.clone()?;
