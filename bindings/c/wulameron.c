@@ -400,7 +400,7 @@ const char *wulameron_code_text(uint32_t code)
         "there are the slots 0 to 63", "the slot holds a factory", "the slot holds none", "an index past the end",
         "the call was refused", "the storage didn't release it", "the setting has no value", "the session isn't open",
         "the session is open already", "a request is in the name of the session's own node",
-        "the log can't be opened, or not be used any more", "the program that holds the session has ended",
+        "the log, its folder or a node's file refuses", "the program that holds the session has ended",
         "the program can't be started", "a process that is alive has the node, or no node is free",
         "only a session over a log has nodes", "the line is no command", "the node is alive",
     };

@@ -72,7 +72,7 @@ typedef struct wulameron_session wulameron_session;
 #define WULAMERON_NONE 22u            /* the setting has no value */
 /* Over a log. */
 #define WULAMERON_OTHER_NODE 25u      /* a request is in the name of the session's own node */
-#define WULAMERON_LOG 26u             /* the log can't be opened, or not be used any more: close the session */
+#define WULAMERON_LOG 26u             /* the log, its folder or a node's file refuses: wulameron_get_reply tells why */
 #define WULAMERON_ENDED 27u           /* the program that holds the session has ended, or doesn't answer: close it */
 #define WULAMERON_NO_PROGRAM 28u      /* the program can't be started */
 #define WULAMERON_NODE_IN_USE 29u     /* a process that is alive has the node, or no node is free */

@@ -144,8 +144,8 @@ def killed_program(checks, log, caller, session):
     after = listing(checks, log)
     is_dead = all(nodes.get(dead[0]) is False for nodes in after.values())
     checks.counts(is_dead and len(after) == len(before), f"node {dead[0]} is dead, and the log has {after}")
-    # A place at each service, and a tag of each: the others keep the services.
-    wanted = (1, len(before), len(before))
+    # A place at each service, one more at its own, which it opened too, and a tag of each. The others keep the services.
+    wanted = (1, len(before) + 1, len(before))
     for is_dry_run in (True, False):
         cleaned = session.clean(dead[0], dry_run=is_dry_run)
         checks.counts(cleaned == wanted, f"node {dead[0]} is cleaned up for: {cleaned}, and not {wanted}")
