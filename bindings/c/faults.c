@@ -277,10 +277,10 @@ static void ignored_children(void)
     GIVES(WULAMERON_OK, wulameron_close_session(session));
 }
 
+/* Gives null where no service stands. */
 static void *lists(void *session)
 {
-    CHECK(listed((wulameron_session *)session) == 0);
-    return NULL;
+    return listed((wulameron_session *)session) == 0 ? NULL : session;
 }
 
 /* A call beside another. */
@@ -289,6 +289,7 @@ static void two_threads(void)
     wulameron_session *session = opened(1);
     uint64_t count = 0;
     pid_t program = newest();
+    void *answer = session;
     pthread_t other;
     kill(program, SIGSTOP);
     if (pthread_create(&other, NULL, lists, session) == 0) {
@@ -296,8 +297,9 @@ static void two_threads(void)
         GIVES(WULAMERON_BUSY, wulameron_list(session, &count));
         GIVES(WULAMERON_BUSY, wulameron_close_session(session));
         kill(program, SIGCONT);
-        pthread_join(other, NULL);
+        pthread_join(other, &answer);
     }
+    CHECK(answer == NULL);
     GIVES(WULAMERON_OK, wulameron_close_session(session));
 }
 

@@ -51,7 +51,7 @@ static void answers(wulameron_session *session)
     unsigned long long listeners;
     uint32_t slot = 0;
     while (fgets(line, sizeof line, stdin) != NULL) {
-        if (sscanf(line, "%s %s %llu", how, name, &listeners) != 3) {
+        if (sscanf(line, "%511s %511s %llu", how, name, &listeners) != 3) {
             puts("a line is `create NAME LISTENERS` or `open NAME LISTENERS`");
             fflush(stdout);
         } else if (asks(session, slot, strcmp(how, "create") == 0 ? WULAMERON_CREATE : WULAMERON_OPEN, name, listeners)
