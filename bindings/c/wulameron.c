@@ -13,6 +13,9 @@ struct wulameron_session {
     char busy;
 };
 
+/* The number of the exports in wulameron_c.h, which the archive gives too. */
+enum { EXPORTS = 1 };
+
 /* What stands for a null text or a null place of no bytes. */
 static uint8_t nothing[1];
 
@@ -54,7 +57,7 @@ uint32_t wulameron_open_table(uint32_t version, wulameron_session **out)
     uint32_t code;
     if (out == NULL) return WULAMERON_NULL;
     *out = NULL;
-    if (version != WULAMERON_VERSION || wulameron_c_version() != WULAMERON_VERSION) return WULAMERON_VERSION_DIFFERS;
+    if (version != WULAMERON_VERSION || wulameron_c_version() != EXPORTS) return WULAMERON_VERSION_DIFFERS;
     session = (wulameron_session *)calloc(1, sizeof *session);
     if (session == NULL) return WULAMERON_OUT_OF_MEMORY;
     code = wulameron_c_open_table(&session->handle);
@@ -75,7 +78,7 @@ uint32_t wulameron_open_log(uint32_t version, const char *program, const char *p
     *out = NULL;
     if (message == NULL && size != 0) return WULAMERON_NULL;
     if (length != NULL) *length = 0;
-    if (version != WULAMERON_VERSION || wulameron_c_version() != WULAMERON_VERSION) return WULAMERON_VERSION_DIFFERS;
+    if (version != WULAMERON_VERSION || wulameron_c_version() != EXPORTS) return WULAMERON_VERSION_DIFFERS;
     session = (wulameron_session *)calloc(1, sizeof *session);
     if (session == NULL) return WULAMERON_OUT_OF_MEMORY;
     code = wulameron_log_open(program, path, node, &session->log, place(message, size, length));
