@@ -57,7 +57,8 @@ _ALIVE, _ANY_NODE = 1, 2**64 - 1
 _U32, _U64, _SIZE = ctypes.c_uint32, ctypes.c_uint64, ctypes.c_size_t
 _LIBRARY.wulameron_code_text.restype = ctypes.c_char_p
 # `Session` has methods of these names.
-_Bytes, _List = bytes, list
+_Bytes = bytes
+_List = list
 
 
 class Code(enum.IntEnum):
