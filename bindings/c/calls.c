@@ -275,7 +275,7 @@ static void lines(void)
     GIVES(WULAMERON_BAD_LINE, wulameron_line(session, WULAMERON_TEXT("event crate 7 6 lamps")));
     GIVES(WULAMERON_OK, wulameron_get_reply(session, reply, sizeof reply - 1, &length));
     CHECK(length > 0);
-    memset(many, ' ', sizeof many);
+    memset(many, 'x', sizeof many);
     GIVES(WULAMERON_BAD_LINE, wulameron_line(session, many, sizeof many));
     GIVES(WULAMERON_NULL, wulameron_line(session, NULL, 1));
     GIVES(WULAMERON_OK, wulameron_close(session, 5));
