@@ -60,6 +60,24 @@ uint32_t wulameron_c_attribute(wulameron_c_handle *handle, size_t slot, size_t i
 uint32_t wulameron_c_bytes(wulameron_c_handle *handle, size_t slot, uint8_t *output, size_t output_size,
     size_t *written);
 
+/* An entry of the last listing. The state is 1 where the service is being created, 2 where it stands, 3 where its last
+ * node has left, and 4 where a segment is alone. The pattern is 0 and the name empty where they aren't known. */
+uint32_t wulameron_c_entry(wulameron_c_handle *handle, size_t index, uint32_t *state, uint32_t *pattern,
+    uint64_t *number, uint64_t *nodes, uint64_t *max_nodes);
+uint32_t wulameron_c_entry_name(wulameron_c_handle *handle, size_t index, uint8_t *output, size_t output_size,
+    size_t *written);
+uint32_t wulameron_c_entry_hash(wulameron_c_handle *handle, size_t index, uint8_t *output, size_t output_size,
+    size_t *written);
+
+/* A line in negotiate's words, without its end, and the text of what was answered to the last one. */
+uint32_t wulameron_c_line(wulameron_c_handle *handle, const uint8_t *text, size_t text_length);
+uint32_t wulameron_c_reply(wulameron_c_handle *handle, uint8_t *output, size_t output_size, size_t *written);
+
+/* The texts of a refusal by its number: its error's, when it comes, and what can be done. */
+uint32_t wulameron_c_refusal_name(uint32_t number, uint8_t *output, size_t output_size, size_t *written);
+uint32_t wulameron_c_refusal_text(uint32_t number, uint8_t *output, size_t output_size, size_t *written);
+uint32_t wulameron_c_refusal_advice(uint32_t number, uint8_t *output, size_t output_size, size_t *written);
+
 #ifdef __cplusplus
 }
 #endif

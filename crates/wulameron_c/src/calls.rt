@@ -1,13 +1,16 @@
-//! The request that is pending, and what slots are asked.
+//! The request that is pending, what slots are asked, and lines.
 
 ghost use Rattle.std.specs.Prelude.{◌≡◌};
-ghost use Rattle.wulameron_c.specs.Pointers.{IsSound};
+ghost use Rattle.iceoryx2_world.specs.Tables.{IsTableAccess};
+ghost use Rattle.wulameron_c.specs.Pointers.{Acts, IsSound};
+ghost use Rattle.wulameron_state.specs.Asks.{AbandonsSlot, AddsAttribute, BeginsAs, ClosesSlot, InPending, ListsInto};
+ghost use Rattle.wulameron_state.specs.Asks.{RequiresKey, SendsFor, SetsClockFault, SetsDuration, SetsNone, SetsNumber};
+ghost use Rattle.wulameron_state.specs.Asks.{SetsTime, SetsType};
+ghost use Rattle.wulameron_state.specs.Words.{CarriesOutLine};
 
-use crate::pointer::StatePointer;
-use crate::{Handle, NOT_OPEN, OPEN};
+use crate::{Handle, NOT_OPEN};
 use std::alloc::Global;
-use wulameron_boxed::Apart;
-use wulameron_state::asking;
+use wulameron_state::{asking, words};
 
 /// Begins a request, in place of one that was pending: `Pending::begin`.
 #[unsafe(no_mangle)]
@@ -20,15 +23,16 @@ pub extern "C" fn wulameron_c_begin(
     name: &[u8],
 ) -> u32
     requires { IsSound handle.old.mark handle.old.held.state }
-    ensures { IsSound handle.new.mark handle.new.held.state }
+    ensures sound { IsSound handle.new.mark handle.new.held.state }
+    ensures mark { handle.new.mark ≡ handle.old.mark }
+    ensures acts { Acts handle.old.mark handle.old.held.state handle.new.held.state result
+        (InPending (BeginsAs pattern how node name.now) result) (Unit {0}) }
 {
-    if handle.mark != OPEN {
+    let Some(mut state) = handle.take(alloc) else {
         return NOT_OPEN;
-    }
-    let held = std::mem::replace(&mut handle.held, StatePointer::null(alloc));
-    let mut state = held.into_apart().join();
+    };
     let code = asking::begin(&mut state.state, alloc, pattern, how, node, name);
-    handle.held = StatePointer::of(Apart::take(state));
+    handle.put(state);
     code
 }
 
@@ -41,15 +45,16 @@ pub extern "C" fn wulameron_c_set_number(
     value: u64,
 ) -> u32
     requires { IsSound handle.old.mark handle.old.held.state }
-    ensures { IsSound handle.new.mark handle.new.held.state }
+    ensures sound { IsSound handle.new.mark handle.new.held.state }
+    ensures mark { handle.new.mark ≡ handle.old.mark }
+    ensures acts { Acts handle.old.mark handle.old.held.state handle.new.held.state result
+        (InPending (SetsNumber setting value) result) (Unit {0}) }
 {
-    if handle.mark != OPEN {
+    let Some(mut state) = handle.take(alloc) else {
         return NOT_OPEN;
-    }
-    let held = std::mem::replace(&mut handle.held, StatePointer::null(alloc));
-    let mut state = held.into_apart().join();
+    };
     let code = asking::set_number(&mut state.state, setting, value);
-    handle.held = StatePointer::of(Apart::take(state));
+    handle.put(state);
     code
 }
 
@@ -57,15 +62,16 @@ pub extern "C" fn wulameron_c_set_number(
 #[unsafe(no_mangle)]
 pub extern "C" fn wulameron_c_set_none(alloc: Global, handle: &mut Handle, setting: u32) -> u32
     requires { IsSound handle.old.mark handle.old.held.state }
-    ensures { IsSound handle.new.mark handle.new.held.state }
+    ensures sound { IsSound handle.new.mark handle.new.held.state }
+    ensures mark { handle.new.mark ≡ handle.old.mark }
+    ensures acts { Acts handle.old.mark handle.old.held.state handle.new.held.state result
+        (InPending (SetsNone setting) result) (Unit {0}) }
 {
-    if handle.mark != OPEN {
+    let Some(mut state) = handle.take(alloc) else {
         return NOT_OPEN;
-    }
-    let held = std::mem::replace(&mut handle.held, StatePointer::null(alloc));
-    let mut state = held.into_apart().join();
+    };
     let code = asking::set_none(&mut state.state, setting);
-    handle.held = StatePointer::of(Apart::take(state));
+    handle.put(state);
     code
 }
 
@@ -79,15 +85,16 @@ pub extern "C" fn wulameron_c_set_duration(
     nanoseconds: u32,
 ) -> u32
     requires { IsSound handle.old.mark handle.old.held.state }
-    ensures { IsSound handle.new.mark handle.new.held.state }
+    ensures sound { IsSound handle.new.mark handle.new.held.state }
+    ensures mark { handle.new.mark ≡ handle.old.mark }
+    ensures acts { Acts handle.old.mark handle.old.held.state handle.new.held.state result
+        (InPending (SetsDuration setting seconds nanoseconds) result) (Unit {0}) }
 {
-    if handle.mark != OPEN {
+    let Some(mut state) = handle.take(alloc) else {
         return NOT_OPEN;
-    }
-    let held = std::mem::replace(&mut handle.held, StatePointer::null(alloc));
-    let mut state = held.into_apart().join();
+    };
     let code = asking::set_duration(&mut state.state, setting, seconds, nanoseconds);
-    handle.held = StatePointer::of(Apart::take(state));
+    handle.put(state);
     code
 }
 
@@ -103,15 +110,24 @@ pub extern "C" fn wulameron_c_set_type(
     alignment: u64,
 ) -> u32
     requires { IsSound handle.old.mark handle.old.held.state }
-    ensures { IsSound handle.new.mark handle.new.held.state }
+    ensures sound { IsSound handle.new.mark handle.new.held.state }
+    ensures mark { handle.new.mark ≡ handle.old.mark }
+    ensures acts { Acts handle.old.mark handle.old.held.state handle.new.held.state result
+        (InPending (SetsType part variant name.now size alignment) result) (Unit {0}) }
 {
-    if handle.mark != OPEN {
+    let Some(mut state) = handle.take(alloc) else {
         return NOT_OPEN;
-    }
-    let held = std::mem::replace(&mut handle.held, StatePointer::null(alloc));
-    let mut state = held.into_apart().join();
-    let code = asking::set_type(&mut state.state, alloc, part, variant, name, size, alignment);
-    handle.held = StatePointer::of(Apart::take(state));
+    };
+    let code = asking::set_type(
+        &mut state.state,
+        alloc,
+        part,
+        variant,
+        name,
+        size,
+        alignment,
+    );
+    handle.put(state);
     code
 }
 
@@ -124,15 +140,16 @@ pub extern "C" fn wulameron_c_add_attribute(
     value: &[u8],
 ) -> u32
     requires { IsSound handle.old.mark handle.old.held.state }
-    ensures { IsSound handle.new.mark handle.new.held.state }
+    ensures sound { IsSound handle.new.mark handle.new.held.state }
+    ensures mark { handle.new.mark ≡ handle.old.mark }
+    ensures acts { Acts handle.old.mark handle.old.held.state handle.new.held.state result
+        (InPending (AddsAttribute key.now value.now) result) (Unit {0}) }
 {
-    if handle.mark != OPEN {
+    let Some(mut state) = handle.take(alloc) else {
         return NOT_OPEN;
-    }
-    let held = std::mem::replace(&mut handle.held, StatePointer::null(alloc));
-    let mut state = held.into_apart().join();
+    };
     let code = asking::add_attribute(&mut state.state, key, value);
-    handle.held = StatePointer::of(Apart::take(state));
+    handle.put(state);
     code
 }
 
@@ -140,15 +157,16 @@ pub extern "C" fn wulameron_c_add_attribute(
 #[unsafe(no_mangle)]
 pub extern "C" fn wulameron_c_require_key(alloc: Global, handle: &mut Handle, key: &[u8]) -> u32
     requires { IsSound handle.old.mark handle.old.held.state }
-    ensures { IsSound handle.new.mark handle.new.held.state }
+    ensures sound { IsSound handle.new.mark handle.new.held.state }
+    ensures mark { handle.new.mark ≡ handle.old.mark }
+    ensures acts { Acts handle.old.mark handle.old.held.state handle.new.held.state result
+        (InPending (RequiresKey key.now) result) (Unit {0}) }
 {
-    if handle.mark != OPEN {
+    let Some(mut state) = handle.take(alloc) else {
         return NOT_OPEN;
-    }
-    let held = std::mem::replace(&mut handle.held, StatePointer::null(alloc));
-    let mut state = held.into_apart().join();
+    };
     let code = asking::require_key(&mut state.state, key);
-    handle.held = StatePointer::of(Apart::take(state));
+    handle.put(state);
     code
 }
 
@@ -161,15 +179,16 @@ pub extern "C" fn wulameron_c_set_time(
     nanoseconds: u32,
 ) -> u32
     requires { IsSound handle.old.mark handle.old.held.state }
-    ensures { IsSound handle.new.mark handle.new.held.state }
+    ensures sound { IsSound handle.new.mark handle.new.held.state }
+    ensures mark { handle.new.mark ≡ handle.old.mark }
+    ensures acts { Acts handle.old.mark handle.old.held.state handle.new.held.state result
+        (InPending (SetsTime seconds nanoseconds) result) (Unit {0}) }
 {
-    if handle.mark != OPEN {
+    let Some(mut state) = handle.take(alloc) else {
         return NOT_OPEN;
-    }
-    let held = std::mem::replace(&mut handle.held, StatePointer::null(alloc));
-    let mut state = held.into_apart().join();
+    };
     let code = asking::set_time(&mut state.state, seconds, nanoseconds);
-    handle.held = StatePointer::of(Apart::take(state));
+    handle.put(state);
     code
 }
 
@@ -177,15 +196,16 @@ pub extern "C" fn wulameron_c_set_time(
 #[unsafe(no_mangle)]
 pub extern "C" fn wulameron_c_set_clock_fault(alloc: Global, handle: &mut Handle) -> u32
     requires { IsSound handle.old.mark handle.old.held.state }
-    ensures { IsSound handle.new.mark handle.new.held.state }
+    ensures sound { IsSound handle.new.mark handle.new.held.state }
+    ensures mark { handle.new.mark ≡ handle.old.mark }
+    ensures acts { Acts handle.old.mark handle.old.held.state handle.new.held.state result
+        (InPending SetsClockFault result) (Unit {0}) }
 {
-    if handle.mark != OPEN {
+    let Some(mut state) = handle.take(alloc) else {
         return NOT_OPEN;
-    }
-    let held = std::mem::replace(&mut handle.held, StatePointer::null(alloc));
-    let mut state = held.into_apart().join();
+    };
     let code = asking::set_clock_fault(&mut state.state);
-    handle.held = StatePointer::of(Apart::take(state));
+    handle.put(state);
     code
 }
 
@@ -199,15 +219,18 @@ pub extern "C" fn wulameron_c_send(
     refusal: &mut u32,
 ) -> u32
     requires { IsSound handle.old.mark handle.old.held.state }
-    ensures { IsSound handle.new.mark handle.new.held.state }
+    ensures sound { IsSound handle.new.mark handle.new.held.state }
+    ensures mark { handle.new.mark ≡ handle.old.mark }
+    ensures acts { Acts handle.old.mark handle.old.held.state handle.new.held.state result
+        (λ s t. SendsFor IsTableAccess (λ table. table.world) result s t slot
+        number.old refusal.old number.new refusal.new)
+        ((number.new ≡ number.old) × (refusal.new ≡ refusal.old)) }
 {
-    if handle.mark != OPEN {
+    let Some(mut state) = handle.take(alloc) else {
         return NOT_OPEN;
-    }
-    let held = std::mem::replace(&mut handle.held, StatePointer::null(alloc));
-    let mut state = held.into_apart().join();
+    };
     let code = asking::send(&mut state.state, slot, number, refusal);
-    handle.held = StatePointer::of(Apart::take(state));
+    handle.put(state);
     code
 }
 
@@ -215,15 +238,16 @@ pub extern "C" fn wulameron_c_send(
 #[unsafe(no_mangle)]
 pub extern "C" fn wulameron_c_close(alloc: Global, handle: &mut Handle, slot: usize) -> u32
     requires { IsSound handle.old.mark handle.old.held.state }
-    ensures { IsSound handle.new.mark handle.new.held.state }
+    ensures sound { IsSound handle.new.mark handle.new.held.state }
+    ensures mark { handle.new.mark ≡ handle.old.mark }
+    ensures acts { Acts handle.old.mark handle.old.held.state handle.new.held.state result
+        (λ s t. ClosesSlot IsTableAccess (λ table. table.world) result s t slot) (Unit {0}) }
 {
-    if handle.mark != OPEN {
+    let Some(mut state) = handle.take(alloc) else {
         return NOT_OPEN;
-    }
-    let held = std::mem::replace(&mut handle.held, StatePointer::null(alloc));
-    let mut state = held.into_apart().join();
+    };
     let code = asking::close(&mut state.state, slot);
-    handle.held = StatePointer::of(Apart::take(state));
+    handle.put(state);
     code
 }
 
@@ -231,15 +255,16 @@ pub extern "C" fn wulameron_c_close(alloc: Global, handle: &mut Handle, slot: us
 #[unsafe(no_mangle)]
 pub extern "C" fn wulameron_c_abandon(alloc: Global, handle: &mut Handle, slot: usize) -> u32
     requires { IsSound handle.old.mark handle.old.held.state }
-    ensures { IsSound handle.new.mark handle.new.held.state }
+    ensures sound { IsSound handle.new.mark handle.new.held.state }
+    ensures mark { handle.new.mark ≡ handle.old.mark }
+    ensures acts { Acts handle.old.mark handle.old.held.state handle.new.held.state result
+        (λ s t. AbandonsSlot IsTableAccess (λ table. table.world) result s t slot) (Unit {0}) }
 {
-    if handle.mark != OPEN {
+    let Some(mut state) = handle.take(alloc) else {
         return NOT_OPEN;
-    }
-    let held = std::mem::replace(&mut handle.held, StatePointer::null(alloc));
-    let mut state = held.into_apart().join();
+    };
     let code = asking::abandon(&mut state.state, slot);
-    handle.held = StatePointer::of(Apart::take(state));
+    handle.put(state);
     code
 }
 
@@ -247,14 +272,32 @@ pub extern "C" fn wulameron_c_abandon(alloc: Global, handle: &mut Handle, slot: 
 #[unsafe(no_mangle)]
 pub extern "C" fn wulameron_c_list(alloc: Global, handle: &mut Handle, count: &mut u64) -> u32
     requires { IsSound handle.old.mark handle.old.held.state }
-    ensures { IsSound handle.new.mark handle.new.held.state }
+    ensures sound { IsSound handle.new.mark handle.new.held.state }
+    ensures mark { handle.new.mark ≡ handle.old.mark }
+    ensures acts { Acts handle.old.mark handle.old.held.state handle.new.held.state result
+        (λ s t. ListsInto (λ table. table.world) result s t count.old count.new) (count.new ≡ count.old) }
 {
-    if handle.mark != OPEN {
+    let Some(mut state) = handle.take(alloc) else {
         return NOT_OPEN;
-    }
-    let held = std::mem::replace(&mut handle.held, StatePointer::null(alloc));
-    let mut state = held.into_apart().join();
+    };
     let code = asking::list(&mut state.state, count);
-    handle.held = StatePointer::of(Apart::take(state));
+    handle.put(state);
+    code
+}
+
+/// Carries out a line: `words::line`.
+#[unsafe(no_mangle)]
+pub extern "C" fn wulameron_c_line(alloc: Global, handle: &mut Handle, text: &[u8]) -> u32
+    requires { IsSound handle.old.mark handle.old.held.state }
+    ensures sound { IsSound handle.new.mark handle.new.held.state }
+    ensures mark { handle.new.mark ≡ handle.old.mark }
+    ensures acts { Acts handle.old.mark handle.old.held.state handle.new.held.state result
+        (CarriesOutLine IsTableAccess (λ table. table.world) text.now result) (Unit {0}) }
+{
+    let Some(mut state) = handle.take(alloc) else {
+        return NOT_OPEN;
+    };
+    let code = words::line(&mut state.state, alloc, text);
+    handle.put(state);
     code
 }

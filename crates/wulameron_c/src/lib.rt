@@ -10,9 +10,10 @@
 mod calls;
 mod pointer;
 mod reads;
+mod texts;
 
-ghost use Rattle.std.specs.Prelude.{◌≡◌};
-ghost use Rattle.wulameron_c.specs.Pointers.{IsSound};
+ghost use Rattle.std.specs.Prelude.{◌≡◌, ◌≢◌, IfSome, None, Some};
+ghost use Rattle.wulameron_c.specs.Pointers.{Closes, IsSound, Opens, open_mark};
 
 use crate::pointer::StatePointer;
 use std::alloc::Global;
@@ -42,6 +43,32 @@ pub struct Handle {
     held: StatePointer,
 }
 
+impl Handle {
+    /// Takes the state out of an open handle. `None` where it isn't open, and then all stays.
+    fn take(&mut self, alloc: Global) -> Option<Box<TableState>>
+        requires { IsSound self.old.mark self.old.held.state }
+        ensures mark { self.new.mark ≡ self.old.mark }
+        ensures none { result ≡ None
+            → (self.old.mark ≢ open_mark) × (self.new.held.state ≡ self.old.held.state) }
+        ensures some { IfSome result (λ state. (self.old.mark ≡ open_mark)
+            × (self.old.held.state ≡ Some state.value) × (self.new.held.state ≡ None)) }
+    {
+        if self.mark != OPEN {
+            return None;
+        }
+        let held = std::mem::replace(&mut self.held, StatePointer::null(alloc));
+        Some(held.into_apart().join())
+    }
+
+    /// Puts a state into the handle.
+    fn put(&mut self, state: Box<TableState>)
+        ensures mark { self.new.mark ≡ self.old.mark }
+        ensures held { self.new.held.state ≡ Some state.value }
+    {
+        self.held = StatePointer::of(Apart::take(state));
+    }
+}
+
 /// The number of this interface: it grows where a caller has to be compiled again.
 #[unsafe(no_mangle)]
 pub extern "C" fn wulameron_c_version() -> u32
@@ -54,7 +81,8 @@ pub extern "C" fn wulameron_c_version() -> u32
 #[unsafe(no_mangle)]
 pub extern "C" fn wulameron_c_open_table(alloc: Global, handle: &mut Handle) -> u32
     requires { IsSound handle.old.mark handle.old.held.state }
-    ensures { IsSound handle.new.mark handle.new.held.state }
+    ensures sound { IsSound handle.new.mark handle.new.held.state }
+    ensures opens { Opens handle.old.mark handle.old.held.state result handle.new.mark handle.new.held.state }
 {
     if handle.mark == OPEN {
         return IS_OPEN;
@@ -73,14 +101,13 @@ pub extern "C" fn wulameron_c_open_table(alloc: Global, handle: &mut Handle) -> 
 #[unsafe(no_mangle)]
 pub extern "C" fn wulameron_c_close_session(alloc: Global, handle: &mut Handle) -> u32
     requires { IsSound handle.old.mark handle.old.held.state }
-    ensures { IsSound handle.new.mark handle.new.held.state }
+    ensures sound { IsSound handle.new.mark handle.new.held.state }
+    ensures closes { Closes handle.old.mark handle.old.held.state result handle.new.mark handle.new.held.state }
 {
-    if handle.mark != OPEN {
+    let Some(state) = handle.take(alloc) else {
         return NOT_OPEN;
-    }
-    let held = std::mem::replace(&mut handle.held, StatePointer::null(alloc));
+    };
     handle.mark = 0;
-    let state = held.into_apart().join();
     drop(state);
     DONE
 }

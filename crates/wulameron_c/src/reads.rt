@@ -1,13 +1,15 @@
-//! What was agreed on in a slot, and what a listing has.
+//! What was agreed on in a slot, what a listing has, and what was answered to a line.
 
-ghost use Rattle.std.specs.Prelude.{◌≡◌};
-ghost use Rattle.wulameron_c.specs.Pointers.{IsSound};
+ghost use Rattle.std.specs.Prelude.{◌≡◌, slice_get};
+ghost use Rattle.wulameron_c.specs.Pointers.{IsSound, Reads, ReadsSlot};
+ghost use Rattle.wulameron_state.specs.Entries.{TellsEntry, WritesHash, WritesName, listed};
+ghost use Rattle.wulameron_state.specs.Reads.{TellsAttribute, TellsCount, TellsForm, TellsHash, TellsName, TellsNumber};
+ghost use Rattle.wulameron_state.specs.Reads.{TellsService, TellsTime, TellsType, TellsTypeName};
+ghost use Rattle.wulameron_state.specs.Words.{WritesAnswer};
 
-use crate::pointer::StatePointer;
-use crate::{Handle, NOT_OPEN, OPEN};
+use crate::{Handle, NOT_OPEN};
 use std::alloc::Global;
-use wulameron_boxed::Apart;
-use wulameron_state::agreed;
+use wulameron_state::{agreed, entries, words};
 
 /// The service's pattern and number, and the slot's node.
 #[unsafe(no_mangle)]
@@ -20,15 +22,17 @@ pub extern "C" fn wulameron_c_service(
     node: &mut u64,
 ) -> u32
     requires { IsSound handle.old.mark handle.old.held.state }
-    ensures { IsSound handle.new.mark handle.new.held.state }
+    ensures sound { IsSound handle.new.mark handle.new.held.state }
+    ensures mark { handle.new.mark ≡ handle.old.mark }
+    ensures reads { ReadsSlot handle.old.mark handle.old.held.state handle.new.held.state slot result
+        (TellsService pattern.old number.old node.old pattern.new number.new node.new)
+        ((pattern.new ≡ pattern.old) × (number.new ≡ number.old) × (node.new ≡ node.old)) }
 {
-    if handle.mark != OPEN {
+    let Some(state) = handle.take(alloc) else {
         return NOT_OPEN;
-    }
-    let held = std::mem::replace(&mut handle.held, StatePointer::null(alloc));
-    let state = held.into_apart().join();
+    };
     let code = agreed::service(&state.state, slot, pattern, number, node);
-    handle.held = StatePointer::of(Apart::take(state));
+    handle.put(state);
     code
 }
 
@@ -42,15 +46,17 @@ pub extern "C" fn wulameron_c_number(
     value: &mut u64,
 ) -> u32
     requires { IsSound handle.old.mark handle.old.held.state }
-    ensures { IsSound handle.new.mark handle.new.held.state }
+    ensures sound { IsSound handle.new.mark handle.new.held.state }
+    ensures mark { handle.new.mark ≡ handle.old.mark }
+    ensures reads { ReadsSlot handle.old.mark handle.old.held.state handle.new.held.state slot result
+        (TellsNumber setting value.old value.new)
+        (value.new ≡ value.old) }
 {
-    if handle.mark != OPEN {
+    let Some(state) = handle.take(alloc) else {
         return NOT_OPEN;
-    }
-    let held = std::mem::replace(&mut handle.held, StatePointer::null(alloc));
-    let state = held.into_apart().join();
+    };
     let code = agreed::number(&state.state, slot, setting, value);
-    handle.held = StatePointer::of(Apart::take(state));
+    handle.put(state);
     code
 }
 
@@ -65,15 +71,17 @@ pub extern "C" fn wulameron_c_time(
     nanoseconds: &mut u32,
 ) -> u32
     requires { IsSound handle.old.mark handle.old.held.state }
-    ensures { IsSound handle.new.mark handle.new.held.state }
+    ensures sound { IsSound handle.new.mark handle.new.held.state }
+    ensures mark { handle.new.mark ≡ handle.old.mark }
+    ensures reads { ReadsSlot handle.old.mark handle.old.held.state handle.new.held.state slot result
+        (TellsTime setting seconds.old nanoseconds.old seconds.new nanoseconds.new)
+        ((seconds.new ≡ seconds.old) × (nanoseconds.new ≡ nanoseconds.old)) }
 {
-    if handle.mark != OPEN {
+    let Some(state) = handle.take(alloc) else {
         return NOT_OPEN;
-    }
-    let held = std::mem::replace(&mut handle.held, StatePointer::null(alloc));
-    let state = held.into_apart().join();
+    };
     let code = agreed::time(&state.state, slot, setting, seconds, nanoseconds);
-    handle.held = StatePointer::of(Apart::take(state));
+    handle.put(state);
     code
 }
 
@@ -89,15 +97,17 @@ pub extern "C" fn wulameron_c_type_of(
     alignment: &mut u64,
 ) -> u32
     requires { IsSound handle.old.mark handle.old.held.state }
-    ensures { IsSound handle.new.mark handle.new.held.state }
+    ensures sound { IsSound handle.new.mark handle.new.held.state }
+    ensures mark { handle.new.mark ≡ handle.old.mark }
+    ensures reads { ReadsSlot handle.old.mark handle.old.held.state handle.new.held.state slot result
+        (TellsType part variant.old size.old alignment.old variant.new size.new alignment.new)
+        ((variant.new ≡ variant.old) × (size.new ≡ size.old) × (alignment.new ≡ alignment.old)) }
 {
-    if handle.mark != OPEN {
+    let Some(state) = handle.take(alloc) else {
         return NOT_OPEN;
-    }
-    let held = std::mem::replace(&mut handle.held, StatePointer::null(alloc));
-    let state = held.into_apart().join();
+    };
     let code = agreed::type_of(&state.state, slot, part, variant, size, alignment);
-    handle.held = StatePointer::of(Apart::take(state));
+    handle.put(state);
     code
 }
 
@@ -112,15 +122,17 @@ pub extern "C" fn wulameron_c_type_name(
     written: &mut usize,
 ) -> u32
     requires { IsSound handle.old.mark handle.old.held.state }
-    ensures { IsSound handle.new.mark handle.new.held.state }
+    ensures sound { IsSound handle.new.mark handle.new.held.state }
+    ensures mark { handle.new.mark ≡ handle.old.mark }
+    ensures reads { ReadsSlot handle.old.mark handle.old.held.state handle.new.held.state slot result
+        (TellsTypeName output.old written.old output.new written.new part)
+        ((output.new ≡ output.old) × (written.new ≡ written.old)) }
 {
-    if handle.mark != OPEN {
+    let Some(state) = handle.take(alloc) else {
         return NOT_OPEN;
-    }
-    let held = std::mem::replace(&mut handle.held, StatePointer::null(alloc));
-    let state = held.into_apart().join();
+    };
     let code = agreed::type_name(&state.state, slot, part, output, written);
-    handle.held = StatePointer::of(Apart::take(state));
+    handle.put(state);
     code
 }
 
@@ -134,15 +146,17 @@ pub extern "C" fn wulameron_c_name(
     written: &mut usize,
 ) -> u32
     requires { IsSound handle.old.mark handle.old.held.state }
-    ensures { IsSound handle.new.mark handle.new.held.state }
+    ensures sound { IsSound handle.new.mark handle.new.held.state }
+    ensures mark { handle.new.mark ≡ handle.old.mark }
+    ensures reads { ReadsSlot handle.old.mark handle.old.held.state handle.new.held.state slot result
+        (TellsName output.old written.old output.new written.new)
+        ((output.new ≡ output.old) × (written.new ≡ written.old)) }
 {
-    if handle.mark != OPEN {
+    let Some(state) = handle.take(alloc) else {
         return NOT_OPEN;
-    }
-    let held = std::mem::replace(&mut handle.held, StatePointer::null(alloc));
-    let state = held.into_apart().join();
+    };
     let code = agreed::name(&state.state, slot, output, written);
-    handle.held = StatePointer::of(Apart::take(state));
+    handle.put(state);
     code
 }
 
@@ -156,15 +170,17 @@ pub extern "C" fn wulameron_c_hash(
     written: &mut usize,
 ) -> u32
     requires { IsSound handle.old.mark handle.old.held.state }
-    ensures { IsSound handle.new.mark handle.new.held.state }
+    ensures sound { IsSound handle.new.mark handle.new.held.state }
+    ensures mark { handle.new.mark ≡ handle.old.mark }
+    ensures reads { ReadsSlot handle.old.mark handle.old.held.state handle.new.held.state slot result
+        (TellsHash output.old written.old output.new written.new)
+        ((output.new ≡ output.old) × (written.new ≡ written.old)) }
 {
-    if handle.mark != OPEN {
+    let Some(state) = handle.take(alloc) else {
         return NOT_OPEN;
-    }
-    let held = std::mem::replace(&mut handle.held, StatePointer::null(alloc));
-    let state = held.into_apart().join();
+    };
     let code = agreed::hash(&state.state, slot, output, written);
-    handle.held = StatePointer::of(Apart::take(state));
+    handle.put(state);
     code
 }
 
@@ -177,15 +193,17 @@ pub extern "C" fn wulameron_c_attributes(
     count: &mut u64,
 ) -> u32
     requires { IsSound handle.old.mark handle.old.held.state }
-    ensures { IsSound handle.new.mark handle.new.held.state }
+    ensures sound { IsSound handle.new.mark handle.new.held.state }
+    ensures mark { handle.new.mark ≡ handle.old.mark }
+    ensures reads { ReadsSlot handle.old.mark handle.old.held.state handle.new.held.state slot result
+        (TellsCount count.old count.new)
+        (count.new ≡ count.old) }
 {
-    if handle.mark != OPEN {
+    let Some(state) = handle.take(alloc) else {
         return NOT_OPEN;
-    }
-    let held = std::mem::replace(&mut handle.held, StatePointer::null(alloc));
-    let state = held.into_apart().join();
+    };
     let code = agreed::attributes(&state.state, slot, count);
-    handle.held = StatePointer::of(Apart::take(state));
+    handle.put(state);
     code
 }
 
@@ -202,15 +220,27 @@ pub extern "C" fn wulameron_c_attribute(
     value_length: &mut usize,
 ) -> u32
     requires { IsSound handle.old.mark handle.old.held.state }
-    ensures { IsSound handle.new.mark handle.new.held.state }
+    ensures sound { IsSound handle.new.mark handle.new.held.state }
+    ensures mark { handle.new.mark ≡ handle.old.mark }
+    ensures reads { ReadsSlot handle.old.mark handle.old.held.state handle.new.held.state slot result
+        (TellsAttribute index key.old key_length.old value.old value_length.old
+        key.new key_length.new value.new value_length.new)
+        ((key.new ≡ key.old) × (key_length.new ≡ key_length.old) × (value.new ≡ value.old)
+        × (value_length.new ≡ value_length.old)) }
 {
-    if handle.mark != OPEN {
+    let Some(state) = handle.take(alloc) else {
         return NOT_OPEN;
-    }
-    let held = std::mem::replace(&mut handle.held, StatePointer::null(alloc));
-    let state = held.into_apart().join();
-    let code = agreed::attribute(&state.state, slot, index, key, key_length, value, value_length);
-    handle.held = StatePointer::of(Apart::take(state));
+    };
+    let code = agreed::attribute(
+        &state.state,
+        slot,
+        index,
+        key,
+        key_length,
+        value,
+        value_length,
+    );
+    handle.put(state);
     code
 }
 
@@ -224,14 +254,127 @@ pub extern "C" fn wulameron_c_bytes(
     written: &mut usize,
 ) -> u32
     requires { IsSound handle.old.mark handle.old.held.state }
-    ensures { IsSound handle.new.mark handle.new.held.state }
+    ensures sound { IsSound handle.new.mark handle.new.held.state }
+    ensures mark { handle.new.mark ≡ handle.old.mark }
+    ensures reads { ReadsSlot handle.old.mark handle.old.held.state handle.new.held.state slot result
+        (TellsForm output.old written.old output.new written.new)
+        ((output.new ≡ output.old) × (written.new ≡ written.old)) }
 {
-    if handle.mark != OPEN {
+    let Some(state) = handle.take(alloc) else {
         return NOT_OPEN;
-    }
-    let held = std::mem::replace(&mut handle.held, StatePointer::null(alloc));
-    let state = held.into_apart().join();
+    };
     let code = agreed::bytes(&state.state, alloc, slot, output, written);
-    handle.held = StatePointer::of(Apart::take(state));
+    handle.put(state);
+    code
+}
+
+/// What was answered to the last line: `words::reply`.
+#[unsafe(no_mangle)]
+pub extern "C" fn wulameron_c_reply(
+    alloc: Global,
+    handle: &mut Handle,
+    output: &mut [u8],
+    written: &mut usize,
+) -> u32
+    requires { IsSound handle.old.mark handle.old.held.state }
+    ensures sound { IsSound handle.new.mark handle.new.held.state }
+    ensures mark { handle.new.mark ≡ handle.old.mark }
+    ensures reads { Reads handle.old.mark handle.old.held.state handle.new.held.state result
+        (λ s. WritesAnswer s.answer output.old written.old result output.new written.new)
+        ((output.new ≡ output.old) × (written.new ≡ written.old)) }
+{
+    let Some(state) = handle.take(alloc) else {
+        return NOT_OPEN;
+    };
+    let code = words::reply(&state.state, alloc, output, written);
+    handle.put(state);
+    code
+}
+
+/// An entry of the last listing by numbers: `entries::entry`.
+#[unsafe(no_mangle)]
+pub extern "C" fn wulameron_c_entry(
+    alloc: Global,
+    handle: &mut Handle,
+    index: usize,
+    standing: &mut u32,
+    pattern: &mut u32,
+    number: &mut u64,
+    nodes: &mut u64,
+    max_nodes: &mut u64,
+) -> u32
+    requires { IsSound handle.old.mark handle.old.held.state }
+    ensures sound { IsSound handle.new.mark handle.new.held.state }
+    ensures mark { handle.new.mark ≡ handle.old.mark }
+    ensures reads { Reads handle.old.mark handle.old.held.state handle.new.held.state result
+        (λ s. TellsEntry result (listed standing.old pattern.old number.old nodes.old max_nodes.old)
+        (listed standing.new pattern.new number.new nodes.new max_nodes.new) (slice_get s.listing.items index))
+        ((standing.new ≡ standing.old) × (pattern.new ≡ pattern.old) × (number.new ≡ number.old)
+        × (nodes.new ≡ nodes.old) × (max_nodes.new ≡ max_nodes.old)) }
+{
+    let Some(state) = handle.take(alloc) else {
+        return NOT_OPEN;
+    };
+    let code = entries::entry(
+        alloc,
+        &state.state.listing,
+        index,
+        standing,
+        pattern,
+        number,
+        nodes,
+        max_nodes,
+    );
+    handle.put(state);
+    code
+}
+
+/// The name of an entry: `entries::entry_name`.
+#[unsafe(no_mangle)]
+pub extern "C" fn wulameron_c_entry_name(
+    alloc: Global,
+    handle: &mut Handle,
+    index: usize,
+    output: &mut [u8],
+    written: &mut usize,
+) -> u32
+    requires { IsSound handle.old.mark handle.old.held.state }
+    ensures sound { IsSound handle.new.mark handle.new.held.state }
+    ensures mark { handle.new.mark ≡ handle.old.mark }
+    ensures reads { Reads handle.old.mark handle.old.held.state handle.new.held.state result
+        (λ s. WritesName output.old written.old result output.new written.new
+        (slice_get s.listing.items index))
+        ((output.new ≡ output.old) × (written.new ≡ written.old)) }
+{
+    let Some(state) = handle.take(alloc) else {
+        return NOT_OPEN;
+    };
+    let code = entries::entry_name(alloc, &state.state.listing, index, output, written);
+    handle.put(state);
+    code
+}
+
+/// The hash of an entry: `entries::entry_hash`.
+#[unsafe(no_mangle)]
+pub extern "C" fn wulameron_c_entry_hash(
+    alloc: Global,
+    handle: &mut Handle,
+    index: usize,
+    output: &mut [u8],
+    written: &mut usize,
+) -> u32
+    requires { IsSound handle.old.mark handle.old.held.state }
+    ensures sound { IsSound handle.new.mark handle.new.held.state }
+    ensures mark { handle.new.mark ≡ handle.old.mark }
+    ensures reads { Reads handle.old.mark handle.old.held.state handle.new.held.state result
+        (λ s. WritesHash output.old written.old result output.new written.new
+        (slice_get s.listing.items index))
+        ((output.new ≡ output.old) × (written.new ≡ written.old)) }
+{
+    let Some(state) = handle.take(alloc) else {
+        return NOT_OPEN;
+    };
+    let code = entries::entry_hash(&state.state.listing, index, output, written);
+    handle.put(state);
     code
 }

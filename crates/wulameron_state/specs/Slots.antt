@@ -1,5 +1,7 @@
 -- What a caller gets for a reply, and its code.
-use Rattle.std.specs.Prelude.{ℕ, Result, Ok, Err}
+use Rattle.std.specs.Prelude.{ℕ, Option, Some, None, Result, Ok, Err, if◌then◌else◌, nat_lt}
+use Rattle.iceoryx2_access.specs.Registered.{Registered}
+use Rattle.iceoryx2_commands.specs.Commands.{slot_count}
 use Rattle.iceoryx2_commands.specs.declared.command.Reply.{Reply}
 use Rattle.iceoryx2_commands.specs.declared.command.Reply.TheVariants as reply
 use Rattle.wulameron_state.specs.declared.error.SlotError.{SlotError}
@@ -29,3 +31,8 @@ closed (reply.NotClosed slot) = Err error.NotClosed
 closed reply.SlotEmpty = Err error.SlotEmpty
 closed reply.NoSuchSlot = Err error.NoSuchSlot
 closed _ = Err error.OutOfMemory
+
+-- where a slot lets go of what it holds
+abbrev pub abandoned : (slot : ℕ) → (held : Option Registered) → Result (Unit {0}) SlotError
+abandoned slot (Some held) = Ok tt
+abandoned slot None = if nat_lt slot slot_count then Err error.SlotEmpty else Err error.NoSuchSlot

@@ -1,19 +1,18 @@
 //! What was agreed on in a slot, as a caller in C reads it: a code, and values in their places.
 
-ghost use Rattle.std.specs.Prelude.{◌≡◌, length};
 ghost use Rattle.iceoryx2_session.specs.SessionStates.{own_state};
 ghost use Rattle.iceoryx2_session.specs.Slots.{held_at};
-ghost use Rattle.wulameron_request.specs.Reading as by_number;
-ghost use Rattle.wulameron_state.specs.Reads.{FromSlot, ReadsNumber, ReadsTime};
+ghost use Rattle.wulameron_state.specs.Reads.{TellsAttribute, TellsCount, TellsForm, TellsHash, TellsName, TellsNumber};
+ghost use Rattle.wulameron_state.specs.Reads.{TellsService, TellsTime, TellsType, TellsTypeName};
 
 use crate::reading::{
-    DONE, NO_SUCH_ITEM, TOO_SMALL, agreed, code_of_empty, read_number, read_time, write_text,
+    DONE, agreed, code_of_empty, read_attribute, read_number, read_time, read_type, write_form,
+    write_text, write_type_name,
 };
 use crate::state::State;
-use iceoryx2_byte_form::bytes::encode;
 use iceoryx2_session::world_storage::WorldStorage;
 use std::alloc::Global;
-use wulameron_request::reading::{number_of_variant, pattern_of, type_in};
+use wulameron_request::reading::pattern_of;
 
 /// The service's pattern and number, and the slot's node.
 pub fn service<S: WorldStorage>(
@@ -22,7 +21,10 @@ pub fn service<S: WorldStorage>(
     pattern: &mut u32,
     number: &mut u64,
     node: &mut u64,
-) -> u32 {
+) -> u32
+    ensures { TellsService pattern.old number.old node.old pattern.new number.new node.new slot result
+        (held_at (own_state state.now.session).slots slot) }
+{
     match state.session.registration(slot) {
         Some(registration) => {
             *pattern = pattern_of(registration.description());
@@ -36,8 +38,7 @@ pub fn service<S: WorldStorage>(
 
 /// What was agreed on of a setting that is a number or a flag.
 pub fn number<S: WorldStorage>(state: &State<S>, slot: usize, setting: u32, value: &mut u64) -> u32
-    ensures { FromSlot (λ d. ReadsNumber (by_number.number_in d.pattern setting) value.old result value.new)
-        slot result (value.new ≡ value.old) (held_at (own_state state.now.session).slots slot) }
+    ensures { TellsNumber setting value.old value.new slot result (held_at (own_state state.now.session).slots slot) }
 {
     match agreed(&state.session, slot) {
         Some(description) => read_number(description, setting, value),
@@ -53,9 +54,7 @@ pub fn time<S: WorldStorage>(
     seconds: &mut u64,
     nanoseconds: &mut u32,
 ) -> u32
-    ensures { FromSlot (λ d. ReadsTime (by_number.time_in d.pattern setting) seconds.old nanoseconds.old
-        result seconds.new nanoseconds.new)
-        slot result ((seconds.new ≡ seconds.old) × (nanoseconds.new ≡ nanoseconds.old))
+    ensures { TellsTime setting seconds.old nanoseconds.old seconds.new nanoseconds.new slot result
         (held_at (own_state state.now.session).slots slot) }
 {
     match agreed(&state.session, slot) {
@@ -72,18 +71,13 @@ pub fn type_of<S: WorldStorage>(
     variant: &mut u32,
     size: &mut u64,
     alignment: &mut u64,
-) -> u32 {
-    let Some(description) = agreed(&state.session, slot) else {
-        return code_of_empty(slot);
-    };
-    match type_in(description, part) {
-        Ok(detail) => {
-            *variant = number_of_variant(detail.variant());
-            *size = detail.size();
-            *alignment = detail.alignment();
-            DONE
-        }
-        Err(error) => error.code(),
+) -> u32
+    ensures { TellsType part variant.old size.old alignment.old variant.new size.new alignment.new slot result
+        (held_at (own_state state.now.session).slots slot) }
+{
+    match agreed(&state.session, slot) {
+        Some(description) => read_type(description, part, variant, size, alignment),
+        None => code_of_empty(slot),
     }
 }
 
@@ -94,13 +88,13 @@ pub fn type_name<S: WorldStorage>(
     part: u32,
     output: &mut [u8],
     written: &mut usize,
-) -> u32 {
-    let Some(description) = agreed(&state.session, slot) else {
-        return code_of_empty(slot);
-    };
-    match type_in(description, part) {
-        Ok(detail) => write_text(detail.type_name().as_bytes(), output, written),
-        Err(error) => error.code(),
+) -> u32
+    ensures { TellsTypeName output.old written.old output.new written.new part slot result
+        (held_at (own_state state.now.session).slots slot) }
+{
+    match agreed(&state.session, slot) {
+        Some(description) => write_type_name(description, part, output, written),
+        None => code_of_empty(slot),
     }
 }
 
@@ -110,7 +104,10 @@ pub fn name<S: WorldStorage>(
     slot: usize,
     output: &mut [u8],
     written: &mut usize,
-) -> u32 {
+) -> u32
+    ensures { TellsName output.old written.old output.new written.new slot result
+        (held_at (own_state state.now.session).slots slot) }
+{
     match agreed(&state.session, slot) {
         Some(description) => write_text(description.name().as_str().as_bytes(), output, written),
         None => code_of_empty(slot),
@@ -123,7 +120,10 @@ pub fn hash<S: WorldStorage>(
     slot: usize,
     output: &mut [u8],
     written: &mut usize,
-) -> u32 {
+) -> u32
+    ensures { TellsHash output.old written.old output.new written.new slot result
+        (held_at (own_state state.now.session).slots slot) }
+{
     match agreed(&state.session, slot) {
         Some(description) => write_text(description.service_hash().as_bytes(), output, written),
         None => code_of_empty(slot),
@@ -132,8 +132,7 @@ pub fn hash<S: WorldStorage>(
 
 /// How many attributes the service has.
 pub fn attributes<S: WorldStorage>(state: &State<S>, slot: usize, count: &mut u64) -> u32
-    ensures { FromSlot (λ d. (result ≡ 0) × (count.new ≡ length d.attributes))
-        slot result (count.new ≡ count.old) (held_at (own_state state.now.session).slots slot) }
+    ensures { TellsCount count.old count.new slot result (held_at (own_state state.now.session).slots slot) }
 {
     match agreed(&state.session, slot) {
         Some(description) => {
@@ -154,19 +153,22 @@ pub fn attribute<S: WorldStorage>(
     key_length: &mut usize,
     value: &mut [u8],
     value_length: &mut usize,
-) -> u32 {
-    let Some(description) = agreed(&state.session, slot) else {
-        return code_of_empty(slot);
-    };
-    let Some(pair) = description.attributes().pairs().get(index) else {
-        return NO_SUCH_ITEM;
-    };
-    let key_code = write_text(pair.key().as_bytes(), key, key_length);
-    let value_code = write_text(pair.value().as_bytes(), value, value_length);
-    if key_code == DONE && value_code == DONE {
-        return DONE;
+) -> u32
+    ensures { TellsAttribute index key.old key_length.old value.old value_length.old
+        key.new key_length.new value.new value_length.new slot result
+        (held_at (own_state state.now.session).slots slot) }
+{
+    match agreed(&state.session, slot) {
+        Some(description) => read_attribute(
+            description,
+            index,
+            key,
+            key_length,
+            value,
+            value_length,
+        ),
+        None => code_of_empty(slot),
     }
-    TOO_SMALL
 }
 
 /// The description's bytes, as they are stored. 4 where there was no memory.
@@ -176,12 +178,12 @@ pub fn bytes<S: WorldStorage>(
     slot: usize,
     output: &mut [u8],
     written: &mut usize,
-) -> u32 {
-    let Some(description) = agreed(&state.session, slot) else {
-        return code_of_empty(slot);
-    };
-    match encode(alloc, description) {
-        Ok(bytes) => write_text(&bytes, output, written),
-        Err(_) => 4,
+) -> u32
+    ensures { TellsForm output.old written.old output.new written.new slot result
+        (held_at (own_state state.now.session).slots slot) }
+{
+    match agreed(&state.session, slot) {
+        Some(description) => write_form(alloc, description, output, written),
+        None => code_of_empty(slot),
     }
 }

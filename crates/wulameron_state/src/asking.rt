@@ -1,18 +1,13 @@
 //! What a caller in C asks of a state: each by numbers and bytes, answered by a code.
 
-ghost use Rattle.std.specs.Prelude.{◌≡◌, ℕ, Err, None, Result, slice_set};
-ghost use Rattle.iceoryx2_commands.specs.declared.command.Command.TheVariants as command;
+ghost use Rattle.std.specs.Prelude.{◌≡◌};
 ghost use Rattle.iceoryx2_session.specs.SessionStates.{own_nodes, own_state, world_state};
 ghost use Rattle.iceoryx2_world.specs.Across.{Agrees};
-ghost use Rattle.wulameron_request.specs.Events as event_table;
-ghost use Rattle.wulameron_request.specs.Pending.{InSettings, Pieces};
-ghost use Rattle.wulameron_request.specs.PublishSubscribe as publish_table;
-ghost use Rattle.wulameron_request.specs.RequestResponse as request_table;
-ghost use Rattle.wulameron_request.specs.Requests.{Sets};
-ghost use Rattle.wulameron_state.specs.Asks.{Begins, IsCoded, TellsSent, code_of_slot};
-ghost use Rattle.wulameron_state.specs.Slots.{closed};
-ghost use Rattle.wulameron_state.specs.States.{GoesAs, IsOfOwnNode, Sends, Stands};
-ghost use Rattle.wulameron_state.specs.declared.error.SlotError.{SlotError};
+ghost use Rattle.wulameron_state.specs.Asks.{AbandonsSlot, AddsAttribute, BeginsAs, ClosesSlot, InPending, ListsInto};
+ghost use Rattle.wulameron_state.specs.Asks.{MakesDetail, RequiresKey, SendsFor, SetsClockFault, SetsDuration};
+ghost use Rattle.wulameron_state.specs.Asks.{SetsNone, SetsNumber, SetsTime, SetsType, TellsSent, code_of_slot};
+ghost use Rattle.wulameron_state.specs.Asks.{span_of};
+ghost use Rattle.wulameron_state.specs.States.{IsOfOwnNode, Stands};
 
 use crate::error::SlotError;
 use crate::state::{self, State};
@@ -33,8 +28,7 @@ pub fn begin<S>(
     node: u64,
     name: &[u8],
 ) -> u32
-    ensures begins { IsCoded (Begins pattern how node name.now) state.old.pending result state.new.pending }
-    ensures session { state.new.session ≡ state.old.session }
+    ensures { InPending (BeginsAs pattern how node name.now) result state.old state.new }
 {
     let answer = state.pending.begin(alloc, pattern, how, node, name);
     code_of_answer(answer)
@@ -42,10 +36,7 @@ pub fn begin<S>(
 
 /// `Pending::set_number`.
 pub fn set_number<S>(state: &mut State<S>, setting: u32, value: u64) -> u32
-    ensures piece { IsCoded (Pieces (InSettings (Sets (event_table.number_setter setting value)
-        (publish_table.number_setter setting value) (request_table.number_setter setting value))))
-        state.old.pending result state.new.pending }
-    ensures session { state.new.session ≡ state.old.session }
+    ensures { InPending (SetsNumber setting value) result state.old state.new }
 {
     let answer = state.pending.set_number(setting, value);
     code_of_answer(answer)
@@ -53,20 +44,33 @@ pub fn set_number<S>(state: &mut State<S>, setting: u32, value: u64) -> u32
 
 /// `Pending::set_none`.
 pub fn set_none<S>(state: &mut State<S>, setting: u32) -> u32
-    ensures piece { IsCoded (Pieces (InSettings (Sets (event_table.none_setter setting)
-        (Err RequestError.UnknownSetting) (Err RequestError.UnknownSetting))))
-        state.old.pending result state.new.pending }
-    ensures session { state.new.session ≡ state.old.session }
+    ensures { InPending (SetsNone setting) result state.old state.new }
 {
     let answer = state.pending.set_none(setting);
     code_of_answer(answer)
 }
 
+/// A length of time, below a second's nanoseconds beside the seconds.
+#[tactic(auto, unfolding(crate::specs::Asks::span_of))]
+fn duration_of(seconds: u64, nanoseconds: u32) -> Option<Duration>
+    ensures { result ≡ span_of seconds nanoseconds }
+{
+    Duration::new(seconds, nanoseconds)
+}
+
+/// A point in time, as long after the time zero.
+#[tactic(auto, unfolding(crate::specs::Asks::span_of))]
+fn time_of(seconds: u64, nanoseconds: u32) -> Option<Time>
+    ensures { result ≡ span_of seconds nanoseconds }
+{
+    Time::new(seconds, nanoseconds)
+}
+
 /// `Pending::set_duration`, and 8 from 1,000,000,000 nanoseconds on.
 pub fn set_duration<S>(state: &mut State<S>, setting: u32, seconds: u64, nanoseconds: u32) -> u32
-    ensures { state.new.session ≡ state.old.session }
+    ensures { InPending (SetsDuration setting seconds nanoseconds) result state.old state.new }
 {
-    match Duration::new(seconds, nanoseconds) {
+    match duration_of(seconds, nanoseconds) {
         Some(value) => code_of_answer(state.pending.set_duration(setting, value)),
         None => RequestError::BadValue.code(),
     }
@@ -80,7 +84,9 @@ fn detail_of(
     name: &[u8],
     size: u64,
     alignment: u64,
-) -> Result<TypeDetail, RequestError> {
+) -> Result<TypeDetail, RequestError>
+    ensures { MakesDetail variant name.now size alignment result }
+{
     let variant = variant_of(variant)?;
     let Ok(name) = std::str::from_utf8(name) else {
         return Err(RequestError::NotUtf8);
@@ -102,7 +108,7 @@ pub fn set_type<S>(
     size: u64,
     alignment: u64,
 ) -> u32
-    ensures { state.new.session ≡ state.old.session }
+    ensures { InPending (SetsType part variant name.now size alignment) result state.old state.new }
 {
     match detail_of(alloc, variant, name, size, alignment) {
         Ok(detail) => code_of_answer(state.pending.set_type(part, detail)),
@@ -112,7 +118,7 @@ pub fn set_type<S>(
 
 /// `Pending::add_attribute`, and 6 where a text isn't UTF-8.
 pub fn add_attribute<S>(state: &mut State<S>, key: &[u8], value: &[u8]) -> u32
-    ensures { state.new.session ≡ state.old.session }
+    ensures { InPending (AddsAttribute key.now value.now) result state.old state.new }
 {
     let Ok(key) = std::str::from_utf8(key) else {
         return RequestError::NotUtf8.code();
@@ -125,7 +131,7 @@ pub fn add_attribute<S>(state: &mut State<S>, key: &[u8], value: &[u8]) -> u32
 
 /// `Pending::require_key`, and 6 where the key isn't UTF-8.
 pub fn require_key<S>(state: &mut State<S>, key: &[u8]) -> u32
-    ensures { state.new.session ≡ state.old.session }
+    ensures { InPending (RequiresKey key.now) result state.old state.new }
 {
     let Ok(key) = std::str::from_utf8(key) else {
         return RequestError::NotUtf8.code();
@@ -135,9 +141,9 @@ pub fn require_key<S>(state: &mut State<S>, key: &[u8]) -> u32
 
 /// `Pending::set_time`, and 8 from 1,000,000,000 nanoseconds on.
 pub fn set_time<S>(state: &mut State<S>, seconds: u64, nanoseconds: u32) -> u32
-    ensures { state.new.session ≡ state.old.session }
+    ensures { InPending (SetsTime seconds nanoseconds) result state.old state.new }
 {
-    match Time::new(seconds, nanoseconds) {
+    match time_of(seconds, nanoseconds) {
         Some(time) => code_of_answer(state.pending.set_time(Ok(time))),
         None => RequestError::BadValue.code(),
     }
@@ -145,7 +151,7 @@ pub fn set_time<S>(state: &mut State<S>, seconds: u64, nanoseconds: u32) -> u32
 
 /// `Pending::set_time`, where the clock can't be read.
 pub fn set_clock_fault<S>(state: &mut State<S>) -> u32
-    ensures { state.new.session ≡ state.old.session }
+    ensures { InPending SetsClockFault result state.old state.new }
 {
     code_of_answer(state.pending.set_time(Err(ClockFault)))
 }
@@ -157,10 +163,8 @@ pub fn send<S: WorldStorage>(
     number: &mut u64,
     refusal: &mut u32,
 ) -> u32
-    ensures sends { (answer : Result ℕ SlotError)
-        × Sends S.step S.world (own_state state.old.session) slot state.old.pending answer
-        (own_state state.new.session) state.new.pending
-        × TellsSent answer result number.old refusal.old number.new refusal.new }
+    ensures sends { SendsFor S.step S.world result state.old state.new slot
+        number.old refusal.old number.new refusal.new }
     ensures nodes { own_nodes S.own state.new.session ≡ own_nodes S.own state.old.session }
     ensures agrees { Agrees (world_state S.world state.old.session).table
         → Agrees (world_state S.world state.new.session).table }
@@ -202,9 +206,7 @@ fn code_of(answer: Result<(), SlotError>) -> u32
 
 /// `state::close`.
 pub fn close<S: WorldStorage>(state: &mut State<S>, slot: usize) -> u32
-    ensures goes { (answer : Result (Unit {0}) SlotError)
-        × GoesAs S.step S.world closed (own_state state.old.session) (command.Close slot) answer (own_state state.new.session)
-        × (result ≡ code_of_slot answer) }
+    ensures closes { ClosesSlot S.step S.world result state.old state.new slot }
     ensures nodes { own_nodes S.own state.new.session ≡ own_nodes S.own state.old.session }
     ensures agrees { Agrees (world_state S.world state.old.session).table
         → Agrees (world_state S.world state.new.session).table }
@@ -217,16 +219,14 @@ pub fn close<S: WorldStorage>(state: &mut State<S>, slot: usize) -> u32
 
 /// `state::abandon`.
 pub fn abandon<S: WorldStorage>(state: &mut State<S>, slot: usize) -> u32
-    ensures { own_state state.new.session ≡ record (own_state state.old.session) {
-      slots = slice_set (own_state state.old.session).slots slot None;
-    } }
+    ensures { AbandonsSlot S.step S.world result state.old state.new slot }
 {
     code_of(state::abandon(&mut state.session, slot))
 }
 
 /// `State::list`.
 pub fn list<S: WorldStorage>(state: &mut State<S>, count: &mut u64) -> u32
-    ensures { state.new.session ≡ state.old.session }
+    ensures { ListsInto S.world result state.old state.new count.old count.new }
 {
     match state.list() {
         Ok(found) => {

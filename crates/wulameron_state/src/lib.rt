@@ -10,6 +10,9 @@
 
 pub mod agreed;
 pub mod asking;
+pub mod entries;
 pub mod error;
 pub mod reading;
+pub mod refusals;
 pub mod state;
+pub mod words;

@@ -12,9 +12,11 @@ ghost use Rattle.iceoryx2_world.specs.Across.{Agrees};
 ghost use Rattle.iceoryx2_world.specs.Interference.{everyone};
 ghost use Rattle.iceoryx2_world.specs.Listing.{Lists};
 ghost use Rattle.wulameron_state.specs.Slots as slots;
+ghost use Rattle.wulameron_state.specs.declared.words.Answer.TheVariants.{Nothing};
 ghost use Rattle.wulameron_state.specs.States.{GoesAs, IsOfOwnNode, Sends, Stands, fresh_session};
 
 use crate::error::{SlotError, closed, sent};
+use crate::words::Answer;
 use iceoryx2_commands::command::{Command, SLOTS};
 use iceoryx2_description::config::Config;
 use iceoryx2_session::session::Session;
@@ -24,12 +26,13 @@ use iceoryx2_world::listing::Entry;
 use std::alloc::Global;
 use wulameron_request::pending::Pending;
 
-/// A session over a storage that shows a world, the request that is pending, and the last listing. It has to be spent by
-/// `close_all`.
+/// A session over a storage that shows a world, the request that is pending, the last listing, and what was answered to
+/// the last line. It has to be spent by `close_all`.
 pub struct State<S> {
     pub session: Session<S>,
     pub pending: Pending,
     pub listing: Vec<Entry>,
+    pub answer: Answer,
 }
 
 /// One over a table of its own, which can be let go.
@@ -116,6 +119,9 @@ pub fn close<S: WorldStorage>(session: &mut Session<S>, slot: usize) -> Result<(
 
 /// Lets go of what the slot holds without an access. `NoSuchSlot`, `SlotEmpty`.
 pub fn abandon<S: WorldStorage>(session: &mut Session<S>, slot: usize) -> Result<(), SlotError>
+    ensures answer { result ≡ slots.abandoned slot (held_at (own_state session.old).slots slot) }
+
+    // The storage stays as it was, and so do the other slots.
     ensures after { own_state session.new ≡ record (own_state session.old) {
       slots = slice_set (own_state session.old).slots slot None;
     } }
@@ -133,6 +139,7 @@ impl<S: WorldStorage> State<S> {
     /// A session over a storage, with no request pending. All its slots are free.
     pub fn over(alloc: Global, storage: S) -> State<S>
         ensures pending { result.pending ≡ None }
+        ensures answer { result.answer ≡ Nothing }
         ensures session { own_state result.session ≡ fresh_session storage }
         ensures stands { SlotsStandInWorld (own_nodes S.own result.session) (world_state S.world result.session) }
     {
@@ -140,6 +147,7 @@ impl<S: WorldStorage> State<S> {
             session: Session::over(Config::default(), storage),
             pending: Pending::new(),
             listing: Vec::new(alloc),
+            answer: Answer::Nothing,
         }
     }
 
@@ -159,6 +167,7 @@ impl<S: WorldStorage> State<S> {
             session,
             pending: _,
             listing: _,
+            answer: _,
         } = self;
         session.close_all()
     }
@@ -186,6 +195,7 @@ impl TableState {
     /// A session over a new table, with no request pending. All its slots are free.
     pub fn new(alloc: Global) -> TableState
         ensures pending { result.state.pending ≡ None }
+        ensures answer { result.state.answer ≡ Nothing }
         ensures stands { Stands everyone (world_state (λ table. table.world) result.state.session) }
     {
         TableState {

@@ -1,0 +1,11 @@
+use Rattle.std.proofs.Common.{refl}
+use Rattle.iceoryx2_session.specs.Slots.{held_at}
+use Rattle.wulameron_state.proofs.HeldReads.{service_held, service_none}
+use Rattle.wulameron_state.proofs.agreed.service.Goals as goal
+
+pub returns-in-Some : goal.returns-in-Some
+returns-in-Some g c = service_held (held_at c.args.state.now.session.slots c.args.slot) c.in-Some.registration.now c.in-Some.ensures
+    (record { done = refl; pattern = c.pattern_of.ensures; number = c.number.ensures; node = c.node.ensures })
+
+pub returns-in-None : goal.returns-in-None
+returns-in-None g c = service_none (held_at c.args.state.now.session.slots c.args.slot) c.in-None.ensures c.code_of_empty.ensures (refl, refl, refl)
