@@ -1,2 +1,4 @@
 pub mod Sending
 pub mod HeldReads
+pub mod Answering
+pub mod Details

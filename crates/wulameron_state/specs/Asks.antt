@@ -6,7 +6,6 @@ use Rattle.iceoryx2_access.specs.Letter.{Letter}
 use Rattle.iceoryx2_commands.specs.declared.command.Call.{Call}
 use Rattle.iceoryx2_commands.specs.declared.command.Command.TheVariants as command
 use Rattle.iceoryx2_description.specs.Span.{Span}
-use Rattle.iceoryx2_description.specs.declared.time.ClockFault.{ClockFault}
 use Rattle.iceoryx2_description.specs.declared.time.TheConstants.{NANOSECONDS_PER_SECOND}
 use Rattle.iceoryx2_session.specs.SessionStates.{own_state}
 use Rattle.iceoryx2_session.specs.Slots.{held_at}
@@ -114,8 +113,8 @@ SetsDuration setting seconds nanoseconds = WithSpan (span_of seconds nanoseconds
 abbrev pub SetsType : (part variant : ℕ) (name : List ℕ) (size alignment : ℕ)
     → (old : Option Call) → (code : ℕ) → (new : Option Call) → Type 0
 SetsType part variant name size alignment old code new =
-    (made : Result Detail RequestError) × MakesDetail variant name size alignment made
-    × WithDetail part made old code new
+    (answer : Result Detail RequestError) × MakesDetail variant name size alignment answer
+    × WithDetail part answer old code new
 
 abbrev pub AddsAttribute : (key value : List ℕ) → Asking
 AddsAttribute key value = WithText key (WithText value (IsCoded (Pieces (TakesPair key value))))
@@ -127,7 +126,7 @@ abbrev pub SetsTime : (seconds nanoseconds : ℕ) → Asking
 SetsTime seconds nanoseconds = WithSpan (span_of seconds nanoseconds) (λ span. TakesTime (Ok span))
 
 abbrev pub SetsClockFault : Asking
-SetsClockFault = IsCoded (Pieces (TakesTime (Err ClockFault)))
+SetsClockFault = IsCoded (Pieces (TakesTime (Err (record {}))))
 
 -- ---- what each call makes of a state
 
@@ -153,7 +152,7 @@ module _ {S : Type 0} (step : S → Letter → S → Type 0) (world : S → Worl
   abbrev pub AbandonsSlot : (slot : ℕ) → Type 0
   AbandonsSlot slot = (own_state new.session ≡ record (own_state old.session) {
     slots = slice_set (own_state old.session).slots slot None;
-  }) × (code ≡ code_of_abandon (held_at (own_state old.session).slots slot) slot)
+  }) × (code ≡ code_of_slot (abandoned slot (held_at (own_state old.session).slots slot)))
       × (new ≡ record old { session = new.session })
 
 -- A listing is kept, and told how many entries it has. Where there is no memory the last one stays.

@@ -45,11 +45,11 @@ pub data WritesText (text place : List ℕ) : (code : ℕ) → List ℕ → (wri
       → written ≡ length text → WritesText text place TOO_SMALL new written
 
 -- Of what a slot holds there are the service's pattern and number, and the node.
-pub record ReadsService (held : Registered) (code pattern number node : ℕ) : Type 0 where
+pub record ReadsService (held : Registered) (code new_pattern new_number new_node : ℕ) : Type 0 where
   pub done : code ≡ DONE
-  pub pattern : pattern ≡ pattern_of held.description.pattern
-  pub number : number ≡ held.number
-  pub node : node ≡ held.node
+  pub pattern : new_pattern ≡ pattern_of held.description.pattern
+  pub number : new_number ≡ held.number
+  pub node : new_node ≡ held.node
 
 -- A type is in its places, without its name, or they are as they were.
 abbrev pub ReadsType : Result Detail RequestError
@@ -80,12 +80,12 @@ abbrev pub code_of_both : (first second : ℕ) → ℕ
 code_of_both first second = if first == 0 then second else 5
 
 -- A key and its value are each written into its place, and the lengths of both are told.
-pub record WritesPair (pair : Pair) (key value : List ℕ) (code : ℕ) (new_key : List ℕ) (key_length : ℕ)
+pub record WritesPair (pair : Pair) (key_place value_place : List ℕ) (code : ℕ) (new_key : List ℕ) (key_length : ℕ)
     (new_value : List ℕ) (value_length : ℕ) : Type 0 where
   pub first : ℕ
   pub second : ℕ
-  pub key : WritesText pair.key key first new_key key_length
-  pub value : WritesText pair.value value second new_value value_length
+  pub key : WritesText pair.key key_place first new_key key_length
+  pub value : WritesText pair.value value_place second new_value value_length
   pub both : code ≡ code_of_both first second
 
 -- Something is read of an attribute, where there is one of this index. Else the code tells it, and all places stay.

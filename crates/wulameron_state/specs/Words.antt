@@ -35,7 +35,7 @@ pub data KeepsWrong (line : List ℕ) (old : Answer) : (code : ℕ) → Answer �
 abbrev pub IsTextOf : Answer → List ℕ → Type 0
 IsTextOf answer.Nothing text = text ≡ []
 IsTextOf (answer.Reply reply slot) text = Tells slot reply text
-IsTextOf (answer.Wrong wrong) text = text ≡ string_bytes wrong
+IsTextOf (answer.Wrong found) text = text ≡ string_bytes found
 
 module _ {S : Type 0} (step : S → Letter → S → Type 0) (world : S → World) (old : SessionOver S) (kept : Answer) where
   -- A command leads to another state, and its reply is kept.

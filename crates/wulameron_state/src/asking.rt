@@ -94,7 +94,8 @@ fn detail_of(
     match TypeDetail::new(alloc, variant, name, size, alignment) {
         Ok(detail) => Ok(detail),
         Err(TypeDetailError::OutOfMemory) => Err(RequestError::OutOfMemory),
-        Err(_) => Err(RequestError::BadType),
+        Err(TypeDetailError::NameLength) => Err(RequestError::BadType),
+        Err(TypeDetailError::Alignment) => Err(RequestError::BadType),
     }
 }
 

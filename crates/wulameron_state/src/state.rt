@@ -1,6 +1,6 @@
 //! A session, and the request that is pending.
 
-ghost use Rattle.std.specs.Prelude.{◌≡◌, ℕ, IfOk, OnErr, Option, is_some, length, slice_set, None};
+ghost use Rattle.std.specs.Prelude.{◌≡◌, ℕ, IfErr, IfOk, OnErr, Option, is_some, length, slice_set, None};
 ghost use Rattle.iceoryx2_commands.specs.declared.command.Call.{Call};
 ghost use Rattle.iceoryx2_commands.specs.declared.command.Command.TheVariants as command;
 ghost use Rattle.iceoryx2_description.specs.declared.config.Config.{Config};
@@ -12,6 +12,7 @@ ghost use Rattle.iceoryx2_world.specs.Across.{Agrees};
 ghost use Rattle.iceoryx2_world.specs.Interference.{everyone};
 ghost use Rattle.iceoryx2_world.specs.Listing.{Lists};
 ghost use Rattle.wulameron_state.specs.Slots as slots;
+ghost use Rattle.wulameron_state.specs.declared.error.SlotError.TheVariants.{OutOfMemory};
 ghost use Rattle.wulameron_state.specs.declared.words.Answer.TheVariants.{Nothing};
 ghost use Rattle.wulameron_state.specs.States.{GoesAs, IsOfOwnNode, Sends, Stands, fresh_session};
 
@@ -175,10 +176,11 @@ impl<S: WorldStorage> State<S> {
     /// Takes a listing, which is kept until the next one, and gives how many entries it has. `OutOfMemory`, after which
     /// the last one stays.
     pub fn list(&mut self) -> Result<usize, SlotError>
-        ensures session { self.new.session ≡ self.old.session }
+        ensures only { self.new ≡ record self.old { listing = self.new.listing } }
         ensures lists { IfOk result (λ count. Lists (world_state S.world self.old.session).table self.new.listing.items
             × (count ≡ length self.new.listing.items)) }
         ensures kept { OnErr result (self.new ≡ self.old) }
+        ensures error { IfErr result (λ error. error ≡ OutOfMemory) }
     {
         match self.session.storage().list() {
             Ok(entries) => {

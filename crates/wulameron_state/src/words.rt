@@ -92,12 +92,12 @@ pub fn carry_out<S: WorldStorage>(
 
 /// Keeps a reply, unless it tells that there was no memory.
 fn keep(reply: Reply, slot: usize, answer: &mut Answer) -> u32
-    ensures { KeepsReply reply slot answer.old result answer.new }
+    ensures { KeepsReply slot answer.old reply result answer.new }
 {
     match reply {
         Reply::OutOfMemory => OUT_OF_MEMORY,
-        other => {
-            *answer = Answer::Reply(other, slot);
+        _ => {
+            *answer = Answer::Reply(reply, slot);
             DONE
         }
     }
