@@ -14,13 +14,14 @@ LONGEST = 65536
 # The calls.
 BEGIN, SET_NUMBER, SET_DURATION, SEND, CLOSE = 1, 2, 4, 10, 11
 GET_SERVICE, GET_NUMBER, GET_NAME, GET_HASH, GET_BYTES = 13, 14, 18, 19, 22
-LIST, LINE, NODES, GET_NODE, CLEAN = 23, 25, 26, 27, 28
+LIST, GET_ENTRY, LINE, NODES, GET_NODE, CLEAN = range(23, 29)
 # The codes.
 OK, BAD_VALUE, TOO_MANY, UNKNOWN_CALL, NO_REQUEST = 0, 8, 11, 14, 15
 NO_SUCH_SLOT, SLOT_IN_USE, SLOT_EMPTY, NO_SUCH_ITEM = 16, 17, 18, 19
 REFUSED, OTHER_NODE, LOG, NODE_IN_USE, BAD_LINE, NODE_ALIVE = 20, 25, 26, 29, 31, 32
 # What the header for C has: a pattern, how a service is wanted, settings, and the refusals of an open of events.
 EVENT, CREATE, OPEN = 1, 1, 2
+STANDS = 2
 MAX_NODES, MAX_LISTENERS, DEADLINE = 1, 102, 121
 # DoesNotSupportRequestedAmountOfListeners and ExceedsMaxNumberOfNodes, by their places in docs/REFUSALS.md.
 TOO_FEW_LISTENERS, TOO_MANY_NODES = 1013, 1016
@@ -210,6 +211,10 @@ def sessions(runs):
     runs.need(maker.code(SEND, a=0) == SLOT_IN_USE, "a slot is filled twice")
     listed = maker.call(LIST)
     runs.need((listed[0], listed[4]) == (OK, 1), f"a listing tells {listed}")
+    entry = maker.call(GET_ENTRY, x=0)
+    wanted = (OK, STANDS, EVENT, 0, 0, 1, 2, NAME.encode(), bytes.fromhex(shown(runs, path)["hash"]))
+    runs.need(entry == wanted, f"the entry of a listing is {entry}, not {wanted}")
+    runs.need(maker.code(GET_ENTRY, x=1) == NO_SUCH_ITEM, "there is a second entry")
     opener = Client(runs, path, "--node", "2")
     begin(opener, OPEN, 2, listeners=(MAX_LISTENERS, 5))
     refused = opener.call(SEND, a=0)

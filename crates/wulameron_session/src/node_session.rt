@@ -159,6 +159,7 @@ impl<S: WorldStorage + Troubled, N: SharedNodes + Drop> NodeSession<S, N> {
     fn look(&mut self, alloc: Global, call: &Frame) -> Frame {
         match call.numbers.code {
             23 => listing::list(alloc, &mut self.state),
+            24 => listing::entry(alloc, &self.state, call),
             26 => self.list_nodes(alloc),
             27 => self.listed_node(alloc, call.numbers.x),
             28 => clean(alloc, &mut self.state.session, &self.nodes, call),
@@ -223,6 +224,7 @@ impl<S: WorldStorage + Troubled, N: SharedNodes + Drop> NodeSession<S, N> {
             session,
             pending,
             listing,
+            answer,
         } = state;
         let mut text = String::new(alloc);
         let mut answerer = SharedAnswerer::over(node, session, nodes);
@@ -234,6 +236,7 @@ impl<S: WorldStorage + Troubled, N: SharedNodes + Drop> NodeSession<S, N> {
                 session,
                 pending,
                 listing,
+                answer,
             },
             nodes,
             statuses,
