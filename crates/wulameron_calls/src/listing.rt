@@ -38,13 +38,7 @@ fn with_entry<S: WorldStorage>(
     let mut hash = [0u8; HASH_LENGTH];
     let mut name_length = 0;
     let mut hash_length = 0;
-    let code = entries::entry_name(
-        alloc,
-        &state.listing,
-        index,
-        &mut name,
-        &mut name_length,
-    );
+    let code = entries::entry_name(alloc, &state.listing, index, &mut name, &mut name_length);
     if code != DONE {
         return with_code(alloc, code);
     }
