@@ -25,7 +25,7 @@ module _ {reads : Description → Type 0} {kept : Type 0} {slot code : ℕ} wher
 same_factory : (f g : Registered) → Some f ≡ Some g → f ≡ g
 same_factory f g e = cc
 
-module _ {pattern number node new_pattern new_number new_node slot code : ℕ} where
+module _ (pattern number node new_pattern new_number new_node slot code : ℕ) where
   pub service_held : (held : Option Registered) (f : Registered) → Some f ≡ held → ReadsService f code new_pattern new_number new_node
       → TellsService pattern number node new_pattern new_number new_node slot code held
   service_held None f is so = absurd cc
@@ -34,5 +34,5 @@ module _ {pattern number node new_pattern new_number new_node slot code : ℕ} w
   pub service_none : (held : Option Registered) → None ≡ held → code ≡ empty_code slot
       → (new_pattern ≡ pattern) × (new_number ≡ number) × (new_node ≡ node)
       → TellsService pattern number node new_pattern new_number new_node slot code held
-  service_none None is coded stays = (coded, stays)
+  service_none None is coded stays = (coded, stays.0, stays.1, stays.2)
   service_none (Some g) is coded stays = absurd cc

@@ -62,7 +62,8 @@ fn description_of(alloc: Global, row: &ListedRow) -> Result<Option<StaticConfig>
             Err(DecodeError::Malformed) => Ok(None),
             Err(DecodeError::OutOfMemory) => Err(AllocError),
         },
-        _ => Ok(None),
+        ListedRow::Locked(_) => Ok(None),
+        ListedRow::Absent => Ok(None),
     }
 }
 
