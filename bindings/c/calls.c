@@ -256,7 +256,7 @@ static void lines(void)
 {
     wulameron_session *session = opened(7);
     static char many[65537];
-    char reply[256];
+    char reply[256] = "";
     size_t length = 9;
     uint64_t value = 0;
     GIVES(WULAMERON_OK, wulameron_get_reply(session, reply, sizeof reply, &length));
