@@ -2,9 +2,11 @@
 //!
 //! Nothing here blocks, locks or starts a thread. What a caller owes stands in `bindings/c/wulameron_c.h`.
 //!
-//! Each export leaves a sound handle sound (`IsSound`): a state is freed once. The three functions of a state's
-//! pointer are proved by hand. What an export does to the state is the function below it, by reading. The header
-//! and the shim are tested by `tools/check-bindings` alone.
+//! Each export leaves a sound handle sound (`IsSound`): a state is freed once. It does to the state of an open handle what
+//! the contract of the function below it tells (`Acts`), or reads that of it and changes nothing (`Reads`, `ReadsSlot`).
+//! Where the handle isn't open the code is `NOT_OPEN`, and all places stay. A handle is opened over a state that nothing
+//! was asked of (`Opens`, `IsFresh`), and holds none once it is closed (`Closes`). The three functions of a state's
+//! pointer are proved by hand. The header and the shim are tested by `tools/check-bindings` alone.
 #![tactic(auto)]
 
 mod calls;
