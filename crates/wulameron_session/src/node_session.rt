@@ -1,5 +1,8 @@
 //! The session of a node over a storage that processes share, as a program in another language asks it.
 
+ghost use Rattle.negotiate_lines.specs.Lines.{IsLine};
+ghost use Rattle.negotiate_lines.specs.declared.line.Line.TheVariants as said;
+
 use crate::cleaning::clean;
 use crate::log_nodes::SharedNodes;
 use crate::sending::send;
@@ -213,7 +216,9 @@ impl<S: WorldStorage + Troubled, N: SharedNodes + Drop> NodeSession<S, N> {
     }
 
     /// Answers the command of a line.
-    fn command(self, alloc: Global, line: &[u8], command: Command) -> (NodeSession<S, N>, Frame) {
+    fn command(self, alloc: Global, line: &[u8], command: Command) -> (NodeSession<S, N>, Frame)
+        requires { IsLine line.now (said.Command command) }
+    {
         let NodeSession {
             node,
             state,
