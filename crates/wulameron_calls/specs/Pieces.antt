@@ -13,7 +13,8 @@ use Rattle.wulameron_state.specs.Asks.{Begins, IsCoded}
 use Rattle.wulameron_calls.specs.Replies.{HasCode}
 
 -- What is pending goes so by an answer, and the reply has its code and nothing else.
-pub record IsPiece (goes : Option Call → Answer → Option Call → Type 0) (old new : Option Call) (reply : Frame) : Type 0 where
+pub record IsPiece (goes : Option Call → Answer → Option Call → Type 0) (old new : Option Call) (reply : Frame)
+    : Type 0 where
   pub coded : IsCoded goes old reply.numbers.code new
   pub plain : HasCode reply.numbers.code reply
 
