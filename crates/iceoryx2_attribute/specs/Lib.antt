@@ -1,5 +1,4 @@
 -- What a contract sees of attributes and of what is required of them.
-pub mod Texts
 pub mod Ascending
 pub mod Attributes
 pub mod Requirements

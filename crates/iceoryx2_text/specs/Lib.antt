@@ -1,0 +1,2 @@
+-- What names, keys, values and types have in common.
+pub mod Texts
