@@ -2,8 +2,8 @@
 use Rattle.std.specs.Prelude.{◌≡◌, ℕ, ◌+◌, ◌-◌, ◌^◌, ◌≤◌, List, length, min}
 
 -- a count stops at the last number of 64 bits
-abbrev pub one_more : ℕ → ℕ
-one_more n = min (n + 1) (2 ^ 64 - 1)
+abbrev pub count_up : ℕ → ℕ
+count_up n = min (n + 1) (2 ^ 64 - 1)
 
 -- Each letter of the word counts.
 abbrev pub CountsEach : {L : Type 0} → (old : ℕ) → List L → (new : ℕ) → Type 0

@@ -31,19 +31,19 @@ pub data Letter : Type 0 where
   Release : (ticket node : ℕ) → ServiceHash → (number : ℕ) → Result Released ReleaseError → Letter
 
 -- who calls, and for which service; `exists` is nobody's
-abbrev pub caller_of : Letter → ℕ
-caller_of (Exists h a) = 0
-caller_of (Fetch i h a) = i
-caller_of (Counts i h a) = i
-caller_of (MakeTag i h a) = i
-caller_of (RemoveTag i h a) = i
-caller_of (Lock i h a) = i
-caller_of (MakeSegment i h n m a) = i
-caller_of (RemoveSegment i h a) = i
-caller_of (RemoveDescription i h a) = i
-caller_of (Publish i h n d a) = i
-caller_of (OpenSegment i h n a) = i
-caller_of (Release t i h n a) = i
+abbrev pub acting_node : Letter → ℕ
+acting_node (Exists h a) = 0
+acting_node (Fetch i h a) = i
+acting_node (Counts i h a) = i
+acting_node (MakeTag i h a) = i
+acting_node (RemoveTag i h a) = i
+acting_node (Lock i h a) = i
+acting_node (MakeSegment i h n m a) = i
+acting_node (RemoveSegment i h a) = i
+acting_node (RemoveDescription i h a) = i
+acting_node (Publish i h n d a) = i
+acting_node (OpenSegment i h n a) = i
+acting_node (Release t i h n a) = i
 
 abbrev pub service_of : Letter → ServiceHash
 service_of (Exists h a) = h

@@ -11,7 +11,7 @@ use Rattle.std.specs.Str.{bytes_eq}
 use Rattle.std.proofs.lemmas.List.Concat.{flat_map-cons}
 use Rattle.std.proofs.lemmas.List.Elements.{All-nil, All-cons, All-head, All-tail}
 use Rattle.std.proofs.lemmas.Slice.Eq.{bytes_eq-Decides}
-use Rattle.iceoryx2_attribute.specs.Texts.{IsText}
+use Rattle.iceoryx2_text.specs.Texts.{IsText}
 use Rattle.iceoryx2_byte_form.specs.PartForm.{text, truth, option}
 use Rattle.iceoryx2_byte_form.specs.PartReading.{◌>>=◌, Part, then_at, as_at, where_at, number_at, bytes_at, literal_at, text_at, truth_at, option_at, list_at, counted_at}
 

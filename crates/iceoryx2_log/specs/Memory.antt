@@ -2,7 +2,7 @@
 use Rattle.std.specs.Prelude.{◌≡◌, ℕ, Bool, true, false, ◌&&◌, List, [], ◌∷◌, ◌++◌, nat_eq, nat_lt, not}
 use Rattle.std.specs.Prelude.{Result, Ok, Err}
 use Rattle.std.specs.List.{list_any}
-use Rattle.iceoryx2_access.specs.Counts.{one_more}
+use Rattle.iceoryx2_access.specs.Counts.{count_up}
 use Rattle.iceoryx2_log.specs.declared.entry.Entry.{Entry}
 use Rattle.iceoryx2_log.specs.declared.log.LogError.{LogError}
 use Rattle.iceoryx2_log.specs.declared.log.LogError.TheVariants.{Busy, OutOfMemory, Failed, Damaged, Moved}
@@ -36,7 +36,7 @@ none_unread (e ∷ entries) = false
 
 -- one more hold was asked for
 abbrev pub hold_counted : LogState → LogState
-hold_counted s = record s { holds = one_more s.holds }
+hold_counted s = record s { holds = count_up s.holds }
 
 -- Others have appended these.
 abbrev pub grown : LogState → List Entry → LogState
@@ -50,12 +50,12 @@ with_batch s (batch ∷ batches) = record (grown s batch) { batches = batches }
 -- What each answer of a hold says of the log before, and what it leaves. It is refused where the log is held already,
 -- which is tested first.
 abbrev pub Holds : LogState → Result (Unit {0}) LogError → LogState → Type 0
-Holds old (Ok _) new = (old.held ≡ false) × (is_listed (one_more old.holds) old.busy ≡ false)
+Holds old (Ok _) new = (old.held ≡ false) × (is_listed (count_up old.holds) old.busy ≡ false)
     × (new ≡ record (with_batch (hold_counted old) old.batches) { held = true })
 Holds old (Err Failed) new = (old.held ≡ true) × (new ≡ hold_counted old)
-Holds old (Err Busy) new = (old.held ≡ false) × (is_listed (one_more old.holds) old.busy ≡ true)
+Holds old (Err Busy) new = (old.held ≡ false) × (is_listed (count_up old.holds) old.busy ≡ true)
     × (new ≡ hold_counted old)
-Holds old (Err OutOfMemory) new = (old.held ≡ false) × (is_listed (one_more old.holds) old.busy ≡ false)
+Holds old (Err OutOfMemory) new = (old.held ≡ false) × (is_listed (count_up old.holds) old.busy ≡ false)
     × (new ≡ hold_counted old)
 Holds old (Err Damaged) new = ⊥
 Holds old (Err Moved) new = ⊥
@@ -63,11 +63,11 @@ Holds old (Err Moved) new = ⊥
 -- ---- append
 
 abbrev pub append_counted : LogState → LogState
-append_counted s = record s { appends = one_more s.appends }
+append_counted s = record s { appends = count_up s.appends }
 
 -- It is held, nothing is unread, and this append isn't one of those that are refused.
 abbrev pub may_append : LogState → Bool
-may_append s = s.held && none_unread s.contents.unread && not (is_listed (one_more s.appends) s.refused)
+may_append s = s.held && none_unread s.contents.unread && not (is_listed (count_up s.appends) s.refused)
 
 -- What each answer of an append says of the log before, and what it leaves.
 abbrev pub AppendsOne : LogState → Entry → Result (Unit {0}) LogError → LogState → Type 0

@@ -2,7 +2,7 @@
 
 ghost use Rattle.std.specs.Prelude.{◌≡◌, ◌≤◌, ◌↔◌, ◌++◌, ◌&&◌, not, true, false, [], ◌∷◌};
 ghost use Rattle.std.specs.Prelude.{length, take, drop, Err, IfOk, IfErr, OnOk, OnErr};
-ghost use Rattle.iceoryx2_access.specs.Counts.{one_more};
+ghost use Rattle.iceoryx2_access.specs.Counts.{count_up};
 ghost use Rattle.iceoryx2_log.specs.Log.{accepted, first};
 ghost use Rattle.iceoryx2_log.specs.declared.log.LogError.TheVariants.{OutOfMemory};
 ghost use Rattle.iceoryx2_log.specs.Memory.{is_listed, none_unread, with_batch};

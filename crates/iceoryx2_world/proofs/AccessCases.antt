@@ -45,7 +45,7 @@ use Rattle.iceoryx2_access.specs.declared.storage.OpenSegmentError.TheVariants a
 use Rattle.iceoryx2_access.specs.declared.storage.Release.{Release as Released}
 use Rattle.iceoryx2_access.specs.declared.storage.ReleaseError.{ReleaseError}
 use Rattle.iceoryx2_access.specs.declared.storage.ReleaseError.TheVariants.{NoSuchTicket}
-use Rattle.iceoryx2_access.specs.Letter.{Letter, caller_of, service_of}
+use Rattle.iceoryx2_access.specs.Letter.{Letter, acting_node, service_of}
 use Rattle.iceoryx2_access.specs.Letter as letter
 use Rattle.iceoryx2_world.proofs.agreement.StepCases.{step_case, case_allowed}
 
@@ -345,7 +345,7 @@ module _ (i : ℕ) (h : ServiceHash) where
       release_case true (Some y) a c b o k = let st : Takes i h act.Leave s.view y = taken o in released y a c (is_ticket_means n _ b) st (leaves_by st) k
 
 -- What the tests come to is one of the cases.
-pub access_case : (s : NodeView) (l : Letter) (c : Change) → IsNodeAnswer (caller_of l) (service_of l) s l c → IsAccessCase s l c
+pub access_case : (s : NodeView) (l : Letter) (c : Change) → IsNodeAnswer (acting_node l) (service_of l) s l c → IsAccessCase s l c
 access_case s (letter.Exists h a) c k = exists_case 0 h s _ a c refl k
 access_case s (letter.Fetch i h a) c k = fetch_case i h s _ a c refl k
 access_case s (letter.Counts i h a) c k = counts_case i h s _ a c refl k
@@ -480,7 +480,7 @@ module _ (s : NodeView) (i : ℕ) (h : ServiceHash) where
   refused_opening n is = ap (λ z. opening_of i h n s z (own_step i h act.Join s.view)) is
 
 -- And the tests come to each of them.
-pub case_answer : {s : NodeView} {l : Letter} {c : Change} → IsAccessCase s l c → IsNodeAnswer (caller_of l) (service_of l) s l c
+pub case_answer : {s : NodeView} {l : Letter} {c : Change} → IsAccessCase s l c → IsNodeAnswer (acting_node l) (service_of l) s l c
 case_answer (case.is_absent e) = (sym (ap existence e), refl)
 case_answer (case.is_being_set_up e) = (sym (ap existence e), refl)
 case_answer (case.is_there e) = (sym (ap existence e), refl)

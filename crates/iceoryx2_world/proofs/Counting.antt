@@ -3,7 +3,7 @@ use Rattle.std.proofs.Common.{◌≡◌, ℕ, ◌≤◌, false, List, sym, ap, s
 use Rattle.std.specs.Prelude.{unwrap_or}
 use Rattle.iceoryx2_world.specs.World.{World}
 use Rattle.iceoryx2_world.specs.Steps.{last_number}
-use Rattle.iceoryx2_access.specs.Counts.{one_more}
+use Rattle.iceoryx2_access.specs.Counts.{count_up}
 use Rattle.iceoryx2_access.specs.Letter.{Letter}
 use Rattle.iceoryx2_access.specs.MayRefuse.{MayRefuse}
 use Rattle.iceoryx2_access.specs.Run.{Run}
@@ -17,7 +17,7 @@ use Rattle.iceoryx2_access.proofs.Run as runs
 abbrev pub IsCount : ℕ → ℕ → Type 0
 IsCount k n = (k ≤ n) × (n ≤ last_number)
 
-one_more_counts : (k n : ℕ) → IsCount k n → IsCount k (one_more n)
+one_more_counts : (k n : ℕ) → IsCount k n → IsCount k (count_up n)
 one_more_counts k n c = (omega (arith, c.0, c.1), omega arith)
 
 step_counts : (k : ℕ) (s t : World × ℕ) (x : Step) → IsPeerStep s x t → IsCount k s.1 → IsCount k t.1

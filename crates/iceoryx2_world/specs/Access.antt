@@ -1,5 +1,5 @@
--- What an access of a node answers and changes, on what that node sees of that service: the
--- tests in their order, and then at most one step.
+-- The tests of an access as code makes them, on what its node sees of that service, in their order, and then at most
+-- one step. The accesses themselves are read in AccessCases.
 use Rattle.std.specs.Prelude.{◌≡◌, ℕ, ◌+◌, Bool, true, false, ◌&&◌, nat_lt, ◌==◌, if◌then◌else◌}
 use Rattle.std.specs.Prelude.{List, Option, Some, None, Result, Ok, Err, ◌⊎◌, OnOk, unwrap_or}
 use Rattle.std.specs.FinMap as map
@@ -40,7 +40,7 @@ use Rattle.iceoryx2_access.specs.declared.storage.Release.{Release as Released}
 use Rattle.iceoryx2_access.specs.declared.storage.Release.TheVariants as Leaving
 use Rattle.iceoryx2_access.specs.declared.storage.ReleaseError.{ReleaseError}
 use Rattle.iceoryx2_access.specs.declared.storage.ReleaseError.TheVariants.{NoSuchTicket}
-use Rattle.iceoryx2_access.specs.Letter.{Letter, caller_of, service_of}
+use Rattle.iceoryx2_access.specs.Letter.{Letter, acting_node, service_of}
 use Rattle.iceoryx2_access.specs.Letter as letter
 
 -- What a node's access to a service reads.
@@ -254,5 +254,5 @@ module _ (i : ℕ) (h : ServiceHash) where
 -- The node's own part of an access, in the world.
 pub record IsOwnPart (w : World) (l : Letter) (v : World) : Type 0 where
   pub change : Change
-  pub own : IsNodeAnswer (caller_of l) (service_of l) (node_view w (caller_of l) (service_of l)) l change
-  pub is : v ≡ write w (caller_of l) (service_of l) change
+  pub own : IsNodeAnswer (acting_node l) (service_of l) (node_view w (acting_node l) (service_of l)) l change
+  pub is : v ≡ write w (acting_node l) (service_of l) change

@@ -1,4 +1,5 @@
--- The accesses once more, as a relation: what the functions of Access answer and change, and nothing else.
+-- The twelve accesses, a line for each answer: when it is given and what it changes. Start here. That code comes to
+-- just these is `accesses`, of the functions in Access.
 use Rattle.std.specs.Prelude.{◌≡◌, ◌≢◌, ℕ, ◌+◌, ◌<◌, ◌≤◌, true, false, ◌⊎◌}
 use Rattle.std.specs.Prelude.{List, Option, Some, None, Ok, Err}
 use Rattle.std.specs.FinMap as map
@@ -27,7 +28,7 @@ use Rattle.iceoryx2_access.specs.declared.storage.PublishError.TheVariants as Pu
 use Rattle.iceoryx2_access.specs.declared.storage.OpenSegmentError.TheVariants as Opening
 use Rattle.iceoryx2_access.specs.declared.storage.Release.TheVariants as Leaving
 use Rattle.iceoryx2_access.specs.declared.storage.ReleaseError.TheVariants.{NoSuchTicket}
-use Rattle.iceoryx2_access.specs.Letter.{Letter, caller_of, service_of, Exists, Fetch, Counts, MakeTag, RemoveTag, Lock}
+use Rattle.iceoryx2_access.specs.Letter.{Letter, acting_node, service_of, Exists, Fetch, Counts, MakeTag, RemoveTag, Lock}
 use Rattle.iceoryx2_access.specs.Letter.{MakeSegment, RemoveSegment, RemoveDescription, Publish, OpenSegment, Release}
 
 -- the node's step is one of the fourteen, and comes to this
@@ -183,5 +184,5 @@ pub data IsAccessCase (s : NodeView) : Letter → Change → Type 0 where
 -- The node's own part of an access by these cases, in the world.
 pub record IsOwnCase (w : World) (l : Letter) (v : World) : Type 0 where
   pub change : Change
-  pub own : IsAccessCase (node_view w (caller_of l) (service_of l)) l change
-  pub is : v ≡ write w (caller_of l) (service_of l) change
+  pub own : IsAccessCase (node_view w (acting_node l) (service_of l)) l change
+  pub is : v ≡ write w (acting_node l) (service_of l) change

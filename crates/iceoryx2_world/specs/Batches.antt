@@ -8,7 +8,7 @@ use Rattle.iceoryx2_world.specs.World.{World, phase_of}
 use Rattle.iceoryx2_world.specs.Acts.{IsAct}
 use Rattle.iceoryx2_world.specs.Acts as act
 use Rattle.iceoryx2_world.specs.Steps.{world_after}
-use Rattle.iceoryx2_access.specs.Counts.{one_more}
+use Rattle.iceoryx2_access.specs.Counts.{count_up}
 use Rattle.iceoryx2_access.specs.Run.{Run}
 use Rattle.iceoryx2_world.specs.declared.batches.Act.{Act}
 use Rattle.iceoryx2_world.specs.declared.batches.Act.TheVariants as stored
@@ -45,7 +45,7 @@ may_starve w x = needs_room (act_of x.act) (phase_of w (Peer x.peer) x.hash)
 -- the count after a step that answered this: one that found no memory is counted
 abbrev pub skipped_after : Result Bool AllocError → ℕ → ℕ
 skipped_after (Ok done) k = k
-skipped_after (Err e) k = one_more k
+skipped_after (Err e) k = count_up k
 
 -- A step of a batch, with the world and the count of skipped steps before and after.
 pub data IsPeerStep (s : World × ℕ) (x : Step) (t : World × ℕ) : Type 0 where
@@ -54,7 +54,7 @@ pub data IsPeerStep (s : World × ℕ) (x : Step) (t : World × ℕ) : Type 0 wh
   -- it is allowed and has its effect
   acts : IsAct (act_of x.act) → effect s.0 x ≡ Some t.0 → t.1 ≡ s.1 → IsPeerStep s x t
   -- it is allowed and finds no memory: nothing changes, and it is counted
-  starves : (v : World) → effect s.0 x ≡ Some v → may_starve s.0 x ≡ true → t ≡ (s.0, one_more s.1)
+  starves : (v : World) → effect s.0 x ≡ Some v → may_starve s.0 x ≡ true → t ≡ (s.0, count_up s.1)
       → IsPeerStep s x t
 
 -- The steps of a batch in order.

@@ -12,7 +12,7 @@ use Rattle.iceoryx2_world.specs.Steps.{world_after}
 use Rattle.iceoryx2_world.specs.Agreement.{Later, IsSpent}
 use Rattle.iceoryx2_world.specs.Across.{Agrees}
 use Rattle.iceoryx2_world.specs.Access.{IsOwnPart}
-use Rattle.iceoryx2_access.specs.Letter.{Letter, caller_of}
+use Rattle.iceoryx2_access.specs.Letter.{Letter, acting_node}
 use Rattle.iceoryx2_access.specs.MayRefuse.{MayRefuse}
 
 -- No segment of the service has this number.
@@ -52,7 +52,7 @@ pub data Others (own : ℕ → Bool) : World → World → Type 0 where
   peer_acts : {u v w : World} (id : ℕ) (h : ServiceHash) (act : Act)
       → IsAct act → world_after u (Peer id) h act ≡ Some v → Others own v w → Others own u w
   node_acts : {u v w : World} (l : Letter)
-      → own (caller_of l) ≡ false → IsOwnPart u l v → Others own v w → Others own u w
+      → own (acting_node l) ≡ false → IsOwnPart u l v → Others own v w → Others own u w
 
 -- One step, after what happens before it.
 pub record After (happens : World → World → Type 0) (step : World → Letter → World → Type 0)

@@ -1,4 +1,5 @@
--- The fourteen steps once more, as a relation: what the function of Steps allows, and nothing else.
+-- The fourteen steps, a line for each: what a participant's act makes of its phase, the row, the segment and the
+-- counter. Start here. That code tests just these is `laws_of_steps`, of the functions in Steps.
 use Rattle.std.specs.Prelude.{◌≡◌, ℕ, ◌+◌, ◌-◌, ◌<◌, ◌≤◌, true, false, List, Option, Some, None}
 use Rattle.iceoryx2_description.specs.declared.description.ServiceHash.{ServiceHash}
 use Rattle.iceoryx2_description.specs.Description.{Description, max_nodes_of}

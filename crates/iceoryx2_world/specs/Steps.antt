@@ -1,4 +1,5 @@
--- The fourteen steps, by what the participant is at and what it does.
+-- The tests of the fourteen steps as code makes them, by what the participant is at and what it does. The steps
+-- themselves are read in StepCases.
 use Rattle.std.specs.Prelude.{ℕ, ◌+◌, ◌-◌, ◌^◌, Bool, true, false, not, ◌&&◌, nat_lt, ◌==◌}
 use Rattle.std.specs.Prelude.{Option, Some, None, if◌then◌else◌}
 use Rattle.std.specs.Option.{option_map}

@@ -7,7 +7,7 @@ ghost use Rattle.std.specs.Prelude.{◌≡◌, true, false, length, string_bytes
 ghost use Rattle.std.specs.Prelude.{IfOk, MatchResult};
 ghost use Rattle.std.specs.Int.{w16, w32, w64};
 ghost use Rattle.std.specs.Str.{is_utf8};
-ghost use Rattle.iceoryx2_attribute.specs.Texts.{IsText};
+ghost use Rattle.iceoryx2_text.specs.Texts.{IsText};
 ghost use Rattle.iceoryx2_byte_form.specs.declared.parts.reading.DecodeError.TheVariants.{Malformed, OutOfMemory};
 ghost use Rattle.iceoryx2_byte_form.specs.PartReading.{IsReadBy, number_at, bytes_at, literal_at, text_at, truth_at, option_at};
 ghost use Rattle.iceoryx2_byte_form.specs.PartReading.{span_at, deadline_at, variant_at, detail_at, message_at};

@@ -17,7 +17,7 @@ use Rattle.iceoryx2_world.specs.Acts as act
 use Rattle.iceoryx2_world.specs.Steps.{ServiceView, world_after}
 use Rattle.iceoryx2_world.specs.Agreement.{IsSpent}
 use Rattle.iceoryx2_world.specs.Across.{Agrees}
-use Rattle.iceoryx2_access.specs.Letter.{Letter, caller_of, service_of}
+use Rattle.iceoryx2_access.specs.Letter.{Letter, acting_node, service_of}
 use Rattle.iceoryx2_access.specs.Letter as letter
 use Rattle.iceoryx2_access.specs.Registered.{Registered}
 use Rattle.iceoryx2_world.specs.Standing.{Spares}
@@ -156,14 +156,14 @@ set_tags t i h (Some b) j g apart = elim (either tag_total tag_exact (j, g) (i, 
   ]
 ]
 
-other_phase : (w : World) (l : Letter) (v : World) (i : ℕ) (h : ServiceHash) → (i ≢ caller_of l) → IsOwnPart w l v → phase_of v (Node i) h ≡ phase_of w (Node i) h
-other_phase w l v i h apart o = subst (λ (z : World). phase_of z (Node i) h ≡ phase_of w (Node i) h) (sym o.is) (put_places w (caller_of l) (service_of l) o.change.view i h apart)
+other_phase : (w : World) (l : Letter) (v : World) (i : ℕ) (h : ServiceHash) → (i ≢ acting_node l) → IsOwnPart w l v → phase_of v (Node i) h ≡ phase_of w (Node i) h
+other_phase w l v i h apart o = subst (λ (z : World). phase_of z (Node i) h ≡ phase_of w (Node i) h) (sym o.is) (put_places w (acting_node l) (service_of l) o.change.view i h apart)
 
-other_tag : (w : World) (l : Letter) (v : World) (i : ℕ) (h : ServiceHash) → (i ≢ caller_of l) → IsOwnPart w l v → tag_of v i h ≡ tag_of w i h
-other_tag w l v i h apart o = subst (λ (z : World). tag_of z i h ≡ tag_of w i h) (sym o.is) (set_tags w.tags (caller_of l) (service_of l) o.change.tag i h apart)
+other_tag : (w : World) (l : Letter) (v : World) (i : ℕ) (h : ServiceHash) → (i ≢ acting_node l) → IsOwnPart w l v → tag_of v i h ≡ tag_of w i h
+other_tag w l v i h apart o = subst (λ (z : World). tag_of z i h ≡ tag_of w i h) (sym o.is) (set_tags w.tags (acting_node l) (service_of l) o.change.tag i h apart)
 
 -- who isn't a factory's node doesn't release its ticket
-spares_of : (f : Registered) (l : Letter) → (caller_of l ≢ f.node) → Spares f l
+spares_of : (f : Registered) (l : Letter) → (acting_node l ≢ f.node) → Spares f l
 spares_of f (letter.Release t i h n (Ok a)) other = λ ticket node hash number. other node
 spares_of f _ other = tt
 
@@ -180,44 +180,44 @@ module _ (own : ℕ → Bool) where
   put_back u t s o v x other cases k = elim (cases t) [ inl i ↦ absurd (other (sym i.1 ∙ k)) | inr i ↦ sym i.1 ∙ k ]
 
   -- a ticket of an own node is a factory's that stands, and who isn't own releases none of these
-  other_tickets : (w : World) (l : Letter) (v : World) → own (caller_of l) ≡ false → Part w l v → Agrees w → (t : ℕ) (x : Ticket) → own x.node ≡ true → ticket_of w t ≡ Some x → ticket_of v t ≡ Some x
+  other_tickets : (w : World) (l : Letter) (v : World) → own (acting_node l) ≡ false → Part w l v → Agrees w → (t : ℕ) (x : Ticket) → own x.node ≡ true → ticket_of w t ≡ Some x → ticket_of v t ≡ Some x
   other_tickets w l v other part old t x is k =
       let s = ticket_stands w t x old k in
-      let spares = spares_of s.0 l (λ e. not_own (s.0).node (caller_of l) other (ap (λ (y : Ticket). own y.node) s.2 ∙ is) (sym e)) in
+      let spares = spares_of s.0 l (λ e. not_own (s.0).node (acting_node l) other (ap (λ (y : Ticket). own y.node) s.2 ∙ is) (sym e)) in
       ap (ticket_of v) (sym s.1) ∙ part_ticket w l v s.0 part spares old ((s.3).ticket) ∙ ap Some s.2
 
-  other_new_tickets : (w : World) (l : Letter) (v : World) → own (caller_of l) ≡ false → Part w l v → (t : ℕ) (x : Ticket) → own x.node ≡ true → ticket_of v t ≡ Some x → ticket_of w t ≡ Some x
+  other_new_tickets : (w : World) (l : Letter) (v : World) → own (acting_node l) ≡ false → Part w l v → (t : ℕ) (x : Ticket) → own x.node ≡ true → ticket_of v t ≡ Some x → ticket_of w t ≡ Some x
   other_new_tickets w l v other (stays e) t x is k = ap (λ z. ticket_of z t) (sym e) ∙ k
   other_new_tickets w l v other (tagged tags e) t x is k = ap (λ z. ticket_of z t) (sym e) ∙ k
   other_new_tickets w l v other (calm i h a who ok e) t x is k = sym (step_ticket w v (Node i) h a t e) ∙ k
   other_new_tickets w l v other (removed i h from e) t x is k = sym (step_ticket w v (Node i) h act.RemoveDescription t e) ∙ k
   other_new_tickets w l v other (publishes i h n d s from p) t x is k =
-      sym (step_ticket w p.mid (Node i) h (act.Publish d) t p.step) ∙ put_back p.mid t s (Some (mine i h n)) (ticket_put p.mid s (mine i h n)) x (not_mine i h n x (ap own (ap caller_of (sym from)) ∙ other) is) (set_cases nat_cmp_total exact_unsigned (p.mid).tickets s (Some (mine i h n))) (ap (λ z. ticket_of z t) (sym p.is) ∙ k)
+      sym (step_ticket w p.mid (Node i) h (act.Publish d) t p.step) ∙ put_back p.mid t s (Some (mine i h n)) (ticket_put p.mid s (mine i h n)) x (not_mine i h n x (ap own (ap acting_node (sym from)) ∙ other) is) (set_cases nat_cmp_total exact_unsigned (p.mid).tickets s (Some (mine i h n))) (ap (λ z. ticket_of z t) (sym p.is) ∙ k)
   other_new_tickets w l v other (joins i h n s from p) t x is k =
-      sym (step_ticket w p.mid (Node i) h act.Join t p.step) ∙ put_back p.mid t s (Some (mine i h n)) (ticket_put (record p.mid { counter = w.counter + 1 }) s (mine i h n)) x (not_mine i h n x (ap own (ap caller_of (sym from)) ∙ other) is) (set_cases nat_cmp_total exact_unsigned (p.mid).tickets s (Some (mine i h n))) (ap (λ z. ticket_of z t) (sym p.is) ∙ k)
+      sym (step_ticket w p.mid (Node i) h act.Join t p.step) ∙ put_back p.mid t s (Some (mine i h n)) (ticket_put (record p.mid { counter = w.counter + 1 }) s (mine i h n)) x (not_mine i h n x (ap own (ap acting_node (sym from)) ∙ other) is) (set_cases nat_cmp_total exact_unsigned (p.mid).tickets s (Some (mine i h n))) (ap (λ z. ticket_of z t) (sym p.is) ∙ k)
   other_new_tickets w l v other (releases s i h n a from p) t x is k =
       sym (step_ticket w p.mid (Node i) h act.Leave t p.step) ∙ put_back p.mid t s None (ticket_removed p.mid s) x (λ e. cc) (set_cases nat_cmp_total exact_unsigned (p.mid).tickets s None) (ap (λ z. ticket_of z t) (sym p.is) ∙ k)
 
   -- and its segments
-  other_lacks : (w : World) (l : Letter) (v : World) → own (caller_of l) ≡ false → Part w l v → Agrees w → (i : ℕ) (h : ServiceHash) (n : ℕ) → own i ≡ true → locked_number (phase_of w (Node i) h) ≡ Some n → LacksSegment w h n → LacksSegment v h n
+  other_lacks : (w : World) (l : Letter) (v : World) → own (acting_node l) ≡ false → Part w l v → Agrees w → (i : ℕ) (h : ServiceHash) (n : ℕ) → own i ≡ true → locked_number (phase_of w (Node i) h) ≡ Some n → LacksSegment w h n → LacksSegment v h n
   other_lacks w l v other (stays e) old i h n is lock lacks = subst (λ u. LacksSegment u h n) (sym e) lacks
   other_lacks w l v other (tagged tags e) old i h n is lock lacks = subst (λ u. LacksSegment u h n) (sym e) lacks
   other_lacks w l v other (calm j g a who ok e) old i h n is lock lacks = lacks_step w v (Node j) g a i h n (λ same. not_own i j (ap own who ∙ other) is (same_node i j same)) e old lock lacks
-  other_lacks w l v other (removed j g from e) old i h n is lock lacks = lacks_step w v (Node j) g act.RemoveDescription i h n (λ same. not_own i j (ap own (ap caller_of (sym from)) ∙ other) is (same_node i j same)) e old lock lacks
-  other_lacks w l v other (publishes j g m d t from p) old i h n is lock lacks = subst (λ u. LacksSegment u h n) (sym p.is) (lacks_step w p.mid (Node j) g (act.Publish d) i h n (λ same. not_own i j (ap own (ap caller_of (sym from)) ∙ other) is (same_node i j same)) p.step old lock lacks)
-  other_lacks w l v other (joins j g m t from p) old i h n is lock lacks = subst (λ u. LacksSegment u h n) (sym p.is) (lacks_step w p.mid (Node j) g act.Join i h n (λ same. not_own i j (ap own (ap caller_of (sym from)) ∙ other) is (same_node i j same)) p.step old lock lacks)
-  other_lacks w l v other (releases t j g m a from p) old i h n is lock lacks = subst (λ u. LacksSegment u h n) (sym p.is) (lacks_step w p.mid (Node j) g act.Leave i h n (λ same. not_own i j (ap own (ap caller_of (sym from)) ∙ other) is (same_node i j same)) p.step old lock lacks)
+  other_lacks w l v other (removed j g from e) old i h n is lock lacks = lacks_step w v (Node j) g act.RemoveDescription i h n (λ same. not_own i j (ap own (ap acting_node (sym from)) ∙ other) is (same_node i j same)) e old lock lacks
+  other_lacks w l v other (publishes j g m d t from p) old i h n is lock lacks = subst (λ u. LacksSegment u h n) (sym p.is) (lacks_step w p.mid (Node j) g (act.Publish d) i h n (λ same. not_own i j (ap own (ap acting_node (sym from)) ∙ other) is (same_node i j same)) p.step old lock lacks)
+  other_lacks w l v other (joins j g m t from p) old i h n is lock lacks = subst (λ u. LacksSegment u h n) (sym p.is) (lacks_step w p.mid (Node j) g act.Join i h n (λ same. not_own i j (ap own (ap acting_node (sym from)) ∙ other) is (same_node i j same)) p.step old lock lacks)
+  other_lacks w l v other (releases t j g m a from p) old i h n is lock lacks = subst (λ u. LacksSegment u h n) (sym p.is) (lacks_step w p.mid (Node j) g act.Leave i h n (λ same. not_own i j (ap own (ap acting_node (sym from)) ∙ other) is (same_node i j same)) p.step old lock lacks)
 
   -- An access of a node that isn't own leaves own nodes alone.
-  pub node_keeps_own : (w : World) (l : Letter) (v : World) → own (caller_of l) ≡ false → IsOwnPart w l v → Rely own w v
+  pub node_keeps_own : (w : World) (l : Letter) (v : World) → own (acting_node l) ≡ false → IsOwnPart w l v → Rely own w v
   node_keeps_own w l v other o old =
       let kept = own_keeps w l v o old in
       let part = own_part w l v o in
       record {
         agrees = kept.0;
         later = kept.1;
-        phases = λ i h is. other_phase w l v i h (not_own i (caller_of l) other is) o;
-        tags = λ i h is. other_tag w l v i h (not_own i (caller_of l) other is) o;
+        phases = λ i h is. other_phase w l v i h (not_own i (acting_node l) other is) o;
+        tags = λ i h is. other_tag w l v i h (not_own i (acting_node l) other is) o;
         tickets = record { kept = other_tickets w l v other part old; no_other = other_new_tickets w l v other part };
         spent = λ h n s. spent_own w l v h n o old s;
         locked = other_lacks w l v other part old;

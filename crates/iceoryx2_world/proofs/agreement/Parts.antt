@@ -24,7 +24,7 @@ use Rattle.iceoryx2_access.specs.declared.storage.Tag.{Tag}
 use Rattle.iceoryx2_access.specs.declared.storage.TagError.{TagError}
 use Rattle.iceoryx2_access.specs.declared.storage.OpenSegmentError.{OpenSegmentError}
 use Rattle.iceoryx2_access.specs.declared.storage.Release.{Release as Released}
-use Rattle.iceoryx2_access.specs.Letter.{Letter, caller_of}
+use Rattle.iceoryx2_access.specs.Letter.{Letter, acting_node}
 use Rattle.iceoryx2_access.specs.Letter as letter
 use Rattle.iceoryx2_world.specs.Access.{NodeView, Change, node_view, write, nothing, view_becomes, view_becomes_with, IsAnswer, IsSureAnswer, or_refused, read_change, own_step, with_ticket, is_ticket, fetch_of, MakesTag, lock_of, make_of, publishing_of, opening_of, release_of, release_answer, has_made, has_lock, open_refusal, join_refusal, IsOwnPart}
 use Rattle.iceoryx2_world.proofs.agreement.Worlds.{ticket_put, ticket_removed}
@@ -162,7 +162,7 @@ IsCalm _ = ⊥
 pub data Part (w : World) (l : Letter) (v : World) : Type 0 where
   stays : v ≡ w → Part w l v
   tagged : (t : set.FinSet tag_cmp) → v ≡ record w { tags = t } → Part w l v
-  calm : (i : ℕ) (h : ServiceHash) (a : Act) → i ≡ caller_of l → IsCalm a → world_after w (Node i) h a ≡ Some v → Part w l v
+  calm : (i : ℕ) (h : ServiceHash) (a : Act) → i ≡ acting_node l → IsCalm a → world_after w (Node i) h a ≡ Some v → Part w l v
   removed : (i : ℕ) (h : ServiceHash) → l ≡ letter.RemoveDescription i h (Ok tt) → world_after w (Node i) h act.RemoveDescription ≡ Some v → Part w l v
   publishes : (i : ℕ) (h : ServiceHash) (n : ℕ) (d : Description) (t : ℕ) → l ≡ letter.Publish i h n d (Ok t) → Publishing w i h n d t v → Part w l v
   joins : (i : ℕ) (h : ServiceHash) (n t : ℕ) → l ≡ letter.OpenSegment i h n (Ok t) → Joining w i h n t v → Part w l v
@@ -179,7 +179,7 @@ made_step w i h a s e = ap (option_map (put w (Node i) h)) e
 pub moved_world : (w v : World) (i : ℕ) (h : ServiceHash) (a : Act) (c : Change) (s : ServiceView) → own_step i h a (node_view w i h).view ≡ Some s → c ≡ view_becomes s → v ≡ write w i h c → world_after w (Node i) h a ≡ Some v
 moved_world w v i h a c s e m is = made_step w i h a s e ∙ ap Some (sym (is ∙ ap (write w i h) m))
 
-read_part : (w v : World) (i : ℕ) (h : ServiceHash) (l : Letter) (c : Change) (o : Option ServiceView) → i ≡ caller_of l → own_step i h act.Read (node_view w i h).view ≡ o → c ≡ read_change o → v ≡ write w i h c → Part w l v
+read_part : (w v : World) (i : ℕ) (h : ServiceHash) (l : Letter) (c : Change) (o : Option ServiceView) → i ≡ acting_node l → own_step i h act.Read (node_view w i h).view ≡ o → c ≡ read_change o → v ≡ write w i h c → Part w l v
 read_part w v i h l c None who e m is = stays (unchanged w v i h c m is)
 read_part w v i h l c (Some s) who e m is = calm i h act.Read who tt (moved_world w v i h act.Read c s e m is)
 
