@@ -15,14 +15,14 @@ use Rattle.iceoryx2_world.specs.Orders.{tag_cmp}
 use Rattle.iceoryx2_world.specs.World.{World, Segment, Tickets}
 use Rattle.iceoryx2_world.specs.Acts as act
 use Rattle.iceoryx2_world.specs.Steps.{ServiceView, view_after, to_view, row_for}
-use Rattle.iceoryx2_access.specs.Letter.{Letter, caller_of, service_of}
+use Rattle.iceoryx2_access.specs.Letter.{Letter, acting_node, service_of}
 use Rattle.iceoryx2_access.specs.declared.storage.OpenSegmentError.{OpenSegmentError}
 use Rattle.iceoryx2_world.specs.Access.{NodeView, Change, view_becomes_with, with_ticket, opening_of, read_change, publishing_of, has_made, make_of, view_becomes, or_refused, IsNodeAnswer, IsOwnPart, node_view, write}
 use Rattle.iceoryx2_table.proofs.Views.{both_true}
-use Rattle.iceoryx2_table.specs.Book.{Book, StepsOrStays, step_at, world_with, segment_fits}
+use Rattle.iceoryx2_table.specs.ServicesState.{ServicesState, StepsOrStays, step_at, world_with, segment_fits}
 
 -- what was shown of the fields, of the value
-pub part : {a w v : World} (l : Letter) (c : Change) → a ≡ w → IsNodeAnswer (caller_of l) (service_of l) (node_view a (caller_of l) (service_of l)) l c → v ≡ write a (caller_of l) (service_of l) c → IsOwnPart w l v
+pub part : {a w v : World} (l : Letter) (c : Change) → a ≡ w → IsNodeAnswer (acting_node l) (service_of l) (node_view a (acting_node l) (service_of l)) l c → v ≡ write a (acting_node l) (service_of l) c → IsOwnPart w l v
 part {a} {w} {v} l c e own is = subst (λ (x : World). IsOwnPart x l v) e (record { change = c; own = own; is = is })
 
 pub record There {A : Type 0} (o : Option A) : Type 0 where
@@ -30,7 +30,7 @@ pub record There {A : Type 0} (o : Option A) : Type 0 where
   pub is : o ≡ Some it
 
 -- the step Read was made, or it was forbidden and nothing changed
-pub read_or_not : (i : ℕ) (h : ServiceHash) (b c : Book) (t : set.FinSet tag_cmp) (k : Tickets) (done : Bool) → StepsOrStays b (Node i) h act.Read done c → world_with c t k ≡ write (world_with b t k) i h (read_change (step_at b (Node i) h act.Read))
+pub read_or_not : (i : ℕ) (h : ServiceHash) (b c : ServicesState) (t : set.FinSet tag_cmp) (k : Tickets) (done : Bool) → StepsOrStays b (Node i) h act.Read done c → world_with c t k ≡ write (world_with b t k) i h (read_change (step_at b (Node i) h act.Read))
 read_or_not i h b c t k true s = ap (λ x. world_with x t k) s.2 ∙ ap (λ o. write (world_with b t k) i h (read_change o)) (sym s.1)
 read_or_not i h b c t k false s = ap (λ x. world_with x t k) s.1 ∙ ap (λ o. write (world_with b t k) i h (read_change o)) (sym s.0)
 

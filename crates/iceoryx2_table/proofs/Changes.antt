@@ -1,4 +1,4 @@
--- What each step of a participant makes of the book, from what was tested and from the maps that it wrote.
+-- What each step of a participant makes of the services' state, from what was tested and from the maps that it wrote.
 use Rattle.std.proofs.Common.{◌≡◌, ℕ, ◌+◌, ◌-◌, ◌<◌, Bool, true, false, Option, Some, None, inl, inr, arith, refl, sym, ap, subst, ◌∙◌}
 use Rattle.std.specs.Prelude.{Result, Ok, Err, is_ok, is_some, nat_lt, ◌==◌, if◌then◌else◌}
 use Rattle.std.specs.FinMap as map
@@ -22,7 +22,7 @@ use Rattle.iceoryx2_world.specs.Steps.{ServiceView, view_after, to_view, last_nu
 use Rattle.sorted_map.specs.Places.{place_in}
 use Rattle.sorted_map.proofs.Maps.{insert_same}
 use Rattle.iceoryx2_table.specs.declared.services.Position.{Position}
-use Rattle.iceoryx2_table.specs.Book.{Book, Admits, Dismisses, StepsTo, StepsOrStays, Starves, TakesDescription, TakesLeave, TakesSegment, position_in, published_number, segment_fits, step_at}
+use Rattle.iceoryx2_table.specs.ServicesState.{ServicesState, Admits, Dismisses, StepsTo, StepsOrStays, Starves, TakesDescription, TakesLeave, TakesSegment, position_in, published_number, segment_fits, step_at}
 use Rattle.iceoryx2_table.specs.Recorded.{RecordsAdmission, RecordsStep}
 use Rattle.iceoryx2_table.proofs.Views.{kept, none_of, there_by_place}
 use Rattle.iceoryx2_table.proofs.ServiceViews.{by_phase, by_both, did, refused, starved, left, fitting, lock_tried, publish_tried, published_row, read_tried}
@@ -36,16 +36,16 @@ Segments = map.FinMap hash_cmp Segment
 abbrev Phases : Type 0
 Phases = map.FinMap place_cmp Phase
 
--- In each section a is the book as it is read in the fields, and b is its value.
+-- In each section a is the state as it is read in the fields, and b is its value.
 
 -- whether there is a segment, by its place
-pub segment_there : {a b : Book} (h : ServiceHash) → a ≡ b → {place : Result ℕ ℕ} → place ≡ place_in b.segments h → {y : Bool} → is_ok place ≡ y → is_some (map.get a.segments h) ≡ y
-segment_there {b = b} h is e test = ap (λ (x : Book). is_some (map.get x.segments h)) is ∙ there_by_place b.segments h e test
+pub segment_there : {a b : ServicesState} (h : ServiceHash) → a ≡ b → {place : Result ℕ ℕ} → place ≡ place_in b.segments h → {y : Bool} → is_ok place ≡ y → is_some (map.get a.segments h) ≡ y
+segment_there {b = b} h is e test = ap (λ (x : ServicesState). is_some (map.get x.segments h)) is ∙ there_by_place b.segments h e test
 
 -- who holds nothing locks what is absent, while a number is left
-module _ {a b : Book} (p : Participant) (h : ServiceHash) (is : a ≡ b) {q : Position} (found : q ≡ position_in a.phases (p, h)) (free : begins q.phase ≡ true) (absent : map.get b.rows h ≡ None) (more : a.counter < last_number) where
+module _ {a b : ServicesState} (p : Participant) (h : ServiceHash) (is : a ≡ b) {q : Position} (found : q ≡ position_in a.phases (p, h)) (free : begins q.phase ≡ true) (absent : map.get b.rows h ≡ None) (more : a.counter < last_number) where
   lock_tries : step_at a p h act.Lock ≡ to_view (at.Locked a.counter) (Some (row.Locked a.counter)) (map.get a.segments h) (a.counter + 1)
-  lock_tries = lock_tried a p h q.phase (sym (ap (λ (x : Position). x.phase) found)) free (ap (λ (x : Book). map.get x.rows h) is ∙ absent) (grind (arith, nat_tests, more))
+  lock_tries = lock_tried a p h q.phase (sym (ap (λ (x : Position). x.phase) found)) free (ap (λ (x : ServicesState). map.get x.rows h) is ∙ absent) (grind (arith, nat_tests, more))
 
   pub lock_starves : {r : Rows} {f : Phases} → r ≡ a.rows → f ≡ a.phases → Starves b p h act.Lock (record a { rows = r; phases = f })
   lock_starves rows phases = starved p h act.Lock _ is lock_tries refl (λ i. record a { rows = rows i; phases = phases i })
@@ -60,10 +60,10 @@ module _ {a b : Book} (p : Participant) (h : ServiceHash) (is : a ≡ b) {q : Po
       })
 
 -- who holds nothing reads what is published
-module _ {a b : Book} (p : Participant) (h : ServiceHash) (is : a ≡ b) {q : Position} (found : q ≡ position_in a.phases (p, h)) (free : begins q.phase ≡ true) (n : ℕ) (there : published_number (map.get b.rows h) ≡ Some n) where
+module _ {a b : ServicesState} (p : Participant) (h : ServiceHash) (is : a ≡ b) {q : Position} (found : q ≡ position_in a.phases (p, h)) (free : begins q.phase ≡ true) (n : ℕ) (there : published_number (map.get b.rows h) ≡ Some n) where
   read_tries : step_at a p h act.Read ≡ to_view (at.Read n) (map.get a.rows h) (map.get a.segments h) a.counter
   read_tries =
-      let written = published_row (map.get a.rows h) n (ap (λ (x : Book). published_number (map.get x.rows h)) is ∙ there) in
+      let written = published_row (map.get a.rows h) n (ap (λ (x : ServicesState). published_number (map.get x.rows h)) is ∙ there) in
       read_tried a p h q.phase n written.0 (sym (ap (λ (x : Position). x.phase) found)) free written.1
 
   pub read_starves : {f : Phases} → map.get a.phases (p, h) ≡ None → f ≡ a.phases → Starves b p h act.Read (record a { phases = f })
@@ -79,7 +79,7 @@ module _ {a b : Book} (p : Participant) (h : ServiceHash) (is : a ≡ b) {q : Po
       })
 
 -- who holds the lock makes no segment where there is one
-pub no_make : (b : Book) (p : Participant) (h : ServiceHash) (m n : ℕ) {q : Position} → q ≡ position_in b.phases (p, h) → q.phase ≡ at.Locked n → is_some (map.get b.segments h) ≡ true → step_at b p h (act.Make m) ≡ None
+pub no_make : (b : ServicesState) (p : Participant) (h : ServiceHash) (m n : ℕ) {q : Position} → q ≡ position_in b.phases (p, h) → q.phase ≡ at.Locked n → is_some (map.get b.segments h) ≡ true → step_at b p h (act.Make m) ≡ None
 no_make b p h m n found locked there = by (map.get b.segments h) refl there
   where
     by : (o : Option Segment) → map.get b.segments h ≡ o → is_some o ≡ true → step_at b p h (act.Make m) ≡ None
@@ -87,11 +87,11 @@ no_make b p h m n found locked there = by (map.get b.segments h) refl there
     by None e t = absurd (cc)
 
 -- who holds the lock makes a segment where there is none, for at least one node
-module _ {a b : Book} (p : Participant) (h : ServiceHash) (m n : ℕ) (is : a ≡ b) {q : Position} (found : q ≡ position_in b.phases (p, h)) (locked : q.phase ≡ at.Locked n) (absent : is_some (map.get a.segments h) ≡ false) (some : 0 < m) where
+module _ {a b : ServicesState} (p : Participant) (h : ServiceHash) (m n : ℕ) (is : a ≡ b) {q : Position} (found : q ≡ position_in b.phases (p, h)) (locked : q.phase ≡ at.Locked n) (absent : is_some (map.get a.segments h) ≡ false) (some : 0 < m) where
   make_tries : step_at a p h (act.Make m) ≡ to_view (at.Made n) (map.get a.rows h) (Some (new_segment p n m)) a.counter
   make_tries =
       let some_node : nat_lt 0 m ≡ true = grind (arith, nat_tests, some) in
-      by_both a p h (act.Make m) (at.Locked n) None (ap (λ (x : Book). or_idle (map.get x.phases (p, h))) is ∙ sym (ap (λ (x : Position). x.phase) found) ∙ locked) (none_of _ absent)
+      by_both a p h (act.Make m) (at.Locked n) None (ap (λ (x : ServicesState). or_idle (map.get x.phases (p, h))) is ∙ sym (ap (λ (x : Position). x.phase) found) ∙ locked) (none_of _ absent)
       ∙ ap (λ (y : Bool). if y then to_view (at.Made n) (map.get a.rows h) (Some (new_segment p n m)) a.counter else None) some_node
 
   pub make_starves : Starves b p h (act.Make m) b
@@ -110,11 +110,11 @@ module _ {a b : Book} (p : Participant) (h : ServiceHash) (m n : ℕ) (is : a �
       })
 
 -- who made a segment publishes what fits it
-module _ {a b : Book} (p : Participant) (h : ServiceHash) (d : Description) (n : ℕ) (is : a ≡ b) {q : Position} (found : q ≡ position_in b.phases (p, h)) (made : q.phase ≡ at.Made n) (fits : segment_fits h (map.get b.segments h) d ≡ true) where
+module _ {a b : ServicesState} (p : Participant) (h : ServiceHash) (d : Description) (n : ℕ) (is : a ≡ b) {q : Position} (found : q ≡ position_in b.phases (p, h)) (made : q.phase ≡ at.Made n) (fits : segment_fits h (map.get b.segments h) d ≡ true) where
   publish_tries : step_at a p h (act.Publish d) ≡ to_view (at.Joined n 1) (Some (row_for n d)) (map.get a.segments h) a.counter
   publish_tries =
-      let fit = fitting h (map.get a.segments h) d (ap (λ (x : Book). segment_fits h (map.get x.segments h) d) is ∙ fits) in
-      publish_tried a p h d n fit.0 (ap (λ (x : Book). or_idle (map.get x.phases (p, h))) is ∙ sym (ap (λ (x : Position). x.phase) found) ∙ made) fit.1 fit.2
+      let fit = fitting h (map.get a.segments h) d (ap (λ (x : ServicesState). segment_fits h (map.get x.segments h) d) is ∙ fits) in
+      publish_tried a p h d n fit.0 (ap (λ (x : ServicesState). or_idle (map.get x.phases (p, h))) is ∙ sym (ap (λ (x : Position). x.phase) found) ∙ made) fit.1 fit.2
 
   pub publish_starves : Starves b p h (act.Publish d) b
   publish_starves = starved p h (act.Publish d) _ is publish_tries refl (sym is)
@@ -132,9 +132,9 @@ module _ {a b : Book} (p : Participant) (h : ServiceHash) (d : Description) (n :
       })
 
 -- who has joined joins once more, while the count has room
-module _ {a b : Book} (p : Participant) (h : ServiceHash) (is : a ≡ b) {q : Position} (found : q ≡ position_in b.phases (p, h)) where
+module _ {a b : ServicesState} (p : Participant) (h : ServiceHash) (is : a ≡ b) {q : Position} (found : q ≡ position_in b.phases (p, h)) where
   phase_is : {x : Phase} → q.phase ≡ x → or_idle (map.get a.phases (p, h)) ≡ x
-  phase_is e = ap (λ (x : Book). or_idle (map.get x.phases (p, h))) is ∙ sym (ap (λ (x : Position). x.phase) found) ∙ e
+  phase_is e = ap (λ (x : ServicesState). or_idle (map.get x.phases (p, h))) is ∙ sym (ap (λ (x : Position). x.phase) found) ∙ e
 
   pub joins_again : {n k : ℕ} {f : Phases} → q.phase ≡ at.Joined n k → k < last_number → f ≡ set_to a.phases (p, h) (Some (at.Joined n (k + 1))) → StepsTo b p h act.Join (record a { phases = f })
   joins_again {n} {k} joined more phase =
@@ -152,7 +152,7 @@ module _ {a b : Book} (p : Participant) (h : ServiceHash) (is : a ≡ b) {q : Po
   joins_nothing {n} read none = refused p h act.Join is (by_both a p h act.Join (at.Read n) None (phase_is read) none) refl
 
 -- who has read joins where the segment takes it: t is what becomes of the segment s
-module _ {a b : Book} (p : Participant) (h : ServiceHash) (is : a ≡ b) {q : Position} (found : q ≡ position_in b.phases (p, h)) {n : ℕ} (read : q.phase ≡ at.Read n) (s t : Segment) (there : map.get a.segments h ≡ Some s) {g : Segments} (segment : g ≡ map.insert a.segments h t) where
+module _ {a b : ServicesState} (p : Participant) (h : ServiceHash) (is : a ≡ b) {q : Position} (found : q ≡ position_in b.phases (p, h)) {n : ℕ} (read : q.phase ≡ at.Read n) (s t : Segment) (there : map.get a.segments h ≡ Some s) {g : Segments} (segment : g ≡ map.insert a.segments h t) where
   join_tries : (y : Bool) → has_room n s ≡ y → step_at a p h act.Join ≡ (if y then to_view (at.Joined n 1) (map.get a.rows h) (Some (with_one p s)) a.counter else None)
   join_tries y room = by_both a p h act.Join (at.Read n) (Some s) (phase_is p h is found read) there
       ∙ ap (λ (x : Bool). if x then to_view (at.Joined n 1) (map.get a.rows h) (Some (with_one p s)) a.counter else None) room
@@ -160,7 +160,7 @@ module _ {a b : Book} (p : Participant) (h : ServiceHash) (is : a ≡ b) {q : Po
   as_before : t ≡ s → record a { segments = g } ≡ a
   as_before same = λ i. record a { segments = (segment ∙ ap (map.insert a.segments h) same ∙ insert_same hash_total hash_exact a.segments h s there) i }
 
-  joins : {f : Phases} → Admits n p s (Ok true) t → f ≡ set_to a.phases (p, h) (Some (at.Joined n 1)) → StepsTo b p h act.Join (record a { segments = g; phases = f })
+  pub joins : {f : Phases} → Admits n p s (Ok true) t → f ≡ set_to a.phases (p, h) (Some (at.Joined n 1)) → StepsTo b p h act.Join (record a { segments = g; phases = f })
   joins ad phase =
       did p h act.Join (record { phase = at.Joined n 1; row = _; segment = Some (with_one p s); counter = _ }) is (join_tries true ad.0)
       (λ i. record {
@@ -170,7 +170,7 @@ module _ {a b : Book} (p : Participant) (h : ServiceHash) (is : a ≡ b) {q : Po
         counter = a.counter;
       })
 
-  join_refused : Admits n p s (Ok false) t → StepsOrStays b p h act.Join false (record a { segments = g })
+  pub join_refused : Admits n p s (Ok false) t → StepsOrStays b p h act.Join false (record a { segments = g })
   join_refused ad = refused p h act.Join is (join_tries false ad.0) (as_before ad.1)
 
   pub join_starves : (e : AllocError) → Admits n p s (Err e) t → Starves b p h act.Join (record a { segments = g })
@@ -191,7 +191,7 @@ module _ {a b : Book} (p : Participant) (h : ServiceHash) (is : a ≡ b) {q : Po
         by (inr x) = inr (as_before x.0 ∙ is, x.1)
 
 -- who has joined leaves
-module _ {a b : Book} (p : Participant) (h : ServiceHash) (is : a ≡ b) {q : Position} (found : q ≡ position_in a.phases (p, h)) {n k : ℕ} (joined : q.phase ≡ at.Joined n k) where
+module _ {a b : ServicesState} (p : Participant) (h : ServiceHash) (is : a ≡ b) {q : Position} (found : q ≡ position_in a.phases (p, h)) {n k : ℕ} (joined : q.phase ≡ at.Joined n k) where
   -- what a leave comes to, by the two tests of the count
   abbrev counted : Option Segment → Bool → Bool → Option ServiceView
   counted s more one = if more then to_view (at.Joined n (k - 1)) (map.get a.rows h) s a.counter else if one then leave_of p n (map.get a.rows h) s a.counter else None
@@ -216,7 +216,7 @@ module _ {a b : Book} (p : Participant) (h : ServiceHash) (is : a ≡ b) {q : Po
   leaves_none zero =
       let few : nat_lt 1 k ≡ false = grind (arith, nat_tests, zero) in
       let none : (k == 1) ≡ false = grind (arith, nat_tests, zero) in
-      ap (λ (x : Book). step_at x p h act.Leave) (sym is) ∙ leave_tries _ refl false false few none
+      ap (λ (x : ServicesState). step_at x p h act.Leave) (sym is) ∙ leave_tries _ refl false false few none
 
   last_tries : k ≡ 1 → (s : Option Segment) → map.get a.segments h ≡ s → step_at a p h act.Leave ≡ leave_of p n (map.get a.rows h) s a.counter
   last_tries one s there =
@@ -228,7 +228,7 @@ module _ {a b : Book} (p : Participant) (h : ServiceHash) (is : a ≡ b) {q : Po
   leaves_nothing one none = refused p h act.Leave is (last_tries one None none) refl
 
 -- who has joined once leaves: t is what becomes of the segment s
-module _ {a b : Book} (p : Participant) (h : ServiceHash) (is : a ≡ b) {q : Position} (found : q ≡ position_in a.phases (p, h)) {n k : ℕ} (joined : q.phase ≡ at.Joined n k) (one : k ≡ 1) (s t : Segment) (there : map.get a.segments h ≡ Some s) {g : Segments} (segment : g ≡ map.insert a.segments h t) where
+module _ {a b : ServicesState} (p : Participant) (h : ServiceHash) (is : a ≡ b) {q : Position} (found : q ≡ position_in a.phases (p, h)) {n k : ℕ} (joined : q.phase ≡ at.Joined n k) (one : k ≡ 1) (s t : Segment) (there : map.get a.segments h ≡ Some s) {g : Segments} (segment : g ≡ map.insert a.segments h t) where
   leave_comes : (y : Bool) → has_others s ≡ y → step_at a p h act.Leave ≡ (if y then to_view at.Idle (map.get a.rows h) (Some (without_one p s)) a.counter else to_view (at.Leaving n) (map.get a.rows h) (Some (without_any s)) a.counter)
   leave_comes y others = last_tries p h is found joined one (Some s) there
       ∙ ap (λ (x : Bool). if x then to_view at.Idle (map.get a.rows h) (Some (without_one p s)) a.counter else to_view (at.Leaving n) (map.get a.rows h) (Some (without_any s)) a.counter) others
@@ -246,11 +246,11 @@ module _ {a b : Book} (p : Participant) (h : ServiceHash) (is : a ≡ b) {q : Po
       (λ i. record { rows = kept hash_total hash_exact a.rows h i; segments = (segment ∙ ap (map.insert a.segments h) d.1) i; phases = phase i; counter = a.counter })
 
 -- what was found in a segment's place stands there as before
-pub found_again : {a b : Book} (h : ServiceHash) → a ≡ b → (s : Segment) → map.get a.segments h ≡ Some s → {g : Segments} → g ≡ map.insert a.segments h s → record a { segments = g } ≡ b
+pub found_again : {a b : ServicesState} (h : ServiceHash) → a ≡ b → (s : Segment) → map.get a.segments h ≡ Some s → {g : Segments} → g ≡ map.insert a.segments h s → record a { segments = g } ≡ b
 found_again {a} h is s there segment = (λ i. record a { segments = (segment ∙ insert_same hash_total hash_exact a.segments h s there) i }) ∙ is
 
 -- who may takes the segment or the description away, whatever else there is
-module _ {a b : Book} (p : Participant) (h : ServiceHash) (is : a ≡ b) {q : Position} (found : q ≡ position_in a.phases (p, h)) where
+module _ {a b : ServicesState} (p : Participant) (h : ServiceHash) (is : a ≡ b) {q : Position} (found : q ≡ position_in a.phases (p, h)) where
   by_found : (t : Act) → step_at a p h t ≡ view_after p h t q.phase (map.get a.rows h) (map.get a.segments h) a.counter
   by_found t = by_phase a p h t q.phase (sym (ap (λ (x : Position). x.phase) found))
 

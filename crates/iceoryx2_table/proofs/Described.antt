@@ -22,7 +22,7 @@ use Rattle.iceoryx2_world.specs.declared.world.Phase.TheVariants as at
 use Rattle.iceoryx2_world.specs.declared.world.Row.{Row}
 use Rattle.iceoryx2_world.specs.declared.world.Row.TheVariants as row
 use Rattle.iceoryx2_table.specs.Agreeing.{has_joined, has_joined_there, is_segment_for, stands_whole, IsSegmentThere, DescribesThere, AgreesThere}
-use Rattle.iceoryx2_table.specs.Book.{Holds}
+use Rattle.iceoryx2_table.specs.ServicesState.{HasBytes}
 use Rattle.iceoryx2_table.specs.Comparing.{PhaseEntries}
 use Rattle.iceoryx2_table.proofs.Agreed.{each_passes, all_pass, some_of, agreement_at, tested_at}
 use Rattle.iceoryx2_table.proofs.Held.{not_some, some_is}
@@ -75,10 +75,10 @@ module _ (w : World) (h : ServiceHash) (d : Description) (n : ℕ) where
   segment_parts x is = (parts x).1 (((is.number, is.capacity), is.few), is.members)
 
   -- by the answer of the segment's test
-  abbrev IsThere : Type 0
-  IsThere = (d.hash ≡ h) × IsSegmentThere w h d n
+  abbrev IsDescribedHere : Type 0
+  IsDescribedHere = (d.hash ≡ h) × IsSegmentThere w h d n
 
-  pub other_hash : {b : Bool} → b ≡ eq_by_cmp hash_cmp d.hash h → b ≡ false → IsTrue false ↔ IsThere
+  pub other_hash : {b : Bool} → b ≡ eq_by_cmp hash_cmp d.hash h → b ≡ false → IsTrue false ↔ IsDescribedHere
   other_hash {b} is e = (
     λ f. absurd (cc),
     λ t. let same : eq_by_cmp hash_cmp h h ≡ true = ap is_eq (tied_itself hash_total h) in
@@ -88,18 +88,18 @@ module _ (w : World) (h : ServiceHash) (d : Description) (n : ℕ) where
   is_hash : {b : Bool} → b ≡ eq_by_cmp hash_cmp d.hash h → b ≡ true → d.hash ≡ h
   is_hash {b} is e = hash_exact d.hash h ((Equal-is (hash_cmp d.hash h)).0 (sym is ∙ e))
 
-  pub no_segment : {b : Bool} → b ≡ eq_by_cmp hash_cmp d.hash h → b ≡ true → segment_of w h ≡ None → IsTrue true ↔ IsThere
+  pub no_segment : {b : Bool} → b ≡ eq_by_cmp hash_cmp d.hash h → b ≡ true → segment_of w h ≡ None → IsTrue true ↔ IsDescribedHere
   no_segment {b} is e absent = (λ f. (is_hash is e, λ x there. not_some x (sym absent ∙ there)), λ t. refl)
 
   pub with_segment : {b a : Bool} {x : Segment} → b ≡ eq_by_cmp hash_cmp d.hash h → b ≡ true → segment_of w h ≡ Some x
-      → a ≡ is_segment_for w h d n x → IsTrue a ↔ IsThere
+      → a ≡ is_segment_for w h d n x → IsTrue a ↔ IsDescribedHere
   with_segment {b} {a} {x} is e there test = (
     λ f. (is_hash is e, λ y other. subst (λ z. IsSegmentOf d n (λ p. phase_of w p h) z) (some_is x y (sym there ∙ other)) (segment_from x (sym test ∙ f))),
     λ t. test ∙ segment_parts x (t.1 x there),
   )
 
   -- by the description that is decoded
-  pub decoded : {b : Bool} (bytes : List ℕ) → IsForm d bytes → ((e : Description) → IsForm e bytes → d ≡ e) → (IsTrue b ↔ IsThere)
+  pub decoded : {b : Bool} (bytes : List ℕ) → IsForm d bytes → ((e : Description) → IsForm e bytes → d ≡ e) → (IsTrue b ↔ IsDescribedHere)
       → IsTrue b ↔ DescribesThere w h n bytes
   decoded {b} bytes form only test = (
     λ f. let is = test.0 f in record { description = d; form = form; hash = is.0; segment = is.1 },
@@ -165,9 +165,9 @@ module _ (w : World) (h : ServiceHash) where
   )
 
   pub published_there : {E : Type 0} {b : Bool} {r : Row} {m : ℕ} {held given : List ℕ} (answer : Result Bool E) → b ≡ whole → b ≡ true
-      → Some r ≡ row_of w h → ((a : List ℕ) × (r ≡ row.Published m a)) → Holds r held → given ≡ held
+      → Some r ≡ row_of w h → ((a : List ℕ) × (r ≡ row.Published m a)) → HasBytes r held → given ≡ held
       → IfOk answer (λ t. IsTrue t ↔ DescribesThere w h m given) → IfOk answer (λ t. IsTrue t ↔ AgreesThere w h)
   published_there {E} {b} {r} {m} {held} {given} answer is e there published holds same test =
-      let bytes : held ≡ published.0 = subst (λ q. Holds q held) published.1 holds in
+      let bytes : held ≡ published.0 = subst (λ q. HasBytes q held) published.1 holds in
       let whole_row : Some (row.Published m published.0) ≡ row_of w h = ap Some (sym published.1) ∙ there in
       if_ok (λ t d. by_row m published.0 is e whole_row t (subst (λ l. IsTrue t ↔ DescribesThere w h m l) (same ∙ bytes) d)) answer test

@@ -27,7 +27,7 @@ use Rattle.iceoryx2_world.proofs.AccessCases.{answered, surely_answered}
 use Rattle.iceoryx2_world.proofs.agreement.Worlds.{place_cases}
 use Rattle.iceoryx2_table.specs.Spending.{Spends, LocksOrGivesUp, SpendingIsLocking, locks_and_gives_up}
 use Rattle.iceoryx2_table.specs.declared.services.Position.{Position}
-use Rattle.iceoryx2_table.specs.Book.{Book, position_in, world_with}
+use Rattle.iceoryx2_table.specs.ServicesState.{ServicesState, position_in, world_with}
 use Rattle.iceoryx2_table.proofs.OwnParts.{services_of}
 use Rattle.iceoryx2_table.proofs.Views.{kept, none_of, there_by_place}
 
@@ -118,7 +118,7 @@ module _ {a w : World} (i : ℕ) (h : ServiceHash) (is : a ≡ w) {q : Position}
   pub not_idle : is_ok q.place ≡ true → map.get w.phases (Node i, h) ≡ None → ⊥
   not_idle e idle = let t = there e in absurd (cc)
 
-  pub is_spent : {b : Book} {n : ℕ} → is_ok q.place ≡ false → a.counter ≤ n → n ≤ last_number → row_of a h ≡ None → b ≡ record (services_of a) { counter = n } → Spends i h n w (world_with b a.tags a.tickets)
+  pub is_spent : {b : ServicesState} {n : ℕ} → is_ok q.place ≡ false → a.counter ≤ n → n ≤ last_number → row_of a h ≡ None → b ≡ record (services_of a) { counter = n } → Spends i h n w (world_with b a.tags a.tickets)
   is_spent {n = n} e rises last absent went = record {
     rises = subst (λ (x : World). x.counter ≤ n) is rises;
     last = last;

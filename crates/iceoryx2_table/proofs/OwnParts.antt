@@ -37,24 +37,24 @@ use Rattle.iceoryx2_world.specs.Steps.{ServiceView}
 use Rattle.iceoryx2_world.specs.World.{World, Tickets, phase_of, tag_of}
 use Rattle.iceoryx2_world.proofs.AccessCases.{answered, starved, refused, surely_answered, surely_refused}
 use Rattle.iceoryx2_table.specs.declared.services.Position.{Position}
-use Rattle.iceoryx2_table.specs.Book.{Book, StepsTo, StepsOrStays, Starves, TakesLeave, position_in, segment_fits, step_at, world_with}
+use Rattle.iceoryx2_table.specs.ServicesState.{ServicesState, StepsTo, StepsOrStays, Starves, TakesLeave, position_in, segment_fits, step_at, world_with}
 use Rattle.iceoryx2_table.proofs.Views.{none_of}
 use Rattle.iceoryx2_table.proofs.ServiceViews.{may_join, join_counter}
 use Rattle.iceoryx2_table.proofs.Accesses.{part, no_publish, may_publish, publishes_by, opens_by, make_refused, make_done}
 
 -- the services of a world
-abbrev pub services_of : World → Book
+abbrev pub services_of : World → ServicesState
 services_of w = record { rows = w.rows; segments = w.segments; phases = w.phases; counter = w.counter }
 
-services_become : (a : World) {m n : Book} → n ≡ m → world_with n a.tags a.tickets ≡ world_with m a.tags a.tickets
-services_become a e = ap (λ (b : Book). world_with b a.tags a.tickets) e
+services_become : (a : World) {m n : ServicesState} → n ≡ m → world_with n a.tags a.tickets ≡ world_with m a.tags a.tickets
+services_become a e = ap (λ (b : ServicesState). world_with b a.tags a.tickets) e
 
 -- a is the world as it is read in the table's fields, and w is its value
 module _ {a w : World} (i : ℕ) (h : ServiceHash) (is : a ≡ w) where
   pub fetch_part : (r : Result (ℕ × List ℕ) FetchError) (o : Option Row) (c : Change) {v : World} → map.get a.rows h ≡ o → IsAnswer Fetching.OutOfMemory (fetch_of i h (node_view a i h).view o) r c → v ≡ write a i h c → IsOwnPart w (letter.Fetch i h r) v
   fetch_part r o c there own v = part (letter.Fetch i h r) c is (subst (λ (x : Option Row). IsAnswer Fetching.OutOfMemory (fetch_of i h (node_view a i h).view x) r c) (sym there) own) v
 
-  pub fetch_unread : {b : Book} (n : ℕ) (d : List ℕ) → map.get a.rows h ≡ Some (row.Published n d) → b ≡ services_of a → IsOwnPart w (letter.Fetch i h (Err Fetching.OutOfMemory)) (world_with b a.tags a.tickets)
+  pub fetch_unread : {b : ServicesState} (n : ℕ) (d : List ℕ) → map.get a.rows h ≡ Some (row.Published n d) → b ≡ services_of a → IsOwnPart w (letter.Fetch i h (Err Fetching.OutOfMemory)) (world_with b a.tags a.tickets)
   fetch_unread n d there same = fetch_part _ _ nothing there (inr (refl, refl)) (services_become a same)
 
   pub tag_part : (r : Result Tag TagError) (there : Bool) (c : Change) {v : World} → tag_of a i h ≡ there → MakesTag i h there r c → v ≡ write a i h c → IsOwnPart w (letter.MakeTag i h r) v
@@ -69,15 +69,15 @@ module _ {a w : World} (i : ℕ) (h : ServiceHash) (is : a ≡ w) where
   pub lock_part : (r : Result ℕ LockError) (o : Option Row) (c : Change) {v : World} → map.get a.rows h ≡ o → IsAnswer Locking.OutOfMemory (lock_of i h (node_view a i h).view o) r c → v ≡ write a i h c → IsOwnPart w (letter.Lock i h r) v
   lock_part r o c there own v = part (letter.Lock i h r) c is (subst (λ (x : Option Row). IsAnswer Locking.OutOfMemory (lock_of i h (node_view a i h).view x) r c) (sym there) own) v
 
-  pub lock_starved : {b : Book} → map.get a.rows h ≡ None → Starves (services_of a) (Node i) h act.Lock b → IsOwnPart w (letter.Lock i h (Err Locking.OutOfMemory)) (world_with b a.tags a.tickets)
+  pub lock_starved : {b : ServicesState} → map.get a.rows h ≡ None → Starves (services_of a) (Node i) h act.Lock b → IsOwnPart w (letter.Lock i h (Err Locking.OutOfMemory)) (world_with b a.tags a.tickets)
   lock_starved absent s = lock_part _ None nothing absent (starved _ (ap (or_refused Locking.Other a.counter) s.1)) (services_become a s.3)
 
-  pub lock_forbidden : (b : Book) {done : Bool} → map.get a.rows h ≡ None → done ≡ false → StepsOrStays (services_of a) (Node i) h act.Lock done b → IsOwnPart w (letter.Lock i h (Err Locking.Other)) (world_with b a.tags a.tickets)
+  pub lock_forbidden : (b : ServicesState) {done : Bool} → map.get a.rows h ≡ None → done ≡ false → StepsOrStays (services_of a) (Node i) h act.Lock done b → IsOwnPart w (letter.Lock i h (Err Locking.Other)) (world_with b a.tags a.tickets)
   lock_forbidden b absent told step =
       let s = subst (λ (y : Bool). StepsOrStays (services_of a) (Node i) h act.Lock y b) told step in
       lock_part _ None nothing absent (refused _ (ap (or_refused Locking.Other a.counter) s.0)) (services_become a s.1)
 
-  pub locked : (b : Book) {done : Bool} {n : ℕ} → map.get a.rows h ≡ None → done ≡ true → StepsOrStays (services_of a) (Node i) h act.Lock done b → n ≡ a.counter → IsOwnPart w (letter.Lock i h (Ok n)) (world_with b a.tags a.tickets)
+  pub locked : (b : ServicesState) {done : Bool} {n : ℕ} → map.get a.rows h ≡ None → done ≡ true → StepsOrStays (services_of a) (Node i) h act.Lock done b → n ≡ a.counter → IsOwnPart w (letter.Lock i h (Ok n)) (world_with b a.tags a.tickets)
   locked b absent told step e =
       let s = subst (λ (y : Bool). StepsOrStays (services_of a) (Node i) h act.Lock y b) told step in
       lock_part _ None (view_becomes s.0) absent (answered _ (ap (or_refused Locking.Other a.counter) s.1 ∙ ap (λ (u : ℕ). Ok (u, view_becomes s.0)) (sym e))) (services_become a s.2)
@@ -88,7 +88,7 @@ removal true = Ok tt
 removal false = Err Removing.Other
 
 -- a removal that was done or forbidden
-module _ {a w : World} (i : ℕ) (h : ServiceHash) (is : a ≡ w) (b : Book) (done : Bool) {told : Bool} (e : told ≡ done) where
+module _ {a w : World} (i : ℕ) (h : ServiceHash) (is : a ≡ w) (b : ServicesState) (done : Bool) {told : Bool} (e : told ≡ done) where
   removes : (t : Act) (y : Bool) → StepsOrStays (services_of a) (Node i) h t y b → (c : Change) × IsSureAnswer (remove_answer i h (node_view a i h) t) (removal y) c × (world_with b a.tags a.tickets ≡ write a i h c)
   removes t true s = (view_becomes s.0, surely_answered (ap (or_refused Removing.Other tt) s.1), services_become a s.2)
   removes t false s = (nothing, surely_refused (ap (or_refused Removing.Other tt) s.0), services_become a s.1)
@@ -113,10 +113,10 @@ module _ {a w : World} (i : ℕ) (h : ServiceHash) (is : a ≡ w) (n m : ℕ) {q
   pub make_barred : may ≡ false → IsOwnPart w (letter.MakeSegment i h n m (Err Making.Other)) w
   make_barred e = make_part _ nothing false e (refl, refl) (sym is)
 
-  pub make_starved : {b : Book} → may ≡ true → Starves (services_of a) (Node i) h (act.Make m) b → IsOwnPart w (letter.MakeSegment i h n m (Err Making.OutOfMemory)) (world_with b a.tags a.tickets)
+  pub make_starved : {b : ServicesState} → may ≡ true → Starves (services_of a) (Node i) h (act.Make m) b → IsOwnPart w (letter.MakeSegment i h n m (Err Making.OutOfMemory)) (world_with b a.tags a.tickets)
   make_starved e s = make_part _ nothing true e (starved _ (make_done i h m _ _ _ _ s.0 s.1)) (services_become a s.3)
 
-  pub makes : (b : Book) → may ≡ true → StepsTo (services_of a) (Node i) h (act.Make m) b → IsOwnPart w (letter.MakeSegment i h n m (Ok tt)) (world_with b a.tags a.tickets)
+  pub makes : (b : ServicesState) → may ≡ true → StepsTo (services_of a) (Node i) h (act.Make m) b → IsOwnPart w (letter.MakeSegment i h n m (Ok tt)) (world_with b a.tags a.tickets)
   makes b e s = make_part _ (view_becomes s.0) true e (answered _ (make_done i h m _ _ _ _ s.0 s.1)) (services_become a s.2)
 
   -- the segment is there
@@ -124,7 +124,7 @@ module _ {a w : World} (i : ℕ) (h : ServiceHash) (is : a ≡ w) (n m : ℕ) {q
   make_exists e there = make_part _ nothing true e (refused _ (make_refused i h m (node_view a i h).view (map.get a.segments h) there)) (sym is)
 
   -- none is there, and the step is forbidden all the same
-  pub make_forbidden : {b : Book} → may ≡ true → is_some (map.get a.segments h) ≡ false → StepsOrStays (services_of a) (Node i) h (act.Make m) false b → IsOwnPart w (letter.MakeSegment i h n m (Err Making.Other)) (world_with b a.tags a.tickets)
+  pub make_forbidden : {b : ServicesState} → may ≡ true → is_some (map.get a.segments h) ≡ false → StepsOrStays (services_of a) (Node i) h (act.Make m) false b → IsOwnPart w (letter.MakeSegment i h n m (Err Making.Other)) (world_with b a.tags a.tickets)
   make_forbidden e absent s = make_part _ nothing true e
       (refused _ (ap (make_of i h m (node_view a i h).view) (none_of _ absent) ∙ ap (or_refused Making.Other tt) s.0)) (services_become a s.1)
 
@@ -149,19 +149,19 @@ module _ {a w : World} (i : ℕ) (h : ServiceHash) (is : a ≡ w) (n : ℕ) (d :
       (tt, starved _ (publishes_by i h n d a.tickets _ _ _ _ _ may.0 may.1.is))
       (λ j. record a { tickets = same j })
 
-  pub publish_starved : {b : Book} {k : Tickets} → made ≡ true → Starves (services_of a) (Node i) h (act.Publish d) b → k ≡ a.tickets → IsOwnPart w (letter.Publish i h n d (Err Publishing.OutOfMemory)) (world_with b a.tags k)
+  pub publish_starved : {b : ServicesState} {k : Tickets} → made ≡ true → Starves (services_of a) (Node i) h (act.Publish d) b → k ≡ a.tickets → IsOwnPart w (letter.Publish i h n d (Err Publishing.OutOfMemory)) (world_with b a.tags k)
   publish_starved e s same =
       part (letter.Publish i h n d (Err Publishing.OutOfMemory)) nothing is
       (tt, starved _ (publishes_by i h n d a.tickets _ _ _ _ _ (has true e) s.1))
       (λ j. world_with (s.3 j) a.tags (same j))
 
-  pub publish_forbidden : (b : Book) {k : Tickets} → made ≡ true → StepsOrStays (services_of a) (Node i) h (act.Publish d) false b → k ≡ a.tickets → IsOwnPart w (letter.Publish i h n d (Err Publishing.Other)) (world_with b a.tags k)
+  pub publish_forbidden : (b : ServicesState) {k : Tickets} → made ≡ true → StepsOrStays (services_of a) (Node i) h (act.Publish d) false b → k ≡ a.tickets → IsOwnPart w (letter.Publish i h n d (Err Publishing.Other)) (world_with b a.tags k)
   publish_forbidden b e s same =
       part (letter.Publish i h n d (Err Publishing.Other)) nothing is
       (tt, refused _ (publishes_by i h n d a.tickets _ _ _ _ _ (has true e) s.0))
       (λ j. world_with (s.1 j) a.tags (same j))
 
-  pub published : (b : Book) {done : Bool} {k m : Tickets} {x : Ticket} → made ≡ true → done ≡ true → StepsOrStays (services_of a) (Node i) h (act.Publish d) done b → (◌≡◌ {A = Result Bool AllocError} (Ok done) (Ok true) → IsDescription d) → k ≡ map.insert m n x → x ≡ record { node = i; hash = h; number = n } → m ≡ a.tickets → IsOwnPart w (letter.Publish i h n d (Ok n)) (world_with b a.tags k)
+  pub published : (b : ServicesState) {done : Bool} {k m : Tickets} {x : Ticket} → made ≡ true → done ≡ true → StepsOrStays (services_of a) (Node i) h (act.Publish d) done b → (◌≡◌ {A = Result Bool AllocError} (Ok done) (Ok true) → IsDescription d) → k ≡ map.insert m n x → x ≡ record { node = i; hash = h; number = n } → m ≡ a.tickets → IsOwnPart w (letter.Publish i h n d (Ok n)) (world_with b a.tags k)
   published b e told step limits kept held same =
       let s = subst (λ (y : Bool). StepsOrStays (services_of a) (Node i) h (act.Publish d) y b) told step in
       part (letter.Publish i h n d (Ok n)) (view_becomes_with s.0 (with_ticket i h a.tickets n n)) is
@@ -188,24 +188,24 @@ module _ {a w : World} (i : ℕ) (h : ServiceHash) (is : a ≡ w) (n : ℕ) {q :
       (starved _ (opens _ _ e may.1))
       (λ j. record a { tickets = same j })
 
-  pub open_starved : {b : Book} {k : Tickets} → refusal ≡ None → Starves (services_of a) (Node i) h act.Join b → k ≡ a.tickets → IsOwnPart w (letter.OpenSegment i h n (Err Opening.OutOfMemory)) (world_with b a.tags k)
+  pub open_starved : {b : ServicesState} {k : Tickets} → refusal ≡ None → Starves (services_of a) (Node i) h act.Join b → k ≡ a.tickets → IsOwnPart w (letter.OpenSegment i h n (Err Opening.OutOfMemory)) (world_with b a.tags k)
   open_starved e s same =
       part (letter.OpenSegment i h n (Err Opening.OutOfMemory)) nothing is
       (starved _ (opens _ _ e s.1))
       (λ j. world_with (s.3 j) a.tags (same j))
 
-  pub open_forbidden : (b : Book) {k : Tickets} → refusal ≡ None → StepsOrStays (services_of a) (Node i) h act.Join false b → k ≡ a.tickets → IsOwnPart w (letter.OpenSegment i h n (Err Opening.Failed)) (world_with b a.tags k)
+  pub open_forbidden : (b : ServicesState) {k : Tickets} → refusal ≡ None → StepsOrStays (services_of a) (Node i) h act.Join false b → k ≡ a.tickets → IsOwnPart w (letter.OpenSegment i h n (Err Opening.Failed)) (world_with b a.tags k)
   open_forbidden b e s same =
       part (letter.OpenSegment i h n (Err Opening.Failed)) nothing is
       (refused _ (ap (λ (r : Option OpenSegmentError). opening_of i h n (node_view a i h) r (step_at (services_of a) (Node i) h act.Join)) (against None e) ∙ ap (opening_of i h n (node_view a i h) None) s.0))
       (λ j. world_with (s.1 j) a.tags (same j))
 
   -- the ticket is the number that is handed out behind the join
-  pub opened : (b : Book) {done : Bool} {v : Book} {u : ℕ} {k m : Tickets} {t : Ticket} → refusal ≡ None → done ≡ true → StepsOrStays (services_of a) (Node i) h act.Join done b → u ≡ b.counter → v ≡ record b { counter = b.counter + 1 } → k ≡ map.insert m u t → t ≡ record { node = i; hash = h; number = n } → m ≡ a.tickets → IsOwnPart w (letter.OpenSegment i h n (Ok u)) (world_with v a.tags k)
+  pub opened : (b : ServicesState) {done : Bool} {v : ServicesState} {u : ℕ} {k m : Tickets} {t : Ticket} → refusal ≡ None → done ≡ true → StepsOrStays (services_of a) (Node i) h act.Join done b → u ≡ b.counter → v ≡ record b { counter = b.counter + 1 } → k ≡ map.insert m u t → t ≡ record { node = i; hash = h; number = n } → m ≡ a.tickets → IsOwnPart w (letter.OpenSegment i h n (Ok u)) (world_with v a.tags k)
   opened b {u = u} e told step ticket counted kept held still =
       let s = subst (λ (y : Bool). StepsOrStays (services_of a) (Node i) h act.Join y b) told step in
       let x : ServiceView = s.0 in
-      let same : b.counter ≡ a.counter = ap (λ (y : Book). y.counter) s.2 ∙ join_counter (Node i) h (phase_of a (Node i) h) (map.get a.rows h) (map.get a.segments h) a.counter x s.1 in
+      let same : b.counter ≡ a.counter = ap (λ (y : ServicesState). y.counter) s.2 ∙ join_counter (Node i) h (phase_of a (Node i) h) (map.get a.rows h) (map.get a.segments h) a.counter x s.1 in
       let is_u : a.counter ≡ u = sym (ticket ∙ same) in
       let next : b.counter + 1 ≡ u + 1 = ap (λ y. y + 1) (sym ticket) in
       part (letter.OpenSegment i h n (Ok u)) (view_becomes_with (record x { counter = u + 1 }) (with_ticket i h a.tickets u n)) is
@@ -220,10 +220,10 @@ module _ {a w : World} (i : ℕ) (h : ServiceHash) (is : a ≡ w) (u n : ℕ) {o
   pub not_held : held ≡ false → IsOwnPart w (letter.Release u i h n (Err NoSuchTicket)) w
   not_held e = release_part _ nothing false e (refl, refl) (sym is)
 
-  pub not_released : {b : Book} → held ≡ true → (step_at (services_of a) (Node i) h act.Leave ≡ None) × (b ≡ services_of a) → IsOwnPart w (letter.Release u i h n (Err NoSuchTicket)) (world_with b a.tags a.tickets)
+  pub not_released : {b : ServicesState} → held ≡ true → (step_at (services_of a) (Node i) h act.Leave ≡ None) × (b ≡ services_of a) → IsOwnPart w (letter.Release u i h n (Err NoSuchTicket)) (world_with b a.tags a.tickets)
   not_released e s = release_part _ nothing true e (surely_refused (ap (release_of i h u a.tickets) s.0)) (services_become a s.1)
 
-  pub released : {b : Book} {k : Tickets} (r : Released) → held ≡ true → TakesLeave (services_of a) (Node i) h (Some r) b → k ≡ map.remove a.tickets u → IsOwnPart w (letter.Release u i h n (Ok r)) (world_with b a.tags k)
+  pub released : {b : ServicesState} {k : Tickets} (r : Released) → held ≡ true → TakesLeave (services_of a) (Node i) h (Some r) b → k ≡ map.remove a.tickets u → IsOwnPart w (letter.Release u i h n (Ok r)) (world_with b a.tags k)
   released r e s gone = release_part _ (view_becomes_with s.0 (map.remove a.tickets u)) true e
       (surely_answered (ap (release_of i h u a.tickets) s.1 ∙ ap (λ x. Ok (x, view_becomes_with s.0 (map.remove a.tickets u))) (sym s.2)))
       (λ j. world_with (s.3 j) a.tags (gone j))

@@ -5,7 +5,7 @@ use Rattle.std.specs.FinMap as map
 use Rattle.std.specs.declared.alloc.AllocError.{AllocError}
 use Rattle.iceoryx2_description.specs.declared.description.ServiceHash.{ServiceHash}
 use Rattle.iceoryx2_description.specs.Description.{Description, IsDescription}
-use Rattle.iceoryx2_access.specs.Letter.{Letter, caller_of, service_of}
+use Rattle.iceoryx2_access.specs.Letter.{Letter, acting_node, service_of}
 use Rattle.iceoryx2_access.specs.Letter as letter
 use Rattle.iceoryx2_access.specs.MayRefuse.{IsFault, MayRefuse}
 use Rattle.iceoryx2_access.specs.declared.storage.LockError.TheVariants as Locking
@@ -29,7 +29,7 @@ use Rattle.iceoryx2_world.specs.Orders.{tag_cmp, tag_total, tag_exact}
 use Rattle.iceoryx2_world.specs.Sets as set
 use Rattle.iceoryx2_world.specs.World.{World, Tickets, tag_of, set_to}
 use Rattle.iceoryx2_table.specs.declared.services.Position.{Position}
-use Rattle.iceoryx2_table.specs.Book.{Book, position_in, world_with}
+use Rattle.iceoryx2_table.specs.ServicesState.{ServicesState, position_in, world_with}
 use Rattle.iceoryx2_table.specs.Recorded.{is_written, IsRecordedPart, untouched, recorded, declined, RecordsStep, RecordsLeave}
 use Rattle.iceoryx2_table.proofs.Accesses.{part}
 use Rattle.iceoryx2_table.proofs.OwnParts.{services_of, removal, tag_part, tag_made, lock_forbidden, locked, segment_removed, description_removed, make_forbidden, makes, publish_forbidden, published, open_forbidden, opened, not_released, released}
@@ -51,7 +51,7 @@ tag_no_change i h true e c p = p.1
 tag_no_change i h false e c p = no_change {A = Tag} Tagging.OutOfMemory (Ok (Made, tag_becomes true)) e c p
 
 unchanged : {w v : World} (l : Letter) (p : IsOwnPart w l v) → p.change ≡ nothing → v ≡ w
-unchanged {w} l p e = p.is ∙ ap (write w (caller_of l) (service_of l)) e
+unchanged {w} l p e = p.is ∙ ap (write w (acting_node l) (service_of l)) e
 
 abbrev pub is_refused : Letter → Bool
 is_refused (letter.MakeTag i h a) = is_err a
@@ -77,7 +77,7 @@ stays l r p = absurd (cc)
 
 module _ {R : Type 0} (written refused : R → R → Type 0) (before after : R) where
   -- by what is known of whether it was done
-  tell : (b : Book) (p : Participant) (h : ServiceHash) (t : Act) (c : Book) {done : Bool} (y : Bool) → done ≡ y → RecordsStep written refused b p h t done c before after → RecordsStep written refused b p h t y c before after
+  tell : (b : ServicesState) (p : Participant) (h : ServiceHash) (t : Act) (c : ServicesState) {done : Bool} (y : Bool) → done ≡ y → RecordsStep written refused b p h t done c before after → RecordsStep written refused b p h t y c before after
   tell b p h t c y e s = subst (λ (z : Bool). RecordsStep written refused b p h t z c before after) e s
 
 -- a is the world as it is read in the fields, and w is its value
@@ -88,10 +88,10 @@ module _ {a w : World} (i : ℕ) (h : ServiceHash) (is : a ≡ w) where
   pub tags_same : {t : set.FinSet tag_cmp} → t ≡ a.tags → record a { tags = t } ≡ w
   tags_same same = (λ j. record a { tags = same j }) ∙ is
 
-  services_same : {b : Book} → b ≡ services_of a → world_with b a.tags a.tickets ≡ w
-  services_same e = ap (λ (x : Book). world_with x a.tags a.tickets) e ∙ is
+  services_same : {b : ServicesState} → b ≡ services_of a → world_with b a.tags a.tickets ≡ w
+  services_same e = ap (λ (x : ServicesState). world_with x a.tags a.tickets) e ∙ is
 
-  tickets_same : {b : Book} {k : Tickets} → k ≡ a.tickets → b ≡ services_of a → world_with b a.tags k ≡ w
+  tickets_same : {b : ServicesState} {k : Tickets} → k ≡ a.tickets → b ≡ services_of a → world_with b a.tags k ≡ w
   tickets_same same e = (λ j. world_with (e j) a.tags (same j)) ∙ is
 
 module _ {R : Type 0} {written refused : R → R → Type 0} {before after : R} where
@@ -132,34 +132,34 @@ module _ {R : Type 0} {written refused : R → R → Type 0} {before after : R} 
     pub tag_gone : {t : set.FinSet tag_cmp} → tag_of a i h ≡ true → t ≡ set.remove a.tags (i, h) → written before after → IsRecordedPart written refused w (letter.RemoveTag i h (Ok tt)) (record a { tags = t }) before after
     tag_gone there gone wrote = recorded (tag_is i h is there) (part (letter.RemoveTag i h (Ok tt)) (tag_becomes false) is (refl, refl) (λ j. record a { tags = gone j })) wrote
 
-    pub lock_not_done : (b : Book) {done : Bool} → map.get a.rows h ≡ None → done ≡ false → RecordsStep written refused (services_of a) (Node i) h act.Lock done b before after → IsRecordedPart written refused w (letter.Lock i h (Err Locking.Other)) (world_with b a.tags a.tickets) before after
+    pub lock_not_done : (b : ServicesState) {done : Bool} → map.get a.rows h ≡ None → done ≡ false → RecordsStep written refused (services_of a) (Node i) h act.Lock done b before after → IsRecordedPart written refused w (letter.Lock i h (Err Locking.Other)) (world_with b a.tags a.tickets) before after
     lock_not_done b absent told s = not_done refl refl refl (λ x. lock_forbidden i h is b absent refl x) (services_same i h is) (tell written refused before after (services_of a) (Node i) h act.Lock b false told s)
 
-    pub lock_done : (b : Book) {done : Bool} {n : ℕ} → map.get a.rows h ≡ None → done ≡ true → RecordsStep written refused (services_of a) (Node i) h act.Lock done b before after → n ≡ a.counter → IsRecordedPart written refused w (letter.Lock i h (Ok n)) (world_with b a.tags a.tickets) before after
+    pub lock_done : (b : ServicesState) {done : Bool} {n : ℕ} → map.get a.rows h ≡ None → done ≡ true → RecordsStep written refused (services_of a) (Node i) h act.Lock done b before after → n ≡ a.counter → IsRecordedPart written refused w (letter.Lock i h (Ok n)) (world_with b a.tags a.tickets) before after
     lock_done b absent told s e = let x = tell written refused before after (services_of a) (Node i) h act.Lock b true told s in recorded refl (locked i h is b absent refl x.0 e) x.1
 
-    pub segment_removal : (b : Book) (done : Bool) {told : Bool} → told ≡ done → RecordsStep written refused (services_of a) (Node i) h act.RemoveSegment told b before after → IsRecordedPart written refused w (letter.RemoveSegment i h (removal done)) (world_with b a.tags a.tickets) before after
+    pub segment_removal : (b : ServicesState) (done : Bool) {told : Bool} → told ≡ done → RecordsStep written refused (services_of a) (Node i) h act.RemoveSegment told b before after → IsRecordedPart written refused w (letter.RemoveSegment i h (removal done)) (world_with b a.tags a.tickets) before after
     segment_removal b true e s = let x = tell written refused before after (services_of a) (Node i) h act.RemoveSegment b true e s in recorded refl (segment_removed i h is b true refl x.0) x.1
     segment_removal b false e s = not_done refl refl refl (λ x. segment_removed i h is b false refl x) (services_same i h is) (tell written refused before after (services_of a) (Node i) h act.RemoveSegment b false e s)
 
-    pub description_removal : (b : Book) (done : Bool) {told : Bool} → told ≡ done → RecordsStep written refused (services_of a) (Node i) h act.RemoveDescription told b before after → IsRecordedPart written refused w (letter.RemoveDescription i h (removal done)) (world_with b a.tags a.tickets) before after
+    pub description_removal : (b : ServicesState) (done : Bool) {told : Bool} → told ≡ done → RecordsStep written refused (services_of a) (Node i) h act.RemoveDescription told b before after → IsRecordedPart written refused w (letter.RemoveDescription i h (removal done)) (world_with b a.tags a.tickets) before after
     description_removal b true e s = let x = tell written refused before after (services_of a) (Node i) h act.RemoveDescription b true e s in recorded refl (description_removed i h is b true refl x.0) x.1
     description_removal b false e s = not_done refl refl refl (λ x. description_removed i h is b false refl x) (services_same i h is) (tell written refused before after (services_of a) (Node i) h act.RemoveDescription b false e s)
 
   -- by whether the node holds the lock of this number, for at least one node
   module _ {a w : World} (i : ℕ) (h : ServiceHash) (is : a ≡ w) (n m : ℕ) {q : Position} (found : q ≡ position_in a.phases (Node i, h)) {may : Bool} (test : may ≡ (has_lock n q.phase && nat_lt 0 m)) where
-    pub make_not_done : (b : Book) {done : Bool} → may ≡ true → is_some (map.get a.segments h) ≡ false → done ≡ false → RecordsStep written refused (services_of a) (Node i) h (act.Make m) done b before after → IsRecordedPart written refused w (letter.MakeSegment i h n m (Err Making.Other)) (world_with b a.tags a.tickets) before after
+    pub make_not_done : (b : ServicesState) {done : Bool} → may ≡ true → is_some (map.get a.segments h) ≡ false → done ≡ false → RecordsStep written refused (services_of a) (Node i) h (act.Make m) done b before after → IsRecordedPart written refused w (letter.MakeSegment i h n m (Err Making.Other)) (world_with b a.tags a.tickets) before after
     make_not_done b e absent told s = not_done refl refl refl (λ x. make_forbidden i h is n m found test e absent x) (services_same i h is) (tell written refused before after (services_of a) (Node i) h (act.Make m) b false told s)
 
-    pub make_is_done : (b : Book) {done : Bool} → may ≡ true → done ≡ true → RecordsStep written refused (services_of a) (Node i) h (act.Make m) done b before after → IsRecordedPart written refused w (letter.MakeSegment i h n m (Ok tt)) (world_with b a.tags a.tickets) before after
+    pub make_is_done : (b : ServicesState) {done : Bool} → may ≡ true → done ≡ true → RecordsStep written refused (services_of a) (Node i) h (act.Make m) done b before after → IsRecordedPart written refused w (letter.MakeSegment i h n m (Ok tt)) (world_with b a.tags a.tickets) before after
     make_is_done b e told s = let x = tell written refused before after (services_of a) (Node i) h (act.Make m) b true told s in recorded refl (makes i h is n m found test b e x.0) x.1
 
   -- by whether the node has made a segment under the lock of this number
   module _ {a w : World} (i : ℕ) (h : ServiceHash) (is : a ≡ w) (n : ℕ) (d : Description) {q : Position} (found : q ≡ position_in a.phases (Node i, h)) {made : Bool} (test : made ≡ has_made n q.phase) where
-    pub publish_not_done : (b : Book) {done : Bool} {k : Tickets} → made ≡ true → done ≡ false → RecordsStep written refused (services_of a) (Node i) h (act.Publish d) done b before after → k ≡ a.tickets → IsRecordedPart written refused w (letter.Publish i h n d (Err Publishing.Other)) (world_with b a.tags k) before after
+    pub publish_not_done : (b : ServicesState) {done : Bool} {k : Tickets} → made ≡ true → done ≡ false → RecordsStep written refused (services_of a) (Node i) h (act.Publish d) done b before after → k ≡ a.tickets → IsRecordedPart written refused w (letter.Publish i h n d (Err Publishing.Other)) (world_with b a.tags k) before after
     publish_not_done b e told s same = not_done refl refl refl (λ x. publish_forbidden i h is n d found test b e x same) (tickets_same i h is same) (tell written refused before after (services_of a) (Node i) h (act.Publish d) b false told s)
 
-    pub publish_done : (b : Book) {done : Bool} {k m : Tickets} {x : Ticket} → made ≡ true → done ≡ true → RecordsStep written refused (services_of a) (Node i) h (act.Publish d) done b before after → (◌≡◌ {A = Result Bool AllocError} (Ok done) (Ok true) → IsDescription d) → k ≡ map.insert m n x → x ≡ record { node = i; hash = h; number = n } → m ≡ a.tickets
+    pub publish_done : (b : ServicesState) {done : Bool} {k m : Tickets} {x : Ticket} → made ≡ true → done ≡ true → RecordsStep written refused (services_of a) (Node i) h (act.Publish d) done b before after → (◌≡◌ {A = Result Bool AllocError} (Ok done) (Ok true) → IsDescription d) → k ≡ map.insert m n x → x ≡ record { node = i; hash = h; number = n } → m ≡ a.tickets
         → IsRecordedPart written refused w (letter.Publish i h n d (Ok n)) (world_with b a.tags k) before after
     publish_done b e told s limits kept held same =
         let x = tell written refused before after (services_of a) (Node i) h (act.Publish d) b true told s in
@@ -167,10 +167,10 @@ module _ {R : Type 0} {written refused : R → R → Type 0} {before after : R} 
 
   -- by what was found against it
   module _ {a w : World} (i : ℕ) (h : ServiceHash) (is : a ≡ w) (n : ℕ) {q : Position} (found : q ≡ position_in a.phases (Node i, h)) {refusal : Option OpenSegmentError} (test : refusal ≡ open_refusal n (map.get a.segments h) a.counter q.phase) where
-    pub open_not_done : (b : Book) {done : Bool} {k : Tickets} → refusal ≡ None → done ≡ false → RecordsStep written refused (services_of a) (Node i) h act.Join done b before after → k ≡ a.tickets → IsRecordedPart written refused w (letter.OpenSegment i h n (Err Opening.Failed)) (world_with b a.tags k) before after
+    pub open_not_done : (b : ServicesState) {done : Bool} {k : Tickets} → refusal ≡ None → done ≡ false → RecordsStep written refused (services_of a) (Node i) h act.Join done b before after → k ≡ a.tickets → IsRecordedPart written refused w (letter.OpenSegment i h n (Err Opening.Failed)) (world_with b a.tags k) before after
     open_not_done b e told s same = not_done refl refl refl (λ x. open_forbidden i h is n found test b e x same) (tickets_same i h is same) (tell written refused before after (services_of a) (Node i) h act.Join b false told s)
 
-    pub open_done : (b : Book) {done : Bool} {v : Book} {u : ℕ} {k m : Tickets} {t : Ticket} → refusal ≡ None → done ≡ true → RecordsStep written refused (services_of a) (Node i) h act.Join done b before after → u ≡ b.counter → v ≡ record b { counter = b.counter + 1 } → k ≡ map.insert m u t → t ≡ record { node = i; hash = h; number = n } → m ≡ a.tickets
+    pub open_done : (b : ServicesState) {done : Bool} {v : ServicesState} {u : ℕ} {k m : Tickets} {t : Ticket} → refusal ≡ None → done ≡ true → RecordsStep written refused (services_of a) (Node i) h act.Join done b before after → u ≡ b.counter → v ≡ record b { counter = b.counter + 1 } → k ≡ map.insert m u t → t ≡ record { node = i; hash = h; number = n } → m ≡ a.tickets
         → IsRecordedPart written refused w (letter.OpenSegment i h n (Ok u)) (world_with v a.tags k) before after
     open_done b e told s ticket counted kept held still =
         let x = tell written refused before after (services_of a) (Node i) h act.Join b true told s in
@@ -178,8 +178,8 @@ module _ {R : Type 0} {written refused : R → R → Type 0} {before after : R} 
 
   -- by whether it is a ticket of this node for this service and number
   module _ {a w : World} (i : ℕ) (h : ServiceHash) (is : a ≡ w) (u n : ℕ) {o : Option Ticket} (found : o ≡ map.get a.tickets u) {held : Bool} (test : held ≡ is_ticket i h n o) where
-    pub release_not_done : {b : Book} → held ≡ true → RecordsLeave written refused (services_of a) (Node i) h None b before after → IsRecordedPart written refused w (letter.Release u i h n (Err NoSuchTicket)) (world_with b a.tags a.tickets) before after
+    pub release_not_done : {b : ServicesState} → held ≡ true → RecordsLeave written refused (services_of a) (Node i) h None b before after → IsRecordedPart written refused w (letter.Release u i h n (Err NoSuchTicket)) (world_with b a.tags a.tickets) before after
     release_not_done e s = not_done refl refl refl (λ x. not_released i h is u n found test e x) (services_same i h is) s
 
-    pub release_done : {b : Book} {k : Tickets} (r : Released) → held ≡ true → RecordsLeave written refused (services_of a) (Node i) h (Some r) b before after → k ≡ map.remove a.tickets u → IsRecordedPart written refused w (letter.Release u i h n (Ok r)) (world_with b a.tags k) before after
+    pub release_done : {b : ServicesState} {k : Tickets} (r : Released) → held ≡ true → RecordsLeave written refused (services_of a) (Node i) h (Some r) b before after → k ≡ map.remove a.tickets u → IsRecordedPart written refused w (letter.Release u i h n (Ok r)) (world_with b a.tags k) before after
     release_done r e s gone = recorded refl (released i h is u n found test r e s.0 gone) s.1

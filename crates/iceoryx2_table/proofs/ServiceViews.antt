@@ -1,4 +1,4 @@
--- Changes of a book, map by map.
+-- Changes of the services' state, map by map.
 use Rattle.std.specs.Prelude.{nat_lt, ◌==◌, if◌then◌else◌}
 use Rattle.iceoryx2_world.specs.declared.world.Phase.TheVariants as at
 use Rattle.iceoryx2_world.specs.declared.world.Row.{Row}
@@ -14,7 +14,7 @@ use Rattle.iceoryx2_world.specs.declared.world.Row.TheVariants as row
 use Rattle.iceoryx2_description.specs.Description.{Description}
 use Rattle.iceoryx2_world.specs.Steps.{ServiceView, view_after, to_view, fits, has_room, last_number, with_one, row_for}
 use Rattle.iceoryx2_world.specs.Batches.{needs_room}
-use Rattle.iceoryx2_table.specs.Book.{Book, step_at, with_view, StepsTo, Starves, TakesLeave, published_number, segment_fits}
+use Rattle.iceoryx2_table.specs.ServicesState.{ServicesState, step_at, with_view, StepsTo, Starves, TakesLeave, published_number, segment_fits}
 use Rattle.iceoryx2_access.specs.declared.storage.OpenSegmentError.TheVariants as Opening
 use Rattle.iceoryx2_access.specs.declared.storage.Release.{Release as Released}
 use Rattle.iceoryx2_world.specs.Access.{release_answer, open_refusal}
@@ -22,24 +22,24 @@ use Rattle.iceoryx2_world.proofs.AccessCases.{same_number}
 use Rattle.iceoryx2_world.proofs.agreement.Parts.{not_refused, refused_else}
 
 -- by the phase that was read
-pub by_phase : (b : Book) (p : Participant) (h : ServiceHash) (a : Act) (x : Phase) → or_idle (map.get b.phases (p, h)) ≡ x → step_at b p h a ≡ view_after p h a x (map.get b.rows h) (map.get b.segments h) b.counter
+pub by_phase : (b : ServicesState) (p : Participant) (h : ServiceHash) (a : Act) (x : Phase) → or_idle (map.get b.phases (p, h)) ≡ x → step_at b p h a ≡ view_after p h a x (map.get b.rows h) (map.get b.segments h) b.counter
 by_phase b p h a x e = ap (λ y. view_after p h a y (map.get b.rows h) (map.get b.segments h) b.counter) e
 
-pub by_both : (b : Book) (p : Participant) (h : ServiceHash) (a : Act) (x : Phase) (s : Option Segment) → or_idle (map.get b.phases (p, h)) ≡ x → map.get b.segments h ≡ s → step_at b p h a ≡ view_after p h a x (map.get b.rows h) s b.counter
+pub by_both : (b : ServicesState) (p : Participant) (h : ServiceHash) (a : Act) (x : Phase) (s : Option Segment) → or_idle (map.get b.phases (p, h)) ≡ x → map.get b.segments h ≡ s → step_at b p h a ≡ view_after p h a x (map.get b.rows h) s b.counter
 by_both b p h a x s e f = by_phase b p h a x e ∙ ap (λ t. view_after p h a x (map.get b.rows h) t b.counter) f
 
 -- what was shown of the fields, of the value
-pub did : {a b new : Book} (p : Participant) (h : ServiceHash) (t : Act) (s : ServiceView) → a ≡ b → step_at a p h t ≡ Some s → new ≡ with_view a p h s → StepsTo b p h t new
-did {a} {b} {new} p h t s is e f = subst (λ (x : Book). StepsTo x p h t new) is (s, e, f)
+pub did : {a b new : ServicesState} (p : Participant) (h : ServiceHash) (t : Act) (s : ServiceView) → a ≡ b → step_at a p h t ≡ Some s → new ≡ with_view a p h s → StepsTo b p h t new
+did {a} {b} {new} p h t s is e f = subst (λ (x : ServicesState). StepsTo x p h t new) is (s, e, f)
 
-pub refused : {a b new : Book} (p : Participant) (h : ServiceHash) (t : Act) → a ≡ b → step_at a p h t ≡ None → new ≡ a → (step_at b p h t ≡ None) × (new ≡ b)
-refused p h t is e f = (ap (λ (x : Book). step_at x p h t) (sym is) ∙ e, f ∙ is)
+pub refused : {a b new : ServicesState} (p : Participant) (h : ServiceHash) (t : Act) → a ≡ b → step_at a p h t ≡ None → new ≡ a → (step_at b p h t ≡ None) × (new ≡ b)
+refused p h t is e f = (ap (λ (x : ServicesState). step_at x p h t) (sym is) ∙ e, f ∙ is)
 
-pub starved : {a b new : Book} (p : Participant) (h : ServiceHash) (t : Act) (s : ServiceView) → a ≡ b → step_at a p h t ≡ Some s → needs_room t (or_idle (map.get a.phases (p, h))) ≡ true → new ≡ a → Starves b p h t new
-starved {a} {b} {new} p h t s is e room f = subst (λ (x : Book). Starves x p h t new) is (s, e, room, f)
+pub starved : {a b new : ServicesState} (p : Participant) (h : ServiceHash) (t : Act) (s : ServiceView) → a ≡ b → step_at a p h t ≡ Some s → needs_room t (or_idle (map.get a.phases (p, h))) ≡ true → new ≡ a → Starves b p h t new
+starved {a} {b} {new} p h t s is e room f = subst (λ (x : ServicesState). Starves x p h t new) is (s, e, room, f)
 
-pub left : {a b new : Book} (p : Participant) (h : ServiceHash) (r : Released) (s : ServiceView) → a ≡ b → step_at a p h act.Leave ≡ Some s → r ≡ release_answer s.phase → new ≡ with_view a p h s → TakesLeave b p h (Some r) new
-left {a} {b} {new} p h r s is e l f = subst (λ (x : Book). TakesLeave x p h (Some r) new) is (s, e, l, f)
+pub left : {a b new : ServicesState} (p : Participant) (h : ServiceHash) (r : Released) (s : ServiceView) → a ≡ b → step_at a p h act.Leave ≡ Some s → r ≡ release_answer s.phase → new ≡ with_view a p h s → TakesLeave b p h (Some r) new
+left {a} {b} {new} p h r s is e l f = subst (λ (x : ServicesState). TakesLeave x p h (Some r) new) is (s, e, l, f)
 
 failed : (s : Segment) (n : ℕ) → (if s.number == n then if s.marked then Some Opening.Marked else Some Opening.Failed else Some Opening.Failed) ≡ None → ⊥
 failed s n e = let a = not_refused (s.number == n) _ _ e in let b = refused_else s.marked _ _ a.1 in absurd (cc)
@@ -70,7 +70,7 @@ locks p h at.Idle s c e = refl
 locks p h (at.Read n) s c e = refl
 locks p h x s c e = absurd (cc)
 
-pub lock_tried : (b : Book) (p : Participant) (h : ServiceHash) (x : Phase) → or_idle (map.get b.phases (p, h)) ≡ x → begins x ≡ true → map.get b.rows h ≡ None → nat_lt b.counter last_number ≡ true
+pub lock_tried : (b : ServicesState) (p : Participant) (h : ServiceHash) (x : Phase) → or_idle (map.get b.phases (p, h)) ≡ x → begins x ≡ true → map.get b.rows h ≡ None → nat_lt b.counter last_number ≡ true
     → step_at b p h act.Lock ≡ to_view (at.Locked b.counter) (Some (row.Locked b.counter)) (map.get b.segments h) (b.counter + 1)
 lock_tried b p h x e free none left =
     by_phase b p h act.Lock x e
@@ -79,7 +79,7 @@ lock_tried b p h x e free none left =
     ∙ ap (λ (t : Bool). if t then to_view (at.Locked b.counter) (Some (row.Locked b.counter)) (map.get b.segments h) (b.counter + 1) else None) left
 
 -- who holds nothing reads what is published
-pub read_tried : (b : Book) (p : Participant) (h : ServiceHash) (x : Phase) (n : ℕ) (d : List ℕ) → or_idle (map.get b.phases (p, h)) ≡ x → begins x ≡ true → map.get b.rows h ≡ Some (row.Published n d)
+pub read_tried : (b : ServicesState) (p : Participant) (h : ServiceHash) (x : Phase) (n : ℕ) (d : List ℕ) → or_idle (map.get b.phases (p, h)) ≡ x → begins x ≡ true → map.get b.rows h ≡ Some (row.Published n d)
     → step_at b p h act.Read ≡ to_view (at.Read n) (map.get b.rows h) (map.get b.segments h) b.counter
 read_tried b p h x n d e free there =
     by_phase b p h act.Read x e
@@ -93,7 +93,7 @@ read_tried b p h x n d e free there =
     reads y f = absurd (cc)
 
 -- who made a segment publishes what fits it
-pub publish_tried : (b : Book) (p : Participant) (h : ServiceHash) (d : Description) (n : ℕ) (s : Segment) → or_idle (map.get b.phases (p, h)) ≡ at.Made n → map.get b.segments h ≡ Some s → fits h s d ≡ true
+pub publish_tried : (b : ServicesState) (p : Participant) (h : ServiceHash) (d : Description) (n : ℕ) (s : Segment) → or_idle (map.get b.phases (p, h)) ≡ at.Made n → map.get b.segments h ≡ Some s → fits h s d ≡ true
     → step_at b p h (act.Publish d) ≡ to_view (at.Joined n 1) (Some (row_for n d)) (map.get b.segments h) b.counter
 publish_tried b p h d n s e there fit =
     by_both b p h (act.Publish d) (at.Made n) (Some s) e there

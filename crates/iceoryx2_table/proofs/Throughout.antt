@@ -26,7 +26,7 @@ use Rattle.iceoryx2_world.specs.declared.world.Row.TheVariants as row
 use Rattle.iceoryx2_world.specs.declared.world.Ticket.{Ticket}
 use Rattle.iceoryx2_table.specs.Agreeing.{is_locked, is_below, stands, has_duty, has_joined, is_there, stands_there, bearer, bears_so, stands_whole, DescribesThere}
 use Rattle.iceoryx2_table.specs.AgreeingAcross.{rows_below, segments_below, has_alone, is_held, stands_here, all_stand_whole, RowDescribes, RowsDescribe, locks, is_apart, is_free, numbers_stand, is_numbered, is_counted, tickets_stand, AgreesOnTicketsThere, TicketsByPlace, is_numbered_so, tickets_stand_there}
-use Rattle.iceoryx2_table.specs.Book.{Holds}
+use Rattle.iceoryx2_table.specs.ServicesState.{HasBytes}
 use Rattle.iceoryx2_table.specs.Merge.{RowEntries}
 use Rattle.iceoryx2_table.specs.declared.agreeing.phases.Duty.{Duty}
 use Rattle.iceoryx2_table.specs.declared.agreeing.phases.Duty.TheVariants as duty
@@ -165,9 +165,9 @@ module _ (w : World) where
 
 module _ (w : World) where
   -- with one more row
-  pub one_more : (es : RowEntries) (x : ServiceHash × Row) → RowsDescribe w es → RowDescribes w x.0 x.1 → RowsDescribe w (es ++ x ∷ [])
-  one_more [] x all one = (one, tt)
-  one_more (e ∷ es) x all one = (all.0, one_more es x all.1 one)
+  pub one_row_more : (es : RowEntries) (x : ServiceHash × Row) → RowsDescribe w es → RowDescribes w x.0 x.1 → RowsDescribe w (es ++ x ∷ [])
+  one_row_more [] x all one = (one, tt)
+  one_row_more (e ∷ es) x all one = (all.0, one_row_more es x all.1 one)
 
   pub at_index : (es : RowEntries) (i : ℕ) (x : ServiceHash × Row) → i < length es → RowsDescribe w es → x ≡ get_or es i x → RowDescribes w x.0 x.1
   at_index [] i x lt all is = absurd (omega arith)
@@ -212,10 +212,10 @@ module _ (w : World) where
   all_describe each = find_all (map.entries w.rows) (map.entries_sorted w.rows) (λ h r there. each h r (map.get-entries w.rows h ∙ there))
 
   pub row_described : {E : Type 0} (h : ServiceHash) {r : Row} {m : ℕ} {held given : List ℕ} (answer : Result Bool E)
-      → ((a : List ℕ) × (r ≡ row.Published m a)) → Holds r held → given ≡ held
+      → ((a : List ℕ) × (r ≡ row.Published m a)) → HasBytes r held → given ≡ held
       → IfOk answer (λ t. IsTrue t ↔ DescribesThere w h m given) → IfOk answer (λ t. IsTrue t ↔ RowDescribes w h r)
   row_described {E} h {r} {m} {held} {given} answer published holds same test =
-      let bytes : held ≡ published.0 = subst (λ q. Holds q held) published.1 holds in
+      let bytes : held ≡ published.0 = subst (λ q. HasBytes q held) published.1 holds in
       if_ok (λ t d. subst (λ q. IsTrue t ↔ RowDescribes w h q) (sym published.1) (subst (λ l. IsTrue t ↔ DescribesThere w h m l) (same ∙ bytes) d)) answer test
 
 -- ---- each service by itself

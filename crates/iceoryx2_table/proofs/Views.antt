@@ -11,7 +11,7 @@ use Rattle.sorted_map.proofs.Ranks.{place_there}
 use Rattle.iceoryx2_world.specs.declared.world.Row.{Row}
 use Rattle.iceoryx2_world.specs.declared.world.Row.TheVariants as row
 use Rattle.iceoryx2_world.specs.World.{set_to}
-use Rattle.iceoryx2_table.specs.Book.{Tells, Holds}
+use Rattle.iceoryx2_table.specs.ServicesState.{IsStateOf, HasBytes}
 use Rattle.iceoryx2_table.specs.declared.rows.RowState.{RowState}
 use Rattle.iceoryx2_table.specs.declared.rows.RowState.TheVariants as state
 use Rattle.iceoryx2_world.proofs.agreement.Whole.{get-set_to}
@@ -43,11 +43,11 @@ both_true true b e = (refl, e)
 both_true false b e = absurd (cc)
 
 -- what a row tells, where the answer is known
-pub told : (r : Row) {s t : RowState} → Tells r s → s ≡ t → Tells r t
-told r tells is = subst (λ x. Tells r x) is tells
+pub told : (r : Row) {s t : RowState} → IsStateOf r s → s ≡ t → IsStateOf r t
+told r tells is = subst (λ x. IsStateOf r x) is tells
 
 -- a published row is its number with its bytes
-pub written : (r : Row) {s : RowState} {n : ℕ} {bytes : List ℕ} → Tells r s → Holds r bytes → s ≡ state.Published n → r ≡ row.Published n bytes
+pub written : (r : Row) {s : RowState} {n : ℕ} {bytes : List ℕ} → IsStateOf r s → HasBytes r bytes → s ≡ state.Published n → r ≡ row.Published n bytes
 written r {n = n} {bytes = bytes} tells holds is =
-    let t : Tells r (state.Published n) = told r tells is in
-    t.1 ∙ ap (row.Published n) (sym (subst (λ x. Holds x bytes) t.1 holds))
+    let t : IsStateOf r (state.Published n) = told r tells is in
+    t.1 ∙ ap (row.Published n) (sym (subst (λ x. HasBytes x bytes) t.1 holds))

@@ -1,6 +1,6 @@
 pub mod Agreeing
 pub mod AgreeingAcross
-pub mod Book
+pub mod ServicesState
 pub mod Comparing
 pub mod Decided
 pub mod Holdings

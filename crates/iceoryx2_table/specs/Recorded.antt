@@ -10,7 +10,7 @@ use Rattle.iceoryx2_world.specs.declared.world.Participant.{Participant}
 use Rattle.iceoryx2_world.specs.Access.{IsOwnPart}
 use Rattle.iceoryx2_world.specs.Acts.{Act}
 use Rattle.iceoryx2_world.specs.World.{World, Segment, tag_of}
-use Rattle.iceoryx2_table.specs.Book.{Book, StepsTo, StepsOrStays, Starves, TakesLeave, Admits}
+use Rattle.iceoryx2_table.specs.ServicesState.{ServicesState, StepsTo, StepsOrStays, Starves, TakesLeave, Admits}
 
 -- It is written down: it is granted, and is no tag that is found and no removal of a tag that isn't there.
 abbrev pub is_written : World → Letter → Bool
@@ -39,18 +39,19 @@ module _ {R : Type 0} (written refused : R → R → Type 0) where
     declined : IsFault l → new ≡ old → refused before after → IsRecordedPart old l new before after
 
   -- a step without memory: it is written and has its effect, or it is forbidden or refused an entry and nothing changes
-  abbrev pub RecordsStep : Book → Participant → ServiceHash → Act → Bool → Book → R → R → Type 0
+  abbrev pub RecordsStep : ServicesState → Participant → ServiceHash → Act → Bool → ServicesState → R → R → Type 0
   RecordsStep b p h a true c before after = StepsTo b p h a c × written before after
   RecordsStep b p h a false c before after =
       (StepsOrStays b p h a false c × (after ≡ before)) ⊎ ((c ≡ b) × refused before after)
 
   -- a step that may run out of memory, and isn't written then
-  abbrev pub MayRecordStep : Book → Participant → ServiceHash → Act → Result Bool AllocError → Book → R → R → Type 0
+  abbrev pub MayRecordStep : ServicesState → Participant → ServiceHash → Act → Result Bool AllocError → ServicesState
+      → R → R → Type 0
   MayRecordStep b p h a (Ok done) c before after = RecordsStep b p h a done c before after
   MayRecordStep b p h a (Err e) c before after = Starves b p h a c × (after ≡ before)
 
   -- a leave, with what it leaves
-  abbrev pub RecordsLeave : Book → Participant → ServiceHash → Option Released → Book → R → R → Type 0
+  abbrev pub RecordsLeave : ServicesState → Participant → ServiceHash → Option Released → ServicesState → R → R → Type 0
   RecordsLeave b p h (Some r) c before after = TakesLeave b p h (Some r) c × written before after
   RecordsLeave b p h None c before after =
       (TakesLeave b p h None c × (after ≡ before)) ⊎ ((c ≡ b) × refused before after)

@@ -7,12 +7,14 @@
 //! which agrees, with counter 0 and n; `schedule` replaces what waits; `pending`, `skipped`, `list`, `has_tag`,
 //! `tickets` and `counter` are exact.
 //!
-//! Below it stands `StoredWorld`, whose nine accesses that change what others may have to know take what writes
-//! them down (`Recorder`). Each is the node's own part with nothing written, a granted own part that was written
-//! once, or the general fault with the world as it was, and the recorder refused (`IsRecordedPart`); the first two
-//! are told apart by answer and world (`is_written`). `StoredWorld::agrees` is true exactly where the world agrees,
-//! and `agrees_at`, `tickets_agree_at` and `numbers_agree` likewise, unless a description finds no memory;
-//! `is_same` is exact. `spend` spends a number as locks that are given up do (`laws_of_spending()`).
+//! A `Table` is a `TableOver` of what keeps a world with the own part of each access (`OwnParts`), so the batches and
+//! all that is said of them stand once, whatever the maps are. Here that is `StoredWorld`, whose nine accesses that
+//! change what others may have to know take what writes them down (`Recorder`). Each is the node's own part with
+//! nothing written, a granted own part that was written once, or the general fault with the world as it was, and the
+//! recorder refused (`IsRecordedPart`); the first two are told apart by answer and world (`is_written`).
+//! `StoredWorld::agrees` is true exactly where the world agrees, and `agrees_at`, `tickets_agree_at` and
+//! `numbers_agree` likewise, unless a description finds no memory; `is_same` is exact. `spend` spends a number as locks
+//! that are given up do (`laws_of_spending()`).
 #![tactic(auto)]
 
 pub mod agreeing;
@@ -20,6 +22,7 @@ pub mod holdings;
 pub mod laws;
 pub mod local;
 pub mod merge;
+pub mod own_parts;
 pub mod recorder;
 pub mod rows;
 pub mod same;

@@ -8,7 +8,7 @@ ghost use Rattle.iceoryx2_world.specs.Listing.{entry_of, listed_row as listed_ro
 use crate::rows::{RowState, StoredRow};
 use crate::segments::StoredSegment;
 use iceoryx2_description::description::ServiceHash;
-use iceoryx2_world::listing::{Entry, ListedRow};
+use iceoryx2_world::listing::{ListedRow, ListedService};
 use iceoryx2_world::world::Bytes;
 use std::alloc::{AllocError, Global};
 use std::cmp::Ordering;
@@ -29,9 +29,9 @@ fn listed_row(row: Option<&StoredRow>) -> Result<ListedRow, AllocError>
     }
 }
 
-// Adds what is listed of a hash.
-fn push(
-    entries: &mut Vec<Entry>,
+/// Adds what is listed of a hash.
+pub fn push(
+    entries: &mut Vec<ListedService>,
     hash: &ServiceHash,
     row: Option<&StoredRow>,
     segment: Option<&StoredSegment>,
@@ -44,7 +44,7 @@ fn push(
         Some(segment) => Some(segment.to_listed()),
         None => None,
     };
-    let entry = Entry {
+    let entry = ListedService {
         hash: *hash,
         row,
         segment,
@@ -55,7 +55,7 @@ fn push(
 
 // Adds the next entry, and tells how many rows and segments are listed then.
 fn push_next(
-    entries: &mut Vec<Entry>,
+    entries: &mut Vec<ListedService>,
     rows: &[(ServiceHash, StoredRow)],
     segments: &[(ServiceHash, StoredSegment)],
     row: usize,
@@ -99,7 +99,7 @@ pub fn merge_entries(
     alloc: Global,
     rows: &[(ServiceHash, StoredRow)],
     segments: &[(ServiceHash, StoredSegment)],
-) -> Result<Vec<Entry>, AllocError>
+) -> Result<Vec<ListedService>, AllocError>
     ensures { IfOk result (λ entries. entries.items ≡ merge rows.now segments.now) }
 {
     let mut entries = Vec::new(alloc);

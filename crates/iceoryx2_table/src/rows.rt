@@ -3,7 +3,7 @@
 ghost use Rattle.std.specs.Prelude.{◌≡◌};
 ghost use Rattle.iceoryx2_world.specs.declared.world.Row.TheVariants as row;
 ghost use Rattle.iceoryx2_world.specs.World.{row_number};
-ghost use Rattle.iceoryx2_table.specs.Book.{Tells, Holds};
+ghost use Rattle.iceoryx2_table.specs.ServicesState.{IsStateOf, HasBytes};
 
 use iceoryx2_world::world::Bytes;
 use std::alloc::Global;
@@ -21,7 +21,7 @@ pub struct StoredRow {
 impl Model for StoredRow {
     ghost use Rattle.iceoryx2_world.specs.declared.world.Row.{Row};
     ghost use Rattle.iceoryx2_world.specs.Codes.{coded_row};
-    ghost use Rattle.iceoryx2_table.specs.Book.{row_with};
+    ghost use Rattle.iceoryx2_table.specs.ServicesState.{row_with};
 
     ghost Value = { Row };
 
@@ -64,7 +64,7 @@ impl StoredRow {
 
     /// Whose row it is, and whether it is published.
     pub fn state(&self) -> RowState
-        ensures { Tells self.now result }
+        ensures { IsStateOf self.now result }
     {
         if self.is_published {
             return RowState::Published(self.number);
@@ -81,7 +81,7 @@ impl StoredRow {
 
     /// The description's bytes, where it is published.
     pub fn bytes(&self) -> &Bytes
-        ensures { Holds self.now result.now }
+        ensures { HasBytes self.now result.now }
     {
         &self.bytes
     }

@@ -4,7 +4,7 @@ ghost use Rattle.std.specs.Prelude.{◌≡◌, IfOk};
 ghost use Rattle.std.specs.FinMap as map;
 ghost use Rattle.iceoryx2_world.specs.Sets as set;
 ghost use Rattle.iceoryx2_world.specs.Access.{segment_refusal};
-ghost use Rattle.iceoryx2_table.specs.Book.{Dismisses};
+ghost use Rattle.iceoryx2_table.specs.ServicesState.{Dismisses};
 ghost use Rattle.iceoryx2_table.specs.Recorded.{RecordsAdmission};
 ghost use Rattle.iceoryx2_world.specs.Listing.{listed_segment};
 ghost use Rattle.iceoryx2_world.specs.Steps.{new_segment, fits as fits_spec, has_room as has_room_spec};

@@ -12,10 +12,10 @@ ghost use Rattle.iceoryx2_world.specs.Acts as act;
 ghost use Rattle.iceoryx2_world.specs.Steps.{last_number};
 ghost use Rattle.iceoryx2_world.specs.Access.{open_refusal};
 ghost use Rattle.iceoryx2_world.specs.Listing.{ListsAll};
-ghost use Rattle.iceoryx2_table.specs.Book.{MayTakeStep, TakesDescription, TakesSegment};
+ghost use Rattle.iceoryx2_table.specs.ServicesState.{MayTakeStep, TakesDescription, TakesSegment};
 ghost use Rattle.iceoryx2_table.specs.Holdings.{held_service};
 ghost use Rattle.iceoryx2_table.specs.Recorded.{MayRecordStep, RecordsLeave, RecordsStep};
-ghost use Rattle.iceoryx2_table.specs.Book.{position_in, published_number, segment_fits};
+ghost use Rattle.iceoryx2_table.specs.ServicesState.{position_in, published_number, segment_fits};
 
 use crate::holdings::{Holding, first_service};
 use crate::merge::merge_entries;
@@ -25,7 +25,7 @@ use crate::segments::StoredSegment;
 use iceoryx2_access::storage::{OpenSegmentError, Release};
 use iceoryx2_byte_form::bytes::encode;
 use iceoryx2_description::description::{ServiceHash, StaticConfig};
-use iceoryx2_world::listing::Entry;
+use iceoryx2_world::listing::ListedService;
 use iceoryx2_world::world::{Participant, Phase};
 use sorted_map::{Place, SortedVec};
 use std::alloc::{AllocError, Global};
@@ -43,11 +43,11 @@ pub struct Services {
 impl Model for Services {
     ghost use Rattle.sorted_map.specs.Sorted.{map_of};
     ghost use Rattle.iceoryx2_world.specs.Orders.{hash_cmp, place_cmp};
-    ghost use Rattle.iceoryx2_table.specs.Book.{Book, coded_book};
+    ghost use Rattle.iceoryx2_table.specs.ServicesState.{ServicesState, coded_services};
 
-    ghost Value = { Book };
+    ghost Value = { ServicesState };
 
-    ghost coded = { coded_book };
+    ghost coded = { coded_services };
 
     ghost view = { λ t. record {
       rows = map_of hash_cmp t.rows;
@@ -108,8 +108,8 @@ pub fn begins(phase: Phase) -> bool
     }
 }
 
-// The phase of who takes the segment away, where it may.
-fn without_segment(phase: Phase) -> Option<Phase>
+/// The phase of who takes the segment away, where it may.
+pub fn without_segment(phase: Phase) -> Option<Phase>
     ensures effect { TakesSegment phase result }
     ensures held { IsSome result → phase ≢ Phase.Idle }
 {
@@ -120,8 +120,8 @@ fn without_segment(phase: Phase) -> Option<Phase>
     }
 }
 
-// Whether it may take the description away.
-fn may_remove_description(phase: Phase) -> bool
+/// Whether it may take the description away.
+pub fn may_remove_description(phase: Phase) -> bool
     ensures effect { TakesDescription phase result }
     ensures held { IsTrue result → phase ≢ Phase.Idle }
 {
@@ -151,7 +151,7 @@ impl Services {
     }
 
     /// Each hash with a row or a segment, in ascending order.
-    pub fn list(&self) -> Result<Vec<Entry>, AllocError>
+    pub fn list(&self) -> Result<Vec<ListedService>, AllocError>
         ensures { IfOk result (λ entries. ListsAll self.now.rows self.now.segments entries.items) }
     {
         merge_entries(

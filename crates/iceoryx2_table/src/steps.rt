@@ -5,7 +5,7 @@ ghost use Rattle.iceoryx2_description.specs.Description.{IsDescription};
 ghost use Rattle.iceoryx2_world.specs.Acts as act;
 ghost use Rattle.iceoryx2_world.specs.Acts.{IsAct};
 ghost use Rattle.iceoryx2_world.specs.Batches.{act_of};
-ghost use Rattle.iceoryx2_table.specs.Book.{MayTakeStep};
+ghost use Rattle.iceoryx2_table.specs.ServicesState.{MayTakeStep};
 
 use crate::recorder::Unrecorded;
 use crate::rows::RowState;

@@ -9,39 +9,44 @@ ghost use Rattle.iceoryx2_world.specs.Tables.{batch_items, IsBatchRun};
 pub mod stored;
 
 use self::stored::StoredWorld;
-use crate::recorder::Unrecorded;
+use crate::own_parts::OwnParts;
 use iceoryx2_access::storage::{
     Existence, FetchError, LockError, MakeSegmentError, OpenSegmentError, PublishError, Release,
     ReleaseError, RemoveError, Storage, Tag, TagError,
 };
 use iceoryx2_description::description::{ServiceHash, StaticConfig};
 pub use iceoryx2_world::batches::{Act, Step};
-use iceoryx2_world::listing::Entry;
+use iceoryx2_world::listing::ListedService;
 use std::alloc::{AllocError, Global};
 use std::marker::Model;
 
-/// A storage within one process: what stands for each service, where each participant is with
-/// it, the nodes' tags and tickets, and a counter for numbers. Steps of peers may wait at it in
-/// batches: before each of the twelve accesses the next batch runs, step by step.
-pub struct Table {
-    world: StoredWorld,
+/// A storage within one process, over what keeps a world. Steps of peers may wait at it in batches: before each of the
+/// twelve accesses the next batch runs, step by step.
+pub struct TableOver<W: OwnParts> {
+    world: W,
     // the batches, the next one last, so that none is moved when it runs
     waiting: Vec<Vec<Step>>,
     skipped: u64,
 }
 
+/// A storage within one process: what stands for each service, where each participant is with
+/// it, the nodes' tags and tickets, and a counter for numbers. Steps of peers may wait at it in
+/// batches: before each of the twelve accesses the next batch runs, step by step.
+pub type Table = TableOver<StoredWorld>;
+
 // Written out, so that a proof of what lets one go doesn't take its fields apart.
-impl Drop for Table {
+impl<W: OwnParts> Drop for TableOver<W> {
     fn drop(self) {
-        let Table {
-            world: _,
+        let TableOver {
+            world,
             waiting: _,
             skipped: _,
         } = self;
+        world.let_go();
     }
 }
 
-impl Model for Table {
+impl<W: OwnParts> Model for TableOver<W> {
     ghost use Rattle.std.specs.Prelude.{reverse};
     ghost use Rattle.iceoryx2_world.specs.Tables.{TableState, batch_items, coded_table};
 
@@ -50,30 +55,30 @@ impl Model for Table {
     ghost coded = { coded_table };
 
     ghost view = { λ t. record {
-      world = t.world;
+      world = W.world t.world;
       waiting = batch_items (reverse t.waiting.items);
       skipped = t.skipped;
     } };
 }
 
-impl Table {
+impl<W: OwnParts> TableOver<W> {
     /// An empty table whose first number is 0, at which nothing waits. Takes no memory.
     #[tactic(auto, using(iceoryx2_world::proofs::agreement::Empty::empty_agrees))]
-    pub fn new(alloc: Global) -> Table
+    pub fn new(alloc: Global) -> Self
         ensures state { result ≡ record { world = empty_world 0; waiting = []; skipped = 0 } }
         ensures agrees { Agrees result.world }
     {
-        Table::starting_at(alloc, 0)
+        TableOver::starting_at(alloc, 0)
     }
 
     /// An empty table with its counter's first value, at which nothing waits. At `u64::MAX` it hands
     /// out no number. Takes no memory.
-    pub fn starting_at(alloc: Global, counter: u64) -> Table
+    pub fn starting_at(alloc: Global, counter: u64) -> Self
         ensures state { result ≡ record { world = empty_world counter; waiting = []; skipped = 0 } }
         ensures agrees { Agrees result.world }
     {
-        Table {
-            world: StoredWorld::starting_at(alloc, counter),
+        TableOver {
+            world: W::starting_at(alloc, counter),
             waiting: Vec::new(alloc),
             skipped: 0,
         }
@@ -126,7 +131,7 @@ impl Table {
     }
 
     /// Each service with a row or a segment, in the order of the hashes' bytes.
-    pub fn list(&self) -> Result<Vec<Entry>, AllocError>
+    pub fn list(&self) -> Result<Vec<ListedService>, AllocError>
         ensures { IfOk result (λ entries. Lists self.now.world entries.items) }
     {
         self.world.list()
@@ -139,7 +144,7 @@ impl Table {
         self.world.has_tag(node, hash)
     }
 
-    /// How many tickets the node has for the service.
+    /// How many tickets the node has for the service. It goes through all tickets, and takes no memory.
     pub fn tickets(&self, node: u64, hash: &ServiceHash) -> u64
         ensures { result ≡ ticket_count self.now.world.tickets node hash.now }
     {
@@ -154,7 +159,7 @@ impl Table {
     }
 }
 
-impl Storage for Table {
+impl<W: OwnParts> Storage for TableOver<W> {
     ghost use Rattle.iceoryx2_world.specs.Across.{Agrees};
     ghost use Rattle.iceoryx2_world.specs.Agreement.{Later};
     ghost use Rattle.iceoryx2_world.specs.Tables.{IsTableAccess};
@@ -196,7 +201,7 @@ impl Storage for Table {
         ensures later { Agrees self.old.world → Later self.old.world self.new.world }
     {
         self.run_batch();
-        self.world.make_tag(&mut Unrecorded, node, hash)
+        self.world.make_tag(node, hash)
     }
 
     fn remove_tag(&mut self, node: u64, hash: &ServiceHash) -> Result<(), RemoveError>
@@ -205,7 +210,7 @@ impl Storage for Table {
         ensures later { Agrees self.old.world → Later self.old.world self.new.world }
     {
         self.run_batch();
-        self.world.remove_tag(&mut Unrecorded, node, hash)
+        self.world.remove_tag(node, hash)
     }
 
     fn lock(&mut self, node: u64, hash: &ServiceHash) -> Result<u64, LockError>
@@ -214,7 +219,7 @@ impl Storage for Table {
         ensures later { Agrees self.old.world → Later self.old.world self.new.world }
     {
         self.run_batch();
-        self.world.lock(&mut Unrecorded, node, hash)
+        self.world.lock(node, hash)
     }
 
     fn make_segment(
@@ -229,8 +234,7 @@ impl Storage for Table {
         ensures later { Agrees self.old.world → Later self.old.world self.new.world }
     {
         self.run_batch();
-        self.world
-            .make_segment(&mut Unrecorded, node, hash, number, max_nodes)
+        self.world.make_segment(node, hash, number, max_nodes)
     }
 
     fn remove_segment(&mut self, node: u64, hash: &ServiceHash) -> Result<(), RemoveError>
@@ -239,7 +243,7 @@ impl Storage for Table {
         ensures later { Agrees self.old.world → Later self.old.world self.new.world }
     {
         self.run_batch();
-        self.world.remove_segment(&mut Unrecorded, node, hash)
+        self.world.remove_segment(node, hash)
     }
 
     fn remove_description(&mut self, node: u64, hash: &ServiceHash) -> Result<(), RemoveError>
@@ -248,7 +252,7 @@ impl Storage for Table {
         ensures later { Agrees self.old.world → Later self.old.world self.new.world }
     {
         self.run_batch();
-        self.world.remove_description(&mut Unrecorded, node, hash)
+        self.world.remove_description(node, hash)
     }
 
     fn publish(
@@ -263,8 +267,7 @@ impl Storage for Table {
         ensures later { Agrees self.old.world → Later self.old.world self.new.world }
     {
         self.run_batch();
-        self.world
-            .publish(&mut Unrecorded, node, hash, number, description)
+        self.world.publish(node, hash, number, description)
     }
 
     fn open_segment(
@@ -278,7 +281,7 @@ impl Storage for Table {
         ensures later { Agrees self.old.world → Later self.old.world self.new.world }
     {
         self.run_batch();
-        self.world.open_segment(&mut Unrecorded, node, hash, number)
+        self.world.open_segment(node, hash, number)
     }
 
     fn release(
@@ -293,7 +296,6 @@ impl Storage for Table {
         ensures later { Agrees self.old.world → Later self.old.world self.new.world }
     {
         self.run_batch();
-        self.world
-            .release(&mut Unrecorded, ticket, node, hash, number)
+        self.world.release(ticket, node, hash, number)
     }
 }

@@ -13,6 +13,7 @@ ghost use Rattle.iceoryx2_table.specs.Recorded.{IsRecordedPart};
 
 pub mod reading;
 pub mod spending;
+pub mod unrecorded;
 
 use crate::holdings::{Holding, first_tag, first_ticket};
 use crate::recorder::Recorder;
@@ -24,7 +25,7 @@ use iceoryx2_access::storage::{
 };
 use iceoryx2_description::description::{ServiceHash, StaticConfig};
 use iceoryx2_world::batches::Step;
-use iceoryx2_world::listing::Entry;
+use iceoryx2_world::listing::ListedService;
 use iceoryx2_world::world::{Participant, Phase, Ticket};
 use sorted_map::SortedVec;
 use std::alloc::{AllocError, Global};
@@ -50,7 +51,7 @@ impl Model for StoredWorld {
     ghost use Rattle.iceoryx2_world.specs.Orders.{tag_cmp};
     ghost use Rattle.iceoryx2_world.specs.World.{World};
     ghost use Rattle.iceoryx2_world.specs.Codes.{coded_world};
-    ghost use Rattle.iceoryx2_table.specs.Book.{world_with};
+    ghost use Rattle.iceoryx2_table.specs.ServicesState.{world_with};
 
     ghost Value = { World };
 
@@ -69,8 +70,8 @@ fn count_held(tickets: &[(u64, Ticket)], node: u64, hash: &ServiceHash) -> usize
         .count()
 }
 
-// It is this node's ticket for this service and number.
-fn is_held(held: Option<&Ticket>, node: u64, hash: &ServiceHash, number: u64) -> bool
+/// Whether it is this node's ticket for this service and number.
+pub fn is_held(held: Option<&Ticket>, node: u64, hash: &ServiceHash, number: u64) -> bool
     ensures { result ≡ is_ticket node hash.now number (option_copied held.entry) }
 {
     match held {
@@ -79,8 +80,8 @@ fn is_held(held: Option<&Ticket>, node: u64, hash: &ServiceHash, number: u64) ->
     }
 }
 
-// What a node is given for a service and number.
-fn ticket_for(node: u64, hash: &ServiceHash, number: u64) -> Ticket
+/// What a node is given for a service and number.
+pub fn ticket_for(node: u64, hash: &ServiceHash, number: u64) -> Ticket
     ensures { result ≡ record { node = node; hash = hash.now; number = number } }
 {
     Ticket {
@@ -90,8 +91,8 @@ fn ticket_for(node: u64, hash: &ServiceHash, number: u64) -> Ticket
     }
 }
 
-// It has made a segment under the lock of this number.
-fn has_made(phase: Phase, number: u64) -> bool
+/// Whether it has made a segment under the lock of this number.
+pub fn has_made(phase: Phase, number: u64) -> bool
     ensures { result ≡ has_made_spec number phase }
 {
     match phase {
@@ -100,8 +101,8 @@ fn has_made(phase: Phase, number: u64) -> bool
     }
 }
 
-// It holds the lock of this number, for at least one node.
-fn may_make(phase: Phase, number: u64, max_nodes: u64) -> bool
+/// Whether it holds the lock of this number, for at least one node.
+pub fn may_make(phase: Phase, number: u64, max_nodes: u64) -> bool
     ensures { result ≡ (has_lock number phase && nat_lt 0 max_nodes) }
 {
     match phase {
@@ -110,8 +111,8 @@ fn may_make(phase: Phase, number: u64, max_nodes: u64) -> bool
     }
 }
 
-// The count of skipped steps after one that answered this.
-fn count_after(taken: Result<bool, AllocError>, skipped: u64) -> u64
+/// The count of skipped steps after one that answered this.
+pub fn count_after(taken: Result<bool, AllocError>, skipped: u64) -> u64
     ensures { result ≡ skipped_after taken skipped }
 {
     match taken {
@@ -154,7 +155,7 @@ impl StoredWorld {
     }
 
     /// Each service with a row or a segment, in the order of the hashes' bytes.
-    pub fn list(&self) -> Result<Vec<Entry>, AllocError>
+    pub fn list(&self) -> Result<Vec<ListedService>, AllocError>
         ensures { IfOk result (λ entries. Lists self.now entries.items) }
     {
         self.services.list()

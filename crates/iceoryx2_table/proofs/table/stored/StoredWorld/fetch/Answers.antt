@@ -3,7 +3,7 @@ use Rattle.iceoryx2_world.specs.declared.world.Participant.TheVariants.{Node}
 use Rattle.iceoryx2_world.specs.declared.world.Row.TheVariants as row
 use Rattle.iceoryx2_world.specs.Acts as act
 use Rattle.iceoryx2_world.specs.Access.{nothing, read_change}
-use Rattle.iceoryx2_table.specs.Book.{step_at}
+use Rattle.iceoryx2_table.specs.ServicesState.{step_at}
 use Rattle.iceoryx2_table.proofs.Accesses.{read_or_not}
 use Rattle.iceoryx2_table.proofs.OwnParts.{fetch_part, fetch_unread}
 use Rattle.iceoryx2_table.proofs.Views.{told, written}

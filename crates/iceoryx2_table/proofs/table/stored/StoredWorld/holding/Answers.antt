@@ -2,8 +2,8 @@ use Rattle.std.proofs.Common.{Some, ap, subst, ◌∙◌}
 use Rattle.std.specs.Ordering.{nat_cmp}
 use Rattle.sorted_map.specs.Sorted.{map_of}
 use Rattle.iceoryx2_world.specs.Orders.{tag_cmp}
-use Rattle.iceoryx2_table.specs.Book.{world_with}
-use Rattle.iceoryx2_table.specs.Holdings.{held_service, held_tag, held_ticket, IsHolding}
+use Rattle.iceoryx2_table.specs.ServicesState.{world_with}
+use Rattle.iceoryx2_table.specs.Holdings.{held_tag, held_ticket, IsHolding}
 use Rattle.iceoryx2_table.proofs.Held.{by_service, by_tag, by_ticket}
 use Rattle.iceoryx2_table.proofs.table.stored.StoredWorld.holding.Goals as goal
 

@@ -5,7 +5,7 @@ use Rattle.iceoryx2_description.specs.declared.description.ServiceHash.{ServiceH
 use Rattle.iceoryx2_world.specs.declared.world.Row.{Row}
 use Rattle.iceoryx2_table.specs.AgreeingAcross.{RowsDescribe}
 use Rattle.iceoryx2_table.specs.Merge.{RowEntries}
-use Rattle.iceoryx2_table.proofs.Throughout.{at_index, one_more}
+use Rattle.iceoryx2_table.proofs.Throughout.{at_index, one_row_more}
 use Rattle.iceoryx2_table.proofs.table.stored.StoredWorld.rows_describe.Goals as goal
 
 pub returns-then-not-describes : goal.returns-then-not-describes
@@ -25,4 +25,4 @@ loop-entry-preserved c =
     let x : ServiceHash × Row = c.entry-item.result in
     subst (λ (es : RowEntries). RowsDescribe w es)
     (ap (λ (y : ServiceHash × Row). take i rows ++ y ∷ []) c.entry-item.is ∙ sym (take_more rows i x c.loop-entry-test.true))
-    (one_more w (take i rows) x c.loop-entry.invariant (c.in_ok-describes.ensures.0 c.if-not-describes.false))
+    (one_row_more w (take i rows) x c.loop-entry.invariant (c.in_ok-describes.ensures.0 c.if-not-describes.false))

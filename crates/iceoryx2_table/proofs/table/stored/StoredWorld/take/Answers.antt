@@ -3,7 +3,7 @@ use Rattle.std.specs.Ordering.{nat_cmp}
 use Rattle.sorted_map.specs.Sorted.{map_of}
 use Rattle.iceoryx2_world.specs.Orders.{tag_cmp}
 use Rattle.iceoryx2_world.specs.World.{World}
-use Rattle.iceoryx2_table.specs.Book.{world_with}
+use Rattle.iceoryx2_table.specs.ServicesState.{world_with}
 use Rattle.iceoryx2_world.specs.Batches.{IsPeerStep}
 use Rattle.iceoryx2_table.proofs.PeerSteps.{may_be_taken}
 use Rattle.iceoryx2_table.proofs.table.stored.StoredWorld.take.Goals as goal

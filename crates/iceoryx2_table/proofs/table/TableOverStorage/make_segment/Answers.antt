@@ -1,0 +1,7 @@
+use Rattle.iceoryx2_table.proofs.States.{takes}
+use Rattle.iceoryx2_table.proofs.table.TableOverStorage.make_segment.Goals as goal
+
+pub returns : goal.returns
+returns g c =
+    let is = takes _ c.self.view_is c.run_batch.ensures c.make_segment.ensures in
+    record { part = is.part; agrees = is.agrees; later = is.later }

@@ -1,7 +1,0 @@
-use Rattle.iceoryx2_table.proofs.States.{looks}
-use Rattle.iceoryx2_table.proofs.table.TableStorage.exists.Goals as goal
-
-pub returns : goal.returns
-returns c =
-    let is = looks _ c.self.view_is c.run_batch.ensures c.exists.ensures in
-    record { part = is.part; agrees = is.agrees; later = is.later }

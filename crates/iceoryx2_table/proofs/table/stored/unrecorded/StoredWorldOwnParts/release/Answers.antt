@@ -1,0 +1,5 @@
+use Rattle.iceoryx2_table.proofs.Recording.{is_own_part}
+use Rattle.iceoryx2_table.proofs.table.stored.unrecorded.StoredWorldOwnParts.release.Goals as goal
+
+pub returns : goal.returns
+returns c = is_own_part (λ _ _ no. no) c.release.ensures

@@ -1,0 +1,5 @@
+use Rattle.iceoryx2_table.proofs.Recording.{is_own_part}
+use Rattle.iceoryx2_table.proofs.table.stored.unrecorded.StoredWorldOwnParts.remove_description.Goals as goal
+
+pub returns : goal.returns
+returns c = is_own_part (λ _ _ no. no) c.remove_description.ensures
