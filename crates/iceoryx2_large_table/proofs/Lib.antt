@@ -1,0 +1,3 @@
+pub mod Admitted
+pub mod Counting
+pub mod Phases
