@@ -1,5 +1,0 @@
-use Rattle.std.proofs.Common.{rules}
-use Rattle.iceoryx2_script.proofs.script.ScriptStorage.fetch.Goals as goal
-
-pub returns-after-pop : goal.returns-after-pop
-returns-after-pop c = search rules

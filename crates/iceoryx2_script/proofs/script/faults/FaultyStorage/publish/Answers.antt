@@ -1,5 +1,0 @@
-use Rattle.std.proofs.Common.{rules}
-use Rattle.iceoryx2_script.proofs.script.faults.FaultyStorage.publish.Goals as goal
-
-pub returns-then-count : goal.returns-then-count
-returns-then-count g c = search rules

@@ -1,5 +1,0 @@
-use Rattle.std.proofs.Common.{rules}
-use Rattle.iceoryx2_script.proofs.script.faults.FaultyStorage.release.Goals as goal
-
-pub returns : goal.returns
-returns g c = search rules

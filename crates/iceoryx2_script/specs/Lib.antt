@@ -1,5 +1,0 @@
-pub mod Counters
-pub mod Script
-pub mod Faults
-pub mod Plays
-pub mod Lends

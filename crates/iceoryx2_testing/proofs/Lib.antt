@@ -1,0 +1,2 @@
+pub mod ScriptRuns
+pub mod TraceRuns

@@ -1,0 +1,9 @@
+pub mod Counters
+pub mod Script
+pub mod Faults
+pub mod Plays
+pub mod FaultyLends
+pub mod Entries
+pub mod Texts
+pub mod Trace
+pub mod TracedLends

@@ -1,0 +1,42 @@
+//! How often a storage was asked.
+
+ghost use Rattle.std.specs.Prelude.{◌≡◌};
+ghost use Rattle.iceoryx2_access.specs.Counts.{count_up};
+
+/// How often three of the accesses were asked for. Each count stops at `u64::MAX`.
+#[derive(Clone, Copy, Debug, PartialEq, Eq)]
+pub struct Counters {
+    /// Calls of `exists`.
+    pub looks: u64,
+    /// Calls of `open_segment`.
+    pub openings: u64,
+    /// Calls of `make_segment`.
+    pub makings: u64,
+}
+
+impl Counters {
+    /// Nothing was asked for.
+    pub const NONE: Counters = Counters {
+        looks: 0,
+        openings: 0,
+        makings: 0,
+    };
+
+    pub(super) fn count_look(&mut self)
+        ensures { self.new ≡ record self.old { looks = count_up self.old.looks } }
+    {
+        self.looks = self.looks.saturating_add(1);
+    }
+
+    pub(super) fn count_opening(&mut self)
+        ensures { self.new ≡ record self.old { openings = count_up self.old.openings } }
+    {
+        self.openings = self.openings.saturating_add(1);
+    }
+
+    pub(super) fn count_making(&mut self)
+        ensures { self.new ≡ record self.old { makings = count_up self.old.makings } }
+    {
+        self.makings = self.makings.saturating_add(1);
+    }
+}

@@ -1,4 +1,0 @@
-pub mod Entries
-pub mod Texts
-pub mod Trace
-pub mod Lends
