@@ -1,6 +1,0 @@
-use Rattle.std.proofs.Common.{refl}
-use Rattle.iceoryx2_port_factory.proofs.HandedBack.{handed_back}
-use Rattle.iceoryx2_create_and_open.proofs.laws.close_hands_back_its_own.Goals as goal
-
-pub returns : goal.returns
-returns c = λ r s word w. handed_back s refl w

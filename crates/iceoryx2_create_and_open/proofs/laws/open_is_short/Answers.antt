@@ -1,5 +1,0 @@
-use Rattle.iceoryx2_create_and_open.proofs.Counts.{open_call_within}
-use Rattle.iceoryx2_create_and_open.proofs.laws.open_is_short.Goals as goal
-
-pub returns : goal.returns
-returns g c = λ m node hash word answer. open_call_within m node hash

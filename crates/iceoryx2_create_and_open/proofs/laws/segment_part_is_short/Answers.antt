@@ -1,5 +1,0 @@
-use Rattle.iceoryx2_create_and_open.proofs.Counts.{segment_within}
-use Rattle.iceoryx2_create_and_open.proofs.laws.segment_part_is_short.Goals as goal
-
-pub returns : goal.returns
-returns c = segment_within

@@ -1,5 +1,0 @@
-use Rattle.iceoryx2_open_or_create.proofs.Counts.{open_or_create_call_within}
-use Rattle.iceoryx2_open_or_create.proofs.laws.open_or_create_is_short.Goals as goal
-
-pub returns : goal.returns
-returns g c = λ call word answer. open_or_create_call_within call

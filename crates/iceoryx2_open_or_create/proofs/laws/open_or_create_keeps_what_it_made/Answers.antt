@@ -1,6 +1,0 @@
-use Rattle.iceoryx2_create_and_open.proofs.Prepared.{granted_call}
-use Rattle.iceoryx2_open_or_create.proofs.Left.{granted_keeps}
-use Rattle.iceoryx2_open_or_create.proofs.laws.open_or_create_keeps_what_it_made.Goals as goal
-
-pub returns : goal.returns
-returns g c = λ call word r w. granted_keeps (granted_call w)

@@ -1,5 +1,0 @@
-use Rattle.std.proofs.Common.{rules}
-use Rattle.iceoryx2_open_or_create.proofs.retries.retries_open.Goals as goal
-
-pub returns : goal.returns
-returns g c = rw (g.met.P.Retries.told c.args.pattern.now) (search rules)

@@ -1,7 +1,0 @@
-use Rattle.std.proofs.Common.{rules}
-use Rattle.iceoryx2_pattern.specs.Verdict.{verdict, marked_clauses, number_is}
-use Rattle.iceoryx2_pattern.proofs.verdict.need_event.Goals as goal
-
-pub returns-else-is_marked : goal.returns-else-is_marked
-unfolding verdict marked_clauses number_is
-returns-else-is_marked c = search rules
