@@ -6,9 +6,9 @@ use Rattle.iceoryx2_types.specs.Types.{Message}
 use Rattle.iceoryx2_description.specs.declared.description.ServiceHash.{ServiceHash}
 use Rattle.iceoryx2_description.specs.declared.time.ClockFault.{ClockFault}
 use Rattle.iceoryx2_description.specs.Span.{Span}
-use Rattle.iceoryx2_open_or_create.specs.BuilderCalls.{Way, creating}
-use Rattle.iceoryx2_open_or_create.specs.LawfulCalls.{IsLawfulCall}
-use Rattle.iceoryx2_open_or_create.proofs.OwnAttributes.{none_required, own_without_attributes}
+use Rattle.iceoryx2_rounds.specs.BuilderCalls.{Way, creating}
+use Rattle.iceoryx2_rounds.specs.LawfulCalls.{IsLawfulCall}
+use Rattle.iceoryx2_rounds.proofs.RetriedAttributes.{none_required, own_without_attributes}
 use Rattle.iceoryx2_event_builder.specs.Builder.{EventBuilderState}
 use Rattle.iceoryx2_event_builder.specs.EventCalls.{event_call}
 use Rattle.iceoryx2_event_builder.proofs.Builders.{event_builder, event_ends_at_once}

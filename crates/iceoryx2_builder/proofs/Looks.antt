@@ -7,7 +7,7 @@ use Rattle.iceoryx2_description.specs.declared.description.MessagingPattern.TheV
 use Rattle.iceoryx2_types.specs.Types.{Message, compatible}
 use Rattle.iceoryx2_access.specs.Letter.{Letter}
 use Rattle.iceoryx2_access.specs.declared.storage.FetchError.{FetchError}
-use Rattle.iceoryx2_pattern.specs.Meaning.{Meaning}
+use Rattle.iceoryx2_rounds.specs.PatternRules.{PatternRules}
 use Rattle.iceoryx2_errors.specs.States.{event_open_error_of_state, event_create_error_of_state}
 use Rattle.iceoryx2_errors.specs.States.{publish_subscribe_open_error_of_state, publish_subscribe_create_error_of_state}
 use Rattle.iceoryx2_errors.specs.States.{request_response_open_error_of_state, request_response_create_error_of_state}
@@ -23,13 +23,13 @@ use Rattle.iceoryx2_errors.specs.declared.error.request_response.ServiceAvailabi
 use Rattle.iceoryx2_errors.specs.declared.error.request_response.ServiceAvailabilityState.TheVariants as request_look
 use Rattle.iceoryx2_errors.specs.declared.error.request_response.RequestResponseOpenError.{RequestResponseOpenError}
 use Rattle.iceoryx2_errors.specs.declared.error.request_response.RequestResponseOpenError.TheVariants as request_opening
-use Rattle.iceoryx2_create_and_open.specs.declared.look.Fault.{Fault}
-use Rattle.iceoryx2_create_and_open.specs.declared.look.Fault.TheVariants as fault
-use Rattle.iceoryx2_create_and_open.specs.declared.look.Outcome.{Outcome}
-use Rattle.iceoryx2_create_and_open.specs.declared.look.Outcome.TheVariants.{Nothing, Found, Faulty}
-use Rattle.iceoryx2_create_and_open.specs.Looks as look
-use Rattle.iceoryx2_create_and_open.specs.Looks.{IsLookWord, LeadsTo}
-use Rattle.iceoryx2_create_and_open.specs.Refusals.{open_error_of, create_error_of}
+use Rattle.iceoryx2_rounds.specs.declared.look.Fault.{Fault}
+use Rattle.iceoryx2_rounds.specs.declared.look.Fault.TheVariants as fault
+use Rattle.iceoryx2_rounds.specs.declared.look.Outcome.{Outcome}
+use Rattle.iceoryx2_rounds.specs.declared.look.Outcome.TheVariants.{Nothing, Found, Faulty}
+use Rattle.iceoryx2_rounds.specs.Looks as look
+use Rattle.iceoryx2_rounds.specs.Looks.{IsLookWord, LeadsTo}
+use Rattle.iceoryx2_rounds.specs.Refusals.{open_error_of, create_error_of}
 use Rattle.iceoryx2_event_builder.specs.declared.event.demand.EventDemand.{EventDemand}
 use Rattle.iceoryx2_event_builder.specs.Event.{event_meaning, misfit_of as event_misfit_of}
 use Rattle.iceoryx2_publish_subscribe_builder.specs.declared.publish_subscribe.demand.PreparedDemand.{PreparedDemand as PreparedPublishSubscribe}
@@ -47,7 +47,7 @@ HasStateIfFaulty fault_of (Found n d) = Unit {0}
 HasStateIfFaulty fault_of (Faulty f) = HasState fault_of f
 
 -- the states that every pattern has, and one for each misfit
-module _ {S E C : Type 0} (m : Meaning E C) (fault_of : S → Fault E)
+module _ {S E C : Type 0} (m : PatternRules E C) (fault_of : S → Fault E)
     (permissions : HasState fault_of fault.InsufficientPermissions) (hangs : HasState fault_of fault.HangsInCreation)
     (corrupted : HasState fault_of fault.Corrupted) (memory : HasState fault_of fault.OutOfMemory)
     (misfits : (d : Description) (error : E) → m.misfit d ≡ Some error → HasState fault_of (fault.Misfit error)) where

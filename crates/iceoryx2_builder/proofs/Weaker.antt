@@ -6,12 +6,12 @@ use Rattle.iceoryx2_attribute.specs.Attributes.{Pair, has_pair, has_key}
 use Rattle.iceoryx2_attribute.specs.Requirements.{Requirements, AreMetBy, first_lacking}
 use Rattle.iceoryx2_attribute.proofs.Requirements.{is_met, none_lacking}
 use Rattle.iceoryx2_description.specs.Description.{Description}
-use Rattle.iceoryx2_pattern.specs.Meaning.{Meaning}
-use Rattle.iceoryx2_pattern.specs.Verdict.{Clause, verdict, and_then}
-use Rattle.iceoryx2_pattern.specs.OwnAttributes.{attribute_clauses, requiring}
-use Rattle.iceoryx2_pattern.proofs.Verdicts.{verdict_append}
-use Rattle.iceoryx2_pattern.proofs.OwnAttributes.{nothing_lacks, something_lacks}
-use Rattle.iceoryx2_open_or_create.specs.Adjusting.{Accepts}
+use Rattle.iceoryx2_rounds.specs.PatternRules.{PatternRules}
+use Rattle.iceoryx2_rounds.specs.Verdict.{Clause, verdict, and_then}
+use Rattle.iceoryx2_rounds.specs.OwnAttributes.{attribute_clauses, requiring}
+use Rattle.iceoryx2_rounds.proofs.Verdicts.{verdict_append}
+use Rattle.iceoryx2_rounds.proofs.OwnAttributes.{nothing_lacks, something_lacks}
+use Rattle.iceoryx2_rounds.specs.Adjusting.{Accepts}
 use Rattle.iceoryx2_builder_common.proofs.Rows.{both}
 use Rattle.iceoryx2_builder.specs.Weaker.{AreSomeOf}
 
@@ -47,7 +47,7 @@ fewer_clauses e f required other ps weaker stronger some settings h =
     ∙ join (fewer_attributes e f required other ps some parts.0) (settings parts.1)
 
 -- what one open takes, another takes that asks no more
-pub accepts_less : {E C : Type 0} (weaker stronger : Meaning E C) (some all : Requirements) (d : Description)
+pub accepts_less : {E C : Type 0} (weaker stronger : PatternRules E C) (some all : Requirements) (d : Description)
     → AreSomeOf some all → (stronger.misfit d ≡ None → weaker.misfit d ≡ None)
     → (verdict (stronger.requirement d) ≡ Ok tt → verdict (weaker.requirement d) ≡ Ok tt)
     → Accepts (requiring all stronger) d → Accepts (requiring some weaker) d

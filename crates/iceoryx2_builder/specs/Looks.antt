@@ -2,7 +2,7 @@
 use Rattle.std.specs.Prelude.{◌≡◌, ℕ, List}
 use Rattle.iceoryx2_description.specs.declared.description.ServiceHash.{ServiceHash}
 use Rattle.iceoryx2_access.specs.Letter.{Letter}
-use Rattle.iceoryx2_pattern.specs.Meaning.{Meaning}
+use Rattle.iceoryx2_rounds.specs.PatternRules.{PatternRules}
 use Rattle.iceoryx2_errors.specs.declared.error.ServiceState.{ServiceState}
 use Rattle.iceoryx2_errors.specs.declared.error.ServiceState.TheVariants as state
 use Rattle.iceoryx2_errors.specs.declared.error.events.EventOpenError.{EventOpenError}
@@ -15,11 +15,11 @@ use Rattle.iceoryx2_errors.specs.declared.error.request_response.ServiceAvailabi
 use Rattle.iceoryx2_errors.specs.declared.error.request_response.ServiceAvailabilityState.TheVariants as request_look
 use Rattle.iceoryx2_errors.specs.declared.error.request_response.RequestResponseOpenError.{RequestResponseOpenError}
 use Rattle.iceoryx2_errors.specs.declared.error.request_response.RequestResponseOpenError.TheVariants as request_opening
-use Rattle.iceoryx2_create_and_open.specs.declared.look.Fault.{Fault}
-use Rattle.iceoryx2_create_and_open.specs.declared.look.Fault.TheVariants as fault
-use Rattle.iceoryx2_create_and_open.specs.declared.look.Outcome.TheVariants.{Faulty}
-use Rattle.iceoryx2_create_and_open.specs.Looks.{IsLookWord}
-use Rattle.iceoryx2_create_and_open.specs.Refusals.{open_error_of, create_error_of}
+use Rattle.iceoryx2_rounds.specs.declared.look.Fault.{Fault}
+use Rattle.iceoryx2_rounds.specs.declared.look.Fault.TheVariants as fault
+use Rattle.iceoryx2_rounds.specs.declared.look.Outcome.TheVariants.{Faulty}
+use Rattle.iceoryx2_rounds.specs.Looks.{IsLookWord}
+use Rattle.iceoryx2_rounds.specs.Refusals.{open_error_of, create_error_of}
 
 -- What a look of the rounds finds wrong, by its public state and the error of a service of another pattern.
 abbrev pub fault_of : {E : Type 0} → E → ServiceState → Fault E
@@ -43,7 +43,7 @@ request_response_fault_of request_look.IncompatibleRequestType = fault.Misfit re
 request_response_fault_of request_look.IncompatibleResponseType = fault.Misfit request_opening.IncompatibleResponseType
 
 -- Whatever a look finds wrong has a public state, and an open and a create answer the error that the state becomes.
-pub record AnswersStates {S E C : Type 0} (m : Meaning E C) (fault_of : S → Fault E) (open_error : S → E)
+pub record AnswersStates {S E C : Type 0} (m : PatternRules E C) (fault_of : S → Fault E) (open_error : S → E)
     (create_error : S → C) : Type 0 where
   pub has_state : (node : ℕ) (hash : ServiceHash) (word : List Letter) (fault : Fault E)
       → IsLookWord m node hash word (Faulty fault) → (state : S) × (fault ≡ fault_of state)

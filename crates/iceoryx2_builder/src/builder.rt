@@ -7,15 +7,15 @@ ghost use Rattle.iceoryx2_builder.specs.Setters.{AreSetters, event_place, publis
 ghost use Rattle.iceoryx2_builder.specs.Weaker.{AreSomeOf};
 ghost use Rattle.iceoryx2_builder.specs.Weaker.{IsWeakerEvent, IsWeakerPublishSubscribe, IsWeakerRequestResponse};
 ghost use Rattle.iceoryx2_builder_common.specs.Builders.{IsLawfulBuilder};
-ghost use Rattle.iceoryx2_open_or_create.specs.Adjusting.{Accepts, OnlyRaises};
-ghost use Rattle.iceoryx2_create_and_open.specs.Creates.{IsCreateWord};
-ghost use Rattle.iceoryx2_create_and_open.specs.Opens.{IsOpenWord};
-ghost use Rattle.iceoryx2_create_and_open.specs.Prepared.{IsCreateCall, IsOpenCall};
-ghost use Rattle.iceoryx2_open_or_create.specs.BuilderCalls.{Way, ToCreate, ToOpen, ToOpenOrCreate};
-ghost use Rattle.iceoryx2_open_or_create.specs.CallWords.{IsOpenOrCreateCall, IsWordOf, SameWords};
-ghost use Rattle.iceoryx2_open_or_create.specs.EndsAtOnce.{EndsAtOnce};
-ghost use Rattle.iceoryx2_open_or_create.specs.LawfulCalls.{IsLawfulCall};
-ghost use Rattle.iceoryx2_open_or_create.specs.OpenOrCreates.{IsOpenOrCreateWord};
+ghost use Rattle.iceoryx2_rounds.specs.Adjusting.{Accepts, OnlyRaises};
+ghost use Rattle.iceoryx2_rounds.specs.Creates.{IsCreateWord};
+ghost use Rattle.iceoryx2_rounds.specs.Opens.{IsOpenWord};
+ghost use Rattle.iceoryx2_rounds.specs.Prepared.{IsCreateCall, IsOpenCall};
+ghost use Rattle.iceoryx2_rounds.specs.BuilderCalls.{Way, ToCreate, ToOpen, ToOpenOrCreate};
+ghost use Rattle.iceoryx2_rounds.specs.CallWords.{IsOpenOrCreateCall, IsWordOf, SameWords};
+ghost use Rattle.iceoryx2_rounds.specs.EndsAtOnce.{EndsAtOnce};
+ghost use Rattle.iceoryx2_rounds.specs.LawfulCalls.{IsLawfulCall};
+ghost use Rattle.iceoryx2_rounds.specs.OpenOrCreates.{IsOpenOrCreateWord};
 ghost use Rattle.iceoryx2_description.specs.Description.{Description};
 ghost use Rattle.iceoryx2_description.specs.Span.{Span};
 ghost use Rattle.iceoryx2_description.specs.declared.description.ServiceHash.{ServiceHash};
@@ -338,9 +338,9 @@ pub fn laws_of_looks()
 
 /// After which errors an open or create goes on to the next round: of each open and each create, error by error.
 ///
-/// It goes on where the open of a round says `DoesNotExist`, `ServiceInCorruptedState` or `IsMarkedForDestruction`,
-/// and where its create says `AlreadyExists`, `IsBeingCreatedByAnotherInstance` or `ServiceInCorruptedState`. Any other
-/// error ends the call.
+/// It goes on where the open of a round answers `DoesNotExist`, `ServiceInCorruptedState` or `IsMarkedForDestruction`,
+/// and where its create answers `AlreadyExists`, `IsBeingCreatedByAnotherInstance` or `ServiceInCorruptedState`. Any
+/// other error ends the call.
 pub fn laws_of_retries()
     ensures event_opens { (error : EventOpenError) → event_retried.of_open error ≡ event_open_is_retried error }
     ensures event_creates { (error : EventCreateError)

@@ -7,17 +7,17 @@ use Rattle.iceoryx2_access.specs.Registered.{Registered}
 use Rattle.iceoryx2_access.specs.Letter.{Letter}
 use Rattle.iceoryx2_access.specs.Run.{Joins, done}
 use Rattle.iceoryx2_access.proofs.Run.{joins}
-use Rattle.iceoryx2_pattern.specs.Meaning.{Meaning}
-use Rattle.iceoryx2_create_and_open.specs.declared.caller.Caller.{Caller}
-use Rattle.iceoryx2_create_and_open.specs.Creates.{IsCreateWord, description_of}
-use Rattle.iceoryx2_create_and_open.specs.Opens.{IsOpenWord}
-use Rattle.iceoryx2_create_and_open.specs.Prepared.{IsPrepared, prepared, unprepared}
-use Rattle.iceoryx2_create_and_open.proofs.Carried.{created_carries, opened_carries}
+use Rattle.iceoryx2_rounds.specs.PatternRules.{PatternRules}
+use Rattle.iceoryx2_rounds.specs.declared.caller.Caller.{Caller}
+use Rattle.iceoryx2_rounds.specs.Creates.{IsCreateWord, description_of}
+use Rattle.iceoryx2_rounds.specs.Opens.{IsOpenWord}
+use Rattle.iceoryx2_rounds.specs.Prepared.{IsPrepared, prepared, unprepared}
+use Rattle.iceoryx2_rounds.proofs.Carried.{created_carries, opened_carries}
 
 second : {A B : Type 0} → A × B → B
 second (a, b) = b
 
-module _ {E C : Type 0} {m : Meaning E C} {S : Type 0} {step : S → Letter → S → Type 0} {old new : S} where
+module _ {E C : Type 0} {m : PatternRules E C} {S : Type 0} {step : S → Letter → S → Type 0} {old new : S} where
   -- what a create registers is of a pattern that what it published is of
   pub created_of : (is_of : MessagingPattern → Bool) (caller : Caller) (answer : Result Registered C)
       → Joins step old (λ word. IsCreateWord m caller word answer) new

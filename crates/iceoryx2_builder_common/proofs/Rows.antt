@@ -2,9 +2,9 @@
 use Rattle.std.proofs.Common.{◌≡◌, ◌≤◌, ℕ, Bool, true, false, List, [], ◌∷◌, Result, Ok, Err, refl, sym, ◌∙◌, arith}
 use Rattle.std.specs.Prelude.{map, nat_le}
 use Rattle.std.proofs.lemmas.Bool.Decides.{nat_tests}
-use Rattle.iceoryx2_pattern.specs.Verdict.{SettingRow, verdict, marked_clauses, and_then, at_least, flag_is, number_is, span_is}
-use Rattle.iceoryx2_pattern.proofs.Verdicts.{row_decides, no_row}
-use Rattle.iceoryx2_pattern.proofs.MetRows.{then_more}
+use Rattle.iceoryx2_rounds.specs.Verdict.{SettingRow, verdict, marked_clauses, and_then, at_least, flag_is, number_is, span_is}
+use Rattle.iceoryx2_rounds.proofs.Verdicts.{row_decides, no_row}
+use Rattle.iceoryx2_rounds.proofs.MetRows.{then_more}
 use Rattle.iceoryx2_builder_common.specs.Rows.{Row, AtLeast, SameFlag, SameNumber, SameSpan, tested, row_clauses, AsksNoMore, AskNoMore}
 
 -- where it is asked for, it is met

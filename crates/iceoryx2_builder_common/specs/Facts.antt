@@ -3,7 +3,7 @@ use Rattle.std.specs.Prelude.{ℕ, List, Result}
 use Rattle.iceoryx2_description.specs.declared.description.ServiceHash.{ServiceHash}
 use Rattle.iceoryx2_description.specs.declared.time.ClockFault.{ClockFault}
 use Rattle.iceoryx2_description.specs.Span.{Span}
-use Rattle.iceoryx2_create_and_open.specs.declared.caller.Caller.{Caller}
+use Rattle.iceoryx2_rounds.specs.declared.caller.Caller.{Caller}
 
 pub record ServiceFacts : Type 0 where
   pub node : ℕ

@@ -2,7 +2,7 @@
 -- the two are compared, and with which error a call is refused.
 use Rattle.std.specs.Prelude.{ℕ, Bool, true, List, [], ◌∷◌, Option, ◌≡◌, ◌≤◌, map}
 use Rattle.iceoryx2_description.specs.Span.{Span}
-use Rattle.iceoryx2_pattern.specs.Verdict.{Clause, SettingRow, at_least, flag_is, number_is, span_is, marked_clauses}
+use Rattle.iceoryx2_rounds.specs.Verdict.{Clause, SettingRow, at_least, flag_is, number_is, span_is, marked_clauses}
 
 pub data Row (E : Type 0) : Type 0 where
   -- not less than is asked for

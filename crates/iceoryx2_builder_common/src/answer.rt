@@ -3,11 +3,11 @@
 ghost use Rattle.std.specs.Prelude.{◌≡◌, IfOk, true};
 
 use iceoryx2_access::storage::Service;
-use iceoryx2_port_factory::port_factory::Registration;
-use iceoryx2_port_factory::port_factory::factory::{Kind, PortFactory};
+use iceoryx2_rounds::port_factory::Registration;
+use iceoryx2_rounds::port_factory::factory::{Kind, PortFactory};
 
 /// The factory of what a call registered at a service of the pattern, or the call's refusal.
-pub fn hand_out<S: Service, K: Kind, E>(
+pub fn into_factory<S: Service, K: Kind, E>(
     answer: Result<Registration, E>,
 ) -> Result<PortFactory<S, K>, E>
     requires { IfOk answer (λ registration. K.is_of registration.description.pattern ≡ true) }

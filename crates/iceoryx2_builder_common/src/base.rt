@@ -4,9 +4,9 @@ ghost use Rattle.std.specs.Prelude.{◌≡◌};
 ghost use Rattle.iceoryx2_builder_common.specs.Facts.{caller_of};
 
 use iceoryx2_access::storage::{Service, ServiceNameHasher};
-use iceoryx2_create_and_open::caller::Caller;
 use iceoryx2_description::description::ServiceName;
 use iceoryx2_description::time::{ClockFault, Time};
+use iceoryx2_rounds::caller::Caller;
 use std::alloc::AllocError;
 use std::marker::{Model, PhantomData};
 

@@ -1,7 +1,7 @@
 //! The verdict on a table of settings.
 
 ghost use Rattle.std.specs.Prelude.{◌≡◌};
-ghost use Rattle.iceoryx2_pattern.specs.Verdict.{and_then};
+ghost use Rattle.iceoryx2_rounds.specs.Verdict.{and_then};
 
 /// The verdict of a table, a row each setting in order: how it is compared, its name, and its error.
 #[macro_export]

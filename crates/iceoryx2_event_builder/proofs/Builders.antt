@@ -8,10 +8,10 @@ use Rattle.iceoryx2_description.specs.declared.description.MessagingPattern.{Mes
 use Rattle.iceoryx2_description.specs.declared.description.MessagingPattern.TheVariants as existing
 use Rattle.iceoryx2_errors.specs.declared.error.events.EventOpenError.{EventOpenError}
 use Rattle.iceoryx2_errors.specs.declared.error.events.EventOpenError.TheVariants as opening
-use Rattle.iceoryx2_pattern.specs.OwnAttributes.{attribute_clauses}
-use Rattle.iceoryx2_pattern.specs.Verdict.{at_least, number_is, span_is}
-use Rattle.iceoryx2_open_or_create.specs.EndsAtOnce.{EndsAtOnce}
-use Rattle.iceoryx2_open_or_create.proofs.Ends.{Errs, attributes_err, both_err, rows_err, unmet_ends}
+use Rattle.iceoryx2_rounds.specs.OwnAttributes.{attribute_clauses}
+use Rattle.iceoryx2_rounds.specs.Verdict.{at_least, number_is, span_is}
+use Rattle.iceoryx2_rounds.specs.EndsAtOnce.{EndsAtOnce}
+use Rattle.iceoryx2_rounds.proofs.Ends.{Errs, attributes_err, both_err, rows_err, unmet_ends}
 use Rattle.iceoryx2_event_builder.specs.declared.event.demand.EventDemand.{EventDemand}
 use Rattle.iceoryx2_event_builder.specs.Event.{event_creating, event_opening, event_retried, setting_clauses, setting_rows}
 use Rattle.iceoryx2_event_builder.proofs.OwnSettings.{own_settings}

@@ -3,18 +3,18 @@ use Rattle.std.proofs.Common.{◌≡◌, true, List, Option, Some, None, Ok, ref
 use Rattle.std.specs.Option.{option_map}
 use Rattle.iceoryx2_description.specs.Span.{Span}
 use Rattle.iceoryx2_description.specs.declared.event.Deadline.{Deadline}
-use Rattle.iceoryx2_pattern.specs.Verdict.{verdict, at_least, number_is, span_is, is_same_span}
-use Rattle.iceoryx2_create_and_open.specs.declared.caller.Caller.{Caller}
-use Rattle.iceoryx2_create_and_open.specs.Creates.{description_of}
-use Rattle.iceoryx2_pattern.proofs.MetRows.{not_less, same_number, same_choice}
+use Rattle.iceoryx2_rounds.specs.Verdict.{verdict, at_least, number_is, span_is, is_same_span}
+use Rattle.iceoryx2_rounds.specs.declared.caller.Caller.{Caller}
+use Rattle.iceoryx2_rounds.specs.Creates.{description_of}
+use Rattle.iceoryx2_rounds.proofs.MetRows.{not_less, same_number, same_choice}
 use Rattle.iceoryx2_builder_common.proofs.Rows.{accepted}
 use Rattle.iceoryx2_builder_common.proofs.Raised.{not_below}
 use Rattle.iceoryx2_event_builder.specs.declared.event.demand.EventDemand.{EventDemand}
 use Rattle.iceoryx2_attribute.specs.Attributes.{Pair}
 use Rattle.iceoryx2_attribute.specs.Requirements.{Requirements, AreMetBy}
 use Rattle.iceoryx2_event_builder.specs.Event.{event_meaning, event_adjusted, event_creating, event_opening, created_deadline, deadline_value}
-use Rattle.iceoryx2_create_and_open.specs.OwnSettings.{AcceptsOwn}
-use Rattle.iceoryx2_open_or_create.proofs.OwnAttributes.{met_with_attributes}
+use Rattle.iceoryx2_rounds.specs.OwnSettings.{AcceptsOwn}
+use Rattle.iceoryx2_rounds.proofs.RetriedAttributes.{met_with_attributes}
 
 -- a create sets the time of a deadline, and not its length
 same_deadline : (now : Span) (deadline : Option Deadline)

@@ -8,13 +8,13 @@ use Rattle.iceoryx2_description.specs.declared.description.MessagingPattern.{Mes
 use Rattle.iceoryx2_description.specs.declared.description.MessagingPattern.TheVariants as existing
 use Rattle.iceoryx2_description.specs.declared.event.StaticConfig.{StaticConfig as Settings}
 use Rattle.iceoryx2_description.specs.declared.event.Deadline.{Deadline}
-use Rattle.iceoryx2_pattern.specs.Verdict.{Clause}
-use Rattle.iceoryx2_pattern.specs.Meaning.{Meaning}
-use Rattle.iceoryx2_pattern.specs.OwnAttributes.{defining, requiring}
-use Rattle.iceoryx2_pattern.specs.declared.pattern.OpenRefusal.{OpenRefusal}
-use Rattle.iceoryx2_pattern.specs.declared.pattern.OpenRefusal.TheVariants as open_refusal
-use Rattle.iceoryx2_pattern.specs.declared.pattern.CreateRefusal.{CreateRefusal}
-use Rattle.iceoryx2_pattern.specs.declared.pattern.CreateRefusal.TheVariants as create_refusal
+use Rattle.iceoryx2_rounds.specs.Verdict.{Clause}
+use Rattle.iceoryx2_rounds.specs.PatternRules.{PatternRules}
+use Rattle.iceoryx2_rounds.specs.OwnAttributes.{defining, requiring}
+use Rattle.iceoryx2_rounds.specs.declared.pattern.OpenRefusal.{OpenRefusal}
+use Rattle.iceoryx2_rounds.specs.declared.pattern.OpenRefusal.TheVariants as open_refusal
+use Rattle.iceoryx2_rounds.specs.declared.pattern.CreateRefusal.{CreateRefusal}
+use Rattle.iceoryx2_rounds.specs.declared.pattern.CreateRefusal.TheVariants as create_refusal
 use Rattle.iceoryx2_errors.specs.declared.error.events.EventOpenError.{EventOpenError}
 use Rattle.iceoryx2_errors.specs.declared.error.events.EventOpenError.TheVariants as opening
 use Rattle.iceoryx2_errors.specs.declared.error.events.EventCreateError.{EventCreateError}
@@ -23,9 +23,9 @@ use Rattle.iceoryx2_errors.specs.contracts.error.events.EventOpenErrorPartialEq.
 use Rattle.iceoryx2_errors.specs.contracts.error.events.EventCreateErrorPartialEq.TheImpl as same_creating
 use Rattle.iceoryx2_errors.specs.declared.error.events.EventOpenOrCreateError.{EventOpenOrCreateError}
 use Rattle.iceoryx2_errors.specs.declared.error.events.EventOpenOrCreateError.TheVariants as either
-use Rattle.iceoryx2_open_or_create.specs.Retried.{Retried, retried_by}
-use Rattle.iceoryx2_open_or_create.specs.declared.open_or_create.OpenOrCreateRefusal.{OpenOrCreateRefusal}
-use Rattle.iceoryx2_open_or_create.specs.declared.open_or_create.OpenOrCreateRefusal.TheVariants as refusal
+use Rattle.iceoryx2_rounds.specs.Retried.{Retried, retried_by}
+use Rattle.iceoryx2_rounds.specs.declared.open_or_create.OpenOrCreateRefusal.{OpenOrCreateRefusal}
+use Rattle.iceoryx2_rounds.specs.declared.open_or_create.OpenOrCreateRefusal.TheVariants as refusal
 use Rattle.iceoryx2_builder_common.specs.Zeros.{at_least_one}
 use Rattle.iceoryx2_builder_common.specs.Rows.{Row, AtLeast, SameNumber, SameSpan, row_clauses}
 use Rattle.iceoryx2_event_builder.specs.declared.event.demand.EventDemand.{EventDemand}
@@ -102,13 +102,13 @@ event_create_error_of_refusal create_refusal.InsufficientPermissions = creating.
 event_create_error_of_refusal create_refusal.OutOfMemory = creating.OutOfMemory
 event_create_error_of_refusal create_refusal.HangsInCreation = creating.HangsInCreation
 
-abbrev pub event_meaning : EventDemand → Meaning EventOpenError EventCreateError
+abbrev pub event_meaning : EventDemand → PatternRules EventOpenError EventCreateError
 event_meaning demand = record {
   open_refusal = event_open_error_of_refusal;
   create_refusal = event_create_error_of_refusal;
   misfit = λ d. misfit_of d.pattern;
   requirement = λ d. setting_clauses demand d.pattern;
-  history_refusal = None;
+  settings_refusal = None;
   needs_clock = is_some demand.settings.deadline;
   attributes = [];
   published = λ now.
@@ -116,11 +116,11 @@ event_meaning demand = record {
 }
 
 -- a create: zeros are raised, and these attributes are defined
-abbrev pub event_creating : EventDemand → List Pair → Meaning EventOpenError EventCreateError
+abbrev pub event_creating : EventDemand → List Pair → PatternRules EventOpenError EventCreateError
 event_creating demand given = defining given (event_meaning (event_adjusted demand))
 
 -- an open: these attributes are required before the settings
-abbrev pub event_opening : EventDemand → Requirements → Meaning EventOpenError EventCreateError
+abbrev pub event_opening : EventDemand → Requirements → PatternRules EventOpenError EventCreateError
 event_opening demand required = requiring required (event_meaning demand)
 
 -- after which errors an open or create goes on

@@ -5,12 +5,12 @@ ghost use Rattle.iceoryx2_attribute.specs.Attributes.{Pair};
 ghost use Rattle.iceoryx2_attribute.specs.Requirements.{Requirements, no_requirements};
 ghost use Rattle.iceoryx2_description.specs.Span.{zero_span};
 ghost use Rattle.iceoryx2_access.specs.Run.{Joins};
-ghost use Rattle.iceoryx2_create_and_open.specs.Answers.{map_err};
-ghost use Rattle.iceoryx2_create_and_open.specs.Creates.{IsCreateWord};
-ghost use Rattle.iceoryx2_create_and_open.specs.Opens.{IsOpenWord};
-ghost use Rattle.iceoryx2_open_or_create.specs.BuilderCalls.{ToOpenOrCreate};
-ghost use Rattle.iceoryx2_open_or_create.specs.EndsAtOnce.{EndsAtOnce};
-ghost use Rattle.iceoryx2_open_or_create.specs.OpenOrCreates.{IsOpenOrCreateWord};
+ghost use Rattle.iceoryx2_rounds.specs.Answers.{map_err};
+ghost use Rattle.iceoryx2_rounds.specs.Creates.{IsCreateWord};
+ghost use Rattle.iceoryx2_rounds.specs.Opens.{IsOpenWord};
+ghost use Rattle.iceoryx2_rounds.specs.BuilderCalls.{ToOpenOrCreate};
+ghost use Rattle.iceoryx2_rounds.specs.EndsAtOnce.{EndsAtOnce};
+ghost use Rattle.iceoryx2_rounds.specs.OpenOrCreates.{IsOpenOrCreateWord};
 ghost use Rattle.iceoryx2_builder_common.specs.Builders.{IsLawfulBuilder};
 ghost use Rattle.iceoryx2_event_builder.specs.declared.event.demand.EventDemand.{EventDemand};
 ghost use Rattle.iceoryx2_event_builder.specs.Event.{event_creating, event_opening, event_refusal, event_retried};
@@ -24,16 +24,16 @@ use crate::event::demand::{EventDemand, open_or_create_error};
 pub use crate::event::setting::EventSetter;
 use iceoryx2_access::storage::Service;
 use iceoryx2_attribute::attribute::{AttributeSpecifier, AttributeVerifier};
-use iceoryx2_builder_common::answer::hand_out;
+use iceoryx2_builder_common::answer::into_factory;
 use iceoryx2_builder_common::base::BuilderWithServiceType;
-use iceoryx2_create_and_open::create::create;
-use iceoryx2_create_and_open::open::open;
 use iceoryx2_description::config;
 pub use iceoryx2_description::event::EventId;
 use iceoryx2_description::time::{ClockFault, Duration, Time};
 pub use iceoryx2_errors::error::{EventCreateError, EventOpenError, EventOpenOrCreateError};
-use iceoryx2_open_or_create::open_or_create::open_or_create;
-use iceoryx2_port_factory::port_factory::event::PortFactory;
+use iceoryx2_rounds::create::create_once;
+use iceoryx2_rounds::open::open;
+use iceoryx2_rounds::open_or_create::open_or_create;
+use iceoryx2_rounds::port_factory::event::PortFactory;
 use std::alloc::AllocError;
 use std::marker::Model;
 
@@ -239,9 +239,9 @@ impl<S: Service> Builder<S> {
             Joins S.Storage.step storage.old
             (λ word. IsCreateWord (event_creating self.demand specifier.now) caller word result) storage.new }
     {
-        let Builder { base, mut demand } = self;
+        let Builder { base, demand } = self;
         let caller = base.into_caller(PREFIX, now);
-        hand_out(create(&mut demand, &caller, specifier.attributes(), storage))
+        into_factory(create_once(demand, caller, specifier.attributes(), storage))
     }
 
     /// Opens the service, whatever its attributes: `open_with_attributes` of a verifier that
@@ -280,7 +280,7 @@ impl<S: Service> Builder<S> {
     {
         let Builder { base, demand } = self;
         let caller = base.into_caller(PREFIX, Ok(Time::default()));
-        hand_out(open(&demand, &caller, verifier, storage))
+        into_factory(open(&demand, &caller, verifier, storage))
     }
 
     /// Opens the service, or creates it where there is none, whatever its attributes:

@@ -7,17 +7,17 @@ use Rattle.iceoryx2_attribute.specs.Requirements.{Requirements, AreMetBy}
 use Rattle.iceoryx2_description.specs.declared.description.MessagingPattern.{MessagingPattern}
 use Rattle.iceoryx2_description.specs.declared.description.MessagingPattern.TheVariants as existing
 use Rattle.iceoryx2_errors.specs.declared.error.publish_subscribe.PublishSubscribeCreateError.TheVariants as creating
-use Rattle.iceoryx2_pattern.specs.Verdict.{at_least, flag_is, verdict}
-use Rattle.iceoryx2_pattern.proofs.MetRows.{not_less, same_flag}
+use Rattle.iceoryx2_rounds.specs.Verdict.{at_least, flag_is, verdict}
+use Rattle.iceoryx2_rounds.proofs.MetRows.{not_less, same_flag}
 use Rattle.iceoryx2_builder_common.proofs.Rows.{accepted}
-use Rattle.iceoryx2_create_and_open.specs.declared.caller.Caller.{Caller}
-use Rattle.iceoryx2_create_and_open.specs.Creates.{description_of}
-use Rattle.iceoryx2_create_and_open.specs.OwnSettings.{AcceptsOwn}
+use Rattle.iceoryx2_rounds.specs.declared.caller.Caller.{Caller}
+use Rattle.iceoryx2_rounds.specs.Creates.{description_of}
+use Rattle.iceoryx2_rounds.specs.OwnSettings.{AcceptsOwn}
 use Rattle.iceoryx2_description.specs.Description.{Description}
-use Rattle.iceoryx2_pattern.specs.OwnAttributes.{attribute_clauses}
-use Rattle.iceoryx2_open_or_create.specs.EndsAtOnce.{EndsAtOnce}
-use Rattle.iceoryx2_open_or_create.proofs.OwnAttributes.{met_with_attributes}
-use Rattle.iceoryx2_open_or_create.proofs.Ends.{Errs, attributes_err, both_err, rows_err, unmet_ends}
+use Rattle.iceoryx2_rounds.specs.OwnAttributes.{attribute_clauses}
+use Rattle.iceoryx2_rounds.specs.EndsAtOnce.{EndsAtOnce}
+use Rattle.iceoryx2_rounds.proofs.RetriedAttributes.{met_with_attributes}
+use Rattle.iceoryx2_rounds.proofs.Ends.{Errs, attributes_err, both_err, rows_err, unmet_ends}
 use Rattle.iceoryx2_errors.specs.declared.error.publish_subscribe.PublishSubscribeOpenError.{PublishSubscribeOpenError}
 use Rattle.iceoryx2_errors.specs.declared.error.publish_subscribe.PublishSubscribeOpenError.TheVariants as opening
 use Rattle.iceoryx2_errors.specs.declared.error.publish_subscribe.PublishSubscribeCreateError.{PublishSubscribeCreateError}

@@ -3,7 +3,7 @@ use Rattle.std.proofs.Common.{◌≡◌, true, None, refl}
 use Rattle.iceoryx2_types.specs.Types.{Message}
 use Rattle.iceoryx2_description.specs.declared.description.MessagingPattern.{MessagingPattern}
 use Rattle.iceoryx2_description.specs.declared.description.MessagingPattern.TheVariants as existing
-use Rattle.iceoryx2_port_factory.specs.Patterns.{is_publish_subscribe}
+use Rattle.iceoryx2_rounds.specs.Patterns.{is_publish_subscribe}
 use Rattle.iceoryx2_publish_subscribe_builder.specs.PublishSubscribe.{misfit_of}
 
 pub what_fits : (message : Message) (pattern : MessagingPattern) → misfit_of message pattern ≡ None → is_publish_subscribe pattern ≡ true

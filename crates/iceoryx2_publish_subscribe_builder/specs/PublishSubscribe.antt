@@ -7,13 +7,13 @@ use Rattle.iceoryx2_description.specs.declared.config.PublishSubscribe.{PublishS
 use Rattle.iceoryx2_description.specs.declared.publish_subscribe.StaticConfig.{StaticConfig as Existing}
 use Rattle.iceoryx2_description.specs.declared.description.MessagingPattern.{MessagingPattern}
 use Rattle.iceoryx2_description.specs.declared.description.MessagingPattern.TheVariants as existing
-use Rattle.iceoryx2_pattern.specs.Verdict.{Clause}
-use Rattle.iceoryx2_pattern.specs.Meaning.{Meaning}
-use Rattle.iceoryx2_pattern.specs.OwnAttributes.{defining, requiring}
-use Rattle.iceoryx2_pattern.specs.declared.pattern.OpenRefusal.{OpenRefusal}
-use Rattle.iceoryx2_pattern.specs.declared.pattern.OpenRefusal.TheVariants as open_refusal
-use Rattle.iceoryx2_pattern.specs.declared.pattern.CreateRefusal.{CreateRefusal}
-use Rattle.iceoryx2_pattern.specs.declared.pattern.CreateRefusal.TheVariants as create_refusal
+use Rattle.iceoryx2_rounds.specs.Verdict.{Clause}
+use Rattle.iceoryx2_rounds.specs.PatternRules.{PatternRules}
+use Rattle.iceoryx2_rounds.specs.OwnAttributes.{defining, requiring}
+use Rattle.iceoryx2_rounds.specs.declared.pattern.OpenRefusal.{OpenRefusal}
+use Rattle.iceoryx2_rounds.specs.declared.pattern.OpenRefusal.TheVariants as open_refusal
+use Rattle.iceoryx2_rounds.specs.declared.pattern.CreateRefusal.{CreateRefusal}
+use Rattle.iceoryx2_rounds.specs.declared.pattern.CreateRefusal.TheVariants as create_refusal
 use Rattle.iceoryx2_errors.specs.declared.error.publish_subscribe.PublishSubscribeOpenError.{PublishSubscribeOpenError}
 use Rattle.iceoryx2_errors.specs.declared.error.publish_subscribe.PublishSubscribeOpenError.TheVariants as opening
 use Rattle.iceoryx2_errors.specs.declared.error.publish_subscribe.PublishSubscribeCreateError.{PublishSubscribeCreateError}
@@ -22,9 +22,9 @@ use Rattle.iceoryx2_errors.specs.contracts.error.publish_subscribe.PublishSubscr
 use Rattle.iceoryx2_errors.specs.contracts.error.publish_subscribe.PublishSubscribeCreateErrorPartialEq.TheImpl as same_creating
 use Rattle.iceoryx2_errors.specs.declared.error.publish_subscribe.PublishSubscribeOpenOrCreateError.{PublishSubscribeOpenOrCreateError}
 use Rattle.iceoryx2_errors.specs.declared.error.publish_subscribe.PublishSubscribeOpenOrCreateError.TheVariants as either
-use Rattle.iceoryx2_open_or_create.specs.Retried.{Retried, retried_by}
-use Rattle.iceoryx2_open_or_create.specs.declared.open_or_create.OpenOrCreateRefusal.{OpenOrCreateRefusal}
-use Rattle.iceoryx2_open_or_create.specs.declared.open_or_create.OpenOrCreateRefusal.TheVariants as refusal
+use Rattle.iceoryx2_rounds.specs.Retried.{Retried, retried_by}
+use Rattle.iceoryx2_rounds.specs.declared.open_or_create.OpenOrCreateRefusal.{OpenOrCreateRefusal}
+use Rattle.iceoryx2_rounds.specs.declared.open_or_create.OpenOrCreateRefusal.TheVariants as refusal
 use Rattle.iceoryx2_builder_common.specs.Zeros.{at_least_one}
 use Rattle.iceoryx2_builder_common.specs.Rows.{Row, AtLeast, SameFlag, row_clauses}
 use Rattle.iceoryx2_publish_subscribe_builder.specs.declared.publish_subscribe.demand.Marks.{Marks}
@@ -120,13 +120,13 @@ publish_subscribe_create_error_of_refusal create_refusal.OutOfMemory = creating.
 publish_subscribe_create_error_of_refusal create_refusal.HangsInCreation = creating.HangsInCreation
 
 abbrev pub publish_subscribe_meaning : PublishSubscribeDemand → Message
-    → Meaning PublishSubscribeOpenError PublishSubscribeCreateError
+    → PatternRules PublishSubscribeOpenError PublishSubscribeCreateError
 publish_subscribe_meaning demand message = record {
   open_refusal = publish_subscribe_open_error_of_refusal;
   create_refusal = publish_subscribe_create_error_of_refusal;
   misfit = λ d. misfit_of message d.pattern;
   requirement = λ d. setting_clauses demand d.pattern;
-  history_refusal = history_refusal_of demand.settings;
+  settings_refusal = history_refusal_of demand.settings;
   needs_clock = false;
   attributes = [];
   published = λ now. published_with demand.settings message;
@@ -134,18 +134,18 @@ publish_subscribe_meaning demand message = record {
 
 -- a create: zeros are raised, and these attributes are defined
 abbrev pub publish_subscribe_creating : PublishSubscribeDemand → Message → List Pair
-    → Meaning PublishSubscribeOpenError PublishSubscribeCreateError
+    → PatternRules PublishSubscribeOpenError PublishSubscribeCreateError
 publish_subscribe_creating demand message given =
     defining given (publish_subscribe_meaning (publish_subscribe_adjusted demand) message)
 
 -- an open: these attributes are required before the settings, and the types by the look
 abbrev pub publish_subscribe_opening : PublishSubscribeDemand → Message → Requirements
-    → Meaning PublishSubscribeOpenError PublishSubscribeCreateError
+    → PatternRules PublishSubscribeOpenError PublishSubscribeCreateError
 publish_subscribe_opening demand message required = requiring required (publish_subscribe_meaning demand message)
 
 -- what one call asks: its message was prepared once, and no round changes it
 abbrev pub prepared_meaning : PreparedDemand
-    → Meaning PublishSubscribeOpenError PublishSubscribeCreateError
+    → PatternRules PublishSubscribeOpenError PublishSubscribeCreateError
 prepared_meaning asked = publish_subscribe_meaning asked.demand asked.message
 
 abbrev pub prepared_adjusted : PreparedDemand → PreparedDemand

@@ -7,8 +7,8 @@ use Rattle.iceoryx2_description.specs.declared.description.ServiceHash.{ServiceH
 use Rattle.iceoryx2_description.specs.Span.{zero_span}
 use Rattle.iceoryx2_errors.specs.declared.error.publish_subscribe.PublishSubscribeOpenError.{PublishSubscribeOpenError}
 use Rattle.iceoryx2_errors.specs.declared.error.publish_subscribe.PublishSubscribeCreateError.{PublishSubscribeCreateError}
-use Rattle.iceoryx2_create_and_open.specs.declared.caller.Caller.{Caller}
-use Rattle.iceoryx2_open_or_create.specs.BuilderCalls.{BuilderCall, Way}
+use Rattle.iceoryx2_rounds.specs.declared.caller.Caller.{Caller}
+use Rattle.iceoryx2_rounds.specs.BuilderCalls.{BuilderCall, Way}
 use Rattle.iceoryx2_builder_common.specs.Facts.{caller_of}
 use Rattle.iceoryx2_publish_subscribe_builder.specs.declared.publish_subscribe.demand.PreparedDemand.{PreparedDemand}
 use Rattle.iceoryx2_publish_subscribe_builder.specs.PublishSubscribe.{prepared_adjusted, prepared_meaning}

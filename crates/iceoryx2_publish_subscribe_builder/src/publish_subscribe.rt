@@ -5,11 +5,11 @@ ghost use Rattle.iceoryx2_attribute.specs.Attributes.{Pair};
 ghost use Rattle.iceoryx2_attribute.specs.Requirements.{Requirements, no_requirements};
 ghost use Rattle.iceoryx2_types.specs.Types.{Message};
 ghost use Rattle.iceoryx2_access.specs.Run.{Joins};
-ghost use Rattle.iceoryx2_create_and_open.specs.Answers.{map_err};
-ghost use Rattle.iceoryx2_create_and_open.specs.Prepared.{IsCreateCall, IsOpenCall};
-ghost use Rattle.iceoryx2_open_or_create.specs.BuilderCalls.{ToOpenOrCreate};
-ghost use Rattle.iceoryx2_open_or_create.specs.CallWords.{IsOpenOrCreateCall};
-ghost use Rattle.iceoryx2_open_or_create.specs.EndsAtOnce.{EndsAtOnce};
+ghost use Rattle.iceoryx2_rounds.specs.Answers.{map_err};
+ghost use Rattle.iceoryx2_rounds.specs.Prepared.{IsCreateCall, IsOpenCall};
+ghost use Rattle.iceoryx2_rounds.specs.BuilderCalls.{ToOpenOrCreate};
+ghost use Rattle.iceoryx2_rounds.specs.CallWords.{IsOpenOrCreateCall};
+ghost use Rattle.iceoryx2_rounds.specs.EndsAtOnce.{EndsAtOnce};
 ghost use Rattle.iceoryx2_builder_common.specs.Builders.{IsLawfulBuilder};
 ghost use Rattle.iceoryx2_publish_subscribe_builder.specs.PublishSubscribe.{publish_subscribe_creating};
 ghost use Rattle.iceoryx2_publish_subscribe_builder.specs.PublishSubscribe.{publish_subscribe_opening};
@@ -28,20 +28,20 @@ use crate::publish_subscribe::demand::{
 pub use crate::publish_subscribe::setting::PublishSubscribeSetter;
 use iceoryx2_access::storage::Service;
 use iceoryx2_attribute::attribute::{AttributeSpecifier, AttributeVerifier};
-use iceoryx2_builder_common::answer::hand_out;
+use iceoryx2_builder_common::answer::into_factory;
 use iceoryx2_builder_common::ask_for;
 use iceoryx2_builder_common::base::BuilderWithServiceType;
 use iceoryx2_builder_common::requested::RequestedTypes;
-use iceoryx2_create_and_open::caller::Caller;
-use iceoryx2_create_and_open::create::create;
-use iceoryx2_create_and_open::open::open;
 use iceoryx2_description::config;
 use iceoryx2_description::time::Time;
 pub use iceoryx2_errors::error::{
     PublishSubscribeCreateError, PublishSubscribeOpenError, PublishSubscribeOpenOrCreateError,
 };
-use iceoryx2_open_or_create::open_or_create::open_or_create;
-use iceoryx2_port_factory::port_factory::publish_subscribe::PortFactory;
+use iceoryx2_rounds::caller::Caller;
+use iceoryx2_rounds::create::create_once;
+use iceoryx2_rounds::open::open;
+use iceoryx2_rounds::open_or_create::open_or_create;
+use iceoryx2_rounds::port_factory::publish_subscribe::PortFactory;
 use iceoryx2_types::types::publish_subscribe::Header;
 use iceoryx2_types::types::{
     Alignment, CustomHeaderMarker, CustomPayloadMarker, Slice, TypeDetail, ZeroCopySend,
@@ -346,10 +346,10 @@ impl<P: ZeroCopySend, U: ZeroCopySend, S: Service> Builder<P, U, S> {
             (λ word. IsCreateCall (publish_subscribe_creating self.demand message specifier.now) caller word result)
             storage.new }
     {
-        let Ok((caller, mut asked)) = self.into_prepared() else {
+        let Ok((caller, asked)) = self.into_prepared() else {
             return Err(PublishSubscribeCreateError::OutOfMemory);
         };
-        hand_out(create(&mut asked, &caller, specifier.attributes(), storage))
+        into_factory(create_once(asked, caller, specifier.attributes(), storage))
     }
 
     /// Opens the service, whatever its attributes: `open_with_attributes` of a verifier that
@@ -396,7 +396,7 @@ impl<P: ZeroCopySend, U: ZeroCopySend, S: Service> Builder<P, U, S> {
         let Ok((caller, asked)) = self.into_prepared() else {
             return Err(PublishSubscribeOpenError::OutOfMemory);
         };
-        hand_out(open(&asked, &caller, verifier, storage))
+        into_factory(open(&asked, &caller, verifier, storage))
     }
 
     /// Opens the service, or creates it where there is none, whatever its attributes:

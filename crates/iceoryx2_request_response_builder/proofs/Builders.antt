@@ -6,17 +6,17 @@ use Rattle.iceoryx2_attribute.specs.Attributes.{Pair}
 use Rattle.iceoryx2_attribute.specs.Requirements.{Requirements, AreMetBy}
 use Rattle.iceoryx2_description.specs.declared.description.MessagingPattern.{MessagingPattern}
 use Rattle.iceoryx2_description.specs.declared.description.MessagingPattern.TheVariants as existing
-use Rattle.iceoryx2_pattern.specs.Verdict.{at_least, flag_is, verdict}
-use Rattle.iceoryx2_pattern.proofs.MetRows.{same_flag}
+use Rattle.iceoryx2_rounds.specs.Verdict.{at_least, flag_is, verdict}
+use Rattle.iceoryx2_rounds.proofs.MetRows.{same_flag}
 use Rattle.iceoryx2_builder_common.proofs.Rows.{accepted}
-use Rattle.iceoryx2_create_and_open.specs.declared.caller.Caller.{Caller}
-use Rattle.iceoryx2_create_and_open.specs.Creates.{description_of}
-use Rattle.iceoryx2_create_and_open.specs.OwnSettings.{AcceptsOwn}
+use Rattle.iceoryx2_rounds.specs.declared.caller.Caller.{Caller}
+use Rattle.iceoryx2_rounds.specs.Creates.{description_of}
+use Rattle.iceoryx2_rounds.specs.OwnSettings.{AcceptsOwn}
 use Rattle.iceoryx2_description.specs.Description.{Description}
-use Rattle.iceoryx2_pattern.specs.OwnAttributes.{attribute_clauses}
-use Rattle.iceoryx2_open_or_create.specs.EndsAtOnce.{EndsAtOnce}
-use Rattle.iceoryx2_open_or_create.proofs.OwnAttributes.{met_with_attributes}
-use Rattle.iceoryx2_open_or_create.proofs.Ends.{Errs, attributes_err, both_err, rows_err, unmet_ends}
+use Rattle.iceoryx2_rounds.specs.OwnAttributes.{attribute_clauses}
+use Rattle.iceoryx2_rounds.specs.EndsAtOnce.{EndsAtOnce}
+use Rattle.iceoryx2_rounds.proofs.RetriedAttributes.{met_with_attributes}
+use Rattle.iceoryx2_rounds.proofs.Ends.{Errs, attributes_err, both_err, rows_err, unmet_ends}
 use Rattle.iceoryx2_errors.specs.declared.error.request_response.RequestResponseOpenError.{RequestResponseOpenError}
 use Rattle.iceoryx2_errors.specs.declared.error.request_response.RequestResponseOpenError.TheVariants as opening
 use Rattle.iceoryx2_builder_common.specs.Builders.{IsLawfulBuilder}

@@ -7,13 +7,13 @@ use Rattle.iceoryx2_description.specs.declared.config.RequestResponse.{RequestRe
 use Rattle.iceoryx2_description.specs.declared.request_response.StaticConfig.{StaticConfig as Existing}
 use Rattle.iceoryx2_description.specs.declared.description.MessagingPattern.{MessagingPattern}
 use Rattle.iceoryx2_description.specs.declared.description.MessagingPattern.TheVariants as existing
-use Rattle.iceoryx2_pattern.specs.Verdict.{Clause}
-use Rattle.iceoryx2_pattern.specs.Meaning.{Meaning}
-use Rattle.iceoryx2_pattern.specs.OwnAttributes.{defining, requiring}
-use Rattle.iceoryx2_pattern.specs.declared.pattern.OpenRefusal.{OpenRefusal}
-use Rattle.iceoryx2_pattern.specs.declared.pattern.OpenRefusal.TheVariants as open_refusal
-use Rattle.iceoryx2_pattern.specs.declared.pattern.CreateRefusal.{CreateRefusal}
-use Rattle.iceoryx2_pattern.specs.declared.pattern.CreateRefusal.TheVariants as create_refusal
+use Rattle.iceoryx2_rounds.specs.Verdict.{Clause}
+use Rattle.iceoryx2_rounds.specs.PatternRules.{PatternRules}
+use Rattle.iceoryx2_rounds.specs.OwnAttributes.{defining, requiring}
+use Rattle.iceoryx2_rounds.specs.declared.pattern.OpenRefusal.{OpenRefusal}
+use Rattle.iceoryx2_rounds.specs.declared.pattern.OpenRefusal.TheVariants as open_refusal
+use Rattle.iceoryx2_rounds.specs.declared.pattern.CreateRefusal.{CreateRefusal}
+use Rattle.iceoryx2_rounds.specs.declared.pattern.CreateRefusal.TheVariants as create_refusal
 use Rattle.iceoryx2_errors.specs.declared.error.request_response.RequestResponseOpenError.{RequestResponseOpenError}
 use Rattle.iceoryx2_errors.specs.declared.error.request_response.RequestResponseOpenError.TheVariants as opening
 use Rattle.iceoryx2_errors.specs.declared.error.request_response.RequestResponseCreateError.{RequestResponseCreateError}
@@ -22,9 +22,9 @@ use Rattle.iceoryx2_errors.specs.contracts.error.request_response.RequestRespons
 use Rattle.iceoryx2_errors.specs.contracts.error.request_response.RequestResponseCreateErrorPartialEq.TheImpl as same_creating
 use Rattle.iceoryx2_errors.specs.declared.error.request_response.RequestResponseOpenOrCreateError.{RequestResponseOpenOrCreateError}
 use Rattle.iceoryx2_errors.specs.declared.error.request_response.RequestResponseOpenOrCreateError.TheVariants as either
-use Rattle.iceoryx2_open_or_create.specs.Retried.{Retried, retried_by}
-use Rattle.iceoryx2_open_or_create.specs.declared.open_or_create.OpenOrCreateRefusal.{OpenOrCreateRefusal}
-use Rattle.iceoryx2_open_or_create.specs.declared.open_or_create.OpenOrCreateRefusal.TheVariants as refusal
+use Rattle.iceoryx2_rounds.specs.Retried.{Retried, retried_by}
+use Rattle.iceoryx2_rounds.specs.declared.open_or_create.OpenOrCreateRefusal.{OpenOrCreateRefusal}
+use Rattle.iceoryx2_rounds.specs.declared.open_or_create.OpenOrCreateRefusal.TheVariants as refusal
 use Rattle.iceoryx2_builder_common.specs.Zeros.{at_least_one}
 use Rattle.iceoryx2_builder_common.specs.Rows.{Row, AtLeast, SameFlag, row_clauses}
 use Rattle.iceoryx2_request_response_builder.specs.declared.request_response.demand.PreparedDemand.{PreparedDemand}
@@ -129,13 +129,13 @@ request_response_create_error_of_refusal create_refusal.OutOfMemory = creating.O
 request_response_create_error_of_refusal create_refusal.HangsInCreation = creating.HangsInCreation
 
 abbrev pub request_response_meaning : RequestResponseDemand → (request response : Message)
-    → Meaning RequestResponseOpenError RequestResponseCreateError
+    → PatternRules RequestResponseOpenError RequestResponseCreateError
 request_response_meaning demand request response = record {
   open_refusal = request_response_open_error_of_refusal;
   create_refusal = request_response_create_error_of_refusal;
   misfit = λ d. misfit_of request response d.pattern;
   requirement = λ d. setting_clauses demand d.pattern;
-  history_refusal = None;
+  settings_refusal = None;
   needs_clock = false;
   attributes = [];
   published = λ now. published_with demand.settings request response;
@@ -143,19 +143,19 @@ request_response_meaning demand request response = record {
 
 -- a create: zeros are raised, and these attributes are defined
 abbrev pub request_response_creating : RequestResponseDemand → (request response : Message) → List Pair
-    → Meaning RequestResponseOpenError RequestResponseCreateError
+    → PatternRules RequestResponseOpenError RequestResponseCreateError
 request_response_creating demand request response given =
     defining given (request_response_meaning (request_response_adjusted demand) request response)
 
 -- an open: these attributes are required before the settings, and the types by the look
 abbrev pub request_response_opening : RequestResponseDemand → (request response : Message) → Requirements
-    → Meaning RequestResponseOpenError RequestResponseCreateError
+    → PatternRules RequestResponseOpenError RequestResponseCreateError
 request_response_opening demand request response required =
     requiring required (request_response_meaning demand request response)
 
 -- what one call asks: its messages were prepared once, and no round changes them
 abbrev pub prepared_meaning : PreparedDemand
-    → Meaning RequestResponseOpenError RequestResponseCreateError
+    → PatternRules RequestResponseOpenError RequestResponseCreateError
 prepared_meaning asked = request_response_meaning asked.demand asked.request asked.response
 
 abbrev pub prepared_adjusted : PreparedDemand → PreparedDemand

@@ -1,7 +1,7 @@
 //! What a builder of events asks, as the rounds see it.
 
 ghost use Rattle.std.specs.Prelude.{◌≡◌, ◌∷◌, []};
-ghost use Rattle.iceoryx2_pattern.specs.Verdict.{verdict, marked_clauses, span_is};
+ghost use Rattle.iceoryx2_rounds.specs.Verdict.{verdict, marked_clauses, span_is};
 ghost use Rattle.iceoryx2_builder_common.specs.Rows.{row_clauses};
 ghost use Rattle.std.specs.Option.{option_map};
 ghost use Rattle.iceoryx2_event_builder.specs.Event.{setting_rows, created_deadline, event_refusal};
@@ -20,10 +20,10 @@ use iceoryx2_description::time::{Duration, Time};
 use iceoryx2_errors::error::{
     EventCreateError, EventOpenError, EventOpenOrCreateError, ServiceState,
 };
-use iceoryx2_open_or_create::open_or_create::OpenOrCreateRefusal;
-use iceoryx2_open_or_create::retries::Retries;
-use iceoryx2_pattern::pattern::{CreateRefusal, OpenRefusal, Pattern};
-use iceoryx2_pattern::verdict::{need_at_least, need_duration, need_event};
+use iceoryx2_rounds::open_or_create::OpenOrCreateRefusal;
+use iceoryx2_rounds::pattern::{CreateRefusal, OpenRefusal, Pattern};
+use iceoryx2_rounds::retries::Retries;
+use iceoryx2_rounds::verdict::{need_at_least, need_duration, need_event};
 use std::alloc::AllocError;
 
 /// Which settings a builder of events requires.
@@ -188,11 +188,11 @@ impl Pattern for EventDemand {
         open_error_of_refusal!(refusal, EventOpenError)
     }
 
-    fn create_refusal(&self, refusal: CreateRefusal) -> EventCreateError {
+    fn create_error(refusal: CreateRefusal) -> EventCreateError {
         create_error_of_refusal!(refusal, EventCreateError)
     }
 
-    fn history_refusal(&self) -> Option<EventCreateError> {
+    fn settings_refusal(&self) -> Option<EventCreateError> {
         None
     }
 
@@ -200,10 +200,14 @@ impl Pattern for EventDemand {
         self.settings.deadline.is_some()
     }
 
-    fn published(&self, now: Time) -> Result<MessagingPattern, AllocError> {
+    fn copy(&self) -> Result<EventDemand, AllocError> {
+        Ok(*self)
+    }
+
+    fn into_published(self, now: Time) -> MessagingPattern {
         let mut settings = self.settings;
         settings.deadline = deadline_at_creation(self.settings.deadline, now);
-        Ok(MessagingPattern::Event(settings))
+        MessagingPattern::Event(settings)
     }
 }
 

@@ -1,7 +1,7 @@
 //! What a builder of publish-subscribe asks, as the rounds see it.
 
 ghost use Rattle.std.specs.Prelude.{◌≡◌};
-ghost use Rattle.iceoryx2_pattern.specs.Verdict.{verdict};
+ghost use Rattle.iceoryx2_rounds.specs.Verdict.{verdict};
 ghost use Rattle.iceoryx2_builder_common.specs.Rows.{row_clauses};
 ghost use Rattle.iceoryx2_publish_subscribe_builder.specs.PublishSubscribe.{publish_subscribe_refusal, setting_rows};
 ghost use Rattle.iceoryx2_publish_subscribe_builder.specs.Builder.{fresh_demand};
@@ -18,10 +18,10 @@ use iceoryx2_errors::error::{
     PublishSubscribeCreateError, PublishSubscribeOpenError, PublishSubscribeOpenOrCreateError,
     ServiceState,
 };
-use iceoryx2_open_or_create::open_or_create::OpenOrCreateRefusal;
-use iceoryx2_open_or_create::retries::Retries;
-use iceoryx2_pattern::pattern::{CreateRefusal, OpenRefusal, Pattern};
-use iceoryx2_pattern::verdict::{need_at_least, need_flag};
+use iceoryx2_rounds::open_or_create::OpenOrCreateRefusal;
+use iceoryx2_rounds::pattern::{CreateRefusal, OpenRefusal, Pattern};
+use iceoryx2_rounds::retries::Retries;
+use iceoryx2_rounds::verdict::{need_at_least, need_flag};
 use iceoryx2_types::types::MessageTypeDetails;
 use std::alloc::AllocError;
 
@@ -137,11 +137,11 @@ impl Pattern for PreparedDemand {
         open_error_of_refusal!(refusal, PublishSubscribeOpenError)
     }
 
-    fn create_refusal(&self, refusal: CreateRefusal) -> PublishSubscribeCreateError {
+    fn create_error(refusal: CreateRefusal) -> PublishSubscribeCreateError {
         create_error_of_refusal!(refusal, PublishSubscribeCreateError)
     }
 
-    fn history_refusal(&self) -> Option<PublishSubscribeCreateError> {
+    fn settings_refusal(&self) -> Option<PublishSubscribeCreateError> {
         let settings = &self.demand.settings;
         if !settings.enable_safe_overflow
             && settings.subscriber_max_buffer_size < settings.history_size
@@ -156,12 +156,21 @@ impl Pattern for PreparedDemand {
         false
     }
 
-    fn published(&self, now: Time) -> Result<MessagingPattern, AllocError> {
+    fn copy(&self) -> Result<PreparedDemand, AllocError> {
+        let message = self.message.clone()?;
+        Ok(PreparedDemand {
+            demand: self.demand,
+            message,
+        })
+    }
+
+    fn into_published(self, now: Time) -> MessagingPattern {
         let _ = now;
-        Ok(MessagingPattern::PublishSubscribe(settings_of!(self.demand.settings =>
+        let PreparedDemand { demand, message } = self;
+        MessagingPattern::PublishSubscribe(settings_of!(demand.settings =>
             publish_subscribe::StaticConfig: max_publishers max_subscribers
             subscriber_max_buffer_size history_size subscriber_max_borrowed_samples
-            enable_safe_overflow max_nodes; message_type_details: self.message.clone()?)))
+            enable_safe_overflow max_nodes; message_type_details: message))
     }
 }
 

@@ -1,7 +1,7 @@
 //! What a builder of request-response asks, as the rounds see it.
 
 ghost use Rattle.std.specs.Prelude.{◌≡◌};
-ghost use Rattle.iceoryx2_pattern.specs.Verdict.{verdict};
+ghost use Rattle.iceoryx2_rounds.specs.Verdict.{verdict};
 ghost use Rattle.iceoryx2_builder_common.specs.Rows.{row_clauses};
 ghost use Rattle.iceoryx2_request_response_builder.specs.Builder.{fresh_demand};
 ghost use Rattle.iceoryx2_request_response_builder.specs.RequestResponse.{request_response_refusal, setting_rows};
@@ -18,10 +18,10 @@ use iceoryx2_errors::error::{
     RequestResponseCreateError, RequestResponseOpenError, RequestResponseOpenOrCreateError,
     ServiceState,
 };
-use iceoryx2_open_or_create::open_or_create::OpenOrCreateRefusal;
-use iceoryx2_open_or_create::retries::Retries;
-use iceoryx2_pattern::pattern::{CreateRefusal, OpenRefusal, Pattern};
-use iceoryx2_pattern::verdict::{need_at_least, need_flag};
+use iceoryx2_rounds::open_or_create::OpenOrCreateRefusal;
+use iceoryx2_rounds::pattern::{CreateRefusal, OpenRefusal, Pattern};
+use iceoryx2_rounds::retries::Retries;
+use iceoryx2_rounds::verdict::{need_at_least, need_flag};
 use iceoryx2_types::types::MessageTypeDetails;
 use std::alloc::AllocError;
 
@@ -151,11 +151,11 @@ impl Pattern for PreparedDemand {
         open_error_of_refusal!(refusal, RequestResponseOpenError)
     }
 
-    fn create_refusal(&self, refusal: CreateRefusal) -> RequestResponseCreateError {
+    fn create_error(refusal: CreateRefusal) -> RequestResponseCreateError {
         create_error_of_refusal!(refusal, RequestResponseCreateError)
     }
 
-    fn history_refusal(&self) -> Option<RequestResponseCreateError> {
+    fn settings_refusal(&self) -> Option<RequestResponseCreateError> {
         None
     }
 
@@ -163,16 +163,31 @@ impl Pattern for PreparedDemand {
         false
     }
 
-    fn published(&self, now: Time) -> Result<MessagingPattern, AllocError> {
+    fn copy(&self) -> Result<PreparedDemand, AllocError> {
+        let request = self.request.clone()?;
+        let response = self.response.clone()?;
+        Ok(PreparedDemand {
+            demand: self.demand,
+            request,
+            response,
+        })
+    }
+
+    fn into_published(self, now: Time) -> MessagingPattern {
         let _ = now;
-        Ok(MessagingPattern::RequestResponse(settings_of!(self.demand.settings =>
+        let PreparedDemand {
+            demand,
+            request,
+            response,
+        } = self;
+        MessagingPattern::RequestResponse(settings_of!(demand.settings =>
             request_response::StaticConfig: enable_safe_overflow_for_requests
             enable_safe_overflow_for_responses enable_fire_and_forget_requests
             max_active_requests_per_client max_loaned_requests
             max_borrowed_responses_per_pending_response max_response_buffer_size
             max_servers max_clients max_nodes;
-            request_message_type_details: self.request.clone()?,
-            response_message_type_details: self.response.clone()?)))
+            request_message_type_details: request,
+            response_message_type_details: response))
     }
 }
 

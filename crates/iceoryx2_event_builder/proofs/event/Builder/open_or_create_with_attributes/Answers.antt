@@ -1,6 +1,6 @@
 use Rattle.std.proofs.Common.{refl}
-use Rattle.iceoryx2_port_factory.specs.Patterns.{is_events}
-use Rattle.iceoryx2_open_or_create.proofs.Granted.{joined_carries, carried_of}
+use Rattle.iceoryx2_rounds.specs.Patterns.{is_events}
+use Rattle.iceoryx2_rounds.proofs.Granted.{joined_carries, carried_of}
 use Rattle.iceoryx2_event_builder.proofs.Granted.{what_fits}
 use Rattle.iceoryx2_event_builder.proofs.event.Builder.open_or_create_with_attributes.Goals as goal
 

@@ -1,15 +1,15 @@
 use Rattle.std.proofs.Common.{refl}
 use Rattle.iceoryx2_builder_common.proofs.Granted.{created_of, with_types, without_types}
-use Rattle.iceoryx2_port_factory.specs.Patterns.{is_publish_subscribe}
+use Rattle.iceoryx2_rounds.specs.Patterns.{is_publish_subscribe}
 use Rattle.iceoryx2_publish_subscribe_builder.proofs.publish_subscribe.Builder.create_with_attributes.Goals as goal
 
 pub returns-in_default : goal.returns-in_default
 returns-in_default g c = without_types
 
-pub hand_out-requires : goal.hand_out-requires
-hand_out-requires g c = created_of is_publish_subscribe c.in-Ok.caller _ c.create.ensures.word refl
+pub into_factory-requires : goal.into_factory-requires
+into_factory-requires g c = created_of is_publish_subscribe c.in-Ok.caller _ c.create_once.ensures refl
 
 pub returns : goal.returns
 returns g c =
-    let made = rw (c.in-Ok.ensures.1, c.attributes.ensures.value, c.in-Ok.ensures.0) at c.create.ensures.word in
-    rw (c.hand_out.ensures) (with_types made)
+    let made = rw (c.in-Ok.ensures.1, c.attributes.ensures.value, c.in-Ok.ensures.0) at c.create_once.ensures in
+    rw (c.into_factory.ensures) (with_types made)

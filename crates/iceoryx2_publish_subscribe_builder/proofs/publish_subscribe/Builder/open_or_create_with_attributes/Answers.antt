@@ -1,7 +1,7 @@
 use Rattle.std.proofs.Common.{refl}
 use Rattle.iceoryx2_builder_common.proofs.Granted.{with_types, without_types}
-use Rattle.iceoryx2_port_factory.specs.Patterns.{is_publish_subscribe}
-use Rattle.iceoryx2_open_or_create.proofs.Granted.{joined_carries, carried_of}
+use Rattle.iceoryx2_rounds.specs.Patterns.{is_publish_subscribe}
+use Rattle.iceoryx2_rounds.proofs.Granted.{joined_carries, carried_of}
 use Rattle.iceoryx2_publish_subscribe_builder.proofs.Granted.{what_fits}
 use Rattle.iceoryx2_publish_subscribe_builder.proofs.publish_subscribe.Builder.open_or_create_with_attributes.Goals as goal
 

@@ -1,5 +1,5 @@
 use Rattle.std.proofs.Common.{sym}
-use Rattle.iceoryx2_pattern.proofs.Verdicts.{none_refused}
+use Rattle.iceoryx2_rounds.proofs.Verdicts.{none_refused}
 use Rattle.iceoryx2_event_builder.proofs.event.demand.EventDemandPattern.verify.Goals as goal
 
 pub returns-in-PublishSubscribe : goal.returns-in-PublishSubscribe

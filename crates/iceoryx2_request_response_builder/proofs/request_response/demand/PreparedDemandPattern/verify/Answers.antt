@@ -1,5 +1,5 @@
 use Rattle.std.proofs.Common.{sym}
-use Rattle.iceoryx2_pattern.proofs.Verdicts.{none_refused}
+use Rattle.iceoryx2_rounds.proofs.Verdicts.{none_refused}
 use Rattle.iceoryx2_request_response_builder.proofs.request_response.demand.PreparedDemandPattern.verify.Goals as goal
 
 pub returns-in-Event : goal.returns-in-Event

@@ -1,5 +1,0 @@
-use Rattle.std.proofs.Common.{rules}
-use Rattle.iceoryx2_event_builder.proofs.event.demand.EventDemandPattern.published.Goals as goal
-
-pub returns : goal.returns
-returns c = search rules
