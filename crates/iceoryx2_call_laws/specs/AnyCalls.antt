@@ -2,11 +2,11 @@
 use Rattle.std.specs.Prelude.{◌≡◌, ◌⊎◌, List}
 use Rattle.iceoryx2_description.specs.Description.{Description}
 use Rattle.iceoryx2_access.specs.Letter.{Letter}
-use Rattle.iceoryx2_create_and_open.specs.Creates.{description_of}
-use Rattle.iceoryx2_create_and_open.specs.Counts.{IsWithin}
-use Rattle.iceoryx2_open_or_create.specs.Adjusting.{Accepts, OnlyRaises}
-use Rattle.iceoryx2_open_or_create.specs.BuilderCalls.{BuilderCall, Way, ToCreate, ToOpen, ToOpenOrCreate}
-use Rattle.iceoryx2_open_or_create.specs.BuilderCalls.{creating, opening, limits_of}
+use Rattle.iceoryx2_rounds.specs.Creates.{description_of}
+use Rattle.iceoryx2_rounds.specs.Counts.{IsWithin}
+use Rattle.iceoryx2_rounds.specs.Adjusting.{Accepts, OnlyRaises}
+use Rattle.iceoryx2_rounds.specs.BuilderCalls.{BuilderCall, Way, ToCreate, ToOpen, ToOpenOrCreate}
+use Rattle.iceoryx2_rounds.specs.BuilderCalls.{creating, opening, limits_of}
 
 module _ {D E C : Type 0} (c : BuilderCall D E C) where
   -- The description of the call's hash that meets its requirement,
@@ -15,14 +15,14 @@ module _ {D E C : Type 0} (c : BuilderCall D E C) where
     pub accepted : Accepts (opening c) d
 
   -- or the one that it published, with its adjusted settings and its attributes, and its node as the creator.
-  abbrev pub Holds : Description → Type 0
-  Holds d = d ≡ description_of (creating c) c.caller
+  abbrev pub IsAsPublished : Description → Type 0
+  IsAsPublished d = d ≡ description_of (creating c) c.caller
 
   -- Of an open or create it is one of both if its create only raises minima, as each builder's does.
   abbrev pub MayCarryBy : Way → Description → Type 0
-  MayCarryBy ToCreate d = Holds d
+  MayCarryBy ToCreate d = IsAsPublished d
   MayCarryBy ToOpen d = Meets d
-  MayCarryBy ToOpenOrCreate d = OnlyRaises c.meaning c.adjusted → Meets d ⊎ Holds d
+  MayCarryBy ToOpenOrCreate d = OnlyRaises c.meaning c.adjusted → Meets d ⊎ IsAsPublished d
 
 -- How many accesses a call has at most, and how many looks, openings, makings and removals of a segment.
 abbrev pub IsShortBy : Way → List Letter → Type 0

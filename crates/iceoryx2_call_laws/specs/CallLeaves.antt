@@ -3,8 +3,8 @@ use Rattle.std.specs.Prelude.{ℕ, Bool, List, None}
 use Rattle.iceoryx2_description.specs.declared.description.ServiceHash.{ServiceHash}
 use Rattle.iceoryx2_access.specs.Letter.{Letter}
 use Rattle.iceoryx2_world.specs.World.{World}
-use Rattle.iceoryx2_create_and_open.specs.Fronts.{number_got, is_left, GivesAllBack, GivesTagsBack}
-use Rattle.iceoryx2_open_or_create.specs.BuilderCalls.{BuilderCall, Way, ToCreate, ToOpen, ToOpenOrCreate}
+use Rattle.iceoryx2_rounds.specs.Fronts.{number_got, is_left, GivesAllBack, GivesTagsBack}
+use Rattle.iceoryx2_rounds.specs.BuilderCalls.{BuilderCall, Way, ToCreate, ToOpen, ToOpenOrCreate}
 use Rattle.iceoryx2_call_laws.specs.Leaves.{Leaves, LeavesByRounds}
 
 -- A create leaves only that for which a removal was refused,

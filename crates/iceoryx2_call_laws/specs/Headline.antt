@@ -9,9 +9,9 @@ use Rattle.iceoryx2_world.specs.Across.{Agrees}
 use Rattle.iceoryx2_world.specs.Interference.{IsFallibleUnder}
 use Rattle.iceoryx2_world.specs.Standing.{Spares, Stands}
 use Rattle.iceoryx2_call_laws.specs.Calls.{Throughout}
-use Rattle.iceoryx2_open_or_create.specs.BuilderCalls.{BuilderCall, ErrorBy}
+use Rattle.iceoryx2_rounds.specs.BuilderCalls.{BuilderCall, ErrorBy}
 use Rattle.iceoryx2_call_laws.specs.AnyCalls.{IsShortBy, MayCarryBy}
-use Rattle.iceoryx2_open_or_create.specs.CallWords.{IsWordOf}
+use Rattle.iceoryx2_rounds.specs.CallWords.{IsWordOf}
 
 -- An open factory, as the world shows it.
 pub record IsOpen (w : World) (f : Registered) : Type 0 where

@@ -5,7 +5,7 @@ use Rattle.iceoryx2_access.specs.Letter.{Letter}
 use Rattle.iceoryx2_access.specs.MayRefuse.{MayRefuse}
 use Rattle.iceoryx2_access.specs.Registered.{Registered}
 use Rattle.iceoryx2_access.specs.Run.{Run, Each}
-use Rattle.iceoryx2_script.specs.Faults.{FaultyState, IsInjectedFault}
+use Rattle.iceoryx2_testing.specs.Faults.{FaultyState, IsInjectedFault}
 use Rattle.iceoryx2_world.specs.World.{World, phase_of}
 use Rattle.iceoryx2_world.specs.Access.{IsOwnPart}
 use Rattle.iceoryx2_world.specs.Agreement.{IsSegmentOf}
@@ -14,10 +14,10 @@ use Rattle.iceoryx2_world.specs.Interference.{Others, After, IsAccessUnder, IsFa
 use Rattle.iceoryx2_world.specs.Standing.{Stands}
 use Rattle.iceoryx2_world.specs.Tables.{TableState, IsTableAccess}
 use Rattle.iceoryx2_errors.specs.declared.error.CloseError.TheVariants.{NotHere}
-use Rattle.iceoryx2_port_factory.specs.Closes.{IsCloseWord}
-use Rattle.iceoryx2_create_and_open.specs.Counts.{IsWithin, close_limits}
-use Rattle.iceoryx2_open_or_create.specs.BuilderCalls.{BuilderCall, Way, ErrorBy}
-use Rattle.iceoryx2_open_or_create.specs.CallWords.{IsWordBy, IsWordOf}
+use Rattle.iceoryx2_rounds.specs.Closes.{IsCloseWord}
+use Rattle.iceoryx2_rounds.specs.Counts.{IsWithin, close_limits}
+use Rattle.iceoryx2_rounds.specs.BuilderCalls.{BuilderCall, Way, ErrorBy}
+use Rattle.iceoryx2_rounds.specs.CallWords.{IsWordBy, IsWordOf}
 use Rattle.iceoryx2_call_laws.specs.AnyCalls.{IsShortBy}
 use Rattle.iceoryx2_call_laws.specs.Calls.{Throughout, AtEach, ActsCalmly, ChangesLast}
 use Rattle.iceoryx2_call_laws.specs.CallLeaves.{LeavesBy}

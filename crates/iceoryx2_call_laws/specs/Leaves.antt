@@ -12,8 +12,8 @@ use Rattle.iceoryx2_world.specs.World.{World, row_of, phase_of, begins, locked_n
 use Rattle.iceoryx2_world.specs.Agreement.{IsSpent}
 use Rattle.iceoryx2_access.specs.Run.{Each, Run}
 use Rattle.iceoryx2_world.specs.Interference.{LacksSegment, SameTickets, SameTags, IsFallibleUnder}
-use Rattle.iceoryx2_create_and_open.specs.GivesBack.{MadeByCall, OwnTag, OwnLock, OwnSegment}
-use Rattle.iceoryx2_create_and_open.specs.Fronts.{number_got, is_left, GivesAllBack}
+use Rattle.iceoryx2_rounds.specs.GivesBack.{Owned, OwnTag, OwnLock, OwnSegment}
+use Rattle.iceoryx2_rounds.specs.Fronts.{number_got, is_left, GivesAllBack}
 
 -- A removal is granted.
 abbrev pub IsGranted : Letter → Type 0
@@ -56,13 +56,13 @@ module _ (node : ℕ) (hash : ServiceHash) where
     pub segment : is_segment_left ≡ false → LacksSegment v hash n
 
   -- A call that got no lock has read at most.
-  abbrev pub LeavesOfLock : (got : Option ℕ) → (left : MadeByCall → Bool) → (w v : World) → Type 0
+  abbrev pub LeavesOfLock : (got : Option ℕ) → (left : Owned → Bool) → (w v : World) → Type 0
   LeavesOfLock None left w v = NodeHasRead w v
   LeavesOfLock (Some n) left w v = LeavesGivenBack n (left OwnLock) (left OwnSegment) w v
 
   -- All that stays of a word that got the lock of this number, if any, and by which such things are left: of tickets
   -- and tags these are those of own nodes.
-  pub record Leaves (own : ℕ → Bool) (got : Option ℕ) (left : MadeByCall → Bool) (w v : World) : Type 0 where
+  pub record Leaves (own : ℕ → Bool) (got : Option ℕ) (left : Owned → Bool) (w v : World) : Type 0 where
     pub tickets : SameTickets own w.tickets v.tickets
     pub tags : SameTags own (tags_after (left OwnTag) w.tags (node, hash)) v.tags
     pub of_lock : LeavesOfLock got left w v
@@ -79,7 +79,7 @@ module _ (node : ℕ) (hash : ServiceHash) where
   IsGone n false v = IsSpent v hash n
   IsGone n true v = (n < v.counter) × LacksRow v hash n
 
-  abbrev pub StaysAway : (got : Option ℕ) → (left : MadeByCall → Bool) → World → Type 0
+  abbrev pub StaysAway : (got : Option ℕ) → (left : Owned → Bool) → World → Type 0
   StaysAway None left v = Unit {0}
   StaysAway (Some n) left v = left OwnLock ≡ false → IsGone n (left OwnSegment) v
 

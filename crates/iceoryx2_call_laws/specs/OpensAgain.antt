@@ -5,12 +5,12 @@ use Rattle.iceoryx2_description.specs.declared.description.ServiceHash.{ServiceH
 use Rattle.iceoryx2_access.specs.Letter.{Letter}
 use Rattle.iceoryx2_access.specs.Registered.{Registered}
 use Rattle.iceoryx2_access.specs.Run.{Run}
-use Rattle.iceoryx2_pattern.specs.declared.pattern.OpenRefusal.TheVariants.{OutOfMemory}
-use Rattle.iceoryx2_pattern.specs.Meaning.{Meaning}
-use Rattle.iceoryx2_pattern.specs.OwnAttributes.{requiring}
-use Rattle.iceoryx2_open_or_create.specs.Adjusting.{Accepts}
-use Rattle.iceoryx2_open_or_create.specs.BuilderCalls.{BuilderCall, ToOpen, opening}
-use Rattle.iceoryx2_open_or_create.specs.CallWords.{IsWordBy}
+use Rattle.iceoryx2_rounds.specs.declared.pattern.OpenRefusal.TheVariants.{OutOfMemory}
+use Rattle.iceoryx2_rounds.specs.PatternRules.{PatternRules}
+use Rattle.iceoryx2_rounds.specs.OwnAttributes.{requiring}
+use Rattle.iceoryx2_rounds.specs.Adjusting.{Accepts}
+use Rattle.iceoryx2_rounds.specs.BuilderCalls.{BuilderCall, ToOpen, opening}
+use Rattle.iceoryx2_rounds.specs.CallWords.{IsWordBy}
 use Rattle.iceoryx2_world.specs.World.{World}
 use Rattle.iceoryx2_world.specs.Access.{IsOwnPart}
 use Rattle.iceoryx2_world.specs.Across.{Agrees}
@@ -37,7 +37,7 @@ pub record HasRoomFor (q : Quiet) (node : ℕ) (hash : ServiceHash) : Type 0 whe
   pub number : HasNumber q
 
 -- The service stands, the open takes it, and a place and a number are left.
-pub record CanOpen {E C : Type 0} (m : Meaning E C) (q : Quiet) (node : ℕ) (hash : ServiceHash) : Type 0 where
+pub record CanOpen {E C : Type 0} (m : PatternRules E C) (q : Quiet) (node : ℕ) (hash : ServiceHash) : Type 0 where
   pub service : QuietService
   pub there : service_at q hash ≡ Some service
   pub accepted : Accepts m service.description
@@ -45,7 +45,7 @@ pub record CanOpen {E C : Type 0} (m : Meaning E C) (q : Quiet) (node : ℕ) (ha
   pub number : HasNumber q
 
 -- The open is Ok or out of memory.
-abbrev pub IsOkOrOutOfMemory : {E C : Type 0} → Meaning E C → Result Registered E → Type 0
+abbrev pub IsOkOrOutOfMemory : {E C : Type 0} → PatternRules E C → Result Registered E → Type 0
 IsOkOrOutOfMemory m answer = IfErr answer (λ e. e ≡ m.open_refusal OutOfMemory)
 
 -- While a factory stands that the call gave, or another one of the same description, with a place and a number left, an

@@ -4,10 +4,10 @@ use Rattle.iceoryx2_access.specs.Letter.{Letter}
 use Rattle.iceoryx2_access.specs.MayRefuse.{MayRefuse}
 use Rattle.iceoryx2_access.specs.Registered.{Registered}
 use Rattle.iceoryx2_access.specs.Run.{Run}
-use Rattle.iceoryx2_open_or_create.specs.Adjusting.{MeetsOrHolds}
-use Rattle.iceoryx2_open_or_create.specs.BuilderCalls.{BuilderCall, ErrorBy}
-use Rattle.iceoryx2_open_or_create.specs.CallWords.{IsWordOf}
-use Rattle.iceoryx2_script.specs.Faults.{IsInjectedFault}
+use Rattle.iceoryx2_rounds.specs.Adjusting.{MeetsOrHolds}
+use Rattle.iceoryx2_rounds.specs.BuilderCalls.{BuilderCall, ErrorBy}
+use Rattle.iceoryx2_rounds.specs.CallWords.{IsWordOf}
+use Rattle.iceoryx2_testing.specs.Faults.{IsInjectedFault}
 use Rattle.iceoryx2_world.specs.World.{World}
 use Rattle.iceoryx2_world.specs.Across.{Agrees}
 use Rattle.iceoryx2_world.specs.Access.{IsOwnPart}

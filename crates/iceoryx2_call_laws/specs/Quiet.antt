@@ -49,7 +49,7 @@ CountIs n x None = begins x ≡ true
 CountIs n x (Some k) = (x ≡ at.Joined n k) × (1 ≤ k)
 
 -- No service: no row, no segment, no tag, and no node is further than reading.
-pub record IsAbsent (r : Option Row) (s : Option Segment) (phase : ℕ → Phase) (tag : ℕ → Bool) : Type 0 where
+pub record IsNothingShown (r : Option Row) (s : Option Segment) (phase : ℕ → Phase) (tag : ℕ → Bool) : Type 0 where
   pub row : r ≡ None
   pub segment : s ≡ None
   pub phases : (i : ℕ) → begins (phase i) ≡ true
@@ -57,7 +57,7 @@ pub record IsAbsent (r : Option Row) (s : Option Segment) (phase : ℕ → Phase
 
 -- A service with this hash: its description is published under its number, the segment beside it
 -- is unmarked and takes in its nodes and nobody else, and its nodes alone have tags.
-pub record IsThere (h : ServiceHash) (x : QuietService) (r : Option Row) (s : Option Segment)
+pub record IsServiceShown (h : ServiceHash) (x : QuietService) (r : Option Row) (s : Option Segment)
     (phase : ℕ → Phase) (tag : ℕ → Bool) : Type 0 where
   pub limits : IsDescription x.description
   pub hash : x.description.hash ≡ h
@@ -77,8 +77,8 @@ pub record IsThere (h : ServiceHash) (x : QuietService) (r : Option Row) (s : Op
 
 abbrev pub ShowsAt : ServiceHash → Option QuietService → Option Row → Option Segment → (ℕ → Phase)
     → (ℕ → Bool) → Type 0
-ShowsAt h None r s phase tag = IsAbsent r s phase tag
-ShowsAt h (Some x) r s phase tag = IsThere h x r s phase tag
+ShowsAt h None r s phase tag = IsNothingShown r s phase tag
+ShowsAt h (Some x) r s phase tag = IsServiceShown h x r s phase tag
 
 -- What the world has at a hash is this service, or none.
 abbrev pub ShowsService : World → ServiceHash → Option QuietService → Type 0

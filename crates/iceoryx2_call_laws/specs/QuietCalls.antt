@@ -6,13 +6,13 @@ use Rattle.iceoryx2_description.specs.declared.description.ServiceHash.{ServiceH
 use Rattle.iceoryx2_description.specs.Description.{Description, max_nodes_of}
 use Rattle.iceoryx2_world.specs.World.{set_to}
 use Rattle.iceoryx2_world.specs.Steps.{last_number}
-use Rattle.iceoryx2_pattern.specs.declared.pattern.CreateRefusal.TheVariants as create_refusal
-use Rattle.iceoryx2_pattern.specs.declared.pattern.OpenRefusal.TheVariants as open_refusal
-use Rattle.iceoryx2_pattern.specs.Meaning.{Meaning}
-use Rattle.iceoryx2_pattern.specs.Verdict.{verdict}
+use Rattle.iceoryx2_rounds.specs.declared.pattern.CreateRefusal.TheVariants as create_refusal
+use Rattle.iceoryx2_rounds.specs.declared.pattern.OpenRefusal.TheVariants as open_refusal
+use Rattle.iceoryx2_rounds.specs.PatternRules.{PatternRules}
+use Rattle.iceoryx2_rounds.specs.Verdict.{verdict}
 use Rattle.iceoryx2_access.specs.Registered.{Registered}
-use Rattle.iceoryx2_create_and_open.specs.declared.caller.Caller.{Caller}
-use Rattle.iceoryx2_create_and_open.specs.Creates.{clock_stops, description_of}
+use Rattle.iceoryx2_rounds.specs.declared.caller.Caller.{Caller}
+use Rattle.iceoryx2_rounds.specs.Creates.{clock_stops, description_of}
 use Rattle.iceoryx2_call_laws.specs.Quiet.{NodeCounts, QuietService, Quiet, service_at, times_counted}
 
 -- a service that a node has just created
@@ -70,28 +70,28 @@ abbrev pub with_created : Quiet → ℕ → ServiceHash → Description → Quie
 with_created q node hash d = spend (with_service q hash (Some (created_by node d q.counter)))
 
 -- Create.
-module _ {E C : Type 0} (m : Meaning E C) (q : Quiet) (caller : Caller) where
+module _ {E C : Type 0} (m : PatternRules E C) (q : Quiet) (caller : Caller) where
   pub data Creates : Result Registered C → Quiet → Type 0 where
-    forbidden : {error : C} → m.history_refusal ≡ Some error → Creates (Err error) q
-    exists : (x : QuietService) → m.history_refusal ≡ None → service_at q caller.hash ≡ Some x
+    forbidden : {error : C} → m.settings_refusal ≡ Some error → Creates (Err error) q
+    exists : (x : QuietService) → m.settings_refusal ≡ None → service_at q caller.hash ≡ Some x
         → Creates (Err (m.create_refusal create_refusal.AlreadyExists)) q
-    no_time : m.history_refusal ≡ None → service_at q caller.hash ≡ None
+    no_time : m.settings_refusal ≡ None → service_at q caller.hash ≡ None
         → clock_stops m.needs_clock caller.clock ≡ true
         → Creates (Err (m.create_refusal create_refusal.InternalFailure)) q
-    no_number : m.history_refusal ≡ None → service_at q caller.hash ≡ None
+    no_number : m.settings_refusal ≡ None → service_at q caller.hash ≡ None
         → clock_stops m.needs_clock caller.clock ≡ false → HasNoNumber q
         → Creates (Err (m.create_refusal create_refusal.InternalFailure)) q
-    created : m.history_refusal ≡ None → service_at q caller.hash ≡ None
+    created : m.settings_refusal ≡ None → service_at q caller.hash ≡ None
         → clock_stops m.needs_clock caller.clock ≡ false → HasNumber q
         → Creates (Ok (factory_created q caller.node (description_of m caller)))
         (with_created q caller.node caller.hash (description_of m caller))
     -- memory may run out in place of each answer from the look on; after the lock its number is spent
-    no_memory : m.history_refusal ≡ None → Creates (Err (m.create_refusal create_refusal.OutOfMemory)) q
-    no_memory_locked : m.history_refusal ≡ None → service_at q caller.hash ≡ None
+    no_memory : m.settings_refusal ≡ None → Creates (Err (m.create_refusal create_refusal.OutOfMemory)) q
+    no_memory_locked : m.settings_refusal ≡ None → service_at q caller.hash ≡ None
         → clock_stops m.needs_clock caller.clock ≡ false → HasNumber q
         → Creates (Err (m.create_refusal create_refusal.OutOfMemory)) (spend q)
 
-module _ {E C : Type 0} (m : Meaning E C) (q : Quiet) (node : ℕ) (hash : ServiceHash) where
+module _ {E C : Type 0} (m : PatternRules E C) (q : Quiet) (node : ℕ) (hash : ServiceHash) where
   -- this node opens a service: the factory, and the machine after it
   abbrev pub factory_opened : QuietService → Registered
   factory_opened x = record { node = node; number = x.number; ticket = q.counter; description = x.description }

@@ -3,7 +3,7 @@ use Rattle.std.specs.Prelude.{◌≡◌, ◌≢◌, ◌↔◌, ℕ, ◌+◌, ◌
 use Rattle.std.specs.Prelude.{Result, Ok, Err, IfOk}
 use Rattle.std.specs.FinMap as map
 use Rattle.iceoryx2_description.specs.declared.description.ServiceHash.{ServiceHash}
-use Rattle.iceoryx2_world.specs.declared.listing.Entry.{Entry}
+use Rattle.iceoryx2_world.specs.declared.listing.ListedService.{ListedService}
 use Rattle.iceoryx2_world.specs.declared.world.Participant.TheVariants.{Node}
 use Rattle.iceoryx2_world.specs.declared.world.Ticket.{Ticket}
 use Rattle.iceoryx2_world.specs.World.{World, empty_world, row_of, segment_of, phase_of, tag_of, join_count}
@@ -15,10 +15,10 @@ use Rattle.iceoryx2_world.specs.Standing.{Stands, ticket_for}
 use Rattle.iceoryx2_access.specs.Letter.{Letter}
 use Rattle.iceoryx2_access.specs.Registered.{Registered}
 use Rattle.iceoryx2_access.specs.Run.{Run}
-use Rattle.iceoryx2_pattern.specs.Meaning.{Meaning}
-use Rattle.iceoryx2_port_factory.specs.Closes.{IsCloseWord}
-use Rattle.iceoryx2_create_and_open.specs.declared.caller.Caller.{Caller}
-use Rattle.iceoryx2_open_or_create.specs.BuilderCalls.{BuilderCall, ErrorBy}
+use Rattle.iceoryx2_rounds.specs.PatternRules.{PatternRules}
+use Rattle.iceoryx2_rounds.specs.Closes.{IsCloseWord}
+use Rattle.iceoryx2_rounds.specs.declared.caller.Caller.{Caller}
+use Rattle.iceoryx2_rounds.specs.BuilderCalls.{BuilderCall, ErrorBy}
 use Rattle.iceoryx2_call_laws.specs.Headline.{IsOpenAsAsked}
 use Rattle.iceoryx2_call_laws.specs.OpensAgain.{StandsAsAsked, CanOpen, IsOkOrOutOfMemory}
 use Rattle.iceoryx2_call_laws.specs.Quiet.{Quiet, QuietService, Shows, no_service, service_at, times_counted}
@@ -166,7 +166,8 @@ NothingWithoutTicket = (w : World) (q : Quiet)
 
 -- Its services are listed, and nothing else.
 abbrev pub ListsItsServices : Type 0
-ListsItsServices = (w : World) (q : Quiet) (entries : List Entry) → Shows w q → Lists w entries → entries ≡ listing q
+ListsItsServices = (w : World) (q : Quiet) (entries : List ListedService) → Shows w q → Lists w entries
+    → entries ≡ listing q
 
 module _ {D E C : Type 0} (c : BuilderCall D E C) where
   -- A refused call changes nothing of any service,
@@ -179,7 +180,7 @@ module _ {D E C : Type 0} (c : BuilderCall D E C) where
   CarriesAsAsked = (w : World) (f g : Registered)
       → IsOpenAsAsked c w f → Stands w g → g.description.hash ≡ f.description.hash → StandsAsAsked c w g
 
-module _ {E C : Type 0} (m : Meaning E C) where
+module _ {E C : Type 0} (m : PatternRules E C) where
   -- A create and the close of its factory spend a number.
   abbrev pub CreateAndCloseSpend : Type 0
   CreateAndCloseSpend = (caller : Caller) (w v : World) (q z : Quiet) (r : Registered)

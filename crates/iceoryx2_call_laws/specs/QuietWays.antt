@@ -1,12 +1,12 @@
 -- Every call of a builder by the quiet machine.
 use Rattle.std.specs.Prelude.{◌≡◌, Some, None, Result}
 use Rattle.iceoryx2_access.specs.Registered.{Registered}
-use Rattle.iceoryx2_create_and_open.specs.Answers.{map_err}
-use Rattle.iceoryx2_open_or_create.specs.BuilderCalls.{BuilderCall, Way, ToCreate, ToOpen, ToOpenOrCreate, ErrorBy}
-use Rattle.iceoryx2_open_or_create.specs.BuilderCalls.{creating, opening, rounds_of}
-use Rattle.iceoryx2_open_or_create.specs.CallWords.{no_memory_by}
-use Rattle.iceoryx2_open_or_create.specs.declared.open_or_create.OpenOrCreateRefusal.{OpenOrCreateRefusal}
-use Rattle.iceoryx2_open_or_create.specs.declared.open_or_create.OpenOrCreateRefusal.TheVariants as refusal
+use Rattle.iceoryx2_rounds.specs.Answers.{map_err}
+use Rattle.iceoryx2_rounds.specs.BuilderCalls.{BuilderCall, Way, ToCreate, ToOpen, ToOpenOrCreate, ErrorBy}
+use Rattle.iceoryx2_rounds.specs.BuilderCalls.{creating, opening, rounds_of}
+use Rattle.iceoryx2_rounds.specs.CallWords.{no_memory_by}
+use Rattle.iceoryx2_rounds.specs.declared.open_or_create.OpenOrCreateRefusal.{OpenOrCreateRefusal}
+use Rattle.iceoryx2_rounds.specs.declared.open_or_create.OpenOrCreateRefusal.TheVariants as refusal
 use Rattle.iceoryx2_call_laws.specs.Quiet.{Quiet, QuietService, service_at}
 use Rattle.iceoryx2_call_laws.specs.QuietCalls.{Creates, Opens}
 use Rattle.iceoryx2_call_laws.specs.QuietPrepared.{PreparesFirstIf}

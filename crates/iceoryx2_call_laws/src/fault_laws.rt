@@ -4,11 +4,11 @@ ghost use Rattle.std.specs.Prelude.{List, Result};
 ghost use Rattle.iceoryx2_access.specs.Letter.{Letter};
 ghost use Rattle.iceoryx2_world.specs.Interference.{everyone};
 ghost use Rattle.iceoryx2_world.specs.Tables.{TableState, IsTableAccess};
-ghost use Rattle.iceoryx2_script.specs.Faults.{FaultyState, IsInjectedFault};
+ghost use Rattle.iceoryx2_testing.specs.Faults.{FaultyState, IsInjectedFault};
 ghost use Rattle.iceoryx2_access.specs.Registered.{Registered};
-ghost use Rattle.iceoryx2_create_and_open.specs.declared.caller.Caller.{Caller};
-ghost use Rattle.iceoryx2_pattern.specs.Meaning.{Meaning};
-ghost use Rattle.iceoryx2_open_or_create.specs.BuilderCalls.{BuilderCall};
+ghost use Rattle.iceoryx2_rounds.specs.declared.caller.Caller.{Caller};
+ghost use Rattle.iceoryx2_rounds.specs.PatternRules.{PatternRules};
+ghost use Rattle.iceoryx2_rounds.specs.BuilderCalls.{BuilderCall};
 ghost use Rattle.iceoryx2_call_laws.specs.Headline.{EachIsAsPromised, IsOpenUntilReleased};
 ghost use Rattle.iceoryx2_call_laws.specs.Laws.{FaultyRunsOverWorld};
 ghost use Rattle.iceoryx2_call_laws.specs.OverNoRow.{CreatesOverNoRow, AnswersOverNoRow};
@@ -45,7 +45,7 @@ pub fn agreement_under_faults<D, E: Copy, C: Copy>()
     // Where the service has no row, whatever segment earlier refusals left there, a create of which no access is
     // refused, over a table at which no batch waits, is Ok, or one of four things stops it. Adjusted settings
     // publish for one node or more.
-    ensures over_no_row { (m : Meaning E C) (caller : Caller)
+    ensures over_no_row { (m : PatternRules E C) (caller : Caller)
         (word : List Letter) (answer : Result Registered C) (s t : FaultyState TableState)
         → CreatesOverNoRow m caller s word answer t → AnswersOverNoRow m caller s.inner.world.counter answer }
 {}

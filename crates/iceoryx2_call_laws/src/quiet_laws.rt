@@ -1,11 +1,11 @@
 //! What the calls make of a table that nobody else uses.
 
-ghost use Rattle.iceoryx2_pattern.specs.Meaning.{Meaning};
-ghost use Rattle.iceoryx2_create_and_open.specs.OwnSettings.{AcceptsOwn};
-ghost use Rattle.iceoryx2_open_or_create.specs.Adjusting.{OnlyRaises};
-ghost use Rattle.iceoryx2_open_or_create.specs.BuilderCalls.{BuilderCall, creating};
-ghost use Rattle.iceoryx2_open_or_create.specs.CallWords.{IsWordOf};
-ghost use Rattle.iceoryx2_open_or_create.specs.LawfulCalls.{IsLawfulCall};
+ghost use Rattle.iceoryx2_rounds.specs.PatternRules.{PatternRules};
+ghost use Rattle.iceoryx2_rounds.specs.OwnSettings.{AcceptsOwn};
+ghost use Rattle.iceoryx2_rounds.specs.Adjusting.{OnlyRaises};
+ghost use Rattle.iceoryx2_rounds.specs.BuilderCalls.{BuilderCall, creating};
+ghost use Rattle.iceoryx2_rounds.specs.CallWords.{IsWordOf};
+ghost use Rattle.iceoryx2_rounds.specs.LawfulCalls.{IsLawfulCall};
 ghost use Rattle.iceoryx2_call_laws.specs.OpensAgain.{OpensOwnSettings, OpensAgain};
 ghost use Rattle.iceoryx2_call_laws.specs.QuietLaws.{EmptyShows, ClosesQuietly, TicketsHaveOpened, StandingHasService};
 ghost use Rattle.iceoryx2_call_laws.specs.QuietLaws.{CountsTickets, CountsTags, SameServicesHoldTheSame};
@@ -61,14 +61,14 @@ pub fn quiet_calls<D, E: Copy, C: Copy>()
     // What follows is said of calls that may prepare their types first; each call of the machine is one of these too.
     // A create and then the close of its factory leave nothing of that service and the rest as it
     // was, and one number is spent.
-    ensures create_and_close { (m : Meaning E C) → CreateAndCloseSpend m }
+    ensures create_and_close { (m : PatternRules E C) → CreateAndCloseSpend m }
 
     // A further factory of a node takes no further place.
-    ensures again { (m : Meaning E C) → TakesNoFurtherPlace m }
+    ensures again { (m : PatternRules E C) → TakesNoFurtherPlace m }
 
     // While a service stands that fits and that the requirement accepts, and a place and a number
     // are left, an open is Ok or out of memory.
-    ensures accepted { (m : Meaning E C) → OpensWhatItCan m }
+    ensures accepted { (m : PatternRules E C) → OpensWhatItCan m }
 
     // Where a factory is open as its call asked, each standing one of its service, whosever it is, carries the same.
     ensures stands_as_asked { (c : BuilderCall D E C) → CarriesAsAsked c }

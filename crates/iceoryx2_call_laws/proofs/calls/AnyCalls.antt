@@ -4,21 +4,21 @@ use Rattle.iceoryx2_description.specs.Description.{Description}
 use Rattle.iceoryx2_access.specs.Registered.{Registered}
 use Rattle.iceoryx2_access.specs.Letter.{Letter}
 use Rattle.iceoryx2_access.specs.Run.{Each}
-use Rattle.iceoryx2_create_and_open.specs.Prepared.{IsPrepared, prepared}
-use Rattle.iceoryx2_create_and_open.proofs.Prepared.{granted_call}
-use Rattle.iceoryx2_create_and_open.proofs.Carried.{created_carries, opened_carries}
-use Rattle.iceoryx2_create_and_open.proofs.Counts.{create_call_within, open_call_within}
-use Rattle.iceoryx2_create_and_open.proofs.Kept.{refused_create_call_keeps, created_keeps, refused_open_call_keeps, opened_keeps}
-use Rattle.iceoryx2_open_or_create.specs.Adjusting.{MeetsOrHolds, meets, holds}
-use Rattle.iceoryx2_open_or_create.specs.Grants.{Carries, accepted, published}
-use Rattle.iceoryx2_open_or_create.specs.BuilderCalls.{BuilderCall, ErrorBy, Way, ToCreate, ToOpen, ToOpenOrCreate, creating, opening}
-use Rattle.iceoryx2_open_or_create.specs.CallWords.{PreparedIf, IsWordBy}
-use Rattle.iceoryx2_open_or_create.specs.Leaves.{GivesBackByRounds, no_round, one_more, KeepsInTheEnd}
-use Rattle.iceoryx2_open_or_create.proofs.Adjusting.{carries_once}
-use Rattle.iceoryx2_open_or_create.proofs.Counts.{open_or_create_call_within}
-use Rattle.iceoryx2_open_or_create.proofs.Granted.{granted_carries, carries_prepared}
-use Rattle.iceoryx2_open_or_create.proofs.Left.{tags_back, granted_keeps, refused_call_gives_back}
-use Rattle.iceoryx2_call_laws.specs.AnyCalls.{Meets, Holds, MayCarryBy}
+use Rattle.iceoryx2_rounds.specs.Prepared.{IsPrepared, prepared}
+use Rattle.iceoryx2_rounds.proofs.Prepared.{granted_call}
+use Rattle.iceoryx2_rounds.proofs.Carried.{created_carries, opened_carries}
+use Rattle.iceoryx2_rounds.proofs.Counts.{create_call_within, open_call_within}
+use Rattle.iceoryx2_rounds.proofs.Kept.{refused_create_call_keeps, created_keeps, refused_open_call_keeps, opened_keeps}
+use Rattle.iceoryx2_rounds.specs.Adjusting.{MeetsOrHolds, meets, holds}
+use Rattle.iceoryx2_rounds.specs.Grants.{Carries, accepted, published}
+use Rattle.iceoryx2_rounds.specs.BuilderCalls.{BuilderCall, ErrorBy, Way, ToCreate, ToOpen, ToOpenOrCreate, creating, opening}
+use Rattle.iceoryx2_rounds.specs.CallWords.{PreparedIf, IsWordBy}
+use Rattle.iceoryx2_rounds.specs.Leaves.{GivesBackByRounds, no_round, one_more, KeepsInTheEnd}
+use Rattle.iceoryx2_rounds.proofs.Adjusting.{carries_once}
+use Rattle.iceoryx2_rounds.proofs.RetriedCounts.{open_or_create_call_within}
+use Rattle.iceoryx2_rounds.proofs.Granted.{granted_carries, carries_prepared}
+use Rattle.iceoryx2_rounds.proofs.Left.{tags_back, granted_keeps, refused_call_gives_back}
+use Rattle.iceoryx2_call_laws.specs.AnyCalls.{Meets, IsAsPublished, MayCarryBy}
 use Rattle.iceoryx2_call_laws.specs.Laws.{EachIsShort}
 use Rattle.iceoryx2_call_laws.proofs.calls.Granted.{EachGives, created_gives, opened_gives, granted_gives}
 use Rattle.iceoryx2_call_laws.proofs.calls.Tracked.{rounds_back_letters, in_the_end_letters}
@@ -71,7 +71,7 @@ module _ {D E C : Type 0} (c : BuilderCall D E C) where
   carries_hash (accepted is same a) = same
   carries_hash (published is) = refl
 
-  carried : {d : Description} → MeetsOrHolds c d → Meets c d ⊎ Holds c d
+  carried : {d : Description} → MeetsOrHolds c d → Meets c d ⊎ IsAsPublished c d
   carried (meets same accepts) = inl (record { hash = same; accepted = accepts })
   carried holds = inr refl
 

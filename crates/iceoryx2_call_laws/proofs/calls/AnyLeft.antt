@@ -1,8 +1,8 @@
 -- What any call changes and leaves.
 use Rattle.std.proofs.Common.{ℕ, Bool, Ok, Err}
-use Rattle.iceoryx2_create_and_open.proofs.Kept.{refused_create_call_keeps, refused_open_call_keeps}
-use Rattle.iceoryx2_open_or_create.proofs.Left.{refused_call_gives_back}
-use Rattle.iceoryx2_open_or_create.specs.BuilderCalls.{BuilderCall, Way, ToCreate, ToOpen, ToOpenOrCreate}
+use Rattle.iceoryx2_rounds.proofs.Kept.{refused_create_call_keeps, refused_open_call_keeps}
+use Rattle.iceoryx2_rounds.proofs.Left.{refused_call_gives_back}
+use Rattle.iceoryx2_rounds.specs.BuilderCalls.{BuilderCall, Way, ToCreate, ToOpen, ToOpenOrCreate}
 use Rattle.iceoryx2_call_laws.specs.Laws.{AddsItsTicket, RefusesCalmly, GrantsAtLast, LeavesWhatIsRefused, GivesEverythingBack}
 use Rattle.iceoryx2_call_laws.proofs.calls.AnyCalls.{may_prepare, refused_rounds, granted_in_the_end, any_gives}
 use Rattle.iceoryx2_call_laws.proofs.calls.Calm.{calm_at_each, changes_in_the_end}

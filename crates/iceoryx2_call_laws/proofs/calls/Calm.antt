@@ -13,8 +13,8 @@ use Rattle.iceoryx2_world.proofs.agreement.Parts.{locking}
 use Rattle.iceoryx2_world.proofs.agreement.Accesses.{faulty_keeps, granted}
 use Rattle.iceoryx2_world.proofs.agreement.Calm.{own_calmed, own_unlocks, publishing_counts, joining_counts, Tame, ends, goes, locks, unlocks, WhileLocked, locked_now, tame_both}
 use Rattle.iceoryx2_call_laws.specs.Calls.{AtEach, ActsCalmly, ChangesLast}
-use Rattle.iceoryx2_open_or_create.specs.Leaves.{KeepsInTheEnd}
-use Rattle.iceoryx2_open_or_create.proofs.Left.{tags_back}
+use Rattle.iceoryx2_rounds.specs.Leaves.{KeepsInTheEnd}
+use Rattle.iceoryx2_rounds.proofs.Left.{tags_back}
 use Rattle.iceoryx2_call_laws.proofs.calls.Tracked.{front_tame, rounds_back_tame}
 
 -- the lock stays with its node

@@ -32,7 +32,7 @@ use Rattle.iceoryx2_world.proofs.agreement.Accesses.{joined_means, later_trans, 
 use Rattle.iceoryx2_world.proofs.agreement.Stands.{own_row, own_phase, own_segment}
 use Rattle.iceoryx2_world.proofs.agreement.Granted.{tag_granted, segment_granted, description_granted, MayClear, MayEnd}
 use Rattle.iceoryx2_world.proofs.agreement.Closing.{released_as, tag_removed_phase, segment_removed_phase}
-use Rattle.iceoryx2_port_factory.specs.Closes.{not_here, still_counted, left, last as last_left}
+use Rattle.iceoryx2_rounds.specs.Closes.{not_here, still_counted, left, last as last_left}
 use Rattle.iceoryx2_call_laws.specs.Laws.{CloseLeavesWhatIsRefused}
 use Rattle.iceoryx2_call_laws.specs.CloseLeaves.{tags_without, SegmentAfter, RowAfter, last_phase, phase_after, counts_less, leaves_others, leaves_nobody}
 use Rattle.iceoryx2_call_laws.proofs.calls.Plain.{step_tags}

@@ -13,7 +13,7 @@ use Rattle.iceoryx2_world.proofs.agreement.Granted.{release_granted, MayClear, M
 use Rattle.iceoryx2_world.proofs.agreement.Accesses.{access_keeps, unrefused, unrefused_run}
 use Rattle.iceoryx2_world.proofs.agreement.Closing.{released_last, tag_removed_phase, segment_removed_phase}
 use Rattle.iceoryx2_access.specs.Registered.{Registered}
-use Rattle.iceoryx2_port_factory.specs.Closes.{IsCloseWord, first_refused, not_here, still_counted, left, last as last_left}
+use Rattle.iceoryx2_rounds.specs.Closes.{IsCloseWord, first_refused, not_here, still_counted, left, last as last_left}
 use Rattle.iceoryx2_call_laws.specs.Laws.{ClosesWhatStands}
 use Rattle.iceoryx2_call_laws.specs.Tickets.{CloseAnswer}
 use Rattle.iceoryx2_call_laws.proofs.calls.Removals.{tag_ok, segment_ok, description_ok}

@@ -16,14 +16,14 @@ use Rattle.iceoryx2_world.specs.Standing.{Stands, ticket_for}
 use Rattle.iceoryx2_world.proofs.agreement.Accesses.{faulty_keeps, run_keeps}
 use Rattle.iceoryx2_world.proofs.agreement.Calm.{Tame, ends, goes, locks}
 use Rattle.iceoryx2_world.proofs.agreement.Stands.{created_stands, found_stands}
-use Rattle.iceoryx2_pattern.specs.Meaning.{Meaning}
-use Rattle.iceoryx2_create_and_open.specs.Creates.{IsServiceWord, IsCreating, made, published}
-use Rattle.iceoryx2_create_and_open.specs.Looks.{fetched, fits}
-use Rattle.iceoryx2_create_and_open.specs.Opens as opens
-use Rattle.iceoryx2_create_and_open.specs.Opens.{ready, IsLastRound, IsOpenWord}
-use Rattle.iceoryx2_open_or_create.specs.BuilderCalls.{BuilderCall}
-use Rattle.iceoryx2_open_or_create.specs.OpenOrCreates.{IsLastTurn, opened, created, IsOpenOrCreateWord, ended}
-use Rattle.iceoryx2_open_or_create.proofs.Left.{turns_give_back}
+use Rattle.iceoryx2_rounds.specs.PatternRules.{PatternRules}
+use Rattle.iceoryx2_rounds.specs.Creates.{IsServiceWord, IsCreating, made, published}
+use Rattle.iceoryx2_rounds.specs.Looks.{fetched, fits}
+use Rattle.iceoryx2_rounds.specs.Opens as opens
+use Rattle.iceoryx2_rounds.specs.Opens.{ready, IsLastRound, IsOpenWord}
+use Rattle.iceoryx2_rounds.specs.BuilderCalls.{BuilderCall}
+use Rattle.iceoryx2_rounds.specs.OpenOrCreates.{IsLastAttempt, opened, created, IsOpenOrCreateWord, ended}
+use Rattle.iceoryx2_rounds.proofs.Left.{turns_give_back}
 use Rattle.iceoryx2_call_laws.proofs.calls.Tickets.{tame_tickets, publish_tickets, opening_tickets, given_ticket, then_put}
 use Rattle.iceoryx2_call_laws.proofs.calls.Tracked.{making_tame, look_tame, entry_tame, rounds_tame, rounds_back_tame}
 
@@ -50,7 +50,7 @@ module _ {own : ℕ → Bool} {node : ℕ} {hash : ServiceHash} where
         tickets = then_put w parts.mid v r.ticket (ticket_for r) (tame_tickets tame parts.first old) g.tickets;
       }
 
-module _ {own : ℕ → Bool} {E C : Type 0} {m : Meaning E C} {node : ℕ} {hash : ServiceHash} where
+module _ {own : ℕ → Bool} {E C : Type 0} {m : PatternRules E C} {node : ℕ} {hash : ServiceHash} where
   service_gives : {d : Description} {tag : Tag} {word : List Letter} {r : Registered} → IsServiceWord m node hash d tag word (Ok r) → EachGives own word r
   service_gives {d} (published {v = y} n t segment) w v run old =
       let new = created_stands w v node hash n d t y run old in
@@ -83,7 +83,7 @@ module _ {own : ℕ → Bool} {E C : Type 0} {m : Meaning E C} {node : ℕ} {has
   opened_gives (opens.ended small before l) = then_gives (rounds_tame before) (round_gives l)
 
 module _ {own : ℕ → Bool} {D E C : Type 0} {c : BuilderCall D E C} where
-  turn_gives : {word : List Letter} {r : Registered} → IsLastTurn c word (Ok r) → EachGives own word r
+  turn_gives : {word : List Letter} {r : Registered} → IsLastAttempt c word (Ok r) → EachGives own word r
   turn_gives (opened l o) = then_gives (look_tame l) (opened_gives o)
   turn_gives (created l m) = then_gives (look_tame l) (created_gives m)
 

@@ -4,8 +4,8 @@ use Rattle.std.specs.Prelude.{IfOk}
 use Rattle.iceoryx2_access.proofs.Run.{one, last, run_map}
 use Rattle.iceoryx2_world.proofs.Waiting.{table_access, refusable_access}
 use Rattle.iceoryx2_world.specs.Tables.{TableState, IsTableAccess}
-use Rattle.iceoryx2_script.specs.Faults.{FaultyState, IsInjectedFault}
-use Rattle.iceoryx2_script.proofs.Runs.{refusable}
+use Rattle.iceoryx2_testing.specs.Faults.{FaultyState, IsInjectedFault}
+use Rattle.iceoryx2_testing.proofs.ScriptRuns.{refusable}
 use Rattle.iceoryx2_access.specs.Registered.{Registered}
 use Rattle.iceoryx2_access.specs.Letter.{Letter}
 use Rattle.iceoryx2_access.specs.MayRefuse.{MayRefuse}
@@ -19,8 +19,8 @@ use Rattle.iceoryx2_world.specs.Standing.{Spares, Stands}
 use Rattle.iceoryx2_world.proofs.agreement.Accesses.{faulty_keeps, run_keeps, unrefused, unrefused_run}
 use Rattle.iceoryx2_world.proofs.agreement.Stands.{faulty_stands, older_ticket}
 use Rattle.iceoryx2_call_laws.specs.Calls.{Throughout}
-use Rattle.iceoryx2_open_or_create.specs.BuilderCalls.{BuilderCall, ErrorBy}
-use Rattle.iceoryx2_open_or_create.specs.CallWords.{IsWordOf}
+use Rattle.iceoryx2_rounds.specs.BuilderCalls.{BuilderCall, ErrorBy}
+use Rattle.iceoryx2_rounds.specs.CallWords.{IsWordOf}
 use Rattle.iceoryx2_call_laws.specs.Laws.{RunsOverWorld, FaultyRunsOverWorld}
 use Rattle.iceoryx2_call_laws.specs.Headline.{IsOpen, IsOpenSince, IsOpenUntilReleased, IsGiven, EachIsAsPromised, answered, spared, inside, same_world}
 use Rattle.iceoryx2_call_laws.proofs.calls.Words.{throughout, all_spared}

@@ -38,8 +38,8 @@ use Rattle.iceoryx2_world.proofs.agreement.Accesses.{own_keeps, access_keeps, fa
 use Rattle.iceoryx2_world.proofs.agreement.Granted.{MayClear, MayEnd}
 use Rattle.iceoryx2_world.proofs.agreement.Spent.{world_segment, spent_own}
 use Rattle.iceoryx2_world.proofs.agreement.Stands.{own_row, own_phase, own_segment}
-use Rattle.iceoryx2_create_and_open.specs.GivesBack.{MadeByCall, OwnTag, OwnLock, OwnSegment, own_tag, GivesBack, nothing_left, segment_back, lock_back, tag_back}
-use Rattle.iceoryx2_create_and_open.specs.Fronts.{made, number_got, left_by, left_after, is_left, GivesAllBack, GivesTagsBack, no_round, one_more}
+use Rattle.iceoryx2_rounds.specs.GivesBack.{Owned, OwnTag, OwnLock, OwnSegment, own_tag, GivesBack, nothing_left, segment_back, lock_back, tag_back}
+use Rattle.iceoryx2_rounds.specs.Fronts.{made, number_got, left_by, left_after, is_left, GivesAllBack, GivesTagsBack, no_round, one_more}
 use Rattle.iceoryx2_call_laws.specs.CallLeaves.{LeavesAtMostTag}
 use Rattle.iceoryx2_call_laws.specs.Leaves.{IsGranted, HasAtMostRead, NodeHasRead, Leaves, LeavesOfLock, LeavesGivenBack, LeavesNothing, IsGone, StaysAway, SpendsNumber, tags_after}
 use Rattle.iceoryx2_call_laws.proofs.calls.Tracked.{Front, ends, idles, makes_tag, locks, makes_segment, clears, MadeInOrder, up_to_tag, up_to_lock, up_to_segment, has_lock, no_lock, if_locked, each_removal, read_front, facts, all_got}
@@ -54,12 +54,12 @@ data OwnedLock : Type 0 where
   Gone : (number : ℕ) (has_segment : Bool) → OwnedLock
 
 -- where it is once it has made this, and whether there is a tag that it made then
-abbrev lock_in : ℕ → List MadeByCall → OwnedLock
+abbrev lock_in : ℕ → List Owned → OwnedLock
 lock_in n (OwnLock ∷ owned) = Held n false
 lock_in n (OwnSegment ∷ owned) = Held n true
 lock_in n _ = NoLock
 
-abbrev tag_in : (was_left : Bool) → List MadeByCall → Bool
+abbrev tag_in : (was_left : Bool) → List Owned → Bool
 tag_in was_left [] = was_left
 tag_in was_left (OwnTag ∷ owned) = true
 tag_in was_left (_ ∷ owned) = tag_in was_left owned
@@ -69,7 +69,7 @@ abbrev given_back : ℕ → (is_lock_left is_segment_left : Bool) → OwnedLock
 given_back n true l = Held n l
 given_back n false l = Gone n l
 
-abbrev lock_after : Option ℕ → (MadeByCall → Bool) → OwnedLock
+abbrev lock_after : Option ℕ → (Owned → Bool) → OwnedLock
 lock_after None left = NoLock
 lock_after (Some n) left = given_back n (left OwnLock) (left OwnSegment)
 
@@ -346,7 +346,7 @@ module _ (own : ℕ → Bool) (node : ℕ) (mine : own node ≡ true) (hash : Se
       kept_plain own node mine hash t (Held n false) u (letter.RemoveSegment node hash (Err e)) v tt z (faulty_keeps w first u x old).0 (kept_plain own node mine hash t (Held n false) w first u tt x old h)
 
   -- What a front has made of the world,
-  kept_front : (left : Bool) {n : ℕ} {a b : List MadeByCall} {word : List Letter} {w v : World} → Front node hash n a word b → Run (IsFallibleUnder own) w word v → Agrees w → Kept own node hash start (tag_in left a) (lock_in n a) w → Kept own node hash start (tag_in left b) (lock_in n b) v
+  kept_front : (left : Bool) {n : ℕ} {a b : List Owned} {word : List Letter} {w v : World} → Front node hash n a word b → Run (IsFallibleUnder own) w word v → Agrees w → Kept own node hash start (tag_in left a) (lock_in n a) w → Kept own node hash start (tag_in left b) (lock_in n b) v
   kept_front left ends done old h = h
   kept_front left {n} {a = a} {w = w} (idles {l = l} is p) (next {mid = mid} x rest) old h =
       kept_front left p rest (faulty_keeps w l mid x old).0 (kept_plain own node mine hash (tag_in left a) (lock_in n a) w l mid is.plain x old h)
@@ -362,7 +362,7 @@ module _ (own : ℕ → Bool) (node : ℕ) (mine : own node ≡ true) (hash : Se
       kept_front left p rest (faulty_keeps mid (letter.RemoveSegment node hash answer) last z (faulty_keeps w (letter.MakeSegment node hash n m (Err make.AlreadyExists)) mid x old).0).0 (other_cleared (tag_in left (own_tag tag)) n m answer w mid last x z old h)
 
   -- and a back.
-  kept_back : (left : Bool) (n : ℕ) {owned : List MadeByCall} {word : List Letter} {w v : World} → MadeInOrder owned → GivesBack node hash owned word → Run (IsFallibleUnder own) w word v → Agrees w → Kept own node hash start (tag_in left owned) (lock_in n owned) w
+  kept_back : (left : Bool) (n : ℕ) {owned : List Owned} {word : List Letter} {w v : World} → MadeInOrder owned → GivesBack node hash owned word → Run (IsFallibleUnder own) w word v → Agrees w → Kept own node hash start (tag_in left owned) (lock_in n owned) w
       → Kept own node hash start (left_after left word OwnTag) (lock_after (if_locked n (has_lock owned)) (is_left word)) v
   kept_back left n {w = w} (up_to_tag Made) (tag_back a nothing_left) (next {mid = u} x done) old h = untagged NoLock a w u x old h
   kept_back left n (up_to_tag Found) nothing_left done old h = h
@@ -383,7 +383,7 @@ module _ (own : ℕ → Bool) (node : ℕ) (mine : own node ≡ true) (hash : Se
       kept_back left g.number ((facts front).in_order (up_to_tag Found)) g.gives_back parts.second (run_keeps parts.first old).0 (kept_front left front parts.first old h)
 
 -- what is left after one word and then another
-left_both : (left : Bool) (u v : List Letter) (thing : MadeByCall) → left_after left (u ++ v) thing ≡ left_after (left_after left u thing) v thing
+left_both : (left : Bool) (u v : List Letter) (thing : Owned) → left_after left (u ++ v) thing ≡ left_after (left_after left u thing) v thing
 left_both left [] v thing = refl
 left_both left (l ∷ u) v thing = left_both (left_by thing l left) u v thing
 
@@ -403,7 +403,7 @@ module _ (node : ℕ) (hash : ServiceHash) where
     segment = holds.1;
   }
 
-  lock_left : (got : Option ℕ) (left : MadeByCall → Bool) (w v : World) → Agrees v → IsAt (lock_after got left) (phase_of w (Node node) hash) (phase_of v (Node node) hash) → HoldsLock node hash (lock_after got left) v → LeavesOfLock node hash got left w v
+  lock_left : (got : Option ℕ) (left : Owned → Bool) (w v : World) → Agrees v → IsAt (lock_after got left) (phase_of w (Node node) hash) (phase_of v (Node node) hash) → HoldsLock node hash (lock_after got left) v → LeavesOfLock node hash got left w v
   lock_left None left w v new phase holds = phase
   lock_left (Some n) left w v new phase holds = given_left n (left OwnLock) (left OwnSegment) w v new phase holds
 
@@ -412,7 +412,7 @@ module _ (node : ℕ) (hash : ServiceHash) where
   gone_of n false b v e holds = holds
   gone_of n true b v e holds = absurd (cc)
 
-  away : (got : Option ℕ) (left : MadeByCall → Bool) (v : World) → HoldsLock node hash (lock_after got left) v → StaysAway node hash got left v
+  away : (got : Option ℕ) (left : Owned → Bool) (v : World) → HoldsLock node hash (lock_after got left) v → StaysAway node hash got left v
   away None left v holds = tt
   away (Some n) left v holds = λ e. gone_of n (left OwnLock) (left OwnSegment) v e holds
 
@@ -462,7 +462,7 @@ may_end (at.Made m) n l = tt
 may_end _ n l = absurd (cc)
 
 module _ (own : ℕ → Bool) (node : ℕ) (mine : own node ≡ true) (hash : ServiceHash) where
-  granted_front : {start : World} (left : Bool) {n : ℕ} {a b : List MadeByCall} {word : List Letter} {w v : World} → Front node hash n a word b → Run (IsAccessUnder own) w word v → Agrees w → Kept own node hash start (tag_in left a) (lock_in n a) w → Each IsGranted word
+  granted_front : {start : World} (left : Bool) {n : ℕ} {a b : List Owned} {word : List Letter} {w v : World} → Front node hash n a word b → Run (IsAccessUnder own) w word v → Agrees w → Kept own node hash start (tag_in left a) (lock_in n a) w → Each IsGranted word
   granted_front left ends done old h = tt
   granted_front left {n} {a = a} {w = w} (idles {l = l} is p) (next {mid = mid} x rest) old h =
       (is.granted, granted_front left p rest (access_keeps w l mid x old).0 (kept_plain own node mine hash (tag_in left a) (lock_in n a) w l mid is.plain (unrefused x) old h))
@@ -481,7 +481,7 @@ module _ (own : ℕ → Bool) (node : ℕ) (mine : own node ≡ true) (hash : Se
       let now = kept_plain own node mine hash t (Held n false) w first mid tt (unrefused x) old h in
       (tt, (segment_ok mid last node hash answer mine old_2 (may_clear _ n now.holds.0) z, granted_front left p rest (access_keeps mid (letter.RemoveSegment node hash answer) last z old_2).0 (other_cleared own node mine hash t n m answer w mid last (unrefused x) (unrefused z) old h)))
 
-  granted_back : {start : World} (left : Bool) (n : ℕ) {owned : List MadeByCall} {word : List Letter} {w v : World} → MadeInOrder owned → GivesBack node hash owned word → Run (IsAccessUnder own) w word v → Agrees w → Kept own node hash start (tag_in left owned) (lock_in n owned) w → Each IsGranted word
+  granted_back : {start : World} (left : Bool) (n : ℕ) {owned : List Owned} {word : List Letter} {w v : World} → MadeInOrder owned → GivesBack node hash owned word → Run (IsAccessUnder own) w word v → Agrees w → Kept own node hash start (tag_in left owned) (lock_in n owned) w → Each IsGranted word
   granted_back left n {w = w} (up_to_tag Made) (tag_back a nothing_left) (next {mid = u} x done) old h = (tag_ok w u node hash a x, tt)
   granted_back left n (up_to_tag Found) nothing_left done old h = tt
   granted_back left n {w = w} (up_to_lock Found) (lock_back a nothing_left) (next {mid = u} x done) old h = (description_ok w u node hash a mine old (may_end _ n h.holds.0) x, tt)
@@ -494,7 +494,7 @@ module _ (own : ℕ → Bool) (node : ℕ) (mine : own node ≡ true) (hash : Se
       (segment_ok w u node hash a mine old (may_clear _ n h.holds.0) x, (description_ok u v node hash b mine (access_keeps w (letter.RemoveSegment node hash a) u x old).0 (may_end _ n now.holds.0) y, (tag_ok v last node hash c z, tt)))
 
 -- where each removal is granted nothing is left
-granted_by : (thing : MadeByCall) (l : Letter) → IsGranted l → (left : Bool) → left ≡ false → left_by thing l left ≡ false
+granted_by : (thing : Owned) (l : Letter) → IsGranted l → (left : Bool) → left ≡ false → left_by thing l left ≡ false
 granted_by OwnTag (letter.RemoveTag i h a) is left e = ap is_err is
 granted_by OwnLock (letter.RemoveDescription i h a) is left e = ap is_err is
 granted_by OwnSegment (letter.RemoveSegment i h a) is left e = ap is_err is
@@ -502,12 +502,12 @@ granted_by OwnTag _ is left e = e
 granted_by OwnLock _ is left e = e
 granted_by OwnSegment _ is left e = e
 
-none_left : (thing : MadeByCall) (word : List Letter) (left : Bool) → Each IsGranted word → left ≡ false → left_after left word thing ≡ false
+none_left : (thing : Owned) (word : List Letter) (left : Bool) → Each IsGranted word → left ≡ false → left_after left word thing ≡ false
 none_left thing [] left each e = e
 none_left thing (l ∷ word) left each e = none_left thing word (left_by thing l left) each.1 (granted_by thing l each.0 left e)
 
 -- what is known of the lock where nothing is left
-none_of_lock : (node : ℕ) (hash : ServiceHash) (got : Option ℕ) (left : MadeByCall → Bool) (w v : World) → left OwnLock ≡ false → left OwnSegment ≡ false → LeavesOfLock node hash got left w v → NodeHasRead node hash w v × ((n : ℕ) → got ≡ Some n → IsSpent v hash n)
+none_of_lock : (node : ℕ) (hash : ServiceHash) (got : Option ℕ) (left : Owned → Bool) (w v : World) → left OwnLock ≡ false → left OwnSegment ≡ false → LeavesOfLock node hash got left w v → NodeHasRead node hash w v × ((n : ℕ) → got ≡ Some n → IsSpent v hash n)
 none_of_lock node hash None left w v e f is = (is, λ n some. absurd (cc))
 none_of_lock node hash (Some m) left w v e f is = (inr (is.begun, (is.unlocked e).0), λ n some. subst (IsSpent v hash) (cc) (record { below = is.below; row = (is.unlocked e).1; segment = is.segment f }))
 
@@ -521,7 +521,7 @@ gives_all_back own node mine hash {word = word} {w = w} {v = v} g run old =
     let granted_first = granted_front own node mine hash false front parts.first old begun in
     let granted_then = granted_back own node mine hash false g.number ((facts front).in_order (up_to_tag Found)) g.gives_back parts.second (run_keeps (unrefused_run parts.first) old).0 at_back in
     let left = gives_back own node mine hash g (unrefused_run run) old in
-    let none = λ (thing : MadeByCall). none_left thing g.back false granted_then refl in
+    let none = λ (thing : Owned). none_left thing g.back false granted_then refl in
     let o = none_of_lock node hash (number_got word) (is_left g.back) w v (none OwnLock) (none OwnSegment) left.of_lock in
     let all = λ (P : Letter → Type 0) (first : Each P g.front) (then : Each P g.back). subst (Each P) (sym g.in_order) (each_append P g.front g.back first then) in (
       all IsGranted granted_first granted_then,

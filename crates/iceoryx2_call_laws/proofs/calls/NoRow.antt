@@ -24,17 +24,17 @@ use Rattle.iceoryx2_world.specs.Agreement.{AgreesAt}
 use Rattle.iceoryx2_world.specs.Across.{Agrees}
 use Rattle.iceoryx2_world.specs.Access.{NodeView, node_view, node_view_after, IsOwnPart}
 use Rattle.iceoryx2_world.proofs.agreement.Whole.{own_hash}
-use Rattle.iceoryx2_pattern.specs.declared.pattern.CreateRefusal.{CreateRefusal}
-use Rattle.iceoryx2_pattern.specs.declared.pattern.CreateRefusal.TheVariants as refusal
-use Rattle.iceoryx2_pattern.specs.Meaning.{Meaning}
-use Rattle.iceoryx2_create_and_open.specs.Refusals.{of_lock, of_publish}
-use Rattle.iceoryx2_create_and_open.proofs.MakeSteps.{not_there, without_memory}
-use Rattle.iceoryx2_create_and_open.specs.Segments.{IsSegmentWord, clearings}
-use Rattle.iceoryx2_create_and_open.specs.Segments as segment
-use Rattle.iceoryx2_create_and_open.specs.Creates.{IsEntryWord, IsServiceWord, IsCreating, IsCreateWord, clock_stops, description_of, time_of}
-use Rattle.iceoryx2_create_and_open.specs.Creates as create
-use Rattle.iceoryx2_create_and_open.specs.Prepared.{unprepared, prepared, IsCreateCall}
-use Rattle.iceoryx2_create_and_open.specs.declared.caller.Caller.{Caller}
+use Rattle.iceoryx2_rounds.specs.declared.pattern.CreateRefusal.{CreateRefusal}
+use Rattle.iceoryx2_rounds.specs.declared.pattern.CreateRefusal.TheVariants as refusal
+use Rattle.iceoryx2_rounds.specs.PatternRules.{PatternRules}
+use Rattle.iceoryx2_rounds.specs.Refusals.{of_lock, of_publish}
+use Rattle.iceoryx2_rounds.proofs.MakeSteps.{not_there, without_memory}
+use Rattle.iceoryx2_rounds.specs.Segments.{IsSegmentWord, clearings}
+use Rattle.iceoryx2_rounds.specs.Segments as segment
+use Rattle.iceoryx2_rounds.specs.Creates.{IsEntryWord, IsServiceWord, IsCreating, IsCreateWord, clock_stops, description_of, time_of}
+use Rattle.iceoryx2_rounds.specs.Creates as create
+use Rattle.iceoryx2_rounds.specs.Prepared.{unprepared, prepared, IsCreateCall}
+use Rattle.iceoryx2_rounds.specs.declared.caller.Caller.{Caller}
 use Rattle.iceoryx2_call_laws.specs.OverNoRow.{AnswersOverNoRow, made, forbidden, no_time, no_number, no_memory}
 use Rattle.iceoryx2_call_laws.proofs.quiet.NodeViews.{AtNode, move_all}
 use Rattle.iceoryx2_call_laws.proofs.quiet.Here.{create_here}
@@ -85,7 +85,7 @@ module _ (i : ℕ) (h : ServiceHash) where
   any_part n m c k None positive is r = segment_part i h n m c k positive is r
   any_part n m c k (Some y) positive is r = left_part n m c k y positive is r
 
-module _ {E C : Type 0} (m : Meaning E C) (caller : Caller) (x : Phase) (s : Option Segment) (c : ℕ) (k : Tickets) (b : begins x ≡ true) where
+module _ {E C : Type 0} (m : PatternRules E C) (caller : Caller) (x : Phase) (s : Option Segment) (c : ℕ) (k : Tickets) (b : begins x ≡ true) where
   abbrev i : ℕ
   i = caller.node
 
@@ -105,7 +105,7 @@ module _ {E C : Type 0} (m : Meaning E C) (caller : Caller) (x : Phase) (s : Opt
   answers is = subst (λ z. Answers (Err (m.create_refusal z))) (sym is) no_memory
 
   module _ (positive : nat_lt 0 (max_nodes_of d.pattern) ≡ true) where
-    serving : {tag : Tag} {a : Result Registered C} {w : List Letter} {t : NodeView} → m.history_refusal ≡ None → stops ≡ false → IsServiceWord m i h d tag w a → Run (AtNode i h) (over x s c true k) w t → Answers a
+    serving : {tag : Tag} {a : Result Registered C} {w : List Letter} {t : NodeView} → m.settings_refusal ≡ None → stops ≡ false → IsServiceWord m i h d tag w a → Run (AtNode i h) (over x s c true k) w t → Answers a
     serving fits runs (create.not_locked z g) r =
         let f = head r in
         elim (lock_refused i h (lock_over i h x s c k _ _ b f.first)) [
@@ -141,7 +141,7 @@ module _ {E C : Type 0} (m : Meaning E C) (caller : Caller) (x : Phase) (s : Opt
         let p = split u _ r in
         serving fits runs is (from (entry_made m i h (entry m i h x s c g k b e p.first)).1 p.second)
 
-module _ {E C : Type 0} (m : Meaning E C) (caller : Caller) where
+module _ {E C : Type 0} (m : PatternRules E C) (caller : Caller) where
   -- In the world, also where the types are prepared first.
   pub create_over_no_row : {word : List Letter} {answer : Result Registered C} {w v : World} → 0 < max_nodes_of (m.published (time_of caller.clock)) → Agrees w → row_of w caller.hash ≡ None → IsCreateCall m caller word answer → Run IsOwnPart w word v → AnswersOverNoRow m caller w.counter answer
   create_over_no_row room old gone unprepared run = no_memory

@@ -5,22 +5,22 @@ use Rattle.iceoryx2_description.specs.Description.{Description}
 use Rattle.iceoryx2_access.specs.Letter.{Letter}
 use Rattle.iceoryx2_access.specs.MayRefuse.{MayRefuse}
 use Rattle.iceoryx2_access.specs.Registered.{Registered}
-use Rattle.iceoryx2_open_or_create.specs.Adjusting.{OnlyRaises, MeetsOrHolds, meets, holds}
-use Rattle.iceoryx2_open_or_create.specs.BuilderCalls.{BuilderCall, ErrorBy, Way, ToCreate, ToOpen, ToOpenOrCreate}
-use Rattle.iceoryx2_open_or_create.specs.LawfulCalls.{IsLawfulCall}
-use Rattle.iceoryx2_script.specs.Faults.{IsInjectedFault}
+use Rattle.iceoryx2_rounds.specs.Adjusting.{OnlyRaises, MeetsOrHolds, meets, holds}
+use Rattle.iceoryx2_rounds.specs.BuilderCalls.{BuilderCall, ErrorBy, Way, ToCreate, ToOpen, ToOpenOrCreate}
+use Rattle.iceoryx2_rounds.specs.LawfulCalls.{IsLawfulCall}
+use Rattle.iceoryx2_testing.specs.Faults.{IsInjectedFault}
 use Rattle.iceoryx2_world.specs.World.{World}
 use Rattle.iceoryx2_world.specs.Access.{IsOwnPart}
 use Rattle.iceoryx2_world.specs.Interference.{Others, After, IsFallibleUnder, everyone}
 use Rattle.iceoryx2_world.proofs.agreement.Interference as interference
 use Rattle.iceoryx2_world.specs.Tables.{IsTableAccess}
-use Rattle.iceoryx2_call_laws.specs.AnyCalls.{Meets, Holds, MayCarryBy}
+use Rattle.iceoryx2_call_laws.specs.AnyCalls.{Meets, IsAsPublished, MayCarryBy}
 use Rattle.iceoryx2_call_laws.specs.Headline.{IsGiven}
 use Rattle.iceoryx2_call_laws.specs.Promise.{PromiseOver, Promise}
 use Rattle.iceoryx2_call_laws.proofs.calls.Headline.{as_promised, open_until_released, of_table, of_faulty_table}
 
 module _ {D E C : Type 0} (c : BuilderCall D E C) (raises : OnlyRaises c.meaning c.adjusted) where
-  either : {d : Description} → Meets c d ⊎ Holds c d → MeetsOrHolds c d
+  either : {d : Description} → Meets c d ⊎ IsAsPublished c d → MeetsOrHolds c d
   either (inl m) = meets m.hash m.accepted
   either (inr same) = subst (MeetsOrHolds c) (sym same) holds
 

@@ -12,10 +12,10 @@ use Rattle.iceoryx2_world.specs.Interference.{IsAccessUnder, IsFallibleUnder}
 use Rattle.iceoryx2_world.proofs.agreement.Interference.{tickets_refl, tickets_trans, tags_trans, spent_access}
 use Rattle.iceoryx2_world.proofs.agreement.Accesses.{faulty_keeps, run_keeps, unrefused_run}
 use Rattle.iceoryx2_world.proofs.agreement.Stands.{each_map}
-use Rattle.iceoryx2_create_and_open.specs.GivesBack.{MadeByCall, OwnSegment}
-use Rattle.iceoryx2_create_and_open.specs.Fronts.{number_got, is_left}
-use Rattle.iceoryx2_open_or_create.specs.Leaves as rounds
-use Rattle.iceoryx2_open_or_create.specs.Leaves.{GivesBackByRounds}
+use Rattle.iceoryx2_rounds.specs.GivesBack.{Owned, OwnSegment}
+use Rattle.iceoryx2_rounds.specs.Fronts.{number_got, is_left}
+use Rattle.iceoryx2_rounds.specs.Leaves as rounds
+use Rattle.iceoryx2_rounds.specs.Leaves.{GivesBackByRounds}
 use Rattle.iceoryx2_call_laws.specs.Leaves.{IsGranted, LeavesByRounds, LeavesNothing, SpendsNumber, StaysAway, no_round, one_more}
 use Rattle.iceoryx2_call_laws.proofs.calls.Left.{gone_later, gives_back, gives_all_back, stays_away}
 use Rattle.iceoryx2_call_laws.proofs.calls.Plain.{read_both}
@@ -32,7 +32,7 @@ spends_on h run old _ is = tt
 
 module _ (own : ℕ → Bool) (node : ℕ) (mine : own node ≡ true) (hash : ServiceHash) where
   -- what was given back of a lock stays away
-  away_on : (got : Option ℕ) (left : MadeByCall → Bool) {w v : World} {word : List Letter} → Run (IsFallibleUnder own) w word v → Agrees w → StaysAway node hash got left w → StaysAway node hash got left v
+  away_on : (got : Option ℕ) (left : Owned → Bool) {w v : World} {word : List Letter} → Run (IsFallibleUnder own) w word v → Agrees w → StaysAway node hash got left w → StaysAway node hash got left v
   away_on None left run old is = tt
   away_on (Some n) left run old is = λ e. gone_later node hash n (left OwnSegment) (run_keeps run old).1 (spent_run hash n run old) (is e)
 

@@ -30,7 +30,7 @@ use Rattle.iceoryx2_world.proofs.agreement.Maps.{set_cases}
 use Rattle.iceoryx2_world.proofs.agreement.Parts.{mine, Part, stays, tagged, calm, removed, publishes, joins, releases, own_part, publishing, joining, releasing}
 use Rattle.iceoryx2_world.proofs.agreement.Worlds.{ticket_put, step_tickets}
 use Rattle.iceoryx2_errors.specs.declared.error.CloseError.TheVariants as closing
-use Rattle.iceoryx2_port_factory.specs.Closes.{IsCloseWord, first_refused, not_here, still_counted, left, last as last_left}
+use Rattle.iceoryx2_rounds.specs.Closes.{IsCloseWord, first_refused, not_here, still_counted, left, last as last_left}
 use Rattle.iceoryx2_call_laws.specs.Laws.{TakesItsTicket, TakesTicketOut}
 use Rattle.iceoryx2_call_laws.specs.Tickets.{CloseAnswer, HandsNothingBack, tickets_after_close}
 

@@ -14,19 +14,19 @@ use Rattle.iceoryx2_world.specs.Agreement.{IsSpent}
 use Rattle.iceoryx2_world.specs.Calm.{IsCalmLetter}
 use Rattle.iceoryx2_world.proofs.agreement.Calm as calm
 use Rattle.iceoryx2_world.proofs.agreement.Calm.{Tame, tame_both}
-use Rattle.iceoryx2_pattern.specs.Meaning.{Meaning}
-use Rattle.iceoryx2_create_and_open.specs.declared.look.Outcome.{Outcome}
-use Rattle.iceoryx2_create_and_open.specs.Looks.{IsLookWord}
-use Rattle.iceoryx2_create_and_open.specs.Segments.{IsSegmentWord}
-use Rattle.iceoryx2_create_and_open.specs.Creates.{IsEntryWord}
-use Rattle.iceoryx2_create_and_open.specs.Opens.{AreFailedRounds}
-use Rattle.iceoryx2_create_and_open.specs.GivesBack.{MadeByCall, OwnTag, OwnLock, OwnSegment, own_tag, GivesBack, nothing_left, segment_back, lock_back, tag_back}
-use Rattle.iceoryx2_create_and_open.specs.Fronts as may
-use Rattle.iceoryx2_create_and_open.specs.Fronts.{IsFront, made, made_after, number_got, left_by, left_after, GivesAllBack, KeepsAll, KeepsLastTag}
-use Rattle.iceoryx2_create_and_open.proofs.Kept.{Goes, look_goes, segment_made, entry_goes, rounds_give_back}
-use Rattle.iceoryx2_open_or_create.specs.Leaves as rounds
-use Rattle.iceoryx2_open_or_create.specs.Leaves.{GivesBackByRounds, KeepsInTheEnd}
-use Rattle.iceoryx2_open_or_create.proofs.Left.{tags_back}
+use Rattle.iceoryx2_rounds.specs.PatternRules.{PatternRules}
+use Rattle.iceoryx2_rounds.specs.declared.look.Outcome.{Outcome}
+use Rattle.iceoryx2_rounds.specs.Looks.{IsLookWord}
+use Rattle.iceoryx2_rounds.specs.Segments.{IsSegmentWord}
+use Rattle.iceoryx2_rounds.specs.Creates.{IsEntryWord}
+use Rattle.iceoryx2_rounds.specs.Opens.{AreFailedRounds}
+use Rattle.iceoryx2_rounds.specs.GivesBack.{Owned, OwnTag, OwnLock, OwnSegment, own_tag, GivesBack, nothing_left, segment_back, lock_back, tag_back}
+use Rattle.iceoryx2_rounds.specs.Fronts as may
+use Rattle.iceoryx2_rounds.specs.Fronts.{IsFront, made, made_after, number_got, left_by, left_after, GivesAllBack, KeepsAll, KeepsLastTag}
+use Rattle.iceoryx2_rounds.proofs.Kept.{Goes, look_goes, segment_made, entry_goes, rounds_give_back}
+use Rattle.iceoryx2_rounds.specs.Leaves as rounds
+use Rattle.iceoryx2_rounds.specs.Leaves.{GivesBackByRounds, KeepsInTheEnd}
+use Rattle.iceoryx2_rounds.proofs.Left.{tags_back}
 use Rattle.iceoryx2_call_laws.specs.Leaves.{IsGranted, SpendsNumber}
 use Rattle.iceoryx2_call_laws.proofs.calls.Plain.{IsPlain}
 use Rattle.iceoryx2_call_laws.proofs.calls.Words.{IsNoRelease}
@@ -43,7 +43,7 @@ pub record IsIdle (l : Letter) : Type 0 where
   pub calm : IsCalmLetter l
 
 -- where the call has the lock
-abbrev pub has_lock : List MadeByCall → Bool
+abbrev pub has_lock : List Owned → Bool
 has_lock (OwnLock ∷ owned) = true
 has_lock (OwnSegment ∷ owned) = true
 has_lock _ = false
@@ -53,7 +53,7 @@ no_lock Made = refl
 no_lock Found = refl
 
 -- what a front may have made
-pub data MadeInOrder : List MadeByCall → Type 0 where
+pub data MadeInOrder : List Owned → Type 0 where
   up_to_tag : (tag : Tag) → MadeInOrder (own_tag tag)
   up_to_lock : (tag : Tag) → MadeInOrder (OwnLock ∷ own_tag tag)
   up_to_segment : (tag : Tag) → MadeInOrder (OwnSegment ∷ OwnLock ∷ own_tag tag)
@@ -65,21 +65,21 @@ if_locked n false = None
 
 module _ (node : ℕ) (hash : ServiceHash) (n : ℕ) where
   -- A front, from what is made before it to what is made after it: only these accesses make anything.
-  pub data Front : List MadeByCall → List Letter → List MadeByCall → Type 0 where
-    ends : {a : List MadeByCall} → Front a [] a
-    idles : {a b : List MadeByCall} {l : Letter} {w : List Letter} → IsIdle l → Front a w b → Front a (l ∷ w) b
-    makes_tag : {b : List MadeByCall} {w : List Letter} → Front (OwnTag ∷ []) w b
+  pub data Front : List Owned → List Letter → List Owned → Type 0 where
+    ends : {a : List Owned} → Front a [] a
+    idles : {a b : List Owned} {l : Letter} {w : List Letter} → IsIdle l → Front a w b → Front a (l ∷ w) b
+    makes_tag : {b : List Owned} {w : List Letter} → Front (OwnTag ∷ []) w b
         → Front [] (letter.MakeTag node hash (Ok Made) ∷ w) b
-    locks : (tag : Tag) {b : List MadeByCall} {w : List Letter} → Front (OwnLock ∷ own_tag tag) w b
+    locks : (tag : Tag) {b : List Owned} {w : List Letter} → Front (OwnLock ∷ own_tag tag) w b
         → Front (own_tag tag) (letter.Lock node hash (Ok n) ∷ w) b
-    makes_segment : (tag : Tag) {m : ℕ} {b : List MadeByCall} {w : List Letter} → Front (OwnSegment ∷ OwnLock ∷ own_tag tag) w b
+    makes_segment : (tag : Tag) {m : ℕ} {b : List Owned} {w : List Letter} → Front (OwnSegment ∷ OwnLock ∷ own_tag tag) w b
         → Front (OwnLock ∷ own_tag tag) (letter.MakeSegment node hash n m (Ok tt) ∷ w) b
-    clears : (tag : Tag) {m : ℕ} {answer : Result (Unit {0}) RemoveError} {b : List MadeByCall} {w : List Letter} → Front (OwnLock ∷ own_tag tag) w b
+    clears : (tag : Tag) {m : ℕ} {answer : Result (Unit {0}) RemoveError} {b : List Owned} {w : List Letter} → Front (OwnLock ∷ own_tag tag) w b
         → Front (OwnLock ∷ own_tag tag) (letter.MakeSegment node hash n m (Err make.AlreadyExists) ∷ letter.RemoveSegment node hash answer ∷ w) b
 
   -- What is so along a front: it is in order; nothing is released; a description is only removed under the lock; this
   -- stays, and each number that is got is its own; and no tag is given back.
-  pub record Facts (a : List MadeByCall) (w : List Letter) (b : List MadeByCall) : Type 0 where
+  pub record Facts (a : List Owned) (w : List Letter) (b : List Owned) : Type 0 where
     pub in_order : MadeInOrder a → MadeInOrder b
     pub spares : Each IsNoRelease w
     pub tame : Tame node hash (has_lock a) w (has_lock b)
@@ -89,7 +89,7 @@ module _ (node : ℕ) (hash : ServiceHash) (n : ℕ) where
     pub left : (rest : List Letter) (was_left : Bool) → left_after was_left (w ++ rest) OwnTag ≡ left_after was_left rest OwnTag
 
 module _ {node : ℕ} {hash : ServiceHash} {n : ℕ} where
-  pub read_front : {a : List MadeByCall} {w : List Letter} → IsFront node hash n a w → Front node hash n a w (made_after a w)
+  pub read_front : {a : List Owned} {w : List Letter} → IsFront node hash n a w → Front node hash n a w (made_after a w)
   read_front may.ends = ends
   read_front (may.goes_on may.looks p) = idles (record { plain = tt; granted = tt; spends = λ h v. tt; got = λ w. refl; left = λ b. refl; spares = tt; calm = tt }) (read_front p)
   read_front (may.goes_on may.fetches p) = idles (record { plain = tt; granted = tt; spends = λ h v. tt; got = λ w. refl; left = λ b. refl; spares = tt; calm = tt }) (read_front p)
@@ -105,7 +105,7 @@ module _ {node : ℕ} {hash : ServiceHash} {n : ℕ} where
   read_front (may.goes_on may.opens_nothing p) = idles (record { plain = tt; granted = tt; spends = λ h v. tt; got = λ w. refl; left = λ b. refl; spares = tt; calm = tt }) (read_front p)
   read_front (may.clears tag p) = clears tag (read_front p)
 
-  pub facts : {a b : List MadeByCall} {w : List Letter} → Front node hash n a w b → Facts node hash n a w b
+  pub facts : {a b : List Owned} {w : List Letter} → Front node hash n a w b → Facts node hash n a w b
   facts ends = record { in_order = λ o. o; spares = tt; tame = calm.ends; lock_stays = λ e. e; got = λ rest none e. none ∙ ap (if_locked n) (sym e); spends = λ v f. tt; left = λ rest was. refl }
   facts (idles {l = l} {w = w} is p) = let f = facts p in record { in_order = f.in_order; spares = (is.spares, f.spares); tame = calm.goes is.calm f.tame; lock_stays = f.lock_stays; got = λ rest none e. is.got (w ++ rest) ∙ f.got rest none e; spends = λ v s. (is.spends hash v, f.spends v s); left = λ rest was. ap (λ b. left_after b (w ++ rest) OwnTag) (is.left was) ∙ f.left rest was }
   facts (makes_tag p) = let f = facts p in record { in_order = λ o. f.in_order (up_to_tag Made); spares = (tt, f.spares); tame = calm.goes tt f.tame; lock_stays = λ e. absurd (cc); got = λ rest none e. f.got rest none refl; spends = λ v s. (tt, f.spends v s); left = f.left }
@@ -116,13 +116,13 @@ module _ {node : ℕ} {hash : ServiceHash} {n : ℕ} where
 module _ {node : ℕ} {hash : ServiceHash} where
   -- what is so of each removal
   pub each_removal : (P : Letter → Type 0) → ((a : Result (Unit {0}) RemoveError) → P (letter.RemoveSegment node hash a)) → ((a : Result (Unit {0}) RemoveError) → P (letter.RemoveDescription node hash a)) → ((a : Result (Unit {0}) RemoveError) → P (letter.RemoveTag node hash a))
-      → {owned : List MadeByCall} {w : List Letter} → GivesBack node hash owned w → Each P w
+      → {owned : List Owned} {w : List Letter} → GivesBack node hash owned w → Each P w
   each_removal P s k t nothing_left = tt
   each_removal P s k t (segment_back a b) = (s a, each_removal P s k t b)
   each_removal P s k t (lock_back a b) = (k a, each_removal P s k t b)
   each_removal P s k t (tag_back a b) = (t a, each_removal P s k t b)
 
-  back_got : {owned : List MadeByCall} {w : List Letter} → GivesBack node hash owned w → number_got w ≡ None
+  back_got : {owned : List Owned} {w : List Letter} → GivesBack node hash owned w → number_got w ≡ None
   back_got nothing_left = refl
   back_got (segment_back a b) = back_got b
   back_got (lock_back a b) = back_got b
@@ -132,7 +132,7 @@ module _ {node : ℕ} {hash : ServiceHash} where
   untag_tame Made (tag_back a nothing_left) = calm.goes tt calm.ends
   untag_tame Found nothing_left = calm.ends
 
-  back_tame : {owned : List MadeByCall} {w : List Letter} → MadeInOrder owned → GivesBack node hash owned w → Tame node hash (has_lock owned) w false
+  back_tame : {owned : List Owned} {w : List Letter} → MadeInOrder owned → GivesBack node hash owned w → Tame node hash (has_lock owned) w false
   back_tame {w = w} (up_to_tag tag) b = subst (λ z. Tame node hash z w false) (sym (no_lock tag)) (untag_tame tag b)
   back_tame (up_to_lock tag) (lock_back a b) = calm.unlocks a (untag_tame tag b)
   back_tame (up_to_segment tag) (segment_back a (lock_back c b)) = calm.goes tt (calm.unlocks c (untag_tame tag b))
@@ -170,7 +170,7 @@ module _ {node : ℕ} {hash : ServiceHash} where
   in_the_end_letters k = subst (Each IsNoRelease) (sym k.is_word) (each_append IsNoRelease k.before k.in_the_end (rounds_back_letters k.gives_back) (elim k.keeps [ inl c ↦ created_letters c | inr o ↦ opened_letters o ]))
 
   -- of the parts of a create and of an open
-  goes_tame : {n : ℕ} {a b : List MadeByCall} {w : List Letter} → Goes node hash n a w b → Tame node hash (has_lock a) w (has_lock b)
+  goes_tame : {n : ℕ} {a b : List Owned} {w : List Letter} → Goes node hash n a w b → Tame node hash (has_lock a) w (has_lock b)
   goes_tame {a = a} {w = w} p = subst (λ z. Tame node hash (has_lock a) w (has_lock z)) p.makes (facts (read_front p.front)).tame
 
   tagged_tame : (tag : Tag) {w : List Letter} → Goes node hash 0 [] w (own_tag tag) → Tame node hash false w false
@@ -179,7 +179,7 @@ module _ {node : ℕ} {hash : ServiceHash} where
   pub making_tame : {number max_nodes : ℕ} {w : List Letter} → IsSegmentWord node hash number max_nodes w (Ok tt) → Tame node hash true w true
   making_tame s = goes_tame (segment_made Found s)
 
-module _ {E C : Type 0} {m : Meaning E C} {node : ℕ} {hash : ServiceHash} where
+module _ {E C : Type 0} {m : PatternRules E C} {node : ℕ} {hash : ServiceHash} where
   pub look_tame : {w : List Letter} {o : Outcome E} → IsLookWord m node hash w o → Tame node hash false w false
   look_tame l = goes_tame {n = 0} {a = []} (look_goes l)
 

@@ -11,8 +11,8 @@ use Rattle.iceoryx2_access.specs.Run.{Each}
 use Rattle.iceoryx2_world.proofs.agreement.Accesses.{faulty_keeps}
 use Rattle.iceoryx2_world.proofs.agreement.Stands.{faulty_stands, each_map}
 use Rattle.iceoryx2_errors.specs.declared.error.CloseError.TheVariants.{NotHere}
-use Rattle.iceoryx2_port_factory.specs.Closes.{IsCloseWord, not_here, still_counted, left, last}
-use Rattle.iceoryx2_port_factory.proofs.HandedBack.{removed_here}
+use Rattle.iceoryx2_rounds.specs.Closes.{IsCloseWord, not_here, still_counted, left, last}
+use Rattle.iceoryx2_rounds.proofs.HandedBack.{removed_here}
 use Rattle.iceoryx2_call_laws.specs.Calls.{Throughout}
 use Rattle.iceoryx2_call_laws.specs.Laws.{CloseIsShort, CloseSpares, HandsBackItsOwn}
 use Rattle.iceoryx2_call_laws.specs.Tickets.{CloseAnswer}

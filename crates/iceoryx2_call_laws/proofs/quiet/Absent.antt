@@ -32,22 +32,22 @@ use Rattle.iceoryx2_access.specs.Letter as letter
 use Rattle.iceoryx2_access.specs.Run.{Run, done}
 use Rattle.iceoryx2_world.specs.Access.{NodeView, Change, node_view_after, or_refused, IsAnswer}
 use Rattle.iceoryx2_access.proofs.Run.{head, split, last}
-use Rattle.iceoryx2_create_and_open.specs.declared.look.Outcome.{Outcome}
-use Rattle.iceoryx2_create_and_open.specs.declared.look.Outcome.TheVariants as outcome
-use Rattle.iceoryx2_pattern.specs.declared.pattern.CreateRefusal.{CreateRefusal}
-use Rattle.iceoryx2_pattern.specs.declared.pattern.CreateRefusal.TheVariants as refusal
-use Rattle.iceoryx2_pattern.specs.Meaning.{Meaning}
+use Rattle.iceoryx2_rounds.specs.declared.look.Outcome.{Outcome}
+use Rattle.iceoryx2_rounds.specs.declared.look.Outcome.TheVariants as outcome
+use Rattle.iceoryx2_rounds.specs.declared.pattern.CreateRefusal.{CreateRefusal}
+use Rattle.iceoryx2_rounds.specs.declared.pattern.CreateRefusal.TheVariants as refusal
+use Rattle.iceoryx2_rounds.specs.PatternRules.{PatternRules}
 use Rattle.iceoryx2_access.specs.Registered.{Registered}
-use Rattle.iceoryx2_create_and_open.specs.Refusals.{of_tag, of_lock, of_publish}
-use Rattle.iceoryx2_create_and_open.proofs.MakeSteps.{without_memory}
-use Rattle.iceoryx2_create_and_open.specs.Looks.{IsLookWord}
-use Rattle.iceoryx2_create_and_open.specs.Looks as look
-use Rattle.iceoryx2_create_and_open.specs.GivesBack.{GivesBack, OwnTag, OwnLock, OwnSegment, own_tag}
-use Rattle.iceoryx2_create_and_open.specs.GivesBack as back
-use Rattle.iceoryx2_create_and_open.specs.Segments.{IsSegmentWord, clearings}
-use Rattle.iceoryx2_create_and_open.specs.Segments as segment
-use Rattle.iceoryx2_create_and_open.specs.Creates.{IsEntryWord, IsServiceWord, IsCreating}
-use Rattle.iceoryx2_create_and_open.specs.Creates as create
+use Rattle.iceoryx2_rounds.specs.Refusals.{of_tag, of_lock, of_publish}
+use Rattle.iceoryx2_rounds.proofs.MakeSteps.{without_memory}
+use Rattle.iceoryx2_rounds.specs.Looks.{IsLookWord}
+use Rattle.iceoryx2_rounds.specs.Looks as look
+use Rattle.iceoryx2_rounds.specs.GivesBack.{GivesBack, OwnTag, OwnLock, OwnSegment, own_tag}
+use Rattle.iceoryx2_rounds.specs.GivesBack as back
+use Rattle.iceoryx2_rounds.specs.Segments.{IsSegmentWord, clearings}
+use Rattle.iceoryx2_rounds.specs.Segments as segment
+use Rattle.iceoryx2_rounds.specs.Creates.{IsEntryWord, IsServiceWord, IsCreating}
+use Rattle.iceoryx2_rounds.specs.Creates as create
 use Rattle.iceoryx2_call_laws.proofs.quiet.NodeViews.{AtNode}
 
 pub into : {A B : Type 0} (P : A → B → Type 0) {a b : A} {c d : B} → a ≡ b → c ≡ d → P b d → P a c
@@ -197,7 +197,7 @@ module _ (i : ℕ) (h : ServiceHash) where
   own_segment_back : {tag : Tag} {w : List Letter} → tag ≡ Made → GivesBack i h (OwnSegment ∷ OwnLock ∷ own_tag tag) w → GivesBack i h (OwnSegment ∷ OwnLock ∷ OwnTag ∷ []) w
   own_segment_back {w = w} e g = subst (λ z. GivesBack i h (OwnSegment ∷ OwnLock ∷ own_tag z) w) e g
 
-module _ {E C : Type 0} (m : Meaning E C) (i : ℕ) (h : ServiceHash) where
+module _ {E C : Type 0} (m : PatternRules E C) (i : ℕ) (h : ServiceHash) where
   pub look_over : (x : Phase) (s : Option Segment) (c : ℕ) (g : Bool) (k : Tickets) {o : Outcome E} {w : List Letter} {t : NodeView} → IsLookWord m i h w o → Run (AtNode i h) (over x s c g k) w t → (o ≡ outcome.Nothing) × (t ≡ over x s c g k)
   look_over x s c g k look.absent r = let l = last r in (refl, l.is ∙ ap (node_view_after _) l.own.1)
   look_over x s c g k look.broken r = let l = last r in absurd (grind (arith, l.own.0))
@@ -247,18 +247,18 @@ module _ {E C : Type 0} (m : Meaning E C) (i : ℕ) (h : ServiceHash) where
 
     -- What create does where a node sees no service.
     pub data Founds (c : ℕ) (k : Tickets) : Result Registered C → NodeView → Type 0 where
-      forbids : {y : Phase} {error : C} → begins y ≡ true → m.history_refusal ≡ Some error → Founds c k (Err error) (bare y c false k)
-      no_time : {y : Phase} → begins y ≡ true → m.history_refusal ≡ None → stops ≡ true → Founds c k (Err (m.create_refusal refusal.InternalFailure)) (bare y c false k)
-      no_number : {y : Phase} → begins y ≡ true → m.history_refusal ≡ None → stops ≡ false → nat_lt c last_number ≡ false → Founds c k (Err (m.create_refusal refusal.InternalFailure)) (bare y c false k)
-      forgets : {y : Phase} → begins y ≡ true → m.history_refusal ≡ None → Founds c k (Err (m.create_refusal refusal.OutOfMemory)) (bare y c false k)
-      forgets_locked : {y : Phase} → begins y ≡ true → m.history_refusal ≡ None → stops ≡ false → nat_lt c last_number ≡ true → Founds c k (Err (m.create_refusal refusal.OutOfMemory)) (bare y (c + 1) false k)
-      founds : IsDescription d → m.history_refusal ≡ None → stops ≡ false → nat_lt c last_number ≡ true → Founds c k (Ok (registered c)) (joined i h c (max_nodes_of d.pattern) (form.description d) (c + 1) k)
+      forbids : {y : Phase} {error : C} → begins y ≡ true → m.settings_refusal ≡ Some error → Founds c k (Err error) (bare y c false k)
+      no_time : {y : Phase} → begins y ≡ true → m.settings_refusal ≡ None → stops ≡ true → Founds c k (Err (m.create_refusal refusal.InternalFailure)) (bare y c false k)
+      no_number : {y : Phase} → begins y ≡ true → m.settings_refusal ≡ None → stops ≡ false → nat_lt c last_number ≡ false → Founds c k (Err (m.create_refusal refusal.InternalFailure)) (bare y c false k)
+      forgets : {y : Phase} → begins y ≡ true → m.settings_refusal ≡ None → Founds c k (Err (m.create_refusal refusal.OutOfMemory)) (bare y c false k)
+      forgets_locked : {y : Phase} → begins y ≡ true → m.settings_refusal ≡ None → stops ≡ false → nat_lt c last_number ≡ true → Founds c k (Err (m.create_refusal refusal.OutOfMemory)) (bare y (c + 1) false k)
+      founds : IsDescription d → m.settings_refusal ≡ None → stops ≡ false → nat_lt c last_number ≡ true → Founds c k (Ok (registered c)) (joined i h c (max_nodes_of d.pattern) (form.description d) (c + 1) k)
 
     module _ (x : Phase) (c : ℕ) (k : Tickets) (b : begins x ≡ true) (positive : nat_lt 0 (max_nodes_of d.pattern) ≡ true) (own_hash : eq_by_cmp hash_cmp d.hash h ≡ true) where
       abbrev FoundsHere : Result Registered C → NodeView → Type 0
       FoundsHere a t = Founds c k a t
 
-      serving : {tag : Tag} {a : Result Registered C} {w : List Letter} {t : NodeView} → m.history_refusal ≡ None → stops ≡ false → tag ≡ Made → IsServiceWord m i h d tag w a → Run (AtNode i h) (bare x c true k) w t → Founds c k a t
+      serving : {tag : Tag} {a : Result Registered C} {w : List Letter} {t : NodeView} → m.settings_refusal ≡ None → stops ≡ false → tag ≡ Made → IsServiceWord m i h d tag w a → Run (AtNode i h) (bare x c true k) w t → Founds c k a t
       serving fits runs own (create.not_locked z g) r =
           let f = head r in
           elim (lock_refused i h (lock_over i h x None c k _ _ b f.first)) [

@@ -11,22 +11,22 @@ use Rattle.iceoryx2_world.specs.declared.world.Participant.{Participant}
 use Rattle.iceoryx2_world.specs.declared.world.Participant.TheVariants.{Node, Peer}
 use Rattle.iceoryx2_world.specs.Orders.{hash_cmp, hash_total, hash_exact}
 use Rattle.iceoryx2_world.proofs.agreement.Whole.{same_hash}
-use Rattle.iceoryx2_pattern.specs.Meaning.{Meaning}
-use Rattle.iceoryx2_pattern.specs.Verdict.{verdict}
+use Rattle.iceoryx2_rounds.specs.PatternRules.{PatternRules}
+use Rattle.iceoryx2_rounds.specs.Verdict.{verdict}
 use Rattle.iceoryx2_access.specs.Registered.{Registered}
 use Rattle.iceoryx2_call_laws.specs.Quiet.{QuietService, Quiet, ShowsService, service_at, times_counted, is_counted}
 use Rattle.iceoryx2_call_laws.specs.QuietCalls.{Creates, Opens, Closes, closed, HasPlace, first_counts, created_by, opened_by, closed_by, more_counts, fewer_counts, with_service, spend}
 use Rattle.iceoryx2_call_laws.specs.QuietCalls as call
 use Rattle.iceoryx2_call_laws.specs.QuietLaws.{CreateAndCloseSpend, TakesNoFurtherPlace, OpensWhatItCan}
 use Rattle.iceoryx2_call_laws.specs.QuietPrepared.{unprepared, prepared}
-use Rattle.iceoryx2_create_and_open.specs.declared.caller.Caller.{Caller}
+use Rattle.iceoryx2_rounds.specs.declared.caller.Caller.{Caller}
 use Rattle.iceoryx2_call_laws.proofs.quiet.Prepared.{granted_prepared}
 use Rattle.iceoryx2_call_laws.proofs.quiet.Lift.{equal_or_not}
 use Rattle.iceoryx2_call_laws.proofs.quiet.Counts.{get_first_own, len_first, len_fewer_less, get_more_own, get_more_other}
 use Rattle.iceoryx2_call_laws.proofs.quiet.Same.{same_segment, joined_times, holds_the_same, nothing_at}
 use Rattle.iceoryx2_call_laws.proofs.quiet.Calls.{with_service_has}
 
-module _ {E C : Type 0} (m : Meaning E C) where
+module _ {E C : Type 0} (m : PatternRules E C) where
   -- a refused call keeps the services
   pub create_refused : (caller : Caller) (q p : Quiet) (e : C) → Creates m q caller (Err e) p → p.services ≡ q.services
   create_refused caller q p e (call.forbidden bad) = refl
@@ -75,7 +75,7 @@ still_counted i x k e (Node j) = elim (equal_or_not j i) [
 ]
 still_counted i x k e (Peer j) = refl
 
-module _ {E C : Type 0} (m : Meaning E C) where
+module _ {E C : Type 0} (m : PatternRules E C) where
   made_and_gone : (caller : Caller) (q p z : Quiet) (r : Registered) → Creates m q caller (Ok r) p → Closes p r.node r.description.hash z → (service_at q caller.hash ≡ None) × (z.counter ≡ q.counter + 1) × (z.services ≡ q.services)
   made_and_gone caller q p z r (call.created fits gone runs room) c = let back = close_of_new q caller.node caller.hash r.description z gone c in (gone, back.0, back.1)
 

@@ -17,11 +17,11 @@ use Rattle.iceoryx2_world.specs.Across.{Agrees}
 use Rattle.iceoryx2_world.specs.Standing.{ticket_for}
 use Rattle.iceoryx2_world.proofs.agreement.Whole.{own_hash}
 use Rattle.iceoryx2_world.proofs.agreement.Accesses.{own_keeps, later_refl, later_trans}
-use Rattle.iceoryx2_pattern.specs.Meaning.{Meaning}
+use Rattle.iceoryx2_rounds.specs.PatternRules.{PatternRules}
 use Rattle.iceoryx2_access.specs.Registered.{Registered}
-use Rattle.iceoryx2_create_and_open.specs.declared.caller.Caller.{Caller}
-use Rattle.iceoryx2_create_and_open.specs.Creates.{IsCreateWord, time_of, description_of}
-use Rattle.iceoryx2_create_and_open.specs.Opens.{IsOpenWord}
+use Rattle.iceoryx2_rounds.specs.declared.caller.Caller.{Caller}
+use Rattle.iceoryx2_rounds.specs.Creates.{IsCreateWord, time_of, description_of}
+use Rattle.iceoryx2_rounds.specs.Opens.{IsOpenWord}
 use Rattle.iceoryx2_call_laws.specs.Quiet.{QuietService, Quiet, ShowsService, Shows, service_at}
 use Rattle.iceoryx2_call_laws.specs.QuietCalls.{Creates, Opens, created_by, opened_by, with_service, spend}
 use Rattle.iceoryx2_call_laws.specs.QuietCalls as call
@@ -71,7 +71,7 @@ is_call {E = E} {w = w} {v = v} (Ok r) made gives run old =
 pub with_service_has : (q : Quiet) (h : ServiceHash) (x : QuietService) → service_at (spend (with_service q h (Some x))) h ≡ Some x
 with_service_has q h x = map.get-insert hash_total q.services h x h ∙ ap (λ b. cond b (Some x) (service_at q h)) (own_hash h)
 
-module _ {E C : Type 0} (m : Meaning E C) (q : Quiet) (w : World) (s : Shows w q) where
+module _ {E C : Type 0} (m : PatternRules E C) (q : Quiet) (w : World) (s : Shows w q) where
   create_gives : (caller : Caller) (r : Result Registered C) (p : Quiet) → Creates m q caller r p → IfOk r (λ x. GivesIn w p x)
   create_gives caller r p (call.created fits gone runs room) = let x = created_by caller.node (description_of m caller) q.counter in record { service = x; there = with_service_has q caller.hash x; number = refl; description = refl; ticket = sym s.counter }
   create_gives caller r p (call.forbidden bad) = tt
@@ -103,7 +103,7 @@ empty_shows c = record {
   });
 }
 
-module _ {E C : Type 0} (m : Meaning E C) where
+module _ {E C : Type 0} (m : PatternRules E C) where
   -- A create over a world that shows q is the machine's.
   pub create_follows : (caller : Caller) → 0 < max_nodes_of (m.published (time_of caller.clock)) → Follows (IsCreateWord m caller) (λ q. Creates m q caller)
   create_follows caller room w v q word r quiet is_word =

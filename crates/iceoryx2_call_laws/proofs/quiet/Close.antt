@@ -23,8 +23,8 @@ use Rattle.iceoryx2_world.proofs.agreement.Moved.{same_self}
 use Rattle.iceoryx2_world.proofs.agreement.Whole.{own_hash, get-set_to}
 use Rattle.iceoryx2_errors.specs.declared.error.CloseError.{CloseError}
 use Rattle.iceoryx2_access.specs.Registered.{Registered}
-use Rattle.iceoryx2_port_factory.specs.Closes.{IsCloseWord}
-use Rattle.iceoryx2_call_laws.specs.Quiet.{NodeCounts, QuietService, Quiet, IsThere, ShowsService, Shows, CountIs, service_at, times_counted, is_counted}
+use Rattle.iceoryx2_rounds.specs.Closes.{IsCloseWord}
+use Rattle.iceoryx2_call_laws.specs.Quiet.{NodeCounts, QuietService, Quiet, IsServiceShown, ShowsService, Shows, CountIs, service_at, times_counted, is_counted}
 use Rattle.iceoryx2_call_laws.specs.QuietCalls.{Closes, closed, fewer_counts, with_counts, closed_by, with_service}
 use Rattle.iceoryx2_call_laws.proofs.quiet.NodeViews.{Apart, AtNode}
 use Rattle.iceoryx2_call_laws.proofs.quiet.Absent.{at_node, from}
@@ -41,7 +41,7 @@ module _ (f : Registered) (w v : World) (q : Quiet) (a : Apart f.node f.descript
   abbrev h : ServiceHash
   h = f.description.hash
 
-  was : IsThere h x (row_of w h) (segment_of w h) (λ j. phase_of w (Node j) h) (λ j. tag_of w j h)
+  was : IsServiceShown h x (row_of w h) (segment_of w h) (λ j. phase_of w (Node j) h) (λ j. tag_of w j h)
   was = was_there i h w v q a s x is_there
 
   abbrev m : NodeCounts

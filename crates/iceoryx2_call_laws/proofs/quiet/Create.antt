@@ -17,11 +17,11 @@ use Rattle.iceoryx2_access.specs.Run.{Run}
 use Rattle.iceoryx2_world.specs.Access.{NodeView, node_view}
 use Rattle.iceoryx2_world.proofs.agreement.Moved.{same_self, contains_alone, len_alone}
 use Rattle.iceoryx2_world.proofs.agreement.Whole.{own_hash}
-use Rattle.iceoryx2_pattern.specs.Meaning.{Meaning}
+use Rattle.iceoryx2_rounds.specs.PatternRules.{PatternRules}
 use Rattle.iceoryx2_access.specs.Registered.{Registered}
-use Rattle.iceoryx2_create_and_open.specs.declared.caller.Caller.{Caller}
-use Rattle.iceoryx2_create_and_open.specs.Creates.{IsCreateWord, clock_stops, description_of}
-use Rattle.iceoryx2_call_laws.specs.Quiet.{Quiet, IsAbsent, ShowsService, Shows, service_at, is_counted}
+use Rattle.iceoryx2_rounds.specs.declared.caller.Caller.{Caller}
+use Rattle.iceoryx2_rounds.specs.Creates.{IsCreateWord, clock_stops, description_of}
+use Rattle.iceoryx2_call_laws.specs.Quiet.{Quiet, IsNothingShown, ShowsService, Shows, service_at, is_counted}
 use Rattle.iceoryx2_call_laws.specs.QuietCalls.{Creates, created_by, with_service, spend}
 use Rattle.iceoryx2_call_laws.specs.QuietCalls as call
 use Rattle.iceoryx2_call_laws.specs.Tickets.{tickets_after}
@@ -38,7 +38,7 @@ pub record Made (Calls : Quiet → Type 0) (held : Tickets) (v : World) : Type 0
   pub tickets : v.tickets ≡ held
 
 module _ (i : ℕ) (h : ServiceHash) (w v : World) (q : Quiet) (a : Apart i h w v) (s : Shows w q) (gone : service_at q h ≡ None) where
-  pub was_absent : IsAbsent (row_of w h) (segment_of w h) (λ j. phase_of w (Node j) h) (λ j. tag_of w j h)
+  pub was_absent : IsNothingShown (row_of w h) (segment_of w h) (λ j. phase_of w (Node j) h) (λ j. tag_of w j h)
   was_absent = subst (λ o. ShowsService w h o) gone (s.services h)
 
   pub begin_absent : node_view w i h ≡ bare (phase_of w (Node i) h) q.counter false w.tickets
@@ -87,7 +87,7 @@ module _ (i : ℕ) (h : ServiceHash) (w v : World) (q : Quiet) (a : Apart i h w 
       ]
       members n d (Peer j) = contains_alone (Node i) (Peer j) ∙ not_same (Peer j) (Node i) (no_node j i)
 
-module _ {E C : Type 0} (m : Meaning E C) (caller : Caller) (w v : World) (q : Quiet) (a : Apart caller.node caller.hash w v) (s : Shows w q) (gone : service_at q caller.hash ≡ None) where
+module _ {E C : Type 0} (m : PatternRules E C) (caller : Caller) (w v : World) (q : Quiet) (a : Apart caller.node caller.hash w v) (s : Shows w q) (gone : service_at q caller.hash ≡ None) where
   abbrev i : ℕ
   i = caller.node
 

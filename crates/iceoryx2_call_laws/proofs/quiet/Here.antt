@@ -4,28 +4,28 @@ use Rattle.iceoryx2_description.specs.declared.description.ServiceHash.{ServiceH
 use Rattle.iceoryx2_description.specs.Description.{Description}
 use Rattle.iceoryx2_access.specs.declared.storage.Tag.{Tag}
 use Rattle.iceoryx2_access.specs.Letter.{Letter}
-use Rattle.iceoryx2_create_and_open.specs.declared.look.Outcome.{Outcome}
-use Rattle.iceoryx2_pattern.specs.declared.pattern.CreateRefusal.{CreateRefusal}
+use Rattle.iceoryx2_rounds.specs.declared.look.Outcome.{Outcome}
+use Rattle.iceoryx2_rounds.specs.declared.pattern.CreateRefusal.{CreateRefusal}
 use Rattle.iceoryx2_errors.specs.declared.error.CloseError.{CloseError}
-use Rattle.iceoryx2_pattern.specs.Meaning.{Meaning}
+use Rattle.iceoryx2_rounds.specs.PatternRules.{PatternRules}
 use Rattle.iceoryx2_access.specs.Registered.{Registered}
-use Rattle.iceoryx2_create_and_open.specs.Looks.{IsLookWord}
-use Rattle.iceoryx2_create_and_open.specs.Looks as look
-use Rattle.iceoryx2_create_and_open.specs.GivesBack.{GivesBack, MadeByCall}
-use Rattle.iceoryx2_create_and_open.specs.GivesBack as back
-use Rattle.iceoryx2_create_and_open.specs.Segments.{IsSegmentWord, clearings}
-use Rattle.iceoryx2_create_and_open.specs.declared.create.TheConstants.{CLEARING_LIMIT}
-use Rattle.iceoryx2_create_and_open.specs.Segments as segment
-use Rattle.iceoryx2_create_and_open.specs.Creates.{IsEntryWord, IsServiceWord, IsCreating}
-use Rattle.iceoryx2_create_and_open.specs.Creates as create
-use Rattle.iceoryx2_create_and_open.specs.Opens.{IsReady, IsFailedRound, IsLastRound, AreFailedRounds, IsOpenWord}
-use Rattle.iceoryx2_create_and_open.specs.Opens as opening
-use Rattle.iceoryx2_port_factory.specs.Closes.{IsCloseWord}
-use Rattle.iceoryx2_port_factory.specs.Closes as closing
+use Rattle.iceoryx2_rounds.specs.Looks.{IsLookWord}
+use Rattle.iceoryx2_rounds.specs.Looks as look
+use Rattle.iceoryx2_rounds.specs.GivesBack.{GivesBack, Owned}
+use Rattle.iceoryx2_rounds.specs.GivesBack as back
+use Rattle.iceoryx2_rounds.specs.Segments.{IsSegmentWord, clearings}
+use Rattle.iceoryx2_rounds.specs.declared.create.TheConstants.{CLEARING_LIMIT}
+use Rattle.iceoryx2_rounds.specs.Segments as segment
+use Rattle.iceoryx2_rounds.specs.Creates.{IsEntryWord, IsServiceWord, IsCreating}
+use Rattle.iceoryx2_rounds.specs.Creates as create
+use Rattle.iceoryx2_rounds.specs.Opens.{IsReady, IsFailedRound, IsLastRound, AreFailedRounds, IsOpenWord}
+use Rattle.iceoryx2_rounds.specs.Opens as opening
+use Rattle.iceoryx2_rounds.specs.Closes.{IsCloseWord}
+use Rattle.iceoryx2_rounds.specs.Closes as closing
 use Rattle.iceoryx2_call_laws.proofs.quiet.NodeViews.{AllHere, none, more, all_both}
 
 module _ {i : ℕ} {h : ServiceHash} where
-  pub back_here : {ts : List MadeByCall} {w : List Letter} → GivesBack i h ts w → AllHere i h w
+  pub back_here : {ts : List Owned} {w : List Letter} → GivesBack i h ts w → AllHere i h w
   back_here back.nothing_left = none
   back_here (back.segment_back a r) = more (refl, refl) (back_here r)
   back_here (back.lock_back a r) = more (refl, refl) (back_here r)
@@ -41,7 +41,7 @@ segment_here {i} {h} {n} {m} (segment.not_made j e _ _) = all_both (clearings_he
 segment_here {i} {h} {n} {m} (segment.not_removed j e _) = all_both (clearings_here i h n m j) (more (refl, refl) (more (refl, refl) none))
 segment_here {i} {h} {n} {m} segment.still_there = all_both (clearings_here i h n m CLEARING_LIMIT) (more (refl, refl) none)
 
-module _ {E C : Type 0} {m : Meaning E C} {i : ℕ} {h : ServiceHash} where
+module _ {E C : Type 0} {m : PatternRules E C} {i : ℕ} {h : ServiceHash} where
   pub look_here : {o : Outcome E} {w : List Letter} → IsLookWord m i h w o → AllHere i h w
   look_here look.absent = more refl none
   look_here look.broken = more refl none

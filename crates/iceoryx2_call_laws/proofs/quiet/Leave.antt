@@ -20,8 +20,8 @@ use Rattle.iceoryx2_world.specs.Access.{NodeView, Change, node_view_after, IsSur
 use Rattle.iceoryx2_access.proofs.Run.{head, last}
 use Rattle.iceoryx2_errors.specs.declared.error.CloseError.{CloseError}
 use Rattle.iceoryx2_access.specs.Registered.{Registered}
-use Rattle.iceoryx2_port_factory.specs.Closes.{IsCloseWord, first_refused}
-use Rattle.iceoryx2_port_factory.specs.Closes as close
+use Rattle.iceoryx2_rounds.specs.Closes.{IsCloseWord, first_refused}
+use Rattle.iceoryx2_rounds.specs.Closes as close
 use Rattle.iceoryx2_call_laws.proofs.quiet.NodeViews.{AtNode}
 use Rattle.iceoryx2_call_laws.proofs.quiet.Absent.{at_node, into, from}
 

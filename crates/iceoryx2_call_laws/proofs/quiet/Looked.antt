@@ -12,10 +12,10 @@ use Rattle.iceoryx2_access.specs.Registered.{Registered}
 use Rattle.iceoryx2_world.specs.Access.{IsOwnPart, NodeView, node_view}
 use Rattle.iceoryx2_world.specs.Across.{Agrees}
 use Rattle.iceoryx2_world.specs.Standing.{Stands}
-use Rattle.iceoryx2_pattern.specs.Meaning.{Meaning}
-use Rattle.iceoryx2_create_and_open.specs.declared.look.Outcome.{Outcome}
-use Rattle.iceoryx2_create_and_open.specs.declared.look.Outcome.TheVariants as outcome
-use Rattle.iceoryx2_create_and_open.specs.Looks.{IsLookWord}
+use Rattle.iceoryx2_rounds.specs.PatternRules.{PatternRules}
+use Rattle.iceoryx2_rounds.specs.declared.look.Outcome.{Outcome}
+use Rattle.iceoryx2_rounds.specs.declared.look.Outcome.TheVariants as outcome
+use Rattle.iceoryx2_rounds.specs.Looks.{IsLookWord}
 use Rattle.iceoryx2_call_laws.specs.Quiet.{QuietService, Quiet, Shows, service_at, times_counted}
 use Rattle.iceoryx2_call_laws.specs.QuietLaws.{IsCall}
 use Rattle.iceoryx2_call_laws.specs.Tickets.{tickets_after}
@@ -56,11 +56,11 @@ pub rest_shows : {w v : World} {q : Quiet} → Rests w q v → Shows v q
 rest_shows {v = v} rest = subst (λ p. Shows v p) rest.call rest.shows
 
 -- A look that may find a service that is there.
-pub record FindsIt {E C : Type 0} (m : Meaning E C) (w : World) (q : Quiet) (v : World) (x : QuietService) : Type 0 where
+pub record FindsIt {E C : Type 0} (m : PatternRules E C) (w : World) (q : Quiet) (v : World) (x : QuietService) : Type 0 where
   pub rest : Rests w q v
   pub fits : m.misfit x.description ≡ None
 
-module _ {E C : Type 0} (m : Meaning E C) (i : ℕ) (h : ServiceHash) {w v : World} {q : Quiet} (s : Shows w q) (old : Agrees w) where
+module _ {E C : Type 0} (m : PatternRules E C) (i : ℕ) (h : ServiceHash) {w v : World} {q : Quiet} (s : Shows w q) (old : Agrees w) where
   -- where there is no service it finds nothing
   pub look_rests_absent : {o : Outcome E} {word : List Letter} → service_at q h ≡ None → IsLookWord m i h word o → Run IsOwnPart w word v → (o ≡ outcome.Nothing) × Rests w q v
   look_rests_absent gone l run =

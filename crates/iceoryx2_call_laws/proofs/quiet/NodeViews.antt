@@ -10,7 +10,7 @@ use Rattle.iceoryx2_description.specs.declared.description.ServiceHash.{ServiceH
 use Rattle.iceoryx2_world.specs.Orders.{hash_cmp, tag_cmp, tag_total}
 use Rattle.iceoryx2_world.specs.World.{World, row_of, segment_of, phase_of, Tickets, tag_of}
 use Rattle.iceoryx2_world.specs.Steps.{ServiceView}
-use Rattle.iceoryx2_access.specs.Letter.{Letter, caller_of, service_of}
+use Rattle.iceoryx2_access.specs.Letter.{Letter, acting_node, service_of}
 use Rattle.iceoryx2_access.specs.Letter as letter
 use Rattle.iceoryx2_access.specs.Run.{Run, done, next}
 use Rattle.iceoryx2_world.specs.Access.{NodeView, Change, node_view, set_tag, write, node_view_after, nothing, existence, IsNodeAnswer, IsOwnPart}
@@ -26,7 +26,7 @@ pub record AtNode (i : ℕ) (h : ServiceHash) (s : NodeView) (l : Letter) (t : N
 -- A letter of this node and this service.
 abbrev pub Here : ℕ → ServiceHash → Letter → Type 0
 Here i h (letter.Exists g a) = g ≡ h
-Here i h l = (caller_of l ≡ i) × (service_of l ≡ h)
+Here i h l = (acting_node l ≡ i) × (service_of l ≡ h)
 
 abbrev pub at_tag : ℕ → ServiceHash → ℕ → ServiceHash → Bool
 at_tag j g i h = eq_by_cmp tag_cmp (j, g) (i, h)
@@ -88,8 +88,8 @@ pub record Moves (i : ℕ) (h : ServiceHash) (w : World) (l : Letter) (v : World
 written : (w v : World) (i : ℕ) (h : ServiceHash) (l : Letter) (c : Change) → IsNodeAnswer i h (node_view w i h) l c → v ≡ write w i h c → Moves i h w l v
 written w v i h l c own is = subst (λ (u : World). Moves i h w l u) (sym is) (record { at = record { change = c; own = own; is = node_view_write w i h c }; apart = apart_write w i h c })
 
-of_node : (w v : World) (i : ℕ) (h : ServiceHash) (l : Letter) → caller_of l ≡ i → service_of l ≡ h → IsOwnPart w l v → Moves i h w l v
-of_node w v i h l e f x = subst (λ j. Moves j h w l v) e (subst (λ g. Moves (caller_of l) g w l v) f (written w v (caller_of l) (service_of l) l x.change x.own x.is))
+of_node : (w v : World) (i : ℕ) (h : ServiceHash) (l : Letter) → acting_node l ≡ i → service_of l ≡ h → IsOwnPart w l v → Moves i h w l v
+of_node w v i h l e f x = subst (λ j. Moves j h w l v) e (subst (λ g. Moves (acting_node l) g w l v) f (written w v (acting_node l) (service_of l) l x.change x.own x.is))
 
 pub move : (i : ℕ) (h : ServiceHash) (w : World) (l : Letter) (v : World) → Here i h l → IsOwnPart w l v → Moves i h w l v
 move i h w (letter.Exists g a) v e x =

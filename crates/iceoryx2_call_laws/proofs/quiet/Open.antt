@@ -25,27 +25,27 @@ use Rattle.iceoryx2_access.specs.Letter as letter
 use Rattle.iceoryx2_access.specs.Run.{Run}
 use Rattle.iceoryx2_world.specs.Access.{NodeView, Change, node_view_after, opening_of, IsAnswer}
 use Rattle.iceoryx2_access.proofs.Run.{head, split, last}
-use Rattle.iceoryx2_create_and_open.specs.declared.look.Fault.{Fault}
-use Rattle.iceoryx2_create_and_open.specs.declared.look.Outcome.{Outcome}
-use Rattle.iceoryx2_create_and_open.specs.declared.look.Outcome.TheVariants as outcome
-use Rattle.iceoryx2_pattern.specs.declared.pattern.OpenRefusal.{OpenRefusal}
-use Rattle.iceoryx2_pattern.specs.declared.pattern.OpenRefusal.TheVariants as refusal
-use Rattle.iceoryx2_pattern.specs.Meaning.{Meaning}
-use Rattle.iceoryx2_pattern.specs.Verdict.{verdict}
+use Rattle.iceoryx2_rounds.specs.declared.look.Fault.{Fault}
+use Rattle.iceoryx2_rounds.specs.declared.look.Outcome.{Outcome}
+use Rattle.iceoryx2_rounds.specs.declared.look.Outcome.TheVariants as outcome
+use Rattle.iceoryx2_rounds.specs.declared.pattern.OpenRefusal.{OpenRefusal}
+use Rattle.iceoryx2_rounds.specs.declared.pattern.OpenRefusal.TheVariants as refusal
+use Rattle.iceoryx2_rounds.specs.PatternRules.{PatternRules}
+use Rattle.iceoryx2_rounds.specs.Verdict.{verdict}
 use Rattle.iceoryx2_access.specs.Registered.{Registered}
-use Rattle.iceoryx2_create_and_open.specs.Refusals.{of_tag_opening, of_opening, open_error_of}
-use Rattle.iceoryx2_create_and_open.specs.Looks.{IsLookWord}
-use Rattle.iceoryx2_create_and_open.specs.GivesBack.{GivesBack, own_tag}
-use Rattle.iceoryx2_create_and_open.specs.GivesBack as back
-use Rattle.iceoryx2_create_and_open.specs.Opens.{IsReady, IsFailedRound, IsLastRound, AreFailedRounds, IsOpenWord}
-use Rattle.iceoryx2_create_and_open.specs.Opens as word
+use Rattle.iceoryx2_rounds.specs.Refusals.{of_tag_opening, of_opening, open_error_of}
+use Rattle.iceoryx2_rounds.specs.Looks.{IsLookWord}
+use Rattle.iceoryx2_rounds.specs.GivesBack.{GivesBack, own_tag}
+use Rattle.iceoryx2_rounds.specs.GivesBack as back
+use Rattle.iceoryx2_rounds.specs.Opens.{IsReady, IsFailedRound, IsLastRound, AreFailedRounds, IsOpenWord}
+use Rattle.iceoryx2_rounds.specs.Opens as word
 use Rattle.iceoryx2_call_laws.specs.Quiet.{CountIs}
 use Rattle.iceoryx2_call_laws.proofs.quiet.NodeViews.{AtNode}
 use Rattle.iceoryx2_call_laws.proofs.quiet.Absent.{at_node, bare, into, ended, from, same_number, look_bare}
 use Rattle.iceoryx2_call_laws.proofs.quiet.There.{over, Fetched, reads, keeps, LooksThere, finds, misfits, forgets, starved, look_there, still_counts}
 
 -- Where there is no service, the first look ends the call.
-module _ {E C : Type 0} (m : Meaning E C) (i : ℕ) (h : ServiceHash) (x : Phase) (c : ℕ) (k : Tickets) where
+module _ {E C : Type 0} (m : PatternRules E C) (i : ℕ) (h : ServiceHash) (x : Phase) (c : ℕ) (k : Tickets) where
   never_ready : {n : ℕ} {d : Description} {tag : Tag} {u : List Letter} {t : NodeView} → IsReady m i h n d tag u → Run (AtNode i h) (bare x c false k) u t → ⊥
   never_ready (word.ready {u = u} tag l fits) r = let y = look_bare m i h x c false k l (split u _ r).first in absurd (cc)
 
@@ -146,7 +146,7 @@ module _ (i : ℕ) (h : ServiceHash) (n cap : ℕ) (b : List ℕ) (nodes : set.F
   after_fetch g (Some j) count (reads e) = absurd (cc)
   after_fetch g (Some j) count (keeps e) = ap (stood g) count.0
 
-  module _ {E C : Type 0} (m : Meaning E C) (d : Description) (limits : IsDescription d) (hash : d.hash ≡ h) (form_of : b ≡ form.description d) (o : Option ℕ) (x : Phase) (count : CountIs n x o) (low : IsLow o) where
+  module _ {E C : Type 0} (m : PatternRules E C) (d : Description) (limits : IsDescription d) (hash : d.hash ≡ h) (form_of : b ≡ form.description d) (o : Option ℕ) (x : Phase) (count : CountIs n x o) (low : IsLow o) where
     abbrev start : NodeView
     start = stood (is_some o) x
 

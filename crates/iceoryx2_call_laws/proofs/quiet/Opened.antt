@@ -22,10 +22,10 @@ use Rattle.iceoryx2_world.specs.Access.{NodeView, node_view}
 use Rattle.iceoryx2_world.specs.Across.{Agrees}
 use Rattle.iceoryx2_world.proofs.agreement.Moved.{contains_inserted}
 use Rattle.iceoryx2_world.proofs.agreement.Few.{few_tickets}
-use Rattle.iceoryx2_pattern.specs.Meaning.{Meaning}
+use Rattle.iceoryx2_rounds.specs.PatternRules.{PatternRules}
 use Rattle.iceoryx2_access.specs.Registered.{Registered}
-use Rattle.iceoryx2_create_and_open.specs.Opens.{IsOpenWord}
-use Rattle.iceoryx2_call_laws.specs.Quiet.{NodeCounts, QuietService, Quiet, IsThere, Shows, CountIs, service_at, times_counted, is_counted}
+use Rattle.iceoryx2_rounds.specs.Opens.{IsOpenWord}
+use Rattle.iceoryx2_call_laws.specs.Quiet.{NodeCounts, QuietService, Quiet, IsServiceShown, Shows, CountIs, service_at, times_counted, is_counted}
 use Rattle.iceoryx2_call_laws.specs.QuietCalls.{Opens, HasPlace, more_counts, opened_by, with_service, spend}
 use Rattle.iceoryx2_call_laws.specs.QuietCalls as call
 use Rattle.iceoryx2_call_laws.specs.Tickets.{tickets_after}
@@ -37,7 +37,7 @@ use Rattle.iceoryx2_call_laws.proofs.quiet.Create.{Made, was_absent, begin_absen
 use Rattle.iceoryx2_call_laws.proofs.quiet.There.{was_there, stays_there}
 use Rattle.iceoryx2_call_laws.proofs.quiet.Open.{opening_absent, stood, joined_view, Place, OpensHere, starves, bad, unfit, no_place, no_number, opens, opening_there}
 
-module _ {E C : Type 0} (m : Meaning E C) (i : ℕ) (h : ServiceHash) (w v : World) (q : Quiet) (a : Apart i h w v) (s : Shows w q) (gone : service_at q h ≡ None) where
+module _ {E C : Type 0} (m : PatternRules E C) (i : ℕ) (h : ServiceHash) (w v : World) (q : Quiet) (a : Apart i h w v) (s : Shows w q) (gone : service_at q h ≡ None) where
   pub open_absent : (r : Result Registered E) (word : List Letter) → IsOpenWord m i h word r → Run (AtNode i h) (node_view w i h) word (node_view v i h) → Made (Opens m q i h r) (tickets_after w.tickets r) v
   open_absent r word is_word run =
       let e = opening_absent m i h (phase_of w (Node i) h) q.counter w.tickets is_word (from (begin_absent i h w v q a s gone) run) in
@@ -49,7 +49,7 @@ module _ {E C : Type 0} (m : Meaning E C) (i : ℕ) (h : ServiceHash) (w v : Wor
       })
 
 module _ (i : ℕ) (h : ServiceHash) (w v : World) (q : Quiet) (a : Apart i h w v) (s : Shows w q) (x : QuietService) (is_there : service_at q h ≡ Some x) where
-  abbrev pub was : IsThere h x (row_of w h) (segment_of w h) (λ j. phase_of w (Node j) h) (λ j. tag_of w j h)
+  abbrev pub was : IsServiceShown h x (row_of w h) (segment_of w h) (λ j. phase_of w (Node j) h) (λ j. tag_of w j h)
   was = was_there i h w v q a s x is_there
 
   abbrev new : ℕ
@@ -113,8 +113,8 @@ module _ (i : ℕ) (h : ServiceHash) (w v : World) (q : Quiet) (a : Apart i h w 
       (λ z other. refl)
       is
 
-module _ {E C : Type 0} (m : Meaning E C) (i : ℕ) (h : ServiceHash) (w v : World) (q : Quiet) (a : Apart i h w v) (s : Shows w q) (old : Agrees w) (x : QuietService) (is_there : service_at q h ≡ Some x) where
-  abbrev before : IsThere h x (row_of w h) (segment_of w h) (λ j. phase_of w (Node j) h) (λ j. tag_of w j h)
+module _ {E C : Type 0} (m : PatternRules E C) (i : ℕ) (h : ServiceHash) (w v : World) (q : Quiet) (a : Apart i h w v) (s : Shows w q) (old : Agrees w) (x : QuietService) (is_there : service_at q h ≡ Some x) where
+  abbrev before : IsServiceShown h x (row_of w h) (segment_of w h) (λ j. phase_of w (Node j) h) (λ j. tag_of w j h)
   before = was_there i h w v q a s x is_there
 
   abbrev here : Bool → Phase → NodeView

@@ -2,14 +2,14 @@
 use Rattle.std.proofs.Common.{◌≡◌, Some, Result, ◌⊎◌, inl, inr, Bool, true, false, sym, ap, subst, ◌∙◌}
 use Rattle.iceoryx2_description.specs.Description.{Description}
 use Rattle.iceoryx2_access.specs.Registered.{Registered}
-use Rattle.iceoryx2_pattern.specs.OwnAttributes.{requiring}
-use Rattle.iceoryx2_pattern.specs.Verdict.{verdict}
-use Rattle.iceoryx2_create_and_open.specs.OwnSettings.{AcceptsOwn}
-use Rattle.iceoryx2_open_or_create.specs.Adjusting.{Accepts, OnlyRaises}
-use Rattle.iceoryx2_open_or_create.specs.LawfulCalls.{IsLawfulCall}
-use Rattle.iceoryx2_open_or_create.proofs.OwnAttributes.{accepts_with_attributes, accepts_without_attributes}
-use Rattle.iceoryx2_open_or_create.specs.BuilderCalls.{BuilderCall, Way, ToCreate, ToOpen, ToOpenOrCreate, creating}
-use Rattle.iceoryx2_call_laws.specs.AnyCalls.{Meets, Holds, MayCarryBy}
+use Rattle.iceoryx2_rounds.specs.OwnAttributes.{requiring}
+use Rattle.iceoryx2_rounds.specs.Verdict.{verdict}
+use Rattle.iceoryx2_rounds.specs.OwnSettings.{AcceptsOwn}
+use Rattle.iceoryx2_rounds.specs.Adjusting.{Accepts, OnlyRaises}
+use Rattle.iceoryx2_rounds.specs.LawfulCalls.{IsLawfulCall}
+use Rattle.iceoryx2_rounds.proofs.RetriedAttributes.{accepts_with_attributes, accepts_without_attributes}
+use Rattle.iceoryx2_rounds.specs.BuilderCalls.{BuilderCall, Way, ToCreate, ToOpen, ToOpenOrCreate, creating}
+use Rattle.iceoryx2_call_laws.specs.AnyCalls.{Meets, IsAsPublished, MayCarryBy}
 use Rattle.iceoryx2_call_laws.specs.OpensAgain.{opening_again, OpensOwnSettings, OpensAgain}
 use Rattle.iceoryx2_call_laws.specs.QuietLaws.{CarriesAsAsked}
 use Rattle.iceoryx2_call_laws.specs.Quiet.{Quiet, service_at}
@@ -20,7 +20,7 @@ use Rattle.iceoryx2_call_laws.proofs.quiet.Ways.{opening_follows}
 
 module _ {D E C : Type 0} (c : BuilderCall D E C) (own : AcceptsOwn (creating c) (c.meaning c.asked) c.caller) (raises : OnlyRaises c.meaning c.adjusted) where
   -- what it publishes it accepts,
-  holds_accepted : (d : Description) → Holds c d → Accepts (c.meaning c.asked) d
+  holds_accepted : (d : Description) → IsAsPublished c d → Accepts (c.meaning c.asked) d
   holds_accepted d is = record {
     fits = ap (λ d. (c.meaning c.asked).misfit d) is ∙ own.fits c.caller.node;
     meets = ap (λ d. verdict ((c.meaning c.asked).requirement d)) is ∙ own.accepted c.caller.node;
@@ -30,7 +30,7 @@ module _ {D E C : Type 0} (c : BuilderCall D E C) (own : AcceptsOwn (creating c)
   meets_accepted : (d : Description) → Meets c d → Accepts (c.meaning c.asked) d
   meets_accepted d is = accepts_without_attributes (c.meaning c.asked) c.required d is.accepted
 
-  either_accepted : (d : Description) → Meets c d ⊎ Holds c d → Accepts (c.meaning c.asked) d
+  either_accepted : (d : Description) → Meets c d ⊎ IsAsPublished c d → Accepts (c.meaning c.asked) d
   either_accepted d (inl meets) = meets_accepted d meets
   either_accepted d (inr holds) = holds_accepted d holds
 

@@ -6,8 +6,8 @@ use Rattle.iceoryx2_access.specs.Registered.{Registered}
 use Rattle.iceoryx2_world.specs.World.{World}
 use Rattle.iceoryx2_world.specs.Across.{Agrees}
 use Rattle.iceoryx2_world.specs.Standing.{Stands}
-use Rattle.iceoryx2_create_and_open.specs.Prepared as words
-use Rattle.iceoryx2_open_or_create.specs.CallWords.{PreparedIf}
+use Rattle.iceoryx2_rounds.specs.Prepared as words
+use Rattle.iceoryx2_rounds.specs.CallWords.{PreparedIf}
 use Rattle.iceoryx2_call_laws.specs.Quiet.{Quiet, Shows}
 use Rattle.iceoryx2_call_laws.specs.QuietLaws.{Follows}
 use Rattle.iceoryx2_call_laws.specs.QuietPrepared.{PreparesFirst, unprepared, prepared, PreparesFirstIf}

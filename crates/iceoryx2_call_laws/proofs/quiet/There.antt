@@ -17,20 +17,20 @@ use Rattle.iceoryx2_access.specs.Letter as letter
 use Rattle.iceoryx2_access.specs.Run.{Run}
 use Rattle.iceoryx2_world.specs.Access.{NodeView, node_view, node_view_after}
 use Rattle.iceoryx2_access.proofs.Run.{head, split, last}
-use Rattle.iceoryx2_create_and_open.specs.declared.caller.Caller.{Caller}
-use Rattle.iceoryx2_create_and_open.specs.declared.look.Fault.{Fault}
-use Rattle.iceoryx2_create_and_open.specs.declared.look.Fault.TheVariants as at_fault
-use Rattle.iceoryx2_create_and_open.specs.declared.look.Outcome.{Outcome}
-use Rattle.iceoryx2_create_and_open.specs.declared.look.Outcome.TheVariants as outcome
-use Rattle.iceoryx2_pattern.specs.declared.pattern.CreateRefusal.TheVariants as refusal
-use Rattle.iceoryx2_pattern.specs.Meaning.{Meaning}
+use Rattle.iceoryx2_rounds.specs.declared.caller.Caller.{Caller}
+use Rattle.iceoryx2_rounds.specs.declared.look.Fault.{Fault}
+use Rattle.iceoryx2_rounds.specs.declared.look.Fault.TheVariants as at_fault
+use Rattle.iceoryx2_rounds.specs.declared.look.Outcome.{Outcome}
+use Rattle.iceoryx2_rounds.specs.declared.look.Outcome.TheVariants as outcome
+use Rattle.iceoryx2_rounds.specs.declared.pattern.CreateRefusal.TheVariants as refusal
+use Rattle.iceoryx2_rounds.specs.PatternRules.{PatternRules}
 use Rattle.iceoryx2_access.specs.Registered.{Registered}
-use Rattle.iceoryx2_create_and_open.specs.Looks.{LeadsTo, IsLookWord}
-use Rattle.iceoryx2_create_and_open.specs.Refusals.{create_error_of}
-use Rattle.iceoryx2_create_and_open.specs.Looks as look
-use Rattle.iceoryx2_create_and_open.specs.Creates.{IsEntryWord, IsCreateWord}
-use Rattle.iceoryx2_create_and_open.specs.Creates as create
-use Rattle.iceoryx2_call_laws.specs.Quiet.{QuietService, Quiet, IsThere, ShowsService, Shows, CountIs, service_at, times_counted}
+use Rattle.iceoryx2_rounds.specs.Looks.{LeadsTo, IsLookWord}
+use Rattle.iceoryx2_rounds.specs.Refusals.{create_error_of}
+use Rattle.iceoryx2_rounds.specs.Looks as look
+use Rattle.iceoryx2_rounds.specs.Creates.{IsEntryWord, IsCreateWord}
+use Rattle.iceoryx2_rounds.specs.Creates as create
+use Rattle.iceoryx2_call_laws.specs.Quiet.{QuietService, Quiet, IsServiceShown, ShowsService, Shows, CountIs, service_at, times_counted}
 use Rattle.iceoryx2_call_laws.specs.QuietCalls.{Creates}
 use Rattle.iceoryx2_call_laws.specs.QuietCalls as call
 use Rattle.iceoryx2_call_laws.specs.Tickets.{tickets_after}
@@ -67,7 +67,7 @@ module _ (i : ℕ) (h : ServiceHash) (n : ℕ) (b : List ℕ) (sg : Option Segme
   fetch_there x a t r = elim (r.own) [ inl y ↦ fetches_as y.0 (r.is ∙ ap (node_view_after _) y.1) (keeps refl) | inr y ↦ starves_as y.0 (r.is ∙ ap (node_view_after _) y.1) ]
 
   -- What a look finds: the service of this description.
-  module _ {E C : Type 0} (m : Meaning E C) (d : Description) (limits : IsDescription d) (hash : d.hash ≡ h) (form_of : b ≡ form.description d) where
+  module _ {E C : Type 0} (m : PatternRules E C) (d : Description) (limits : IsDescription d) (hash : d.hash ≡ h) (form_of : b ≡ form.description d) where
     pub data LooksThere (x : Phase) : Outcome E → NodeView → Type 0 where
       finds : {y : Phase} → Fetched n x y → m.misfit d ≡ None → LooksThere x (outcome.Found n d) (over y)
       misfits : {y : Phase} {error : E} → Fetched n x y → m.misfit d ≡ Some error → LooksThere x (outcome.Faulty (at_fault.Misfit error)) (over y)
@@ -117,7 +117,7 @@ module _ (i : ℕ) (h : ServiceHash) (n : ℕ) (b : List ℕ) (sg : Option Segme
 
 -- where only the phase of one node changed, and it counts as before
 module _ (i : ℕ) (h : ServiceHash) (w v : World) (q : Quiet) (a : Apart i h w v) (s : Shows w q) (x : QuietService) (is_there : service_at q h ≡ Some x) where
-  pub was_there : IsThere h x (row_of w h) (segment_of w h) (λ j. phase_of w (Node j) h) (λ j. tag_of w j h)
+  pub was_there : IsServiceShown h x (row_of w h) (segment_of w h) (λ j. phase_of w (Node j) h) (λ j. tag_of w j h)
   was_there = subst (λ o. ShowsService w h o) is_there (s.services h)
 
   abbrev pub over_here : Phase → NodeView
@@ -150,14 +150,14 @@ still_counts None (keeps e) count = count
 still_counts (Some k) (reads e) count = absurd (cc)
 still_counts (Some k) (keeps e) count = count
 
-module _ {E C : Type 0} (m : Meaning E C) (caller : Caller) (w v : World) (q : Quiet) (a : Apart caller.node caller.hash w v) (s : Shows w q) (x : QuietService) (is_there : service_at q caller.hash ≡ Some x) where
+module _ {E C : Type 0} (m : PatternRules E C) (caller : Caller) (w v : World) (q : Quiet) (a : Apart caller.node caller.hash w v) (s : Shows w q) (x : QuietService) (is_there : service_at q caller.hash ≡ Some x) where
   abbrev i : ℕ
   i = caller.node
 
   abbrev h : ServiceHash
   h = caller.hash
 
-  abbrev was : IsThere h x (row_of w h) (segment_of w h) (λ j. phase_of w (Node j) h) (λ j. tag_of w j h)
+  abbrev was : IsServiceShown h x (row_of w h) (segment_of w h) (λ j. phase_of w (Node j) h) (λ j. tag_of w j h)
   was = was_there i h w v q a s x is_there
 
   abbrev Looks : Outcome E → NodeView → Type 0
@@ -178,12 +178,12 @@ module _ {E C : Type 0} (m : Meaning E C) (caller : Caller) (w v : World) (q : Q
   kept : (r : Result Registered C) (y : Phase) → Creates m q caller r q → tickets_after w.tickets r ≡ w.tickets → CountIs x.number y (times_counted x i) → node_view v i h ≡ over_here i h w v q a s x is_there y → MadeHere r
   kept r y call no_ticket count is = record { state = q; call = call; shows = stays_there i h w v q a s x is_there y count is; tickets = ap (λ (z : NodeView). z.tickets) is ∙ sym no_ticket }
 
-  faulty : {fault : Fault E} {t : NodeView} → m.history_refusal ≡ None → Looks (outcome.Faulty fault) t → node_view v i h ≡ t → MadeHere (Err (create_error_of m fault))
+  faulty : {fault : Fault E} {t : NodeView} → m.settings_refusal ≡ None → Looks (outcome.Faulty fault) t → node_view v i h ≡ t → MadeHere (Err (create_error_of m fault))
   faulty fits (misfits p bad) is = kept _ _ (call.exists x fits is_there) refl (still_counts _ p (was.phases i)) is
   faulty fits (forgets p) is = kept _ _ (call.no_memory fits) refl (still_counts _ p (was.phases i)) is
   faulty fits starved is = kept _ _ (call.no_memory fits) refl (was.phases i) is
 
-  found : {n : ℕ} {d : Description} {t : NodeView} → m.history_refusal ≡ None → Looks (outcome.Found n d) t → node_view v i h ≡ t → MadeHere (Err (m.create_refusal refusal.AlreadyExists))
+  found : {n : ℕ} {d : Description} {t : NodeView} → m.settings_refusal ≡ None → Looks (outcome.Found n d) t → node_view v i h ≡ t → MadeHere (Err (m.create_refusal refusal.AlreadyExists))
   found fits (finds p good) is = kept _ _ (call.exists x fits is_there) refl (still_counts _ p (was.phases i)) is
 
   pub create_there : (r : Result Registered C) (word : List Letter) → IsCreateWord m caller word r → Run (AtNode i h) (node_view w i h) word (node_view v i h) → MadeHere r

@@ -9,21 +9,21 @@ use Rattle.iceoryx2_access.specs.Registered.{Registered}
 use Rattle.iceoryx2_access.proofs.Run.{split}
 use Rattle.iceoryx2_world.specs.Access.{IsOwnPart}
 use Rattle.iceoryx2_world.specs.Across.{Agrees}
-use Rattle.iceoryx2_create_and_open.specs.Answers.{map_err}
-use Rattle.iceoryx2_create_and_open.specs.Creates.{time_of}
-use Rattle.iceoryx2_create_and_open.specs.declared.look.Fault.{Fault}
-use Rattle.iceoryx2_create_and_open.specs.declared.look.Outcome.{Outcome}
-use Rattle.iceoryx2_create_and_open.specs.declared.look.Outcome.TheVariants as outcome
-use Rattle.iceoryx2_create_and_open.specs.Looks.{IsLookWord}
-use Rattle.iceoryx2_create_and_open.specs.Refusals.{open_error_of}
-use Rattle.iceoryx2_create_and_open.specs.Opens as opens
-use Rattle.iceoryx2_create_and_open.proofs.OwnAttributes.{looks}
-use Rattle.iceoryx2_open_or_create.specs.declared.open_or_create.OpenOrCreateRefusal.{OpenOrCreateRefusal}
-use Rattle.iceoryx2_open_or_create.specs.declared.open_or_create.OpenOrCreateRefusal.TheVariants as refusal
-use Rattle.iceoryx2_open_or_create.specs.OpenOrCreates.{IsMaking, IsOpening, IsRetriedTurn, open_retried, create_retried, IsLastTurn, look_faulty, not_opened, opened, not_created, created, AreRetriedTurns, no_turn, one_more, IsOpenOrCreateWord, ended, in_flux}
-use Rattle.iceoryx2_open_or_create.specs.BuilderCalls.{BuilderCall, Way, ToCreate, ToOpen, ToOpenOrCreate, ErrorBy, creating, opening, asking, rounds_of}
-use Rattle.iceoryx2_open_or_create.specs.LawfulCalls.{IsLawfulCall}
-use Rattle.iceoryx2_open_or_create.specs.CallWords.{IsWordBy}
+use Rattle.iceoryx2_rounds.specs.Answers.{map_err}
+use Rattle.iceoryx2_rounds.specs.Creates.{time_of}
+use Rattle.iceoryx2_rounds.specs.declared.look.Fault.{Fault}
+use Rattle.iceoryx2_rounds.specs.declared.look.Outcome.{Outcome}
+use Rattle.iceoryx2_rounds.specs.declared.look.Outcome.TheVariants as outcome
+use Rattle.iceoryx2_rounds.specs.Looks.{IsLookWord}
+use Rattle.iceoryx2_rounds.specs.Refusals.{open_error_of}
+use Rattle.iceoryx2_rounds.specs.Opens as opens
+use Rattle.iceoryx2_rounds.proofs.RoundAttributes.{looks}
+use Rattle.iceoryx2_rounds.specs.declared.open_or_create.OpenOrCreateRefusal.{OpenOrCreateRefusal}
+use Rattle.iceoryx2_rounds.specs.declared.open_or_create.OpenOrCreateRefusal.TheVariants as refusal
+use Rattle.iceoryx2_rounds.specs.OpenOrCreates.{IsOwnCreate, IsOwnOpen, IsRetriedAttempt, open_retried, create_retried, IsLastAttempt, look_faulty, not_opened, opened, not_created, created, AreRetriedAttempts, no_attempt, one_more, IsOpenOrCreateWord, ended, in_flux}
+use Rattle.iceoryx2_rounds.specs.BuilderCalls.{BuilderCall, Way, ToCreate, ToOpen, ToOpenOrCreate, ErrorBy, creating, opening, asking, rounds_of}
+use Rattle.iceoryx2_rounds.specs.LawfulCalls.{IsLawfulCall}
+use Rattle.iceoryx2_rounds.specs.CallWords.{IsWordBy}
 use Rattle.iceoryx2_call_laws.specs.Quiet.{QuietService, Quiet, Shows, service_at}
 use Rattle.iceoryx2_call_laws.specs.QuietWays as attempt
 use Rattle.iceoryx2_call_laws.specs.QuietWays.{OpensOrCreates, Answers}
@@ -73,19 +73,19 @@ module _ {D E C : Type 0} (a : BuilderCall D E C) (lawful : IsLawfulCall a) (q :
   -- ---- one round
 
   -- what the look of a round finds wrong an open finds wrong
-  faulty_open : {fault : Fault E} {word : List Letter} → IsLookWord (a.meaning a.asked) a.caller.node a.caller.hash word (outcome.Faulty fault) → IsOpening a word (Err (open_error_of (a.meaning a.asked) fault))
+  faulty_open : {fault : Fault E} {word : List Letter} → IsLookWord (a.meaning a.asked) a.caller.node a.caller.hash word (outcome.Faulty fault) → IsOwnOpen a word (Err (open_error_of (a.meaning a.asked) fault))
   faulty_open l = opens.ended (omega arith) opens.no_round (opens.look_faulty (looks (a.meaning a.asked) (opening a).attributes (opening a).requirement l))
 
   module _ {w v : World} (s : Shows w q) (old : Agrees w) where
     -- a create after a look, where there is no service
-    then_created : {x y : List Letter} (answer : Result Registered C) → service_at q a.caller.hash ≡ None → IsLookWord (a.meaning a.asked) a.caller.node a.caller.hash x outcome.Nothing → IsMaking a y answer → Run IsOwnPart w (x ++ y) v → IsCall w (Creates (creating a) q a.caller answer) answer v
+    then_created : {x y : List Letter} (answer : Result Registered C) → service_at q a.caller.hash ≡ None → IsLookWord (a.meaning a.asked) a.caller.node a.caller.hash x outcome.Nothing → IsOwnCreate a y answer → Run IsOwnPart w (x ++ y) v → IsCall w (Creates (creating a) q a.caller answer) answer v
     then_created {x} {y} answer gone l c run =
         let parts = split x y run in
         let rest = (look_rests_absent (a.meaning a.asked) a.caller.node a.caller.hash s old gone l parts.first).1 in
         after_rest (λ p. Creates (creating a) p a.caller answer) answer s rest (create_follows (creating a) a.caller (lawful.takes_nodes (time_of a.caller.clock)) parts.mid v q y answer (record { shows = rest_shows rest; agrees = rest.agrees; run = parts.second }) c)
 
     -- an open after a look, where there is one
-    then_opened : {x y : List Letter} {n : ℕ} {d : Description} (answer : Result Registered E) (z : QuietService) → service_at q a.caller.hash ≡ Some z → IsLookWord (a.meaning a.asked) a.caller.node a.caller.hash x (outcome.Found n d) → IsOpening a y answer → Run IsOwnPart w (x ++ y) v
+    then_opened : {x y : List Letter} {n : ℕ} {d : Description} (answer : Result Registered E) (z : QuietService) → service_at q a.caller.hash ≡ Some z → IsLookWord (a.meaning a.asked) a.caller.node a.caller.hash x (outcome.Found n d) → IsOwnOpen a y answer → Run IsOwnPart w (x ++ y) v
         → ((a.meaning a.asked).misfit z.description ≡ None) × IsCall w (Opens (opening a) q a.caller.node a.caller.hash answer) answer v
     then_opened {x} {y} answer z there l o run =
         let parts = split x y run in
@@ -99,7 +99,7 @@ module _ {D E C : Type 0} (a : BuilderCall D E C) (lawful : IsLawfulCall a) (q :
     not_there : (x y : List Letter) (z : QuietService) → service_at q a.caller.hash ≡ Some z → IsLookWord (a.meaning a.asked) a.caller.node a.caller.hash x outcome.Nothing → Run IsOwnPart w (x ++ y) v → ⊥
     not_there x y z there l run = never_nothing (a.meaning a.asked) a.caller.node a.caller.hash s old z there l (split x y run).first
 
-    none_retried : {word : List Letter} {next : D} → IsRetriedTurn a word next → Run IsOwnPart w word v → ⊥
+    none_retried : {word : List Letter} {next : D} → IsRetriedAttempt a word next → Run IsOwnPart w word v → ⊥
     none_retried (open_retried {u = x} {v = y} {error = error} l o again) run = elim (service_at q a.caller.hash) as (λ z. service_at q a.caller.hash ≡ z → ⊥) [
       | None ↦ λ gone. not_gone x y (λ e. cc) gone l run
       | Some z ↦ λ there. let c = then_opened (Err error) z there l o run in true≢false (sym again ∙ open_ends z error refl there c.0 c.1.call)
@@ -109,7 +109,7 @@ module _ {D E C : Type 0} (a : BuilderCall D E C) (lawful : IsLawfulCall a) (q :
       | Some z ↦ λ there. not_there x y z there l run
     ] refl
 
-    last_is : {word : List Letter} {answer : Result Registered (OpenOrCreateRefusal E C)} → IsLastTurn a word answer → Run IsOwnPart w word v → IsIt w answer v
+    last_is : {word : List Letter} {answer : Result Registered (OpenOrCreateRefusal E C)} → IsLastAttempt a word answer → Run IsOwnPart w word v → IsIt w answer v
     last_is {word} (look_faulty {fault} l) run = elim (service_at q a.caller.hash) as (λ z. service_at q a.caller.hash ≡ z → IsIt w (Err (refusal.Open (open_error_of (a.meaning a.asked) fault))) v) [
       | None ↦ λ gone. let none = (look_rests_absent (a.meaning a.asked) a.caller.node a.caller.hash s old gone l run).0 in absurd (cc)
       | Some z ↦ λ there. let refused : Result Registered E = Err (open_error_of (a.meaning a.asked) fault) in opened_call refused z there (open_follows (opening a) a.caller.node a.caller.hash w v q word refused (record { shows = s; agrees = old; run = run }) (faulty_open l))
@@ -138,18 +138,18 @@ module _ {D E C : Type 0} (a : BuilderCall D E C) (lawful : IsLawfulCall a) (q :
     asked_still : asked ≡ a.asked
     world : v ≡ w
 
-  no_turns : {k : ℕ} {word : List Letter} {asked : D} {w v : World} → AreRetriedTurns a k word asked → Run IsOwnPart w word v → Shows w q → Agrees w → NoTurn k w v asked
-  no_turns no_turn done s old = record { number = refl; asked_still = refl; world = refl }
+  no_turns : {k : ℕ} {word : List Letter} {asked : D} {w v : World} → AreRetriedAttempts a k word asked → Run IsOwnPart w word v → Shows w q → Agrees w → NoTurn k w v asked
+  no_turns no_attempt done s old = record { number = refl; asked_still = refl; world = refl }
   no_turns {v = v} (one_more {u = x} {v = y} {next = next} before t) run s old =
       let parts = split x y run in
       let none = no_turns before parts.first s old in
-      absurd (none_retried s old (subst (λ d. IsRetriedTurn (asking a d) y next) none.asked_still t) (subst (λ u. Run IsOwnPart u y v) none.world parts.second))
+      absurd (none_retried s old (subst (λ d. IsRetriedAttempt (asking a d) y next) none.asked_still t) (subst (λ u. Run IsOwnPart u y v) none.world parts.second))
 
   attempt_follows : {word : List Letter} {answer : Result Registered (OpenOrCreateRefusal E C)} {w v : World} → RunsQuietly w q word v → IsOpenOrCreateWord a word answer → IsIt w answer v
   attempt_follows {v = v} quiet (ended {u = x} {v = y} {answer = answer} small before t) =
       let parts = split x y quiet.run in
       let none = no_turns before parts.first quiet.shows quiet.agrees in
-      last_is quiet.shows quiet.agrees (subst (λ d. IsLastTurn (asking a d) y answer) none.asked_still t) (subst (λ u. Run IsOwnPart u y v) none.world parts.second)
+      last_is quiet.shows quiet.agrees (subst (λ d. IsLastAttempt (asking a d) y answer) none.asked_still t) (subst (λ u. Run IsOwnPart u y v) none.world parts.second)
   attempt_follows quiet (in_flux before) = absurd (omega (arith, (no_turns before quiet.run quiet.shows quiet.agrees).number))
 
 -- ---- a refused one keeps the services

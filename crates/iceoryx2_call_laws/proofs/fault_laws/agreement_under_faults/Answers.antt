@@ -1,9 +1,9 @@
 use Rattle.std.specs.Prelude.{refl}
 use Rattle.iceoryx2_world.specs.Interference.{everyone}
 use Rattle.iceoryx2_world.proofs.Waiting.{idle_run}
-use Rattle.iceoryx2_script.proofs.Runs.{faultless}
+use Rattle.iceoryx2_testing.proofs.ScriptRuns.{faultless}
 use Rattle.iceoryx2_world.specs.Tables.{IsTableAccess}
-use Rattle.iceoryx2_script.specs.Faults.{IsInjectedFault}
+use Rattle.iceoryx2_testing.specs.Faults.{IsInjectedFault}
 use Rattle.iceoryx2_call_laws.proofs.calls.Headline.{open_until_released, as_promised, faulty_runs_over_world, of_faulty_table}
 use Rattle.iceoryx2_call_laws.proofs.calls.NoRow.{create_over_no_row}
 use Rattle.iceoryx2_call_laws.proofs.fault_laws.agreement_under_faults.Goals as goal
