@@ -6,7 +6,7 @@ use Rattle.std.specs.FinMap as map
 use Rattle.std.proofs.lemmas.Bool.{eqb-true}
 use Rattle.std.proofs.lemmas.Cmp.{nat_cmp_total}
 use Rattle.iceoryx2_description.specs.declared.description.ServiceHash.{ServiceHash}
-use Rattle.iceoryx2_access.specs.Letter.{Letter, caller_of}
+use Rattle.iceoryx2_access.specs.Letter.{Letter, acting_node}
 use Rattle.iceoryx2_access.specs.Letter as letter
 use Rattle.iceoryx2_access.specs.Registered.{Registered}
 use Rattle.iceoryx2_access.specs.Run.{Run, done, next}

@@ -4,7 +4,7 @@ use Rattle.iceoryx2_description.specs.declared.description.ServiceHash.{ServiceH
 use Rattle.std.specs.Prelude.{true, is_ok}
 use Rattle.iceoryx2_access.specs.declared.storage.Release.{Release as Released}
 use Rattle.iceoryx2_access.specs.declared.storage.ReleaseError.{ReleaseError}
-use Rattle.iceoryx2_access.specs.Letter.{Letter, caller_of}
+use Rattle.iceoryx2_access.specs.Letter.{Letter, acting_node}
 use Rattle.iceoryx2_access.specs.Letter as letter
 use Rattle.iceoryx2_access.specs.Run.{Run, done, Each}
 use Rattle.iceoryx2_access.proofs.Run.{one, both}
@@ -37,10 +37,10 @@ pub each_more : {A : Type 0} (P : A → Type 0) (xs : List A) {x : A} → Each P
 each_more P [] e p = (p, tt)
 each_more P (y ∷ xs) e p = (e.0, each_more P xs e.1 p)
 
-pub acts_once_more : {i : ℕ} {w u v : World} (l : Letter) → ActsAlone i w u → caller_of l ≡ i → IsOwnPart u l v → ActsAlone i w v
+pub acts_once_more : {i : ℕ} {w u v : World} (l : Letter) → ActsAlone i w u → acting_node l ≡ i → IsOwnPart u l v → ActsAlone i w v
 acts_once_more {i} l a e part = record {
   word = a.word ++ l ∷ [];
-  is_word = each_more (λ k. caller_of k ≡ i) a.word a.is_word e;
+  is_word = each_more (λ k. acting_node k ≡ i) a.word a.is_word e;
   run = both a.run (one part);
 }
 
@@ -50,7 +50,7 @@ fetch_acts {i} {h} (inr x) = acts_once_more (letter.Fetch i h x.0) acts_not refl
 
 -- An access with its answer, from where its deed is prepared.
 pub judged : {R : Type 0} {before after : R} {G F : Type 0} {w u v : World} (e : Entry) (l : Letter) (r : Result (Unit {0}) FollowError) → Judges G F r
-    → Prepares e.node e.hash e.deed w u → ActsAlone e.node w u → caller_of l ≡ e.node → (G → IsEntryOf e l) → (F → is_written u l ≡ false)
+    → Prepares e.node e.hash e.deed w u → ActsAlone e.node w u → acting_node l ≡ e.node → (G → IsEntryOf e l) → (F → is_written u l ≡ false)
     → IsRecordedPart {R = R} (λ _ _. Unit {0}) (λ _ _. ⊥) u l v before after → Follows e r w v
 judged {u} e l (Ok x) j p acts mine is_entry is_refused part = granted u l p (is_entry j) (is_own_part (λ _ _ no. no) part)
 judged {w} e l (Err errors.OutOfMemory) j p acts mine is_entry is_refused part = subst (λ x. Prepares e.node e.hash e.deed w x) (sym (unwritten (is_refused j) part)) p
@@ -70,16 +70,16 @@ prepare_acts {i} h (deed.Release t n) {w} p = subst (ActsAlone i w) (sym p) acts
 prepare_acts {i} h (deed.Spend n) {w} p = subst (ActsAlone i w) (sym p) acts_not
 prepare_acts {i} h deed.Moved {w} p = subst (ActsAlone i w) (sym p) acts_not
 
-entry_caller : (i : ℕ) (h : ServiceHash) (d : Deed) (l : Letter) → Grants i h d l → caller_of l ≡ i
-entry_caller i h deed.MakeTag l g = ap caller_of g
-entry_caller i h deed.RemoveTag l g = ap caller_of g
-entry_caller i h (deed.Lock n) l g = ap caller_of g
-entry_caller i h (deed.MakeSegment n m) l g = ap caller_of g
-entry_caller i h deed.RemoveSegment l g = ap caller_of g
-entry_caller i h deed.RemoveDescription l g = ap caller_of g
-entry_caller i h (deed.Publish n b) l g = ap caller_of g.2
-entry_caller i h (deed.OpenSegment n t) l g = ap caller_of g
-entry_caller i h (deed.Release t n) l g = ap caller_of g.1
+entry_caller : (i : ℕ) (h : ServiceHash) (d : Deed) (l : Letter) → Grants i h d l → acting_node l ≡ i
+entry_caller i h deed.MakeTag l g = ap acting_node g
+entry_caller i h deed.RemoveTag l g = ap acting_node g
+entry_caller i h (deed.Lock n) l g = ap acting_node g
+entry_caller i h (deed.MakeSegment n m) l g = ap acting_node g
+entry_caller i h deed.RemoveSegment l g = ap acting_node g
+entry_caller i h deed.RemoveDescription l g = ap acting_node g
+entry_caller i h (deed.Publish n b) l g = ap acting_node g.2
+entry_caller i h (deed.OpenSegment n t) l g = ap acting_node g
+entry_caller i h (deed.Release t n) l g = ap acting_node g.1
 entry_caller i h (deed.Spend n) l g = absurd g
 entry_caller i h deed.Moved l g = absurd g
 
@@ -87,9 +87,9 @@ each_as : {A : Type 0} (P Q : A → Type 0) → ((x : A) → P x → Q x) → (x
 each_as P Q f [] e = tt
 each_as P Q f (x ∷ xs) e = (f x e.0, each_as P Q f xs e.1)
 
-locks_caller : (i : ℕ) (h : ServiceHash) (l : Letter) → LocksOrGivesUp i h l → caller_of l ≡ i
-locks_caller i h l (inl x) = ap caller_of x.1
-locks_caller i h l (inr e) = ap caller_of e
+locks_caller : (i : ℕ) (h : ServiceHash) (l : Letter) → LocksOrGivesUp i h l → acting_node l ≡ i
+locks_caller i h l (inl x) = ap acting_node x.1
+locks_caller i h l (inr e) = ap acting_node e
 
 -- Numbers are spent by locks that are given up.
 pub record SpentBy (i : ℕ) (h : ServiceHash) (w v : World) : Type 0 where
@@ -103,7 +103,7 @@ spent_by_locks {i} {n} {h} {w} {v} s =
 
 pub spend_acts : {i n : ℕ} {h : ServiceHash} {w v : World} → Spends i h n w v → ActsAlone i w v
 spend_acts {i} {h = h} s =
-    let x = spent_by_locks s in record { word = x.word; is_word = each_as (LocksOrGivesUp i h) (λ l. caller_of l ≡ i) (locks_caller i h) x.word x.locks; run = x.run }
+    let x = spent_by_locks s in record { word = x.word; is_word = each_as (LocksOrGivesUp i h) (λ l. acting_node l ≡ i) (locks_caller i h) x.word x.locks; run = x.run }
 
 -- An entry that is followed is accesses of its node.
 pub followed_acts : {w v : World} (e : Entry) → IsFollowed w e v → ActsAlone e.node w v

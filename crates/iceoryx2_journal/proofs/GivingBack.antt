@@ -3,7 +3,7 @@ use Rattle.std.proofs.Common.{◌≡◌, ◌⊎◌, if◌then◌else◌, inl, in
 use Rattle.std.specs.Prelude.{OnErr, OnOk}
 use Rattle.iceoryx2_journal.specs.declared.cleaning.AdoptError.{AdoptError}
 use Rattle.iceoryx2_journal.specs.declared.cleaning.AdoptError.TheVariants as adopting
-use Rattle.iceoryx2_access.specs.Letter.{Letter, caller_of}
+use Rattle.iceoryx2_access.specs.Letter.{Letter, acting_node}
 use Rattle.iceoryx2_access.specs.Letter as letter
 use Rattle.iceoryx2_access.specs.Run.{Run, done, next}
 use Rattle.iceoryx2_access.proofs.Run.{one, both}
@@ -26,15 +26,15 @@ use Rattle.iceoryx2_journal.specs.Journal.{JournalState, TakesAll, Fails}
 use Rattle.iceoryx2_journal.specs.Cleaning.{has_segment, GivesUp, given_back, with_one, given_by, nothing_given, step_with, CleansBy, CleansSome, CleansNext, CleansAll, Cleans, FindsNothing, Adopts}
 use Rattle.iceoryx2_journal.proofs.Runs.{begun, not_begun}
 
-service_caller : (i : ℕ) (b : Bool) (l x y : Letter) → caller_of x ≡ i → caller_of y ≡ i → l ≡ (if b then x else y) → caller_of l ≡ i
-service_caller i true l x y a b is = ap caller_of is ∙ a
-service_caller i false l x y a b is = ap caller_of is ∙ b
+service_caller : (i : ℕ) (b : Bool) (l x y : Letter) → acting_node x ≡ i → acting_node y ≡ i → l ≡ (if b then x else y) → acting_node l ≡ i
+service_caller i true l x y a b is = ap acting_node is ∙ a
+service_caller i false l x y a b is = ap acting_node is ∙ b
 
 -- the letter is in the node's name
-pub gives_caller : (i : ℕ) (x : Holding) (l : Letter) → GivesUp i x l → caller_of l ≡ i
-gives_caller i (holding.Ticket t h n) l g = ap caller_of g.1
+pub gives_caller : (i : ℕ) (x : Holding) (l : Letter) → GivesUp i x l → acting_node l ≡ i
+gives_caller i (holding.Ticket t h n) l g = ap acting_node g.1
 gives_caller i (holding.Service h p) l g = service_caller i (has_segment p) l (letter.RemoveSegment i h g.0) (letter.RemoveDescription i h g.0) refl refl g.1
-gives_caller i (holding.Tag h) l g = ap caller_of g.1
+gives_caller i (holding.Tag h) l g = ap acting_node g.1
 
 -- what is given back by one more letter
 pub given_more : (c : Cleaned) (word : List Letter) (l : Letter) (g : GivenBack) → given_back l ≡ Some g → with_one (given_by c word) (Some g) ≡ given_by c (word ++ l ∷ [])
@@ -90,7 +90,7 @@ module _ {L : Type 0} {contents : L → Option Contents} where
 
 -- ---- what is kept
 module _ {L : Type 0} (contents : L → Option Contents) (i : ℕ) where
-  part_others : (own : ℕ → Bool) (w v : World) (l : Letter) (g d : L) → own (caller_of l) ≡ false → IsLoggedPart contents w l v g d → Rely own w v
+  part_others : (own : ℕ → Bool) (w v : World) (l : Letter) (g d : L) → own (acting_node l) ≡ false → IsLoggedPart contents w l v g d → Rely own w v
   part_others own w v l g d isnt (unwritten not_written part reads kept) = others_keep_own own (node_acts l isnt part nobody)
   part_others own w v l g d isnt (written e holds part is_entry appends) = others_keep_own own (node_acts l isnt part nobody)
   part_others own w v l g d isnt (declined fault same kept) = subst (Rely own w) (sym same) (rely_same own w)

@@ -4,7 +4,7 @@ use Rattle.std.specs.FinMap as map
 use Rattle.iceoryx2_description.specs.declared.description.ServiceHash.{ServiceHash}
 use Rattle.iceoryx2_access.specs.declared.storage.FetchError.{FetchError}
 use Rattle.iceoryx2_access.specs.declared.storage.FetchError.TheVariants as Fetching
-use Rattle.iceoryx2_access.specs.Letter.{Letter, caller_of, service_of}
+use Rattle.iceoryx2_access.specs.Letter.{Letter, acting_node, service_of}
 use Rattle.iceoryx2_access.specs.Letter as letter
 use Rattle.iceoryx2_world.specs.declared.world.Participant.{Participant}
 use Rattle.iceoryx2_world.specs.declared.world.Participant.TheVariants.{Node}
@@ -99,16 +99,16 @@ same_write u v i h c s = same_write_by u v i h c.view c.tag c.tickets s
 
 -- ---- an entry's access
 
-entry_place : (i : ℕ) (h : ServiceHash) (d : Deed) (l : Letter) → Grants i h d l → (caller_of l ≡ i) × (service_of l ≡ h)
-entry_place i h deed.MakeTag l g = (ap caller_of g, ap service_of g)
-entry_place i h deed.RemoveTag l g = (ap caller_of g, ap service_of g)
-entry_place i h (deed.Lock n) l g = (ap caller_of g, ap service_of g)
-entry_place i h (deed.MakeSegment n m) l g = (ap caller_of g, ap service_of g)
-entry_place i h deed.RemoveSegment l g = (ap caller_of g, ap service_of g)
-entry_place i h deed.RemoveDescription l g = (ap caller_of g, ap service_of g)
-entry_place i h (deed.Publish n b) l g = (ap caller_of g.2, ap service_of g.2)
-entry_place i h (deed.OpenSegment n t) l g = (ap caller_of g, ap service_of g)
-entry_place i h (deed.Release t n) l g = (ap caller_of g.1, ap service_of g.1)
+entry_place : (i : ℕ) (h : ServiceHash) (d : Deed) (l : Letter) → Grants i h d l → (acting_node l ≡ i) × (service_of l ≡ h)
+entry_place i h deed.MakeTag l g = (ap acting_node g, ap service_of g)
+entry_place i h deed.RemoveTag l g = (ap acting_node g, ap service_of g)
+entry_place i h (deed.Lock n) l g = (ap acting_node g, ap service_of g)
+entry_place i h (deed.MakeSegment n m) l g = (ap acting_node g, ap service_of g)
+entry_place i h deed.RemoveSegment l g = (ap acting_node g, ap service_of g)
+entry_place i h deed.RemoveDescription l g = (ap acting_node g, ap service_of g)
+entry_place i h (deed.Publish n b) l g = (ap acting_node g.2, ap service_of g.2)
+entry_place i h (deed.OpenSegment n t) l g = (ap acting_node g, ap service_of g)
+entry_place i h (deed.Release t n) l g = (ap acting_node g.1, ap service_of g.1)
 entry_place i h (deed.Spend n) l g = absurd g
 entry_place i h deed.Moved l g = absurd g
 
@@ -118,9 +118,9 @@ record PartAt (i : ℕ) (h : ServiceHash) (w : World) (l : Letter) (v : World) :
   own : IsNodeAnswer i h (node_view w i h) l change
   is : v ≡ write w i h change
 
-part_at : {w v : World} (i : ℕ) (h : ServiceHash) (l : Letter) → (caller_of l ≡ i) × (service_of l ≡ h) → IsOwnPart w l v → PartAt i h w l v
+part_at : {w v : World} (i : ℕ) (h : ServiceHash) (l : Letter) → (acting_node l ≡ i) × (service_of l ≡ h) → IsOwnPart w l v → PartAt i h w l v
 part_at {w} {v} i h l e p =
-    subst (λ j. PartAt j h w l v) e.0 (subst (λ g. PartAt (caller_of l) g w l v) e.1 (record { change = p.change; own = p.own; is = p.is }))
+    subst (λ j. PartAt j h w l v) e.0 (subst (λ g. PartAt (acting_node l) g w l v) e.1 (record { change = p.change; own = p.own; is = p.is }))
 
 -- what a node sees of the same world, but for its phase
 seen : (u v : World) (i : ℕ) (h : ServiceHash) → IsSameButRead u v → node_view v i h ≡ view_at i h (row_of u h) (segment_of u h) u.counter (tag_of u i h) u.tickets (phase_of v (Node i) h)

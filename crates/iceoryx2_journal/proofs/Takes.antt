@@ -1,6 +1,6 @@
 -- Entries that are taken over are what others do.
 use Rattle.std.proofs.Common.{◌≡◌, ℕ, Bool, false, List, [], ◌∷◌, ◌++◌, Option, sym, ap, subst, ◌∙◌}
-use Rattle.iceoryx2_access.specs.Letter.{Letter, caller_of}
+use Rattle.iceoryx2_access.specs.Letter.{Letter, acting_node}
 use Rattle.iceoryx2_access.specs.Run.{Run, done, next, Each}
 use Rattle.iceoryx2_access.proofs.Run.{one, both, each_append}
 use Rattle.iceoryx2_world.specs.World.{World}
@@ -53,7 +53,7 @@ takes_some {nodes} {s} {u} {w} {v} {c} {d} {f} t stops still = record { between 
 
 -- ---- what others do
 
-word_others : {own : ℕ → Bool} (i : ℕ) → own i ≡ false → (word : List Letter) {w v u : World} → Each (λ l. caller_of l ≡ i) word → Run IsOwnPart w word v → Others own v u → Others own w u
+word_others : {own : ℕ → Bool} (i : ℕ) → own i ≡ false → (word : List Letter) {w v u : World} → Each (λ l. acting_node l ≡ i) word → Run IsOwnPart w word v → Others own v u → Others own w u
 word_others i f [] e done o = o
 word_others {own} i f (l ∷ word) e (next h r) o = node_acts l (ap own e.0 ∙ f) h (word_others i f word e.1 r o)
 

@@ -4,8 +4,8 @@ use Rattle.std.specs.Prelude.{Option, Some, None, Result, Ok, Err}
 use Rattle.iceoryx2_access.specs.declared.storage.Release.{Release as Released}
 use Rattle.iceoryx2_access.specs.declared.storage.ReleaseError.{ReleaseError}
 use Rattle.iceoryx2_access.specs.declared.storage.RemoveError.{RemoveError}
-use Rattle.iceoryx2_access.specs.Counts.{one_more}
-use Rattle.iceoryx2_access.specs.Letter.{Letter, caller_of}
+use Rattle.iceoryx2_access.specs.Counts.{count_up}
+use Rattle.iceoryx2_access.specs.Letter.{Letter, acting_node}
 use Rattle.iceoryx2_access.specs.Letter as letter
 use Rattle.iceoryx2_access.specs.Registered.{Registered}
 use Rattle.iceoryx2_access.specs.Run.{Run}
@@ -68,8 +68,8 @@ step_with (Some g) = step.Gave g
 
 abbrev pub with_one : Cleaned → Option GivenBack → Cleaned
 with_one c None = c
-with_one c (Some given.Ticket) = record c { releases = one_more c.releases }
-with_one c (Some given.Thing) = record c { removals = one_more c.removals }
+with_one c (Some given.Ticket) = record c { releases = count_up c.releases }
+with_one c (Some given.Thing) = record c { removals = count_up c.removals }
 
 -- how much a word gives back, from what was given back before
 abbrev pub given_by : Cleaned → List Letter → Cleaned
@@ -146,7 +146,7 @@ HoldsNothing = (w : World) (i : ℕ) (h : ServiceHash) → Agrees w → IsHoldin
 -- Each letter of cleaning is in the node's name.
 abbrev pub IsInItsName : {L : Type 0} → (L → Option Contents) → Type 0
 IsInItsName {L} contents = (i : ℕ) (old : JournalState L) (l : Letter) (new : JournalState L)
-    → CleansBy contents i old l new → caller_of l ≡ i
+    → CleansBy contents i old l new → acting_node l ≡ i
 
 -- What gives something of a node back leaves each factory of another node standing.
 abbrev pub SparesOtherNodes : Type 0

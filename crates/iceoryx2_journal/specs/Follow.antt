@@ -6,7 +6,7 @@ use Rattle.iceoryx2_byte_form.specs.Form.{IsForm}
 use Rattle.iceoryx2_access.specs.declared.storage.FetchError.{FetchError}
 use Rattle.iceoryx2_access.specs.declared.storage.Tag.TheVariants.{Made}
 use Rattle.iceoryx2_access.specs.declared.storage.Release.{Release as Released}
-use Rattle.iceoryx2_access.specs.Letter.{Letter, caller_of}
+use Rattle.iceoryx2_access.specs.Letter.{Letter, acting_node}
 use Rattle.iceoryx2_access.specs.Letter as letter
 use Rattle.iceoryx2_access.specs.Run.{Joins, Each}
 use Rattle.iceoryx2_world.specs.World.{World}
@@ -55,7 +55,7 @@ pub data IsFollowed (old : World) (e : Entry) (new : World) : Type 0 where
 
 -- There are accesses of this node and of no other, with whatever answers.
 abbrev pub ActsAlone : (node : ℕ) → World → World → Type 0
-ActsAlone i old new = Joins IsOwnPart old (Each (λ l. caller_of l ≡ i)) new
+ActsAlone i old new = Joins IsOwnPart old (Each (λ l. acting_node l ≡ i)) new
 
 -- What following an entry comes to, by how it ends. Without memory nothing was done but what comes before the access.
 abbrev pub Follows : Entry → Result (Unit {0}) FollowError → World → World → Type 0

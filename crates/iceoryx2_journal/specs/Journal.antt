@@ -1,7 +1,7 @@
 -- What a process makes of a log that others share, and what each of its accesses does.
 use Rattle.std.specs.Prelude.{◌≡◌, ℕ, Bool, true, false, ◌&&◌, not, List, Option, refl}
 use Rattle.std.specs.Coded.{Coded, code_by, coded×, coded_ℕ, coded_bool, coded_list}
-use Rattle.iceoryx2_access.specs.Letter.{Letter, caller_of}
+use Rattle.iceoryx2_access.specs.Letter.{Letter, acting_node}
 use Rattle.iceoryx2_access.specs.Letter as letter
 use Rattle.iceoryx2_access.specs.MayRefuse.{IsFault}
 use Rattle.iceoryx2_world.specs.World.{World}
@@ -29,7 +29,7 @@ coded_journal {L} coded_log = code_by (World × (L × (List ℕ × Bool)))
 -- An access is in an own node's name. `exists` is in nobody's.
 abbrev pub is_mine : List ℕ → Letter → Bool
 is_mine nodes (letter.Exists h a) = true
-is_mine nodes l = is_own nodes (caller_of l)
+is_mine nodes l = is_own nodes (acting_node l)
 
 module _ {L : Type 0} (contents : L → Option Contents) where
   -- All that others appended has had its effect, and is taken over. Nothing is unread.
