@@ -7,15 +7,16 @@ use Rattle.iceoryx2_access.specs.Run.{Joins}
 use Rattle.iceoryx2_errors.specs.declared.error.CloseError.{CloseError}
 use Rattle.iceoryx2_errors.specs.declared.error.CloseError.TheVariants.{NotHere}
 use Rattle.iceoryx2_call_laws.specs.Tickets.{CloseAnswer}
-use Rattle.iceoryx2_port_factory.specs.Closes.{IsCloseWord}
-use Rattle.iceoryx2_port_factory.proofs.HandedBack.{handed_back}
+use Rattle.iceoryx2_rounds.specs.Closes.{IsCloseWord}
+use Rattle.iceoryx2_rounds.proofs.HandedBack.{handed_back}
 use Rattle.iceoryx2_world.specs.World.{World}
 use Rattle.iceoryx2_commands.specs.declared.command.Call.{Call}
 use Rattle.iceoryx2_commands.specs.declared.command.Command.TheVariants as command
+use Rattle.iceoryx2_commands.specs.declared.command.Refusal.{Refusal}
 use Rattle.iceoryx2_commands.specs.declared.command.Reply.TheVariants as reply
 use Rattle.iceoryx2_session.specs.Patterns.{builder_call}
 use Rattle.iceoryx2_session.specs.Slots.{FreeAt, HoldsAt}
-use Rattle.iceoryx2_session.specs.Sessions.{SessionOver, BuildsBy, LetsGoBy, ClosesOrHandsBackBy, GoesBy}
+use Rattle.iceoryx2_session.specs.Sessions.{SessionOver, BuildsBy, LetsGoBy, ClosesOrHandsBackBy, AppliesBy}
 use Rattle.iceoryx2_session.specs.Sessions as goes
 use Rattle.iceoryx2_session.proofs.Places.{set_same, set_again}
 
@@ -35,23 +36,29 @@ handed_back_by step f back e not_here is =
 module _ {S : Type 0} (step : S → Letter → S → Type 0) (world : S → World) where
   pub calling : (s : SessionOver S) (call : Call) (f : Registered) (n : ℕ) (w : S) (ys : List (Option Registered)) → FreeAt s.slots call.slot
       → BuildsBy step (builder_call s.config call) s.table (Ok f) w → n ≡ f.number → ys ≡ slice_set s.slots call.slot (Some f)
-      → GoesBy step world s (command.Call call) (reply.Opened call.slot n) (record s { table = w; slots = ys })
+      → AppliesBy step world s (command.Call call) (reply.Opened call.slot n) (record s { table = w; slots = ys })
   calling s call f n w ys free is number slots =
-      subst (λ (l : List (Option Registered)). GoesBy step world s (command.Call call) (reply.Opened call.slot n) (record s { table = w; slots = l })) (sym slots)
-      (subst (λ (m : ℕ). GoesBy step world s (command.Call call) (reply.Opened call.slot m) (record s { table = w; slots = slice_set s.slots call.slot (Some f) })) (sym number) (goes.called f free is))
+      subst (λ (l : List (Option Registered)). AppliesBy step world s (command.Call call) (reply.Opened call.slot n) (record s { table = w; slots = l })) (sym slots)
+      (subst (λ (m : ℕ). AppliesBy step world s (command.Call call) (reply.Opened call.slot m) (record s { table = w; slots = slice_set s.slots call.slot (Some f) })) (sym number) (goes.called f free is))
+
+  pub refusing : (s : SessionOver S) (call : Call) (e : Refusal) (w : S) (ys : List (Option Registered)) → FreeAt s.slots call.slot
+      → BuildsBy step (builder_call s.config call) s.table (Err e) w → ys ≡ s.slots
+      → AppliesBy step world s (command.Call call) (reply.Refused e) (record s { table = w; slots = ys })
+  refusing s call e w ys free is slots =
+      subst (λ (l : List (Option Registered)). AppliesBy step world s (command.Call call) (reply.Refused e) (record s { table = w; slots = l })) (sym slots) (goes.refused free is)
 
   pub let_go : (s : SessionOver S) (k : ℕ) (f : Registered) (w : S) (ys : List (Option Registered)) → HoldsAt s.slots k f
-      → ys ≡ slice_set s.slots k None → LetsGoBy step s.table f w → GoesBy step world s (command.Close k) (reply.Closed k) (record s { table = w; slots = ys })
-  let_go s k f w ys at slots is = subst (λ (l : List (Option Registered)). GoesBy step world s (command.Close k) (reply.Closed k) (record s { table = w; slots = l })) (sym slots) (goes.closed f at is)
+      → ys ≡ slice_set s.slots k None → LetsGoBy step s.table f w → AppliesBy step world s (command.Close k) (reply.Closed k) (record s { table = w; slots = ys })
+  let_go s k f w ys at slots is = subst (λ (l : List (Option Registered)). AppliesBy step world s (command.Close k) (reply.Closed k) (record s { table = w; slots = l })) (sym slots) (goes.closed f at is)
 
   pub put_back : (s : SessionOver S) (k : ℕ) (f g : Registered) (w : S) (ys zs : List (Option Registered)) → HoldsAt s.slots k f
       → ys ≡ slice_set s.slots k None → zs ≡ slice_set ys k (Some g) → ClosesOrHandsBackBy step s.table f (Some g) w
-      → GoesBy step world s (command.Close k) (reply.NotClosed k) (record s { table = w; slots = zs })
+      → AppliesBy step world s (command.Close k) (reply.NotClosed k) (record s { table = w; slots = zs })
   put_back s k f g w ys zs at taken put is =
       let again : zs ≡ s.slots = put ∙ ap (λ (l : List (Option Registered)). slice_set l k (Some g)) taken
       ∙ ap (λ (h : Registered). slice_set (slice_set s.slots k None) k (Some h)) is.0 ∙ set_again s.slots k None (Some f) at in
-      subst (λ (l : List (Option Registered)). GoesBy step world s (command.Close k) (reply.NotClosed k) (record s { table = w; slots = l })) (sym again) (goes.not_closed f at is.1)
+      subst (λ (l : List (Option Registered)). AppliesBy step world s (command.Close k) (reply.NotClosed k) (record s { table = w; slots = l })) (sym again) (goes.not_closed f at is.1)
 
   pub nothing_to_close : (s : SessionOver S) (k : ℕ) (ys : List (Option Registered)) → FreeAt s.slots k → ys ≡ slice_set s.slots k None
-      → GoesBy step world s (command.Close k) reply.SlotEmpty (record s { slots = ys })
-  nothing_to_close s k ys free slots = subst (λ (l : List (Option Registered)). GoesBy step world s (command.Close k) reply.SlotEmpty (record s { slots = l })) (sym (slots ∙ set_same s.slots k None free)) (goes.close_empty free)
+      → AppliesBy step world s (command.Close k) reply.SlotEmpty (record s { slots = ys })
+  nothing_to_close s k ys free slots = subst (λ (l : List (Option Registered)). AppliesBy step world s (command.Close k) reply.SlotEmpty (record s { slots = l })) (sym (slots ∙ set_same s.slots k None free)) (goes.close_empty free)

@@ -14,7 +14,7 @@ use Rattle.iceoryx2_world.proofs.agreement.Accesses.{unrefused}
 use Rattle.iceoryx2_world.proofs.agreement.Maps.{set_cases}
 use Rattle.iceoryx2_access.specs.Letter.{Letter}
 use Rattle.iceoryx2_access.specs.Registered.{Registered}
-use Rattle.iceoryx2_create_and_open.specs.Answers.{map_err}
+use Rattle.iceoryx2_rounds.specs.Answers.{map_err}
 use Rattle.iceoryx2_call_laws.specs.Tickets.{tickets_after}
 use Rattle.iceoryx2_call_laws.proofs.calls.AnyLeft.{adds_its_ticket}
 use Rattle.iceoryx2_call_laws.proofs.calls.Tickets.{takes_its_ticket, removes_ticket}
@@ -25,7 +25,7 @@ use Rattle.iceoryx2_commands.specs.declared.command.Refusal.{Refusal}
 use Rattle.iceoryx2_commands.specs.declared.command.Reply.{Reply}
 use Rattle.iceoryx2_session.specs.PatternCalls.{PatternCall}
 use Rattle.iceoryx2_session.specs.Patterns.{builder_call}
-use Rattle.iceoryx2_session.specs.Sessions.{SessionOver, SessionState, BuildsBy, LetsGoBy, HandsBackBy, ClosesFactoryBy, GoesBy, Goes, GoesInWorld}
+use Rattle.iceoryx2_session.specs.Sessions.{SessionOver, SessionState, BuildsBy, LetsGoBy, HandsBackBy, ClosesFactoryBy, AppliesBy, Applies, AppliesInWorld}
 use Rattle.iceoryx2_session.specs.Sessions as goes
 use Rattle.iceoryx2_session.specs.StandingSlots.{HasTicket, OwnsTicketsUnder, OwnsTickets, OwnsTicketsInWorld}
 use Rattle.iceoryx2_session.proofs.SlotLists.{set_here, set_there, not_free, same_slot}
@@ -89,7 +89,7 @@ module _ (own : ℕ → Bool) {S : Type 0} (step : S → Letter → S → Type 0
       seen_tickets (world s) (world t) b.refusal_of is.0 answer is.1
       (adds_its_ticket own b.call is.2.word is.0 (world s) (world t) is.2.is_word (worlds own step world of_world is.2.run) agrees)
 
-  pub owns_after : {s : SessionOver S} {c : Command} {a : Reply} {n : SessionOver S} → GoesBy step world s c a n → Agrees (world s.table)
+  pub owns_after : {s : SessionOver S} {c : Command} {a : Reply} {n : SessionOver S} → AppliesBy step world s c a n → Agrees (world s.table)
       → OwnsTicketsUnder own (world s.table) s.slots → OwnsTicketsUnder own (world n.table) n.slots
   owns_after (goes.call_past le) agrees owned = owned
   owns_after (goes.call_taken t) agrees owned = owned
@@ -117,10 +117,10 @@ module _ (own : ℕ → Bool) {S : Type 0} (step : S → Letter → S → Type 0
   owns_after goes.not_listed agrees owned = owned
 
 -- over a table, at which every node is one's own
-pub table_owns : {s n : SessionState} {c : Command} {a : Reply} → Goes s c a n → Agrees s.table.world → OwnsTickets s → OwnsTickets n
+pub table_owns : {s n : SessionState} {c : Command} {a : Reply} → Applies s c a n → Agrees s.table.world → OwnsTickets s → OwnsTickets n
 table_owns goes agrees owned = owns_after everyone IsTableAccess (λ table. table.world) (of_table everyone) goes agrees owned
 
 -- over a world
-pub owns_in_world : {own : ℕ → Bool} {s n : SessionOver World} {c : Command} {a : Reply} → GoesInWorld own s c a n → Agrees s.table
+pub owns_in_world : {own : ℕ → Bool} {s n : SessionOver World} {c : Command} {a : Reply} → AppliesInWorld own s c a n → Agrees s.table
     → OwnsTicketsInWorld own s → OwnsTicketsInWorld own n
 owns_in_world {own = own} goes agrees owned = owns_after own (IsFallibleUnder own) (λ w. w) (λ w v l a. a) goes agrees owned

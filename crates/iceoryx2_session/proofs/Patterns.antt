@@ -7,8 +7,8 @@ use Rattle.iceoryx2_request_response_builder.specs.Builder as request_response
 use Rattle.iceoryx2_attribute.specs.Requirements.{Requirements}
 use Rattle.iceoryx2_description.specs.declared.time.ClockFault.{ClockFault}
 use Rattle.iceoryx2_description.specs.Span.{Span}
-use Rattle.iceoryx2_open_or_create.specs.BuilderCalls.{Way}
-use Rattle.iceoryx2_open_or_create.specs.LawfulCalls.{IsLawfulCall}
+use Rattle.iceoryx2_rounds.specs.BuilderCalls.{Way}
+use Rattle.iceoryx2_rounds.specs.LawfulCalls.{IsLawfulCall}
 use Rattle.iceoryx2_builder.proofs.LawfulCalls.{event_call_is_lawful, publish_subscribe_call_is_lawful, request_response_call_is_lawful}
 use Rattle.iceoryx2_commands.specs.declared.command.Settings.{Settings}
 use Rattle.iceoryx2_commands.specs.declared.command.Settings.TheVariants as settings

@@ -10,9 +10,9 @@ use Rattle.iceoryx2_description.specs.Span.{Span}
 use Rattle.iceoryx2_world.specs.World.{World}
 use Rattle.iceoryx2_world.specs.Across.{Agrees}
 use Rattle.iceoryx2_world.specs.Interference.{IsFallibleUnder}
-use Rattle.iceoryx2_create_and_open.specs.Answers.{map_err}
-use Rattle.iceoryx2_open_or_create.specs.Adjusting.{OnlyRaises}
-use Rattle.iceoryx2_open_or_create.specs.BuilderCalls.{Way}
+use Rattle.iceoryx2_rounds.specs.Answers.{map_err}
+use Rattle.iceoryx2_rounds.specs.Adjusting.{OnlyRaises}
+use Rattle.iceoryx2_rounds.specs.BuilderCalls.{Way}
 use Rattle.iceoryx2_call_laws.specs.Headline.{IsAsPromised}
 use Rattle.iceoryx2_call_laws.proofs.calls.Headline.{as_promised}
 use Rattle.iceoryx2_builder.proofs.Adjusting.{events_only_raise, publish_subscribe_only_raises, request_response_only_raises}
@@ -25,7 +25,7 @@ use Rattle.iceoryx2_commands.specs.declared.command.Reply.{Reply}
 use Rattle.iceoryx2_commands.specs.declared.command.Reply.TheVariants as reply
 use Rattle.iceoryx2_session.specs.PatternCalls.{PatternCall, way_of}
 use Rattle.iceoryx2_session.specs.Patterns.{call_by, builder_call}
-use Rattle.iceoryx2_session.specs.Sessions.{SessionOver, BuildsBy, GoesBy}
+use Rattle.iceoryx2_session.specs.Sessions.{SessionOver, BuildsBy, AppliesBy}
 use Rattle.iceoryx2_session.specs.Sessions as goes
 use Rattle.iceoryx2_session.specs.Slots.{FreeAt, HoldsAt}
 use Rattle.iceoryx2_session.specs.Promised.{AnswerTo, IsRepliedBy, IsPromisedBy, CallsAsPromisedBy}
@@ -71,7 +71,7 @@ module _ (own : ℕ → Bool) {S : Type 0} (step : S → Letter → S → Type 0
     promised = λ mine agrees. promise (builder_call config call) mine agrees is;
   }
 
-  pub calls_as_promised : {s : SessionOver S} {c : Command} {a : Reply} {n : SessionOver S} → GoesBy step world s c a n → CallsAsPromisedBy step world own s c a n
+  pub calls_as_promised : {s : SessionOver S} {c : Command} {a : Reply} {n : SessionOver S} → AppliesBy step world s c a n → CallsAsPromisedBy step world own s c a n
   calls_as_promised (goes.call_past le) = λ few free. absurd (omega (arith, le, few))
   calls_as_promised {s = s} (goes.call_taken {call = call} taken) = λ few free. absurd (not_free s.slots call.slot call.slot taken.0 free taken.1 refl)
   calls_as_promised {s = s} {a = a} {n = n} (goes.called {call = call} f free is) = λ few _.

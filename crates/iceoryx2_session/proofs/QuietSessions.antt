@@ -18,15 +18,15 @@ use Rattle.iceoryx2_commands.specs.declared.command.Refusal.{Refusal}
 use Rattle.iceoryx2_commands.specs.declared.command.Reply.{Reply}
 use Rattle.iceoryx2_session.specs.PatternCalls.{PatternCall}
 use Rattle.iceoryx2_session.specs.Patterns.{builder_call}
-use Rattle.iceoryx2_session.specs.Sessions.{SessionState, Builds, Goes}
+use Rattle.iceoryx2_session.specs.Sessions.{SessionState, Builds, Applies}
 use Rattle.iceoryx2_session.specs.Sessions as goes
 use Rattle.iceoryx2_session.specs.StandingSlots.{SlotsStand, OwnsTickets}
-use Rattle.iceoryx2_session.specs.QuietSessions.{IsQuiet, AnswersCall, IsMoved, TellsNoChange, IsUnchanged}
+use Rattle.iceoryx2_session.specs.QuietSessions.{IsQuiet, AnswersCall, IsMoved, RepliesNoChange, IsUnchanged}
 use Rattle.iceoryx2_session.specs.QuietSessions as moves
-use Rattle.iceoryx2_open_or_create.specs.LawfulCalls.{IsLawfulCall}
+use Rattle.iceoryx2_rounds.specs.LawfulCalls.{IsLawfulCall}
 use Rattle.iceoryx2_call_laws.specs.QuietWays.{Answers}
 use Rattle.iceoryx2_call_laws.proofs.quiet.Ways.{call_follows, refused_call}
-use Rattle.iceoryx2_create_and_open.specs.Answers.{map_err}
+use Rattle.iceoryx2_rounds.specs.Answers.{map_err}
 use Rattle.iceoryx2_session.proofs.Patterns.{call_is_lawful}
 use Rattle.iceoryx2_session.proofs.StandingSlots.{comes_not_back}
 
@@ -53,7 +53,7 @@ none_waits b answer s t waiting is = (idle_run waiting is.2.run).1.0
 quiet_after : (n : SessionState) (q : Quiet) → Shows n.table.world q → Agrees n.table.world → n.table.waiting ≡ [] → IsQuiet n q
 quiet_after n q shows agrees waiting = record { shows = shows; agrees = agrees; waiting = waiting }
 
-pub moved : {s : SessionState} {c : Command} {a : Reply} {n : SessionState} (q : Quiet) → IsQuiet s q → SlotsStand s → Goes s c a n
+pub moved : {s : SessionState} {c : Command} {a : Reply} {n : SessionState} (q : Quiet) → IsQuiet s q → SlotsStand s → Applies s c a n
     → IsMoved s q c a n
 moved q old slots (goes.call_past le) = record { state = q; moves = moves.call_past le; quiet = old; configured = refl }
 moved q old slots (goes.call_taken t) = record { state = q; moves = moves.call_taken t; quiet = old; configured = refl }
@@ -92,7 +92,7 @@ refusal_keeps b e w v q p s t is =
 pub itself : (s : SessionState) → IsUnchanged s s
 itself s = record { slots = refl; services = record { rows = λ h. refl; segments = λ h. refl; tags = λ i h. refl; counts = λ i h. refl } }
 
-pub unchanged_by : {s : SessionState} {c : Command} {a : Reply} {n : SessionState} (q : Quiet) → IsQuiet s q → SlotsStand s → Goes s c a n → TellsNoChange a
+pub unchanged_by : {s : SessionState} {c : Command} {a : Reply} {n : SessionState} (q : Quiet) → IsQuiet s q → SlotsStand s → Applies s c a n → RepliesNoChange a
     → IsUnchanged s n
 unchanged_by {s = s} q old slots (goes.call_past le) still = itself s
 unchanged_by {s = s} q old slots (goes.call_taken t) still = itself s

@@ -11,17 +11,17 @@ use Rattle.iceoryx2_commands.specs.declared.command.Command.{Command}
 use Rattle.iceoryx2_commands.specs.declared.command.Refusal.{Refusal}
 use Rattle.iceoryx2_commands.specs.declared.command.Reply.{Reply}
 use Rattle.iceoryx2_session.specs.CommandLists.{CarriesOut, none, first}
-use Rattle.iceoryx2_session.specs.CommandWords.{GoesAlong}
+use Rattle.iceoryx2_session.specs.CommandWords.{AppliesAlong}
 use Rattle.iceoryx2_session.specs.PatternCalls.{PatternCall}
 use Rattle.iceoryx2_session.specs.Patterns.{builder_call}
-use Rattle.iceoryx2_session.specs.Sessions.{SessionOver, BuildsBy, LetsGoBy, HandsBackBy, ClosesFactoryBy, ClosesPlaceBy, ClosesSlotsBy, GoesBy, shown_session}
-use Rattle.iceoryx2_session.specs.Sessions.{ClosesSlots, Goes, shown_world, ClosesSlotsInWorld, GoesInWorld}
+use Rattle.iceoryx2_session.specs.Sessions.{SessionOver, BuildsBy, LetsGoBy, HandsBackBy, ClosesFactoryBy, ClosesPlaceBy, ClosesSlotsBy, AppliesBy, shown_session}
+use Rattle.iceoryx2_session.specs.Sessions.{ClosesSlots, Applies, shown_world, ClosesSlotsInWorld, AppliesInWorld}
 use Rattle.iceoryx2_session.specs.Sessions as goes
 
 -- ---- the accesses of a command
 
 pub goes_along : {S : Type 0} {step : S → Letter → S → Type 0} {world : S → World} {s : SessionOver S} {c : Command} {a : Reply} {n : SessionOver S}
-    → GoesBy step world s c a n → GoesAlong step s c a n
+    → AppliesBy step world s c a n → AppliesAlong step s c a n
 goes_along (goes.call_past le) = record { word = []; is_word = refl; run = done }
 goes_along (goes.call_taken e) = record { word = []; is_word = refl; run = done }
 goes_along (goes.called f free is) = record { word = is.2.word; is_word = (f, refl, (is.0, is.1, is.2.is_word)); run = is.2.run }
@@ -68,8 +68,8 @@ module _ {S T : Type 0} (step : S → Letter → S → Type 0) (by : T → Lette
   pub slots_shown : {s t : S} {slots : List (Option Registered)} → P s → ClosesSlotsBy step s slots t → ClosesSlotsBy by (shown s) slots (shown t) × P t
   slots_shown p run = run_map_where shown P closed_place p run
 
-  pub goes_shown : {s : SessionOver S} {c : Command} {a : Reply} {n : SessionOver S} → P s.table → GoesBy step (λ u. world (shown u)) s c a n
-      → GoesBy by world (shown_session shown s) c a (shown_session shown n) × P n.table
+  pub goes_shown : {s : SessionOver S} {c : Command} {a : Reply} {n : SessionOver S} → P s.table → AppliesBy step (λ u. world (shown u)) s c a n
+      → AppliesBy by world (shown_session shown s) c a (shown_session shown n) × P n.table
   goes_shown p (goes.call_past le) = (goes.call_past le, p)
   goes_shown p (goes.call_taken e) = (goes.call_taken e, p)
   goes_shown {s = s} p (goes.called {call = call} f {t = t} free is) =
@@ -83,8 +83,8 @@ module _ {S T : Type 0} (step : S → Letter → S → Type 0) (by : T → Lette
   goes_shown p (goes.listed lists) = (goes.listed lists, p)
   goes_shown p goes.not_listed = (goes.not_listed, p)
 
-  pub all_shown : {s n : SessionOver S} {commands : List Command} {replies : List Reply} → P s.table → CarriesOut (GoesBy step (λ u. world (shown u))) s commands replies n
-      → CarriesOut (GoesBy by world) (shown_session shown s) commands replies (shown_session shown n) × P n.table
+  pub all_shown : {s n : SessionOver S} {commands : List Command} {replies : List Reply} → P s.table → CarriesOut (AppliesBy step (λ u. world (shown u))) s commands replies n
+      → CarriesOut (AppliesBy by world) (shown_session shown s) commands replies (shown_session shown n) × P n.table
   all_shown p none = (none, p)
   all_shown p (first one rest) =
       let now = goes_shown p one in
@@ -98,12 +98,12 @@ module _ {S : Type 0} (step : S → Letter → S → Type 0) (shown : S → Tabl
   every_access : (s t : S) (l : Letter) → Unit {0} → step s l t → IsTableAccess (shown s) l (shown t) × Unit {0}
   every_access s t l p a = (accesses s l t a, tt)
 
-  pub goes_at_table : {s : SessionOver S} {c : Command} {a : Reply} {n : SessionOver S} → GoesBy step (shown_world shown) s c a n
-      → Goes (shown_session shown s) c a (shown_session shown n)
+  pub goes_at_table : {s : SessionOver S} {c : Command} {a : Reply} {n : SessionOver S} → AppliesBy step (shown_world shown) s c a n
+      → Applies (shown_session shown s) c a (shown_session shown n)
   goes_at_table is = (goes_shown step IsTableAccess shown (λ table. table.world) (λ s. Unit {0}) every_access tt is).0
 
-  pub all_at_table : {s n : SessionOver S} {commands : List Command} {replies : List Reply} → CarriesOut (GoesBy step (shown_world shown)) s commands replies n
-      → CarriesOut Goes (shown_session shown s) commands replies (shown_session shown n)
+  pub all_at_table : {s n : SessionOver S} {commands : List Command} {replies : List Reply} → CarriesOut (AppliesBy step (shown_world shown)) s commands replies n
+      → CarriesOut Applies (shown_session shown s) commands replies (shown_session shown n)
   all_at_table is = (all_shown step IsTableAccess shown (λ table. table.world) (λ s. Unit {0}) every_access tt is).0
 
   pub slots_at_table : {s t : S} {slots : List (Option Registered)} → ClosesSlotsBy step s slots t → ClosesSlots (shown s) slots (shown t)
@@ -121,13 +121,13 @@ module _ {S : Type 0} (step : S → Letter → S → Type 0) (world : S → Worl
   pub run_in_world : {s t : S} {word : List Letter} → Run step s word t → Run (IsFallibleUnder (own s)) (world s) word (world t) × (own t ≡ own s)
   run_in_world {s = s} run = run_map_where world (λ u. own u ≡ own s) (own_access s) refl run
 
-  pub goes_in_world : {s : SessionOver S} {c : Command} {a : Reply} {n : SessionOver S} → GoesBy step world s c a n
-      → GoesInWorld (own s.table) (shown_session world s) c a (shown_session world n) × (own n.table ≡ own s.table)
+  pub goes_in_world : {s : SessionOver S} {c : Command} {a : Reply} {n : SessionOver S} → AppliesBy step world s c a n
+      → AppliesInWorld (own s.table) (shown_session world s) c a (shown_session world n) × (own n.table ≡ own s.table)
   goes_in_world {s = s} is =
       goes_shown step (IsFallibleUnder (own s.table)) world (λ w. w) (λ u. own u ≡ own s.table) (own_access s.table) refl is
 
-  pub all_in_world : {s n : SessionOver S} {commands : List Command} {replies : List Reply} → CarriesOut (GoesBy step world) s commands replies n
-      → CarriesOut (GoesInWorld (own s.table)) (shown_session world s) commands replies (shown_session world n) × (own n.table ≡ own s.table)
+  pub all_in_world : {s n : SessionOver S} {commands : List Command} {replies : List Reply} → CarriesOut (AppliesBy step world) s commands replies n
+      → CarriesOut (AppliesInWorld (own s.table)) (shown_session world s) commands replies (shown_session world n) × (own n.table ≡ own s.table)
   all_in_world {s = s} is =
       all_shown step (IsFallibleUnder (own s.table)) world (λ w. w) (λ u. own u ≡ own s.table) (own_access s.table) refl is
 
@@ -143,10 +143,10 @@ same_view v w same = λ i s. same s i
 
 -- where two views show the same world, commands go in the same way over both
 module _ {S : Type 0} {step : S → Letter → S → Type 0} (v w : S → World) (same : (s : S) → v s ≡ w s) where
-  pub goes_seen : {s : SessionOver S} {c : Command} {a : Reply} {n : SessionOver S} → GoesBy step w s c a n → GoesBy step v s c a n
-  goes_seen {s = s} {c = c} {a = a} {n = n} is = subst (λ (u : S → World). GoesBy step u s c a n) (sym (same_view v w same)) is
+  pub goes_seen : {s : SessionOver S} {c : Command} {a : Reply} {n : SessionOver S} → AppliesBy step w s c a n → AppliesBy step v s c a n
+  goes_seen {s = s} {c = c} {a = a} {n = n} is = subst (λ (u : S → World). AppliesBy step u s c a n) (sym (same_view v w same)) is
 
-  pub all_seen : {s n : SessionOver S} {commands : List Command} {replies : List Reply} → CarriesOut (GoesBy step w) s commands replies n
-      → CarriesOut (GoesBy step v) s commands replies n
+  pub all_seen : {s n : SessionOver S} {commands : List Command} {replies : List Reply} → CarriesOut (AppliesBy step w) s commands replies n
+      → CarriesOut (AppliesBy step v) s commands replies n
   all_seen {s = s} {n = n} {commands = commands} {replies = replies} is =
-      subst (λ (u : S → World). CarriesOut (GoesBy step u) s commands replies n) (sym (same_view v w same)) is
+      subst (λ (u : S → World). CarriesOut (AppliesBy step u) s commands replies n) (sym (same_view v w same)) is

@@ -20,24 +20,24 @@ use Rattle.iceoryx2_call_laws.specs.Tickets.{CloseAnswer}
 use Rattle.iceoryx2_call_laws.proofs.calls.Tickets.{no_refusal}
 use Rattle.iceoryx2_call_laws.proofs.calls.Words.{close_spares, throughout}
 use Rattle.iceoryx2_errors.specs.declared.error.CloseError.TheVariants.{NotHere}
-use Rattle.iceoryx2_port_factory.proofs.HandedBack.{removed_here}
+use Rattle.iceoryx2_rounds.proofs.HandedBack.{removed_here}
 use Rattle.iceoryx2_call_laws.proofs.calls.Closed.{closes_what_stands}
 use Rattle.iceoryx2_call_laws.proofs.calls.Headline.{of_table}
-use Rattle.iceoryx2_port_factory.specs.Closes.{IsCloseWord, not_here, still_counted, left, last}
+use Rattle.iceoryx2_rounds.specs.Closes.{IsCloseWord, not_here, still_counted, left, last}
 use Rattle.iceoryx2_commands.specs.declared.command.Command.{Command}
 use Rattle.iceoryx2_commands.specs.declared.command.Command.TheVariants as command
 use Rattle.iceoryx2_commands.specs.declared.command.Refusal.{Refusal}
 use Rattle.iceoryx2_commands.specs.declared.command.Reply.{Reply}
-use Rattle.iceoryx2_create_and_open.specs.Answers.{map_err}
+use Rattle.iceoryx2_rounds.specs.Answers.{map_err}
 use Rattle.iceoryx2_description.specs.declared.config.Config.{Config}
 use Rattle.iceoryx2_session.specs.PatternCalls.{PatternCall}
 use Rattle.iceoryx2_session.specs.Patterns.{builder_call}
 use Rattle.iceoryx2_commands.specs.Commands.{slot_count}
 use Rattle.iceoryx2_session.specs.Slots.{HoldsAt}
-use Rattle.iceoryx2_session.specs.Sessions.{SessionOver, SessionState, BuildsBy, HandsBackBy, ClosesFactoryBy, ClosesPlaceBy, ClosesSlotsBy, GoesBy, Goes, IsClosedPlaceBy}
-use Rattle.iceoryx2_session.specs.Sessions.{ClosesSlotsInWorld, GoesInWorld}
+use Rattle.iceoryx2_session.specs.Sessions.{SessionOver, SessionState, BuildsBy, HandsBackBy, ClosesFactoryBy, ClosesPlaceBy, ClosesSlotsBy, AppliesBy, Applies, IsClosedPlaceBy}
+use Rattle.iceoryx2_session.specs.Sessions.{ClosesSlotsInWorld, AppliesInWorld}
 use Rattle.iceoryx2_session.specs.Sessions as goes
-use Rattle.iceoryx2_session.specs.StandingSlots.{SlotsStandUnder, IsOfOwn, ClosesTakenBy, SlotsStand, GoesStanding, OwnsTicketsUnder, SlotsStandInWorld, GoesStandingInWorld}
+use Rattle.iceoryx2_session.specs.StandingSlots.{SlotsStandUnder, IsOfOwn, ClosesTakenBy, SlotsStand, AppliesStanding, OwnsTicketsUnder, SlotsStandInWorld, AppliesStandingInWorld}
 use Rattle.iceoryx2_session.specs.Promised.{CallsAsPromisedInWorld}
 use Rattle.iceoryx2_session.proofs.Promised.{promise, calls_as_promised}
 use Rattle.iceoryx2_session.proofs.SlotLists.{same_factory, same_slot, no_factory, not_free, set_cases, none_held}
@@ -146,7 +146,7 @@ module _ (own : ℕ → Bool) {S : Type 0} (step : S → Letter → S → Type 0
   agrees_after run agrees = (run_keeps {own = own} (worlds run) agrees).0
 
   -- the world agrees after a command, whoever calls
-  pub goes_agree : {s : SessionOver S} {c : Command} {a : Reply} {n : SessionOver S} → GoesBy step world s c a n → Agrees (world s.table) → Agrees (world n.table)
+  pub goes_agree : {s : SessionOver S} {c : Command} {a : Reply} {n : SessionOver S} → AppliesBy step world s c a n → Agrees (world s.table) → Agrees (world n.table)
   goes_agree (goes.call_past le) agrees = agrees
   goes_agree (goes.call_taken e) agrees = agrees
   goes_agree (goes.called f free is) agrees = agrees_after is.2.run agrees
@@ -190,7 +190,7 @@ module _ (own : ℕ → Bool) {S : Type 0} (step : S → Letter → S → Type 0
       at_end (λ u. Stands u g) (throughout own g (λ u. Stands u g) (λ u new there. there) (world s) is.word mine (spares_each g f refl is.is_word) agrees at) (worlds is.run)
 
   -- there the factories of the slots stand, if the caller is an own node
-  pub stand_after : {s : SessionOver S} {c : Command} {a : Reply} {n : SessionOver S} → GoesBy step world s c a n → IsOfOwn own s.config c → Agrees (world s.table)
+  pub stand_after : {s : SessionOver S} {c : Command} {a : Reply} {n : SessionOver S} → AppliesBy step world s c a n → IsOfOwn own s.config c → Agrees (world s.table)
       → SlotsStandUnder own (world s.table) s.slots → SlotsStandUnder own (world n.table) n.slots
   stand_after (goes.call_past le) mine agrees old = old
   stand_after (goes.call_taken e) mine agrees old = old
@@ -212,14 +212,14 @@ module _ {own : ℕ → Bool} where
   any_access : (w v : World) (l : Letter) → IsFallibleUnder own w l v → IsFallibleUnder own w l v
   any_access w v l a = a
 
-  pub agree_in_world : {s n : SessionOver World} {c : Command} {a : Reply} → GoesInWorld own s c a n → Agrees s.table → Agrees n.table
+  pub agree_in_world : {s n : SessionOver World} {c : Command} {a : Reply} → AppliesInWorld own s c a n → Agrees s.table → Agrees n.table
   agree_in_world goes agrees = goes_agree own (IsFallibleUnder own) (λ w. w) any_access goes agrees
 
-  pub promised_in_world : {s n : SessionOver World} {c : Command} {a : Reply} → GoesInWorld own s c a n → CallsAsPromisedInWorld own s c a n
+  pub promised_in_world : {s n : SessionOver World} {c : Command} {a : Reply} → AppliesInWorld own s c a n → CallsAsPromisedInWorld own s c a n
   promised_in_world goes = calls_as_promised own (IsFallibleUnder own) (λ w. w) any_access goes
 
-  pub standing_in_world : {s n : SessionOver World} {c : Command} {a : Reply} → GoesInWorld own s c a n → IsOfOwn own s.config c → Agrees s.table
-      → SlotsStandInWorld own s → GoesStandingInWorld own s c a n
+  pub standing_in_world : {s n : SessionOver World} {c : Command} {a : Reply} → AppliesInWorld own s c a n → IsOfOwn own s.config c → Agrees s.table
+      → SlotsStandInWorld own s → AppliesStandingInWorld own s c a n
   standing_in_world goes mine agrees old =
       (goes, agree_in_world goes agrees, stand_after own (IsFallibleUnder own) (λ w. w) any_access goes mine agrees old, promised_in_world goes)
 
@@ -249,7 +249,7 @@ module _ (own : ℕ → Bool) {S : Type 0} (step : S → Letter → S → Type 0
   not_handed_back {s} {t} f mine agrees stood is =
       no_refusal (closes_what_stands own f is.word (Err (NotHere f)) (world s) (world t) mine is.is_word (run_map world of_world is.run) agrees stood).0 f refl
 
-  pub closes_taken : {s : SessionOver S} {c : Command} {a : Reply} {n : SessionOver S} → GoesBy step world s c a n → Agrees (world s.table)
+  pub closes_taken : {s : SessionOver S} {c : Command} {a : Reply} {n : SessionOver S} → AppliesBy step world s c a n → Agrees (world s.table)
       → SlotsStandUnder own (world s.table) s.slots → ClosesTakenBy step s c n
   closes_taken (goes.call_past le) agrees old = tt
   closes_taken (goes.call_taken e) agrees old = tt
@@ -279,8 +279,8 @@ pub comes_not_back : (s : SessionState) (k : ℕ) (f : Registered) (t : TableSta
     → HandsBackBy IsTableAccess s.table f t → ⊥
 comes_not_back s k f t agrees old at is = not_handed_back everyone IsTableAccess (λ table. table.world) unrefused_table f (old.of_own k f at) agrees (old.stand k f at) is
 
-pub goes_standing : {s n : SessionState} {c : Command} {a : Reply} → Goes s c a n → Agrees s.table.world → SlotsStand s → GoesStanding s c a n
-goes_standing {s = s} {c = c} goes agrees old = (
+pub applies_standing : {s n : SessionState} {c : Command} {a : Reply} → Applies s c a n → Agrees s.table.world → SlotsStand s → AppliesStanding s c a n
+applies_standing {s = s} {c = c} goes agrees old = (
   (
     goes,
     goes_agree everyone IsTableAccess (λ table. table.world) (of_table everyone) goes agrees,

@@ -3,13 +3,13 @@ use Rattle.std.specs.Prelude.{◌≡◌, List, [], Option, Result, Ok, Err}
 use Rattle.iceoryx2_access.specs.Letter.{Letter}
 use Rattle.iceoryx2_access.specs.Registered.{Registered}
 use Rattle.iceoryx2_access.specs.Run.{Run}
-use Rattle.iceoryx2_create_and_open.specs.Answers.{map_err}
+use Rattle.iceoryx2_rounds.specs.Answers.{map_err}
 use Rattle.iceoryx2_description.specs.declared.config.Config.{Config}
 use Rattle.iceoryx2_errors.specs.declared.error.CloseError.TheVariants.{NotHere}
 use Rattle.iceoryx2_call_laws.specs.Tickets.{CloseAnswer, HandsNothingBack}
-use Rattle.iceoryx2_open_or_create.specs.BuilderCalls.{ErrorBy}
-use Rattle.iceoryx2_open_or_create.specs.CallWords.{IsWordOf}
-use Rattle.iceoryx2_port_factory.specs.Closes.{IsCloseWord}
+use Rattle.iceoryx2_rounds.specs.BuilderCalls.{ErrorBy}
+use Rattle.iceoryx2_rounds.specs.CallWords.{IsWordOf}
+use Rattle.iceoryx2_rounds.specs.Closes.{IsCloseWord}
 use Rattle.iceoryx2_commands.specs.declared.command.Command.{Command}
 use Rattle.iceoryx2_commands.specs.declared.command.Command.TheVariants as command
 use Rattle.iceoryx2_commands.specs.declared.command.Refusal.{Refusal}
@@ -41,7 +41,7 @@ IsCommandWord config slots (command.Close slot) (reply.NotClosed same) word =
 IsCommandWord config slots c a word = word ≡ []
 
 -- A command went along its word: by these steps the storage came from what it was to what it is.
-pub record GoesAlong {S : Type 0} (step : S → Letter → S → Type 0) (old : SessionOver S) (c : Command) (a : Reply)
+pub record AppliesAlong {S : Type 0} (step : S → Letter → S → Type 0) (old : SessionOver S) (c : Command) (a : Reply)
     (new : SessionOver S) : Type 0 where
   pub word : List Letter
   pub is_word : IsCommandWord old.config old.slots c a word

@@ -7,9 +7,9 @@ use Rattle.iceoryx2_world.specs.Across.{Agrees}
 use Rattle.iceoryx2_world.specs.Interference.{everyone, IsFallibleUnder}
 use Rattle.iceoryx2_world.specs.Tables.{IsTableAccess}
 use Rattle.iceoryx2_world.specs.World.{World}
-use Rattle.iceoryx2_open_or_create.specs.Adjusting.{OnlyRaises}
-use Rattle.iceoryx2_open_or_create.specs.BuilderCalls.{ErrorBy}
-use Rattle.iceoryx2_open_or_create.specs.CallWords.{IsWordOf}
+use Rattle.iceoryx2_rounds.specs.Adjusting.{OnlyRaises}
+use Rattle.iceoryx2_rounds.specs.BuilderCalls.{ErrorBy}
+use Rattle.iceoryx2_rounds.specs.CallWords.{IsWordOf}
 use Rattle.iceoryx2_call_laws.specs.Headline.{IsAsPromised}
 use Rattle.iceoryx2_commands.specs.declared.command.Command.{Command}
 use Rattle.iceoryx2_commands.specs.declared.command.Command.TheVariants as command

@@ -4,9 +4,9 @@ use Rattle.iceoryx2_attribute.specs.Requirements.{Requirements}
 use Rattle.iceoryx2_errors.specs.declared.error.publish_subscribe.PublishSubscribeOpenError.{PublishSubscribeOpenError}
 use Rattle.iceoryx2_errors.specs.declared.error.publish_subscribe.PublishSubscribeCreateError.{PublishSubscribeCreateError}
 use Rattle.iceoryx2_errors.specs.declared.error.publish_subscribe.PublishSubscribeOpenOrCreateError.TheVariants as either
-use Rattle.iceoryx2_open_or_create.specs.BuilderCalls.{Way}
-use Rattle.iceoryx2_open_or_create.specs.declared.open_or_create.OpenOrCreateRefusal.{OpenOrCreateRefusal}
-use Rattle.iceoryx2_open_or_create.specs.declared.open_or_create.OpenOrCreateRefusal.TheVariants as rounds
+use Rattle.iceoryx2_rounds.specs.BuilderCalls.{Way}
+use Rattle.iceoryx2_rounds.specs.declared.open_or_create.OpenOrCreateRefusal.{OpenOrCreateRefusal}
+use Rattle.iceoryx2_rounds.specs.declared.open_or_create.OpenOrCreateRefusal.TheVariants as rounds
 use Rattle.iceoryx2_publish_subscribe_builder.specs.declared.publish_subscribe.demand.PreparedDemand.{PreparedDemand}
 use Rattle.iceoryx2_publish_subscribe_builder.specs.PublishSubscribeCalls.{publish_subscribe_call}
 use Rattle.iceoryx2_publish_subscribe_builder.specs.Builder.{PublishSubscribeBuilderState, message_for}

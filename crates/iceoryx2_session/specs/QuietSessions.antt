@@ -4,7 +4,7 @@ use Rattle.std.specs.Prelude.{IsTrue, slice_set}
 use Rattle.std.specs.declared.alloc.Global.{Global}
 use Rattle.iceoryx2_description.specs.declared.description.ServiceHash.{ServiceHash}
 use Rattle.iceoryx2_description.specs.declared.config.Config.{Config}
-use Rattle.iceoryx2_world.specs.declared.listing.Entry.{Entry}
+use Rattle.iceoryx2_world.specs.declared.listing.ListedService.{ListedService}
 use Rattle.iceoryx2_world.specs.World.{tag_of}
 use Rattle.iceoryx2_world.specs.Tables.{TableState}
 use Rattle.iceoryx2_world.specs.Across.{Agrees}
@@ -20,13 +20,13 @@ use Rattle.iceoryx2_session.specs.PatternCalls.{PatternCall}
 use Rattle.iceoryx2_commands.specs.Commands.{slot_count}
 use Rattle.iceoryx2_session.specs.Slots.{FreeAt, HoldsAt, TakenAt}
 use Rattle.iceoryx2_session.specs.Patterns.{builder_call}
-use Rattle.iceoryx2_session.specs.Sessions.{SessionState, Goes}
+use Rattle.iceoryx2_session.specs.Sessions.{SessionState, Applies}
 use Rattle.iceoryx2_session.specs.CommandLists.{CarriesOut}
 use Rattle.iceoryx2_call_laws.specs.Quiet.{Quiet, Shows}
 use Rattle.iceoryx2_call_laws.specs.QuietCalls.{Closes}
-use Rattle.iceoryx2_open_or_create.specs.BuilderCalls.{ErrorBy}
+use Rattle.iceoryx2_rounds.specs.BuilderCalls.{ErrorBy}
 use Rattle.iceoryx2_call_laws.specs.QuietWays.{Answers}
-use Rattle.iceoryx2_create_and_open.specs.Answers.{map_err}
+use Rattle.iceoryx2_rounds.specs.Answers.{map_err}
 use Rattle.iceoryx2_call_laws.specs.QuietLaws.{HoldsTheSame, times_opened}
 use Rattle.iceoryx2_call_laws.specs.QuietLists.{listing}
 
@@ -61,7 +61,7 @@ pub data Moves (config : Config) (q : Quiet) (slots : List (Option Registered))
   close_empty : {slot : ℕ} → FreeAt slots slot → Moves config q slots (command.Close slot) reply.SlotEmpty q slots
   closed : {slot : ℕ} (f : Registered) {p : Quiet} → HoldsAt slots slot f → Closes q f.node f.description.hash p
       → Moves config q slots (command.Close slot) (reply.Closed slot) p (slice_set slots slot None)
-  listed : {entries : Vec Entry Global} → entries.items ≡ listing q
+  listed : {entries : Vec ListedService Global} → entries.items ≡ listing q
       → Moves config q slots command.List (reply.Listing entries) q slots
   not_listed : Moves config q slots command.List reply.OutOfMemory q slots
 
@@ -73,10 +73,10 @@ pub record IsMoved (old : SessionState) (q : Quiet) (c : Command) (a : Reply) (n
   pub configured : new.config ≡ old.config
 
 -- The reply tells of no factory that was opened or closed.
-abbrev pub TellsNoChange : Reply → Type 0
-TellsNoChange (reply.Opened slot number) = ⊥
-TellsNoChange (reply.Closed slot) = ⊥
-TellsNoChange _ = Unit {0}
+abbrev pub RepliesNoChange : Reply → Type 0
+RepliesNoChange (reply.Opened slot number) = ⊥
+RepliesNoChange (reply.Closed slot) = ⊥
+RepliesNoChange _ = Unit {0}
 
 -- The slots hold what they held, and the table has the same descriptions, segments, tags and counts.
 pub record IsUnchanged (old new : SessionState) : Type 0 where
@@ -91,10 +91,10 @@ pub record QuietState : Type 0 where
 -- A command with its reply moves both, and afterwards the table shows the machine again. Nothing changes where the
 -- reply tells of no factory that was opened or closed.
 pub record MovesTogether (old : QuietState) (c : Command) (a : Reply) (new : QuietState) : Type 0 where
-  pub goes : Goes old.session c a new.session
+  pub goes : Applies old.session c a new.session
   pub moves : Moves old.session.config old.machine old.session.slots c a new.machine new.session.slots
   pub quiet : IsQuiet new.session new.machine
-  pub unchanged : TellsNoChange a → IsUnchanged old.session new.session
+  pub unchanged : RepliesNoChange a → IsUnchanged old.session new.session
 
 -- The machine's state after commands that were carried out in order, session and machine together, which the session is
 -- quiet with again. The table's tags are exactly those of the nodes that the machine counts.

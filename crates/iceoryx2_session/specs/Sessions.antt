@@ -3,7 +3,7 @@ use Rattle.std.specs.Prelude.{◌≡◌, ◌≤◌, ℕ, Bool, List, Vec, Option
 use Rattle.std.specs.Prelude.{slice_get, slice_set}
 use Rattle.std.specs.declared.alloc.Global.{Global}
 use Rattle.iceoryx2_description.specs.declared.config.Config.{Config}
-use Rattle.iceoryx2_world.specs.declared.listing.Entry.{Entry}
+use Rattle.iceoryx2_world.specs.declared.listing.ListedService.{ListedService}
 use Rattle.iceoryx2_world.specs.Interference.{IsFallibleUnder}
 use Rattle.iceoryx2_world.specs.Listing.{Lists}
 use Rattle.iceoryx2_world.specs.Tables.{TableState, IsTableAccess}
@@ -13,10 +13,10 @@ use Rattle.iceoryx2_access.specs.Run.{Run, Joins}
 use Rattle.iceoryx2_errors.specs.declared.error.CloseError.TheVariants.{NotHere}
 use Rattle.iceoryx2_call_laws.specs.Tickets.{CloseAnswer, HandsNothingBack}
 use Rattle.iceoryx2_access.specs.Registered.{Registered}
-use Rattle.iceoryx2_create_and_open.specs.Answers.{map_err}
-use Rattle.iceoryx2_open_or_create.specs.BuilderCalls.{ErrorBy}
-use Rattle.iceoryx2_open_or_create.specs.CallWords.{Calls}
-use Rattle.iceoryx2_port_factory.specs.Closes.{IsCloseWord}
+use Rattle.iceoryx2_rounds.specs.Answers.{map_err}
+use Rattle.iceoryx2_rounds.specs.BuilderCalls.{ErrorBy}
+use Rattle.iceoryx2_rounds.specs.CallWords.{Calls}
+use Rattle.iceoryx2_rounds.specs.Closes.{IsCloseWord}
 use Rattle.iceoryx2_commands.specs.declared.command.Call.{Call}
 use Rattle.iceoryx2_commands.specs.declared.command.Command.{Command}
 use Rattle.iceoryx2_commands.specs.declared.command.Command.TheVariants as command
@@ -54,6 +54,13 @@ abbrev pub BuildsBy : {S : Type 0} (step : S → Letter → S → Type 0)
 BuildsBy step b s answer t =
     (own : Result Registered (ErrorBy b.open_error b.create_error b.call.way))
     × (answer ≡ map_err b.refusal_of own) × Calls step b.call s own t
+
+-- Such a call puts the factory that it gives into a slot, and tells its number. An error leaves the slots as they are.
+abbrev pub OpensBy : {S : Type 0} (step : S → Letter → S → Type 0) → PatternCall
+    → S → List (Option Registered) → ℕ → Result ℕ Refusal → S → List (Option Registered) → Type 0
+OpensBy step b s slots k (Ok number) t after = (f : Registered) × (number ≡ f.number)
+    × BuildsBy step b s (Ok f) t × (after ≡ slice_set slots k (Some f))
+OpensBy step b s slots k (Err e) t after = BuildsBy step b s (Err e) t × (after ≡ slots)
 
 -- A factory is closed along a word of close whose answer doesn't hand it back.
 abbrev pub LetsGoBy : {S : Type 0} (step : S → Letter → S → Type 0) → S → Registered → S → Type 0
@@ -105,30 +112,30 @@ AreClosedBy step s slots t = Run (IsClosedPlaceBy step) s slots t
 -- A command leads from one state to another, with this reply. The slot is tested before any access,
 -- and the other slots keep what they hold. A factory that its close hands back stays in its slot.
 -- What is listed is in the storage's world.
-pub data GoesBy {S : Type 0} (step : S → Letter → S → Type 0) (world : S → World) (old : SessionOver S)
+pub data AppliesBy {S : Type 0} (step : S → Letter → S → Type 0) (world : S → World) (old : SessionOver S)
     : Command → Reply → SessionOver S → Type 0 where
   call_past : {call : Call} → slot_count ≤ call.slot
-      → GoesBy step world old (command.Call call) reply.NoSuchSlot old
+      → AppliesBy step world old (command.Call call) reply.NoSuchSlot old
   call_taken : {call : Call} → TakenAt old.slots call.slot
-      → GoesBy step world old (command.Call call) reply.SlotInUse old
+      → AppliesBy step world old (command.Call call) reply.SlotInUse old
   called : {call : Call} (f : Registered) {t : S} → FreeAt old.slots call.slot
       → BuildsBy step (builder_call old.config call) old.table (Ok f) t
-      → GoesBy step world old (command.Call call) (reply.Opened call.slot f.number)
+      → AppliesBy step world old (command.Call call) (reply.Opened call.slot f.number)
       (record old { table = t; slots = slice_set old.slots call.slot (Some f) })
   refused : {call : Call} {e : Refusal} {t : S} → FreeAt old.slots call.slot
       → BuildsBy step (builder_call old.config call) old.table (Err e) t
-      → GoesBy step world old (command.Call call) (reply.Refused e) (record old { table = t })
-  close_past : {slot : ℕ} → slot_count ≤ slot → GoesBy step world old (command.Close slot) reply.NoSuchSlot old
+      → AppliesBy step world old (command.Call call) (reply.Refused e) (record old { table = t })
+  close_past : {slot : ℕ} → slot_count ≤ slot → AppliesBy step world old (command.Close slot) reply.NoSuchSlot old
   close_empty : {slot : ℕ} → FreeAt old.slots slot
-      → GoesBy step world old (command.Close slot) reply.SlotEmpty old
+      → AppliesBy step world old (command.Close slot) reply.SlotEmpty old
   closed : {slot : ℕ} (f : Registered) {t : S} → HoldsAt old.slots slot f → LetsGoBy step old.table f t
-      → GoesBy step world old (command.Close slot) (reply.Closed slot)
+      → AppliesBy step world old (command.Close slot) (reply.Closed slot)
       (record old { table = t; slots = slice_set old.slots slot None })
   not_closed : {slot : ℕ} (f : Registered) {t : S} → HoldsAt old.slots slot f → HandsBackBy step old.table f t
-      → GoesBy step world old (command.Close slot) (reply.NotClosed slot) (record old { table = t })
-  listed : {entries : Vec Entry Global} → Lists (world old.table) entries.items
-      → GoesBy step world old command.List (reply.Listing entries) old
-  not_listed : GoesBy step world old command.List reply.OutOfMemory old
+      → AppliesBy step world old (command.Close slot) (reply.NotClosed slot) (record old { table = t })
+  listed : {entries : Vec ListedService Global} → Lists (world old.table) entries.items
+      → AppliesBy step world old command.List (reply.Listing entries) old
+  not_listed : AppliesBy step world old command.List reply.OutOfMemory old
 
 -- ---- over a table
 
@@ -141,8 +148,8 @@ ClosesSlots = ClosesSlotsBy IsTableAccess
 abbrev pub AreClosed : TableState → List (Option Registered) → TableState → Type 0
 AreClosed = AreClosedBy IsTableAccess
 
-abbrev pub Goes : SessionState → Command → Reply → SessionState → Type 0
-Goes = GoesBy IsTableAccess (λ table. table.world)
+abbrev pub Applies : SessionState → Command → Reply → SessionState → Type 0
+Applies = AppliesBy IsTableAccess (λ table. table.world)
 
 -- ---- over a world, whatever others do before an access of it, and whichever of these is refused. `own` tells which
 -- nodes are one's own.
@@ -150,5 +157,5 @@ Goes = GoesBy IsTableAccess (λ table. table.world)
 abbrev pub ClosesSlotsInWorld : (own : ℕ → Bool) → World → List (Option Registered) → World → Type 0
 ClosesSlotsInWorld own = ClosesSlotsBy (IsFallibleUnder own)
 
-abbrev pub GoesInWorld : (own : ℕ → Bool) → SessionOver World → Command → Reply → SessionOver World → Type 0
-GoesInWorld own = GoesBy (IsFallibleUnder own) (λ w. w)
+abbrev pub AppliesInWorld : (own : ℕ → Bool) → SessionOver World → Command → Reply → SessionOver World → Type 0
+AppliesInWorld own = AppliesBy (IsFallibleUnder own) (λ w. w)

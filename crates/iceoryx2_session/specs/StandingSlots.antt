@@ -15,7 +15,7 @@ use Rattle.iceoryx2_commands.specs.declared.command.Command.TheVariants as comma
 use Rattle.iceoryx2_commands.specs.declared.command.Reply.{Reply}
 use Rattle.iceoryx2_commands.specs.Commands.{slot_count}
 use Rattle.iceoryx2_session.specs.Patterns.{builder_call}
-use Rattle.iceoryx2_session.specs.Sessions.{SessionOver, SessionState, GoesBy, IsClosedPlaceBy}
+use Rattle.iceoryx2_session.specs.Sessions.{SessionOver, SessionState, AppliesBy, IsClosedPlaceBy}
 use Rattle.iceoryx2_session.specs.Promised.{CallsAsPromisedBy}
 
 -- A slot's factory has this ticket.
@@ -47,8 +47,8 @@ IsOfOwn own config _ = Unit {0}
 module _ {S : Type 0} (step : S → Letter → S → Type 0) (world : S → World) (own : ℕ → Bool) where
   -- A command leads to a state whose world agrees, and in which the factories of all slots stand; and a call is as
   -- every call is.
-  abbrev pub GoesStandingUnder : SessionOver S → Command → Reply → SessionOver S → Type 0
-  GoesStandingUnder old c a new = GoesBy step world old c a new × Agrees (world new.table)
+  abbrev pub AppliesStandingUnder : SessionOver S → Command → Reply → SessionOver S → Type 0
+  AppliesStandingUnder old c a new = AppliesBy step world old c a new × Agrees (world new.table)
       × SlotsStandUnder own (world new.table) new.slots × CallsAsPromisedBy step world own old c a new
 
 -- The close of a slot that holds a factory is Ok: the factory doesn't come back, and the slot is free.
@@ -72,9 +72,9 @@ abbrev pub ClosesTaken : SessionState → Command → SessionState → Type 0
 ClosesTaken = ClosesTakenBy IsTableAccess
 
 -- There a close is Ok too.
-abbrev pub GoesStanding : SessionState → Command → Reply → SessionState → Type 0
-GoesStanding old c a new =
-    GoesStandingUnder IsTableAccess (λ table. table.world) everyone old c a new × ClosesTaken old c new
+abbrev pub AppliesStanding : SessionState → Command → Reply → SessionState → Type 0
+AppliesStanding old c a new =
+    AppliesStandingUnder IsTableAccess (λ table. table.world) everyone old c a new × ClosesTaken old c new
 
 -- ---- over a world, whatever others do before an access of it, and whichever of these is refused
 
@@ -84,5 +84,5 @@ SlotsStandInWorld own s = SlotsStandUnder own s.table s.slots
 abbrev pub OwnsTicketsInWorld : (own : ℕ → Bool) → SessionOver World → Type 0
 OwnsTicketsInWorld own s = OwnsTicketsUnder own s.table s.slots
 
-abbrev pub GoesStandingInWorld : (own : ℕ → Bool) → SessionOver World → Command → Reply → SessionOver World → Type 0
-GoesStandingInWorld own = GoesStandingUnder (IsFallibleUnder own) (λ w. w) own
+abbrev pub AppliesStandingInWorld : (own : ℕ → Bool) → SessionOver World → Command → Reply → SessionOver World → Type 0
+AppliesStandingInWorld own = AppliesStandingUnder (IsFallibleUnder own) (λ w. w) own

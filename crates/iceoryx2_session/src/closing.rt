@@ -3,7 +3,7 @@
 ghost use Rattle.iceoryx2_session.specs.Sessions.{ClosesFactoryBy, ClosesOrHandsBackBy};
 
 use iceoryx2_access::storage::Storage;
-use iceoryx2_port_factory::port_factory::{CloseError, Registration};
+use iceoryx2_rounds::port_factory::{CloseError, Registration};
 
 /// Closes it. What isn't at this storage, or isn't released by it, comes back: its ticket stays there.
 pub fn close<S: Storage>(registration: Registration, storage: &mut S) -> Option<Registration>

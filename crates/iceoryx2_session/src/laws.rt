@@ -5,8 +5,8 @@ ghost use Rattle.iceoryx2_access.specs.Letter.{Letter};
 ghost use Rattle.iceoryx2_access.specs.Run.{Run};
 ghost use Rattle.iceoryx2_commands.specs.declared.command.Command.{Command};
 ghost use Rattle.iceoryx2_commands.specs.declared.command.Reply.{Reply};
-ghost use Rattle.iceoryx2_session.specs.CommandWords.{GoesAlong};
-ghost use Rattle.iceoryx2_session.specs.Sessions.{Goes, GoesBy, GoesInWorld, SessionOver};
+ghost use Rattle.iceoryx2_session.specs.CommandWords.{AppliesAlong};
+ghost use Rattle.iceoryx2_session.specs.Sessions.{Applies, AppliesBy, AppliesInWorld, SessionOver};
 ghost use Rattle.iceoryx2_session.specs.Sessions.{shown_session, shown_world};
 ghost use Rattle.iceoryx2_world.specs.Interference.{IsFallibleUnder, everyone};
 ghost use Rattle.iceoryx2_world.specs.Tables.{IsTableAccess};
@@ -22,8 +22,8 @@ pub fn sessions_in_world<S: WorldStorage>()
 
     // so each command goes in the same way over that world.
     ensures goes { (old new : SessionOver S) (command : Command) (answer : Reply)
-        → GoesBy S.step S.world old command answer new
-        → GoesInWorld (S.own old.table) (shown_session S.world old) command answer (shown_session S.world new) }
+        → AppliesBy S.step S.world old command answer new
+        → AppliesInWorld (S.own old.table) (shown_session S.world old) command answer (shown_session S.world new) }
 
     // Which nodes are own stays as it was.
     ensures nodes { (old new : S) (word : List Letter) → Run S.step old word new → S.own new ≡ S.own old }
@@ -37,8 +37,8 @@ pub fn sessions<S: TableStorage>()
 
     // so each command goes in the same way over that table.
     ensures shown { (old new : SessionOver S) (command : Command) (answer : Reply)
-        → GoesBy S.step (shown_world S.shown) old command answer new
-        → Goes (shown_session S.shown old) command answer (shown_session S.shown new) }
+        → AppliesBy S.step (shown_world S.shown) old command answer new
+        → Applies (shown_session S.shown old) command answer (shown_session S.shown new) }
 
     // The world that it shows is the table's, of which each node is own.
     ensures world { (storage : S) → (S.shown storage).world ≡ S.world storage }
@@ -46,5 +46,5 @@ pub fn sessions<S: TableStorage>()
 
     // What the storage is asked is the word of the builder call or of the close, and nothing where there is none.
     ensures along { (old new : SessionOver S) (command : Command) (answer : Reply)
-        → GoesBy S.step (shown_world S.shown) old command answer new → GoesAlong S.step old command answer new }
+        → AppliesBy S.step (shown_world S.shown) old command answer new → AppliesAlong S.step old command answer new }
 {}

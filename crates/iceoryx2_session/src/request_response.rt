@@ -1,19 +1,17 @@
 //! Builder calls for services of request-response.
 
-ghost use Rattle.std.specs.Prelude.{◌≡◌};
 ghost use Rattle.iceoryx2_request_response_builder.specs.Builder as request;
 ghost use Rattle.iceoryx2_session.specs.RequestResponse.{request_response_pattern_call};
-ghost use Rattle.iceoryx2_session.specs.PatternCalls.{way_of};
-ghost use Rattle.iceoryx2_session.specs.Sessions.{BuildsBy};
-ghost use Rattle.iceoryx2_session.specs.Setters.{with_settings as set_all};
 
-use crate::setters::{HasSetters, with_settings};
-use crate::table_storage::StandsIn;
+use crate::calling::{CallsBuilder, defined_by};
+use crate::setters::HasSetters;
+use crate::slots::Slots;
+use crate::table_storage::ServiceOver;
 use iceoryx2_access::storage::Storage;
-use iceoryx2_attribute::attribute::{AttributeSpecifier, AttributeVerifier};
+use iceoryx2_attribute::attribute::AttributeVerifier;
 use iceoryx2_builder::builder::request_response;
-use iceoryx2_commands::command::{How, Refusal, RequestResponseSetter};
-use iceoryx2_port_factory::port_factory::Registration;
+use iceoryx2_commands::command::{Refusal, RequestResponseSetter};
+use iceoryx2_description::time::{ClockFault, Time};
 use iceoryx2_types::types::{CustomHeaderMarker, CustomPayloadMarker, Slice};
 
 /// A builder whose types are named by setters.
@@ -22,7 +20,7 @@ type Builder<S> = request_response::Builder<
     CustomHeaderMarker,
     Slice<CustomPayloadMarker>,
     CustomHeaderMarker,
-    StandsIn<S>,
+    ServiceOver<S>,
 >;
 
 impl<S: Storage> HasSetters for Builder<S> {
@@ -35,19 +33,48 @@ impl<S: Storage> HasSetters for Builder<S> {
     }
 }
 
-/// The builder call, after each setter. A create defines the required pairs. No time is needed: it
-/// goes as at the time zero.
-pub fn call<S: Storage>(
-    builder: Builder<S>,
-    settings: Vec<RequestResponseSetter>,
-    attributes: AttributeVerifier,
-    how: How,
-    storage: &mut S,
-) -> Result<Registration, Refusal>
-    ensures { let b = set_all request.with_setting builder settings.items in
-        BuildsBy S.step (request_response_pattern_call b (way_of how) attributes) storage.old result storage.new }
-{
-    let builder = with_settings(builder, settings);
-    builder_call!(how, builder, attributes, storage;
-        RequestResponseCreate RequestResponseOpen RequestResponseOpenOrCreate)
+impl<S: Storage> CallsBuilder<S> for Builder<S> {
+    ghost asked = { λ b way attributes now. request_response_pattern_call b way attributes };
+
+    fn create(
+        self,
+        attributes: AttributeVerifier,
+        _now: Result<Time, ClockFault>,
+        storage: &mut S,
+        slots: &mut Slots,
+        slot: usize,
+    ) -> Result<u64, Refusal> {
+        match self.create_with_attributes(&defined_by(attributes), storage) {
+            Ok(factory) => Ok(slots.keep(slot, factory.into_registration())),
+            Err(error) => Err(Refusal::RequestResponseCreate(error)),
+        }
+    }
+
+    fn open(
+        self,
+        attributes: &AttributeVerifier,
+        _now: Result<Time, ClockFault>,
+        storage: &mut S,
+        slots: &mut Slots,
+        slot: usize,
+    ) -> Result<u64, Refusal> {
+        match self.open_with_attributes(attributes, storage) {
+            Ok(factory) => Ok(slots.keep(slot, factory.into_registration())),
+            Err(error) => Err(Refusal::RequestResponseOpen(error)),
+        }
+    }
+
+    fn open_or_create(
+        self,
+        attributes: &AttributeVerifier,
+        _now: Result<Time, ClockFault>,
+        storage: &mut S,
+        slots: &mut Slots,
+        slot: usize,
+    ) -> Result<u64, Refusal> {
+        match self.open_or_create_with_attributes(attributes, storage) {
+            Ok(factory) => Ok(slots.keep(slot, factory.into_registration())),
+            Err(error) => Err(Refusal::RequestResponseOpenOrCreate(error)),
+        }
+    }
 }

@@ -3,22 +3,23 @@
 ghost use Rattle.std.specs.Prelude.{◌≡◌, ◌<◌, ℕ, IfOk, OnErr, OnOk, replicate, slice_set, None, []};
 ghost use Rattle.iceoryx2_table.specs.Holdings.{IsHolding};
 ghost use Rattle.iceoryx2_session.specs.Patterns.{builder_call};
-ghost use Rattle.iceoryx2_session.specs.Sessions.{BuildsBy, ClosesSlotBy};
+ghost use Rattle.iceoryx2_session.specs.Sessions.{ClosesSlotBy, OpensBy};
+ghost use Rattle.iceoryx2_session.specs.Slots.{FreeAt};
 ghost use Rattle.iceoryx2_commands.specs.Commands.{slot_count};
 
 use crate::slots::Slots;
-use crate::table_storage::{StandsIn, TableStorage};
+use crate::table_storage::{ServiceOver, TableStorage};
 use crate::world_storage::WorldStorage;
-use crate::{closing, events, publish_subscribe, request_response};
+use crate::{calling, closing};
 use iceoryx2_access::storage::Storage;
 use iceoryx2_builder::builder::{self, event};
 use iceoryx2_builder_common::base::BuilderWithServiceType;
 use iceoryx2_commands::command::{Call, Command, Refusal, Reply, SLOTS, Settings};
 use iceoryx2_description::config::Config;
 use iceoryx2_journal::cleaning::{CleanError, Cleaned};
-use iceoryx2_port_factory::port_factory::Registration;
+use iceoryx2_rounds::port_factory::Registration;
 use iceoryx2_table::table::Table;
-use iceoryx2_traced::traced::Traced;
+use iceoryx2_testing::traced::Traced;
 use iceoryx2_types::types::CustomHeaderMarker;
 use std::alloc::AllocError;
 
@@ -33,38 +34,52 @@ pub struct Session<S> {
 /// A session over a table itself.
 pub type TableSession = Session<Table>;
 
-/// The builder call of a command. The builder begins with the settings of its own pattern alone, so that those of
-/// the others aren't copied.
-fn build<S: Storage>(config: &Config, call: Call, storage: &mut S) -> Result<Registration, Refusal>
-    ensures { BuildsBy S.step (builder_call config.now call) storage.old result storage.new }
+/// The builder call of a command, whose slot is free. The slot holds what is opened, and the answer is its number. The
+/// builder begins with the settings of its own pattern alone, so that those of the others aren't copied.
+fn build<S: Storage>(
+    config: &Config,
+    call: Call,
+    storage: &mut S,
+    slots: &mut Slots,
+) -> Result<u64, Refusal>
+    requires in_range { call.slot < slot_count }
+    requires free { FreeAt slots.old call.slot }
+    ensures { OpensBy S.step (builder_call config.now call) storage.old slots.old call.slot
+        result storage.new slots.new }
 {
     let Call {
         how,
         node,
-        slot: _,
+        slot,
         name,
         settings,
         attributes,
         now,
     } = call;
-    let base = BuilderWithServiceType::<StandsIn<S>>::new(node, name);
+    let base = BuilderWithServiceType::<ServiceOver<S>>::new(node, name);
     match settings {
         Settings::Event(settings) => {
             let builder = event::Builder::new(base, config.event);
-            events::call(builder, settings, attributes, how, now, storage)
+            calling::call(
+                builder, settings, attributes, how, now, storage, slots, slot,
+            )
         }
         Settings::PublishSubscribe(settings) => {
             let builder = builder::publish_subscribe::Builder::new(
                 base,
                 config.publish_subscribe,
             ).user_header::<CustomHeaderMarker>();
-            publish_subscribe::call(builder, settings, attributes, how, storage)
+            calling::call(
+                builder, settings, attributes, how, now, storage, slots, slot,
+            )
         }
         Settings::RequestResponse(settings) => {
             let builder = builder::request_response::Builder::new(base, config.request_response)
                 .request_user_header::<CustomHeaderMarker>()
                 .response_user_header::<CustomHeaderMarker>();
-            request_response::call(builder, settings, attributes, how, storage)
+            calling::call(
+                builder, settings, attributes, how, now, storage, slots, slot,
+            )
         }
     }
 }
@@ -88,12 +103,12 @@ impl<S: WorldStorage> Session<S> {
     ghost use Rattle.iceoryx2_world.specs.Interference.{Rely};
     ghost use Rattle.iceoryx2_commands.specs.declared.command.Command.TheVariants as command;
     ghost use Rattle.iceoryx2_session.specs.CommandLists.{CarriesOut};
-    ghost use Rattle.iceoryx2_session.specs.CommandWords.{GoesAlong};
+    ghost use Rattle.iceoryx2_session.specs.CommandWords.{AppliesAlong};
     ghost use Rattle.iceoryx2_session.specs.Promised.{CallsAsPromisedInWorld};
     ghost use Rattle.iceoryx2_session.specs.SessionStates.{own_nodes, own_state, world_state};
-    ghost use Rattle.iceoryx2_session.specs.Sessions.{ClosesSlotsBy, ClosesSlotsInWorld, GoesBy, GoesInWorld};
+    ghost use Rattle.iceoryx2_session.specs.Sessions.{ClosesSlotsBy, ClosesSlotsInWorld, AppliesBy, AppliesInWorld};
     ghost use Rattle.iceoryx2_session.specs.Slots.{held_at};
-    ghost use Rattle.iceoryx2_session.specs.StandingSlots.{GoesStandingInWorld, IsOfOwn, OwnsTicketsInWorld};
+    ghost use Rattle.iceoryx2_session.specs.StandingSlots.{AppliesStandingInWorld, IsOfOwn, OwnsTicketsInWorld};
     ghost use Rattle.iceoryx2_session.specs.StandingSlots.{SlotsStandInWorld};
 
     /// A session whose nodes have this configuration, over a storage that shows a world. All its slots are free.
@@ -115,16 +130,16 @@ impl<S: WorldStorage> Session<S> {
     /// the slot, and what it didn't remove stays there. If it didn't release the factory the slot holds that as before.
     pub fn carry_out(&mut self, command: Command) -> Reply
         // It is the builder call or the close that it names, along a word of it,
-        ensures own { GoesBy S.step S.world (own_state self.old) command result (own_state self.new) }
+        ensures own { AppliesBy S.step S.world (own_state self.old) command result (own_state self.new) }
 
         // so the storage's accesses are those of the command's word, and without a call or a close there are none.
-        ensures along { GoesAlong S.step (own_state self.old) command result (own_state self.new) }
+        ensures along { AppliesAlong S.step (own_state self.old) command result (own_state self.new) }
 
         // Which nodes are own stays as it was.
         ensures nodes { own_nodes S.own self.new ≡ own_nodes S.own self.old }
 
         // So it is over the world, whatever others do before an access of it, and whichever of these is refused.
-        ensures goes { GoesInWorld (own_nodes S.own self.old)
+        ensures goes { AppliesInWorld (own_nodes S.own self.old)
             (world_state S.world self.old) command result (world_state S.world self.new) }
 
         // The world agrees afterwards where it agreed,
@@ -155,14 +170,14 @@ impl<S: WorldStorage> Session<S> {
         ensures refused { OnErr result (own_state self.new ≡ own_state self.old) }
 
         // Each command goes as it does by itself, from the state that the one before it left.
-        ensures own { IfOk result (λ replies. CarriesOut (GoesBy S.step S.world)
+        ensures own { IfOk result (λ replies. CarriesOut (AppliesBy S.step S.world)
             (own_state self.old) commands.items replies.items (own_state self.new)) }
 
         // Which nodes are own stays as it was.
         ensures nodes { own_nodes S.own self.new ≡ own_nodes S.own self.old }
 
         // So it is over the world, whatever others do before an access of it, and whichever of these is refused.
-        ensures goes { IfOk result (λ replies. CarriesOut (GoesInWorld (own_nodes S.own self.old))
+        ensures goes { IfOk result (λ replies. CarriesOut (AppliesInWorld (own_nodes S.own self.old))
             (world_state S.world self.old) commands.items replies.items (world_state S.world self.new)) }
 
         // The world agrees afterwards where it agreed,
@@ -183,7 +198,7 @@ impl<S: WorldStorage> Session<S> {
         ensures between { let own = own_nodes S.own self.old in
             Agrees (world_state S.world self.old).table → SlotsStandInWorld own (world_state S.world self.old)
             → Each (IsOfOwn own (own_state self.old).config) commands.items
-            → IfOk result (λ replies. CarriesOut (GoesStandingInWorld own)
+            → IfOk result (λ replies. CarriesOut (AppliesStandingInWorld own)
             (world_state S.world self.old) commands.items replies.items (world_state S.world self.new)) }
     {
         let mut replies = Vec::with_capacity(*commands.allocator(), commands.len())?;
@@ -194,7 +209,7 @@ impl<S: WorldStorage> Session<S> {
     }
 
     fn dispatch(&mut self, command: Command) -> Reply
-        ensures { GoesBy S.step S.world (own_state self.old) command result (own_state self.new) }
+        ensures { AppliesBy S.step S.world (own_state self.old) command result (own_state self.new) }
     {
         match command {
             Command::Call(call) => self.call(call),
@@ -204,7 +219,7 @@ impl<S: WorldStorage> Session<S> {
     }
 
     fn call(&mut self, call: Call) -> Reply
-        ensures { GoesBy S.step S.world (own_state self.old) (command.Call call) result (own_state self.new) }
+        ensures { AppliesBy S.step S.world (own_state self.old) (command.Call call) result (own_state self.new) }
     {
         let slot = call.slot;
         if slot >= SLOTS {
@@ -213,18 +228,14 @@ impl<S: WorldStorage> Session<S> {
         if self.slots.is_taken(slot) {
             return Reply::SlotInUse;
         }
-        match build(&self.config, call, &mut self.storage) {
-            Ok(registration) => {
-                let number = registration.number();
-                self.slots.put(slot, registration);
-                Reply::Opened { slot, number }
-            }
+        match build(&self.config, call, &mut self.storage, &mut self.slots) {
+            Ok(number) => Reply::Opened { slot, number },
             Err(refusal) => Reply::Refused(refusal),
         }
     }
 
     fn close(&mut self, slot: usize) -> Reply
-        ensures { GoesBy S.step S.world (own_state self.old) (command.Close slot) result (own_state self.new) }
+        ensures { AppliesBy S.step S.world (own_state self.old) (command.Close slot) result (own_state self.new) }
     {
         if slot >= SLOTS {
             return Reply::NoSuchSlot;
@@ -242,7 +253,7 @@ impl<S: WorldStorage> Session<S> {
     }
 
     fn list(&self) -> Reply
-        ensures { GoesBy S.step S.world (own_state self.now) command.List result (own_state self.now) }
+        ensures { AppliesBy S.step S.world (own_state self.now) command.List result (own_state self.now) }
     {
         match self.storage.list() {
             Ok(entries) => Reply::Listing(entries),
@@ -382,16 +393,16 @@ impl<S: TableStorage> Session<S> {
     ghost use Rattle.iceoryx2_world.specs.Across.{Agrees};
     ghost use Rattle.iceoryx2_world.specs.World.{empty_world, ticket_of};
     ghost use Rattle.iceoryx2_session.specs.SessionStates.{own_state, state_of};
-    ghost use Rattle.iceoryx2_session.specs.Sessions.{AreClosed, ClosesSlots, ClosesSlotsBy, Goes, GoesBy};
+    ghost use Rattle.iceoryx2_session.specs.Sessions.{AreClosed, ClosesSlots, ClosesSlotsBy, Applies, AppliesBy};
     ghost use Rattle.iceoryx2_session.specs.Sessions.{shown_world};
-    ghost use Rattle.iceoryx2_session.specs.CommandWords.{GoesAlong};
+    ghost use Rattle.iceoryx2_session.specs.CommandWords.{AppliesAlong};
     ghost use Rattle.iceoryx2_session.specs.CommandLists.{CarriesOut};
-    ghost use Rattle.iceoryx2_session.specs.StandingSlots.{ClosesTaken, GoesStanding, OwnsTickets, SlotsStand};
+    ghost use Rattle.iceoryx2_session.specs.StandingSlots.{ClosesTaken, AppliesStanding, OwnsTickets, SlotsStand};
     ghost use Rattle.iceoryx2_call_laws.specs.Quiet.{Quiet, no_service};
     ghost use Rattle.iceoryx2_call_laws.specs.QuietLaws.{HasNothingAt};
     ghost use Rattle.iceoryx2_session.specs.Promised.{CallsAsPromised};
     ghost use Rattle.iceoryx2_session.specs.QuietSessions.{AreMoved, IsFinished, IsMoved, IsQuiet};
-    ghost use Rattle.iceoryx2_session.specs.QuietSessions.{IsUnchanged, TellsNoChange};
+    ghost use Rattle.iceoryx2_session.specs.QuietSessions.{IsUnchanged, RepliesNoChange};
     ghost use Rattle.iceoryx2_access.specs.Run.{Each};
 
     /// A session whose nodes have this configuration. All its slots are free.
@@ -412,13 +423,13 @@ impl<S: TableStorage> Session<S> {
     /// Carries out one command. The slot is tested before anything is called.
     pub fn apply(&mut self, command: Command) -> Reply
         // Over any storage it is the builder call or the close that it names, along a word of it,
-        ensures own { GoesBy S.step (shown_world S.shown) (own_state self.old) command result (own_state self.new) }
+        ensures own { AppliesBy S.step (shown_world S.shown) (own_state self.old) command result (own_state self.new) }
 
         // so the storage's accesses are those of the command's word, and without a call or a close there are none,
-        ensures along { GoesAlong S.step (own_state self.old) command result (own_state self.new) }
+        ensures along { AppliesAlong S.step (own_state self.old) command result (own_state self.new) }
 
         // and so it is over the table that the storage shows.
-        ensures goes { Goes (state_of S.shown self.old) command result (state_of S.shown self.new) }
+        ensures goes { Applies (state_of S.shown self.old) command result (state_of S.shown self.new) }
 
         // Over any table whose world agrees, the world agrees afterwards, and the factories of all
         // slots stand, each with a ticket of its own. The close of a slot that holds one is Ok.
@@ -442,7 +453,7 @@ impl<S: TableStorage> Session<S> {
         // There nothing changes where the reply tells of no factory that was opened or closed.
         ensures unchanged { (q : Quiet) → IsQuiet (state_of S.shown self.old) q
             → SlotsStand (state_of S.shown self.old)
-            → TellsNoChange result → IsUnchanged (state_of S.shown self.old) (state_of S.shown self.new) }
+            → RepliesNoChange result → IsUnchanged (state_of S.shown self.old) (state_of S.shown self.new) }
     {
         self.carry_out(command)
     }
@@ -454,12 +465,12 @@ impl<S: TableStorage> Session<S> {
         ensures refused { OnErr result (own_state self.new ≡ own_state self.old) }
 
         // Over any storage each command goes as it does by itself, from the state that the one before it left,
-        ensures own { IfOk result (λ replies. CarriesOut (GoesBy S.step (shown_world S.shown))
+        ensures own { IfOk result (λ replies. CarriesOut (AppliesBy S.step (shown_world S.shown))
             (own_state self.old) commands.items replies.items (own_state self.new)) }
 
         // and so it is over the table that the storage shows.
         ensures goes { IfOk result (λ replies.
-            CarriesOut Goes (state_of S.shown self.old) commands.items replies.items (state_of S.shown self.new)) }
+            CarriesOut Applies (state_of S.shown self.old) commands.items replies.items (state_of S.shown self.new)) }
 
         // Over any table whose world agrees, the world agrees afterwards, and the factories of all
         // slots stand, each with a ticket of its own,
@@ -469,7 +480,7 @@ impl<S: TableStorage> Session<S> {
         // and so it is after each of the commands, of which each call is as every call is.
         ensures between { Agrees (state_of S.shown self.old).table.world → SlotsStand (state_of S.shown self.old)
             → IfOk result (λ replies.
-            CarriesOut GoesStanding (state_of S.shown self.old) commands.items replies.items
+            CarriesOut AppliesStanding (state_of S.shown self.old) commands.items replies.items
             (state_of S.shown self.new)) }
 
         // There the table's tickets stay those of the slots.
@@ -486,7 +497,7 @@ impl<S: TableStorage> Session<S> {
         ensures unchanged { (q : Quiet) → IsQuiet (state_of S.shown self.old) q
             → SlotsStand (state_of S.shown self.old)
             → IfOk result (λ replies.
-            Each TellsNoChange replies.items → IsUnchanged (state_of S.shown self.old) (state_of S.shown self.new)) }
+            Each RepliesNoChange replies.items → IsUnchanged (state_of S.shown self.old) (state_of S.shown self.new)) }
     {
         self.carry_out_all(commands)
     }

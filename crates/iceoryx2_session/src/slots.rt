@@ -3,7 +3,7 @@
 ghost use Rattle.std.specs.Prelude.{◌≡◌, ◌<◌, slice_set, slice_get, Some, None, MatchBool, replicate, length};
 
 use iceoryx2_commands::command::SLOTS;
-use iceoryx2_port_factory::port_factory::Registration;
+use iceoryx2_rounds::port_factory::Registration;
 use std::marker::Model;
 
 /// A place for each slot, which may hold the registration of a factory. They have to be spent.
@@ -119,6 +119,18 @@ impl Slots {
         ensures after { self.new ≡ slice_set self.old slot (Some registration) }
     {
         abandon(self.places[slot].replace(registration))
+    }
+
+    /// Puts a registration into a free slot, and gives its service's number.
+    pub fn keep(&mut self, slot: usize, registration: Registration) -> u64
+        requires in_range { slot < slot_count }
+        requires free { FreeAt self.old slot }
+        ensures number { result ≡ registration.number }
+        ensures after { self.new ≡ slice_set self.old slot (Some registration) }
+    {
+        let number = registration.number();
+        self.put(slot, registration);
+        number
     }
 
     /// Lets go of the places.

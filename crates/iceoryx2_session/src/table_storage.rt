@@ -7,8 +7,9 @@ ghost use Rattle.iceoryx2_world.specs.Tables.{TableState, IsTableAccess};
 
 use crate::world_storage::WorldStorage;
 use iceoryx2_access::storage::{Service, Sha1Hasher, Storage};
-use iceoryx2_table::table::Table;
-use iceoryx2_traced::traced::Traced;
+use iceoryx2_table::own_parts::OwnParts;
+use iceoryx2_table::table::TableOver;
+use iceoryx2_testing::traced::Traced;
 use std::marker::PhantomData;
 
 /// A storage that shows a table: each of its accesses is one of that table, of which each node is one's own.
@@ -27,7 +28,7 @@ pub trait TableStorage: WorldStorage {
     ghost of_everyone: { (storage : Self) → Self.own storage ≡ everyone };
 }
 
-impl TableStorage for Table {
+impl<W: OwnParts> TableStorage for TableOver<W> {
     ghost use Rattle.std.specs.Prelude.{refl};
 
     ghost shown = { λ table. table };
@@ -52,11 +53,11 @@ impl<S: TableStorage> TableStorage for Traced<S> {
 }
 
 /// Services that stand in a storage of this type, under hashes by SHA-1.
-pub struct StandsIn<S> {
+pub struct ServiceOver<S> {
     storage: PhantomData<S>,
 }
 
-impl<S: Storage> Service for StandsIn<S> {
+impl<S: Storage> Service for ServiceOver<S> {
     type Storage = S;
 
     type ServiceNameHasher = Sha1Hasher;

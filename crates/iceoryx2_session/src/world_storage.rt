@@ -11,9 +11,10 @@ use iceoryx2_access::storage::Storage;
 use iceoryx2_journal::cleaning::{CleanError, Cleaned};
 use iceoryx2_journal::journal::Journal;
 use iceoryx2_log::log::Log;
-use iceoryx2_table::table::Table;
-use iceoryx2_traced::traced::Traced;
-use iceoryx2_world::listing::Entry;
+use iceoryx2_table::own_parts::OwnParts;
+use iceoryx2_table::table::TableOver;
+use iceoryx2_testing::traced::Traced;
+use iceoryx2_world::listing::ListedService;
 use std::alloc::AllocError;
 
 /// A storage that shows a world, with nodes of its own. Each of its accesses is one of that world, after what others
@@ -42,7 +43,7 @@ pub trait WorldStorage: Storage {
 
     /// Each service of the world with a row or a segment, in the order of the hashes' bytes. Makes no access.
     /// `AllocError` where there was no memory for the list.
-    fn list(&self) -> Result<Vec<Entry>, AllocError>
+    fn list(&self) -> Result<Vec<ListedService>, AllocError>
         ensures { IfOk result (λ entries. Lists (world self.now) entries.items) };
 
     /// That each access is one of the world, whatever others do before it, or is refused then.
@@ -55,7 +56,7 @@ pub trait WorldStorage: Storage {
 }
 
 // Each node acts through the table itself, so it shows its world as it is, and each node is its own.
-impl WorldStorage for Table {
+impl<W: OwnParts> WorldStorage for TableOver<W> {
     ghost use Rattle.std.specs.Prelude.{refl};
     ghost use Rattle.iceoryx2_world.specs.Interference.{everyone};
     ghost use Rattle.iceoryx2_world.proofs.Waiting.{table_access};
@@ -79,8 +80,8 @@ impl WorldStorage for Table {
         Err(CleanError::IsOwn)
     }
 
-    fn list(&self) -> Result<Vec<Entry>, AllocError> {
-        Table::list(self)
+    fn list(&self) -> Result<Vec<ListedService>, AllocError> {
+        TableOver::list(self)
     }
 }
 
@@ -106,7 +107,7 @@ impl<L: Log> WorldStorage for Journal<L> {
         Journal::clean(self, node)
     }
 
-    fn list(&self) -> Result<Vec<Entry>, AllocError> {
+    fn list(&self) -> Result<Vec<ListedService>, AllocError> {
         Journal::list(self)
     }
 }
@@ -129,7 +130,7 @@ impl<S: WorldStorage> WorldStorage for Traced<S> {
         self.inner_mut().clean(node)
     }
 
-    fn list(&self) -> Result<Vec<Entry>, AllocError> {
+    fn list(&self) -> Result<Vec<ListedService>, AllocError> {
         self.inner().list()
     }
 }

@@ -1,4 +1,4 @@
-use Rattle.std.proofs.Common.{sym, subst}
+use Rattle.std.proofs.Common.{subst}
 use Rattle.iceoryx2_world.specs.Interference.{Rely}
 use Rattle.iceoryx2_session.proofs.StandingSlots.{stand_kept}
 use Rattle.iceoryx2_session.proofs.session.Session+Traced+S.refresh_inside.Goals as goal

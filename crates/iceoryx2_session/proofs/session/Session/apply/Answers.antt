@@ -2,7 +2,7 @@ use Rattle.iceoryx2_world.specs.Interference.{everyone}
 use Rattle.iceoryx2_world.specs.Tables.{IsTableAccess}
 use Rattle.iceoryx2_call_laws.proofs.calls.Headline.{of_table}
 use Rattle.iceoryx2_session.specs.Sessions.{shown_world}
-use Rattle.iceoryx2_session.proofs.StandingSlots.{goes_standing}
+use Rattle.iceoryx2_session.proofs.StandingSlots.{applies_standing}
 use Rattle.iceoryx2_session.proofs.QuietSessions.{moved, unchanged_by}
 use Rattle.iceoryx2_session.proofs.OwnedTickets.{table_owns}
 use Rattle.iceoryx2_session.proofs.Promised.{calls_as_promised}
@@ -16,7 +16,7 @@ pub returns-clause-goes : goal.returns-clause-goes
 returns-clause-goes g c = goes_at_table g.S.Storage.step g.S.TableStorage.shown g.met.S.TableStorage.accesses (returns-clause-own g c)
 
 pub returns-clause-stands : goal.returns-clause-stands
-returns-clause-stands g c = λ agrees old. let after = goes_standing (returns-clause-goes g c) agrees old in (after.0.1, after.0.2, after.1)
+returns-clause-stands g c = λ agrees old. let after = applies_standing (returns-clause-goes g c) agrees old in (after.0.1, after.0.2, after.1)
 
 pub returns-clause-promised : goal.returns-clause-promised
 returns-clause-promised g c = calls_as_promised everyone IsTableAccess (λ table. table.world) (of_table everyone) (returns-clause-goes g c)
