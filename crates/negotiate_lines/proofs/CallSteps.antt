@@ -5,14 +5,14 @@ use Rattle.iceoryx2_access.specs.Run.{done, next}
 use Rattle.iceoryx2_access.proofs.Run.{Head, head}
 use Rattle.negotiate_lines.specs.declared.call_term.Admitted.{Admitted}
 use Rattle.negotiate_lines.specs.Vocabulary.{Vocabulary}
-use Rattle.negotiate_lines.specs.CallTerms.{Instruction, setting, now, attribute, required_key, SaysTerm, Arguments, Follows, TakesTerm, TakesTerms}
+use Rattle.negotiate_lines.specs.CallTerms.{Instruction, setting, now, attribute, required_key, IsInstructionOf, Arguments, Follows, TakesTerm, TakesTerms}
 use Rattle.negotiate_lines.proofs.OneInstruction.{one_instruction}
 
 required : {S : Type 0} → Arguments S → List Pair → List (List ℕ) → Arguments S
 required old pairs keys = record { settings = old.settings; requirements = record { pairs = pairs; keys = keys }; now = old.now }
 
 -- an instruction has one outcome
-one_outcome : {S : Type 0} (old : Arguments S) (said : Instruction S) (a b : Arguments S) → Follows old said a → Follows old said b → a ≡ b
+one_outcome : {S : Type 0} (old : Arguments S) (instruction : Instruction S) (a b : Arguments S) → Follows old instruction a → Follows old instruction b → a ≡ b
 unfolding required
 one_outcome old (setting s) a b left right = left ∙ sym right
 one_outcome old (now time) a b left right = left ∙ sym right
@@ -23,33 +23,33 @@ one_outcome old (required_key key) a b left right =
 
 module _ {S : Type 0} (v : Vocabulary S) (admitted : Admitted) where
   one_step : (old : Arguments S) (term : List ℕ) (a b : Arguments S) → TakesTerm v admitted old term a → TakesTerm v admitted old term b → a ≡ b
-  one_step old term a b (x, says, follows) (y, others, other) =
-      one_outcome old x a b follows (subst (λ (i : Instruction S). Follows old i b) (one_instruction v admitted term y x others says) other)
+  one_step old term a b (x, is_such, follows) (y, others, other) =
+      one_outcome old x a b follows (subst (λ (i : Instruction S). Follows old i b) (one_instruction v admitted term y x others is_such) other)
 
   -- one term more of them is taken, or can't be
   module _ (old : Arguments S) (terms rest : List (List ℕ)) (term : List ℕ) (are : terms ≡ term ∷ rest) where
     parted : (new : Arguments S) → TakesTerms v admitted old terms new → Head (TakesTerm v admitted) old term rest new
     parted new run = head (subst (λ (ws : List (List ℕ)). TakesTerms v admitted old ws new) are run)
 
-    pub step_before : (mid new : Arguments S) (said : Instruction S) → SaysTerm v admitted term said → Follows old said mid → TakesTerms v admitted mid rest new → TakesTerms v admitted old terms new
-    step_before mid new said says follows run =
-        subst (λ (ws : List (List ℕ)). TakesTerms v admitted old ws new) (sym are) (next (said, says, follows) run)
+    pub step_before : (mid new : Arguments S) (instruction : Instruction S) → IsInstructionOf v admitted term instruction → Follows old instruction mid → TakesTerms v admitted mid rest new → TakesTerms v admitted old terms new
+    step_before mid new instruction is_such follows run =
+        subst (λ (ws : List (List ℕ)). TakesTerms v admitted old ws new) (sym are) (next (instruction, is_such, follows) run)
 
-    pub step_behind : (mid new : Arguments S) (said : Instruction S) → SaysTerm v admitted term said → Follows old said mid → TakesTerms v admitted old terms new → TakesTerms v admitted mid rest new
-    step_behind mid new said says follows run =
+    pub step_behind : (mid new : Arguments S) (instruction : Instruction S) → IsInstructionOf v admitted term instruction → Follows old instruction mid → TakesTerms v admitted old terms new → TakesTerms v admitted mid rest new
+    step_behind mid new instruction is_such follows run =
         let first = parted new run in
-        subst (λ (p : Arguments S). TakesTerms v admitted p rest new) (one_step old term first.mid mid first.first (said, says, follows)) first.rest
+        subst (λ (p : Arguments S). TakesTerms v admitted p rest new) (one_step old term first.mid mid first.first (instruction, is_such, follows)) first.rest
 
-    pub says_nothing : ((said : Instruction S) → SaysTerm v admitted term said → ⊥) → (new : Arguments S) → TakesTerms v admitted old terms new → ⊥
-    says_nothing none new run = let first = parted new run in none first.first.0 first.first.1
+    pub takes_nothing : ((instruction : Instruction S) → IsInstructionOf v admitted term instruction → ⊥) → (new : Arguments S) → TakesTerms v admitted old terms new → ⊥
+    takes_nothing none new run = let first = parted new run in none first.first.0 first.first.1
 
     pub cannot_be_taken : ((mid : Arguments S) → TakesTerm v admitted old term mid → ⊥) → (new : Arguments S) → TakesTerms v admitted old terms new → ⊥
     cannot_be_taken none new run = let first = parted new run in none first.mid first.first
 
-    pub cannot_be_followed : (said : Instruction S) → SaysTerm v admitted term said → ((mid : Arguments S) → Follows old said mid → ⊥) → (new : Arguments S) → TakesTerms v admitted old terms new → ⊥
-    cannot_be_followed said says none new run =
+    pub cannot_be_followed : (instruction : Instruction S) → IsInstructionOf v admitted term instruction → ((mid : Arguments S) → Follows old instruction mid → ⊥) → (new : Arguments S) → TakesTerms v admitted old terms new → ⊥
+    cannot_be_followed instruction is_such none new run =
         let first = parted new run in
-        none first.mid (subst (λ (i : Instruction S). Follows old i first.mid) (one_instruction v admitted term first.first.0 said first.first.1 says) first.first.2)
+        none first.mid (subst (λ (i : Instruction S). Follows old i first.mid) (one_instruction v admitted term first.first.0 instruction first.first.1 is_such) first.first.2)
 
   pub all_taken : (old : Arguments S) (terms : List (List ℕ)) → terms ≡ [] → TakesTerms v admitted old terms old
   all_taken old terms none = subst (λ (ws : List (List ℕ)). TakesTerms v admitted old ws old) (sym none) done

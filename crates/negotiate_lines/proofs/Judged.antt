@@ -9,7 +9,7 @@ use Rattle.negotiate_lines.specs.Wrongs.{AreJudged, IsJudged, not_utf8, in_terms
 
 judged : (bytes : List ℕ) (found : Option Wrong) → IsUtf8 bytes → AreJudged (terms_of bytes) found → IsJudged bytes found
 judged bytes None utf8 (inl blank) = inl (utf8, blank)
-judged bytes None utf8 (inr said) = inr (said.0, (utf8, said.1))
+judged bytes None utf8 (inr some_command) = inr (some_command.0, (utf8, some_command.1))
 judged bytes (Some w) utf8 are = ((λ is. are.0), in_terms utf8 are.1)
 
 pub line_judged : {E : Type 0} (bytes text : List ℕ) (r : Result (Option Wrong) E) → text ≡ bytes → IsUtf8 bytes → IfOk r (AreJudged (terms_of text)) → IfOk r (IsJudged bytes)

@@ -5,7 +5,7 @@ use Rattle.std.specs.Result.{IsErrAnd}
 use Rattle.iceoryx2_commands.specs.declared.command.How.{How}
 use Rattle.iceoryx2_commands.specs.declared.command.How.TheVariants as how
 use Rattle.iceoryx2_commands.specs.Commands.{slot_count}
-use Rattle.iceoryx2_attribute.specs.Texts.{IsText}
+use Rattle.iceoryx2_text.specs.Texts.{IsText}
 use Rattle.iceoryx2_description.specs.Names.{IsName}
 use Rattle.negotiate_lines.specs.declared.wrong.Flaw.{Flaw}
 use Rattle.negotiate_lines.specs.declared.wrong.Flaw.TheVariants as flaw
@@ -15,7 +15,7 @@ use Rattle.negotiate_lines.specs.Terms.{IsNumber}
 use Rattle.negotiate_lines.specs.Values.{IsNatural}
 use Rattle.negotiate_lines.specs.Vocabulary.{Vocabulary}
 use Rattle.negotiate_lines.specs.CallTerms.{Arguments, TakesTerms, no_arguments}
-use Rattle.negotiate_lines.specs.Lines.{SaysNamedCall, how_term, admitted_of}
+use Rattle.negotiate_lines.specs.Lines.{IsNamedCallOf, how_term, admitted_of}
 use Rattle.negotiate_lines.specs.Wrongs.{Begins, Finds, Judges, JudgesFirst, NamesCall}
 use Rattle.negotiate_lines.proofs.OneValue.{false-true}
 
@@ -29,14 +29,14 @@ passed {B = B} P Q V W (flaw.Wrong w) (Err f) is judged none also =
     subst (λ (x : Flaw). Judges {A = B} Q W (Err x)) (sym is) (none judged.0, also w judged.1)
 passed {B = B} P Q V W flaw.OutOfMemory (Err f) is judged none also = subst (λ (x : Flaw). Judges {A = B} Q W (Err x)) (sym is) tt
 
-pub passed_first : {A B : Type 0} (Told : List ℕ → A → Type 0) (V : List (List ℕ) → Wrong → Type 0) (terms : List (List ℕ)) (Q : B → Type 0) (W : Wrong → Type 0)
-    (e : Flaw) (r : Result B Flaw) → IsErrAnd r (λ f. f ≡ e) → JudgesFirst Told V terms (Err e)
-    → (((a : A) (rest : List (List ℕ)) → Begins Told terms a rest → ⊥) → (b : B) → Q b → ⊥)
+pub passed_first : {A B : Type 0} (IsFirst : List ℕ → A → Type 0) (V : List (List ℕ) → Wrong → Type 0) (terms : List (List ℕ)) (Q : B → Type 0) (W : Wrong → Type 0)
+    (e : Flaw) (r : Result B Flaw) → IsErrAnd r (λ f. f ≡ e) → JudgesFirst IsFirst V terms (Err e)
+    → (((a : A) (rest : List (List ℕ)) → Begins IsFirst terms a rest → ⊥) → (b : B) → Q b → ⊥)
     → ((w : Wrong) → V terms w → W w) → Judges Q W r
-passed_first Told V terms Q W e (Ok b) is judged none also = absurd is
-passed_first {B = B} Told V terms Q W (flaw.Wrong w) (Err f) is judged none also =
+passed_first IsFirst V terms Q W e (Ok b) is judged none also = absurd is
+passed_first {B = B} IsFirst V terms Q W (flaw.Wrong w) (Err f) is judged none also =
     subst (λ (x : Flaw). Judges {A = B} Q W (Err x)) (sym is) (none judged.0, also w judged.1)
-passed_first {B = B} Told V terms Q W flaw.OutOfMemory (Err f) is judged none also = subst (λ (x : Flaw). Judges {A = B} Q W (Err x)) (sym is) tt
+passed_first {B = B} IsFirst V terms Q W flaw.OutOfMemory (Err f) is judged none also = subst (λ (x : Flaw). Judges {A = B} Q W (Err x)) (sym is) tt
 
 -- what is found to be wrong where nothing is such
 pub judged_word : {A : Type 0} (P : A → Type 0) (V W : Wrong → Type 0) → ((a : A) → P a → ⊥) → ((w : Wrong) → V w → W w) → (f : Flaw)
@@ -88,51 +88,51 @@ one_how how.OpenOrCreate how.Open e = absurd (differ (codes "open_or_create") (c
 one_how how.OpenOrCreate how.OpenOrCreate e = refl
 
 module _ {S : Type 0} (v : Vocabulary S) (terms : List (List ℕ)) where
-  pub no_how : ((h : How) (rest : List (List ℕ)) → Begins NamesCall terms h rest → ⊥) → (call : NamedCall S) → SaysNamedCall v (v.pattern ∷ terms) call → ⊥
-  no_how none call says = none call.how _ (how_term call.how, same_others says.are, refl)
+  pub no_how : ((h : How) (rest : List (List ℕ)) → Begins NamesCall terms h rest → ⊥) → (call : NamedCall S) → IsNamedCallOf v (v.pattern ∷ terms) call → ⊥
+  no_how none call is_such = none call.how _ (how_term call.how, same_others is_such.are, refl)
 
   module _ (h : How) (after_how : List (List ℕ)) (starts : Begins NamesCall terms h after_how) where
-    how_behind : (call : NamedCall S) (says : SaysNamedCall v (v.pattern ∷ terms) call) → after_how ≡ says.node ∷ says.slot ∷ call.name ∷ says.others
-    how_behind call says = same_others (sym starts.1 ∙ same_others says.are)
+    how_behind : (call : NamedCall S) (is_such : IsNamedCallOf v (v.pattern ∷ terms) call) → after_how ≡ is_such.node ∷ is_such.slot ∷ call.name ∷ is_such.others
+    how_behind call is_such = same_others (sym starts.1 ∙ same_others is_such.are)
 
-    how_is : (call : NamedCall S) → SaysNamedCall v (v.pattern ∷ terms) call → call.how ≡ h
-    how_is call says = one_how call.how h (sym (same_first (sym starts.1 ∙ same_others says.are)) ∙ starts.2)
+    how_is : (call : NamedCall S) → IsNamedCallOf v (v.pattern ∷ terms) call → call.how ≡ h
+    how_is call is_such = one_how call.how h (sym (same_first (sym starts.1 ∙ same_others is_such.are)) ∙ starts.2)
 
     pub how_before : terms ≡ how_term h ∷ after_how
     how_before = starts.1 ∙ ap (λ (t : List ℕ). t ∷ after_how) starts.2
 
-    pub no_node : ((n : ℕ) (rest : List (List ℕ)) → Begins IsNatural after_how n rest → ⊥) → (call : NamedCall S) → SaysNamedCall v (v.pattern ∷ terms) call → ⊥
-    no_node none call says = none call.node _ (says.node, how_behind call says, says.node_is)
+    pub no_node : ((n : ℕ) (rest : List (List ℕ)) → Begins IsNatural after_how n rest → ⊥) → (call : NamedCall S) → IsNamedCallOf v (v.pattern ∷ terms) call → ⊥
+    no_node none call is_such = none call.node _ (is_such.node, how_behind call is_such, is_such.node_is)
 
     module _ (n : ℕ) (after_node : List (List ℕ)) (node : Begins IsNatural after_how n after_node) where
-      node_behind : (call : NamedCall S) (says : SaysNamedCall v (v.pattern ∷ terms) call) → after_node ≡ says.slot ∷ call.name ∷ says.others
-      node_behind call says = same_others (sym node.1 ∙ how_behind call says)
+      node_behind : (call : NamedCall S) (is_such : IsNamedCallOf v (v.pattern ∷ terms) call) → after_node ≡ is_such.slot ∷ call.name ∷ is_such.others
+      node_behind call is_such = same_others (sym node.1 ∙ how_behind call is_such)
 
       pub node_before : terms ≡ how_term h ∷ node.0 ∷ after_node
       node_before = how_before ∙ ap (λ (ts : List (List ℕ)). how_term h ∷ ts) node.1
 
-      pub no_slot : ((k : ℕ) (rest : List (List ℕ)) → Begins (IsNumber slot_count) after_node k rest → ⊥) → (call : NamedCall S) → SaysNamedCall v (v.pattern ∷ terms) call → ⊥
-      no_slot none call says = none call.slot _ (says.slot, node_behind call says, says.slot_is)
+      pub no_slot : ((k : ℕ) (rest : List (List ℕ)) → Begins (IsNumber slot_count) after_node k rest → ⊥) → (call : NamedCall S) → IsNamedCallOf v (v.pattern ∷ terms) call → ⊥
+      no_slot none call is_such = none call.slot _ (is_such.slot, node_behind call is_such, is_such.slot_is)
 
       module _ (k : ℕ) (after_slot : List (List ℕ)) (slot : Begins (IsNumber slot_count) after_node k after_slot) where
-        slot_behind : (call : NamedCall S) (says : SaysNamedCall v (v.pattern ∷ terms) call) → after_slot ≡ call.name ∷ says.others
-        slot_behind call says = same_others (sym slot.1 ∙ node_behind call says)
+        slot_behind : (call : NamedCall S) (is_such : IsNamedCallOf v (v.pattern ∷ terms) call) → after_slot ≡ call.name ∷ is_such.others
+        slot_behind call is_such = same_others (sym slot.1 ∙ node_behind call is_such)
 
         pub slot_before : terms ≡ how_term h ∷ node.0 ∷ slot.0 ∷ after_slot
         slot_before = node_before ∙ ap (λ (ts : List (List ℕ)). how_term h ∷ node.0 ∷ ts) slot.1
 
-        pub no_name : after_slot ≡ [] → (call : NamedCall S) → SaysNamedCall v (v.pattern ∷ terms) call → ⊥
-        no_name none call says = not_empty (sym none ∙ slot_behind call says)
+        pub no_name : after_slot ≡ [] → (call : NamedCall S) → IsNamedCallOf v (v.pattern ∷ terms) call → ⊥
+        no_name none call is_such = not_empty (sym none ∙ slot_behind call is_such)
 
         pub terms_before : (name : List ℕ) (others : List (List ℕ)) → after_slot ≡ name ∷ others → terms ≡ how_term h ∷ node.0 ∷ slot.0 ∷ name ∷ others
         terms_before name others stands = slot_before ∙ ap (λ (ts : List (List ℕ)). how_term h ∷ node.0 ∷ slot.0 ∷ ts) stands
 
         module _ (name : List ℕ) (others : List (List ℕ)) (stands : after_slot ≡ name ∷ others) where
-          pub no_such_name : (IsName name → ⊥) → (call : NamedCall S) → SaysNamedCall v (v.pattern ∷ terms) call → ⊥
-          no_such_name none call says = none (subst IsName (sym (same_first (sym stands ∙ slot_behind call says))) says.name_is)
+          pub no_such_name : (IsName name → ⊥) → (call : NamedCall S) → IsNamedCallOf v (v.pattern ∷ terms) call → ⊥
+          no_such_name none call is_such = none (subst IsName (sym (same_first (sym stands ∙ slot_behind call is_such))) is_such.name_is)
 
-          pub no_terms : ((new : Arguments S) → TakesTerms v (admitted_of v.has_clock h) no_arguments others new → ⊥) → (call : NamedCall S) → SaysNamedCall v (v.pattern ∷ terms) call → ⊥
-          no_terms none call says =
+          pub no_terms : ((new : Arguments S) → TakesTerms v (admitted_of v.has_clock h) no_arguments others new → ⊥) → (call : NamedCall S) → IsNamedCallOf v (v.pattern ∷ terms) call → ⊥
+          no_terms none call is_such =
               none call.arguments
-              (subst (λ (g : How). TakesTerms v (admitted_of v.has_clock g) no_arguments others call.arguments) (how_is call says)
-              (subst (λ (ts : List (List ℕ)). TakesTerms v (admitted_of v.has_clock call.how) no_arguments ts call.arguments) (sym (same_others (sym stands ∙ slot_behind call says))) says.taken))
+              (subst (λ (g : How). TakesTerms v (admitted_of v.has_clock g) no_arguments others call.arguments) (how_is call is_such)
+              (subst (λ (ts : List (List ℕ)). TakesTerms v (admitted_of v.has_clock call.how) no_arguments ts call.arguments) (sym (same_others (sym stands ∙ slot_behind call is_such))) is_such.taken))

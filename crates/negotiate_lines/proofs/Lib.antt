@@ -5,7 +5,7 @@ pub mod OneInstruction
 pub mod OneType
 pub mod OneValue
 pub mod Reading
-pub mod Saying
+pub mod KnownLines
 pub mod TermsOf
 pub mod Nearness
 pub mod Judging

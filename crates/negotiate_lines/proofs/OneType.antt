@@ -1,4 +1,4 @@
--- A value tells of one type at most.
+-- A value means one type at most.
 use Rattle.std.proofs.Common.{◌≡◌, ℕ, List, bytes_eq, codes, refl, sym, ap, subst, ◌∙◌}
 use Rattle.iceoryx2_types.specs.declared.types.TypeVariant.{TypeVariant}
 use Rattle.iceoryx2_types.specs.declared.types.TypeVariant.TheVariants.{FixedSize, Dynamic}
@@ -55,9 +55,9 @@ one_detail value a b left right =
     (subst (λ (t : List ℕ). IsAlignmentTerm t a.alignment) same.fourth left.alignment_is) right.alignment_is in
     λ i. record { variant = variant i; name = same.second i; size = size i; alignment = alignment i }
 
--- ---- values that tell of no type
+-- ---- values that mean no type
 
--- what tells of a type is around its first three commas
+-- what means a type is around its first three commas
 module _ (value variant name size alignment : List ℕ) (parts : AreParts value variant name size alignment) where
   same_parts : (d : Detail) (is : IsDetailTerm value d)
       → SameParts variant name size alignment is.variant d.name is.size is.alignment

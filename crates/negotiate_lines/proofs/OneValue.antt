@@ -1,4 +1,4 @@
--- A value says one thing at most.
+-- A value means one thing at most.
 use Rattle.std.proofs.Common.{◌≡◌, ℕ, ◌<◌, ◌++◌, Bool, true, false, ◌||◌, List, [], ◌∷◌, Option, Some, None, Result, Ok, Err, bytes_eq, codes, eqb, refl, sym, ap, subst, ◌∙◌, arith}
 use Rattle.std.specs.Char.{digit_value}
 use Rattle.std.specs.Str.Parse.{digits_value}
@@ -73,17 +73,17 @@ n_is_no_digit h = absurd (omega (arith, h))
 pub no_natural_none : (n : ℕ) → IsNatural (codes "none") n → ⊥
 no_natural_none n is = n_is_no_digit is.numeral.1.0
 
-module _ {A : Type 0} (Says : List ℕ → A → Type 0) (one : (value : List ℕ)
-    (a b : A) → Says value a → Says value b → a ≡ b) where
-  pub one_given : {S : Type 0} (sets : A → S) (value : List ℕ) (s t : S) → Gives Says sets value s
-      → Gives Says sets value t → s ≡ t
-  one_given sets value s t (a, says, e) (b, others, f) = e ∙ ap sets (one value a b says others) ∙ sym f
+module _ {A : Type 0} (IsSuch : List ℕ → A → Type 0) (one : (value : List ℕ)
+    (a b : A) → IsSuch value a → IsSuch value b → a ≡ b) where
+  pub one_given : {S : Type 0} (sets : A → S) (value : List ℕ) (s t : S) → Gives IsSuch sets value s
+      → Gives IsSuch sets value t → s ≡ t
+  one_given sets value s t (a, is_such, e) (b, others, f) = e ∙ ap sets (one value a b is_such others) ∙ sym f
 
-  pub one_or_none : ((a : A) → Says (codes "none") a → ⊥) → (value : List ℕ) (a b : Option A)
-      → IsNoneOr Says value a → IsNoneOr Says value b → a ≡ b
+  pub one_or_none : ((a : A) → IsSuch (codes "none") a → ⊥) → (value : List ℕ) (a b : Option A)
+      → IsNoneOr IsSuch value a → IsNoneOr IsSuch value b → a ≡ b
   one_or_none never value None None left right = refl
-  one_or_none never value None (Some b) left right = absurd (never b (subst (λ (v : List ℕ). Says v b) left right))
-  one_or_none never value (Some a) None left right = absurd (never a (subst (λ (v : List ℕ). Says v a) right left))
+  one_or_none never value None (Some b) left right = absurd (never b (subst (λ (v : List ℕ). IsSuch v b) left right))
+  one_or_none never value (Some a) None left right = absurd (never a (subst (λ (v : List ℕ). IsSuch v a) right left))
   one_or_none never value (Some a) (Some b) left right = ap (λ (x : A). Some x) (one value a b left right)
 
 pub one_natural_or_none : (value : List ℕ) (a b : Option ℕ) → IsNoneOr IsNatural value a → IsNoneOr IsNatural value b

@@ -26,8 +26,8 @@ reads_found Q (Ok b) found = found
 reads_found Q (Err error.Malformed) none = none
 reads_found Q (Err error.OutOfMemory) none = tt
 
-pub nothing_given : {A S : Type 0} (Says : List ℕ → A → Type 0) (setter : A → S) (value : List ℕ) (e : TermError)
-    (r : Result S TermError) → IsErrAnd r (λ f. f ≡ e) → Reads (Says value) (Err e)
-    → Reads (Gives Says setter value) r
-nothing_given Says setter value e r is none =
-    none_of (Says value) (Gives Says setter value) e r is none (λ never s given. never given.0 given.1)
+pub nothing_given : {A S : Type 0} (IsSuch : List ℕ → A → Type 0) (setter : A → S) (value : List ℕ) (e : TermError)
+    (r : Result S TermError) → IsErrAnd r (λ f. f ≡ e) → Reads (IsSuch value) (Err e)
+    → Reads (Gives IsSuch setter value) r
+nothing_given IsSuch setter value e r is none =
+    none_of (IsSuch value) (Gives IsSuch setter value) e r is none (λ never s given. never given.0 given.1)

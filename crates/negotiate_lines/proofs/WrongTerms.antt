@@ -14,10 +14,10 @@ use Rattle.negotiate_lines.specs.declared.wrong.Wrong.{Wrong}
 use Rattle.negotiate_lines.specs.declared.vocabulary.Kind.{Kind}
 use Rattle.negotiate_lines.specs.Terms.{AreAround}
 use Rattle.negotiate_lines.specs.Values.{IsClockTerm}
-use Rattle.negotiate_lines.specs.Vocabulary.{Vocabulary, Row, Takes, Sets, SaysSetting, kind_of, kinds_of, row_of, names_of, common_rows}
-use Rattle.negotiate_lines.specs.CallTerms.{Arguments, Instruction, setting, now, attribute, required_key, Follows, SaysCommon, SaysTerm, SaysBehind, TakesTerm, IsRead}
+use Rattle.negotiate_lines.specs.Vocabulary.{Vocabulary, VocabularyRow, Takes, Sets, IsSettingOf, kind_of, kinds_of, row_of, names_of, common_rows}
+use Rattle.negotiate_lines.specs.CallTerms.{Arguments, Instruction, setting, now, attribute, required_key, Follows, IsCommonOf, IsInstructionOf, IsValueOf, TakesTerm, IsRead}
 use Rattle.negotiate_lines.specs.Lines.{admitted_of}
-use Rattle.negotiate_lines.specs.Wrongs.{Finds, Judges, WrongStep, WrongTerm, unsaid, refused, WrongText, IsNoValue}
+use Rattle.negotiate_lines.specs.Wrongs.{Finds, Judges, WrongStep, WrongTerm, no_instruction, refused, WrongText, IsNoValue}
 use Rattle.negotiate_lines.proofs.OneInstruction.{one_instruction}
 
 -- what is found to be wrong is also wrong otherwise
@@ -26,27 +26,27 @@ finds_also V W also (flaw.Wrong w) is = also w is
 finds_also V W also flaw.OutOfMemory is = tt
 
 module _ {S : Type 0} (v : Vocabulary S) (h : How) (old : Arguments S) (term : List ℕ) where
-  -- what a term says is followed, or it is wrong
-  pub follows_judged : (said : Instruction S) → SaysTerm v (admitted_of v.has_clock h) term said → (r : Result (Arguments S) Flaw)
-      → Judges (Follows old said) (WrongStep old said) r → Judges (TakesTerm v (admitted_of v.has_clock h) old term) (WrongTerm v h old term) r
-  follows_judged said says (Ok new) follows = (said, says, follows)
-  follows_judged said says (Err (flaw.Wrong w)) judged = (
+  -- what a term means is followed, or it is wrong
+  pub follows_judged : (instruction : Instruction S) → IsInstructionOf v (admitted_of v.has_clock h) term instruction → (r : Result (Arguments S) Flaw)
+      → Judges (Follows old instruction) (WrongStep old instruction) r → Judges (TakesTerm v (admitted_of v.has_clock h) old term) (WrongTerm v h old term) r
+  follows_judged instruction is_such (Ok new) follows = (instruction, is_such, follows)
+  follows_judged instruction is_such (Err (flaw.Wrong w)) judged = (
     λ new taken.
-        judged.0 new (subst (λ (i : Instruction S). Follows old i new) (one_instruction v (admitted_of v.has_clock h) term taken.0 said taken.1 says) taken.2),
-    refused said says judged.1,
+        judged.0 new (subst (λ (i : Instruction S). Follows old i new) (one_instruction v (admitted_of v.has_clock h) term taken.0 instruction taken.1 is_such) taken.2),
+    refused instruction is_such judged.1,
   )
-  follows_judged said says (Err flaw.OutOfMemory) judged = tt
+  follows_judged instruction is_such (Err flaw.OutOfMemory) judged = tt
 
-  -- a term that says nothing is wrong
-  pub unsaid_judged : ((said : Instruction S) → SaysTerm v (admitted_of v.has_clock h) term said → ⊥) → (f : Flaw) → Finds (WrongText v h term) f
+  -- a term that means nothing is wrong
+  pub none_judged : ((instruction : Instruction S) → IsInstructionOf v (admitted_of v.has_clock h) term instruction → ⊥) → (f : Flaw) → Finds (WrongText v h term) f
       → Judges (TakesTerm v (admitted_of v.has_clock h) old term) (WrongTerm v h old term) (Err f)
-  unsaid_judged none (flaw.Wrong w) is = ((λ new taken. none taken.0 taken.1), unsaid none is)
-  unsaid_judged none flaw.OutOfMemory is = tt
+  none_judged none (flaw.Wrong w) is = ((λ new taken. none taken.0 taken.1), no_instruction none is)
+  none_judged none flaw.OutOfMemory is = tt
 
--- what is malformed says nothing
-pub malformed : {S : Type 0} (Says : Instruction S → Type 0) (r : Result (CallTerm S) TermError) (e : TermError) → r ≡ Err e → e ≡ error.Malformed
-    → IsRead Says r → (said : Instruction S) → Says said → ⊥
-malformed {S = S} Says r e is same read = subst (λ (x : Result (CallTerm S) TermError). IsRead Says x) (is ∙ ap (λ (f : TermError). Err f) same) read
+-- what is malformed means nothing
+pub malformed : {S : Type 0} (IsSuch : Instruction S → Type 0) (r : Result (CallTerm S) TermError) (e : TermError) → r ≡ Err e → e ≡ error.Malformed
+    → IsRead IsSuch r → (instruction : Instruction S) → IsSuch instruction → ⊥
+malformed {S = S} IsSuch r e is same read = subst (λ (x : Result (CallTerm S) TermError). IsRead IsSuch x) (is ∙ ap (λ (f : TermError). Err f) same) read
 
 -- ---- settings
 
@@ -73,15 +73,15 @@ module _ {S : Type 0} (takes : Takes S) where
   none_if false kinds others more e = more e
 
 -- the kind that is found is that of the row
-pub row_of_kind : {S : Type 0} (rows : List (Row S)) (name : List ℕ) (kind : Kind) → row_of (kinds_of rows) name ≡ Some kind → HasKind (row_of rows name) kind
+pub row_of_kind : {S : Type 0} (rows : List (VocabularyRow S)) (name : List ℕ) (kind : Kind) → row_of (kinds_of rows) name ≡ Some kind → HasKind (row_of rows name) kind
 row_of_kind [] name kind e = absurd cc
 row_of_kind (row ∷ rows) name kind e = kind_if row.1 (bytes_eq name row.0) _ _ kind (row_of_kind rows name kind) e
 
-pub no_row_of_kind : {S : Type 0} (rows : List (Row S)) (name : List ℕ) → row_of (kinds_of rows) name ≡ None → row_of rows name ≡ None
+pub no_row_of_kind : {S : Type 0} (rows : List (VocabularyRow S)) (name : List ℕ) → row_of (kinds_of rows) name ≡ None → row_of rows name ≡ None
 no_row_of_kind [] name e = refl
 no_row_of_kind (row ∷ rows) name e = none_if row.1 (bytes_eq name row.0) _ _ (no_row_of_kind rows name) e
 
-names_of_kinds : {S : Type 0} (rows : List (Row S)) → names_of (kinds_of rows) ≡ names_of rows
+names_of_kinds : {S : Type 0} (rows : List (VocabularyRow S)) → names_of (kinds_of rows) ≡ names_of rows
 names_of_kinds [] = refl
 names_of_kinds (row ∷ rows) = ap (λ (names : List (List ℕ)). row.0 ∷ names) (names_of_kinds rows)
 
@@ -90,13 +90,13 @@ names_of_found [] = refl
 names_of_found (row ∷ found) = ap (λ (names : List (List ℕ)). row.0.now ∷ names) (names_of_found found)
 
 -- the names that are found are those of the rows
-pub names_found : {S : Type 0} (rows : List (Row S)) (found : List (Bor (List ℕ) × Kind)) → map (λ row. (row.0.now, row.1)) found ≡ kinds_of rows
+pub names_found : {S : Type 0} (rows : List (VocabularyRow S)) (found : List (Bor (List ℕ) × Kind)) → map (λ row. (row.0.now, row.1)) found ≡ kinds_of rows
     → names_of rows ≡ map (λ row. row.0.now) found
 names_found rows found e = sym (names_of_kinds rows) ∙ ap (λ (kinds : List (List ℕ × Kind)). names_of kinds) (sym e) ∙ names_of_found found
 
 -- a value that its setting doesn't take
 pub no_value : {S : Type 0} (v : Vocabulary S) (h : How) (name value : List ℕ) (kind : Kind)
-    → ((said : Instruction S) → SaysBehind v.rows (admitted_of v.has_clock h) name value said → ⊥)
+    → ((instruction : Instruction S) → IsValueOf v.rows (admitted_of v.has_clock h) name value instruction → ⊥)
     → row_of common_rows name ≡ None → row_of (kinds_of v.rows) name ≡ Some kind → IsNoValue v name value kind
 no_value {S = S} v h name value kind none common found =
     let has = row_of_kind v.rows name kind found in
@@ -106,7 +106,7 @@ no_value {S = S} v h name value kind none common found =
       kind_is = has.kind_is;
       none = λ s sets.
           none (setting s)
-          (subst (λ c. MatchOption c ((t : S) × SaysSetting v.rows name value t × (setting s ≡ setting t)) (λ common. SaysCommon (admitted_of v.has_clock h) common value (setting s)))
+          (subst (λ c. MatchOption c ((t : S) × IsSettingOf v.rows name value t × (setting s ≡ setting t)) (λ common. IsCommonOf (admitted_of v.has_clock h) common value (setting s)))
           (sym common) (s, subst (λ r. MatchOption r ⊥ (λ takes. Sets takes value s)) (sym has.row) sets, refl));
     }
 
@@ -114,24 +114,24 @@ no_value {S = S} v h name value kind none common found =
 
 module _ {S : Type 0} (v : Vocabulary S) (h : How) (value : List ℕ) where
   pub no_time : (admitted_of v.has_clock h).now ≡ true
-      → ((said : Instruction S) → SaysBehind v.rows (admitted_of v.has_clock h) (codes "now") value said → ⊥)
+      → ((instruction : Instruction S) → IsValueOf v.rows (admitted_of v.has_clock h) (codes "now") value instruction → ⊥)
       → (time : Result Span ClockFault) → IsClockTerm value time → ⊥
   no_time on none time is = none (now time) (on, (time, is, refl))
 
-  pub no_colon : ((said : Instruction S) → SaysBehind v.rows (admitted_of v.has_clock h) (codes "attribute") value said → ⊥)
+  pub no_colon : ((instruction : Instruction S) → IsValueOf v.rows (admitted_of v.has_clock h) (codes "attribute") value instruction → ⊥)
       → (front back : List ℕ) → AreAround 58 value front back → ⊥
   no_colon none front back around = none (attribute front back) (record { key = front; text = back; around = around; is = refl })
 
--- a key that says nothing is one of a create
+-- a key that means nothing is one of a create
 pub key_of_create : {S : Type 0} (v : Vocabulary S) (h : How) (value : List ℕ)
-    → ((said : Instruction S) → SaysBehind v.rows (admitted_of v.has_clock h) (codes "require_key") value said → ⊥) → h ≡ how.Create
+    → ((instruction : Instruction S) → IsValueOf v.rows (admitted_of v.has_clock h) (codes "require_key") value instruction → ⊥) → h ≡ how.Create
 key_of_create v how.Create value none = refl
 key_of_create v how.Open value none = absurd (none (required_key value) (refl, refl))
 key_of_create v how.OpenOrCreate value none = absurd (none (required_key value) (refl, refl))
 
--- what is said behind a name is said behind the same name
+-- what is meant behind a name is meant behind the same name
 pub behind_name : {S : Type 0} (v : Vocabulary S) (h : How) (name other value : List ℕ) → name ≡ other
-    → ((said : Instruction S) → SaysBehind v.rows (admitted_of v.has_clock h) name value said → ⊥)
-    → (said : Instruction S) → SaysBehind v.rows (admitted_of v.has_clock h) other value said → ⊥
-behind_name v h name other value same none said says =
-    none said (subst (λ (n : List ℕ). SaysBehind v.rows (admitted_of v.has_clock h) n value said) (sym same) says)
+    → ((instruction : Instruction S) → IsValueOf v.rows (admitted_of v.has_clock h) name value instruction → ⊥)
+    → (instruction : Instruction S) → IsValueOf v.rows (admitted_of v.has_clock h) other value instruction → ⊥
+behind_name v h name other value same none instruction is_such =
+    none instruction (subst (λ (n : List ℕ). IsValueOf v.rows (admitted_of v.has_clock h) n value instruction) (sym same) is_such)

@@ -1,5 +1,5 @@
 -- What the terms behind a service's name make of a call, one after the other, in a pattern's vocabulary.
-use Rattle.std.specs.Prelude.{ℕ, ◌≡◌, List, [], ◌∷◌, ◌++◌, MatchOption, Result, Ok, IsTrue}
+use Rattle.std.specs.Prelude.{ℕ, ◌≡◌, List, [], ◌∷◌, ◌++◌, MatchOption, Result, Ok, Err, IsTrue}
 use Rattle.std.specs.Result.{result_map_both}
 use Rattle.iceoryx2_attribute.specs.Attributes.{pair_of}
 use Rattle.iceoryx2_attribute.specs.Requirements.{Requirements, no_requirements}
@@ -13,12 +13,12 @@ use Rattle.negotiate_lines.specs.declared.call_term.Admitted.{Admitted}
 use Rattle.negotiate_lines.specs.declared.term.TermError.{TermError}
 use Rattle.negotiate_lines.specs.Terms.{AreAround, Reads}
 use Rattle.negotiate_lines.specs.Values.{IsClockTerm}
-use Rattle.negotiate_lines.specs.Vocabulary.{Row, Vocabulary, SaysSetting, row_of}
+use Rattle.negotiate_lines.specs.Vocabulary.{VocabularyRow, Vocabulary, IsSettingOf, row_of}
 use Rattle.negotiate_lines.specs.Vocabulary.{CommonTerm, clock_term, pair_term, key_term, common_rows}
 
 -- ---- one term
 
--- what a term tells a call
+-- what a term gives a call
 pub data Instruction (S : Type 0) : Type 0 where
   setting : S → Instruction S
   now : Result Span ClockFault → Instruction S
@@ -26,43 +26,44 @@ pub data Instruction (S : Type 0) : Type 0 where
   required_key : (key : List ℕ) → Instruction S
 
 -- a pair, around the first colon
-pub record SaysPair {S : Type 0} (value : List ℕ) (said : Instruction S) : Type 0 where
+pub record IsPairOf {S : Type 0} (value : List ℕ) (instruction : Instruction S) : Type 0 where
   pub key : List ℕ
   pub text : List ℕ
   pub around : AreAround 58 value key text
-  pub is : said ≡ attribute key text
+  pub is : instruction ≡ attribute key text
 
--- what a value says behind each of them, where it goes with the call
-abbrev pub SaysCommon : {S : Type 0} → Admitted → CommonTerm → List ℕ → Instruction S → Type 0
-SaysCommon admitted clock_term value said =
-    IsTrue admitted.now × ((time : Result Span ClockFault) × IsClockTerm value time × (said ≡ now time))
-SaysCommon admitted pair_term value said = SaysPair value said
-SaysCommon admitted key_term value said = IsTrue admitted.require_key × (said ≡ required_key value)
+-- what a value means behind each of them, where it goes with the call
+abbrev pub IsCommonOf : {S : Type 0} → Admitted → CommonTerm → List ℕ → Instruction S → Type 0
+IsCommonOf admitted clock_term value instruction =
+    IsTrue admitted.now × ((time : Result Span ClockFault) × IsClockTerm value time × (instruction ≡ now time))
+IsCommonOf admitted pair_term value instruction = IsPairOf value instruction
+IsCommonOf admitted key_term value instruction = IsTrue admitted.require_key × (instruction ≡ required_key value)
 
--- what a value says behind any name
-abbrev pub SaysBehind : {S : Type 0} → List (Row S) → Admitted → (name value : List ℕ) → Instruction S → Type 0
-SaysBehind {S = S} rows admitted name value said =
-    MatchOption (row_of common_rows name) ((s : S) × SaysSetting rows name value s × (said ≡ setting s))
-    (λ common. SaysCommon admitted common value said)
+-- what a value means behind any name
+abbrev pub IsValueOf : {S : Type 0} → List (VocabularyRow S) → Admitted → (name value : List ℕ) → Instruction S → Type 0
+IsValueOf {S = S} rows admitted name value instruction =
+    MatchOption (row_of common_rows name) ((s : S) × IsSettingOf rows name value s × (instruction ≡ setting s))
+    (λ common. IsCommonOf admitted common value instruction)
 
 -- A term is a name and a value, around its first `=`.
-pub record SaysTerm {S : Type 0} (v : Vocabulary S) (admitted : Admitted) (term : List ℕ) (said : Instruction S)
+pub record IsInstructionOf {S : Type 0} (v : Vocabulary S) (admitted : Admitted) (term : List ℕ)
+    (instruction : Instruction S)
     : Type 0 where
   pub name : List ℕ
   pub value : List ℕ
   pub around : AreAround 61 term name value
-  pub says : SaysBehind v.rows admitted name value said
+  pub value_is : IsValueOf v.rows admitted name value instruction
 
--- what is said by what was read
+-- what is meant by what was read
 abbrev pub instruction_of : {S : Type 0} → CallTerm S → Instruction S
 instruction_of (term.Setting s) = setting s
 instruction_of (term.Now time) = now time
 instruction_of (term.Attribute key value) = attribute key.now value.now
 instruction_of (term.RequiredKey key) = required_key key.now
 
--- what was read of a term is what it says, and nothing was read where it says nothing
+-- what was read of a term is what it means, and nothing was read where it means nothing
 abbrev pub IsRead : {S : Type 0} → (Instruction S → Type 0) → Result (CallTerm S) TermError → Type 0
-IsRead Says read = Reads Says (result_map_both instruction_of (λ e. e) read)
+IsRead IsSuch read = Reads IsSuch (result_map_both instruction_of (λ e. e) read)
 
 -- ---- one term after the other
 
@@ -94,11 +95,16 @@ Follows old (required_key key) new =
     AddsKey old.requirements.keys key (Ok tt) new.requirements.keys
     × Requires old (record { pairs = old.requirements.pairs; keys = new.requirements.keys }) new
 
--- The term says an instruction, which is followed.
+-- The term means an instruction, which is followed.
 abbrev pub TakesTerm : {S : Type 0} → Vocabulary S → Admitted
     → Arguments S → List ℕ → Arguments S → Type 0
 TakesTerm {S = S} v admitted old term new =
-    (said : Instruction S) × SaysTerm v admitted term said × Follows old said new
+    (instruction : Instruction S) × IsInstructionOf v admitted term instruction × Follows old instruction new
+
+-- what was changed where it is, as an answer that has it
+abbrev pub in_place : {A E : Type 0} → Result Unit E → A → Result A E
+in_place (Ok done) new = Ok new
+in_place (Err e) new = Err e
 
 -- the terms, one after the other
 abbrev pub TakesTerms : {S : Type 0} → Vocabulary S → Admitted

@@ -33,20 +33,20 @@ without_end_of line = without_last 13 (without_last 10 line)
 
 -- ---- calls
 
--- the term that says how a service is wanted
+-- the term that means how a service is wanted
 abbrev pub how_term : How → List ℕ
 how_term how.Create = codes "create"
 how_term how.Open = codes "open"
 how_term how.OpenOrCreate = codes "open_or_create"
 
--- which of the terms that every pattern has go with such a call: the time where the pattern's creates are told it
+-- which of the terms that every pattern has go with such a call: the time where the pattern's creates are given it
 abbrev pub admitted_of : (has_clock : Bool) → How → Admitted
 admitted_of has_clock how.Create = record { now = has_clock; require_key = false }
 admitted_of has_clock how.Open = record { now = false; require_key = true }
 admitted_of has_clock how.OpenOrCreate = record { now = has_clock; require_key = true }
 
 -- The terms are a call in a pattern's vocabulary. Those behind the name make all of it that the first five don't.
-pub record SaysNamedCall {S : Type 0} (v : Vocabulary S) (terms : List (List ℕ)) (call : NamedCall S)
+pub record IsNamedCallOf {S : Type 0} (v : Vocabulary S) (terms : List (List ℕ)) (call : NamedCall S)
     : Type 0 where
   pub node : List ℕ
   pub slot : List ℕ
@@ -68,35 +68,35 @@ as_named call setters = record {
 }
 
 -- The terms are a builder call, in the vocabulary of the pattern of its settings.
-abbrev pub SaysSettings : Settings → List (List ℕ) → Call → Type 0
-SaysSettings (settings.Event setters) terms call = SaysNamedCall event_vocabulary terms (as_named call setters.items)
-SaysSettings (settings.PublishSubscribe setters) terms call =
-    SaysNamedCall publish_subscribe_vocabulary terms (as_named call setters.items)
-SaysSettings (settings.RequestResponse setters) terms call =
-    SaysNamedCall request_response_vocabulary terms (as_named call setters.items)
+abbrev pub IsCallOf : Settings → List (List ℕ) → Call → Type 0
+IsCallOf (settings.Event setters) terms call = IsNamedCallOf event_vocabulary terms (as_named call setters.items)
+IsCallOf (settings.PublishSubscribe setters) terms call =
+    IsNamedCallOf publish_subscribe_vocabulary terms (as_named call setters.items)
+IsCallOf (settings.RequestResponse setters) terms call =
+    IsNamedCallOf request_response_vocabulary terms (as_named call setters.items)
 
 -- ---- lines
 
 -- The terms close a slot.
-pub record SaysClose (terms : List (List ℕ)) (closed : ℕ) : Type 0 where
+pub record IsCloseOf (terms : List (List ℕ)) (closed : ℕ) : Type 0 where
   pub slot : List ℕ
   pub are : terms ≡ codes "close" ∷ slot ∷ []
   pub slot_is : IsNumber slot_count slot closed
 
 -- The terms are the command.
-abbrev pub Says : List (List ℕ) → Command → Type 0
-Says terms (command.Call call) = SaysSettings call.settings terms call
-Says terms (command.Close slot) = SaysClose terms slot
-Says terms command.List = terms ≡ codes "list" ∷ []
+abbrev pub IsCommandOf : List (List ℕ) → Command → Type 0
+IsCommandOf terms (command.Call call) = IsCallOf call.settings terms call
+IsCommandOf terms (command.Close slot) = IsCloseOf terms slot
+IsCommandOf terms command.List = terms ≡ codes "list" ∷ []
 
--- The terms are what the line is told to be: nothing, a command, or terms that are no command.
+-- The terms are what the line is given as: nothing, a command, or terms that are no command.
 abbrev pub AreLine : List (List ℕ) → Line → Type 0
 AreLine terms line.Blank = terms ≡ []
-AreLine terms (line.Command said) = Says terms said
-AreLine terms line.NotACommand = (terms ≢ []) × ((said : Command) → Says terms said → ⊥)
+AreLine terms (line.Command c) = IsCommandOf terms c
+AreLine terms line.NotACommand = (terms ≢ []) × ((c : Command) → IsCommandOf terms c → ⊥)
 
--- The bytes are what the line is told to be. Bytes that are no text are no command.
+-- The bytes are what the line is given as. Bytes that are no text are no command.
 abbrev pub IsLine : List ℕ → Line → Type 0
 IsLine bytes line.Blank = IsUtf8 bytes × AreLine (terms_of bytes) line.Blank
-IsLine bytes (line.Command said) = IsUtf8 bytes × AreLine (terms_of bytes) (line.Command said)
+IsLine bytes (line.Command c) = IsUtf8 bytes × AreLine (terms_of bytes) (line.Command c)
 IsLine bytes line.NotACommand = IsUtf8 bytes → AreLine (terms_of bytes) line.NotACommand

@@ -6,9 +6,9 @@ use Rattle.iceoryx2_publish_subscribe_builder.specs.declared.publish_subscribe.s
 use Rattle.iceoryx2_publish_subscribe_builder.specs.declared.publish_subscribe.setting.PublishSubscribeSetter.TheVariants as samples
 use Rattle.iceoryx2_request_response_builder.specs.declared.request_response.setting.RequestResponseSetter.{RequestResponseSetter}
 use Rattle.iceoryx2_request_response_builder.specs.declared.request_response.setting.RequestResponseSetter.TheVariants as requests
-use Rattle.negotiate_lines.specs.Vocabulary.{Row, Vocabulary, number, truth, event, time, alignment, type}
+use Rattle.negotiate_lines.specs.Vocabulary.{VocabularyRow, Vocabulary, number, truth, event, time, alignment, type}
 
-abbrev pub event_rows : List (Row EventSetter)
+abbrev pub event_rows : List (VocabularyRow EventSetter)
 event_rows =
     (codes "max_notifiers", number events.MaxNotifiers)
     ∷ (codes "max_listeners", number events.MaxListeners)
@@ -20,7 +20,7 @@ event_rows =
     ∷ (codes "deadline", time events.Deadline)
     ∷ []
 
-abbrev pub publish_subscribe_rows : List (Row PublishSubscribeSetter)
+abbrev pub publish_subscribe_rows : List (VocabularyRow PublishSubscribeSetter)
 publish_subscribe_rows =
     (codes "max_publishers", number samples.MaxPublishers)
     ∷ (codes "max_subscribers", number samples.MaxSubscribers)
@@ -34,7 +34,7 @@ publish_subscribe_rows =
     ∷ (codes "payload_alignment", alignment samples.PayloadAlignment)
     ∷ []
 
-abbrev pub request_response_rows : List (Row RequestResponseSetter)
+abbrev pub request_response_rows : List (VocabularyRow RequestResponseSetter)
 request_response_rows =
     (codes "enable_safe_overflow_for_requests", truth requests.EnableSafeOverflowForRequests)
     ∷ (codes "enable_safe_overflow_for_responses", truth requests.EnableSafeOverflowForResponses)

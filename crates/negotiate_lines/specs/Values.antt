@@ -19,10 +19,10 @@ pub record IsSpanTerm (value : List ℕ) (span : Span) : Type 0 where
   pub seconds_are : IsNatural seconds span.seconds
   pub nanoseconds_are : IsNumber NANOSECONDS_PER_SECOND nanoseconds span.nanoseconds
 
--- the term `none`, or what says a value
+-- the term `none`, or what means a value
 abbrev pub IsNoneOr : {A : Type 0} → (List ℕ → A → Type 0) → List ℕ → Option A → Type 0
-IsNoneOr Says value None = value ≡ codes "none"
-IsNoneOr Says value (Some a) = Says value a
+IsNoneOr IsSuch value None = value ≡ codes "none"
+IsNoneOr IsSuch value (Some a) = IsSuch value a
 
 -- the term `fault`, or a time
 abbrev pub IsClockTerm : List ℕ → Result Span ClockFault → Type 0

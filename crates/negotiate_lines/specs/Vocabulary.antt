@@ -26,11 +26,11 @@ kind_of (time setter) = kind.Length
 kind_of (alignment setter) = kind.Alignment
 kind_of (type setter) = kind.Type
 
--- the value says what the setter is given
+-- the value means what the setter is given
 abbrev pub Gives : {A S : Type 0} → (List ℕ → A → Type 0) → (A → S) → List ℕ → S → Type 0
-Gives {A = A} Says setter value s = (a : A) × Says value a × (s ≡ setter a)
+Gives {A = A} IsSuch setter value s = (a : A) × IsSuch value a × (s ≡ setter a)
 
--- the value says the setter that is made of it
+-- the value means the setter that is made of it
 abbrev pub Sets : {S : Type 0} → Takes S → List ℕ → S → Type 0
 Sets (number setter) = Gives IsNatural setter
 Sets (truth setter) = Gives IsTruthTerm setter
@@ -40,11 +40,11 @@ Sets (alignment setter) = Gives IsAlignmentTerm setter
 Sets (type setter) = Gives IsDetailTerm setter
 
 -- a row: the name of a setting, and what it takes
-abbrev pub Row : Type 0 → Type 0
-Row S = List ℕ × Takes S
+abbrev pub VocabularyRow : Type 0 → Type 0
+VocabularyRow S = List ℕ × Takes S
 
 -- each name with the kind of value that its setting takes
-abbrev pub kinds_of : {S : Type 0} → List (Row S) → List (List ℕ × Kind)
+abbrev pub kinds_of : {S : Type 0} → List (VocabularyRow S) → List (List ℕ × Kind)
 kinds_of rows = map (λ row. (row.0, kind_of row.1)) rows
 
 -- what stands in the first row of this name
@@ -52,20 +52,20 @@ abbrev pub row_of : {A : Type 0} → List (List ℕ × A) → List ℕ → Optio
 row_of [] name = None
 row_of (row ∷ rows) name = if bytes_eq name row.0 then Some row.1 else row_of rows name
 
--- The value says a setter, by the row of this name.
-abbrev pub SaysSetting : {S : Type 0} → List (Row S) → (name value : List ℕ) → S → Type 0
-SaysSetting rows name value s = MatchOption (row_of rows name) ⊥ (λ takes. Sets takes value s)
+-- The value means a setter, by the row of this name.
+abbrev pub IsSettingOf : {S : Type 0} → List (VocabularyRow S) → (name value : List ℕ) → S → Type 0
+IsSettingOf rows name value s = MatchOption (row_of rows name) ⊥ (λ takes. Sets takes value s)
 
 -- S are the setters of its builder with their values.
 pub record Vocabulary (S : Type 0) : Type 0 where
   -- the term by which its calls begin
   pub pattern : List ℕ
   -- its settings
-  pub rows : List (Row S)
-  -- whether its creates are told the time
+  pub rows : List (VocabularyRow S)
+  -- whether its creates are given the time
   pub has_clock : Bool
 
--- the terms that every pattern has: what the clock tells, a pair that is required, and a key
+-- the terms that every pattern has: what the clock gives, a pair that is required, and a key
 pub data CommonTerm : Type 0 where
   clock_term pair_term key_term : CommonTerm
 

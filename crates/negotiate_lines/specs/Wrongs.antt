@@ -26,8 +26,8 @@ use Rattle.negotiate_lines.specs.SettingTerms.{request_response_vocabulary}
 use Rattle.negotiate_lines.specs.Terms.{AreAround, IsNumber, terms_of}
 use Rattle.negotiate_lines.specs.Values.{IsClockTerm, IsNatural}
 use Rattle.negotiate_lines.specs.Vocabulary.{Vocabulary, Takes, Sets, kind_of, row_of, common_rows, names_of}
-use Rattle.negotiate_lines.specs.CallTerms.{Arguments, Instruction, attribute, required_key, SaysTerm, TakesTerms, no_arguments}
-use Rattle.negotiate_lines.specs.Lines.{IsLine, AreLine, Says, admitted_of, how_term}
+use Rattle.negotiate_lines.specs.CallTerms.{Arguments, Instruction, attribute, required_key, IsInstructionOf, TakesTerms, no_arguments}
+use Rattle.negotiate_lines.specs.Lines.{IsLine, AreLine, IsCommandOf, admitted_of, how_term}
 use Rattle.negotiate_lines.specs.declared.line.Line.TheVariants as line
 
 -- ---- a term behind the name
@@ -78,22 +78,23 @@ WrongStep old (attribute key value) (wrong.TooManyPairs t u) = (t.now ≡ key) �
 WrongStep old (required_key key) (wrong.KeyLength t) = (t.now ≡ key) × (HasKeyLength key → ⊥)
 WrongStep old (required_key key) (wrong.TooManyKeys t) = (t.now ≡ key)
     × (lists_key old.requirements.keys key ≡ false) × (MAX_REQUIRED_KEYS ≤ length old.requirements.keys)
-WrongStep old said _ = ⊥
+WrongStep old instruction _ = ⊥
 
--- What is wrong with a term that says nothing: it has no `=`, or its value is wrong behind its name.
+-- What is wrong with a term that means nothing: it has no `=`, or its value is wrong behind its name.
 pub data WrongText {S : Type 0} (v : Vocabulary S) (h : How) (term : List ℕ) : Wrong → Type 0 where
   no_equals_sign : {t : Bor (List ℕ)} → t.now ≡ term → ((front back : List ℕ) → AreAround 61 term front back → ⊥)
       → WrongText v h term (wrong.NoEqualsSign t)
   wrong_value : {w : Wrong} (name value : List ℕ) → AreAround 61 term name value → WrongValue v h name value w
       → WrongText v h term w
 
--- What is wrong with a term: it says nothing, or what it says can't be followed.
+-- What is wrong with a term: it means nothing, or what it means can't be followed.
 pub data WrongTerm {S : Type 0} (v : Vocabulary S) (h : How) (old : Arguments S) (term : List ℕ) (w : Wrong)
     : Type 0 where
-  unsaid : ((said : Instruction S) → SaysTerm v (admitted_of v.has_clock h) term said → ⊥) → WrongText v h term w
+  no_instruction : ((instruction : Instruction S) → IsInstructionOf v (admitted_of v.has_clock h) term instruction
+      → ⊥) → WrongText v h term w
       → WrongTerm v h old term w
-  refused : (said : Instruction S) → SaysTerm v (admitted_of v.has_clock h) term said
-      → WrongStep old said w → WrongTerm v h old term w
+  refused : (instruction : Instruction S) → IsInstructionOf v (admitted_of v.has_clock h) term instruction
+      → WrongStep old instruction w → WrongTerm v h old term w
 
 -- The terms before it are taken, and it is the first that is wrong.
 pub record WrongArguments {S : Type 0} (v : Vocabulary S) (h : How) (terms : List (List ℕ)) (w : Wrong)
@@ -159,14 +160,14 @@ abbrev pub command_words : List (List ℕ)
 command_words = codes "list" ∷ codes "close" ∷ codes "event" ∷ codes "pubsub" ∷ codes "rr" ∷ []
 
 -- No command begins with the term. The nearest word by which one does is found.
-abbrev pub IsNoCommand : (term : List ℕ) → Wrong → Type 0
-IsNoCommand term (wrong.NoSuchCommand t nearest) = (t.now ≡ term) × Suggests term command_words (now_of nearest)
-IsNoCommand term _ = ⊥
+abbrev pub IsNoCommandWord : (term : List ℕ) → Wrong → Type 0
+IsNoCommandWord term (wrong.NoSuchCommand t nearest) = (t.now ≡ term) × Suggests term command_words (now_of nearest)
+IsNoCommandWord term _ = ⊥
 
 -- what is wrong with the terms of a line
 pub data WrongTerms (terms : List (List ℕ)) : Wrong → Type 0 where
   no_command : {w : Wrong} (term : List ℕ) (rest : List (List ℕ)) → terms ≡ term ∷ rest
-      → Each (λ word. term ≢ word) command_words → IsNoCommand term w → WrongTerms terms w
+      → Each (λ word. term ≢ word) command_words → IsNoCommandWord term w → WrongTerms terms w
   behind_list : {t : Bor (List ℕ)} (rest : List (List ℕ)) → terms ≡ codes "list" ∷ t.now ∷ rest
       → WrongTerms terms (wrong.BehindList t)
   at_slot : {w : Wrong} (rest : List (List ℕ)) → terms ≡ codes "close" ∷ rest → WrongSlot rest w
@@ -195,7 +196,7 @@ IsJudged bytes (Some w) = IsLine bytes line.NotACommand × IsWrong bytes w
 
 -- the same of the terms
 abbrev pub AreJudged : (terms : List (List ℕ)) → Option Wrong → Type 0
-AreJudged terms None = (terms ≡ []) ⊎ ((c : Command) × Says terms c)
+AreJudged terms None = (terms ≡ []) ⊎ ((c : Command) × IsCommandOf terms c)
 AreJudged terms (Some w) = AreLine terms line.NotACommand × WrongTerms terms w
 
 -- What is found is such. Else nothing is such, and this is what is wrong. Memory may run out.
@@ -204,18 +205,18 @@ Judges IsSuch Wrongs (Ok a) = IsSuch a
 Judges {A = A} IsSuch Wrongs (Err (flaw.Wrong w)) = ((a : A) → IsSuch a → ⊥) × Wrongs w
 Judges IsSuch Wrongs (Err flaw.OutOfMemory) = Unit {0}
 
--- Terms begin with one that says this, and these stand behind it.
+-- Terms begin with one that means this, and these stand behind it.
 abbrev pub Begins : {A : Type 0} → (List ℕ → A → Type 0) → (terms : List (List ℕ)) → A → (rest : List (List ℕ))
     → Type 0
-Begins Told terms a rest = (term : List ℕ) × (terms ≡ term ∷ rest) × Told term a
+Begins IsFirst terms a rest = (term : List ℕ) × (terms ≡ term ∷ rest) × IsFirst term a
 
--- What the first term says is found, with the text behind it. Else it says nothing, and this is what is wrong.
+-- What the first term means is found, with the text behind it. Else it means nothing, and this is what is wrong.
 abbrev pub JudgesFirst : {A : Type 0} → (List ℕ → A → Type 0) → (List (List ℕ) → Wrong → Type 0)
     → (terms : List (List ℕ)) → Result (A × Bor (List ℕ)) Flaw → Type 0
-JudgesFirst Told Wrongs terms (Ok found) = Begins Told terms found.0 (terms_of found.1.now)
-JudgesFirst {A = A} Told Wrongs terms (Err (flaw.Wrong w)) =
-    ((a : A) (rest : List (List ℕ)) → Begins Told terms a rest → ⊥) × Wrongs terms w
-JudgesFirst Told Wrongs terms (Err flaw.OutOfMemory) = Unit {0}
+JudgesFirst IsFirst Wrongs terms (Ok found) = Begins IsFirst terms found.0 (terms_of found.1.now)
+JudgesFirst {A = A} IsFirst Wrongs terms (Err (flaw.Wrong w)) =
+    ((a : A) (rest : List (List ℕ)) → Begins IsFirst terms a rest → ⊥) × Wrongs terms w
+JudgesFirst IsFirst Wrongs terms (Err flaw.OutOfMemory) = Unit {0}
 
 -- a term is the name of a call
 abbrev pub NamesCall : List ℕ → How → Type 0

@@ -3,7 +3,7 @@
 ghost use Rattle.std.specs.Prelude.{◌≡◌};
 ghost use Rattle.negotiate_lines.specs.Terms.{Reads, terms_of};
 ghost use Rattle.negotiate_lines.specs.CallTerms.{Follows, Arguments, TakesTerms, attribute};
-ghost use Rattle.negotiate_lines.specs.CallTerms.{instruction_of, no_arguments, required_key};
+ghost use Rattle.negotiate_lines.specs.CallTerms.{in_place, instruction_of, no_arguments, required_key};
 ghost use Rattle.negotiate_lines.specs.Wrongs.{Judges, WrongStep};
 
 use crate::call_term::{Admitted, CallTerm, call_term};
@@ -16,7 +16,7 @@ use iceoryx2_description::time::{ClockFault, Time};
 use std::alloc::Global;
 use std::marker::Model;
 
-/// The settings of a call, what it requires, and what the clock tells it.
+/// The settings of a call, what it requires, and what the clock gives it.
 #[derive(Drop)]
 pub struct CallArguments<S> {
     settings: Vec<S>,
@@ -48,7 +48,7 @@ impl<S: Drop> CallArguments<S> {
         }
     }
 
-    /// Its settings in order, what it requires, and what the clock tells it.
+    /// Its settings in order, what it requires, and what the clock gives it.
     pub fn into_parts(self) -> (Vec<S>, AttributeVerifier, Result<Time, ClockFault>)
         ensures settings { result.0.items ≡ self.settings }
         ensures requirements { result.1 ≡ self.requirements }
@@ -62,43 +62,43 @@ impl<S: Drop> CallArguments<S> {
         (settings, attributes, now)
     }
 
-    /// What they are after what a term says. A pair or a key isn't taken where its length is out of
+    /// What they are after what a term means. A pair or a key isn't taken where its length is out of
     /// range, and where it is one past 64.
-    fn follow(self, said: CallTerm<S>) -> Result<CallArguments<S>, TermError>
-        ensures { Reads (Follows self (instruction_of said.entry)) result }
+    fn follow(&mut self, instruction: CallTerm<S>) -> Result<(), TermError>
+        ensures { Reads (Follows self.old (instruction_of instruction.entry)) (in_place result self.new) }
     {
-        match self.judge(said) {
-            Ok(arguments) => Ok(arguments),
+        match self.judge(instruction) {
+            Ok(()) => Ok(()),
             Err(Flaw::Wrong(_)) => Err(TermError::Malformed),
             Err(Flaw::OutOfMemory) => Err(TermError::OutOfMemory),
         }
     }
 
     /// The same, or what is wrong where that can't be followed.
-    pub(crate) fn judge<'a>(mut self, said: CallTerm<'a, S>) -> Result<CallArguments<S>, Flaw<'a>>
-        ensures { Judges (Follows self (instruction_of said.entry)) (WrongStep self (instruction_of said.entry))
-            result }
+    pub(crate) fn judge<'a>(&mut self, instruction: CallTerm<'a, S>) -> Result<(), Flaw<'a>>
+        ensures { Judges (Follows self.old (instruction_of instruction.entry))
+            (WrongStep self.old (instruction_of instruction.entry)) (in_place result self.new) }
     {
-        match said {
+        match instruction {
             CallTerm::Setting(setting) => match self.settings.push(setting) {
-                Ok(()) => Ok(self),
+                Ok(()) => Ok(()),
                 Err(_) => Err(Flaw::OutOfMemory),
             },
             CallTerm::Now(now) => {
                 self.now = now;
-                Ok(self)
+                Ok(())
             }
             CallTerm::Attribute(key, value) => self.judge_pair(key, value),
             CallTerm::RequiredKey(key) => self.judge_key(key),
         }
     }
 
-    fn judge_pair<'a>(mut self, key: &'a str, value: &'a str) -> Result<CallArguments<S>, Flaw<'a>>
-        ensures { Judges (Follows self (attribute key.now value.now)) (WrongStep self (attribute key.now value.now))
-            result }
+    fn judge_pair<'a>(&mut self, key: &'a str, value: &'a str) -> Result<(), Flaw<'a>>
+        ensures { Judges (Follows self.old (attribute key.now value.now))
+            (WrongStep self.old (attribute key.now value.now)) (in_place result self.new) }
     {
         match self.attributes.require(key, value) {
-            Ok(()) => Ok(self),
+            Ok(()) => Ok(()),
             Err(AttributeError::OutOfMemory) => Err(Flaw::OutOfMemory),
             Err(KeyLength) => Err(Flaw::Wrong(Wrong::KeyLength(key))),
             Err(ValueLength) => Err(Flaw::Wrong(Wrong::ValueLength(value))),
@@ -106,11 +106,12 @@ impl<S: Drop> CallArguments<S> {
         }
     }
 
-    fn judge_key<'a>(mut self, key: &'a str) -> Result<CallArguments<S>, Flaw<'a>>
-        ensures { Judges (Follows self (required_key key.now)) (WrongStep self (required_key key.now)) result }
+    fn judge_key<'a>(&mut self, key: &'a str) -> Result<(), Flaw<'a>>
+        ensures { Judges (Follows self.old (required_key key.now)) (WrongStep self.old (required_key key.now))
+            (in_place result self.new) }
     {
         match self.attributes.require_key(key) {
-            Ok(()) => Ok(self),
+            Ok(()) => Ok(()),
             Err(AttributeError::OutOfMemory) => Err(Flaw::OutOfMemory),
             Err(TooMany) => Err(Flaw::Wrong(Wrong::TooManyKeys(key))),
             Err(_) => Err(Flaw::Wrong(Wrong::KeyLength(key))),
@@ -118,7 +119,7 @@ impl<S: Drop> CallArguments<S> {
     }
 }
 
-/// Reads the terms of a text, one by one and in order, up to the first that says nothing, or what
+/// Reads the terms of a text, one by one and in order, up to the first that means nothing, or what
 /// can't be followed. No term is kept: memory is taken for the settings, the pairs and the keys
 /// alone.
 pub fn call_arguments<V: HasVocabulary>(
@@ -131,7 +132,7 @@ pub fn call_arguments<V: HasVocabulary>(
     let mut arguments = CallArguments::new(alloc);
     let mut rest = text;
     while let Some((term, after)) = next_term(rest) {
-        arguments = arguments.follow(call_term::<V>(alloc, admitted, term)?)?;
+        arguments.follow(call_term::<V>(alloc, admitted, term)?)?;
         rest = after;
     }
     Ok(arguments)

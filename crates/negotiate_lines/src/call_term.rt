@@ -1,6 +1,6 @@
-//! What one term behind a service's name says.
+//! What one term behind a service's name means.
 
-ghost use Rattle.negotiate_lines.specs.CallTerms.{IsRead, SaysBehind, SaysTerm};
+ghost use Rattle.negotiate_lines.specs.CallTerms.{IsRead, IsValueOf, IsInstructionOf};
 
 use crate::term::{TermError, around};
 use crate::value::time_or_fault;
@@ -11,18 +11,18 @@ use std::alloc::Global;
 /// Which of the terms that every pattern has go with a call.
 #[derive(Clone, Copy)]
 pub struct Admitted {
-    /// What the clock tells.
+    /// What the clock gives.
     pub now: bool,
     /// A key that is required.
     pub require_key: bool,
 }
 
-/// What a term says.
+/// What a term means.
 #[derive(Drop)]
 pub(crate) enum CallTerm<'a, S> {
     /// A setter of the builder, with its value.
     Setting(S),
-    /// What the clock tells.
+    /// What the clock gives.
     Now(Result<Time, ClockFault>),
     /// A key and a value.
     Attribute(&'a str, &'a str),
@@ -38,7 +38,7 @@ pub(crate) fn call_term<'a, V: HasVocabulary>(
     admitted: Admitted,
     term: &'a str,
 ) -> Result<CallTerm<'a, V::Setter>, TermError>
-    ensures { IsRead (SaysTerm V.vocabulary admitted term.now) result }
+    ensures { IsRead (IsInstructionOf V.vocabulary admitted term.now) result }
 {
     match around(term, '=') {
         Some((name, value)) => value_of::<V>(alloc, admitted, name, value),
@@ -46,14 +46,14 @@ pub(crate) fn call_term<'a, V: HasVocabulary>(
     }
 }
 
-/// What a value says behind a name.
+/// What a value means behind a name.
 fn value_of<'a, V: HasVocabulary>(
     alloc: Global,
     admitted: Admitted,
     name: &str,
     value: &'a str,
 ) -> Result<CallTerm<'a, V::Setter>, TermError>
-    ensures { IsRead (SaysBehind V.vocabulary.rows admitted name.now value.now) result }
+    ensures { IsRead (IsValueOf V.vocabulary.rows admitted name.now value.now) result }
 {
     match name {
         "now" if admitted.now => Ok(CallTerm::Now(time_or_fault(value)?)),

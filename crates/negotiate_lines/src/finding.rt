@@ -4,9 +4,9 @@ ghost use Rattle.std.specs.Prelude.{◌∷◌, IfOk, codes};
 ghost use Rattle.iceoryx2_commands.specs.Commands.{slot_count};
 ghost use Rattle.negotiate_lines.specs.Terms.{IsNumber, terms_of};
 ghost use Rattle.negotiate_lines.specs.Values.{IsNatural};
-ghost use Rattle.negotiate_lines.specs.Lines.{Says, SaysNamedCall};
+ghost use Rattle.negotiate_lines.specs.Lines.{IsCommandOf, IsNamedCallOf};
 ghost use Rattle.negotiate_lines.specs.Nearest.{Suggests, now_of};
-ghost use Rattle.negotiate_lines.specs.Wrongs.{AreJudged, Finds, IsJudged, IsNoCommand, Judges, JudgesFirst};
+ghost use Rattle.negotiate_lines.specs.Wrongs.{AreJudged, Finds, IsJudged, IsNoCommandWord, Judges, JudgesFirst};
 ghost use Rattle.negotiate_lines.specs.Wrongs.{NamesCall, WrongCall, WrongHow, WrongNode, WrongSlot, WrongTerms};
 ghost use Rattle.negotiate_lines.specs.Wrongs.{call_words, command_words};
 
@@ -24,7 +24,7 @@ use std::alloc::{AllocError, Global};
 /// What is wrong with a line, without its end: the first thing, from left to right. `None` where it is blank or a
 /// command.
 ///
-/// `AllocError` where there is no memory for what its terms say, or for finding what may have been meant.
+/// `AllocError` where there is no memory for what its terms mean, or for finding what may have been meant.
 pub fn wrong_in<'a>(alloc: Global, line: &'a [u8]) -> Result<Option<Wrong<'a>>, AllocError>
     ensures { IfOk result (IsJudged line.now) }
 {
@@ -50,7 +50,8 @@ fn wrong_in_text<'a>(alloc: Global, text: &'a str) -> Result<Option<Wrong<'a>>, 
 
 /// The command that a term and those behind it are, or what is wrong.
 fn judge<'a>(alloc: Global, first: &'a str, others: &'a str) -> Result<Command, Flaw<'a>>
-    ensures { Judges (Says (first.now ∷ terms_of others.now)) (WrongTerms (first.now ∷ terms_of others.now)) result }
+    ensures { Judges (IsCommandOf (first.now ∷ terms_of others.now))
+        (WrongTerms (first.now ∷ terms_of others.now)) result }
 {
     match first {
         "list" => judge_list(others),
@@ -70,7 +71,7 @@ fn judge<'a>(alloc: Global, first: &'a str, others: &'a str) -> Result<Command, 
 
 /// That no command begins with this term, and the nearest word by which one does.
 fn no_such_command<'a>(alloc: Global, term: &'a str) -> Flaw<'a>
-    ensures { Finds (IsNoCommand term.now) result }
+    ensures { Finds (IsNoCommandWord term.now) result }
 {
     match nearest_command(alloc, term) {
         Ok(nearest) => Flaw::Wrong(Wrong::NoSuchCommand(term, nearest)),
@@ -98,10 +99,10 @@ fn nearest_call(alloc: Global, term: &str) -> Result<Option<&'static str>, Alloc
     nearer(alloc, term, found, "open_or_create")
 }
 
-/// What the term `list` says before others.
+/// What the term `list` means before others.
 fn judge_list<'a>(others: &'a str) -> Result<Command, Flaw<'a>>
-    ensures { Judges (Says (codes "list" ∷ terms_of others.now)) (WrongTerms (codes "list" ∷ terms_of others.now))
-        result }
+    ensures { Judges (IsCommandOf (codes "list" ∷ terms_of others.now))
+        (WrongTerms (codes "list" ∷ terms_of others.now)) result }
 {
     match next_term(others) {
         None => Ok(Command::List),
@@ -109,10 +110,10 @@ fn judge_list<'a>(others: &'a str) -> Result<Command, Flaw<'a>>
     }
 }
 
-/// What the term `close` says before others.
+/// What the term `close` means before others.
 fn judge_close<'a>(others: &'a str) -> Result<Command, Flaw<'a>>
-    ensures { Judges (Says (codes "close" ∷ terms_of others.now)) (WrongTerms (codes "close" ∷ terms_of others.now))
-        result }
+    ensures { Judges (IsCommandOf (codes "close" ∷ terms_of others.now))
+        (WrongTerms (codes "close" ∷ terms_of others.now)) result }
 {
     let (slot, others) = slot_in(others)?;
     match next_term(others) {
@@ -168,12 +169,12 @@ fn node_in<'a>(text: &'a str) -> Result<(u64, &'a str), Flaw<'a>>
     }
 }
 
-/// What a pattern's term says before others.
+/// What a pattern's term means before others.
 fn judge_call<'a, V: HasVocabulary>(
     alloc: Global,
     others: &'a str,
 ) -> Result<NamedCall<V::Setter>, Flaw<'a>>
-    ensures { Judges (SaysNamedCall V.vocabulary (V.vocabulary.pattern ∷ terms_of others.now))
+    ensures { Judges (IsNamedCallOf V.vocabulary (V.vocabulary.pattern ∷ terms_of others.now))
         (WrongCall V.vocabulary (terms_of others.now)) result }
 {
     let (how, others) = how_in(alloc, others)?;

@@ -4,7 +4,7 @@
 //! where memory runs out nothing is read. `arguments::call_arguments` takes the terms one after the other
 //! (`TakesTerms`). Terms stand between spaces; a number is one or more decimal digits below its limit; values,
 //! times, truth values, alignments and types are exact (`Finds`, `Reads`). A setting is named by one row of its
-//! pattern's table (`SaysSetting`), and no name stands in two rows (`IsUnambiguous`). `line::without_end` takes one
+//! pattern's table (`IsSettingOf`), and no name stands in two rows (`IsUnambiguous`). `line::without_end` takes one
 //! `\n` away, and one `\r` before it.
 //!
 //! `finding::wrong_in` finds what is wrong exactly where a line is no command and not blank (`IsJudged`): the first

@@ -1,11 +1,11 @@
-//! What a line says.
+//! What a line is.
 
 ghost use Rattle.std.specs.Prelude.{◌≡◌, ◌∷◌, IfOk, codes};
 ghost use Rattle.iceoryx2_commands.specs.declared.command.Call.{Call};
 ghost use Rattle.iceoryx2_commands.specs.declared.command.Command.TheVariants as command;
 ghost use Rattle.iceoryx2_commands.specs.Commands.{slot_count};
 ghost use Rattle.negotiate_lines.specs.Terms.{Finds, IsNumber, Reads, terms_of};
-ghost use Rattle.negotiate_lines.specs.Lines.{AreLine, IsLine, Says, SaysNamedCall};
+ghost use Rattle.negotiate_lines.specs.Lines.{AreLine, IsLine, IsCommandOf, IsNamedCallOf};
 ghost use Rattle.negotiate_lines.specs.Lines.{admitted_of, as_named, how_term, without_end_of};
 
 use crate::arguments::{CallArguments, call_arguments};
@@ -17,7 +17,7 @@ use iceoryx2_commands::command::{Call, Command, How, SLOTS, Settings};
 use iceoryx2_description::description::{ServiceName, ServiceNameError};
 use std::alloc::{AllocError, Global};
 
-/// What a line says.
+/// What a line is.
 #[derive(Debug, Drop)]
 pub enum Line {
     /// It has no term.
@@ -45,7 +45,7 @@ pub fn without_end(line: &[u8]) -> &[u8]
 /// Reads a line, without its end. Its terms are separated by one or more spaces.
 ///
 /// Its terms are read one by one, and none is kept. Memory is taken for a service's name and for
-/// what the terms behind it say; where there is none, nothing is read.
+/// what the terms behind it mean; where there is none, nothing is read.
 pub fn parse(alloc: Global, line: &[u8]) -> Result<Line, AllocError>
     ensures { IfOk result (IsLine line.now) }
 {
@@ -55,7 +55,7 @@ pub fn parse(alloc: Global, line: &[u8]) -> Result<Line, AllocError>
     }
 }
 
-/// What a text says.
+/// What a text is.
 fn parse_text(alloc: Global, text: &str) -> Result<Line, AllocError>
     ensures { IfOk result (AreLine (terms_of text.now)) }
 {
@@ -69,29 +69,23 @@ fn parse_text(alloc: Global, text: &str) -> Result<Line, AllocError>
     }
 }
 
-/// What a term and those behind it say.
+/// What a term and those behind it mean.
 fn parse_terms(alloc: Global, first: &str, others: &str) -> Result<Command, TermError>
-    ensures { Reads (Says (first.now ∷ terms_of others.now)) result }
+    ensures { Reads (IsCommandOf (first.now ∷ terms_of others.now)) result }
 {
     match first {
         "list" => list(others),
         "close" => close(others),
-        "event" => Ok(parse_call::<EventTerms>(alloc, others)?.into_command(Settings::Event)),
-        "pubsub" => {
-            let call = parse_call::<PublishSubscribeTerms>(alloc, others)?;
-            Ok(call.into_command(Settings::PublishSubscribe))
-        }
-        "rr" => {
-            let call = parse_call::<RequestResponseTerms>(alloc, others)?;
-            Ok(call.into_command(Settings::RequestResponse))
-        }
+        "event" => event(alloc, others),
+        "pubsub" => publish_subscribe(alloc, others),
+        "rr" => request_response(alloc, others),
         _ => Err(TermError::Malformed),
     }
 }
 
-/// What the term `list` says before others.
+/// What the term `list` means before others.
 fn list(others: &str) -> Result<Command, TermError>
-    ensures { Finds (Says (codes "list" ∷ terms_of others.now)) result }
+    ensures { Finds (IsCommandOf (codes "list" ∷ terms_of others.now)) result }
 {
     match next_term(others) {
         None => Ok(Command::List),
@@ -99,9 +93,9 @@ fn list(others: &str) -> Result<Command, TermError>
     }
 }
 
-/// What the term `close` says before others.
+/// What the term `close` means before others.
 fn close(others: &str) -> Result<Command, TermError>
-    ensures { Finds (Says (codes "close" ∷ terms_of others.now)) result }
+    ensures { Finds (IsCommandOf (codes "close" ∷ terms_of others.now)) result }
 {
     let Some((slot, others)) = next_term(others) else {
         return Err(TermError::Malformed);
@@ -112,6 +106,30 @@ fn close(others: &str) -> Result<Command, TermError>
         }),
         Some(_) => Err(TermError::Malformed),
     }
+}
+
+/// What the term `event` means before others.
+fn event(alloc: Global, others: &str) -> Result<Command, TermError>
+    ensures { Reads (IsCommandOf (codes "event" ∷ terms_of others.now)) result }
+{
+    let call = parse_call::<EventTerms>(alloc, others)?;
+    Ok(call.into_command(Settings::Event))
+}
+
+/// What the term `pubsub` means before others.
+fn publish_subscribe(alloc: Global, others: &str) -> Result<Command, TermError>
+    ensures { Reads (IsCommandOf (codes "pubsub" ∷ terms_of others.now)) result }
+{
+    let call = parse_call::<PublishSubscribeTerms>(alloc, others)?;
+    Ok(call.into_command(Settings::PublishSubscribe))
+}
+
+/// What the term `rr` means before others.
+fn request_response(alloc: Global, others: &str) -> Result<Command, TermError>
+    ensures { Reads (IsCommandOf (codes "rr" ∷ terms_of others.now)) result }
+{
+    let call = parse_call::<RequestResponseTerms>(alloc, others)?;
+    Ok(call.into_command(Settings::RequestResponse))
 }
 
 /// The number of a slot.
@@ -183,12 +201,12 @@ impl<S: Drop> NamedCall<S> {
     }
 }
 
-/// What a pattern's term says before others.
+/// What a pattern's term means before others.
 fn parse_call<V: HasVocabulary>(
     alloc: Global,
     others: &str,
 ) -> Result<NamedCall<V::Setter>, TermError>
-    ensures { Reads (SaysNamedCall V.vocabulary (V.vocabulary.pattern ∷ terms_of others.now)) result }
+    ensures { Reads (IsNamedCallOf V.vocabulary (V.vocabulary.pattern ∷ terms_of others.now)) result }
 {
     let Some((how, others)) = next_term(others) else {
         return Err(TermError::Malformed);
@@ -205,7 +223,7 @@ fn parse_call<V: HasVocabulary>(
     build_call::<V>(alloc, how, node, slot, name, others)
 }
 
-/// What it says before these four and others.
+/// What it means before these four and others.
 fn build_call<V: HasVocabulary>(
     alloc: Global,
     how: &str,
@@ -214,7 +232,7 @@ fn build_call<V: HasVocabulary>(
     name: &str,
     others: &str,
 ) -> Result<NamedCall<V::Setter>, TermError>
-    ensures { Reads (SaysNamedCall V.vocabulary
+    ensures { Reads (IsNamedCallOf V.vocabulary
         (V.vocabulary.pattern ∷ how.now ∷ node.now ∷ slot.now ∷ name.now ∷ terms_of others.now)) result }
 {
     let how = how_of(how)?;

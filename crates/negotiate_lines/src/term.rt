@@ -8,7 +8,7 @@ ghost use Rattle.negotiate_lines.specs.Terms.{AreAround, Finds, IsNumber, terms_
 pub enum TermError {
     /// It is nothing of this kind.
     Malformed,
-    /// There is no memory for what it says.
+    /// There is no memory for what it means.
     OutOfMemory,
 }
 

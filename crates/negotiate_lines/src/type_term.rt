@@ -1,4 +1,4 @@
-//! What a value tells of a type.
+//! What a value means as a type.
 
 ghost use Rattle.std.specs.Prelude.{ℕ, List, MatchOption};
 ghost use Rattle.negotiate_lines.specs.Terms.{Finds, Reads};

@@ -1,4 +1,4 @@
-//! What the value of a term says by itself.
+//! What the value of a term means by itself.
 
 ghost use Rattle.negotiate_lines.specs.Terms.{Finds};
 ghost use Rattle.negotiate_lines.specs.Values.{IsClockTerm, IsNatural, IsNoneOr, IsSpanTerm, IsTruthTerm};

@@ -1,8 +1,8 @@
-//! What a pattern calls its settings, and what their values say.
+//! What a pattern calls its settings, and what their values mean.
 
 ghost use Rattle.std.specs.Prelude.{◌≡◌, map};
 ghost use Rattle.negotiate_lines.specs.Terms.{Reads};
-ghost use Rattle.negotiate_lines.specs.Vocabulary.{IsUnambiguous, SaysSetting, Vocabulary, kinds_of};
+ghost use Rattle.negotiate_lines.specs.Vocabulary.{IsUnambiguous, IsSettingOf, Vocabulary, kinds_of};
 
 use crate::term::TermError;
 use std::alloc::Global;
@@ -20,7 +20,7 @@ pub enum Kind {
     Length,
     /// A power of two.
     Alignment,
-    /// What is told of a type.
+    /// What is given of a type.
     Type,
 }
 
@@ -29,7 +29,7 @@ pub trait HasVocabulary {
     /// A setter of the pattern's builder, with its value.
     type Setter: Drop;
 
-    /// The terms, and what they say.
+    /// The terms, and what they mean.
     ghost vocabulary: { Vocabulary Self.Setter };
 
     /// The term by which its calls begin.
@@ -40,13 +40,13 @@ pub trait HasVocabulary {
     fn settings() -> &'static [(&'static str, Kind)]
         ensures { map (λ row. (row.0.now, row.1)) result.now ≡ kinds_of vocabulary.rows };
 
-    /// Whether the calls that create a service are told the time.
+    /// Whether the calls that create a service are given the time.
     fn has_clock() -> bool
         ensures { result ≡ vocabulary.has_clock };
 
     /// The setter of the setting of this name, with this value.
     fn setter(alloc: Global, name: &str, value: &str) -> Result<Self::Setter, TermError>
-        ensures { Reads (SaysSetting vocabulary.rows name.now value.now) result };
+        ensures { Reads (IsSettingOf vocabulary.rows name.now value.now) result };
 
     /// Each term has one meaning.
     ghost is_unambiguous: { IsUnambiguous vocabulary };

@@ -167,7 +167,7 @@ impl fmt::Display for Wrong<'_> {
 pub(crate) enum Flaw<'a> {
     /// It is wrong.
     Wrong(Wrong<'a>),
-    /// There is no memory for what it says, or for finding what may have been meant.
+    /// There is no memory for what it means, or for finding what may have been meant.
     OutOfMemory,
 }
 

@@ -2,8 +2,8 @@
 
 ghost use Rattle.std.specs.Prelude.{◌≡◌, ℕ, List, ◌++◌, IfOk, None, codes, map};
 ghost use Rattle.negotiate_lines.specs.Terms.{terms_of};
-ghost use Rattle.negotiate_lines.specs.CallTerms.{Instruction, SaysBehind, SaysTerm, TakesTerm, TakesTerms};
-ghost use Rattle.negotiate_lines.specs.CallTerms.{no_arguments};
+ghost use Rattle.negotiate_lines.specs.CallTerms.{Instruction, IsValueOf, IsInstructionOf, TakesTerm, TakesTerms};
+ghost use Rattle.negotiate_lines.specs.CallTerms.{in_place, no_arguments};
 ghost use Rattle.negotiate_lines.specs.Lines.{admitted_of};
 ghost use Rattle.negotiate_lines.specs.Nearest.{Suggests, now_of};
 ghost use Rattle.negotiate_lines.specs.Vocabulary.{common_rows, kinds_of, row_of};
@@ -32,33 +32,33 @@ pub(crate) fn judge_arguments<'a, V: HasVocabulary>(
     let mut arguments = CallArguments::new(alloc);
     let mut rest = text;
     while let Some((term, after)) = next_term(rest) {
-        arguments = judge_term::<V>(alloc, how, arguments, term)?;
+        judge_term::<V>(alloc, how, &mut arguments, term)?;
         rest = after;
     }
     Ok(arguments)
 }
 
-/// What the arguments are after what a term says, or what is wrong with it.
+/// What the arguments are after what a term means, or what is wrong with it.
 fn judge_term<'a, V: HasVocabulary>(
     alloc: Global,
     how: How,
-    arguments: CallArguments<V::Setter>,
+    arguments: &mut CallArguments<V::Setter>,
     term: &'a str,
-) -> Result<CallArguments<V::Setter>, Flaw<'a>>
-    ensures { Judges (TakesTerm V.vocabulary (admitted_of V.vocabulary.has_clock how) arguments term.now)
-        (WrongTerm V.vocabulary how arguments term.now) result }
+) -> Result<(), Flaw<'a>>
+    ensures { Judges (TakesTerm V.vocabulary (admitted_of V.vocabulary.has_clock how) arguments.old term.now)
+        (WrongTerm V.vocabulary how arguments.old term.now) (in_place result arguments.new) }
 {
     match call_term::<V>(alloc, admitted::<V>(how), term) {
-        Ok(said) => arguments.judge(said),
+        Ok(instruction) => arguments.judge(instruction),
         Err(TermError::OutOfMemory) => Err(Flaw::OutOfMemory),
         Err(TermError::Malformed) => Err(wrong_term::<V>(alloc, how, term)),
     }
 }
 
-/// What is wrong with a term that says nothing.
+/// What is wrong with a term that means nothing.
 fn wrong_term<'a, V: HasVocabulary>(alloc: Global, how: How, term: &'a str) -> Flaw<'a>
-    requires { (said : Instruction V.Setter)
-        → SaysTerm V.vocabulary (admitted_of V.vocabulary.has_clock how) term.now said → ⊥ }
+    requires { (instruction : Instruction V.Setter)
+        → IsInstructionOf V.vocabulary (admitted_of V.vocabulary.has_clock how) term.now instruction → ⊥ }
     ensures { Finds (WrongText V.vocabulary how term.now) result }
 {
     match around(term, '=') {
@@ -67,15 +67,15 @@ fn wrong_term<'a, V: HasVocabulary>(alloc: Global, how: How, term: &'a str) -> F
     }
 }
 
-/// What is wrong with a value that says nothing behind a name.
+/// What is wrong with a value that means nothing behind a name.
 fn wrong_value<'a, V: HasVocabulary>(
     alloc: Global,
     how: How,
     name: &'a str,
     value: &'a str,
 ) -> Flaw<'a>
-    requires { (said : Instruction V.Setter)
-        → SaysBehind V.vocabulary.rows (admitted_of V.vocabulary.has_clock how) name.now value.now said → ⊥ }
+    requires { (instruction : Instruction V.Setter)
+        → IsValueOf V.vocabulary.rows (admitted_of V.vocabulary.has_clock how) name.now value.now instruction → ⊥ }
     ensures { Finds (WrongValue V.vocabulary how name.now value.now) result }
 {
     match name {
@@ -89,10 +89,10 @@ fn wrong_value<'a, V: HasVocabulary>(
     }
 }
 
-/// What is wrong with `now`, where its value says nothing with such a call.
+/// What is wrong with `now`, where its value means nothing with such a call.
 fn wrong_now<'a, V: HasVocabulary>(how: How, value: &'a str) -> Wrong<'a>
-    requires { (said : Instruction V.Setter) → SaysBehind V.vocabulary.rows
-        (admitted_of V.vocabulary.has_clock how) (codes "now") value.now said → ⊥ }
+    requires { (instruction : Instruction V.Setter) → IsValueOf V.vocabulary.rows
+        (admitted_of V.vocabulary.has_clock how) (codes "now") value.now instruction → ⊥ }
     ensures { WrongValue V.vocabulary how (codes "now") value.now result }
 {
     if !V::has_clock() {

@@ -1,9 +1,9 @@
 use Rattle.std.proofs.Common.{◌≢◌, ◌∷◌, codes, refl, ap, subst}
 use Rattle.iceoryx2_access.specs.Run.{Each}
-use Rattle.negotiate_lines.specs.Lines.{Says, SaysNamedCall}
+use Rattle.negotiate_lines.specs.Lines.{IsCommandOf, IsNamedCallOf}
 use Rattle.negotiate_lines.specs.SettingTerms.{event_vocabulary, publish_subscribe_vocabulary, request_response_vocabulary}
 use Rattle.negotiate_lines.specs.Terms.{terms_of}
-use Rattle.negotiate_lines.specs.Wrongs.{IsNoCommand, WrongCall, WrongTerms, event, publish_subscribe, request_response, no_command, command_words}
+use Rattle.negotiate_lines.specs.Wrongs.{IsNoCommandWord, WrongCall, WrongTerms, event, publish_subscribe, request_response, no_command, command_words}
 use Rattle.negotiate_lines.proofs.Judging.{passed, judged_word}
 use Rattle.negotiate_lines.proofs.OneCommand.{only_event, only_samples, only_requests, no_command_word}
 use Rattle.negotiate_lines.proofs.finding.judge.Goals as goal
@@ -12,27 +12,27 @@ pub returns-in_err-judge_call-in-event : goal.returns-in_err-judge_call-in-event
 returns-in_err-judge_call-in-event c =
     let first = c.args.first.now in
     let terms = terms_of c.args.others.now in
-    passed (SaysNamedCall event_vocabulary (codes "event" ∷ terms)) (Says (first ∷ terms)) (WrongCall event_vocabulary terms) (WrongTerms (first ∷ terms)) _ _
+    passed (IsNamedCallOf event_vocabulary (codes "event" ∷ terms)) (IsCommandOf (first ∷ terms)) (WrongCall event_vocabulary terms) (WrongTerms (first ∷ terms)) _ _
     c.from_residual.ensures.1 c.in_err-judge_call-in-event.ensures
-    (λ none said says. let call = only_event terms said (subst (λ t. Says (t ∷ terms) said) c.in-event.is says) in none call.0 call.1)
+    (λ none some_command is_such. let call = only_event terms some_command (subst (λ t. IsCommandOf (t ∷ terms) some_command) c.in-event.is is_such) in none call.0 call.1)
     (λ w is. event terms (ap (λ t. t ∷ terms) c.in-event.is) is)
 
 pub returns-in_err-call-in-pubsub : goal.returns-in_err-call-in-pubsub
 returns-in_err-call-in-pubsub c =
     let first = c.args.first.now in
     let terms = terms_of c.args.others.now in
-    passed (SaysNamedCall publish_subscribe_vocabulary (codes "pubsub" ∷ terms)) (Says (first ∷ terms)) (WrongCall publish_subscribe_vocabulary terms) (WrongTerms (first ∷ terms)) _ _
+    passed (IsNamedCallOf publish_subscribe_vocabulary (codes "pubsub" ∷ terms)) (IsCommandOf (first ∷ terms)) (WrongCall publish_subscribe_vocabulary terms) (WrongTerms (first ∷ terms)) _ _
     c.from_residual-in_err-call-in-pubsub.ensures.1 c.in_err-call-in-pubsub.ensures
-    (λ none said says. let call = only_samples terms said (subst (λ t. Says (t ∷ terms) said) c.in-pubsub.is says) in none call.0 call.1)
+    (λ none some_command is_such. let call = only_samples terms some_command (subst (λ t. IsCommandOf (t ∷ terms) some_command) c.in-pubsub.is is_such) in none call.0 call.1)
     (λ w is. publish_subscribe terms (ap (λ t. t ∷ terms) c.in-pubsub.is) is)
 
 pub returns-in_err-call-in-rr : goal.returns-in_err-call-in-rr
 returns-in_err-call-in-rr c =
     let first = c.args.first.now in
     let terms = terms_of c.args.others.now in
-    passed (SaysNamedCall request_response_vocabulary (codes "rr" ∷ terms)) (Says (first ∷ terms)) (WrongCall request_response_vocabulary terms) (WrongTerms (first ∷ terms)) _ _
+    passed (IsNamedCallOf request_response_vocabulary (codes "rr" ∷ terms)) (IsCommandOf (first ∷ terms)) (WrongCall request_response_vocabulary terms) (WrongTerms (first ∷ terms)) _ _
     c.from_residual-in_err-call-in-rr.ensures.1 c.in_err-call-in-rr.ensures
-    (λ none said says. let call = only_requests terms said (subst (λ t. Says (t ∷ terms) said) c.in-rr.is says) in none call.0 call.1)
+    (λ none some_command is_such. let call = only_requests terms some_command (subst (λ t. IsCommandOf (t ∷ terms) some_command) c.in-rr.is is_such) in none call.0 call.1)
     (λ w is. request_response terms (ap (λ t. t ∷ terms) c.in-rr.is) is)
 
 pub returns-in_default : goal.returns-in_default
@@ -40,5 +40,5 @@ returns-in_default c =
     let first = c.args.first.now in
     let terms = terms_of c.args.others.now in
     let others : Each (λ word. first ≢ word) command_words = (c.in_default.not-list, (c.in_default.not-close, (c.in_default.not-event, (c.in_default.not-pubsub, (c.in_default.not-rr, tt))))) in
-    judged_word (Says (first ∷ terms)) (IsNoCommand first) (WrongTerms (first ∷ terms)) (no_command_word first terms others)
+    judged_word (IsCommandOf (first ∷ terms)) (IsNoCommandWord first) (WrongTerms (first ∷ terms)) (no_command_word first terms others)
     (λ w is. no_command first terms refl others is) c.no_such_command.result c.no_such_command.ensures

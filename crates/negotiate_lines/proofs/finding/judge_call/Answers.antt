@@ -2,7 +2,7 @@ use Rattle.std.proofs.Common.{◌∷◌, Err, ap, ◌∙◌, rules}
 use Rattle.iceoryx2_commands.specs.Commands.{slot_count}
 use Rattle.iceoryx2_description.specs.Names.{IsName}
 use Rattle.negotiate_lines.specs.CallTerms.{TakesTerms, no_arguments}
-use Rattle.negotiate_lines.specs.Lines.{SaysNamedCall, admitted_of}
+use Rattle.negotiate_lines.specs.Lines.{IsNamedCallOf, admitted_of}
 use Rattle.negotiate_lines.specs.Terms.{IsNumber, terms_of}
 use Rattle.negotiate_lines.specs.Values.{IsNatural}
 use Rattle.negotiate_lines.specs.Wrongs.{WrongArguments, WrongCall, WrongNode, WrongSlot, at_node, at_slot, at_name, at_term}
@@ -14,7 +14,7 @@ returns-in_err-node g c =
     let v = g.V.HasVocabulary.vocabulary in
     let terms = terms_of c.args.others.now in
     let h = c.in_ok-how.how in
-    passed_first IsNatural WrongNode (terms_of c.in_ok-how.others.now) (SaysNamedCall v (v.pattern ∷ terms)) (WrongCall v terms) _ _
+    passed_first IsNatural WrongNode (terms_of c.in_ok-how.others.now) (IsNamedCallOf v (v.pattern ∷ terms)) (WrongCall v terms) _ _
     c.from_residual-in_err-node.ensures.1 c.in_err-node.ensures
     (λ none. no_node v terms h _ c.in_ok-how.ensures none)
     (λ w is. at_node h (terms_of c.in_ok-how.others.now) (how_before v terms h _ c.in_ok-how.ensures) is)
@@ -25,7 +25,7 @@ returns-in_err-slot g c =
     let terms = terms_of c.args.others.now in
     let h = c.in_ok-how.how in
     let node = c.in_ok-node.ensures in
-    passed_first (IsNumber slot_count) WrongSlot (terms_of c.in_ok-node.others.now) (SaysNamedCall v (v.pattern ∷ terms)) (WrongCall v terms) _ _
+    passed_first (IsNumber slot_count) WrongSlot (terms_of c.in_ok-node.others.now) (IsNamedCallOf v (v.pattern ∷ terms)) (WrongCall v terms) _ _
     c.from_residual-in_err-slot.ensures.1 c.in_err-slot.ensures
     (λ none. no_slot v terms h _ c.in_ok-how.ensures _ _ node none)
     (λ w is. at_slot h node.0 (terms_of c.in_ok-node.others.now) (node_before v terms h _ c.in_ok-how.ensures _ _ node) (c.in_ok-node.node, node.2) is)
@@ -63,7 +63,7 @@ returns-in_err-arguments g c =
     let node = c.in_ok-node.ensures in
     let slot = c.in_ok-slot.ensures in
     let others = terms_of c.in-Some.others.now in
-    passed (TakesTerms v (admitted_of v.has_clock h) no_arguments others) (SaysNamedCall v (v.pattern ∷ terms)) (WrongArguments v h others) (WrongCall v terms) _ _
+    passed (TakesTerms v (admitted_of v.has_clock h) no_arguments others) (IsNamedCallOf v (v.pattern ∷ terms)) (WrongArguments v h others) (WrongCall v terms) _ _
     c.from_residual-in_err-arguments.ensures.1 c.in_err-arguments.ensures
     (λ none. no_terms v terms h _ c.in_ok-how.ensures _ _ node _ _ slot c.in-Some.term.now others c.in-Some.ensures.term none)
     (λ w is. at_term h node.0 slot.0 c.in-Some.term.now others (terms_before v terms h _ c.in_ok-how.ensures _ _ node _ _ slot _ _ c.in-Some.ensures.term)

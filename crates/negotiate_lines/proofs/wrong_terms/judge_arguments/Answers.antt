@@ -24,13 +24,13 @@ pub loop-term-preserved : goal.loop-term-preserved
 loop-term-preserved g c =
     let v = g.V.HasVocabulary.vocabulary in
     let admitted = admitted_of v.has_clock c.args.how in
-    let taken = c.in_ok-arguments.ensures in
+    let taken = c.in_ok-judge_term.ensures in
     let so_far = c.loop-term.invariant.so_far in
     let term = c.in-Some.term.now in
     record {
       text = search rules;
-      reaches = λ new run. c.loop-term.invariant.reaches new (step_before v admitted c.loop-term.arguments _ _ _ c.in-Some.ensures.term c.in_ok-arguments.arguments new taken.0 taken.1 taken.2 run);
-      only = λ new run. step_behind v admitted c.loop-term.arguments _ _ _ c.in-Some.ensures.term c.in_ok-arguments.arguments new taken.0 taken.1 taken.2 (c.loop-term.invariant.only new run);
+      reaches = λ new run. c.loop-term.invariant.reaches new (step_before v admitted c.loop-term.arguments _ _ _ c.in-Some.ensures.term c.judge_term.new.arguments new taken.0 taken.1 taken.2 run);
+      only = λ new run. step_behind v admitted c.loop-term.arguments _ _ _ c.in-Some.ensures.term c.judge_term.new.arguments new taken.0 taken.1 taken.2 (c.loop-term.invariant.only new run);
       so_far = (
         so_far.0 ++ term ∷ [],
         so_far.1 ∙ ap (λ (ts : List (List ℕ)). so_far.0 ++ ts) c.in-Some.ensures.term ∙ sym (append_assoc so_far.0 (term ∷ []) (terms_of c.in-Some.after.now)),
@@ -38,14 +38,14 @@ loop-term-preserved g c =
       );
     }
 
-pub returns-in_err-arguments : goal.returns-in_err-arguments
-returns-in_err-arguments g c =
+pub returns-in_err-judge_term : goal.returns-in_err-judge_term
+returns-in_err-judge_term g c =
     let v = g.V.HasVocabulary.vocabulary in
     let admitted = admitted_of v.has_clock c.args.how in
     let so_far = c.loop-term.invariant.so_far in
     passed (TakesTerm v admitted c.loop-term.arguments c.in-Some.term.now) (TakesTerms v admitted no_arguments (terms_of c.args.text.now))
     (WrongTerm v c.args.how c.loop-term.arguments c.in-Some.term.now) (WrongArguments v c.args.how (terms_of c.args.text.now)) _ _
-    c.from_residual.ensures.1 c.in_err-arguments.ensures
+    c.from_residual.ensures.1 c.in_err-judge_term.ensures
     (λ none new run. cannot_be_taken v admitted c.loop-term.arguments _ _ _ c.in-Some.ensures.term none new (c.loop-term.invariant.only new run))
     (λ w is. record {
       front = so_far.0;

@@ -4,7 +4,7 @@ use Rattle.negotiate_lines.proofs.WrongTerms.{finds_also}
 use Rattle.negotiate_lines.proofs.wrong_terms.wrong_term.Goals as goal
 
 pub wrong_value-requires : goal.wrong_value-requires
-wrong_value-requires g c = λ said says. c.requires said (record { name = c.in-Some.name.now; value = c.in-Some.value.now; around = c.in-Some.ensures; says = says })
+wrong_value-requires g c = λ instruction is_such. c.requires instruction (record { name = c.in-Some.name.now; value = c.in-Some.value.now; around = c.in-Some.ensures; value_is = is_such })
 
 pub returns-in-Some : goal.returns-in-Some
 returns-in-Some g c =

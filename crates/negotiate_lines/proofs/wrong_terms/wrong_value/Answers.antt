@@ -4,7 +4,7 @@ use Rattle.negotiate_lines.proofs.WrongTerms.{behind_name, no_colon, key_of_crea
 use Rattle.negotiate_lines.proofs.wrong_terms.wrong_value.Goals as goal
 
 pub wrong_now-requires : goal.wrong_now-requires
-wrong_now-requires g c = λ said says. behind_name g.V.HasVocabulary.vocabulary c.args.how c.args.name.now (codes "now") c.args.value.now c.in-now.is c.requires said says
+wrong_now-requires g c = λ instruction is_such. behind_name g.V.HasVocabulary.vocabulary c.args.how c.args.name.now (codes "now") c.args.value.now c.in-now.is c.requires instruction is_such
 
 pub no_such_setting-requires-clause-row : goal.no_such_setting-requires-clause-row
 no_such_setting-requires-clause-row g c = no_row_of_kind g.V.HasVocabulary.vocabulary.rows c.args.name.now (sym c.kind_of.ensures ∙ c.in-None.is)
