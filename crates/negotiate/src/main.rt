@@ -5,9 +5,9 @@
 //! is proved.
 #![tactic(auto)]
 
-use negotiate_serve::ending::{Fault, NOT_A_COMMAND, status};
+use negotiate_serve::ending::{NOT_A_COMMAND, ServeError, status};
 use negotiate_serve::report::report;
-use negotiate_serve::serve::{serve, tell_fault};
+use negotiate_serve::serve::{serve, write_failure};
 use std::process::ExitCode;
 use std::{env, io};
 
@@ -21,7 +21,7 @@ fn has_arguments(rt: &HostRuntime) -> io::Result<bool> {
 /// Answers the lines of the standard input on the standard output.
 ///
 /// Ends with status 0, with 2 at a line that is no command and where there are arguments, and with
-/// 3 where there is a fault, of which the standard error has a line.
+/// 3 where there is a failure, of which the standard error has a line.
 fn main(rt: HostRuntime) -> ExitCode {
     let mut output = io::writer(&rt);
     let ended = match has_arguments(&rt) {
@@ -30,7 +30,7 @@ fn main(rt: HostRuntime) -> ExitCode {
             let _ = eprintln!(rt; "usage: negotiate < LINES");
             return ExitCode::from(NOT_A_COMMAND);
         }
-        Err(error) => Err(tell_fault(Fault::of_reading(&error), &mut output)),
+        Err(error) => Err(write_failure(ServeError::of_reading(&error), &mut output)),
     };
     let _ = report("negotiate", &ended, &mut rt.stderr());
     ExitCode::from(status(&ended))

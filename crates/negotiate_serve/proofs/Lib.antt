@@ -2,7 +2,7 @@ pub mod Answering
 pub mod InputLines
 pub mod Shown
 pub mod Simulated
-pub mod Telling
+pub mod ServiceLines
 pub mod Turns
 pub mod Written
 pub mod Reporting

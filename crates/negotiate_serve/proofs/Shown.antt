@@ -19,13 +19,13 @@ use Rattle.negotiate_lines.specs.Lines.{IsLine}
 use Rattle.iceoryx2_session.specs.declared.session.Session.{Session}
 use Rattle.iceoryx2_session.specs.SessionStates.{own_state}
 use Rattle.negotiate_serve.specs.declared.ending.Ending.{Ending}
-use Rattle.negotiate_serve.specs.declared.ending.Fault.{Fault}
+use Rattle.negotiate_serve.specs.declared.ending.ServeError.{ServeError}
 use Rattle.negotiate_serve.specs.declared.ending.WrongLines.{WrongLines}
 use Rattle.negotiate_serve.specs.declared.ending.WrongLines.TheVariants as wrong_lines
-use Rattle.negotiate_serve.specs.Replies.{GrowsBy, Tells}
+use Rattle.negotiate_serve.specs.Replies.{GrowsBy, IsReplyText}
 use Rattle.negotiate_serve.specs.Transcripts.{Answering, AnswersLineBy, LinesBy, as_command, blank, answered, Machine, first_machine, Replies, slot_named}
 use Rattle.negotiate_serve.proofs.Simulated.{transcript_along}
-use Rattle.negotiate_serve.specs.Served.{SaysAnswer, SaysOfLine, ServesBy, Serves, ShowsMachine, ShowsSome, SessionReplies}
+use Rattle.negotiate_serve.specs.Served.{GrowsByAnswer, GrowsByLine, ServesBy, Serves, ShowsMachine, ShowsSome, SessionReplies}
 
 -- what a session shows after a command
 abbrev pub machine_after : {s n : SessionState} {q : Quiet} {c : Command} {r : Reply} → IsMoved s q c r n → Machine
@@ -62,15 +62,15 @@ module _ (a b : Session TableState) (c : Command) (r : Reply) (quiet : (q : Quie
   shows_some old = (machine_after (quiet old.0.services old.1.quiet old.1.stand), shows_next old.0 old.1)
 
   -- and its reply is that of the machine
-  pub answers_reply : (slot : ℕ) (bytes old new : List ℕ) → slot ≡ slot_named c → (done : Result (Unit {0}) AllocError) → OnOk done (GrowsBy (Tells slot r) old new)
-      → OnOk done (SaysAnswer (λ a line c text b. SessionReplies (own_state a) line c text (own_state b)) a bytes c old new b)
+  pub answers_reply : (slot : ℕ) (bytes old new : List ℕ) → slot ≡ slot_named c → (done : Result (Unit {0}) AllocError) → OnOk done (GrowsBy (IsReplyText slot r) old new)
+      → OnOk done (GrowsByAnswer (λ a line c text b. SessionReplies (own_state a) line c text (own_state b)) a bytes c old new b)
   answers_reply slot bytes old new slot_is (Ok done) grows = record {
-    said = grows.0;
-    is_said = λ m shows.
+    output = grows.0;
+    is_answer = λ m shows.
         let moved = quiet m.services shows.quiet shows.stand in
         record {
           machine = machine_after moved;
-          replies = record { reply = r; moves = machine_moves (own_state a) (own_state b) m c r shows moved; tells = subst (λ (k : ℕ). Tells k r grows.0) slot_is grows.1 };
+          replies = record { reply = r; moves = machine_moves (own_state a) (own_state b) m c r shows moved; is_text = subst (λ (k : ℕ). IsReplyText k r grows.0) slot_is grows.1 };
           shows = shows_next m shows;
         };
     grown = grows.2;
@@ -86,12 +86,12 @@ module _ {M : Type 0} (Answers : Answering M) (m : M) (k : ℕ) (bytes old : Lis
   in_lines wrong_lines.ReplyApart n text by = as_command by
 
   module _ (w : WrongLines) (l : Line) (is : IsLine bytes l) where
-    pub says_nothing : l ≡ line.Blank → SaysOfLine (LinesBy w Answers) true m k bytes old old m
-    says_nothing nothing = record { said = []; is_said = in_lines w m [] (blank (subst (IsLine bytes) nothing is)); grown = sym (append-nil old) }
+    pub answers_nothing : l ≡ line.Blank → GrowsByLine (LinesBy w Answers) true m k bytes old old m
+    answers_nothing nothing = record { output = []; is_answer = in_lines w m [] (blank (subst (IsLine bytes) nothing is)); grown = sym (append-nil old) }
 
-    pub says_answer : (n : M) (new : List ℕ) (c : Command) → l ≡ line.Command c → SaysAnswer Answers m bytes c old new n
-        → SaysOfLine (LinesBy w Answers) true m k bytes old new n
-    says_answer n new c command says = record { said = says.said; is_said = in_lines w n says.said (answered (subst (IsLine bytes) command is) says.is_said); grown = says.grown }
+    pub answers_command : (n : M) (new : List ℕ) (c : Command) → l ≡ line.Command c → GrowsByAnswer Answers m bytes c old new n
+        → GrowsByLine (LinesBy w Answers) true m k bytes old new n
+    answers_command n new c command adds = record { output = adds.output; is_answer = in_lines w n adds.output (answered (subst (IsLine bytes) command is) adds.is_answer); grown = adds.grown }
 
 -- ---- the start
 
@@ -107,13 +107,13 @@ shows_first s config table state is_default stand fresh = record {
 
 -- ---- the end
 
--- what a session says is what the machine says that it shows
-pub serves_as_machine : (s : Session TableState) (ended : Result Ending Fault) (input unread : List ℕ) (old new : Option (List ℕ)) → ShowsMachine (own_state s) first_machine
+-- what a session writes is what the machine that it shows writes
+pub serves_as_machine : (s : Session TableState) (ended : Result Ending ServeError) (input unread : List ℕ) (old new : Option (List ℕ)) → ShowsMachine (own_state s) first_machine
     → ServesBy (λ a line c text b. SessionReplies (own_state a) line c text (own_state b)) s ended input unread old new → Serves ended input unread old new
 serves_as_machine s ended input unread old new shows served = record {
-  said = served.said;
+  output = served.output;
   transcript = transcript_along (λ a line c text b. SessionReplies (own_state a) line c text (own_state b)) Replies (λ a m. ShowsMachine (own_state a) m)
       (λ a b line c text m by shown. let next = by m shown in (next.machine, next.replies, next.shows))
-      s first_machine input ended served.said unread served.transcript shows;
+      s first_machine input ended served.output unread served.transcript shows;
   written = served.written;
 }

@@ -1,4 +1,4 @@
--- What is said by one that answers is what is said by another one that it goes along with.
+-- What is written by one that answers is what is written by another one that it goes along with.
 use Rattle.std.proofs.Common.{ℕ, List, [], codes, Result, Ok, Err}
 use Rattle.iceoryx2_commands.specs.declared.command.Command.{Command}
 use Rattle.iceoryx2_session.specs.CommandLists.{CarriesOut, none, first}
@@ -6,8 +6,8 @@ use Rattle.negotiate_serve.specs.declared.ending.Ending.{Ending}
 use Rattle.negotiate_serve.specs.declared.ending.Ending.TheVariants as ending
 use Rattle.negotiate_serve.specs.declared.ending.WrongLines.{WrongLines}
 use Rattle.negotiate_serve.specs.declared.ending.WrongLines.TheVariants as wrong_lines
-use Rattle.negotiate_serve.specs.declared.ending.Fault.{Fault}
-use Rattle.negotiate_serve.specs.declared.ending.Fault.TheVariants as fault
+use Rattle.negotiate_serve.specs.declared.ending.ServeError.{ServeError}
+use Rattle.negotiate_serve.specs.declared.ending.ServeError.TheVariants as failure
 use Rattle.negotiate_serve.specs.Transcripts.{Answering, AnsweringLines, AnswersLineBy, LinesBy, AnswersEachBy, as_command, refused, blank, answered, ComesNext, answer, no_command, no_memory, EndsWith, IsTranscriptBy, IsTranscriptOf}
 
 module _ {A M : Type 0} (By : AnsweringLines A) (Of : AnsweringLines M) (Shows : A → M → Type 0)
@@ -25,19 +25,19 @@ module _ {A M : Type 0} (By : AnsweringLines A) (Of : AnsweringLines M) (Shows :
   next_along a m k rest next (no_command begins is) shows = no_command begins is
   next_along a m k rest next no_memory shows = no_memory
 
-  ends_along : (ended : Result Ending Fault) (a : A) (m : M) (k : ℕ) (rest last unread : List ℕ) → EndsWith By ended a k rest last unread → Shows a m
+  ends_along : (ended : Result Ending ServeError) (a : A) (m : M) (k : ℕ) (rest last unread : List ℕ) → EndsWith By ended a k rest last unread → Shows a m
       → EndsWith Of ended m k rest last unread
   ends_along (Ok ending.InputEnded) a m k rest last unread ends shows = ends
   ends_along (Ok (ending.NotACommand number line)) a m k rest last unread ends shows = ends
-  ends_along (Err fault.Reading) a m k rest last unread ends shows = ends
-  ends_along (Err fault.TooManyLines) a m k rest last unread ends shows = ends
-  ends_along (Err fault.OutOfMemory) a m k rest last unread ends shows = ends
-  ends_along (Err fault.Writing) a m k rest last unread ends shows = (ends.0, next_along a m k rest ends.0 ends.1 shows, ends.2)
-  ends_along (Err fault.TooManyTries) a m k rest last unread ends shows = (ends.0, next_along a m k rest ends.0 ends.1 shows, ends.2)
+  ends_along (Err failure.Reading) a m k rest last unread ends shows = ends
+  ends_along (Err failure.TooManyLines) a m k rest last unread ends shows = ends
+  ends_along (Err failure.OutOfMemory) a m k rest last unread ends shows = ends
+  ends_along (Err failure.Writing) a m k rest last unread ends shows = (ends.0, next_along a m k rest ends.0 ends.1 shows, ends.2)
+  ends_along (Err failure.TooManyTries) a m k rest last unread ends shows = (ends.0, next_along a m k rest ends.0 ends.1 shows, ends.2)
 
-  pub lines_transcript_along : (a : A) (m : M) (input : List ℕ) (ended : Result Ending Fault) (said unread : List ℕ) → IsTranscriptOf By a input ended said unread → Shows a m
-      → IsTranscriptOf Of m input ended said unread
-  lines_transcript_along a m input ended said unread t shows =
+  pub lines_transcript_along : (a : A) (m : M) (input : List ℕ) (ended : Result Ending ServeError) (output unread : List ℕ) → IsTranscriptOf By a input ended output unread → Shows a m
+      → IsTranscriptOf Of m input ended output unread
+  lines_transcript_along a m input ended output unread t shows =
       let last = lines_along t.answered m shows in
       record {
         lines = t.lines;
@@ -67,6 +67,6 @@ module _ {A M : Type 0} (By : Answering A) (Of : Answering M) (Shows : A → M �
   lines_by_along wrong_lines.Reply a b bytes text m by shows = each_along [] a b bytes text m by shows
   lines_by_along wrong_lines.ReplyApart a b bytes text m by shows = each_along (codes "\n") a b bytes text m by shows
 
-  pub transcript_along : (a : A) (m : M) (input : List ℕ) (ended : Result Ending Fault) (said unread : List ℕ) → IsTranscriptBy By a input ended said unread → Shows a m
-      → IsTranscriptBy Of m input ended said unread
-  transcript_along a m input ended said unread t shows = lines_transcript_along (AnswersLineBy By) (AnswersLineBy Of) Shows line_along a m input ended said unread t shows
+  pub transcript_along : (a : A) (m : M) (input : List ℕ) (ended : Result Ending ServeError) (output unread : List ℕ) → IsTranscriptBy By a input ended output unread → Shows a m
+      → IsTranscriptBy Of m input ended output unread
+  transcript_along a m input ended output unread t shows = lines_transcript_along (AnswersLineBy By) (AnswersLineBy Of) Shows line_along a m input ended output unread t shows

@@ -2,9 +2,9 @@
 use Rattle.std.proofs.Common.{◌≡◌, ℕ, List, [], ◌∷◌, ◌++◌, Option, Ok, Err, length, take, drop, refl, sym, ap, subst, ◌∙◌, arith, append_assoc, append-nil, take-append-drop}
 use Rattle.std.specs.Io.KnownBytes.{Appends, Keeps}
 use Rattle.std.proofs.KnownBytes.{Appends-nil, Appends-trans, Appends-kept}
-use Rattle.negotiate_serve.specs.declared.ending.Fault.{Fault}
+use Rattle.negotiate_serve.specs.declared.ending.ServeError.{ServeError}
 use Rattle.negotiate_serve.specs.Endings.{IsOfWriting}
-use Rattle.negotiate_serve.specs.Outputs.{Says}
+use Rattle.negotiate_serve.specs.Outputs.{Writes}
 
 -- a front was taken, and this is the rest
 pub record HasTaken (text rest : List ℕ) (old new : Option (List ℕ)) : Type 0 where
@@ -30,9 +30,9 @@ nothing_left : (l : List ℕ) → length l ≡ 0 → l ≡ []
 nothing_left [] h = refl
 nothing_left (x ∷ xs) h = absurd (omega arith)
 
-pub taken_all : (text rest : List ℕ) (old new : Option (List ℕ)) → HasTaken text rest old new → length rest ≡ 0 → Says text (Ok tt) old new
+pub taken_all : (text rest : List ℕ) (old new : Option (List ℕ)) → HasTaken text rest old new → length rest ≡ 0 → Writes text (Ok tt) old new
 taken_all text rest old new so_far none =
     subst (Appends old new) (sym (so_far.parts ∙ ap (λ l. so_far.front ++ l) (nothing_left rest none) ∙ append-nil so_far.front)) so_far.written
 
-pub taken_front : (text rest : List ℕ) (old new : Option (List ℕ)) (f : Fault) → IsOfWriting f → HasTaken text rest old new → Says text (Err f) old new
+pub taken_front : (text rest : List ℕ) (old new : Option (List ℕ)) (f : ServeError) → IsOfWriting f → HasTaken text rest old new → Writes text (Err f) old new
 taken_front text rest old new f is so_far = (is, so_far.front, (rest, so_far.parts), so_far.written)

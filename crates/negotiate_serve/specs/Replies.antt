@@ -8,7 +8,7 @@ use Rattle.iceoryx2_description.specs.Description.{Description}
 use Rattle.iceoryx2_byte_form.specs.Form.{IsForm}
 use Rattle.iceoryx2_errors.specs.AnyError.{text_of}
 use Rattle.iceoryx2_errors.specs.AnyError as error
-use Rattle.iceoryx2_world.specs.declared.listing.Entry.{Entry}
+use Rattle.iceoryx2_world.specs.declared.listing.ListedService.{ListedService}
 use Rattle.iceoryx2_world.specs.declared.listing.ListedRow.TheVariants as listed
 use Rattle.iceoryx2_world.specs.declared.listing.ListedSegment.{ListedSegment}
 use Rattle.iceoryx2_commands.specs.declared.command.Refusal.{Refusal}
@@ -35,7 +35,7 @@ pattern_term (pattern.PublishSubscribe s) = codes "pubsub"
 pattern_term (pattern.RequestResponse s) = codes "rr"
 
 -- The entry is a service: its description is published, and its segment stands beside it.
-pub record IsService (e : Entry) : Type 0 where
+pub record IsService (e : ListedService) : Type 0 where
   pub number : ℕ
   pub bytes : List ℕ
   pub description : Description
@@ -55,45 +55,46 @@ how_many_it_has number s =
     ++ (codes "/" ++ (decimal s.max_nodes ++ codes "\n")))))
 
 -- its line
-abbrev pub service_line : (e : Entry) → IsService e → List ℕ
+abbrev pub service_line : (e : ListedService) → IsService e → List ℕ
 service_line e s = who_it_is e.hash.0 s.description ++ how_many_it_has s.number s.segment
 
 -- The lines of the services among these entries, in their order, and how many they are. What is no service has none.
-pub data AreServiceLines : List Entry → ℕ → List ℕ → Type 0 where
+pub data AreServiceLines : List ListedService → ℕ → List ℕ → Type 0 where
   none : AreServiceLines [] 0 []
-  service : {e : Entry} {entries : List Entry} {n : ℕ} {lines : List ℕ} (s : IsService e)
+  service : {e : ListedService} {entries : List ListedService} {n : ℕ} {lines : List ℕ} (s : IsService e)
       → AreServiceLines entries n lines → AreServiceLines (e ∷ entries) (n + 1) (service_line e s ++ lines)
-  other : {e : Entry} {entries : List Entry} {n : ℕ} {lines : List ℕ} → (IsService e → ⊥)
+  other : {e : ListedService} {entries : List ListedService} {n : ℕ} {lines : List ℕ} → (IsService e → ⊥)
       → AreServiceLines entries n lines → AreServiceLines (e ∷ entries) n lines
 
--- A listing says its services line by line, and then how many they are.
-pub record ListsServices (entries : List Entry) (said : List ℕ) : Type 0 where
+-- A listing has its services line by line, and then how many they are.
+pub record ListsServices (entries : List ListedService) (text : List ℕ) : Type 0 where
   pub count : ℕ
   pub lines : List ℕ
   pub services : AreServiceLines entries count lines
-  pub are : said ≡ lines ++ decimal count ++ codes " services\n"
+  pub are : text ≡ lines ++ decimal count ++ codes " services\n"
 
--- What a reply to a command for this slot says. That there was no memory is said by no reply.
-abbrev pub Tells : ℕ → Reply → List ℕ → Type 0
-Tells slot (reply.Opened k n) said = said ≡ codes "ok " ++ decimal k ++ codes " number=" ++ decimal n ++ codes "\n"
-Tells slot (reply.Refused e) said = said ≡ refusal_text e ++ codes "\n"
-Tells slot (reply.Closed k) said = said ≡ codes "closed " ++ decimal k ++ codes "\n"
-Tells slot (reply.NotClosed k) said = said ≡ codes "not closed " ++ decimal k ++ codes "\n"
-Tells slot reply.SlotInUse said = said ≡ codes "slot " ++ decimal slot ++ codes " in use\n"
-Tells slot reply.SlotEmpty said = said ≡ codes "slot " ++ decimal slot ++ codes " empty\n"
-Tells slot reply.NoSuchSlot said = said ≡ codes "no slot " ++ decimal slot ++ codes "\n"
-Tells slot (reply.Listing entries) said = ListsServices entries.items said
-Tells slot reply.OutOfMemory said = ⊥
+-- The text of a reply to a command for this slot. That there was no memory has no text.
+abbrev pub IsReplyText : ℕ → Reply → List ℕ → Type 0
+IsReplyText slot (reply.Opened k n) text =
+    text ≡ codes "ok " ++ decimal k ++ codes " number=" ++ decimal n ++ codes "\n"
+IsReplyText slot (reply.Refused e) text = text ≡ refusal_text e ++ codes "\n"
+IsReplyText slot (reply.Closed k) text = text ≡ codes "closed " ++ decimal k ++ codes "\n"
+IsReplyText slot (reply.NotClosed k) text = text ≡ codes "not closed " ++ decimal k ++ codes "\n"
+IsReplyText slot reply.SlotInUse text = text ≡ codes "slot " ++ decimal slot ++ codes " in use\n"
+IsReplyText slot reply.SlotEmpty text = text ≡ codes "slot " ++ decimal slot ++ codes " empty\n"
+IsReplyText slot reply.NoSuchSlot text = text ≡ codes "no slot " ++ decimal slot ++ codes "\n"
+IsReplyText slot (reply.Listing entries) text = ListsServices entries.items text
+IsReplyText slot reply.OutOfMemory text = ⊥
 
--- The text has grown by what is told so.
-abbrev pub GrowsBy : (IsTold : List ℕ → Type 0) → (old new : List ℕ) → Type 0
-GrowsBy IsTold old new = (said : List ℕ) × IsTold said × (new ≡ old ++ said)
+-- The text has grown by what is added.
+abbrev pub GrowsBy : (IsAdded : List ℕ → Type 0) → (old new : List ℕ) → Type 0
+GrowsBy IsAdded old new = (text : List ℕ) × IsAdded text × (new ≡ old ++ text)
 
--- The text has grown by a service's line, and it is told that this is a service.
+-- The text has grown by a service's line, and the answer is that this is a service.
 abbrev pub GrowsByService : Bool → (line : List ℕ) → (old new : List ℕ) → Type 0
 GrowsByService found line old new = (found ≡ true) × (new ≡ old ++ line)
 
 -- The text has grown by the entry's line where that is a service, and else it is as it was.
-abbrev pub GrowsByEntry : Bool → Entry → (old new : List ℕ) → Type 0
+abbrev pub GrowsByEntry : Bool → ListedService → (old new : List ℕ) → Type 0
 GrowsByEntry true e old new = (s : IsService e) × (new ≡ old ++ service_line e s)
 GrowsByEntry false e old new = (IsService e → ⊥) × (new ≡ old)

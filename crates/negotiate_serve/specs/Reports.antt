@@ -5,14 +5,14 @@ use Rattle.negotiate_lines.specs.WrongTexts.{text_of}
 use Rattle.negotiate_lines.specs.Wrongs.{IsJudged, IsWrong}
 use Rattle.negotiate_serve.specs.declared.ending.Ending.{Ending}
 use Rattle.negotiate_serve.specs.declared.ending.Ending.TheVariants as ending
-use Rattle.negotiate_serve.specs.declared.ending.Fault.{Fault}
-use Rattle.negotiate_serve.specs.declared.ending.Fault.TheVariants as fault
+use Rattle.negotiate_serve.specs.declared.ending.ServeError.{ServeError}
+use Rattle.negotiate_serve.specs.declared.ending.ServeError.TheVariants as failure
 use Rattle.negotiate_serve.specs.Endings.{reason_of}
-use Rattle.negotiate_serve.specs.Outputs.{Says}
+use Rattle.negotiate_serve.specs.Outputs.{Writes}
 
--- the line of a fault, for a program of this name
-abbrev pub fault_line : (program : List ℕ) → Fault → List ℕ
-fault_line program f = program ++ reason_of f
+-- the line of a failure, for a program of this name
+abbrev pub failure_line : (program : List ℕ) → ServeError → List ℕ
+failure_line program f = program ++ reason_of f
 
 -- the line of what is wrong with the input's line of this number
 abbrev pub wrong_line : (program : List ℕ) → (number : ℕ) → Wrong → List ℕ
@@ -26,14 +26,14 @@ pub data IsReport (program : List ℕ) (number : ℕ) (bytes text : List ℕ) : 
   nothing : IsJudged bytes None → text ≡ [] → IsReport program number bytes text
 
 -- Such a text is written, as far as the writer takes it, or there was no memory for it.
-abbrev pub TellsReport : (List ℕ → Type 0) → Result (Unit {0}) Fault → (old new : Option (List ℕ)) → Type 0
-TellsReport IsText (Err fault.OutOfMemory) old new = new ≡ old
-TellsReport IsText result old new = (text : List ℕ) × IsText text × Says text result old new
+abbrev pub WritesReport : (List ℕ → Type 0) → Result (Unit {0}) ServeError → (old new : Option (List ℕ)) → Type 0
+WritesReport IsText (Err failure.OutOfMemory) old new = new ≡ old
+WritesReport IsText result old new = (text : List ℕ) × IsText text × Writes text result old new
 
--- what is written where a program of this name ends: nothing, what is wrong with a line, or the line of a fault
-abbrev pub Reports : (program : List ℕ) → Result Ending Fault → Result (Unit {0}) Fault
+-- what is written where a program of this name ends: nothing, what is wrong with a line, or the line of a failure
+abbrev pub Reports : (program : List ℕ) → Result Ending ServeError → Result (Unit {0}) ServeError
     → (old new : Option (List ℕ)) → Type 0
-Reports program (Ok ending.InputEnded) result old new = Says [] result old new
+Reports program (Ok ending.InputEnded) result old new = Writes [] result old new
 Reports program (Ok (ending.NotACommand number line)) result old new =
-    TellsReport (IsReport program number line.items) result old new
-Reports program (Err f) result old new = Says (fault_line program f) result old new
+    WritesReport (IsReport program number line.items) result old new
+Reports program (Err f) result old new = Writes (failure_line program f) result old new

@@ -14,8 +14,8 @@ use Rattle.iceoryx2_session.specs.QuietSessions.{IsQuiet}
 use Rattle.negotiate_lines.specs.declared.line.Line.TheVariants as line
 use Rattle.negotiate_lines.specs.Lines.{IsLine}
 use Rattle.negotiate_serve.specs.declared.ending.Ending.{Ending}
-use Rattle.negotiate_serve.specs.declared.ending.Fault.{Fault}
-use Rattle.negotiate_serve.specs.declared.ending.Fault.TheVariants as fault
+use Rattle.negotiate_serve.specs.declared.ending.ServeError.{ServeError}
+use Rattle.negotiate_serve.specs.declared.ending.ServeError.TheVariants as failure
 use Rattle.negotiate_serve.specs.declared.ending.WrongLines.{WrongLines}
 use Rattle.negotiate_serve.specs.declared.ending.WrongLines.TheVariants as wrong_lines
 use Rattle.negotiate_serve.specs.Endings.{IsOfWriting}
@@ -28,106 +28,107 @@ use Rattle.negotiate_serve.specs.Transcripts.{Machine, Replies, first_machine, n
 -- ---- a command
 
 -- The text has grown by an answer to the line's command.
-pub record SaysAnswer {M : Type 0} (Answers : Answering M) (m : M) (line : List ℕ) (c : Command)
+pub record GrowsByAnswer {M : Type 0} (Answers : Answering M) (m : M) (line : List ℕ) (c : Command)
     (old new : List ℕ) (n : M) : Type 0 where
-  pub said : List ℕ
-  pub is_said : Answers m line c said n
-  pub grown : new ≡ old ++ said
+  pub output : List ℕ
+  pub is_answer : Answers m line c output n
+  pub grown : new ≡ old ++ output
 
 -- ---- a line
 
--- what is said of a line that is neither blank nor a command, which has this number, and whether the program goes on
-abbrev pub IsSaidOfWrong : WrongLines → (goes_on : Bool) → (number : ℕ) → (bytes said : List ℕ) → Type 0
-IsSaidOfWrong wrong_lines.End goes_on k bytes said = (goes_on ≡ false) × (said ≡ not_a_command k)
-IsSaidOfWrong wrong_lines.Reply goes_on k bytes said = (goes_on ≡ true) × IsErrorReply [] bytes said
-IsSaidOfWrong wrong_lines.ReplyApart goes_on k bytes said = (goes_on ≡ true) × IsErrorReply (codes "\n") bytes said
+-- what is written of a line that is neither blank nor a command, which has this number, and whether the program goes on
+abbrev pub IsAnswerToWrong : WrongLines → (goes_on : Bool) → (number : ℕ) → (bytes output : List ℕ) → Type 0
+IsAnswerToWrong wrong_lines.End goes_on k bytes output = (goes_on ≡ false) × (output ≡ not_a_command k)
+IsAnswerToWrong wrong_lines.Reply goes_on k bytes output = (goes_on ≡ true) × IsErrorReply [] bytes output
+IsAnswerToWrong wrong_lines.ReplyApart goes_on k bytes output =
+    (goes_on ≡ true) × IsErrorReply (codes "\n") bytes output
 
--- what is said of a line with this number, and whether the program goes on behind it
-abbrev pub IsSaidOf : {M : Type 0} → AnsweringLines M → (goes_on : Bool) → M → (number : ℕ) → (bytes said : List ℕ)
+-- what is written of a line with this number, and whether the program goes on behind it
+abbrev pub IsAnswerTo : {M : Type 0} → AnsweringLines M → (goes_on : Bool) → M → (number : ℕ) → (bytes output : List ℕ)
     → M → Type 0
-IsSaidOf Answers true m k bytes said n = Answers m bytes said n
-IsSaidOf Answers false m k bytes said n = IsLine bytes line.NotACommand × (said ≡ not_a_command k)
+IsAnswerTo Answers true m k bytes output n = Answers m bytes output n
+IsAnswerTo Answers false m k bytes output n = IsLine bytes line.NotACommand × (output ≡ not_a_command k)
 
--- The text has grown by what is said of the line.
-pub record SaysOfLine {M : Type 0} (Answers : AnsweringLines M) (goes_on : Bool) (m : M) (number : ℕ)
+-- The text has grown by what is written of the line.
+pub record GrowsByLine {M : Type 0} (Answers : AnsweringLines M) (goes_on : Bool) (m : M) (number : ℕ)
     (bytes old new : List ℕ) (n : M) : Type 0 where
-  pub said : List ℕ
-  pub is_said : IsSaidOf Answers goes_on m number bytes said n
-  pub grown : new ≡ old ++ said
+  pub output : List ℕ
+  pub is_answer : IsAnswerTo Answers goes_on m number bytes output n
+  pub grown : new ≡ old ++ output
 
 -- ---- a turn: a line is read and answered
 
--- how it ends, before a fault is told
-abbrev pub EndsUntold : {M : Type 0} → AnsweringLines M → Result Ending Fault → M → (number : ℕ)
+-- how it ends, before a failure is written
+abbrev pub EndsBeforeReport : {M : Type 0} → AnsweringLines M → Result Ending ServeError → M → (number : ℕ)
     → (rest last unread : List ℕ) → Type 0
-EndsUntold Answers (Err fault.OutOfMemory) m k rest last unread = last ≡ []
-EndsUntold Answers ended m k rest last unread = EndsWith Answers ended m k rest last unread
+EndsBeforeReport Answers (Err failure.OutOfMemory) m k rest last unread = last ≡ []
+EndsBeforeReport Answers ended m k rest last unread = EndsWith Answers ended m k rest last unread
 
 -- The next line is answered.
-pub record GoesOn {M : Type 0} (Answers : AnsweringLines M) (m : M) (rest said : List ℕ) (left : Option (List ℕ))
+pub record GoesOn {M : Type 0} (Answers : AnsweringLines M) (m : M) (rest output : List ℕ) (left : Option (List ℕ))
     (n : M) : Type 0 where
   pub bytes : List ℕ
   pub behind : List ℕ
   pub begins : BeginsWith rest (bytes ∷ []) behind
-  pub answered : Answers m bytes said n
+  pub answered : Answers m bytes output n
   pub left_is : left ≡ Some behind
 
 -- It ends so, and what is unread then is left.
-pub record Stops {M : Type 0} (Answers : AnsweringLines M) (ended : Result Ending Fault) (m : M) (number : ℕ)
-    (rest said : List ℕ) (left : Option (List ℕ)) : Type 0 where
+pub record Stops {M : Type 0} (Answers : AnsweringLines M) (ended : Result Ending ServeError) (m : M) (number : ℕ)
+    (rest output : List ℕ) (left : Option (List ℕ)) : Type 0 where
   pub unread : List ℕ
-  pub ends : EndsUntold Answers ended m number rest said unread
+  pub ends : EndsBeforeReport Answers ended m number rest output unread
   pub left_is : OnOk ended (left ≡ Some unread)
 
 -- the next line is answered, or it ends
-abbrev pub AnswersNext : {M : Type 0} → AnsweringLines M → Result (Option Ending) Fault → M → (number : ℕ)
-    → (rest said : List ℕ) → (left : Option (List ℕ)) → M → Type 0
-AnswersNext Answers (Ok None) m k rest said left n = GoesOn Answers m rest said left n
-AnswersNext Answers (Ok (Some e)) m k rest said left n = Stops Answers (Ok e) m k rest said left
-AnswersNext Answers (Err f) m k rest said left n = Stops Answers (Err f) m k rest said left
+abbrev pub AnswersNext : {M : Type 0} → AnsweringLines M → Result (Option Ending) ServeError → M → (number : ℕ)
+    → (rest output : List ℕ) → (left : Option (List ℕ)) → M → Type 0
+AnswersNext Answers (Ok None) m k rest output left n = GoesOn Answers m rest output left n
+AnswersNext Answers (Ok (Some e)) m k rest output left n = Stops Answers (Ok e) m k rest output left
+AnswersNext Answers (Err f) m k rest output left n = Stops Answers (Err f) m k rest output left
 
--- The writer has taken what is said in a turn.
-pub record TakesTurn {M : Type 0} (Answers : AnsweringLines M) (result : Result (Option Ending) Fault) (m : M)
+-- The writer has taken what is written in a turn.
+pub record TakesTurn {M : Type 0} (Answers : AnsweringLines M) (result : Result (Option Ending) ServeError) (m : M)
     (number : ℕ) (rest : List ℕ) (left : Option (List ℕ)) (n : M) (old new : Option (List ℕ)) : Type 0 where
-  pub said : List ℕ
-  pub answers : AnswersNext Answers result m number rest said left n
-  pub written : Appends old new said
+  pub output : List ℕ
+  pub answers : AnswersNext Answers result m number rest output left n
+  pub written : Appends old new output
 
 -- ---- all lines
 
--- Lines are answered, and it ends so, with no fault told. The writer has taken what is said, and what is unread is
--- left.
-pub record AnswersAll {M : Type 0} (Answers : AnsweringLines M) (first : M) (ended : Result Ending Fault)
+-- Lines are answered, and it ends so, with no failure written. The writer has taken what is written, and what is
+-- unread is left.
+pub record AnswersAll {M : Type 0} (Answers : AnsweringLines M) (first : M) (ended : Result Ending ServeError)
     (input : List ℕ) (left old new : Option (List ℕ)) : Type 0 where
-  pub said : List ℕ
+  pub output : List ℕ
   pub unread : List ℕ
-  pub answered : IsAnswered Answers first (EndsUntold Answers ended) input said unread
+  pub answered : IsAnswered Answers first (EndsBeforeReport Answers ended) input output unread
   pub left_is : OnOk ended (left ≡ Some unread)
-  pub written : Appends old new said
+  pub written : Appends old new output
 
--- A fault is told: that memory ran out is said, and where that can't be written, the fault is one of writing.
-abbrev pub TellsFault : (before after : Fault) → (said : List ℕ) → Type 0
-TellsFault fault.OutOfMemory fault.OutOfMemory said = said ≡ out_of_memory
-TellsFault fault.OutOfMemory after said = IsOfWriting after × IsFrontOf said out_of_memory
-TellsFault before after said = (after ≡ before) × (said ≡ [])
+-- A failure is written: that memory ran out is written, and where that can't be written, the failure is one of writing.
+abbrev pub IsFailureText : (before after : ServeError) → (output : List ℕ) → Type 0
+IsFailureText failure.OutOfMemory failure.OutOfMemory output = output ≡ out_of_memory
+IsFailureText failure.OutOfMemory after output = IsOfWriting after × IsFrontOf output out_of_memory
+IsFailureText before after output = (after ≡ before) × (output ≡ [])
 
--- A fault is told, and the writer has taken what is said of it.
-pub record SaysFault (before after : Fault) (old new : Option (List ℕ)) : Type 0 where
-  pub said : List ℕ
-  pub tells : TellsFault before after said
-  pub written : Appends old new said
+-- A failure is written, and the writer has taken what is written of it.
+pub record WritesFailure (before after : ServeError) (old new : Option (List ℕ)) : Type 0 where
+  pub output : List ℕ
+  pub is_text : IsFailureText before after output
+  pub written : Appends old new output
 
 -- ---- a program
 
--- The writer has taken what is said of an input, and nothing else. This is unread then.
-pub record ServesLines {M : Type 0} (Answers : AnsweringLines M) (first : M) (ended : Result Ending Fault)
+-- The writer has taken what is written of an input, and nothing else. This is unread then.
+pub record ServesLines {M : Type 0} (Answers : AnsweringLines M) (first : M) (ended : Result Ending ServeError)
     (input unread : List ℕ) (old new : Option (List ℕ)) : Type 0 where
-  pub said : List ℕ
-  pub transcript : IsTranscriptOf Answers first input ended said unread
-  pub written : Appends old new said
+  pub output : List ℕ
+  pub transcript : IsTranscriptOf Answers first input ended output unread
+  pub written : Appends old new output
 
 -- The same where what is neither blank nor a command ends it.
-abbrev pub ServesBy : {M : Type 0} → Answering M → (first : M) → Result Ending Fault → (input unread : List ℕ)
+abbrev pub ServesBy : {M : Type 0} → Answering M → (first : M) → Result Ending ServeError → (input unread : List ℕ)
     → (old new : Option (List ℕ)) → Type 0
 ServesBy Answers = ServesLines (AnswersLineBy Answers)
 
@@ -156,7 +157,7 @@ abbrev pub SessionReplies : SessionState → (line : List ℕ) → Command → (
 SessionReplies old line c text new = (m : Machine) → ShowsMachine old m → RepliesAs m line c text new
 
 -- The writer has taken the transcript of an input, and nothing else. This is unread then.
-abbrev pub Serves : Result Ending Fault → (input unread : List ℕ) → (old new : Option (List ℕ)) → Type 0
+abbrev pub Serves : Result Ending ServeError → (input unread : List ℕ) → (old new : Option (List ℕ)) → Type 0
 Serves = ServesBy Replies first_machine
 
 -- Nothing of any service is left in a table, and no ticket.

@@ -18,13 +18,13 @@ use Rattle.negotiate_lines.specs.Wrongs.{IsWrong}
 use Rattle.negotiate_lines.specs.WrongTexts.{text_of}
 use Rattle.negotiate_serve.specs.declared.ending.Ending.{Ending}
 use Rattle.negotiate_serve.specs.declared.ending.Ending.TheVariants as ending
-use Rattle.negotiate_serve.specs.declared.ending.Fault.{Fault}
-use Rattle.negotiate_serve.specs.declared.ending.Fault.TheVariants as fault
+use Rattle.negotiate_serve.specs.declared.ending.ServeError.{ServeError}
+use Rattle.negotiate_serve.specs.declared.ending.ServeError.TheVariants as failure
 use Rattle.negotiate_serve.specs.declared.ending.WrongLines.{WrongLines}
 use Rattle.negotiate_serve.specs.declared.ending.WrongLines.TheVariants as wrong_lines
 use Rattle.negotiate_serve.specs.Inputs.{BeginsWith}
 use Rattle.negotiate_serve.specs.Outputs.{IsFrontOf}
-use Rattle.negotiate_serve.specs.Replies.{Tells}
+use Rattle.negotiate_serve.specs.Replies.{IsReplyText}
 
 -- ---- what answers lines, whatever its states are
 
@@ -66,11 +66,11 @@ LinesBy wrong_lines.End Answers = AnswersLineBy Answers
 LinesBy wrong_lines.Reply Answers = AnswersEachBy [] Answers
 LinesBy wrong_lines.ReplyApart Answers = AnswersEachBy (codes "\n") Answers
 
--- what is said of the line with this number where it is neither blank nor a command
+-- what is written of the line with this number where it is neither blank nor a command
 abbrev pub not_a_command : ℕ → List ℕ
 not_a_command k = codes "line " ++ decimal k ++ codes ": not a command\n"
 
--- what is said where memory runs out outside a call
+-- what is written where memory runs out outside a call
 abbrev pub out_of_memory : List ℕ
 out_of_memory = codes "out of memory\n"
 
@@ -86,10 +86,10 @@ pub data ComesNext {M : Type 0} (Answers : AnsweringLines M) (m : M) (k : ℕ) (
   no_memory : ComesNext Answers m k rest out_of_memory
 
 -- The next line, which has this number, is neither blank nor a command. Nothing behind it is read.
-pub record IsNoCommand (k : ℕ) (bytes rest last unread : List ℕ) : Type 0 where
+pub record IsAtNoCommand (k : ℕ) (bytes rest last unread : List ℕ) : Type 0 where
   pub stands : BeginsWith rest (bytes ∷ []) unread
   pub no_command : IsLine bytes line.NotACommand
-  pub said : last ≡ not_a_command k
+  pub output : last ≡ not_a_command k
 
 -- The writer has taken a front of what comes next.
 abbrev pub IsCut : {M : Type 0} → AnsweringLines M → M → (number : ℕ) → (rest last : List ℕ) → Type 0
@@ -104,24 +104,24 @@ MayEnd w (ending.NotACommand number line) = w ≡ wrong_lines.End
 abbrev pub most_lines : ℕ
 most_lines = 2 ^ 64 - 2
 
--- what is said last, behind the answers to lines, and what is left unread: at the end of the input, at a line that is
--- neither blank nor a command, where reading failed, behind as many lines as are answered at most, where memory ran
+-- what is written last, behind the answers to lines, and what is left unread: at the end of the input, at a line that
+-- is neither blank nor a command, where reading failed, behind as many lines as are answered at most, where memory ran
 -- out, and where the writer failed or was interrupted too often, which has taken a front of what comes next
-abbrev pub EndsWith : {M : Type 0} → AnsweringLines M → Result Ending Fault → M → (number : ℕ)
+abbrev pub EndsWith : {M : Type 0} → AnsweringLines M → Result Ending ServeError → M → (number : ℕ)
     → (rest last unread : List ℕ) → Type 0
 EndsWith Answers (Ok ending.InputEnded) m k rest last unread = (rest ≡ []) × (last ≡ []) × (unread ≡ [])
 EndsWith Answers (Ok (ending.NotACommand number line)) m k rest last unread =
-    (number ≡ k) × IsNoCommand k line.items rest last unread
-EndsWith Answers (Err fault.Reading) m k rest last unread = last ≡ []
-EndsWith Answers (Err fault.TooManyLines) m k rest last unread = (k ≡ most_lines + 1) × (last ≡ [])
-EndsWith Answers (Err fault.OutOfMemory) m k rest last unread = last ≡ out_of_memory
-EndsWith Answers (Err fault.Writing) m k rest last unread = IsCut Answers m k rest last
-EndsWith Answers (Err fault.TooManyTries) m k rest last unread = IsCut Answers m k rest last
+    (number ≡ k) × IsAtNoCommand k line.items rest last unread
+EndsWith Answers (Err failure.Reading) m k rest last unread = last ≡ []
+EndsWith Answers (Err failure.TooManyLines) m k rest last unread = (k ≡ most_lines + 1) × (last ≡ [])
+EndsWith Answers (Err failure.OutOfMemory) m k rest last unread = last ≡ out_of_memory
+EndsWith Answers (Err failure.Writing) m k rest last unread = IsCut Answers m k rest last
+EndsWith Answers (Err failure.TooManyTries) m k rest last unread = IsCut Answers m k rest last
 
 -- The first lines of an input are answered one after the other, each by its text, and then it ends so. The number of
 -- the line that would be the next is counted from 1.
 pub record IsAnswered {M : Type 0} (Answers : AnsweringLines M) (first : M)
-    (Ends : M → ℕ → (rest last unread : List ℕ) → Type 0) (input said unread : List ℕ) : Type 0 where
+    (Ends : M → ℕ → (rest last unread : List ℕ) → Type 0) (input output unread : List ℕ) : Type 0 where
   pub lines : List (List ℕ)
   pub rest : List ℕ
   pub begins : BeginsWith input lines rest
@@ -130,20 +130,20 @@ pub record IsAnswered {M : Type 0} (Answers : AnsweringLines M) (first : M)
   pub answered : CarriesOut Answers first lines texts machine
   pub last : List ℕ
   pub ends : Ends machine (length lines + 1) rest last unread
-  pub are : said ≡ concat texts ++ last
+  pub are : output ≡ concat texts ++ last
 
--- What is said of an input by what answers so from this state on, and what is left unread, where it ends so.
-abbrev pub IsTranscriptOf : {M : Type 0} → AnsweringLines M → (first : M) → (input : List ℕ) → Result Ending Fault
-    → (said unread : List ℕ) → Type 0
-IsTranscriptOf Answers first input ended said unread =
-    IsAnswered Answers first (EndsWith Answers ended) input said unread
+-- What is written of an input by what answers so from this state on, and what is left unread, where it ends so.
+abbrev pub IsTranscriptOf : {M : Type 0} → AnsweringLines M → (first : M) → (input : List ℕ) → Result Ending ServeError
+    → (output unread : List ℕ) → Type 0
+IsTranscriptOf Answers first input ended output unread =
+    IsAnswered Answers first (EndsWith Answers ended) input output unread
 
 -- The same where what is neither blank nor a command ends it.
-abbrev pub IsTranscriptBy : {M : Type 0} → Answering M → (first : M) → (input : List ℕ) → Result Ending Fault
-    → (said unread : List ℕ) → Type 0
+abbrev pub IsTranscriptBy : {M : Type 0} → Answering M → (first : M) → (input : List ℕ) → Result Ending ServeError
+    → (output unread : List ℕ) → Type 0
 IsTranscriptBy Answers = IsTranscriptOf (AnswersLineBy Answers)
 
--- ---- what `negotiate` says
+-- ---- what `negotiate` writes
 
 -- A map from hashes to descriptions with a count for each node, and 64 slots with what each holds.
 pub record Machine : Type 0 where
@@ -154,7 +154,7 @@ pub record Machine : Type 0 where
 abbrev pub first_machine : Machine
 first_machine = record { services = no_service 0; slots = replicate slot_count None }
 
--- the slot that a command names. A list names none, and no reply to it tells one.
+-- the slot that a command names. A list names none, and no reply to it has one.
 abbrev pub slot_named : Command → ℕ
 slot_named (command.Call call) = call.slot
 slot_named (command.Close slot) = slot
@@ -164,12 +164,12 @@ slot_named command.List = 0
 pub record Replies (m : Machine) (line : List ℕ) (c : Command) (text : List ℕ) (n : Machine) : Type 0 where
   pub reply : Reply
   pub moves : Moves default_config m.services m.slots c reply n.services n.slots
-  pub tells : Tells (slot_named c) reply text
+  pub is_text : IsReplyText (slot_named c) reply text
 
 -- a line's answer is what the machine replies to its command
 abbrev pub AnswersLine : Machine → (line text : List ℕ) → Machine → Type 0
 AnswersLine = AnswersLineBy Replies
 
--- What `negotiate` says of an input, and what it leaves unread, where it ends so.
-abbrev pub IsTranscript : (input : List ℕ) → Result Ending Fault → (said unread : List ℕ) → Type 0
+-- What `negotiate` writes of an input, and what it leaves unread, where it ends so.
+abbrev pub IsTranscript : (input : List ℕ) → Result Ending ServeError → (output unread : List ℕ) → Type 0
 IsTranscript = IsTranscriptBy Replies first_machine

@@ -1,17 +1,17 @@
 //! Lines in, answers out.
 
 ghost use Rattle.std.specs.Prelude.{◌≡◌, ℕ, List, Some, IfOk, IfSome, OnOk, false, string_bytes};
-ghost use Rattle.negotiate_lines.specs.declared.line.Line.TheVariants as said;
+ghost use Rattle.negotiate_lines.specs.declared.line.Line.TheVariants as parsed;
 ghost use Rattle.negotiate_lines.specs.Lines.{IsLine};
 ghost use Rattle.negotiate_serve.specs.declared.ending.WrongLines.TheVariants as wrong;
 ghost use Rattle.negotiate_serve.specs.Replies.{GrowsBy};
-ghost use Rattle.negotiate_serve.specs.Served.{AnswersAll, IsSaidOfWrong, SaysOfLine, TakesTurn};
+ghost use Rattle.negotiate_serve.specs.Served.{AnswersAll, IsAnswerToWrong, GrowsByLine, TakesTurn};
 ghost use Rattle.negotiate_serve.specs.Transcripts.{AnswersLineBy, IsErrorReply, LinesBy, MayEnd, error_reply};
 
 use crate::answerer::Answerer;
-use crate::ending::{Ending, Fault, WrongLines};
+use crate::ending::{Ending, ServeError, WrongLines};
 use crate::input::next_line;
-use crate::output::say;
+use crate::output::write_out;
 use negotiate_lines::finding::wrong_in;
 use negotiate_lines::line::{self, Line};
 use negotiate_lines::wrong::Wrong;
@@ -20,15 +20,15 @@ use std::io::{BufRead, Write};
 use std::mem;
 
 /// Answers line after line, until the input ends, a line is no command, or 2^64 - 2 lines were answered, which is
-/// a fault. A fault isn't told here.
+/// a failure. A failure isn't written here.
 pub fn answer_lines<A: Answerer, R: BufRead, W: Write>(
     alloc: Global,
     reader: &mut R,
     output: &mut W,
     answerer: &mut A,
-) -> Result<Ending, Fault>
+) -> Result<Ending, ServeError>
     requires { A.stands answerer.old }
-    ensures said { (input : List ℕ) → R.remaining reader.old ≡ Some input → AnswersAll (AnswersLineBy A.answers)
+    ensures answered { (input : List ℕ) → R.remaining reader.old ≡ Some input → AnswersAll (AnswersLineBy A.answers)
         answerer.old result input (R.remaining reader.new) (W.contents output.old) (W.contents output.new) }
     ensures stands { A.stands answerer.new }
 {
@@ -48,11 +48,11 @@ pub fn answer_lines<A: Answerer, R: BufRead, W: Write>(
             return Ok(ending);
         }
     }
-    Err(Fault::TooManyLines)
+    Err(ServeError::TooManyLines)
 }
 
 /// Reads the next line and answers it by one write, which is flushed. It is the line with this number,
-/// counted from 1. Tells how the program ends, if it does. Where it is neither blank nor a command, `wrong_lines` has
+/// counted from 1. Returns how the program ends, if it does. Where it is neither blank nor a command, `wrong_lines` has
 /// what becomes of it.
 pub fn answer_next<A: Answerer, R: BufRead, W: Write>(
     number: u64,
@@ -62,7 +62,7 @@ pub fn answer_next<A: Answerer, R: BufRead, W: Write>(
     answerer: &mut A,
     line: &mut Vec<u8>,
     text: &mut String,
-) -> Result<Option<Ending>, Fault>
+) -> Result<Option<Ending>, ServeError>
     ensures turn { A.stands answerer.old → (rest : List ℕ) → R.remaining reader.old ≡ Some rest
         → TakesTurn (LinesBy wrong_lines A.answers) result answerer.old number rest
         (R.remaining reader.new) answerer.new (W.contents output.old) (W.contents output.new) }
@@ -74,7 +74,7 @@ pub fn answer_next<A: Answerer, R: BufRead, W: Write>(
     }
     text.clear();
     let goes_on = answer_line(number, wrong_lines, line, answerer, text)?;
-    say(text.as_bytes(), output)?;
+    write_out(text.as_bytes(), output)?;
     if goes_on {
         return Ok(None);
     }
@@ -82,7 +82,7 @@ pub fn answer_next<A: Answerer, R: BufRead, W: Write>(
     Ok(Some(Ending::NotACommand { number, line }))
 }
 
-/// Writes the answer to one line into the text, and tells whether the program goes on.
+/// Writes the answer to one line into the text, and returns whether the program goes on.
 fn answer_line<A: Answerer>(
     number: u64,
     wrong_lines: WrongLines,
@@ -90,7 +90,8 @@ fn answer_line<A: Answerer>(
     answerer: &mut A,
     text: &mut String,
 ) -> Result<bool, AllocError>
-    ensures said { A.stands answerer.old → IfOk result (λ goes_on. SaysOfLine (LinesBy wrong_lines A.answers) goes_on
+    ensures answered { A.stands answerer.old → IfOk result (λ goes_on. GrowsByLine
+        (LinesBy wrong_lines A.answers) goes_on
         answerer.old number line.now (string_bytes text.old) (string_bytes text.new) answerer.new) }
     ensures ends { IfOk result (λ goes_on. goes_on ≡ false → wrong_lines ≡ wrong.End) }
     ensures stands { A.stands answerer.old → A.stands answerer.new }
@@ -105,15 +106,15 @@ fn answer_line<A: Answerer>(
     }
 }
 
-/// Writes what is said of a line that is neither blank nor a command, and tells whether the program goes on.
+/// Writes what is written of a line that is neither blank nor a command, and returns whether the program goes on.
 fn answer_wrong(
     number: u64,
     wrong_lines: WrongLines,
     line: &[u8],
     text: &mut String,
 ) -> Result<bool, AllocError>
-    requires { IsLine line.now said.NotACommand }
-    ensures { IfOk result (λ goes_on. GrowsBy (IsSaidOfWrong wrong_lines goes_on number line.now)
+    requires { IsLine line.now parsed.NotACommand }
+    ensures { IfOk result (λ goes_on. GrowsBy (IsAnswerToWrong wrong_lines goes_on number line.now)
         (string_bytes text.old) (string_bytes text.new)) }
 {
     match wrong_lines {
@@ -134,7 +135,7 @@ fn answer_wrong(
 
 /// Writes the reply to a line that is neither blank nor a command, and an end after it.
 fn reply_wrong(line: &[u8], end: &str, text: &mut String) -> Result<(), AllocError>
-    requires { IsLine line.now said.NotACommand }
+    requires { IsLine line.now parsed.NotACommand }
     ensures { OnOk result (GrowsBy (IsErrorReply end.now line.now) (string_bytes text.old) (string_bytes text.new)) }
 {
     match wrong_in(*text.allocator(), line)? {
@@ -144,7 +145,7 @@ fn reply_wrong(line: &[u8], end: &str, text: &mut String) -> Result<(), AllocErr
 }
 
 fn write_wrong(wrong: Wrong<'_>, end: &str, text: &mut String) -> Result<(), AllocError>
-    ensures { OnOk result (GrowsBy (λ said. said ≡ error_reply wrong.entry end.now)
+    ensures { OnOk result (GrowsBy (λ output. output ≡ error_reply wrong.entry end.now)
         (string_bytes text.old) (string_bytes text.new)) }
 {
     write!(text, "error: {wrong}\n{end}")

@@ -3,10 +3,10 @@
 ghost use Rattle.std.specs.Prelude.{◌≡◌, ℕ, List, OnOk, string_bytes};
 ghost use Rattle.iceoryx2_commands.specs.declared.command.Command.{Command};
 ghost use Rattle.iceoryx2_session.specs.SessionStates.{own_state};
-ghost use Rattle.negotiate_lines.specs.declared.line.Line.TheVariants as said;
+ghost use Rattle.negotiate_lines.specs.declared.line.Line.TheVariants as parsed;
 ghost use Rattle.negotiate_lines.specs.Lines.{IsLine};
 ghost use Rattle.negotiate_serve.specs.Transcripts.{slot_named};
-ghost use Rattle.negotiate_serve.specs.Served.{SaysAnswer, SessionReplies, ShowsSome};
+ghost use Rattle.negotiate_serve.specs.Served.{GrowsByAnswer, SessionReplies, ShowsSome};
 
 use crate::reply::describe;
 use iceoryx2_commands::command::Command;
@@ -22,13 +22,13 @@ pub trait Answerer {
     /// What holds of it between two lines.
     ghost stands: { Self → Type 0 };
 
-    /// Carries out the command that a line says, and writes the answer into the text.
+    /// Carries out the command of a line, and writes the answer into the text.
     ///
     /// `AllocError` where memory runs out outside a call. The text may then have a part of the answer, and
     /// what holds of the answerer still does.
     fn answer(&mut self, line: &[u8], command: Command, text: &mut String) -> Result<(), AllocError>
-        requires { IsLine line.now (said.Command command) }
-        ensures said { stands self.old → OnOk result (SaysAnswer answers
+        requires { IsLine line.now (parsed.Command command) }
+        ensures answered { stands self.old → OnOk result (GrowsByAnswer answers
             self.old line.now command (string_bytes text.old) (string_bytes text.new) self.new) }
         ensures stands { stands self.old → stands self.new };
 }
@@ -50,7 +50,7 @@ impl Answerer for Session<Table> {
     }
 }
 
-/// The slot that a command names. A list names none, and no reply to it tells one.
+/// The slot that a command names. A list names none, and no reply to it has one.
 pub fn slot_of(command: &Command) -> usize
     ensures { result ≡ slot_named command.now }
 {

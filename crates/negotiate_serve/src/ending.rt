@@ -2,7 +2,7 @@
 
 ghost use Rattle.std.specs.Prelude.{◌≡◌};
 ghost use Rattle.std.specs.IoError.{error_kind};
-ghost use Rattle.negotiate_serve.specs.Endings.{IsOfReading, fault_of_reading, reason_of, status_of};
+ghost use Rattle.negotiate_serve.specs.Endings.{IsOfReading, failure_of_reading, reason_of, status_of};
 
 use std::alloc::AllocError;
 use std::io::{self, ErrorKind};
@@ -13,7 +13,7 @@ pub const DONE: u8 = 0;
 /// The status after a line that is no command.
 pub const NOT_A_COMMAND: u8 = 2;
 
-/// The status after a fault.
+/// The status after a failure.
 pub const FAULT: u8 = 3;
 
 /// How the program ends where nothing fails.
@@ -43,7 +43,7 @@ pub enum WrongLines {
 
 /// What keeps the program from going on.
 #[derive(Clone, Copy, Debug, PartialEq, Eq)]
-pub enum Fault {
+pub enum ServeError {
     /// The reader answered an error, other than an interruption or that memory ran out.
     Reading,
     /// The writer answered an error other than an interruption, or took nothing of a text that isn't empty.
@@ -56,15 +56,15 @@ pub enum Fault {
     OutOfMemory,
 }
 
-impl Fault {
-    /// The fault of a read that failed. That memory ran out is told apart.
-    pub fn of_reading(error: &io::Error) -> Fault
-        ensures is { result ≡ fault_of_reading (error_kind error.now) }
+impl ServeError {
+    /// The failure of a read that failed. That memory ran out is told apart.
+    pub fn of_reading(error: &io::Error) -> ServeError
+        ensures is { result ≡ failure_of_reading (error_kind error.now) }
         ensures of_reading { IsOfReading result }
     {
         match error.kind() {
-            ErrorKind::OutOfMemory => Fault::OutOfMemory,
-            _ => Fault::Reading,
+            ErrorKind::OutOfMemory => ServeError::OutOfMemory,
+            _ => ServeError::Reading,
         }
     }
 
@@ -73,27 +73,27 @@ impl Fault {
         ensures { result.now ≡ reason_of self }
     {
         match self {
-            Fault::Reading => ": reading failed\n",
-            Fault::Writing => ": writing failed\n",
-            Fault::TooManyLines => ": too many lines\n",
-            Fault::TooManyTries => ": interrupted too often\n",
-            Fault::OutOfMemory => ": out of memory\n",
+            ServeError::Reading => ": reading failed\n",
+            ServeError::Writing => ": writing failed\n",
+            ServeError::TooManyLines => ": too many lines\n",
+            ServeError::TooManyTries => ": interrupted too often\n",
+            ServeError::OutOfMemory => ": out of memory\n",
         }
     }
 }
 
-impl From<AllocError> for Fault {
-    ghost use Rattle.negotiate_serve.specs.declared.ending.Fault.TheVariants as fault;
+impl From<AllocError> for ServeError {
+    ghost use Rattle.negotiate_serve.specs.declared.ending.ServeError.TheVariants as failure;
 
-    ghost from_gives = { λ _ given. given ≡ fault.OutOfMemory };
+    ghost from_gives = { λ _ given. given ≡ failure.OutOfMemory };
 
-    fn from(_error: AllocError) -> Fault {
-        Fault::OutOfMemory
+    fn from(_error: AllocError) -> ServeError {
+        ServeError::OutOfMemory
     }
 }
 
 /// The status with which the program ends.
-pub fn status(ended: &Result<Ending, Fault>) -> u8
+pub fn status(ended: &Result<Ending, ServeError>) -> u8
     ensures { result ≡ status_of ended.now }
 {
     match ended {

@@ -4,15 +4,15 @@ ghost use Rattle.std.specs.Prelude.{◌≡◌, ℕ, List, Some, IfOk, IfErr};
 ghost use Rattle.negotiate_serve.specs.Endings.{IsOfReading};
 ghost use Rattle.negotiate_serve.specs.Inputs.{ReadsLine};
 
-use crate::ending::Fault;
+use crate::ending::ServeError;
 use negotiate_lines::line::without_end;
 use std::io::BufRead;
 
-/// Reads the next line, without its end, in place of what `line` held, and tells whether there was one.
+/// Reads the next line, without its end, in place of what `line` held, and returns whether there was one.
 ///
-/// `Fault` where the reader answers an error, or there is no memory for the line. An interrupted read is tried
-/// again. The reader is not to be used behind a fault.
-pub fn next_line<R: BufRead>(reader: &mut R, line: &mut Vec<u8>) -> Result<bool, Fault>
+/// `ServeError` where the reader answers an error, or there is no memory for the line. An interrupted read is tried
+/// again. The reader is not to be used behind a failure.
+pub fn next_line<R: BufRead>(reader: &mut R, line: &mut Vec<u8>) -> Result<bool, ServeError>
     ensures read { IfOk result (λ found. (input : List ℕ) → R.remaining reader.old ≡ Some input
         → ReadsLine input found line.new.items (R.remaining reader.new)) }
     ensures err { IfErr result IsOfReading }
@@ -25,6 +25,6 @@ pub fn next_line<R: BufRead>(reader: &mut R, line: &mut Vec<u8>) -> Result<bool,
             line.truncate(length);
             Ok(true)
         }
-        Err(error) => Err(Fault::of_reading(&error)),
+        Err(error) => Err(ServeError::of_reading(&error)),
     }
 }

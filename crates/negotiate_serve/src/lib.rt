@@ -8,12 +8,12 @@
 //! `ending::status` has which status that is. Afterwards the table has nothing (`HasNothing`, of the private
 //! `serve_session`). No clause states when a reader or a writer failed.
 //!
-//! `serve_by` is the same of any `Answerer` (`ServesBy`), and `serve_lines` over any buffered reader. `answer_next`
-//! is one turn (`TakesTurn`); `input::next_line` reads the next line (`ReadsLine`); `output::say` has written the
-//! whole text, or a front where it fails (`Says`). `report::report` writes the line of the fault, or of what is
-//! wrong with a line, with the program's name in front (`Reports`). `reply::describe`: the text has grown by
-//! exactly the reply (`Tells`): its line, and for a listing a line for each entry whose description is published
-//! beside its segment, and their count.
+//! `serve_by` is the same of any `Answerer` (`ServesBy`), and `answer_lines` over any buffered reader, which writes
+//! none of its failures (`AnswersAll`). `answer_next` is one turn (`TakesTurn`); `input::next_line` reads the next
+//! line (`ReadsLine`); `output::write_out` has written the whole text, or a front where it fails (`Writes`).
+//! `report::report` writes the line of the failure, or of what is wrong with a line, with the program's name in front
+//! (`Reports`). `reply::describe`: the text has grown by exactly the reply (`IsReplyText`): its line, and for a
+//! listing a line for each entry whose description is published beside its segment, and their count.
 #![tactic(auto)]
 
 pub mod answer;

@@ -3,25 +3,25 @@
 ghost use Rattle.std.specs.Prelude.{IfErr};
 ghost use Rattle.std.specs.Io.KnownBytes.{Keeps};
 ghost use Rattle.negotiate_serve.specs.Endings.{IsOfWriting};
-ghost use Rattle.negotiate_serve.specs.Outputs.{Says, TakesFront, TakesOnce};
+ghost use Rattle.negotiate_serve.specs.Outputs.{Writes, TakesFront, TakesOnce};
 
-use crate::ending::Fault;
+use crate::ending::ServeError;
 use std::io::{ErrorKind, Write};
 
 /// Writes a text, and flushes it.
 ///
-/// `Fault` where the writer answers an error, takes nothing, or is interrupted 2^64 - 1 times one after the
+/// `ServeError` where the writer answers an error, takes nothing, or is interrupted 2^64 - 1 times one after the
 /// other. It has taken a front of the text then.
-pub fn say<W: Write>(text: &[u8], output: &mut W) -> Result<(), Fault>
-    ensures { Says text.now result (W.contents output.old) (W.contents output.new) }
+pub fn write_out<W: Write>(text: &[u8], output: &mut W) -> Result<(), ServeError>
+    ensures { Writes text.now result (W.contents output.old) (W.contents output.new) }
 {
     write_text(text, output)?;
     flush(output)
 }
 
 /// Writes a text, in as many pieces as the writer takes.
-fn write_text<W: Write>(text: &[u8], output: &mut W) -> Result<(), Fault>
-    ensures { Says text.now result (W.contents output.old) (W.contents output.new) }
+fn write_text<W: Write>(text: &[u8], output: &mut W) -> Result<(), ServeError>
+    ensures { Writes text.now result (W.contents output.old) (W.contents output.new) }
 {
     let mut rest = text;
     while !rest.is_empty() {
@@ -31,8 +31,8 @@ fn write_text<W: Write>(text: &[u8], output: &mut W) -> Result<(), Fault>
     Ok(())
 }
 
-/// Writes a front of a text that isn't empty, and tells how long it is. An interrupted write is tried again.
-fn write_front<W: Write>(text: &[u8], output: &mut W) -> Result<usize, Fault>
+/// Writes a front of a text that isn't empty, and returns how long it is. An interrupted write is tried again.
+fn write_front<W: Write>(text: &[u8], output: &mut W) -> Result<usize, ServeError>
     ensures { TakesFront text.now result (W.contents output.old) (W.contents output.new) }
 {
     for _ in 0..u64::MAX {
@@ -40,26 +40,26 @@ fn write_front<W: Write>(text: &[u8], output: &mut W) -> Result<usize, Fault>
             return Ok(count);
         }
     }
-    Err(Fault::TooManyTries)
+    Err(ServeError::TooManyTries)
 }
 
-/// Asks the writer once to take a text that isn't empty, and tells how much of it it took, or `None` where it was
+/// Asks the writer once to take a text that isn't empty, and returns how much of it it took, or `None` where it was
 /// interrupted.
-fn write_once<W: Write>(text: &[u8], output: &mut W) -> Result<Option<usize>, Fault>
+fn write_once<W: Write>(text: &[u8], output: &mut W) -> Result<Option<usize>, ServeError>
     ensures { TakesOnce text.now result (W.contents output.old) (W.contents output.new) }
 {
     match output.write(text) {
-        Ok(0) => Err(Fault::Writing),
+        Ok(0) => Err(ServeError::Writing),
         Ok(count) => Ok(Some(count)),
         Err(error) => match error.kind() {
             ErrorKind::Interrupted => Ok(None),
-            _ => Err(Fault::Writing),
+            _ => Err(ServeError::Writing),
         },
     }
 }
 
 /// Flushes what was written. An interrupted flush is tried again.
-fn flush<W: Write>(output: &mut W) -> Result<(), Fault>
+fn flush<W: Write>(output: &mut W) -> Result<(), ServeError>
     ensures kept { Keeps (W.contents output.old) (W.contents output.new) }
     ensures err { IfErr result IsOfWriting }
 {
@@ -68,11 +68,11 @@ fn flush<W: Write>(output: &mut W) -> Result<(), Fault>
             return Ok(());
         }
     }
-    Err(Fault::TooManyTries)
+    Err(ServeError::TooManyTries)
 }
 
-/// Asks the writer once to flush, and tells whether it did. It didn't where it was interrupted.
-fn flush_once<W: Write>(output: &mut W) -> Result<bool, Fault>
+/// Asks the writer once to flush, and returns whether it did. It didn't where it was interrupted.
+fn flush_once<W: Write>(output: &mut W) -> Result<bool, ServeError>
     ensures kept { Keeps (W.contents output.old) (W.contents output.new) }
     ensures err { IfErr result IsOfWriting }
 {
@@ -80,7 +80,7 @@ fn flush_once<W: Write>(output: &mut W) -> Result<bool, Fault>
         Ok(()) => Ok(true),
         Err(error) => match error.kind() {
             ErrorKind::Interrupted => Ok(false),
-            _ => Err(Fault::Writing),
+            _ => Err(ServeError::Writing),
         },
     }
 }

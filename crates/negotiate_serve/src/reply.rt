@@ -1,21 +1,21 @@
-//! What a reply says.
+//! The texts of replies.
 
 ghost use Rattle.std.specs.Prelude.{◌≡◌, ◌++◌, IfOk, OnOk, string_bytes};
-ghost use Rattle.negotiate_serve.specs.Replies.{GrowsBy, GrowsByEntry, GrowsByService, ListsServices, Tells};
+ghost use Rattle.negotiate_serve.specs.Replies.{GrowsBy, GrowsByEntry, GrowsByService, ListsServices, IsReplyText};
 ghost use Rattle.negotiate_serve.specs.Replies.{how_many_it_has, pattern_term, who_it_is};
 
 use iceoryx2_byte_form::bytes::{DecodeError, decode};
 use iceoryx2_commands::command::{Refusal, Reply};
 use iceoryx2_description::description::{MessagingPattern, ServiceHash, StaticConfig};
-use iceoryx2_world::listing::{Entry, ListedRow, ListedSegment};
+use iceoryx2_world::listing::{ListedRow, ListedSegment, ListedService};
 use std::alloc::AllocError;
 
-/// Writes what a reply to a command for this slot says: a line, and for a listing a line for each
+/// Writes the text of a reply to a command for this slot: a line, and for a listing a line for each
 /// service before it.
 ///
-/// `AllocError` where the text finds no memory, and where the reply tells that there was none.
+/// `AllocError` where the text finds no memory, and where the reply is that there was none.
 pub fn describe(reply: &Reply, slot: usize, text: &mut String) -> Result<(), AllocError>
-    ensures { OnOk result (GrowsBy (Tells slot reply.now) (string_bytes text.old) (string_bytes text.new)) }
+    ensures { OnOk result (GrowsBy (IsReplyText slot reply.now) (string_bytes text.old) (string_bytes text.new)) }
 {
     match reply {
         Reply::Opened { slot, number } => writeln!(text, "ok {slot} number={number}"),
@@ -39,7 +39,7 @@ pub fn describe(reply: &Reply, slot: usize, text: &mut String) -> Result<(), All
 }
 
 /// Writes a line for each service among the entries, in their order, and how many they are.
-fn describe_services(entries: &[Entry], text: &mut String) -> Result<(), AllocError>
+fn describe_services(entries: &[ListedService], text: &mut String) -> Result<(), AllocError>
     ensures { OnOk result (GrowsBy (ListsServices entries.now) (string_bytes text.old) (string_bytes text.new)) }
 {
     let mut count = 0usize;
@@ -51,9 +51,9 @@ fn describe_services(entries: &[Entry], text: &mut String) -> Result<(), AllocEr
     writeln!(text, "{count} services")
 }
 
-/// Writes the line of an entry that is a service, and tells whether it is one: its description is
+/// Writes the line of an entry that is a service, and returns whether it is one: its description is
 /// published, and its segment stands beside it.
-fn describe_entry(entry: &Entry, text: &mut String) -> Result<bool, AllocError>
+fn describe_entry(entry: &ListedService, text: &mut String) -> Result<bool, AllocError>
     ensures { IfOk result (λ found.
         GrowsByEntry found entry.now (string_bytes text.old) (string_bytes text.new)) }
 {
@@ -70,7 +70,7 @@ fn describe_entry(entry: &Entry, text: &mut String) -> Result<bool, AllocError>
     }
 }
 
-/// Writes the line of a service, and tells that it is one.
+/// Writes the line of a service, and returns that it is one.
 fn describe_service(
     hash: &ServiceHash,
     description: &StaticConfig,

@@ -1,25 +1,25 @@
 //! What is written to the standard error where a program ends.
 
 ghost use Rattle.std.specs.Prelude.{◌≡◌, IfOk, string_bytes};
-ghost use Rattle.negotiate_serve.specs.Outputs.{Says};
-ghost use Rattle.negotiate_serve.specs.Reports.{IsReport, Reports, TellsReport, fault_line, wrong_line};
+ghost use Rattle.negotiate_serve.specs.Outputs.{Writes};
+ghost use Rattle.negotiate_serve.specs.Reports.{IsReport, Reports, WritesReport, failure_line, wrong_line};
 
-use crate::ending::{Ending, Fault};
-use crate::output::say;
+use crate::ending::{Ending, ServeError};
+use crate::output::write_out;
 use negotiate_lines::finding::wrong_in;
 use negotiate_lines::wrong::Wrong;
 use std::alloc::{AllocError, Global};
 use std::io::Write;
 
-/// Writes the line of the fault by which a program of this name ended, or of what is wrong with the line that is no
+/// Writes the line of the failure by which a program of this name ended, or of what is wrong with the line that is no
 /// command, and nothing where the input ended.
 ///
-/// `Fault` as `say` does, and `OutOfMemory` where there is no memory for the line. Nothing is written then.
+/// `ServeError` as `write_out` does, and `OutOfMemory` where there is no memory for the line. Nothing is written then.
 pub fn report<W: Write>(
     program: &str,
-    ended: &Result<Ending, Fault>,
+    ended: &Result<Ending, ServeError>,
     errors: &mut W,
-) -> Result<(), Fault>
+) -> Result<(), ServeError>
     ensures { Reports program.now ended.now result (W.contents errors.old) (W.contents errors.new) }
 {
     match ended {
@@ -27,31 +27,35 @@ pub fn report<W: Write>(
             Ending::InputEnded => Ok(()),
             Ending::NotACommand { number, line } => report_line(program, *number, line, errors),
         },
-        Err(fault) => report_fault(program, *fault, errors),
+        Err(failure) => report_failure(program, *failure, errors),
     }
 }
 
-/// Writes the line of a fault by which a program of this name ended. `Fault` as `say` does.
-pub fn report_fault<W: Write>(program: &str, fault: Fault, errors: &mut W) -> Result<(), Fault>
-    ensures { Says (fault_line program.now fault) result (W.contents errors.old) (W.contents errors.new) }
+/// Writes the line of a failure by which a program of this name ended. `ServeError` as `write_out` does.
+pub fn report_failure<W: Write>(
+    program: &str,
+    failure: ServeError,
+    errors: &mut W,
+) -> Result<(), ServeError>
+    ensures { Writes (failure_line program.now failure) result (W.contents errors.old) (W.contents errors.new) }
 {
-    say(program.as_bytes(), errors)?;
-    say(fault.reason().as_bytes(), errors)
+    write_out(program.as_bytes(), errors)?;
+    write_out(failure.reason().as_bytes(), errors)
 }
 
-/// Writes what is wrong with the line of this number. `Fault` as `report` does.
+/// Writes what is wrong with the line of this number. `ServeError` as `report` does.
 fn report_line<W: Write>(
     program: &str,
     number: u64,
     line: &Vec<u8>,
     errors: &mut W,
-) -> Result<(), Fault>
-    ensures { TellsReport (IsReport program.now number line.now.items) result
+) -> Result<(), ServeError>
+    ensures { WritesReport (IsReport program.now number line.now.items) result
         (W.contents errors.old) (W.contents errors.new) }
 {
     match wrong_line(*line.allocator(), program, number, line) {
-        Ok(text) => say(text.as_bytes(), errors),
-        Err(_) => Err(Fault::OutOfMemory),
+        Ok(text) => write_out(text.as_bytes(), errors),
+        Err(_) => Err(ServeError::OutOfMemory),
     }
 }
 

@@ -1,29 +1,30 @@
 //! The whole program: an input in, its transcript out.
 
-ghost use Rattle.std.specs.Prelude.{◌≡◌, ℕ, List, Some, OnOk};
-ghost use Rattle.negotiate_serve.specs.Served.{HasNothing, SaysFault, Serves, ServesBy};
+ghost use Rattle.std.specs.Prelude.{◌≡◌, ℕ, List, Some};
+ghost use Rattle.negotiate_serve.specs.Served.{HasNothing, WritesFailure, Serves, ServesBy};
 
 use crate::answer::answer_lines;
 use crate::answerer::Answerer;
-use crate::ending::{Ending, Fault};
-use crate::output::say;
+use crate::ending::{Ending, ServeError};
+use crate::output::write_out;
 use iceoryx2_description::config::Config;
 use iceoryx2_session::session::Session;
 use iceoryx2_table::table::Table;
 use std::alloc::Global;
-use std::io::{BufRead, BufReader, Read, Write};
+use std::io::{BufReader, Read, Write};
 
 /// Answers each line of an input, over a table of its own: it writes the input's transcript and nothing
-/// else, each reply before the next line is read, and tells how it ended. Whatever that is, the factories
+/// else, each reply before the next line is read, and returns how it ended. Whatever that is, the factories
 /// that are still open are closed.
 ///
-/// `Fault` where the reader or the writer answers an error, where a count is at its end (`Fault` tells which), and
-/// where memory runs out outside a call, which is told. The writer has taken a front of a transcript then.
+/// `ServeError` where the reader or the writer answers an error, where a count is at its end (`ServeError` tells
+/// which), and where memory runs out outside a call, which is written. The writer has taken a front of a transcript
+/// then.
 pub fn serve<R: Read + Drop, W: Write>(
     alloc: Global,
     input: R,
     output: &mut W,
-) -> Result<Ending, Fault>
+) -> Result<Ending, ServeError>
     ensures { (bytes : List ℕ) → R.remaining input ≡ Some bytes → (unread : List ℕ)
         × Serves result bytes unread (W.contents output.old) (W.contents output.new) }
 {
@@ -36,7 +37,7 @@ fn serve_session<R: Read + Drop, W: Write>(
     alloc: Global,
     input: R,
     output: &mut W,
-) -> (Result<Ending, Fault>, Table)
+) -> (Result<Ending, ServeError>, Table)
     ensures serves { (bytes : List ℕ) → R.remaining input ≡ Some bytes → (unread : List ℕ)
         × Serves result.0 bytes unread (W.contents output.old) (W.contents output.new) }
     ensures finished { HasNothing result.1 }
@@ -48,55 +49,39 @@ fn serve_session<R: Read + Drop, W: Write>(
     (ended, session.finish())
 }
 
-/// Answers each line of an input by an answerer: it writes what this says of the input and nothing else,
-/// each answer before the next line is read, and tells how it ended.
+/// Answers each line of an input by an answerer: it writes what this answers to the input and nothing else,
+/// each answer before the next line is read, and returns how it ended.
 ///
-/// `Fault` as `serve` does.
+/// `ServeError` as `serve` does.
 pub fn serve_by<A: Answerer, R: Read + Drop, W: Write>(
     alloc: Global,
     input: R,
     output: &mut W,
     answerer: &mut A,
-) -> Result<Ending, Fault>
+) -> Result<Ending, ServeError>
     requires { A.stands answerer.old }
     ensures serves { (bytes : List ℕ) → R.remaining input ≡ Some bytes → (unread : List ℕ) × ServesBy A.answers
         answerer.old result bytes unread (W.contents output.old) (W.contents output.new) }
     ensures stands { A.stands answerer.new }
 {
     match BufReader::new(alloc, input) {
-        Ok(mut reader) => serve_lines(alloc, &mut reader, output, answerer),
-        Err(error) => Err(tell_fault(Fault::of_reading(&error), output)),
+        Ok(mut reader) => match answer_lines(alloc, &mut reader, output, answerer) {
+            Ok(ending) => Ok(ending),
+            Err(failure) => Err(write_failure(failure, output)),
+        },
+        Err(error) => Err(write_failure(ServeError::of_reading(&error), output)),
     }
 }
 
-/// Does so for what a reader has left. Where no fault comes, what is unread is left.
-pub fn serve_lines<A: Answerer, R: BufRead, W: Write>(
-    alloc: Global,
-    reader: &mut R,
-    output: &mut W,
-    answerer: &mut A,
-) -> Result<Ending, Fault>
-    requires { A.stands answerer.old }
-    ensures serves { (input : List ℕ) → R.remaining reader.old ≡ Some input → (unread : List ℕ) × ServesBy A.answers
-        answerer.old result input unread (W.contents output.old) (W.contents output.new)
-        × OnOk result (R.remaining reader.new ≡ Some unread) }
-    ensures stands { A.stands answerer.new }
+/// Writes `out of memory` where that is the failure. Where it can't be written, writing is the failure.
+pub fn write_failure<W: Write>(failure: ServeError, output: &mut W) -> ServeError
+    ensures { WritesFailure failure result (W.contents output.old) (W.contents output.new) }
 {
-    match answer_lines(alloc, reader, output, answerer) {
-        Ok(ending) => Ok(ending),
-        Err(fault) => Err(tell_fault(fault, output)),
-    }
-}
-
-/// Writes `out of memory` where that is the fault. Where it can't be written, writing is the fault.
-pub fn tell_fault<W: Write>(fault: Fault, output: &mut W) -> Fault
-    ensures { SaysFault fault result (W.contents output.old) (W.contents output.new) }
-{
-    match fault {
-        Fault::OutOfMemory => match say(b"out of memory\n", output) {
-            Ok(()) => Fault::OutOfMemory,
+    match failure {
+        ServeError::OutOfMemory => match write_out(b"out of memory\n", output) {
+            Ok(()) => ServeError::OutOfMemory,
             Err(writing) => writing,
         },
-        _ => fault,
+        _ => failure,
     }
 }

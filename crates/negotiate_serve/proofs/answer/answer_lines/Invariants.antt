@@ -5,7 +5,7 @@ use Rattle.negotiate_serve.proofs.answer.answer_lines.Given as goal
 
 abbrev pub invariant-loop-number : goal.invariant-loop-number
 invariant-loop-number g l = record {
-  said : (input : List ℕ) → g.R.Read.remaining l.fn.reader ≡ Some input
+  answered : (input : List ℕ) → g.R.Read.remaining l.fn.reader ≡ Some input
       → SoFar (AnswersLineBy g.A.Answerer.answers) l.fn.answerer input l.number (g.R.Read.remaining l.reader) (g.W.Write.contents l.fn.output) (g.W.Write.contents l.output) l.answerer;
   stands : g.A.Answerer.stands l.answerer;
 }

@@ -1,6 +1,6 @@
 use Rattle.std.proofs.Common.{rules, string_bytes}
 use Rattle.std.proofs.lemmas.Result.{IfOk-weaker}
-use Rattle.negotiate_serve.proofs.Telling.{grows_by_service}
+use Rattle.negotiate_serve.proofs.ServiceLines.{grows_by_service}
 use Rattle.negotiate_serve.proofs.reply.describe_entry.Goals as goal
 
 pub returns-in-Ok : goal.returns-in-Ok
