@@ -5,9 +5,9 @@
 
 use explain_serve::format::Format;
 use explain_serve::serve::serve;
-use negotiate_serve::ending::{Fault, NOT_A_COMMAND, status};
+use negotiate_serve::ending::{NOT_A_COMMAND, ServeError, status};
 use negotiate_serve::report::report;
-use negotiate_serve::serve::tell_fault;
+use negotiate_serve::serve::write_failure;
 use std::process::ExitCode;
 use std::{env, io};
 
@@ -27,7 +27,7 @@ fn asked_format(rt: &HostRuntime) -> io::Result<Option<Format>> {
 /// Answers the lines of the standard input on the standard output, and explains each reply.
 ///
 /// Ends with status 0, with 2 at a line that is no command and where the arguments are wrong, and with
-/// 3 where there is a fault, of which the standard error has a line.
+/// 3 where there is a failure, of which the standard error has a line.
 fn main(rt: HostRuntime) -> ExitCode {
     let mut output = io::writer(&rt);
     let ended = match asked_format(&rt) {
@@ -36,7 +36,7 @@ fn main(rt: HostRuntime) -> ExitCode {
             let _ = eprintln!(rt; "usage: explain [--diagram] < LINES");
             return ExitCode::from(NOT_A_COMMAND);
         }
-        Err(error) => Err(tell_fault(Fault::of_reading(&error), &mut output)),
+        Err(error) => Err(write_failure(ServeError::of_reading(&error), &mut output)),
     };
     let _ = report("explain", &ended, &mut rt.stderr());
     ExitCode::from(status(&ended))

@@ -4,7 +4,7 @@ use Rattle.std.specs.declared.alloc.AllocError.{AllocError}
 use Rattle.iceoryx2_access.specs.Letter.{Letter}
 use Rattle.iceoryx2_description.specs.declared.config.Config.{Config}
 use Rattle.iceoryx2_description.specs.Defaults.{default_config}
-use Rattle.iceoryx2_traced.specs.Trace.{TracedState}
+use Rattle.iceoryx2_testing.specs.Trace.{TracedState}
 use Rattle.iceoryx2_world.specs.Across.{Agrees}
 use Rattle.iceoryx2_world.specs.Tables.{TableState, IsTableAccess}
 use Rattle.iceoryx2_world.specs.World.{World, empty_world}
@@ -15,15 +15,15 @@ use Rattle.iceoryx2_commands.specs.declared.command.Command.TheVariants as comma
 use Rattle.iceoryx2_commands.specs.declared.command.Reply.{Reply}
 use Rattle.iceoryx2_commands.specs.declared.command.Reply.TheVariants as reply
 use Rattle.iceoryx2_session.specs.declared.session.Session.{Session}
-use Rattle.iceoryx2_session.specs.CommandWords.{GoesAlong}
+use Rattle.iceoryx2_session.specs.CommandWords.{AppliesAlong}
 use Rattle.iceoryx2_session.specs.QuietSessions.{IsQuiet, IsMoved}
-use Rattle.iceoryx2_session.specs.Sessions.{SessionOver, GoesBy, shown_world, close_past, close_empty, closed, not_closed, listed, not_listed}
+use Rattle.iceoryx2_session.specs.Sessions.{SessionOver, AppliesBy, shown_world, close_past, close_empty, closed, not_closed, listed, not_listed}
 use Rattle.iceoryx2_session.specs.SessionStates.{own_state}
 use Rattle.iceoryx2_session.specs.StandingSlots.{SlotsStand, OwnsTickets, ClosesTaken}
 use Rattle.negotiate_serve.specs.declared.ending.Ending.{Ending}
-use Rattle.negotiate_serve.specs.declared.ending.Fault.{Fault}
+use Rattle.negotiate_serve.specs.declared.ending.ServeError.{ServeError}
 use Rattle.negotiate_serve.specs.Replies.{GrowsBy}
-use Rattle.negotiate_serve.specs.Served.{SaysAnswer, ServesBy}
+use Rattle.negotiate_serve.specs.Served.{GrowsByAnswer, ServesBy}
 use Rattle.negotiate_lines.specs.declared.line.Line.TheVariants as kind
 use Rattle.negotiate_lines.specs.Lines.{IsLine}
 use Rattle.negotiate_serve.specs.Transcripts.{Machine, slot_named}
@@ -33,7 +33,7 @@ use Rattle.explain_serve.specs.declared.explainer.Explainer.{Explainer}
 use Rattle.explain_serve.specs.declared.format.Format.{Format}
 use Rattle.explain_serve.specs.Answered.{ExplainState, first_state, Explains, ShowsState, ShowsSomeState, AnswersAs}
 use Rattle.explain_serve.specs.declared.format.Format.TheVariants as format
-use Rattle.explain_serve.specs.Explained.{node_named, refusal_of, MayTellWhy, TellsLines, DrawsLines, IsTextOf}
+use Rattle.explain_serve.specs.Explained.{node_named, refusal_of, MayHaveReason, IsTextInLines, IsTextInDiagram, IsExplanationText}
 use Rattle.explain_serve.specs.Traces.{IsAccess, table_inside, table_world, TracedSession, session_inside, room_kept, made_between, fresh_trace, HasItsRoom}
 use Rattle.explain_serve.proofs.Traces.{goes_traced, still_room}
 
@@ -43,8 +43,8 @@ use Rattle.explain_serve.proofs.Traces.{goes_traced, still_room}
 abbrev pub explainer_answers : Explainer → (line : List ℕ) → Command → (text : List ℕ) → Explainer → Type 0
 explainer_answers old line c text new = (new.format ≡ old.format) × AnswersAs old.format (own_state old.session) line c text (own_state new.session)
 
-module _ (x y : Explainer) (c : Command) (r : Reply) (own : GoesBy IsAccess (shown_world table_inside) (own_state x.session) c r (own_state y.session))
-    (along : GoesAlong IsAccess (own_state x.session) c r (own_state y.session))
+module _ (x y : Explainer) (c : Command) (r : Reply) (own : AppliesBy IsAccess (shown_world table_inside) (own_state x.session) c r (own_state y.session))
+    (along : AppliesAlong IsAccess (own_state x.session) c r (own_state y.session))
     (quiet : (q : Quiet) → IsQuiet (session_inside (own_state x.session)) q → SlotsStand (session_inside (own_state x.session))
     → IsMoved (session_inside (own_state x.session)) q c r (session_inside (own_state y.session)))
     (stands : Agrees (session_inside (own_state x.session)).table.world → SlotsStand (session_inside (own_state x.session))
@@ -64,7 +64,7 @@ module _ (x y : Explainer) (c : Command) (r : Reply) (own : GoesBy IsAccess (sho
   pub shows_some : ShowsSomeState (own_state x.session) → ShowsSomeState (own_state y.session)
   shows_some old = (machine_after (quiet old.0.services old.1.shows.quiet old.1.shows.stand), shows_next old.0 old.1)
 
-  explains_reply : (line text : List ℕ) → IsTextOf x.format line c r (own_state x.session) (own_state y.session) text → AnswersAs x.format (own_state x.session) line c text (own_state y.session)
+  explains_reply : (line text : List ℕ) → IsExplanationText x.format line c r (own_state x.session) (own_state y.session) text → AnswersAs x.format (own_state x.session) line c text (own_state y.session)
   explains_reply line text is m state =
       let moved = quiet m.services state.shows.quiet state.shows.stand in
       record {
@@ -78,41 +78,41 @@ module _ (x y : Explainer) (c : Command) (r : Reply) (own : GoesBy IsAccess (sho
         shows = shows_next m state;
       }
 
-  -- a text has grown by what is told in lines, or drawn
+  -- a text has grown by what is written in lines, or drawn
   module _ (line old new : List ℕ) (slot made : ℕ) (kept : y.format ≡ x.format) (slot_is : slot ≡ slot_named c) (made_is : made ≡ made_between (own_state x.session) (own_state y.session)) where
-    pub says_lines : x.format ≡ format.Lines → (done : Result (Unit {0}) AllocError) → OnOk done (GrowsBy (TellsLines table_world line slot r made (own_state y.session).table) old new)
-        → OnOk done (SaysAnswer explainer_answers x line c old new y)
-    says_lines is (Ok done) told =
-        let lines : TellsLines table_world line (slot_named c) r (made_between (own_state x.session) (own_state y.session)) (own_state y.session).table told.0 =
-        subst (λ s. TellsLines table_world line s r (made_between (own_state x.session) (own_state y.session)) (own_state y.session).table told.0) slot_is
-        (subst (λ n. TellsLines table_world line slot r n (own_state y.session).table told.0) made_is told.1) in
+    pub answers_in_lines : x.format ≡ format.Lines → (done : Result (Unit {0}) AllocError) → OnOk done (GrowsBy (IsTextInLines table_world line slot r made (own_state y.session).table) old new)
+        → OnOk done (GrowsByAnswer explainer_answers x line c old new y)
+    answers_in_lines is (Ok done) adds =
+        let lines : IsTextInLines table_world line (slot_named c) r (made_between (own_state x.session) (own_state y.session)) (own_state y.session).table adds.0 =
+        subst (λ s. IsTextInLines table_world line s r (made_between (own_state x.session) (own_state y.session)) (own_state y.session).table adds.0) slot_is
+        (subst (λ n. IsTextInLines table_world line slot r n (own_state y.session).table adds.0) made_is adds.1) in
         record {
-          said = told.0;
-          is_said = (kept, explains_reply line told.0 (subst (λ f. IsTextOf f line c r (own_state x.session) (own_state y.session) told.0) (sym is) lines));
-          grown = told.2;
+          output = adds.0;
+          is_answer = (kept, explains_reply line adds.0 (subst (λ f. IsExplanationText f line c r (own_state x.session) (own_state y.session) adds.0) (sym is) lines));
+          grown = adds.2;
         }
-    says_lines is (Err e) told = tt
+    answers_in_lines is (Err e) adds = tt
 
-    pub says_drawing : (node : ℕ) → node ≡ node_named c → x.format ≡ format.Diagram → (done : Result (Unit {0}) AllocError)
-        → OnOk done (GrowsBy (DrawsLines node slot r made (own_state y.session).table) old new) → OnOk done (SaysAnswer explainer_answers x line c old new y)
-    says_drawing node node_is is (Ok done) told =
-        let drawn : DrawsLines (node_named c) (slot_named c) r (made_between (own_state x.session) (own_state y.session)) (own_state y.session).table told.0 =
-        subst (λ k. DrawsLines k (slot_named c) r (made_between (own_state x.session) (own_state y.session)) (own_state y.session).table told.0) node_is
-        (subst (λ s. DrawsLines node s r (made_between (own_state x.session) (own_state y.session)) (own_state y.session).table told.0) slot_is
-        (subst (λ n. DrawsLines node slot r n (own_state y.session).table told.0) made_is told.1)) in
+    pub answers_in_diagram : (node : ℕ) → node ≡ node_named c → x.format ≡ format.Diagram → (done : Result (Unit {0}) AllocError)
+        → OnOk done (GrowsBy (IsTextInDiagram node slot r made (own_state y.session).table) old new) → OnOk done (GrowsByAnswer explainer_answers x line c old new y)
+    answers_in_diagram node node_is is (Ok done) adds =
+        let drawn : IsTextInDiagram (node_named c) (slot_named c) r (made_between (own_state x.session) (own_state y.session)) (own_state y.session).table adds.0 =
+        subst (λ k. IsTextInDiagram k (slot_named c) r (made_between (own_state x.session) (own_state y.session)) (own_state y.session).table adds.0) node_is
+        (subst (λ s. IsTextInDiagram node s r (made_between (own_state x.session) (own_state y.session)) (own_state y.session).table adds.0) slot_is
+        (subst (λ n. IsTextInDiagram node slot r n (own_state y.session).table adds.0) made_is adds.1)) in
         record {
-          said = told.0;
-          is_said = (kept, explains_reply line told.0 (subst (λ f. IsTextOf f line c r (own_state x.session) (own_state y.session) told.0) (sym is) drawn));
-          grown = told.2;
+          output = adds.0;
+          is_answer = (kept, explains_reply line adds.0 (subst (λ f. IsExplanationText f line c r (own_state x.session) (own_state y.session) adds.0) (sym is) drawn));
+          grown = adds.2;
         }
-    says_drawing node node_is is (Err e) told = tt
+    answers_in_diagram node node_is is (Err e) adds = tt
 
--- a refused reply is one to a call, which the line says
-pub may_tell : {S : Type 0} {step : S → Letter → S → Type 0} {world : S → World} {s t : SessionOver S} (line : List ℕ) (c : Command) (r : Reply)
-    → IsLine line (kind.Command c) → GoesBy step world s c r t → MayTellWhy line (refusal_of r)
-may_tell line (command.Call call) r is goes = at r
+-- a refused reply is one to a call, which the line is
+pub may_have_reason : {S : Type 0} {step : S → Letter → S → Type 0} {world : S → World} {s t : SessionOver S} (line : List ℕ) (c : Command) (r : Reply)
+    → IsLine line (kind.Command c) → AppliesBy step world s c r t → MayHaveReason line (refusal_of r)
+may_have_reason line (command.Call call) r is goes = at r
   where
-    at : (r : Reply) → MayTellWhy line (refusal_of r)
+    at : (r : Reply) → MayHaveReason line (refusal_of r)
     at (reply.Opened slot number) = tt
     at (reply.Refused refused) = (call, is)
     at (reply.Closed slot) = tt
@@ -122,12 +122,12 @@ may_tell line (command.Call call) r is goes = at r
     at reply.NoSuchSlot = tt
     at (reply.Listing entries) = tt
     at reply.OutOfMemory = tt
-may_tell line (command.Close slot) r is (close_past h) = tt
-may_tell line (command.Close slot) r is (close_empty h) = tt
-may_tell line (command.Close slot) r is (closed f h by) = tt
-may_tell line (command.Close slot) r is (not_closed f h by) = tt
-may_tell line command.List r is (listed h) = tt
-may_tell line command.List r is not_listed = tt
+may_have_reason line (command.Close slot) r is (close_past h) = tt
+may_have_reason line (command.Close slot) r is (close_empty h) = tt
+may_have_reason line (command.Close slot) r is (closed f h by) = tt
+may_have_reason line (command.Close slot) r is (not_closed f h by) = tt
+may_have_reason line command.List r is (listed h) = tt
+may_have_reason line command.List r is not_listed = tt
 
 -- ---- the start
 
@@ -160,13 +160,13 @@ module _ (session : Session (TracedState TableState)) (config : Config) (table :
 
 -- ---- the program
 
--- what an explainer says is said by a session beside its machine
-pub serves_explained : (format : Format) (x : Explainer) (ended : Result Ending Fault) (input unread : List ℕ) (old new : Option (List ℕ)) → x.format ≡ format
+-- what an explainer writes is written by a session beside its machine
+pub serves_explained : (format : Format) (x : Explainer) (ended : Result Ending ServeError) (input unread : List ℕ) (old new : Option (List ℕ)) → x.format ≡ format
     → own_state x.session ≡ first_state.session → ShowsState (own_state x.session) first_state.machine → ServesBy explainer_answers x ended input unread old new
     → ServesBy (Explains format) first_state ended input unread old new
 serves_explained format x ended input unread old new is begins shows served = record {
-  said = served.said;
-  transcript = transcript_along explainer_answers (Explains format) Beside beside x first_state input ended served.said unread served.transcript (is, begins, shows);
+  output = served.output;
+  transcript = transcript_along explainer_answers (Explains format) Beside beside x first_state input ended served.output unread served.transcript (is, begins, shows);
   written = served.written;
 }
   where

@@ -2,5 +2,5 @@ pub mod Calls
 pub mod Explaining
 pub mod LineFeeds
 pub mod Printing
-pub mod Telling
+pub mod Described
 pub mod Traces

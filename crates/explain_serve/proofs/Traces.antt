@@ -4,24 +4,24 @@ use Rattle.std.proofs.lemmas.List.{drop-drop, drop-append-le, length-map}
 use Rattle.iceoryx2_access.specs.Letter.{Letter}
 use Rattle.iceoryx2_access.specs.Registered.{Registered}
 use Rattle.iceoryx2_description.specs.declared.config.Config.{Config}
-use Rattle.iceoryx2_open_or_create.specs.BuilderCalls.{Way, ToCreate, ToOpen, ToOpenOrCreate}
+use Rattle.iceoryx2_rounds.specs.BuilderCalls.{Way, ToCreate, ToOpen, ToOpenOrCreate}
 use Rattle.iceoryx2_call_laws.specs.AnyCalls.{IsShortBy}
 use Rattle.iceoryx2_call_laws.proofs.calls.AnyCalls.{each_is_short}
 use Rattle.iceoryx2_call_laws.proofs.calls.Words.{close_is_short}
-use Rattle.iceoryx2_traced.specs.Entries.{entry_of}
-use Rattle.iceoryx2_traced.specs.Trace.{IsTracedAccess, latest}
-use Rattle.iceoryx2_traced.proofs.Runs.{latest_entries, bound, same_room, total}
+use Rattle.iceoryx2_testing.specs.Entries.{entry_of}
+use Rattle.iceoryx2_testing.specs.Trace.{IsTracedAccess, latest}
+use Rattle.iceoryx2_testing.proofs.TraceRuns.{latest_entries, bound, same_room, total}
 use Rattle.iceoryx2_commands.specs.declared.command.Command.{Command}
 use Rattle.iceoryx2_commands.specs.declared.command.Command.TheVariants as command
 use Rattle.iceoryx2_commands.specs.declared.command.Refusal.{Refusal}
 use Rattle.iceoryx2_commands.specs.declared.command.Reply.{Reply}
 use Rattle.iceoryx2_commands.specs.declared.command.Reply.TheVariants as reply
-use Rattle.iceoryx2_session.specs.CommandWords.{IsBuilderWord, IsCommandWord, GoesAlong}
+use Rattle.iceoryx2_session.specs.CommandWords.{IsBuilderWord, IsCommandWord, AppliesAlong}
 use Rattle.iceoryx2_session.specs.PatternCalls.{PatternCall}
 use Rattle.iceoryx2_session.specs.Patterns.{builder_call}
-use Rattle.iceoryx2_session.specs.Sessions.{GoesBy}
+use Rattle.iceoryx2_session.specs.Sessions.{AppliesBy}
 use Rattle.iceoryx2_world.specs.World.{World}
-use Rattle.explain_serve.specs.Traces.{TracedOver, HasItsRoom, GoesTracedBy}
+use Rattle.explain_serve.specs.Traces.{TracedOver, HasItsRoom, AppliesTracedBy}
 
 module _ {A : Type 0} where
   -- of the latest ones the last ones are those that came last
@@ -62,8 +62,8 @@ made_is : (before after n : ℕ) → before + n ≤ 2 ^ 64 - 1 → after ≡ min
 made_is before after n fits is = omega (arith, fits, is)
 
 module _ {S : Type 0} (step : S → Letter → S → Type 0) (world : S → World) (old new : TracedOver S) (c : Command) (r : Reply) (room : HasItsRoom old.table)
-    (along : GoesAlong (IsTracedAccess step) old c r new) where
-  pub goes_traced : GoesBy (IsTracedAccess step) (λ traced. world traced.inner) old c r new → GoesTracedBy step world old c r new
+    (along : AppliesAlong (IsTracedAccess step) old c r new) where
+  pub goes_traced : AppliesBy (IsTracedAccess step) (λ traced. world traced.inner) old c r new → AppliesTracedBy step world old c r new
   goes_traced goes = record {
     goes = goes;
     word = along.word;

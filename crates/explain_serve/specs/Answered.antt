@@ -6,15 +6,15 @@ use Rattle.iceoryx2_commands.specs.declared.command.Command.{Command}
 use Rattle.iceoryx2_commands.specs.declared.command.Reply.{Reply}
 use Rattle.iceoryx2_session.specs.QuietSessions.{Moves}
 use Rattle.negotiate_serve.specs.declared.ending.Ending.{Ending}
-use Rattle.negotiate_serve.specs.declared.ending.Fault.{Fault}
+use Rattle.negotiate_serve.specs.declared.ending.ServeError.{ServeError}
 use Rattle.negotiate_serve.specs.Endings.{IsOfWriting}
 use Rattle.negotiate_serve.specs.Outputs.{IsFrontOf}
 use Rattle.negotiate_serve.specs.Served.{ShowsMachine}
 use Rattle.negotiate_serve.specs.Transcripts.{Machine, first_machine, IsTranscriptBy}
 use Rattle.explain_serve.specs.declared.format.Format.{Format}
-use Rattle.explain_serve.specs.Explained.{IsTextOf}
+use Rattle.explain_serve.specs.Explained.{IsExplanationText}
 use Rattle.explain_serve.specs.Formats.{head_of}
-use Rattle.explain_serve.specs.Traces.{TracedSession, session_inside, first_session, GoesTraced, HasItsRoom}
+use Rattle.explain_serve.specs.Traces.{TracedSession, session_inside, first_session, AppliesTraced, HasItsRoom}
 
 -- a session over a traced table, beside the machine that its table shows
 pub record ExplainState : Type 0 where
@@ -28,21 +28,21 @@ first_state = record { session = first_session; machine = first_machine }
 pub record Explains (format : Format) (old : ExplainState) (line : List ℕ) (c : Command) (text : List ℕ)
     (new : ExplainState) : Type 0 where
   pub reply : Reply
-  pub goes : GoesTraced old.session c reply new.session
+  pub goes : AppliesTraced old.session c reply new.session
   pub moves : Moves default_config old.machine.services old.machine.slots c reply
       new.machine.services new.machine.slots
-  pub is_text : IsTextOf format line c reply old.session new.session text
+  pub is_text : IsExplanationText format line c reply old.session new.session text
 
 -- What the program prints of an input, behind its head, and what it leaves unread, where it ends so.
-abbrev pub IsExplanation : Format → (input : List ℕ) → Result Ending Fault → (said unread : List ℕ) → Type 0
+abbrev pub IsExplanation : Format → (input : List ℕ) → Result Ending ServeError → (output unread : List ℕ) → Type 0
 IsExplanation format = IsTranscriptBy (Explains format) first_state
 
 -- The writer has taken the head and an input's explanation, and nothing else; or writing failed in the head.
-pub data ExplainsInput (format : Format) (ended : Result Ending Fault) (input : List ℕ)
+pub data ExplainsInput (format : Format) (ended : Result Ending ServeError) (input : List ℕ)
     (old new : Option (List ℕ)) : Type 0 where
-  explained : (said unread : List ℕ) → IsExplanation format input ended said unread
-      → Appends old new (head_of format ++ said) → ExplainsInput format ended input old new
-  not_begun : (f : Fault) (front : List ℕ) → ended ≡ Err f → IsOfWriting f → IsFrontOf front (head_of format)
+  explained : (output unread : List ℕ) → IsExplanation format input ended output unread
+      → Appends old new (head_of format ++ output) → ExplainsInput format ended input old new
+  not_begun : (f : ServeError) (front : List ℕ) → ended ≡ Err f → IsOfWriting f → IsFrontOf front (head_of format)
       → Appends old new front → ExplainsInput format ended input old new
 
 -- ---- the explainer

@@ -1,8 +1,8 @@
 -- What is printed of a command and its reply.
 use Rattle.std.specs.Prelude.{◌≡◌, ℕ, List, [], ◌++◌, Option, Some, None}
 use Rattle.iceoryx2_description.specs.Description.{Description}
-use Rattle.iceoryx2_traced.specs.Trace.{TracedState}
-use Rattle.iceoryx2_world.specs.declared.listing.Entry.{Entry}
+use Rattle.iceoryx2_testing.specs.Trace.{TracedState}
+use Rattle.iceoryx2_world.specs.declared.listing.ListedService.{ListedService}
 use Rattle.iceoryx2_world.specs.Listing.{Lists}
 use Rattle.iceoryx2_world.specs.World.{World}
 use Rattle.iceoryx2_commands.specs.declared.command.Call.{Call}
@@ -14,7 +14,7 @@ use Rattle.iceoryx2_commands.specs.declared.command.Reply.TheVariants as reply
 use Rattle.negotiate_lines.specs.declared.line.Line.{Line}
 use Rattle.negotiate_lines.specs.declared.line.Line.TheVariants as kind
 use Rattle.negotiate_lines.specs.Lines.{IsLine, without_last}
-use Rattle.negotiate_serve.specs.Replies.{Tells}
+use Rattle.negotiate_serve.specs.Replies.{IsReplyText}
 use Rattle.negotiate_serve.specs.Transcripts.{slot_named}
 use Rattle.negotiate_explain.specs.Accesses.{trace_lines}
 use Rattle.negotiate_explain.specs.Diagrams.{messages, note_line}
@@ -33,53 +33,53 @@ found_lines call refused None = []
 found_lines call refused (Some d) = offer_lines call refused d
 
 -- What a refused call required, and what is offered by the service of its name and pattern in this world.
-pub record TellsFound (call : Call) (refused : Refusal) (w : World) (text : List ℕ) : Type 0 where
-  pub entries : List Entry
+pub record IsFoundText (call : Call) (refused : Refusal) (w : World) (text : List ℕ) : Type 0 where
+  pub entries : List ListedService
   pub lists : Lists w entries
   pub found : Option Description
   pub is_found : IsFound call entries found
   pub are : text ≡ found_lines call refused found
 
--- the call that a line says
+-- the call of a line
 abbrev pub call_of : Line → Option Call
 call_of (kind.Command (command.Call call)) = Some call
 call_of _ = None
 
--- The line says this call.
+-- The line is this call.
 abbrev pub IsCallLine : List ℕ → Call → Type 0
 IsCallLine line call = IsLine line (kind.Command (command.Call call))
 
 -- Its row, and what the line's call required and is offered.
-pub record TellsRefusal (line : List ℕ) (refused : Refusal) (w : World) (text : List ℕ) : Type 0 where
+pub record IsRefusalText (line : List ℕ) (refused : Refusal) (w : World) (text : List ℕ) : Type 0 where
   pub call : Call
   pub is_line : IsCallLine line call
   pub offer : List ℕ
-  pub offered : TellsFound call refused w offer
+  pub offered : IsFoundText call refused w offer
   pub are : text ≡ row_lines (refusal_row refused) ++ offer
 
--- the refusal that a reply tells
+-- the refusal of a reply
 abbrev pub refusal_of : Reply → Option Refusal
 refusal_of (reply.Refused refused) = Some refused
 refusal_of _ = None
 
 -- of a refusal so much, and where there is none nothing
-abbrev pub TellsWhy : (line : List ℕ) → Option Refusal → World → (text : List ℕ) → Type 0
-TellsWhy line None w text = text ≡ []
-TellsWhy line (Some refused) w text = TellsRefusal line refused w text
+abbrev pub IsReasonText : (line : List ℕ) → Option Refusal → World → (text : List ℕ) → Type 0
+IsReasonText line None w text = text ≡ []
+IsReasonText line (Some refused) w text = IsRefusalText line refused w text
 
 -- The reply to a command for this slot, the accesses, which are the latest so many, and why.
-pub record TellsLines {S : Type 0} (world : S → World) (line : List ℕ) (slot : ℕ) (reply : Reply) (made : ℕ)
+pub record IsTextInLines {S : Type 0} (world : S → World) (line : List ℕ) (slot : ℕ) (reply : Reply) (made : ℕ)
     (traced : TracedState S) (text : List ℕ) : Type 0 where
-  pub said : List ℕ
-  pub tells : Tells slot reply said
+  pub output : List ℕ
+  pub is_text : IsReplyText slot reply output
   pub why : List ℕ
-  pub tells_why : TellsWhy line (refusal_of reply) (world traced.inner) why
-  pub are : text ≡ said ++ (trace_lines made traced.entries ++ why)
+  pub is_reason : IsReasonText line (refusal_of reply) (world traced.inner) why
+  pub are : text ≡ output ++ (trace_lines made traced.entries ++ why)
 
--- Where there is a refusal the line says a call.
-abbrev pub MayTellWhy : (line : List ℕ) → Option Refusal → Type 0
-MayTellWhy line None = Unit {0}
-MayTellWhy line (Some refused) = (call : Call) × IsCallLine line call
+-- Where there is a refusal the line is a call.
+abbrev pub MayHaveReason : (line : List ℕ) → Option Refusal → Type 0
+MayHaveReason line None = Unit {0}
+MayHaveReason line (Some refused) = (call : Call) × IsCallLine line call
 
 -- ---- as a diagram
 
@@ -90,17 +90,17 @@ node_named (command.Close slot) = 0
 node_named command.List = 0
 
 -- The accesses, and the reply as a note, without the line feed at its end.
-pub record DrawsLines {S : Type 0} (node slot : ℕ) (reply : Reply) (made : ℕ) (traced : TracedState S)
+pub record IsTextInDiagram {S : Type 0} (node slot : ℕ) (reply : Reply) (made : ℕ) (traced : TracedState S)
     (text : List ℕ) : Type 0 where
-  pub said : List ℕ
-  pub tells : Tells slot reply said
-  pub are : text ≡ messages node made traced.entries ++ note_line (without_last 10 said)
+  pub output : List ℕ
+  pub is_text : IsReplyText slot reply output
+  pub are : text ≡ messages node made traced.entries ++ note_line (without_last 10 output)
 
 -- ---- in either
 
-abbrev pub IsTextOf : Format → (line : List ℕ) → Command → Reply → (old new : TracedSession) → (text : List ℕ)
+abbrev pub IsExplanationText : Format → (line : List ℕ) → Command → Reply → (old new : TracedSession) → (text : List ℕ)
     → Type 0
-IsTextOf format.Lines line c reply old new text =
-    TellsLines table_world line (slot_named c) reply (made_between old new) new.table text
-IsTextOf format.Diagram line c reply old new text =
-    DrawsLines (node_named c) (slot_named c) reply (made_between old new) new.table text
+IsExplanationText format.Lines line c reply old new text =
+    IsTextInLines table_world line (slot_named c) reply (made_between old new) new.table text
+IsExplanationText format.Diagram line c reply old new text =
+    IsTextInDiagram (node_named c) (slot_named c) reply (made_between old new) new.table text

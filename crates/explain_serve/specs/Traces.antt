@@ -3,15 +3,15 @@ use Rattle.std.specs.Prelude.{◌≡◌, ℕ, ◌+◌, ◌-◌, ◌^◌, ◌≤�
 use Rattle.iceoryx2_access.specs.Letter.{Letter}
 use Rattle.iceoryx2_access.specs.Run.{Run}
 use Rattle.iceoryx2_description.specs.Defaults.{default_config}
-use Rattle.iceoryx2_traced.specs.Entries.{entry_of}
-use Rattle.iceoryx2_traced.specs.Trace.{TracedState, IsTracedAccess, latest}
+use Rattle.iceoryx2_testing.specs.Entries.{entry_of}
+use Rattle.iceoryx2_testing.specs.Trace.{TracedState, IsTracedAccess, latest}
 use Rattle.iceoryx2_world.specs.World.{World, empty_world}
 use Rattle.iceoryx2_world.specs.Tables.{TableState, IsTableAccess}
 use Rattle.iceoryx2_commands.specs.Commands.{slot_count}
 use Rattle.iceoryx2_commands.specs.declared.command.Command.{Command}
 use Rattle.iceoryx2_commands.specs.declared.command.Reply.{Reply}
 use Rattle.iceoryx2_session.specs.CommandWords.{IsCommandWord}
-use Rattle.iceoryx2_session.specs.Sessions.{SessionOver, SessionState, GoesBy, shown_session}
+use Rattle.iceoryx2_session.specs.Sessions.{SessionOver, SessionState, AppliesBy, shown_session}
 
 -- how many accesses are kept: as many as the longest word of a command has, of six rounds with a look and six openings
 abbrev pub room_kept : ℕ
@@ -38,9 +38,9 @@ pub record HasItsRoom {S : Type 0} (traced : TracedState S) : Type 0 where
 
 -- A command goes as it does over any storage, along its word. There is room for all accesses of this word: they are the
 -- latest that are kept, and as many as were made, up to the greatest number that is counted.
-pub record GoesTracedBy {S : Type 0} (step : S → Letter → S → Type 0) (world : S → World) (old : TracedOver S)
+pub record AppliesTracedBy {S : Type 0} (step : S → Letter → S → Type 0) (world : S → World) (old : TracedOver S)
     (c : Command) (reply : Reply) (new : TracedOver S) : Type 0 where
-  pub goes : GoesBy (IsTracedAccess step) (λ traced. world traced.inner) old c reply new
+  pub goes : AppliesBy (IsTracedAccess step) (λ traced. world traced.inner) old c reply new
   pub word : List Letter
   pub is_word : IsCommandWord old.config old.slots c reply word
   pub run : Run (IsTracedAccess step) old.table word new.table
@@ -77,5 +77,5 @@ first_session = record {
 }
 
 -- a command goes so over a traced table
-abbrev pub GoesTraced : TracedSession → Command → Reply → TracedSession → Type 0
-GoesTraced = GoesTracedBy IsTableAccess table_world
+abbrev pub AppliesTraced : TracedSession → Command → Reply → TracedSession → Type 0
+AppliesTraced = AppliesTracedBy IsTableAccess table_world

@@ -3,10 +3,10 @@
 ghost use Rattle.std.specs.Prelude.{◌≡◌, OnOk, string_bytes};
 ghost use Rattle.negotiate_lines.specs.Lines.{without_last};
 ghost use Rattle.negotiate_serve.specs.Replies.{GrowsBy};
-ghost use Rattle.explain_serve.specs.Explained.{DrawsLines};
+ghost use Rattle.explain_serve.specs.Explained.{IsTextInDiagram};
 
 use iceoryx2_commands::command::Reply;
-use iceoryx2_traced::traced::Traced;
+use iceoryx2_testing::traced::Traced;
 use negotiate_explain::diagram::{draw_accesses, draw_note};
 use negotiate_serve::reply::describe;
 use std::alloc::AllocError;
@@ -23,13 +23,13 @@ pub fn draw_reply<S>(
     traced: &Traced<S>,
     text: &mut String,
 ) -> Result<(), AllocError>
-    ensures { OnOk result (GrowsBy (DrawsLines node slot reply.now made traced.now)
+    ensures { OnOk result (GrowsBy (IsTextInDiagram node slot reply.now made traced.now)
         (string_bytes text.old) (string_bytes text.new)) }
 {
     draw_accesses(traced, made, node, text)?;
-    let mut said = String::new(*text.allocator());
-    describe(reply, slot, &mut said)?;
-    draw_note(without_line_feed(&said), text)
+    let mut reply_text = String::new(*text.allocator());
+    describe(reply, slot, &mut reply_text)?;
+    draw_note(without_line_feed(&reply_text), text)
 }
 
 /// The text without one line feed at its end.

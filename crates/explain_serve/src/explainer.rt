@@ -14,7 +14,7 @@ use iceoryx2_commands::command::Command;
 use iceoryx2_description::config::Config;
 use iceoryx2_session::session::Session;
 use iceoryx2_table::table::Table;
-use iceoryx2_traced::traced::Traced;
+use iceoryx2_testing::traced::Traced;
 use negotiate_serve::answerer::{Answerer, slot_of};
 use std::alloc::{AllocError, AllocFailed, Global};
 

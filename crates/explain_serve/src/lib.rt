@@ -4,8 +4,8 @@
 //! writer has taken the explanation of the input and nothing else, or a front where writing failed
 //! (`ExplainsInput`). It is a transcript like that of `negotiate`, whose answers are these (`Explains`): the
 //! machine of `negotiate` replies so; the session over a traced table goes along the command's word, whose accesses
-//! are the last entries of the trace, up to 2^64 - 1 in all (`GoesTraced`); and the text has both, with what
-//! explains a refusal (`TellsLines`, `DrawsLines`).
+//! are the last entries of the trace, up to 2^64 - 1 in all (`AppliesTraced`); and the text has both, with what
+//! explains a refusal (`IsTextInLines`, `IsTextInDiagram`).
 //!
 //! `Explainer::new` begins over an empty table with room for 264 accesses, and no command makes more; `finish`
 //! leaves nothing (`HasNothing`). `Format::named`: `--diagram` asks for a diagram, and no other text for anything.

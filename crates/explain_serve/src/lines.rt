@@ -3,12 +3,12 @@
 ghost use Rattle.std.specs.Prelude.{◌≡◌, OnOk, string_bytes};
 ghost use Rattle.iceoryx2_commands.specs.declared.command.Call.{Call};
 ghost use Rattle.negotiate_serve.specs.Replies.{GrowsBy};
-ghost use Rattle.explain_serve.specs.Explained.{IsCallLine, MayTellWhy, TellsFound, TellsLines, TellsRefusal};
+ghost use Rattle.explain_serve.specs.Explained.{IsCallLine, MayHaveReason, IsFoundText, IsTextInLines, IsRefusalText};
 ghost use Rattle.explain_serve.specs.Explained.{call_of, refusal_of};
 
 use iceoryx2_commands::command::{Call, Command, Refusal, Reply};
 use iceoryx2_session::world_storage::WorldStorage;
-use iceoryx2_traced::traced::Traced;
+use iceoryx2_testing::traced::Traced;
 use negotiate_explain::accesses::describe_accesses;
 use negotiate_explain::refusals::describe_row;
 use negotiate_explain::settings::describe_offer;
@@ -29,8 +29,8 @@ pub fn describe_lines<S: WorldStorage>(
     traced: &Traced<S>,
     text: &mut String,
 ) -> Result<(), AllocError>
-    requires { MayTellWhy line.now (refusal_of reply.now) }
-    ensures { OnOk result (GrowsBy (TellsLines S.world line.now slot reply.now made traced.now)
+    requires { MayHaveReason line.now (refusal_of reply.now) }
+    ensures { OnOk result (GrowsBy (IsTextInLines S.world line.now slot reply.now made traced.now)
         (string_bytes text.old) (string_bytes text.new)) }
 {
     describe(reply, slot, text)?;
@@ -41,7 +41,7 @@ pub fn describe_lines<S: WorldStorage>(
     }
 }
 
-/// The refusal that a reply tells.
+/// The refusal of a reply.
 fn refusal_of(reply: &Reply) -> Option<Refusal>
     ensures { result ≡ refusal_of reply.now }
 {
@@ -59,7 +59,7 @@ fn describe_refusal<S: WorldStorage>(
     text: &mut String,
 ) -> Result<(), AllocError>
     requires { (call : Call) × IsCallLine line.now call }
-    ensures { OnOk result (GrowsBy (TellsRefusal line.now refusal (S.world traced.now.inner))
+    ensures { OnOk result (GrowsBy (IsRefusalText line.now refusal (S.world traced.now.inner))
         (string_bytes text.old) (string_bytes text.new)) }
 {
     describe_row(refusal, text)?;
@@ -69,7 +69,7 @@ fn describe_refusal<S: WorldStorage>(
     }
 }
 
-/// The call that a line says.
+/// The call of a line.
 fn call_of(line: Line) -> Option<Call>
     ensures { result ≡ call_of line }
 {
@@ -86,7 +86,7 @@ fn describe_found<S: WorldStorage>(
     traced: &Traced<S>,
     text: &mut String,
 ) -> Result<(), AllocError>
-    ensures { OnOk result (GrowsBy (TellsFound call.entry.now refusal (S.world traced.now.inner))
+    ensures { OnOk result (GrowsBy (IsFoundText call.entry.now refusal (S.world traced.now.inner))
         (string_bytes text.old) (string_bytes text.new)) }
 {
     let entries = traced.list()?;

@@ -2,4 +2,4 @@ pub mod Asked
 pub mod Found
 pub mod Lines
 pub mod Parts
-pub mod Told
+pub mod ShownSettings

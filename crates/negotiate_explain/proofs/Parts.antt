@@ -20,35 +20,35 @@ in_a_row old p n s r m o e =
     ∙ append_assoc old (p ++ (n ++ s)) (r ++ (m ++ (o ++ e)))
     ∙ ap (λ l. old ++ l) (append_assoc p (n ++ s) (r ++ (m ++ (o ++ e))) ∙ ap (λ l. p ++ l) (append_assoc n s (r ++ (m ++ (o ++ e)))))
 
-pub part_told : (name : List ℕ) (required offered : Detail) (old first second third fourth new : List ℕ)
+pub part_described : (name : List ℕ) (required offered : Detail) (old first second third fourth new : List ℕ)
     → first ≡ old ++ (codes "  required " ++ (name ++ codes " ")) → second ≡ first ++ detail_text required → third ≡ second ++ codes ", offered "
     → fourth ≡ third ++ detail_text offered → (done : Result (Unit {0}) AllocError) → OnOk done (new ≡ fourth ++ codes "\n")
     → OnOk done (new ≡ old ++ part_line name required offered)
 unfolding part_line
-part_told name required offered old first second third fourth new a b c d (Ok done) e =
+part_described name required offered old first second third fourth new a b c d (Ok done) e =
     e ∙ ap (λ l. l ++ codes "\n") (d ∙ ap (λ l. l ++ detail_text offered) (c ∙ ap (λ l. l ++ codes ", offered ") (b ∙ ap (λ l. l ++ detail_text required) a)))
     ∙ in_a_row old (codes "  required ") name (codes " ") (detail_text required) (codes ", offered ") (detail_text offered) (codes "\n")
-part_told name required offered old first second third fourth new a b c d (Err error) e = tt
+part_described name required offered old first second third fourth new a b c d (Err error) e = tt
 
-pub both_told : (one other old mid new : List ℕ) → mid ≡ old ++ one → (done : Result (Unit {0}) AllocError) → OnOk done (new ≡ mid ++ other) → OnOk done (new ≡ old ++ (one ++ other))
-both_told one other old mid new a (Ok done) b = b ∙ ap (λ l. l ++ other) a ∙ append_assoc old one other
-both_told one other old mid new a (Err error) b = tt
+pub both_described : (one other old mid new : List ℕ) → mid ≡ old ++ one → (done : Result (Unit {0}) AllocError) → OnOk done (new ≡ mid ++ other) → OnOk done (new ≡ old ++ (one ++ other))
+both_described one other old mid new a (Ok done) b = b ∙ ap (λ l. l ++ other) a ∙ append_assoc old one other
+both_described one other old mid new a (Err error) b = tt
 
 -- the parts of requests and of responses
-pub messages_told : (setters : List RequestResponseSetter) (there : RequestSettings) (types : RequestedMessages) (request response : Message)
+pub messages_described : (setters : List RequestResponseSetter) (there : RequestSettings) (types : RequestedMessages) (request response : Message)
     (old mid new : List ℕ) → types ≡ (request_builder_after no_message_types setters).types
     → request ≡ requested_message request_header payload_marker user_header_marker types.request → response ≡ requested_message response_header payload_marker user_header_marker types.response
     → mid ≡ old ++ message_lines (codes "request_header") (codes "request_payload") request there.request_message_type_details
     → (done : Result (Unit {0}) AllocError) → OnOk done (new ≡ mid ++ message_lines (codes "response_header") (codes "response_payload") response there.response_message_type_details)
     → OnOk done (new ≡ old ++ messages_lines (asked_messages setters) there)
-messages_told setters there types request response old mid new are m n told (Ok done) then =
+messages_described setters there types request response old mid new are m n shown (Ok done) then =
     let asked = asked_messages setters in
     let first : request ≡ asked.request =
     m ∙ ap (requested_message request_header payload_marker user_header_marker) (ap (λ (t : RequestedMessages). t.request) are) in
     let second : response ≡ asked.response =
     n ∙ ap (requested_message response_header payload_marker user_header_marker) (ap (λ (t : RequestedMessages). t.response) are) in
-    both_told (message_lines (codes "request_header") (codes "request_payload") asked.request there.request_message_type_details)
+    both_described (message_lines (codes "request_header") (codes "request_payload") asked.request there.request_message_type_details)
     (message_lines (codes "response_header") (codes "response_payload") asked.response there.response_message_type_details) old mid new
-    (told ∙ ap (λ (x : Message). old ++ message_lines (codes "request_header") (codes "request_payload") x there.request_message_type_details) first) (Ok done)
+    (shown ∙ ap (λ (x : Message). old ++ message_lines (codes "request_header") (codes "request_payload") x there.request_message_type_details) first) (Ok done)
     (then ∙ ap (λ (x : Message). mid ++ message_lines (codes "response_header") (codes "response_payload") x there.response_message_type_details) second)
-messages_told setters there types request response old mid new are m n told (Err error) then = tt
+messages_described setters there types request response old mid new are m n shown (Err error) then = tt

@@ -3,13 +3,13 @@ use Rattle.std.specs.Prelude.{ℕ, List, [], ◌∷◌, ◌++◌, codes, decimal
 use Rattle.std.specs.List.{flat_map}
 use Rattle.std.specs.Char.{encode_utf8}
 use Rattle.std.specs.Str.{chars}
-use Rattle.iceoryx2_traced.specs.declared.traced.entry.Entry.{Entry}
-use Rattle.iceoryx2_traced.specs.declared.traced.entry.Entry.TheVariants as entry
-use Rattle.iceoryx2_traced.specs.Texts.{access_name, entry_text}
-use Rattle.iceoryx2_traced.specs.Trace.{latest}
+use Rattle.iceoryx2_testing.specs.declared.traced.entry.TracedAccess.{TracedAccess}
+use Rattle.iceoryx2_testing.specs.declared.traced.entry.TracedAccess.TheVariants as entry
+use Rattle.iceoryx2_testing.specs.Texts.{access_name, entry_text}
+use Rattle.iceoryx2_testing.specs.Trace.{latest}
 
 -- the node that an access names, or else this one
-abbrev pub caller_of : ℕ → Entry → ℕ
+abbrev pub caller_of : ℕ → TracedAccess → ℕ
 caller_of caller (entry.Exists h a) = caller
 caller_of caller (entry.Fetch i h a) = i
 caller_of caller (entry.Counts i h a) = i
@@ -26,15 +26,15 @@ caller_of caller (entry.Release t i h n a) = i
 unfoldable pub asked_line : ℕ → List ℕ → List ℕ
 asked_line node access = codes "    node " ++ (decimal node ++ (codes "->>storage: " ++ (access ++ codes "\n")))
 
-unfoldable pub answered_line : ℕ → Entry → List ℕ
+unfoldable pub answered_line : ℕ → TracedAccess → List ℕ
 answered_line node e = codes "    storage-->>node " ++ (decimal node ++ (codes ": " ++ (entry_text e ++ codes "\n")))
 
 -- an access and its answer are two messages
-abbrev pub message_lines : ℕ → Entry → List ℕ
+abbrev pub message_lines : ℕ → TracedAccess → List ℕ
 message_lines caller e = asked_line (caller_of caller e) (access_name e) ++ answered_line (caller_of caller e) e
 
 -- The latest accesses, so many as were made, oldest first.
-abbrev pub messages : (caller made : ℕ) → List Entry → List ℕ
+abbrev pub messages : (caller made : ℕ) → List TracedAccess → List ℕ
 messages caller made entries = flat_map (message_lines caller) (latest made entries)
 
 -- ---- a note

@@ -16,7 +16,7 @@ use Rattle.iceoryx2_request_response_builder.specs.declared.request_response.set
 use Rattle.iceoryx2_session.specs.PublishSubscribe.{named_message}
 use Rattle.iceoryx2_session.specs.RequestResponse.{named_messages}
 use Rattle.iceoryx2_session.specs.Setters.{with_settings}
-use Rattle.negotiate_explain.specs.Settings.{told_line}
+use Rattle.negotiate_explain.specs.Settings.{offer_line}
 
 -- ---- the message that a session's builder asks for after these setters
 
@@ -56,7 +56,7 @@ detail_text d =
     ++ (codes "," ++ decimal d.alignment)))))
 
 unfoldable pub part_line : (name : List ℕ) → (required offered : Detail) → List ℕ
-part_line name required offered = told_line name (detail_text required) (detail_text offered)
+part_line name required offered = offer_line name (detail_text required) (detail_text offered)
 
 -- Of each part a line: of the header, which no term names, and of user header and payload by these terms.
 unfoldable pub message_lines : (user_header payload : List ℕ) → (required offered : Message) → List ℕ

@@ -19,7 +19,7 @@ use Rattle.iceoryx2_errors.specs.declared.error.request_response.RequestResponse
 use Rattle.iceoryx2_errors.specs.declared.error.request_response.RequestResponseCreateError.TheVariants as request_creating
 use Rattle.iceoryx2_errors.specs.declared.error.request_response.RequestResponseOpenOrCreateError.{RequestResponseOpenOrCreateError}
 use Rattle.iceoryx2_errors.specs.declared.error.request_response.RequestResponseOpenOrCreateError.TheVariants as request_either
-use Rattle.negotiate_explain.specs.declared.refusals.Row.{Row}
+use Rattle.negotiate_explain.specs.declared.refusals.RefusalRow.{RefusalRow}
 use Rattle.negotiate_explain.specs.declared.refusals.comes_when.TheConstants as when
 use Rattle.negotiate_explain.specs.declared.refusals.what_can_be_done.TheConstants as what
 
@@ -28,7 +28,7 @@ pub record Texts : Type 0 where
   pub comes_when : List ℕ
   pub what_can_be_done : List ℕ
 
-abbrev pub texts_of : Row → Texts
+abbrev pub texts_of : RefusalRow → Texts
 texts_of row = record { comes_when = row.comes_when.now; what_can_be_done = row.what_can_be_done.now }
 
 -- these two constants

@@ -11,7 +11,7 @@ pub data Amount : Type 0 where
   event : Option ℕ → Amount
   time : Option Span → Amount
 
--- ---- its text: the value of a term that says it
+-- ---- its text: the value of a term that means it
 
 abbrev pub truth_text : Bool → List ℕ
 truth_text true = codes "true"
@@ -33,12 +33,12 @@ amount_text (time span) = none_or span_text span
 
 -- ---- a line of what is required and offered
 
-abbrev pub told_line : (name required offered : List ℕ) → List ℕ
-told_line name required offered =
+abbrev pub offer_line : (name required offered : List ℕ) → List ℕ
+offer_line name required offered =
     codes "  required " ++ (name ++ (codes " " ++ (required ++ (codes ", offered " ++ (offered ++ codes "\n")))))
 
 abbrev pub value_line : (name : List ℕ) → (required offered : Amount) → List ℕ
-value_line name required offered = told_line name (amount_text required) (amount_text offered)
+value_line name required offered = offer_line name (amount_text required) (amount_text offered)
 
 -- ---- what a setter requires
 

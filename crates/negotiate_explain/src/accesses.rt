@@ -3,7 +3,7 @@
 ghost use Rattle.std.specs.Prelude.{◌≡◌, ◌++◌, OnOk, drop, string_bytes};
 ghost use Rattle.negotiate_explain.specs.Accesses.{entry_lines, forgotten_line, trace_lines};
 
-use iceoryx2_traced::traced::Traced;
+use iceoryx2_testing::traced::Traced;
 use std::alloc::AllocError;
 
 /// Writes the latest accesses of a traced storage, so many as a call made, oldest first: how many of them

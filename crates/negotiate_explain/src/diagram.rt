@@ -6,7 +6,7 @@ ghost use Rattle.std.specs.Str.{chars};
 ghost use Rattle.negotiate_explain.specs.Diagrams.{answered_line, asked_line, caller_of};
 ghost use Rattle.negotiate_explain.specs.Diagrams.{escaped, message_lines, messages, note_head, note_line};
 
-use iceoryx2_traced::traced::{Entry, Traced};
+use iceoryx2_testing::traced::{Traced, TracedAccess};
 use std::alloc::AllocError;
 
 /// What a diagram begins with.
@@ -53,7 +53,7 @@ fn draw_from<S>(
 }
 
 /// Writes an access and its answer.
-fn draw_access(entry: &Entry, caller: u64, text: &mut String) -> Result<(), AllocError>
+fn draw_access(entry: &TracedAccess, caller: u64, text: &mut String) -> Result<(), AllocError>
     ensures { OnOk result (string_bytes text.new ≡ string_bytes text.old ++ message_lines caller entry.now) }
 {
     let node = node_of(entry, caller);
@@ -71,29 +71,29 @@ fn draw_asked(node: u64, access: &str, text: &mut String) -> Result<(), AllocErr
 
 /// Writes what the storage answers it.
 #[tactic(auto, unfolding(crate::specs::Diagrams::answered_line))]
-fn draw_answered(node: u64, entry: &Entry, text: &mut String) -> Result<(), AllocError>
+fn draw_answered(node: u64, entry: &TracedAccess, text: &mut String) -> Result<(), AllocError>
     ensures { OnOk result (string_bytes text.new ≡ string_bytes text.old ++ answered_line node entry.now) }
 {
     writeln!(text, "    storage-->>node {node}: {entry}")
 }
 
 /// The node that an access names, or else the caller.
-fn node_of(entry: &Entry, caller: u64) -> u64
+fn node_of(entry: &TracedAccess, caller: u64) -> u64
     ensures { result ≡ caller_of caller entry.now }
 {
     match entry {
-        Entry::Exists { .. } => caller,
-        Entry::Fetch { node, .. } => *node,
-        Entry::Counts { node, .. } => *node,
-        Entry::MakeTag { node, .. } => *node,
-        Entry::RemoveTag { node, .. } => *node,
-        Entry::Lock { node, .. } => *node,
-        Entry::MakeSegment { node, .. } => *node,
-        Entry::RemoveSegment { node, .. } => *node,
-        Entry::RemoveDescription { node, .. } => *node,
-        Entry::Publish { node, .. } => *node,
-        Entry::OpenSegment { node, .. } => *node,
-        Entry::Release { node, .. } => *node,
+        TracedAccess::Exists { .. } => caller,
+        TracedAccess::Fetch { node, .. } => *node,
+        TracedAccess::Counts { node, .. } => *node,
+        TracedAccess::MakeTag { node, .. } => *node,
+        TracedAccess::RemoveTag { node, .. } => *node,
+        TracedAccess::Lock { node, .. } => *node,
+        TracedAccess::MakeSegment { node, .. } => *node,
+        TracedAccess::RemoveSegment { node, .. } => *node,
+        TracedAccess::RemoveDescription { node, .. } => *node,
+        TracedAccess::Publish { node, .. } => *node,
+        TracedAccess::OpenSegment { node, .. } => *node,
+        TracedAccess::Release { node, .. } => *node,
     }
 }
 

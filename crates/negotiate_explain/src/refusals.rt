@@ -8,7 +8,7 @@ ghost use Rattle.negotiate_explain.specs.Rows.{texts_of};
 macro_rules! row_of {
     ($error:expr, $kind:ident: $($variant:ident $comes_when:ident $what_can_be_done:ident;)*) => {
         match $error {
-            $($kind::$variant => Row {
+            $($kind::$variant => RefusalRow {
                 comes_when: comes_when::$comes_when,
                 what_can_be_done: what_can_be_done::$what_can_be_done,
             },)*
@@ -25,17 +25,17 @@ mod what_can_be_done;
 use iceoryx2_commands::command::Refusal;
 use std::alloc::AllocError;
 
-/// What docs/REFUSALS.md tells of an error.
+/// What docs/REFUSALS.md has of an error.
 #[derive(Clone, Copy, Debug, PartialEq, Eq)]
-pub struct Row {
+pub struct RefusalRow {
     /// At which step of the call it comes, and of what.
     pub comes_when: &'static str,
     pub what_can_be_done: &'static str,
 }
 
-impl Row {
+impl RefusalRow {
     /// The row of a refusal.
-    pub fn of(refusal: Refusal) -> Row
+    pub fn of(refusal: Refusal) -> RefusalRow
         ensures { texts_of result ≡ refusal_row refusal }
     {
         match refusal {
@@ -61,7 +61,7 @@ impl Row {
 pub fn describe_row(refusal: Refusal, text: &mut String) -> Result<(), AllocError>
     ensures { OnOk result (string_bytes text.new ≡ string_bytes text.old ++ row_lines (refusal_row refusal)) }
 {
-    let row = Row::of(refusal);
+    let row = RefusalRow::of(refusal);
     let comes_when = row.comes_when;
     let what_can_be_done = row.what_can_be_done;
     writeln!(

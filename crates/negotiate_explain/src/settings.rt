@@ -16,7 +16,7 @@ ghost use Rattle.negotiate_explain.specs.Settings.{Compared, compared, value_lin
 ghost use Rattle.negotiate_explain.specs.Settings.{is_of_name, is_required, is_set_again};
 ghost use Rattle.negotiate_explain.specs.Settings.{required_lines, setting_line};
 ghost use Rattle.negotiate_explain.specs.Settings.{event, number, time, truth};
-ghost use Rattle.negotiate_explain.specs.Values.{AreToldAs, IsToldAs, amount_of};
+ghost use Rattle.negotiate_explain.specs.Values.{AreShownAs, IsShownAs, amount_of};
 ghost use Rattle.iceoryx2_event_builder.specs.Event.{deadline_value};
 
 /// What a setter requires, beside what is there, by a table of each pattern: of a setting its kind, its
@@ -82,7 +82,7 @@ pub fn describe_offer(
     }
 }
 
-/// The messages whose parts are told are those that a session's builder asks for after the same setters, whoever
+/// The messages whose parts are shown are those that a session's builder asks for after the same setters, whoever
 /// calls and whatever is configured.
 pub fn messages_of_calls()
     ensures samples { (node : ℕ) (name : List ℕ) (defaults : SampleDefaults) (setters : List PublishSubscribeSetter)
@@ -106,7 +106,7 @@ pub(crate) struct Comparison<E> {
 impl<E> Comparison<E> {
     /// Of a setting that is a number.
     fn numbers(name: &'static str, error: E, required: u64, offered: u64) -> Comparison<E>
-        ensures { IsToldAs result (compared name.now error (number required) (number offered)) }
+        ensures { IsShownAs result (compared name.now error (number required) (number offered)) }
     {
         Comparison {
             name,
@@ -118,7 +118,7 @@ impl<E> Comparison<E> {
 
     /// Of a setting that is true or false.
     fn truths(name: &'static str, error: E, required: bool, offered: bool) -> Comparison<E>
-        ensures { IsToldAs result (compared name.now error (truth required) (truth offered)) }
+        ensures { IsShownAs result (compared name.now error (truth required) (truth offered)) }
     {
         Comparison {
             name,
@@ -135,7 +135,7 @@ impl<E> Comparison<E> {
         required: Option<EventId>,
         offered: Option<EventId>,
     ) -> Comparison<E>
-        ensures { IsToldAs result (compared name.now error (event required) (event offered)) }
+        ensures { IsShownAs result (compared name.now error (event required) (event offered)) }
     {
         Comparison {
             name,
@@ -152,7 +152,7 @@ impl<E> Comparison<E> {
         required: Option<Duration>,
         offered: Option<Deadline>,
     ) -> Comparison<E>
-        ensures { IsToldAs result (compared name.now error (time required) (time (deadline_value offered))) }
+        ensures { IsShownAs result (compared name.now error (time required) (time (deadline_value offered))) }
     {
         let offered = match offered {
             None => None,
@@ -179,7 +179,7 @@ pub(crate) trait Compare {
 
     /// What is required by this setter, beside what is there. `None` where it sets no setting but a type.
     fn compare(&self, existing: &Self::Existing) -> Option<Comparison<Self::OpenError>>
-        ensures { AreToldAs result (compared self.now existing.now) };
+        ensures { AreShownAs result (compared self.now existing.now) };
 }
 
 /// Writes of each setting that is named by the error what is required and what is offered; of one
@@ -255,7 +255,7 @@ fn is_set_again<S: Compare>(name: &str, later: &[S], existing: &S::Existing) -> 
 
 /// Whether it is of the setting with this name.
 fn is_of_name<E: Copy>(name: &str, comparison: Option<Comparison<E>>) -> bool
-    ensures { (told : Option (Compared E)) → AreToldAs comparison told → result ≡ is_of_name name.now told }
+    ensures { (shown : Option (Compared E)) → AreShownAs comparison shown → result ≡ is_of_name name.now shown }
 {
     match comparison {
         Some(comparison) => comparison.name == name,

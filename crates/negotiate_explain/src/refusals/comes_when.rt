@@ -40,8 +40,8 @@ pub(crate) const NOTIFIER_DEAD_EVENT: &str = "\
     one of the two has none";
 
 pub(crate) const LOCKED: &str = "\
-    at the look: the service is locked and not yet published (`NotFinalized`); the call doesn't \
-    wait";
+    at the look: the service is locked and not yet published (`NotFinalized`): over a table at \
+    once, over a log when its `creation_timeout` has passed";
 
 pub(crate) const MAX_NOTIFIERS: &str =
     "at the first setting: `max_notifiers` is marked, and the service is for fewer";

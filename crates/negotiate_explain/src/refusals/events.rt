@@ -5,11 +5,11 @@ ghost use Rattle.negotiate_explain.specs.Rows.{event_create_row, event_open_row}
 ghost use Rattle.negotiate_explain.specs.Rows.{event_open_or_create_row, texts_of};
 ghost use Rattle.negotiate_explain.specs.Rows.{event_round_create_row, event_round_open_row};
 
-use super::{Row, comes_when, what_can_be_done};
+use super::{RefusalRow, comes_when, what_can_be_done};
 use iceoryx2_errors::error::{EventCreateError, EventOpenError, EventOpenOrCreateError};
 
 /// The row of an error of an open.
-pub(super) fn open_row(error: EventOpenError) -> Row
+pub(super) fn open_row(error: EventOpenError) -> RefusalRow
     ensures { texts_of result ≡ event_open_row error }
 {
     row_of!(error, EventOpenError:
@@ -34,7 +34,7 @@ pub(super) fn open_row(error: EventOpenError) -> Row
 }
 
 /// The row of an error of a create.
-pub(super) fn create_row(error: EventCreateError) -> Row
+pub(super) fn create_row(error: EventCreateError) -> RefusalRow
     ensures { texts_of result ≡ event_create_row error }
 {
     row_of!(error, EventCreateError:
@@ -48,13 +48,13 @@ pub(super) fn create_row(error: EventCreateError) -> Row
 }
 
 /// The row of an error of an open or create.
-pub(super) fn open_or_create_row(error: EventOpenOrCreateError) -> Row
+pub(super) fn open_or_create_row(error: EventOpenOrCreateError) -> RefusalRow
     ensures { texts_of result ≡ event_open_or_create_row error }
 {
     match error {
         EventOpenOrCreateError::EventOpenError(error) => round_open_row(error),
         EventOpenOrCreateError::EventCreateError(error) => round_create_row(error),
-        EventOpenOrCreateError::SystemInFlux => Row {
+        EventOpenOrCreateError::SystemInFlux => RefusalRow {
             comes_when: comes_when::SIX_ROUNDS,
             what_can_be_done: what_can_be_done::NAME_THE_CAUSE,
         },
@@ -62,7 +62,7 @@ pub(super) fn open_or_create_row(error: EventOpenOrCreateError) -> Row
 }
 
 /// The row of an error of a round's own look, or of its open.
-fn round_open_row(error: EventOpenError) -> Row
+fn round_open_row(error: EventOpenError) -> RefusalRow
     ensures { texts_of result ≡ event_round_open_row error }
 {
     row_of!(error, EventOpenError:
@@ -87,7 +87,7 @@ fn round_open_row(error: EventOpenError) -> Row
 }
 
 /// The row of an error of a round's create.
-fn round_create_row(error: EventCreateError) -> Row
+fn round_create_row(error: EventCreateError) -> RefusalRow
     ensures { texts_of result ≡ event_round_create_row error }
 {
     row_of!(error, EventCreateError:

@@ -5,13 +5,13 @@ ghost use Rattle.negotiate_explain.specs.Rows.{publish_subscribe_create_row, pub
 ghost use Rattle.negotiate_explain.specs.Rows.{publish_subscribe_open_or_create_row, texts_of};
 ghost use Rattle.negotiate_explain.specs.Rows.{publish_subscribe_round_create_row, publish_subscribe_round_open_row};
 
-use super::{Row, comes_when, what_can_be_done};
+use super::{RefusalRow, comes_when, what_can_be_done};
 use iceoryx2_errors::error::{
     PublishSubscribeCreateError, PublishSubscribeOpenError, PublishSubscribeOpenOrCreateError,
 };
 
 /// The row of an error of an open.
-pub(super) fn open_row(error: PublishSubscribeOpenError) -> Row
+pub(super) fn open_row(error: PublishSubscribeOpenError) -> RefusalRow
     ensures { texts_of result ≡ publish_subscribe_open_row error }
 {
     row_of!(error, PublishSubscribeOpenError:
@@ -36,7 +36,7 @@ pub(super) fn open_row(error: PublishSubscribeOpenError) -> Row
 }
 
 /// The row of an error of a create.
-pub(super) fn create_row(error: PublishSubscribeCreateError) -> Row
+pub(super) fn create_row(error: PublishSubscribeCreateError) -> RefusalRow
     ensures { texts_of result ≡ publish_subscribe_create_row error }
 {
     row_of!(error, PublishSubscribeCreateError:
@@ -51,7 +51,7 @@ pub(super) fn create_row(error: PublishSubscribeCreateError) -> Row
 }
 
 /// The row of an error of an open or create.
-pub(super) fn open_or_create_row(error: PublishSubscribeOpenOrCreateError) -> Row
+pub(super) fn open_or_create_row(error: PublishSubscribeOpenOrCreateError) -> RefusalRow
     ensures { texts_of result ≡ publish_subscribe_open_or_create_row error }
 {
     match error {
@@ -61,7 +61,7 @@ pub(super) fn open_or_create_row(error: PublishSubscribeOpenOrCreateError) -> Ro
         PublishSubscribeOpenOrCreateError::PublishSubscribeCreateError(error) => round_create_row(
             error,
         ),
-        PublishSubscribeOpenOrCreateError::SystemInFlux => Row {
+        PublishSubscribeOpenOrCreateError::SystemInFlux => RefusalRow {
             comes_when: comes_when::SIX_ROUNDS,
             what_can_be_done: what_can_be_done::NAME_THE_CAUSE,
         },
@@ -69,7 +69,7 @@ pub(super) fn open_or_create_row(error: PublishSubscribeOpenOrCreateError) -> Ro
 }
 
 /// The row of an error of a round's own look, or of its open.
-fn round_open_row(error: PublishSubscribeOpenError) -> Row
+fn round_open_row(error: PublishSubscribeOpenError) -> RefusalRow
     ensures { texts_of result ≡ publish_subscribe_round_open_row error }
 {
     row_of!(error, PublishSubscribeOpenError:
@@ -94,7 +94,7 @@ fn round_open_row(error: PublishSubscribeOpenError) -> Row
 }
 
 /// The row of an error of a round's create.
-fn round_create_row(error: PublishSubscribeCreateError) -> Row
+fn round_create_row(error: PublishSubscribeCreateError) -> RefusalRow
     ensures { texts_of result ≡ publish_subscribe_round_create_row error }
 {
     row_of!(error, PublishSubscribeCreateError:

@@ -5,13 +5,13 @@ ghost use Rattle.negotiate_explain.specs.Rows.{request_response_create_row, requ
 ghost use Rattle.negotiate_explain.specs.Rows.{request_response_open_or_create_row, texts_of};
 ghost use Rattle.negotiate_explain.specs.Rows.{request_response_round_create_row, request_response_round_open_row};
 
-use super::{Row, comes_when, what_can_be_done};
+use super::{RefusalRow, comes_when, what_can_be_done};
 use iceoryx2_errors::error::{
     RequestResponseCreateError, RequestResponseOpenError, RequestResponseOpenOrCreateError,
 };
 
 /// The row of an error of an open.
-pub(super) fn open_row(error: RequestResponseOpenError) -> Row
+pub(super) fn open_row(error: RequestResponseOpenError) -> RefusalRow
     ensures { texts_of result ≡ request_response_open_row error }
 {
     row_of!(error, RequestResponseOpenError:
@@ -40,7 +40,7 @@ pub(super) fn open_row(error: RequestResponseOpenError) -> Row
 }
 
 /// The row of an error of a create.
-pub(super) fn create_row(error: RequestResponseCreateError) -> Row
+pub(super) fn create_row(error: RequestResponseCreateError) -> RefusalRow
     ensures { texts_of result ≡ request_response_create_row error }
 {
     row_of!(error, RequestResponseCreateError:
@@ -54,7 +54,7 @@ pub(super) fn create_row(error: RequestResponseCreateError) -> Row
 }
 
 /// The row of an error of an open or create.
-pub(super) fn open_or_create_row(error: RequestResponseOpenOrCreateError) -> Row
+pub(super) fn open_or_create_row(error: RequestResponseOpenOrCreateError) -> RefusalRow
     ensures { texts_of result ≡ request_response_open_or_create_row error }
 {
     match error {
@@ -62,7 +62,7 @@ pub(super) fn open_or_create_row(error: RequestResponseOpenOrCreateError) -> Row
         RequestResponseOpenOrCreateError::RequestResponseCreateError(error) => round_create_row(
             error,
         ),
-        RequestResponseOpenOrCreateError::SystemInFlux => Row {
+        RequestResponseOpenOrCreateError::SystemInFlux => RefusalRow {
             comes_when: comes_when::SIX_ROUNDS,
             what_can_be_done: what_can_be_done::NAME_THE_CAUSE,
         },
@@ -70,7 +70,7 @@ pub(super) fn open_or_create_row(error: RequestResponseOpenOrCreateError) -> Row
 }
 
 /// The row of an error of a round's own look, or of its open.
-fn round_open_row(error: RequestResponseOpenError) -> Row
+fn round_open_row(error: RequestResponseOpenError) -> RefusalRow
     ensures { texts_of result ≡ request_response_round_open_row error }
 {
     row_of!(error, RequestResponseOpenError:
@@ -99,7 +99,7 @@ fn round_open_row(error: RequestResponseOpenError) -> Row
 }
 
 /// The row of an error of a round's create.
-fn round_create_row(error: RequestResponseCreateError) -> Row
+fn round_create_row(error: RequestResponseCreateError) -> RefusalRow
     ensures { texts_of result ≡ request_response_round_create_row error }
 {
     row_of!(error, RequestResponseCreateError:

@@ -12,7 +12,7 @@ pub(crate) const RETRY_OR_REMOVE: &str = "\
     damaged or left, and has to be removed from the storage";
 
 pub(crate) const TAKE_ANOTHER_NAME: &str = "\
-    again doesn't help: the hasher leaves the pattern's letter out, or two names share a hash, \
+    again doesn't help: the hasher leaves the pattern's prefix out, or two names share a hash, \
     or somebody published under a foreign one; take another name";
 
 pub(crate) const REQUIRE_LESS: &str = "\

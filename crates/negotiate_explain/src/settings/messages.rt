@@ -46,7 +46,7 @@ fn describe_part(
     writeln!(text)
 }
 
-/// Writes the value of a term that says this type.
+/// Writes the value of a term that means this type.
 fn describe_type(detail: &TypeDetail, text: &mut String) -> Result<(), AllocError>
     ensures { OnOk result (string_bytes text.new ≡ string_bytes text.old ++ detail_text detail.now) }
 {

@@ -19,7 +19,7 @@ pub(crate) enum Value {
     Time(Option<Duration>),
 }
 
-/// The value of a line's term that says it.
+/// The value of a line's term that means it.
 impl fmt::Display for Value {
     ghost output = { λ value. Some (amount_text (amount_of value)) };
 

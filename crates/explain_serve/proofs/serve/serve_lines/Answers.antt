@@ -1,4 +1,4 @@
-use Rattle.negotiate_serve.specs.declared.ending.Fault.TheVariants as fault
+use Rattle.negotiate_serve.specs.declared.ending.ServeError.TheVariants as failure
 use Rattle.explain_serve.specs.Answered.{Explains, first_state}
 use Rattle.negotiate_serve.specs.Transcripts.{AnswersLineBy}
 use Rattle.negotiate_serve.proofs.Answering.{served_nothing}
@@ -19,5 +19,5 @@ returns-in-Ok g c = λ bytes known.
 
 pub returns-in-Err : goal.returns-in-Err
 returns-in-Err g c = λ bytes known.
-    served_nothing (AnswersLineBy (Explains c.args.format)) first_state bytes fault.OutOfMemory c.tell_fault.result (g.W.Write.contents c.args.output.now) (g.W.Write.contents c.tell_fault.new.output)
-    tt c.tell_fault.ensures
+    served_nothing (AnswersLineBy (Explains c.args.format)) first_state bytes failure.OutOfMemory c.write_failure.result (g.W.Write.contents c.args.output.now) (g.W.Write.contents c.write_failure.new.output)
+    tt c.write_failure.ensures
