@@ -5,8 +5,8 @@
 
 use clap::Error;
 use clap::error::ErrorKind;
-use negotiate_serve::ending::{FAULT, Fault, NOT_A_COMMAND};
-use negotiate_serve::report::report_fault;
+use negotiate_serve::ending::{FAULT, NOT_A_COMMAND, ServeError};
+use negotiate_serve::report::report_failure;
 use std::process::ExitCode;
 use std::{env, io};
 use wulameron_arguments::arguments::arguments;
@@ -100,22 +100,22 @@ fn carry_out(rt: &HostRuntime, default: Option<&DefaultLog>, words: &[String]) -
     }
 }
 
-/// Answers the lines of the standard input on the standard output, over the log that the words name.
+/// Carries out the command that the arguments name.
 ///
-/// Ends with status 0, with 2 at a line that is no command and where the words are wrong, and with 3 where there is a
-/// fault, of which the standard error has a line.
+/// Ends with status 0; with 1 where something is wrong, isn't there or is refused; with 2 where the arguments are wrong
+/// or a line ended a strict run; and with 3 where there is a failure, of which the standard error has a line.
 fn main(rt: HostRuntime) -> ExitCode {
     let Ok(default) = default_log(&rt) else {
-        return ExitCode::from(fault(&rt, Fault::OutOfMemory));
+        return ExitCode::from(fault(&rt, ServeError::OutOfMemory));
     };
     match words(&rt) {
         Ok(words) => ExitCode::from(carry_out(&rt, default.as_ref(), &words)),
-        Err(error) => ExitCode::from(fault(&rt, Fault::of_reading(&error))),
+        Err(error) => ExitCode::from(fault(&rt, ServeError::of_reading(&error))),
     }
 }
 
-/// Writes the line of a fault on the standard error, and gives its status.
-fn fault(rt: &HostRuntime, fault: Fault) -> u8 {
-    let _ = report_fault("wulameron", fault, &mut rt.stderr());
+/// Writes the line of a failure on the standard error, and gives its status.
+fn fault(rt: &HostRuntime, fault: ServeError) -> u8 {
+    let _ = report_failure("wulameron", fault, &mut rt.stderr());
     FAULT
 }

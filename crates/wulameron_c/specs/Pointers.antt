@@ -68,6 +68,6 @@ Reads mark old new code reads kept = Acts mark old new code (λ s t. (t ≡ s) �
 
 -- A call reads this of what a slot holds.
 abbrev pub ReadsSlot : (mark : ℕ) (old new : Option TableState) (slot code : ℕ)
-    (tells : (slot code : ℕ) → Option Registered → Type 0) (kept : Type 0) → Type 0
-ReadsSlot mark old new slot code tells kept =
-    Reads mark old new code (λ s. tells slot code (held_at (own_state s.session).slots slot)) kept
+    (gives : (slot code : ℕ) → Option Registered → Type 0) (kept : Type 0) → Type 0
+ReadsSlot mark old new slot code gives kept =
+    Reads mark old new code (λ s. gives slot code (held_at (own_state s.session).slots slot)) kept

@@ -2,9 +2,9 @@
 
 ghost use Rattle.std.specs.Prelude.{◌≡◌, slice_get};
 ghost use Rattle.wulameron_c.specs.Pointers.{IsSound, Reads, ReadsSlot};
-ghost use Rattle.wulameron_state.specs.Entries.{TellsEntry, WritesHash, WritesName, listed};
-ghost use Rattle.wulameron_state.specs.Reads.{TellsAttribute, TellsCount, TellsForm, TellsHash, TellsName, TellsNumber};
-ghost use Rattle.wulameron_state.specs.Reads.{TellsService, TellsTime, TellsType, TellsTypeName};
+ghost use Rattle.wulameron_state.specs.Entries.{ReadsEntry, WritesHash, WritesName, listed};
+ghost use Rattle.wulameron_state.specs.Reads.{WritesAttributeAt, ReadsCountAt, WritesFormAt, WritesHashAt, WritesNameAt, ReadsNumberAt};
+ghost use Rattle.wulameron_state.specs.Reads.{ReadsServiceAt, ReadsTimeAt, ReadsTypeAt, WritesTypeNameAt};
 ghost use Rattle.wulameron_state.specs.Words.{WritesAnswer};
 
 use crate::{Handle, NOT_OPEN};
@@ -25,7 +25,7 @@ pub extern "C" fn wulameron_c_service(
     ensures sound { IsSound handle.new.mark handle.new.held.state }
     ensures mark { handle.new.mark ≡ handle.old.mark }
     ensures reads { ReadsSlot handle.old.mark handle.old.held.state handle.new.held.state slot result
-        (TellsService pattern.old number.old node.old pattern.new number.new node.new)
+        (ReadsServiceAt pattern.old number.old node.old pattern.new number.new node.new)
         ((pattern.new ≡ pattern.old) × (number.new ≡ number.old) × (node.new ≡ node.old)) }
 {
     let Some(state) = handle.take(alloc) else {
@@ -49,7 +49,7 @@ pub extern "C" fn wulameron_c_number(
     ensures sound { IsSound handle.new.mark handle.new.held.state }
     ensures mark { handle.new.mark ≡ handle.old.mark }
     ensures reads { ReadsSlot handle.old.mark handle.old.held.state handle.new.held.state slot result
-        (TellsNumber setting value.old value.new)
+        (ReadsNumberAt setting value.old value.new)
         (value.new ≡ value.old) }
 {
     let Some(state) = handle.take(alloc) else {
@@ -74,7 +74,7 @@ pub extern "C" fn wulameron_c_time(
     ensures sound { IsSound handle.new.mark handle.new.held.state }
     ensures mark { handle.new.mark ≡ handle.old.mark }
     ensures reads { ReadsSlot handle.old.mark handle.old.held.state handle.new.held.state slot result
-        (TellsTime setting seconds.old nanoseconds.old seconds.new nanoseconds.new)
+        (ReadsTimeAt setting seconds.old nanoseconds.old seconds.new nanoseconds.new)
         ((seconds.new ≡ seconds.old) × (nanoseconds.new ≡ nanoseconds.old)) }
 {
     let Some(state) = handle.take(alloc) else {
@@ -100,7 +100,7 @@ pub extern "C" fn wulameron_c_type_of(
     ensures sound { IsSound handle.new.mark handle.new.held.state }
     ensures mark { handle.new.mark ≡ handle.old.mark }
     ensures reads { ReadsSlot handle.old.mark handle.old.held.state handle.new.held.state slot result
-        (TellsType part variant.old size.old alignment.old variant.new size.new alignment.new)
+        (ReadsTypeAt part variant.old size.old alignment.old variant.new size.new alignment.new)
         ((variant.new ≡ variant.old) × (size.new ≡ size.old) × (alignment.new ≡ alignment.old)) }
 {
     let Some(state) = handle.take(alloc) else {
@@ -125,7 +125,7 @@ pub extern "C" fn wulameron_c_type_name(
     ensures sound { IsSound handle.new.mark handle.new.held.state }
     ensures mark { handle.new.mark ≡ handle.old.mark }
     ensures reads { ReadsSlot handle.old.mark handle.old.held.state handle.new.held.state slot result
-        (TellsTypeName output.old written.old output.new written.new part)
+        (WritesTypeNameAt output.old written.old output.new written.new part)
         ((output.new ≡ output.old) × (written.new ≡ written.old)) }
 {
     let Some(state) = handle.take(alloc) else {
@@ -149,7 +149,7 @@ pub extern "C" fn wulameron_c_name(
     ensures sound { IsSound handle.new.mark handle.new.held.state }
     ensures mark { handle.new.mark ≡ handle.old.mark }
     ensures reads { ReadsSlot handle.old.mark handle.old.held.state handle.new.held.state slot result
-        (TellsName output.old written.old output.new written.new)
+        (WritesNameAt output.old written.old output.new written.new)
         ((output.new ≡ output.old) × (written.new ≡ written.old)) }
 {
     let Some(state) = handle.take(alloc) else {
@@ -173,7 +173,7 @@ pub extern "C" fn wulameron_c_hash(
     ensures sound { IsSound handle.new.mark handle.new.held.state }
     ensures mark { handle.new.mark ≡ handle.old.mark }
     ensures reads { ReadsSlot handle.old.mark handle.old.held.state handle.new.held.state slot result
-        (TellsHash output.old written.old output.new written.new)
+        (WritesHashAt output.old written.old output.new written.new)
         ((output.new ≡ output.old) × (written.new ≡ written.old)) }
 {
     let Some(state) = handle.take(alloc) else {
@@ -196,7 +196,7 @@ pub extern "C" fn wulameron_c_attributes(
     ensures sound { IsSound handle.new.mark handle.new.held.state }
     ensures mark { handle.new.mark ≡ handle.old.mark }
     ensures reads { ReadsSlot handle.old.mark handle.old.held.state handle.new.held.state slot result
-        (TellsCount count.old count.new)
+        (ReadsCountAt count.old count.new)
         (count.new ≡ count.old) }
 {
     let Some(state) = handle.take(alloc) else {
@@ -223,7 +223,7 @@ pub extern "C" fn wulameron_c_attribute(
     ensures sound { IsSound handle.new.mark handle.new.held.state }
     ensures mark { handle.new.mark ≡ handle.old.mark }
     ensures reads { ReadsSlot handle.old.mark handle.old.held.state handle.new.held.state slot result
-        (TellsAttribute index key.old key_length.old value.old value_length.old
+        (WritesAttributeAt index key.old key_length.old value.old value_length.old
         key.new key_length.new value.new value_length.new)
         ((key.new ≡ key.old) × (key_length.new ≡ key_length.old) × (value.new ≡ value.old)
         × (value_length.new ≡ value_length.old)) }
@@ -257,7 +257,7 @@ pub extern "C" fn wulameron_c_bytes(
     ensures sound { IsSound handle.new.mark handle.new.held.state }
     ensures mark { handle.new.mark ≡ handle.old.mark }
     ensures reads { ReadsSlot handle.old.mark handle.old.held.state handle.new.held.state slot result
-        (TellsForm output.old written.old output.new written.new)
+        (WritesFormAt output.old written.old output.new written.new)
         ((output.new ≡ output.old) × (written.new ≡ written.old)) }
 {
     let Some(state) = handle.take(alloc) else {
@@ -307,7 +307,7 @@ pub extern "C" fn wulameron_c_entry(
     ensures sound { IsSound handle.new.mark handle.new.held.state }
     ensures mark { handle.new.mark ≡ handle.old.mark }
     ensures reads { Reads handle.old.mark handle.old.held.state handle.new.held.state result
-        (λ s. TellsEntry result (listed standing.old pattern.old number.old nodes.old max_nodes.old)
+        (λ s. ReadsEntry result (listed standing.old pattern.old number.old nodes.old max_nodes.old)
         (listed standing.new pattern.new number.new nodes.new max_nodes.new) (slice_get s.listing.items index))
         ((standing.new ≡ standing.old) × (pattern.new ≡ pattern.old) × (number.new ≡ number.old)
         × (nodes.new ≡ nodes.old) × (max_nodes.new ≡ max_nodes.old)) }

@@ -1,6 +1,6 @@
 //! The texts of refusals, by their numbers. They need no handle.
 
-ghost use Rattle.wulameron_state.specs.Refusals.{TellsAdvice, TellsCause, TellsName};
+ghost use Rattle.wulameron_state.specs.Refusals.{WritesRefusalAdvice, WritesRefusalCause, WritesRefusalName};
 
 use std::alloc::Global;
 use wulameron_state::refusals;
@@ -13,7 +13,7 @@ pub extern "C" fn wulameron_c_refusal_name(
     output: &mut [u8],
     written: &mut usize,
 ) -> u32
-    ensures { TellsName number output.old written.old result output.new written.new }
+    ensures { WritesRefusalName number output.old written.old result output.new written.new }
 {
     refusals::name(alloc, number, output, written)
 }
@@ -25,7 +25,7 @@ pub extern "C" fn wulameron_c_refusal_text(
     output: &mut [u8],
     written: &mut usize,
 ) -> u32
-    ensures { TellsCause number output.old written.old result output.new written.new }
+    ensures { WritesRefusalCause number output.old written.old result output.new written.new }
 {
     refusals::cause(number, output, written)
 }
@@ -37,7 +37,7 @@ pub extern "C" fn wulameron_c_refusal_advice(
     output: &mut [u8],
     written: &mut usize,
 ) -> u32
-    ensures { TellsAdvice number output.old written.old result output.new written.new }
+    ensures { WritesRefusalAdvice number output.old written.old result output.new written.new }
 {
     refusals::advice(number, output, written)
 }

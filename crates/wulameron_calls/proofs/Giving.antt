@@ -66,9 +66,9 @@ same c d e = cc
 module _ (of_it : Description → List ℕ) (slot : ℕ) (reply : Frame) where
   pub gives_text : (held : Option Registered) (d : Description) → Some d ≡ option_map (λ f. f.description) held → (text : List ℕ) → text ≡ of_it d
       → HasText text reply → GivesText of_it slot reply held
-  gives_text None d is text wanted told = absurd cc
-  gives_text (Some f) d is text wanted told =
-      of_held (subst (λ (t : List ℕ). HasText t reply) (wanted ∙ ap of_it (same d f.description is)) told)
+  gives_text None d is text wanted has_text = absurd cc
+  gives_text (Some f) d is text wanted has_text =
+      of_held (subst (λ (t : List ℕ). HasText t reply) (wanted ∙ ap of_it (same d f.description is)) has_text)
 
   pub gives_none : (held : Option Registered) → None ≡ option_map (λ (f : Registered). f.description) held → (code : ℕ) → code ≡ empty_code slot
       → HasCode code reply → GivesText of_it slot reply held

@@ -10,7 +10,7 @@ ghost use Rattle.wulameron_calls.specs.Replies.{HasCode};
 ghost use Rattle.wulameron_state.specs.Asks.{code_of_slot};
 ghost use Rattle.wulameron_state.specs.Reads.{empty_code};
 ghost use Rattle.wulameron_state.specs.Slots.{closed};
-ghost use Rattle.wulameron_state.specs.States.{GoesAs, Stands};
+ghost use Rattle.wulameron_state.specs.States.{AppliesAs, Stands};
 ghost use Rattle.wulameron_state.specs.declared.error.SlotError.{SlotError};
 
 use crate::replies::{DONE, with_code};
@@ -24,7 +24,7 @@ use wulameron_state::state::State;
 /// Closes what the slot holds.
 pub fn close<S: WorldStorage>(alloc: Global, state: &mut State<S>, call: &Frame) -> Frame
     ensures goes { (answer : Result (Unit {0}) SlotError)
-        × GoesAs S.step S.world closed (own_state state.old.session) (command.Close call.now.numbers.a) answer
+        × AppliesAs S.step S.world closed (own_state state.old.session) (command.Close call.now.numbers.a) answer
         (own_state state.new.session) × HasCode (code_of_slot answer) result }
     ensures nodes { own_nodes S.own state.new.session ≡ own_nodes S.own state.old.session }
     ensures agrees { Agrees (world_state S.world state.old.session).table

@@ -20,9 +20,9 @@ flat_more : (xs : List (ℕ × Cleaned)) (x : ℕ × Cleaned) → flat_map rehea
 flat_more [] x = append-nil (rehearsed_text x)
 flat_more (y ∷ xs) x = ap (λ l. rehearsed_text y ++ l) (flat_more xs x) ∙ sym (append_assoc (rehearsed_text y) (flat_map rehearsed_text xs) (rehearsed_text x))
 
-pub one_more : {w u v : World} {i : ℕ} {c : Cleaned} {ns ms text said : List ℕ} → RehearsesAll ns w text u → Rehearses i (Some c) u v
-    → ms ≡ ns ++ i ∷ [] → said ≡ text ++ rehearsed_text (i, c) → RehearsesAll ms w said v
-one_more {i} {c} {text} so_far gives nodes is = record {
+pub rehearses_one_more : {w u v : World} {i : ℕ} {c : Cleaned} {ns ms text longer : List ℕ} → RehearsesAll ns w text u → Rehearses i (Some c) u v
+    → ms ≡ ns ++ i ∷ [] → longer ≡ text ++ rehearsed_text (i, c) → RehearsesAll ms w longer v
+rehearses_one_more {i} {c} {text} so_far gives nodes is = record {
   given = so_far.given ++ (i, c) ∷ [];
   run = both so_far.run (one gives);
   of_nodes = map_more so_far.given (i, c) ∙ ap (λ l. l ++ i ∷ []) so_far.of_nodes ∙ sym nodes;

@@ -1,4 +1,4 @@
-//! The command that gives back what dead nodes have, or tells what that would be.
+//! The command that gives back what dead nodes have, or writes what that would be.
 
 ghost use Rattle.std.specs.Prelude.{◌≡◌, IfSome};
 ghost use Rattle.iceoryx2_journal.specs.Taking.{is_own};
@@ -14,9 +14,9 @@ use iceoryx2_journal::journal::Journal;
 use iceoryx2_monitoring::error::MonitoringError;
 use iceoryx2_monitoring::state::{list, state};
 use iceoryx2_table::table::stored::StoredWorld;
-use negotiate_serve::ending::{DONE, FAULT, Fault};
-use negotiate_serve::output::say;
-use negotiate_serve::report::report_fault;
+use negotiate_serve::ending::{DONE, FAULT, ServeError};
+use negotiate_serve::output::write_out;
+use negotiate_serve::report::report_failure;
 use std::alloc::Global;
 use std::fs::File;
 use std::io::{ErrorKind, Write};
@@ -48,10 +48,10 @@ enum Unfound {
 }
 
 /// Gives back what dead nodes have over the log in a file, of all or of the one that is named, with a line on the output
-/// for each of which there was something. As a dry run it only tells what that would be, and appends nothing.
+/// for each of which there was something. As a dry run it only writes what that would be, and appends nothing.
 ///
-/// Gives the status with which the program ends: 0; 1 where the node that is named isn't dead; or 3 after a fault. The
-/// writer of errors has a line of these.
+/// Gives the status with which the program ends: 0; 1 where the node that is named isn't dead; or 3 after a failure.
+/// The writer of errors has a line of these.
 pub fn clean<F: Files<File = File> + Clock + RandomSource + AllocGlobal, W: Write, E: Write>(
     rt: &F,
     asked: &Clean<'_>,
@@ -120,16 +120,16 @@ fn end_unfound<E: Write>(alloc: Global, path: &str, why: &Unfound, errors: &mut 
             let _ = report_claim(alloc, error, errors);
             FAULT
         }
-        Unfound::OutOfMemory => status_of(Err(Fault::OutOfMemory), errors),
+        Unfound::OutOfMemory => status_of(Err(ServeError::OutOfMemory), errors),
     }
 }
 
-/// The status of a program that did all, or met a fault, of which the writer of errors has a line.
-fn status_of<E: Write>(done: Result<(), Fault>, errors: &mut E) -> u8 {
+/// The status of a program that did all, or met a failure, of which the writer of errors has a line.
+fn status_of<E: Write>(done: Result<(), ServeError>, errors: &mut E) -> u8 {
     match done {
         Ok(()) => DONE,
         Err(fault) => {
-            let _ = report_fault("wulameron", fault, errors);
+            let _ = report_failure("wulameron", fault, errors);
             FAULT
         }
     }
@@ -148,7 +148,7 @@ fn clean_found<F: Files<File = File> + Clock + RandomSource + AllocGlobal, W: Wr
     let alloc = rt.alloc();
     let place = asked.place;
     let Ok(path) = format!(in alloc; "{}", place.at) else {
-        return status_of(Err(Fault::OutOfMemory), errors);
+        return status_of(Err(ServeError::OutOfMemory), errors);
     };
     match FileLog::open(rt, path, place.options) {
         Ok(log) => {
@@ -229,14 +229,14 @@ fn end_clean<E: Write>(
 /// Gives back what these nodes have, as far as they are dead, with a line for each of which there was something. Where
 /// the log or a node's file refuses for one of them it goes on with the others.
 ///
-/// `Fault` where a line can't be written, or there is no memory for it.
+/// `ServeError` where a line can't be written, or there is no memory for it.
 pub fn clean_nodes<L: Refusing, D: DeadNodes, W: Write>(
     alloc: Global,
     journal: &mut Journal<L>,
     dead: &D,
     nodes: &[u64],
     output: &mut W,
-) -> Result<Spared, Fault>
+) -> Result<Spared, ServeError>
     ensures kept { Rely (is_own journal.old.nodes) journal.old.world journal.new.world }
     ensures nodes { journal.new.nodes ≡ journal.old.nodes }
 {
@@ -245,7 +245,7 @@ pub fn clean_nodes<L: Refusing, D: DeadNodes, W: Write>(
     for node in nodes {
         match clean_node(journal, dead, *node) {
             Found::Alive => some_alive = true,
-            Found::Cleaned(cleaned) => say_cleaned(alloc, *node, cleaned, output)?,
+            Found::Cleaned(cleaned) => write_cleaned(alloc, *node, cleaned, output)?,
             Found::Refused => some_refused = true,
         }
     }
@@ -291,25 +291,25 @@ pub fn found_by(cleaned: Result<Cleaned, CleanError>) -> Found {
 }
 
 /// Writes what was given back for a node, where there was something.
-fn say_cleaned<W: Write>(
+fn write_cleaned<W: Write>(
     alloc: Global,
     node: u64,
     cleaned: Cleaned,
     output: &mut W,
-) -> Result<(), Fault> {
+) -> Result<(), ServeError> {
     if gave_nothing(cleaned) {
         return Ok(());
     }
     let mut text = String::new(alloc);
     match describe_cleaned(node, cleaned, &mut text) {
-        Ok(()) => say(text.as_bytes(), output),
-        Err(_) => Err(Fault::OutOfMemory),
+        Ok(()) => write_out(text.as_bytes(), output),
+        Err(_) => Err(ServeError::OutOfMemory),
     }
 }
 
 // ---- what they have would be given back
 
-/// Tells what would be given back of what these nodes have. The log has to be there.
+/// Writes what would be given back of what these nodes have. The log has to be there.
 fn rehearse_found<F: Files<File = File> + Clock + RandomSource + AllocGlobal, W: Write, E: Write>(
     rt: &F,
     place: &Place<'_>,
@@ -319,7 +319,7 @@ fn rehearse_found<F: Files<File = File> + Clock + RandomSource + AllocGlobal, W:
 ) -> u8 {
     let alloc = rt.alloc();
     let Ok(path) = format!(in alloc; "{}", place.at) else {
-        return status_of(Err(Fault::OutOfMemory), errors);
+        return status_of(Err(ServeError::OutOfMemory), errors);
     };
     match FileLog::open_existing(rt, path, place.options) {
         Ok(log) => {
@@ -340,7 +340,7 @@ fn report_unopened<E: Write>(
     path: &str,
     fault: FileFault,
     errors: &mut E,
-) -> Result<(), Fault> {
+) -> Result<(), ServeError> {
     match fault {
         FileFault::Failed {
             kind: ErrorKind::NotFound,
@@ -363,7 +363,7 @@ fn rehearse_log<L: Refusing + Drop, W: Write, E: Write>(
         return FAULT;
     };
     match rehearse_nodes(alloc, &mut world, nodes) {
-        Ok(text) => status_of(say(text.as_bytes(), output), errors),
+        Ok(text) => status_of(write_out(text.as_bytes(), output), errors),
         Err(why) => end_rehearsal(alloc, path, why, errors),
     }
 }
@@ -386,13 +386,13 @@ fn caught_up<L: Refusing + Drop, E: Write>(
     Some(journal.into_world())
 }
 
-/// Writes why it isn't told what would be given back, and gives the status.
+/// Writes why it isn't written what would be given back, and gives the status.
 fn end_rehearsal<E: Write>(alloc: Global, path: &str, why: RehearsalError, errors: &mut E) -> u8 {
     match why {
         RehearsalError::Refused { node: _ } => {
             let _ = report_wrong(alloc, path, STAYS, errors);
             FAULT
         }
-        RehearsalError::OutOfMemory => status_of(Err(Fault::OutOfMemory), errors),
+        RehearsalError::OutOfMemory => status_of(Err(ServeError::OutOfMemory), errors),
     }
 }

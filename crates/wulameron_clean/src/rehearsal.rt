@@ -135,7 +135,7 @@ fn rehearse_next(world: &mut StoredWorld, node: u64) -> Step
     step_of(give_back(world, node, held))
 }
 
-/// Gives back what a node has in this world, as `Journal::clean` does, and tells how much that was. `None` where the
+/// Gives back what a node has in this world, as `Journal::clean` does, and returns how much that was. `None` where the
 /// world refuses a step of it; what was given back before stays so.
 pub fn rehearse(world: &mut StoredWorld, node: u64) -> Option<Cleaned>
     ensures { Rehearses node result world.old world.new }

@@ -1,4 +1,4 @@
-//! What is said of cleaning up for nodes.
+//! What is written of cleaning up for nodes.
 
 ghost use Rattle.std.specs.Prelude.{◌≡◌, ◌++◌, IfOk, OnOk, string_bytes};
 ghost use Rattle.wulameron_clean.specs.Texts.{RehearsesAll, cleaned_line, counts_text, is_nothing, rehearsed_line};
@@ -32,7 +32,7 @@ fn write_counts(cleaned: Cleaned, text: &mut String) -> Result<(), AllocError>
     writeln!(text, "{releases} releases, {removals} removals")
 }
 
-/// Why it isn't told what would be given back.
+/// Why it isn't written what would be given back.
 #[derive(Clone, Copy, Debug, PartialEq, Eq)]
 pub enum RehearsalError {
     /// What this node has can't be given back in this world.

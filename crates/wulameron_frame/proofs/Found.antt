@@ -66,15 +66,15 @@ module _ (input : List ℕ) (old : Option (List ℕ)) (known : old ≡ Some inpu
       → ReadsTexts h mid new (Ok f) → ReadsFrame input (Ok (Some f)) new
   frame_found h f mid new r short texts =
       let b = begins h mid r in
-      let said = f.first.items ++ f.second.items in
-      let rest = rest_of b.0 said new (subst (λ (o : Option (List ℕ)). Consumes o new said) b.1 texts.1) in
-      let is : input ≡ (head_form (head_of f) ++ said) ++ rest.0 =
+      let contents = f.first.items ++ f.second.items in
+      let rest = rest_of b.0 contents new (subst (λ (o : Option (List ℕ)). Consumes o new contents) b.1 texts.1) in
+      let is : input ≡ (head_form (head_of f) ++ contents) ++ rest.0 =
       b.2.parts ∙ ap (λ (r : List ℕ). head_form h ++ r) rest.2
-      ∙ ap (λ (g : Head). head_form g ++ (said ++ rest.0)) (sym texts.0)
-      ∙ sym (append_assoc (head_form (head_of f)) said rest.0) in (
+      ∙ ap (λ (g : Head). head_form g ++ (contents ++ rest.0)) (sym texts.0)
+      ∙ sym (append_assoc (head_form (head_of f)) contents rest.0) in (
         rest.0,
         record {
-          bytes = head_form (head_of f) ++ said;
+          bytes = head_form (head_of f) ++ contents;
           form = record { limits = subst IsHead (sym texts.0) r.0; is = refl };
           short = subst HasShortTexts (sym texts.0) short;
           parts = is;

@@ -133,7 +133,7 @@ fn read_once<R: Read>(reader: &mut R, buffer: &mut [u8]) -> Result<usize, ReadEr
     Err(ReadError::Reading)
 }
 
-/// Reads until the buffer is full or the input ends, and tells how many bytes that were.
+/// Reads until the buffer is full or the input ends, and returns how many bytes that were.
 fn fill<R: Read>(reader: &mut R, buffer: &mut [u8]) -> Result<usize, ReadError>
     ensures read { IfOk result (Fills (R.remaining reader.old) (R.remaining reader.new) buffer.new) }
     ensures err { IfErr result IsOfReader }

@@ -8,9 +8,9 @@ use Rattle.iceoryx2_commands.specs.declared.command.Refusal.{Refusal}
 use Rattle.iceoryx2_commands.specs.declared.command.Reply.{Reply}
 use Rattle.iceoryx2_commands.specs.declared.command.Reply.TheVariants as reply
 use Rattle.iceoryx2_monitoring.specs.declared.state.NodeStatus.{NodeStatus}
-use Rattle.iceoryx2_session.specs.Sessions.{SessionOver, GoesBy}
+use Rattle.iceoryx2_session.specs.Sessions.{SessionOver, AppliesBy}
 use Rattle.iceoryx2_world.specs.World.{World}
-use Rattle.negotiate_serve.specs.declared.ending.Fault.{Fault}
+use Rattle.negotiate_serve.specs.declared.ending.ServeError.{ServeError}
 use Rattle.wulameron_arguments.specs.declared.asked.Hold.{Hold}
 use Rattle.wulameron_hold.specs.declared.holding.HoldError.{HoldError}
 use Rattle.wulameron_hold.specs.declared.holding.HoldError.TheVariants as hold
@@ -34,7 +34,7 @@ IsFactoryOf answer (Err (hold.Reading f)) = ⊥
 IsFactoryOf answer (Err hold.NotClosed) = ⊥
 
 -- the first that went wrong of printing, waiting and closing
-abbrev pub end_of_hold : (shown : Result (Unit {0}) LookError) → (waited : Result (Unit {0}) Fault)
+abbrev pub end_of_hold : (shown : Result (Unit {0}) LookError) → (waited : Result (Unit {0}) ServeError)
     → (closed : Reply) → Result (Unit {0}) HoldError
 end_of_hold (Err why) waited closed = Err (hold.Unshown why)
 end_of_hold (Ok x) (Err f) closed = Err (hold.Reading f)
@@ -55,18 +55,18 @@ module _ {S : Type 0} (step : S → Letter → S → Type 0) (world : S → Worl
     pub shown : Result (Unit {0}) LookError
     pub prints : Prints (IsShown false states (world old.table) (wanted.Numbered number))
         (IsUnshown (world old.table) (wanted.Numbered number)) shown before after
-    pub waited : Result (Unit {0}) Fault
+    pub waited : Result (Unit {0}) ServeError
     pub closed : Reply
-    pub closes : GoesBy step world old (command.Close slot) closed new
+    pub closes : AppliesBy step world old (command.Close slot) closed new
     pub ends : result ≡ end_of_hold shown waited closed
 
   -- A call is made, and its factory held and given back; or there is none, and nothing is written.
   pub data Holds (call : Call) (old new : SessionOver S) (result : Result (Unit {0}) HoldError)
       (before after : Option (List ℕ)) : Type 0 where
     held : (slot number : ℕ) (mid : SessionOver S)
-        → GoesBy step world old (command.Call call) (reply.Opened slot number) mid
+        → AppliesBy step world old (command.Call call) (reply.Opened slot number) mid
         → HoldsMade slot number mid new result before after → Holds call old new result before after
-    refused : (r : Refusal) → GoesBy step world old (command.Call call) (reply.Refused r) new
+    refused : (r : Refusal) → AppliesBy step world old (command.Call call) (reply.Refused r) new
         → result ≡ Err (hold.Refused r) → after ≡ before → Holds call old new result before after
-    not_made : (answer : Reply) → GoesBy step world old (command.Call call) answer new
+    not_made : (answer : Reply) → AppliesBy step world old (command.Call call) answer new
         → result ≡ Err hold.NotMade → after ≡ before → Holds call old new result before after

@@ -10,13 +10,13 @@ use iceoryx2_file_log::file_log::FileLog;
 use iceoryx2_journal::journal::Journal;
 use iceoryx2_monitoring::state::{self, NodeStatus};
 use iceoryx2_session::session::Session;
-use negotiate_explain::refusals::Row;
+use negotiate_explain::refusals::RefusalRow;
 use negotiate_lines::finding::wrong_in;
 use negotiate_lines::wrong::Wrong;
-use negotiate_serve::ending::{FAULT, Fault, NOT_A_COMMAND};
-use negotiate_serve::output::say;
+use negotiate_serve::ending::{FAULT, NOT_A_COMMAND, ServeError};
+use negotiate_serve::output::write_out;
 use negotiate_serve::reply::describe;
-use negotiate_serve::report::report_fault;
+use negotiate_serve::report::report_failure;
 use std::alloc::{AllocError, Global};
 use std::fs::File;
 use std::io::{Read, Write};
@@ -40,7 +40,7 @@ const NOT_CLOSED: &str = "what was held stays; it is given back by `wulameron cl
 
 /// Makes a call over the log in a file, which is made where there is none, prints what was agreed, and holds the factory
 /// until the input ends. The node is claimed as long. Gives the status with which the program ends: 0; 1 where the call
-/// is refused; 2 where the words are no call, and then nothing is claimed or made; or 3 after a fault. The writer of
+/// is refused; 2 where the words are no call, and then nothing is claimed or made; or 3 after a failure. The writer of
 /// errors has a line of these.
 pub fn hold<
     F: Files<File = File> + Clock + RandomSource + AllocGlobal + Drop,
@@ -70,7 +70,7 @@ pub fn hold<
 fn no_memory<E: Write>(errors: &mut E) -> u8
     ensures { result ≡ 3 }
 {
-    let _ = report_fault("wulameron", Fault::OutOfMemory, errors);
+    let _ = report_failure("wulameron", ServeError::OutOfMemory, errors);
     FAULT
 }
 
@@ -90,10 +90,14 @@ fn refuse_words<E: Write>(alloc: Global, hold: &Hold<'_>, errors: &mut E) -> Opt
 }
 
 /// Writes what is wrong with the words of a call.
-fn report_words<E: Write>(alloc: Global, wrong: Wrong<'_>, errors: &mut E) -> Result<(), Fault> {
+fn report_words<E: Write>(
+    alloc: Global,
+    wrong: Wrong<'_>,
+    errors: &mut E,
+) -> Result<(), ServeError> {
     match format!(in alloc; "wulameron: {wrong}\n") {
-        Ok(line) => say(line.as_bytes(), errors),
-        Err(_) => Err(Fault::OutOfMemory),
+        Ok(line) => write_out(line.as_bytes(), errors),
+        Err(_) => Err(ServeError::OutOfMemory),
     }
 }
 
@@ -229,12 +233,12 @@ fn report_hold<E: Write>(
     trouble: Option<Trouble>,
     why: HoldError,
     errors: &mut E,
-) -> Result<(), Fault> {
+) -> Result<(), ServeError> {
     match why {
         HoldError::Refused(refusal) => report_refusal(alloc, path, refusal, errors),
         HoldError::NotMade => report_wrong(alloc, path, NOT_MADE, errors),
         HoldError::Unshown(why) => report_look(alloc, path, trouble, why, errors),
-        HoldError::Reading(fault) => report_fault("wulameron", fault, errors),
+        HoldError::Reading(fault) => report_failure("wulameron", fault, errors),
         HoldError::NotClosed => report_wrong(alloc, path, NOT_CLOSED, errors),
     }
 }
@@ -245,10 +249,10 @@ fn report_refusal<E: Write>(
     path: &str,
     refusal: Refusal,
     errors: &mut E,
-) -> Result<(), Fault> {
+) -> Result<(), ServeError> {
     match refusal_line(alloc, path, refusal) {
-        Ok(line) => say(line.as_bytes(), errors),
-        Err(_) => Err(Fault::OutOfMemory),
+        Ok(line) => write_out(line.as_bytes(), errors),
+        Err(_) => Err(ServeError::OutOfMemory),
     }
 }
 
@@ -257,6 +261,6 @@ fn refusal_line(alloc: Global, path: &str, refusal: Refusal) -> Result<String, A
     let mut text = String::new(alloc);
     describe(&Reply::Refused(refusal), 0, &mut text)?;
     let error = text.as_str().trim_end();
-    let advice = Row::of(refusal).what_can_be_done;
+    let advice = RefusalRow::of(refusal).what_can_be_done;
     format!(in alloc; "wulameron: {path}: {error}; {advice}\n")
 }

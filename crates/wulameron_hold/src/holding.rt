@@ -12,7 +12,7 @@ use iceoryx2_journal::journal::Journal;
 use iceoryx2_log::log::Log;
 use iceoryx2_monitoring::state::NodeStatus;
 use iceoryx2_session::session::Session;
-use negotiate_serve::ending::{DONE, FAULT, Fault};
+use negotiate_serve::ending::{DONE, FAULT, ServeError};
 use std::alloc::{AllocError, Global};
 use std::io::{ErrorKind, Read, Write};
 use wulameron_arguments::asked::{Hold, Wanted};
@@ -28,7 +28,7 @@ pub enum HoldError {
     /// What was agreed isn't printed. The factory is given back.
     Unshown(LookError),
     /// The input refused. The factory is given back.
-    Reading(Fault),
+    Reading(ServeError),
     /// The log didn't release the factory.
     NotClosed,
 }
@@ -67,8 +67,8 @@ pub fn call_line(alloc: Global, node: u64, hold: &Hold<'_>) -> Result<String, Al
     Ok(line)
 }
 
-/// Reads an input to its end, and keeps nothing of it. `Fault` where it refuses.
-fn wait_for_end<R: Read>(input: &mut R) -> Result<(), Fault> {
+/// Reads an input to its end, and keeps nothing of it. `ServeError` where it refuses.
+fn wait_for_end<R: Read>(input: &mut R) -> Result<(), ServeError> {
     let mut piece = [0u8; 512];
     for _ in 0..u64::MAX {
         match input.read(&mut piece) {
@@ -76,16 +76,16 @@ fn wait_for_end<R: Read>(input: &mut R) -> Result<(), Fault> {
             Ok(_) => {}
             Err(error) => {
                 if error.kind() != ErrorKind::Interrupted {
-                    return Err(Fault::of_reading(&error));
+                    return Err(ServeError::of_reading(&error));
                 }
             }
         }
     }
-    Err(Fault::Reading)
+    Err(ServeError::Reading)
 }
 
 /// Waits for the end of the input where what was agreed is printed.
-fn wait<R: Read>(shown: Result<(), LookError>, input: &mut R) -> Result<(), Fault> {
+fn wait<R: Read>(shown: Result<(), LookError>, input: &mut R) -> Result<(), ServeError> {
     match shown {
         Ok(()) => wait_for_end(input),
         Err(_) => Ok(()),
@@ -95,7 +95,7 @@ fn wait<R: Read>(shown: Result<(), LookError>, input: &mut R) -> Result<(), Faul
 /// How a hold ends whose factory is given back so.
 fn ending(
     shown: Result<(), LookError>,
-    waited: Result<(), Fault>,
+    waited: Result<(), ServeError>,
     closed: &Reply,
 ) -> Result<(), HoldError>
     ensures { result ≡ end_of_hold shown waited closed.now }

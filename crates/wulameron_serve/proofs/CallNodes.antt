@@ -4,7 +4,7 @@ use Rattle.iceoryx2_attribute.specs.Requirements.{Requirements}
 use Rattle.iceoryx2_description.specs.declared.config.Config.{Config}
 use Rattle.iceoryx2_description.specs.declared.time.ClockFault.{ClockFault}
 use Rattle.iceoryx2_description.specs.Span.{Span}
-use Rattle.iceoryx2_open_or_create.specs.BuilderCalls.{Way}
+use Rattle.iceoryx2_rounds.specs.BuilderCalls.{Way}
 use Rattle.iceoryx2_event_builder.specs.Builder as event
 use Rattle.iceoryx2_publish_subscribe_builder.specs.Builder as publish_subscribe
 use Rattle.iceoryx2_publish_subscribe_builder.specs.declared.publish_subscribe.setting.PublishSubscribeSetter.{PublishSubscribeSetter}

@@ -2,24 +2,24 @@
 use Rattle.std.proofs.Common.{◌≡◌, ℕ, Bool, true, false, List, [], ◌++◌, codes, Option, Result, OnOk, append-nil, append_assoc, refl, sym, ap, subst, ◌∙◌}
 use Rattle.std.specs.declared.alloc.AllocError.{AllocError}
 use Rattle.iceoryx2_access.specs.Letter.{Letter}
-use Rattle.iceoryx2_traced.specs.Trace.{TracedState, IsTracedAccess}
+use Rattle.iceoryx2_testing.specs.Trace.{TracedState, IsTracedAccess}
 use Rattle.iceoryx2_world.specs.World.{World}
 use Rattle.iceoryx2_commands.specs.declared.command.Call.{Call}
 use Rattle.iceoryx2_commands.specs.declared.command.Command.{Command}
 use Rattle.iceoryx2_commands.specs.declared.command.Command.TheVariants as command
 use Rattle.iceoryx2_commands.specs.declared.command.Reply.{Reply}
-use Rattle.iceoryx2_session.specs.CommandWords.{GoesAlong}
-use Rattle.iceoryx2_session.specs.Sessions.{SessionOver, GoesBy, shown_session}
+use Rattle.iceoryx2_session.specs.CommandWords.{AppliesAlong}
+use Rattle.iceoryx2_session.specs.Sessions.{SessionOver, AppliesBy, shown_session}
 use Rattle.iceoryx2_session.specs.SessionStates.{own_state}
 use Rattle.iceoryx2_session.proofs.Shown.{goes_shown}
 use Rattle.negotiate_serve.specs.declared.ending.Ending.{Ending}
-use Rattle.negotiate_serve.specs.declared.ending.Fault.{Fault}
+use Rattle.negotiate_serve.specs.declared.ending.ServeError.{ServeError}
 use Rattle.negotiate_serve.specs.declared.ending.WrongLines.{WrongLines}
-use Rattle.negotiate_serve.specs.Replies.{GrowsBy, Tells}
-use Rattle.negotiate_serve.specs.Served.{SaysAnswer, ServesLines}
+use Rattle.negotiate_serve.specs.Replies.{GrowsBy, IsReplyText}
+use Rattle.negotiate_serve.specs.Served.{GrowsByAnswer, ServesLines}
 use Rattle.negotiate_serve.specs.Transcripts.{Answering, AnsweringLines, LinesBy, slot_named}
 use Rattle.negotiate_serve.proofs.Simulated.{lines_by_along, lines_transcript_along}
-use Rattle.explain_serve.specs.Explained.{TellsLines}
+use Rattle.explain_serve.specs.Explained.{IsTextInLines}
 use Rattle.explain_serve.specs.Traces.{TracedOver, HasItsRoom, made_between}
 use Rattle.explain_serve.proofs.Traces.{goes_traced}
 use Rattle.wulameron_serve.specs.declared.explained.ExplainedAnswerer.{ExplainedAnswerer}
@@ -37,14 +37,14 @@ use Rattle.wulameron_serve.proofs.Refreshing.{refreshed_not}
 module _ {S : Type 0} (step : S → Letter → S → Type 0) (world : S → World) where
   -- what is written of a reply explains it
   pub explains : (old new : TracedOver S) (line : List ℕ) (c : Command) (r : Reply) (slot made : ℕ) → HasItsRoom old.table
-      → GoesBy (IsTracedAccess step) (λ traced. world traced.inner) old c r new → GoesAlong (IsTracedAccess step) old c r new
-      → slot ≡ slot_named c → made ≡ made_between old new → (said : List ℕ) → TellsLines world line slot r made new.table said → IsExplained step world old line c said new
-  explains old new line c r slot made room goes along slot_is made_is said tells = record {
+      → AppliesBy (IsTracedAccess step) (λ traced. world traced.inner) old c r new → AppliesAlong (IsTracedAccess step) old c r new
+      → slot ≡ slot_named c → made ≡ made_between old new → (output : List ℕ) → IsTextInLines world line slot r made new.table output → IsExplained step world old line c output new
+  explains old new line c r slot made room goes along slot_is made_is output is_text = record {
     reply = r;
     goes = goes_traced step world old new c r room along goes;
-    tells =
-        subst (λ k. TellsLines world line k r (made_between old new) new.table said) slot_is
-        (subst (λ n. TellsLines world line slot r n new.table said) made_is tells);
+    is_text =
+        subst (λ k. IsTextInLines world line k r (made_between old new) new.table output) slot_is
+        (subst (λ n. IsTextInLines world line slot r n new.table output) made_is is_text);
   }
 
 -- what others did leaves the room of the trace
@@ -58,28 +58,28 @@ module _ {S : Type 0} (step : S → Letter → S → Type 0) (world : S → Worl
   abbrev inside : TracedOver S → SessionOver S
   inside s = shown_session (λ traced. traced.inner) s
 
-  goes_inside : {old new : TracedOver S} {c : Command} {r : Reply} → GoesBy (IsTracedAccess step) (λ traced. world traced.inner) old c r new
-      → GoesBy step world (inside old) c r (inside new)
+  goes_inside : {old new : TracedOver S} {c : Command} {r : Reply} → AppliesBy (IsTracedAccess step) (λ traced. world traced.inner) old c r new
+      → AppliesBy step world (inside old) c r (inside new)
   goes_inside goes = (goes_shown (IsTracedAccess step) step (λ traced. traced.inner) world (λ traced. Unit {0}) (λ s t l p access. (access.inside, tt)) tt goes).0
 
   refreshed_inside : (old mid : TracedOver S) → RefreshesInside world own old mid → Refreshes world own (inside old) (inside mid)
   refreshed_inside old mid shown = record { slots = ap inside shown.same; nodes = shown.nodes; kept = shown.kept }
 
   -- a call of which a dead node may be the reason isn't made again
-  call_answered : {call : Call} {text : List ℕ} (line : List ℕ) (s t : SessionOver S) (answer : Reply) → call.node ≡ node → GoesBy step world s (command.Call call) answer t
-      → Tells call.slot answer text → (b : Bool) → is_blocked answer ≡ b → AnswersFor step world own node line s (command.Call call) text t
-  call_answered line s t answer same goes tells false e = shared.called answer same goes e tells
-  call_answered line s t answer same goes tells true e = shared.blocked answer t same goes e (shared.stays (refreshed_not world own t) tells)
+  call_answered : {call : Call} {text : List ℕ} (line : List ℕ) (s t : SessionOver S) (answer : Reply) → call.node ≡ node → AppliesBy step world s (command.Call call) answer t
+      → IsReplyText call.slot answer text → (b : Bool) → is_blocked answer ≡ b → AnswersFor step world own node line s (command.Call call) text t
+  call_answered line s t answer same goes is_text false e = shared.called answer same goes e is_text
+  call_answered line s t answer same goes is_text true e = shared.blocked answer t same goes e (shared.stays (refreshed_not world own t) is_text)
 
   pub begins_as_answered : {old new : TracedOver S} {line text : List ℕ} {c : Command} → ExplainsFor step world own node old line c text new
       → BeginsAsAnswered step world own node old line c text new
-  begins_as_answered (of_another {call = call} another) = record { said = _; explanation = []; are = sym (append-nil _); answers = shared.of_another another }
+  begins_as_answered (of_another {call = call} another) = record { output = _; explanation = []; are = sym (append-nil _); answers = shared.of_another another }
   begins_as_answered (called same is) =
-      record { said = is.tells.said; explanation = _; are = is.tells.are; answers = call_answered _ _ _ is.reply same (goes_inside is.goes.goes) is.tells.tells (is_blocked is.reply) refl }
+      record { output = is.is_text.output; explanation = _; are = is.is_text.are; answers = call_answered _ _ _ is.reply same (goes_inside is.goes.goes) is.is_text.is_text (is_blocked is.reply) refl }
   begins_as_answered (closed is) =
-      record { said = is.tells.said; explanation = _; are = is.tells.are; answers = shared.closed is.reply (goes_inside is.goes.goes) is.tells.tells }
+      record { output = is.is_text.output; explanation = _; are = is.is_text.are; answers = shared.closed is.reply (goes_inside is.goes.goes) is.is_text.is_text }
   begins_as_answered {old = old} (listed mid shown is) =
-      record { said = is.tells.said; explanation = _; are = is.tells.are; answers = shared.listed is.reply (inside mid) (refreshed_inside old mid shown) (goes_inside is.goes.goes) is.tells.tells }
+      record { output = is.is_text.output; explanation = _; are = is.is_text.are; answers = shared.listed is.reply (inside mid) (refreshed_inside old mid shown) (goes_inside is.goes.goes) is.is_text.is_text }
 
   -- and so does what ends with an empty line
   pub apart_as_answered : {old new : TracedOver S} {line text : List ℕ} {c : Command} → ExplainsApart step world own node old line c text new
@@ -87,9 +87,9 @@ module _ {S : Type 0} (step : S → Letter → S → Type 0) (world : S → Worl
   apart_as_answered {text = text} apart =
       let begins = begins_as_answered apart.explains in
       record {
-        said = begins.said;
+        output = begins.output;
         explanation = begins.explanation ++ codes "\n";
-        are = apart.are ∙ ap (λ (t : List ℕ). t ++ codes "\n") begins.are ∙ append_assoc begins.said begins.explanation (codes "\n");
+        are = apart.are ∙ ap (λ (t : List ℕ). t ++ codes "\n") begins.are ∙ append_assoc begins.output begins.explanation (codes "\n");
         answers = begins.answers;
       }
 
@@ -100,22 +100,22 @@ module _ {S : Type 0} (step : S → Letter → S → Type 0) (world : S → Worl
   ExplainsNode old line c text new = (new.node ≡ old.node) × ExplainsApart step world own old.node (own_state old.session) line c text (own_state new.session)
 
   -- an explained close is one for the node
-  pub says_closed : (node : ℕ) (old new : TracedOver S) (line : List ℕ) (c : Command) (slot : ℕ) → c ≡ command.Close slot
+  pub answers_closed : (node : ℕ) (old new : TracedOver S) (line : List ℕ) (c : Command) (slot : ℕ) → c ≡ command.Close slot
       → (done : Result (Unit {0}) AllocError) (before after : List ℕ)
-      → OnOk done (GrowsBy (λ said. IsExplained step world old line (command.Close slot) said new) before after)
-      → OnOk done (GrowsBy (λ said. ExplainsFor step world own node old line c said new) before after)
-  says_closed node old new line c slot is done before after grows =
-      grows_as (λ said. IsExplained step world old line (command.Close slot) said new) (λ said. ExplainsFor step world own node old line c said new)
-      (λ said explained. subst (λ k. ExplainsFor step world own node old line k said new) (sym is) (closed explained))
+      → OnOk done (GrowsBy (λ output. IsExplained step world old line (command.Close slot) output new) before after)
+      → OnOk done (GrowsBy (λ output. ExplainsFor step world own node old line c output new) before after)
+  answers_closed node old new line c slot is done before after grows =
+      grows_as (λ output. IsExplained step world old line (command.Close slot) output new) (λ output. ExplainsFor step world own node old line c output new)
+      (λ output explained. subst (λ k. ExplainsFor step world own node old line k output new) (sym is) (closed explained))
       done before after grows
 
   -- an answer with an empty line behind it
-  pub says_apart : (old new : ExplainedAnswerer S) (line : List ℕ) (c : Command) → new.node ≡ old.node → (before mid after : List ℕ)
-      → GrowsBy (λ said. ExplainsFor step world own old.node (own_state old.session) line c said (own_state new.session)) before mid
-      → after ≡ mid ++ codes "\n" → SaysAnswer ExplainsNode old line c before after new
-  says_apart old new line c same before mid after grows end = record {
-    said = grows.0 ++ codes "\n";
-    is_said = (same, record { explained = grows.0; explains = grows.1; are = refl });
+  pub answers_apart : (old new : ExplainedAnswerer S) (line : List ℕ) (c : Command) → new.node ≡ old.node → (before mid after : List ℕ)
+      → GrowsBy (λ output. ExplainsFor step world own old.node (own_state old.session) line c output (own_state new.session)) before mid
+      → after ≡ mid ++ codes "\n" → GrowsByAnswer ExplainsNode old line c before after new
+  answers_apart old new line c same before mid after grows end = record {
+    output = grows.0 ++ codes "\n";
+    is_answer = (same, record { explained = grows.0; explains = grows.1; are = refl });
     grown = end ∙ ap (λ (t : List ℕ). t ++ codes "\n") grows.2 ∙ append_assoc before grows.0 (codes "\n");
   }
 
@@ -149,13 +149,13 @@ module _ {S : Type 0} (step : S → Letter → S → Type 0) (world : S → Worl
         let next = lines_by_along (ExplainsNode step world own) (ExplainsApart step world own node) Shows along w a b line text s by.1 shows in
         (next.0, (subst (λ (r : TracedOver S). IsUsable (trouble r.table.inner)) shows.1 by.0, next.1), next.2)
 
-    -- what is said of an input is said of the session alone
-    pub serves_explained : (w : WrongLines) (a : ExplainedAnswerer S) (traced : TracedState S) (ended : Result Ending Fault) (input unread : List ℕ) (old new : Option (List ℕ))
+    -- what is written of an input is written of the session alone
+    pub serves_explained : (w : WrongLines) (a : ExplainedAnswerer S) (traced : TracedState S) (ended : Result Ending ServeError) (input unread : List ℕ) (old new : Option (List ℕ))
         → a.node ≡ node → own_state a.session ≡ fresh_session traced → ServesLines (AnswersOf w) a ended input unread old new
         → ServesLines (ExplainsLinesFor step world own trouble node w) (fresh_session traced) ended input unread old new
     serves_explained w a traced ended input unread old new is fresh by = record {
-      said = by.said;
-      transcript = lines_transcript_along (AnswersOf w) (ExplainsLinesFor step world own trouble node w) Shows (usable_along w) a (fresh_session traced) input ended by.said unread
+      output = by.output;
+      transcript = lines_transcript_along (AnswersOf w) (ExplainsLinesFor step world own trouble node w) Shows (usable_along w) a (fresh_session traced) input ended by.output unread
           by.transcript (is, fresh);
       written = by.written;
     }

@@ -11,10 +11,10 @@ use Rattle.iceoryx2_session.specs.Sessions.{SessionOver, shown_session}
 use Rattle.iceoryx2_session.specs.SessionStates.{own_state}
 use Rattle.iceoryx2_session.specs.StandingSlots.{SlotsStandInWorld, IsOfOwn}
 use Rattle.negotiate_serve.specs.declared.ending.Ending.{Ending}
-use Rattle.negotiate_serve.specs.declared.ending.Fault.{Fault}
+use Rattle.negotiate_serve.specs.declared.ending.ServeError.{ServeError}
 use Rattle.negotiate_serve.specs.declared.ending.WrongLines.{WrongLines}
 use Rattle.negotiate_serve.specs.Replies.{GrowsBy}
-use Rattle.negotiate_serve.specs.Served.{SaysAnswer, ServesLines}
+use Rattle.negotiate_serve.specs.Served.{GrowsByAnswer, ServesLines}
 use Rattle.negotiate_serve.specs.Transcripts.{Answering, AnsweringLines, LinesBy}
 use Rattle.negotiate_serve.proofs.Simulated.{lines_by_along, lines_transcript_along}
 use Rattle.wulameron_serve.specs.declared.shared.SharedAnswerer.{SharedAnswerer}
@@ -40,17 +40,17 @@ module _ {S : Type 0} (world : S → World) (own : S → ℕ → Bool) (node : �
 
 -- ---- texts
 
--- What a text has grown by is also said otherwise.
-pub grows_as : (P Q : List ℕ → Type 0) → ((said : List ℕ) → P said → Q said) → (done : Result (Unit {0}) AllocError) (old new : List ℕ)
+-- What a text has grown by is also written otherwise.
+pub grows_as : (P Q : List ℕ → Type 0) → ((output : List ℕ) → P output → Q output) → (done : Result (Unit {0}) AllocError) (old new : List ℕ)
     → OnOk done (GrowsBy P old new) → OnOk done (GrowsBy Q old new)
 grows_as P Q also (Ok d) old new grows = (grows.0, also grows.0 grows.1, grows.2)
 grows_as P Q also (Err e) old new grows = tt
 
 module _ {M : Type 0} (Answers : Answering M) (m n : M) (line : List ℕ) (c : Command) where
-  pub says_grown : (P : List ℕ → Type 0) → ((said : List ℕ) → P said → Answers m line c said n) → (done : Result (Unit {0}) AllocError) (old new : List ℕ)
-      → OnOk done (GrowsBy P old new) → OnOk done (SaysAnswer Answers m line c old new n)
-  says_grown P answers (Ok d) old new grows = record { said = grows.0; is_said = answers grows.0 grows.1; grown = grows.2 }
-  says_grown P answers (Err e) old new grows = tt
+  pub answers_grown : (P : List ℕ → Type 0) → ((output : List ℕ) → P output → Answers m line c output n) → (done : Result (Unit {0}) AllocError) (old new : List ℕ)
+      → OnOk done (GrowsBy P old new) → OnOk done (GrowsByAnswer Answers m line c old new n)
+  answers_grown P answers (Ok d) old new grows = record { output = grows.0; is_answer = answers grows.0 grows.1; grown = grows.2 }
+  answers_grown P answers (Err e) old new grows = tt
 
 -- ---- an input
 
@@ -85,12 +85,12 @@ module _ {S D : Type 0} (step : S → Letter → S → Type 0) (world : S → Wo
         let next = lines_by_along AnswersNode (AnswersNamed step world own node) Shows along w a b line text s by.1 shows in
         (next.0, (subst (λ (r : SessionOver S). IsUsable (trouble r.table)) shows.1 by.0, next.1), next.2)
 
-    -- what is said of an input is said of the session alone
-    pub serves_for : (w : WrongLines) (a : SharedAnswerer S D) (ended : Result Ending Fault) (input unread : List ℕ) (old new : Option (List ℕ)) → a.node ≡ node
+    -- what is written of an input is written of the session alone
+    pub serves_for : (w : WrongLines) (a : SharedAnswerer S D) (ended : Result Ending ServeError) (input unread : List ℕ) (old new : Option (List ℕ)) → a.node ≡ node
         → ServesLines (AnswersOf w) a ended input unread old new
         → ServesLines (AnswersLinesFor step world own trouble node w) (own_state a.session) ended input unread old new
     serves_for w a ended input unread old new is by = record {
-      said = by.said;
-      transcript = lines_transcript_along (AnswersOf w) (AnswersLinesFor step world own trouble node w) Shows (usable_along w) a (own_state a.session) input ended by.said unread by.transcript (is, refl);
+      output = by.output;
+      transcript = lines_transcript_along (AnswersOf w) (AnswersLinesFor step world own trouble node w) Shows (usable_along w) a (own_state a.session) input ended by.output unread by.transcript (is, refl);
       written = by.written;
     }

@@ -1,7 +1,7 @@
 -- How lines are answered over a storage that processes share, with each reply explained.
 use Rattle.std.specs.Prelude.{◌≡◌, ◌≢◌, ◌⊎◌, ℕ, Bool, true, List, [], ◌∷◌, ◌++◌, codes, Option, Result, IfOk}
 use Rattle.iceoryx2_access.specs.Letter.{Letter}
-use Rattle.iceoryx2_traced.specs.Trace.{TracedState, IsTracedAccess}
+use Rattle.iceoryx2_testing.specs.Trace.{TracedState, IsTracedAccess}
 use Rattle.iceoryx2_world.specs.World.{World}
 use Rattle.iceoryx2_world.specs.Across.{Agrees}
 use Rattle.iceoryx2_world.specs.Interference.{Rely}
@@ -19,8 +19,8 @@ use Rattle.negotiate_serve.specs.declared.ending.Ending.{Ending}
 use Rattle.negotiate_serve.specs.declared.ending.WrongLines.{WrongLines}
 use Rattle.negotiate_serve.specs.Served.{ServesLines}
 use Rattle.negotiate_serve.specs.Transcripts.{AnsweringLines, LinesBy, MayEnd, slot_named}
-use Rattle.explain_serve.specs.Explained.{TellsLines}
-use Rattle.explain_serve.specs.Traces.{TracedOver, GoesTracedBy, HasItsRoom, fresh_trace, made_between}
+use Rattle.explain_serve.specs.Explained.{IsTextInLines}
+use Rattle.explain_serve.specs.Traces.{TracedOver, AppliesTracedBy, HasItsRoom, fresh_trace, made_between}
 use Rattle.wulameron_serve.specs.declared.lines.Halt.{Halt}
 use Rattle.wulameron_trouble.specs.declared.trouble.Trouble.{Trouble}
 use Rattle.wulameron_serve.specs.Lines.{AnswersWhileUsable, is_not_started, seen_as}
@@ -35,8 +35,8 @@ use Rattle.wulameron_trouble.specs.Troubles.{trouble_of}
 pub record IsExplained {S : Type 0} (step : S → Letter → S → Type 0) (world : S → World) (old : TracedOver S)
     (line : List ℕ) (c : Command) (text : List ℕ) (new : TracedOver S) : Type 0 where
   pub reply : Reply
-  pub goes : GoesTracedBy step world old c reply new
-  pub tells : TellsLines world line (slot_named c) reply (made_between old new) new.table text
+  pub goes : AppliesTracedBy step world old c reply new
+  pub is_text : IsTextInLines world line (slot_named c) reply (made_between old new) new.table text
 
 module _ {S : Type 0} (world : S → World) (own : S → ℕ → Bool) where
   -- The session shows another world, in which all stayed that its own nodes rely on. Its slots hold what they held, and
@@ -74,13 +74,13 @@ module _ {S : Type 0} (step : S → Letter → S → Type 0) (world : S → Worl
     pub explains : ExplainsFor old line c explained new
     pub are : text ≡ explained ++ codes "\n"
 
-  -- The text begins with what is said without explanations, over the storage inside.
+  -- The text begins with what is written without explanations, over the storage inside.
   pub record BeginsAsAnswered (old : TracedOver S) (line : List ℕ) (c : Command) (text : List ℕ) (new : TracedOver S)
       : Type 0 where
-    pub said : List ℕ
+    pub output : List ℕ
     pub explanation : List ℕ
-    pub are : text ≡ said ++ explanation
-    pub answers : AnswersFor step world own node line (shown_session (λ traced. traced.inner) old) c said
+    pub are : text ≡ output ++ explanation
+    pub answers : AnswersFor step world own node line (shown_session (λ traced. traced.inner) old) c output
         (shown_session (λ traced. traced.inner) new)
 
 -- ---- an input
@@ -91,7 +91,7 @@ module _ {S : Type 0} (step : S → Letter → S → Type 0) (world : S → Worl
   abbrev pub ExplainsLinesFor : AnsweringLines (TracedOver S)
   ExplainsLinesFor = AnswersWhileUsable (λ s. trouble s.table.inner) (LinesBy w (ExplainsApart step world own node))
 
-  -- The writer has taken what is said of an input for the node, from a session on that has done nothing yet, and
+  -- The writer has taken what is written of an input for the node, from a session on that has done nothing yet, and
   -- nothing else. Then the factories of a session's slots are closed, and the world agrees.
   pub record ServesExplained (traced : TracedState S) (ended : Result Ending Halt) (left : TracedState S)
       (input : List ℕ) (old new : Option (List ℕ)) : Type 0 where

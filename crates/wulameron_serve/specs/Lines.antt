@@ -1,8 +1,8 @@
 -- How a program answers lines as long as its log can be used, and how it ends.
 use Rattle.std.specs.Prelude.{◌≡◌, ℕ, Bool, true, false, Result, Ok, Err, Option, Some, None}
 use Rattle.negotiate_serve.specs.declared.ending.Ending.{Ending}
-use Rattle.negotiate_serve.specs.declared.ending.Fault.{Fault}
-use Rattle.negotiate_serve.specs.declared.ending.Fault.TheVariants as fault
+use Rattle.negotiate_serve.specs.declared.ending.ServeError.{ServeError}
+use Rattle.negotiate_serve.specs.declared.ending.ServeError.TheVariants as failure
 use Rattle.negotiate_serve.specs.declared.ending.WrongLines.{WrongLines}
 use Rattle.negotiate_serve.specs.declared.ending.WrongLines.TheVariants as wrong_lines
 use Rattle.negotiate_serve.specs.Endings.{status_of}
@@ -20,17 +20,17 @@ IsUsable found = last_of found ≡ None
 abbrev pub AnswersWhileUsable : {M : Type 0} → (trouble : M → Option Trouble) → AnsweringLines M → AnsweringLines M
 AnswersWhileUsable trouble Answers m line text n = IsUsable (trouble m) × Answers m line text n
 
--- how it ends as far as it is seen at the input and the output: where the log ends it nothing more is said, as where
+-- how it ends as far as it is seen at the input and the output: where the log ends it nothing more is written, as where
 -- reading fails
-abbrev pub seen_as : Result Ending Halt → Result Ending Fault
+abbrev pub seen_as : Result Ending Halt → Result Ending ServeError
 seen_as (Ok ending) = Ok ending
 seen_as (Err (halt.Serving f)) = Err f
-seen_as (Err (halt.Log t)) = Err fault.Reading
+seen_as (Err (halt.Log t)) = Err failure.Reading
 
 -- It ends by the log or out of memory, as where a node can't start.
 abbrev pub is_not_started : Result Ending Halt → Bool
 is_not_started (Err (halt.Log t)) = true
-is_not_started (Err (halt.Serving fault.OutOfMemory)) = true
+is_not_started (Err (halt.Serving failure.OutOfMemory)) = true
 is_not_started _ = false
 
 -- A log by which it ends isn't used any more, for this reason.
@@ -45,6 +45,6 @@ wrong_lines_of true explains = wrong_lines.End
 wrong_lines_of false true = wrong_lines.ReplyApart
 wrong_lines_of false false = wrong_lines.Reply
 
--- 0 at the end of the input, 2 after a line that is no command, 3 after a fault and where the log ends it
+-- 0 at the end of the input, 2 after a line that is no command, 3 after a failure and where the log ends it
 abbrev pub status_with : Result Ending Halt → ℕ
 status_with ended = status_of (seen_as ended)

@@ -1,7 +1,7 @@
 //! What answers the lines of one node over a storage that processes share, and explains each reply.
 
 ghost use Rattle.std.specs.Prelude.{◌≡◌, ℕ, Bool, List, Some, None, IfOk, OnOk, string_bytes, true};
-ghost use Rattle.iceoryx2_traced.specs.Trace.{IsTracedAccess};
+ghost use Rattle.iceoryx2_testing.specs.Trace.{IsTracedAccess};
 ghost use Rattle.iceoryx2_world.specs.Across.{Agrees};
 ghost use Rattle.iceoryx2_world.specs.World.{World};
 ghost use Rattle.iceoryx2_commands.specs.declared.command.Command as declared-command;
@@ -9,7 +9,7 @@ ghost use Rattle.iceoryx2_commands.specs.declared.command.Command.TheVariants as
 ghost use Rattle.iceoryx2_session.specs.SessionStates.{own_state};
 ghost use Rattle.iceoryx2_session.specs.Sessions.{ClosesSlotsBy};
 ghost use Rattle.iceoryx2_session.specs.StandingSlots.{IsOfOwn};
-ghost use Rattle.negotiate_lines.specs.declared.line.Line.TheVariants as said;
+ghost use Rattle.negotiate_lines.specs.declared.line.Line.TheVariants as parsed;
 ghost use Rattle.negotiate_lines.specs.Lines.{IsLine};
 ghost use Rattle.negotiate_serve.specs.Replies.{GrowsBy};
 ghost use Rattle.explain_serve.specs.Traces.{HasItsRoom, TracedOver};
@@ -30,9 +30,9 @@ use iceoryx2_description::config::Config;
 use iceoryx2_journal::journal::Journal;
 use iceoryx2_session::session::Session;
 use iceoryx2_session::world_storage::WorldStorage;
-use iceoryx2_traced::traced::Traced;
+use iceoryx2_testing::traced::Traced;
 use negotiate_serve::answerer::{Answerer, slot_of};
-use negotiate_serve::ending::{Ending, Fault, WrongLines};
+use negotiate_serve::ending::{Ending, ServeError, WrongLines};
 use std::alloc::{AllocError, Global};
 use std::io::{Read, Write};
 use wulameron_trouble::trouble::{Refusing, Trouble, Troubled, Watch};
@@ -78,11 +78,11 @@ impl<S: WorldStorage> ExplainedAnswerer<S> {
 
     /// Answers a call, unless it is in the name of another node.
     fn call(&mut self, line: &[u8], call: Call, text: &mut String) -> Result<(), AllocError>
-        requires { IsLine line.now (said.Command (command.Call call)) }
+        requires { IsLine line.now (parsed.Command (command.Call call)) }
         ensures node { self.new.node ≡ self.old.node }
-        ensures said { StandsExplained S.world S.own self.old.node (own_state self.old.session)
-            → OnOk result (GrowsBy (λ said. ExplainsFor S.step S.world S.own self.old.node
-            (own_state self.old.session) line.now (command.Call call) said (own_state self.new.session))
+        ensures answered { StandsExplained S.world S.own self.old.node (own_state self.old.session)
+            → OnOk result (GrowsBy (λ output. ExplainsFor S.step S.world S.own self.old.node
+            (own_state self.old.session) line.now (command.Call call) output (own_state self.new.session))
             (string_bytes text.old) (string_bytes text.new)) }
         ensures stands { StandsExplained S.world S.own self.old.node (own_state self.old.session)
             → StandsExplained S.world S.own self.old.node (own_state self.new.session) }
@@ -96,11 +96,11 @@ impl<S: WorldStorage> ExplainedAnswerer<S> {
 
     /// Lists the services of all processes.
     fn list(&mut self, line: &[u8], text: &mut String) -> Result<(), AllocError>
-        requires { IsLine line.now (said.Command command.List) }
+        requires { IsLine line.now (parsed.Command command.List) }
         ensures node { self.new.node ≡ self.old.node }
-        ensures said { StandsExplained S.world S.own self.old.node (own_state self.old.session)
-            → OnOk result (GrowsBy (λ said. ExplainsFor S.step S.world S.own self.old.node
-            (own_state self.old.session) line.now command.List said (own_state self.new.session))
+        ensures answered { StandsExplained S.world S.own self.old.node (own_state self.old.session)
+            → OnOk result (GrowsBy (λ output. ExplainsFor S.step S.world S.own self.old.node
+            (own_state self.old.session) line.now command.List output (own_state self.new.session))
             (string_bytes text.old) (string_bytes text.new)) }
         ensures stands { StandsExplained S.world S.own self.old.node (own_state self.old.session)
             → StandsExplained S.world S.own self.old.node (own_state self.new.session) }
@@ -111,11 +111,11 @@ impl<S: WorldStorage> ExplainedAnswerer<S> {
 
     /// Answers a command, without the empty line at the end.
     fn reply(&mut self, line: &[u8], command: Command, text: &mut String) -> Result<(), AllocError>
-        requires { IsLine line.now (said.Command command) }
+        requires { IsLine line.now (parsed.Command command) }
         ensures node { self.new.node ≡ self.old.node }
-        ensures said { StandsExplained S.world S.own self.old.node (own_state self.old.session)
-            → OnOk result (GrowsBy (λ said. ExplainsFor S.step S.world S.own self.old.node
-            (own_state self.old.session) line.now command said (own_state self.new.session))
+        ensures answered { StandsExplained S.world S.own self.old.node (own_state self.old.session)
+            → OnOk result (GrowsBy (λ output. ExplainsFor S.step S.world S.own self.old.node
+            (own_state self.old.session) line.now command output (own_state self.new.session))
             (string_bytes text.old) (string_bytes text.new)) }
         ensures stands { StandsExplained S.world S.own self.old.node (own_state self.old.session)
             → StandsExplained S.world S.own self.old.node (own_state self.new.session) }
@@ -134,11 +134,11 @@ impl<S: WorldStorage> ExplainedAnswerer<S> {
         command: Command,
         text: &mut String,
     ) -> Result<(), AllocError>
-        requires { IsLine line.now (said.Command command) }
+        requires { IsLine line.now (parsed.Command command) }
         ensures node { self.new.node ≡ self.old.node }
-        ensures said { HasItsRoom (own_state self.old.session).table
-            → OnOk result (GrowsBy (λ said. IsExplained S.step S.world
-            (own_state self.old.session) line.now command said (own_state self.new.session))
+        ensures answered { HasItsRoom (own_state self.old.session).table
+            → OnOk result (GrowsBy (λ output. IsExplained S.step S.world
+            (own_state self.old.session) line.now command output (own_state self.new.session))
             (string_bytes text.old) (string_bytes text.new)) }
         ensures stands { let own = S.own (own_state self.old.session).table.inner in
             StandsExplained S.world S.own self.old.node (own_state self.old.session)
@@ -175,7 +175,7 @@ impl<S: WorldStorage> Answerer for ExplainedAnswerer<S> {
 
 /// What is true of each answer that is explained.
 pub fn explanations<S: Storage>()
-    // It begins with what is said without explanations, over the storage inside.
+    // It begins with what is written without explanations, over the storage inside.
     ensures { (world : S → World) (own : S → ℕ → Bool) (node : ℕ) (old new : TracedOver S)
         (line text : List ℕ) (c : declared-command.Command) → ExplainsApart S.step world own node old line c text new
         → BeginsAsAnswered S.step world own node old line c text new }
@@ -257,7 +257,7 @@ fn serve_traced<S: WorldStorage + Troubled + Drop, R: Read + Drop, W: Write, E: 
             let _ = watch.look(traced.inner(), errors);
             ended
         }
-        Err(_) => Err(Halt::Serving(Fault::OutOfMemory)),
+        Err(_) => Err(Halt::Serving(ServeError::OutOfMemory)),
     }
 }
 

@@ -7,8 +7,8 @@ ghost use Rattle.wulameron_serve.specs.Lines.{AnswersWhileUsable, IsEndOf, IsUsa
 
 use negotiate_serve::answer::answer_next;
 use negotiate_serve::answerer::Answerer;
-use negotiate_serve::ending::{Ending, Fault, WrongLines};
-use negotiate_serve::serve::tell_fault;
+use negotiate_serve::ending::{Ending, ServeError, WrongLines};
+use negotiate_serve::serve::write_failure;
 use std::alloc::Global;
 use std::io::{BufRead, BufReader, Read, Write};
 use wulameron_trouble::trouble::{Trouble, Troubled, Watch};
@@ -17,24 +17,24 @@ use wulameron_trouble::trouble::{Trouble, Troubled, Watch};
 #[derive(Clone, Copy, Debug, PartialEq, Eq)]
 pub enum Halt {
     /// The input, the output or memory, as in `negotiate`.
-    Serving(Fault),
+    Serving(ServeError),
     /// The log can't be used any more, of which the writer of errors has a line.
     Log(Trouble),
 }
 
-impl From<Fault> for Halt {
+impl From<ServeError> for Halt {
     ghost use Rattle.wulameron_serve.specs.declared.lines.Halt.TheVariants as halt;
 
     ghost from_gives = { λ fault given. given ≡ halt.Serving fault };
 
-    fn from(fault: Fault) -> Halt {
+    fn from(fault: ServeError) -> Halt {
         Halt::Serving(fault)
     }
 }
 
 /// Answers each line of an input, until it ends as in `serve_by`, or the log can't be used any more. A line that is
-/// neither blank nor a command ends it or has a reply, by `wrong_lines`. It writes what the answerer says, such replies
-/// and nothing else, and on the writer of errors what goes wrong at the log, after the line at which it does.
+/// neither blank nor a command ends it or has a reply, by `wrong_lines`. It writes what the answerer answers, such
+/// replies and nothing else, and on the writer of errors what goes wrong at the log, after the line at which it does.
 pub fn serve_until<A: Answerer + Troubled, R: Read + Drop, W: Write, E: Write>(
     alloc: Global,
     input: R,
@@ -64,7 +64,7 @@ pub fn serve_until<A: Answerer + Troubled, R: Read + Drop, W: Write, E: Write>(
             wrong_lines,
         ),
         Err(error) => {
-            let fault = tell_fault(Fault::of_reading(&error), output);
+            let fault = write_failure(ServeError::of_reading(&error), output);
             Err(Halt::Serving(fault))
         }
     }
@@ -94,14 +94,14 @@ fn serve_lines<A: Answerer + Troubled, R: BufRead, W: Write, E: Write>(
         Err(halt) => match halt {
             Halt::Log(trouble) => Err(Halt::Log(trouble)),
             Halt::Serving(fault) => {
-                let fault = tell_fault(fault, output);
+                let fault = write_failure(fault, output);
                 Err(Halt::Serving(fault))
             }
         },
     }
 }
 
-/// Answers line after line. A fault isn't told here.
+/// Answers line after line. A failure isn't written here.
 fn answer_lines<A: Answerer + Troubled, R: BufRead, W: Write, E: Write>(
     alloc: Global,
     reader: &mut R,
@@ -113,7 +113,7 @@ fn answer_lines<A: Answerer + Troubled, R: BufRead, W: Write, E: Write>(
 ) -> Result<Ending, Halt>
     requires stands { A.stands answerer.old }
     requires usable { IsUsable (A.trouble answerer.old) }
-    ensures said { (input : List ℕ) → R.remaining reader.old ≡ Some input
+    ensures answered { (input : List ℕ) → R.remaining reader.old ≡ Some input
         → AnswersAll (AnswersWhileUsable A.trouble (LinesBy wrong_lines A.answers)) answerer.old (seen_as result) input
         (R.remaining reader.new) (W.contents output.old) (W.contents output.new) }
     ensures may_end { IfOk result (MayEnd wrong_lines) }
@@ -139,5 +139,5 @@ fn answer_lines<A: Answerer + Troubled, R: BufRead, W: Write, E: Write>(
             return Err(Halt::Log(trouble));
         }
     }
-    Err(Halt::Serving(Fault::TooManyLines))
+    Err(Halt::Serving(ServeError::TooManyLines))
 }

@@ -15,10 +15,10 @@ use iceoryx2_journal::journal::Journal;
 use iceoryx2_monitoring::error::MonitoringError;
 use iceoryx2_monitoring::token::{Token, claim, claim_free};
 use iceoryx2_session::world_storage::WorldStorage;
-use negotiate_serve::ending::{Ending, FAULT, Fault, WrongLines, status};
-use negotiate_serve::output::say;
-use negotiate_serve::report::{report, report_fault};
-use negotiate_serve::serve::tell_fault;
+use negotiate_serve::ending::{Ending, FAULT, ServeError, WrongLines, status};
+use negotiate_serve::output::write_out;
+use negotiate_serve::report::{report, report_failure};
+use negotiate_serve::serve::write_failure;
 use std::alloc::Global;
 use std::fs::File;
 use std::io::{Read, Write};
@@ -32,7 +32,7 @@ use wulameron_trouble::trouble::{
 };
 
 /// Answers the lines of an input over the log in a file, which is made where there is none, and gives the status with
-/// which the program ends: 0 at the end of the input, 2 after a line that ends a strict run, and 3 after a fault, of
+/// which the program ends: 0 at the end of the input, 2 after a line that ends a strict run, and 3 after a failure, of
 /// which the writer of errors has a line. The node is claimed as long as it runs.
 pub fn run<
     F: Files<File = File> + Clock + RandomSource + AllocGlobal + Drop,
@@ -64,10 +64,10 @@ fn report_node<E: Write>(
     path: &str,
     node: u64,
     errors: &mut E,
-) -> Result<(), Fault> {
+) -> Result<(), ServeError> {
     match format!(in alloc; "wulameron: {path}: this is node {node}\n") {
-        Ok(line) => say(line.as_bytes(), errors),
-        Err(_) => Err(Fault::OutOfMemory),
+        Ok(line) => write_out(line.as_bytes(), errors),
+        Err(_) => Err(ServeError::OutOfMemory),
     }
 }
 
@@ -95,7 +95,7 @@ fn run_as<
 >(rt: &F, node: u64, run: &Run<'_>, input: R, output: &mut W, errors: &mut E) -> u8 {
     let alloc = rt.alloc();
     let Ok(path) = format!(in alloc; "{}", run.at) else {
-        let _ = report_fault("wulameron", Fault::OutOfMemory, errors);
+        let _ = report_failure("wulameron", ServeError::OutOfMemory, errors);
         return FAULT;
     };
     match FileLog::open(rt, path, run.options) {
@@ -140,20 +140,20 @@ fn wrong_lines_of(strict: bool, explains: bool) -> WrongLines
     WrongLines::Reply
 }
 
-/// Writes the line of a fault or of what is wrong with a line, and gives the status. A log that can't be used any more
-/// was told of.
+/// Writes the line of a failure or of what is wrong with a line, and gives the status. Of a log that can't be used any
+/// more the line was written before.
 fn report_end<E: Write>(ended: Result<Ending, Halt>, errors: &mut E) -> u8
     ensures { result ≡ status_with ended }
 {
     match ended {
         Ok(ending) => {
-            let ended: Result<Ending, Fault> = Ok(ending);
+            let ended: Result<Ending, ServeError> = Ok(ending);
             let _ = report("wulameron", &ended, errors);
             status(&ended)
         }
         Err(halt) => {
             if let Halt::Serving(fault) = halt {
-                let _ = report_fault("wulameron", fault, errors);
+                let _ = report_failure("wulameron", fault, errors);
             }
             FAULT
         }
@@ -210,7 +210,7 @@ pub fn halt_by(trouble: Option<Trouble>) -> Halt
 {
     match trouble {
         Some(trouble) => Halt::Log(trouble),
-        None => Halt::Serving(Fault::OutOfMemory),
+        None => Halt::Serving(ServeError::OutOfMemory),
     }
 }
 

@@ -6,9 +6,9 @@ ghost use Rattle.iceoryx2_commands.specs.declared.command.Command.TheVariants as
 ghost use Rattle.iceoryx2_session.specs.SessionStates.{own_state};
 ghost use Rattle.iceoryx2_session.specs.Sessions.{ClosesSlotsBy};
 ghost use Rattle.negotiate_serve.specs.Replies.{GrowsBy};
-ghost use Rattle.negotiate_lines.specs.declared.line.Line.TheVariants as said;
+ghost use Rattle.negotiate_lines.specs.declared.line.Line.TheVariants as parsed;
 ghost use Rattle.negotiate_lines.specs.Lines.{IsLine};
-ghost use Rattle.wulameron_serve.specs.Shared.{AnswersFor, Refreshes, SaysAgain, StandsFor, fresh_session, not_ours};
+ghost use Rattle.wulameron_serve.specs.Shared.{AnswersFor, Refreshes, AnswersAgain, StandsFor, fresh_session, not_ours};
 
 use crate::dead::{clean_dead, is_blocked};
 use iceoryx2_commands::command::{Call, Command, Reply};
@@ -24,7 +24,7 @@ use wulameron_trouble::trouble::{Trouble, Troubled};
 
 /// Writes that a line names another node. `AllocError` where there is no memory for the text.
 pub fn refuse_node(node: u64, text: &mut String) -> Result<(), AllocError>
-    ensures { OnOk result (GrowsBy (λ said. said ≡ not_ours node) (string_bytes text.old) (string_bytes text.new)) }
+    ensures { OnOk result (GrowsBy (λ output. output ≡ not_ours node) (string_bytes text.old) (string_bytes text.new)) }
 {
     writeln!(text, "node {node} is not this program's")
 }
@@ -109,8 +109,8 @@ impl<S: WorldStorage, D: DeadNodes + Drop> SharedAnswerer<S, D> {
     /// nodes have is given back, and then it is made once more.
     fn call(&mut self, line: &[u8], call: Call, text: &mut String) -> Result<(), AllocError>
         ensures node { self.new.node ≡ self.old.node }
-        ensures said { OnOk result (GrowsBy (λ said. AnswersFor S.step S.world S.own self.old.node
-            line.now (own_state self.old.session) (command.Call call) said (own_state self.new.session))
+        ensures answered { OnOk result (GrowsBy (λ output. AnswersFor S.step S.world S.own self.old.node
+            line.now (own_state self.old.session) (command.Call call) output (own_state self.new.session))
             (string_bytes text.old) (string_bytes text.new)) }
         ensures stands { StandsFor S.world S.own self.old.node (own_state self.old.session)
             → StandsFor S.world S.own self.old.node (own_state self.new.session) }
@@ -136,7 +136,7 @@ impl<S: WorldStorage, D: DeadNodes + Drop> SharedAnswerer<S, D> {
         text: &mut String,
     ) -> Result<(), AllocError>
         ensures node { self.new.node ≡ self.old.node }
-        ensures said { OnOk result (GrowsBy (SaysAgain S.step S.world S.own self.old.node line.now reply.now slot
+        ensures answered { OnOk result (GrowsBy (AnswersAgain S.step S.world S.own self.old.node line.now reply.now slot
             (own_state self.old.session) (own_state self.new.session))
             (string_bytes text.old) (string_bytes text.new)) }
         ensures stands { StandsFor S.world S.own self.old.node (own_state self.old.session)
@@ -157,8 +157,8 @@ impl<S: WorldStorage, D: DeadNodes + Drop> SharedAnswerer<S, D> {
 
     fn close(&mut self, _line: &[u8], slot: usize, text: &mut String) -> Result<(), AllocError>
         ensures node { self.new.node ≡ self.old.node }
-        ensures said { OnOk result (GrowsBy (λ said. AnswersFor S.step S.world S.own self.old.node
-            _line.now (own_state self.old.session) (command.Close slot) said (own_state self.new.session))
+        ensures answered { OnOk result (GrowsBy (λ output. AnswersFor S.step S.world S.own self.old.node
+            _line.now (own_state self.old.session) (command.Close slot) output (own_state self.new.session))
             (string_bytes text.old) (string_bytes text.new)) }
         ensures stands { StandsFor S.world S.own self.old.node (own_state self.old.session)
             → StandsFor S.world S.own self.old.node (own_state self.new.session) }
@@ -169,8 +169,8 @@ impl<S: WorldStorage, D: DeadNodes + Drop> SharedAnswerer<S, D> {
     /// Lists the services of all processes.
     fn list(&mut self, _line: &[u8], text: &mut String) -> Result<(), AllocError>
         ensures node { self.new.node ≡ self.old.node }
-        ensures said { OnOk result (GrowsBy (λ said. AnswersFor S.step S.world S.own self.old.node
-            _line.now (own_state self.old.session) command.List said (own_state self.new.session))
+        ensures answered { OnOk result (GrowsBy (λ output. AnswersFor S.step S.world S.own self.old.node
+            _line.now (own_state self.old.session) command.List output (own_state self.new.session))
             (string_bytes text.old) (string_bytes text.new)) }
         ensures stands { StandsFor S.world S.own self.old.node (own_state self.old.session)
             → StandsFor S.world S.own self.old.node (own_state self.new.session) }
@@ -182,7 +182,7 @@ impl<S: WorldStorage, D: DeadNodes + Drop> SharedAnswerer<S, D> {
 
 /// The call of a line, where it is one in the name of this node and there is memory for it.
 pub fn call_of(alloc: Global, line: &[u8], node: u64) -> Option<Call>
-    ensures { IfSome result (λ call. IsLine line.now (said.Command (command.Call call)) × (call.node ≡ node)) }
+    ensures { IfSome result (λ call. IsLine line.now (parsed.Command (command.Call call)) × (call.node ≡ node)) }
 {
     match line::parse(alloc, line) {
         Ok(line) => call_in(line, node),
@@ -192,7 +192,7 @@ pub fn call_of(alloc: Global, line: &[u8], node: u64) -> Option<Call>
 
 /// The call, where it is one in the name of this node.
 fn call_in(line: Line, node: u64) -> Option<Call>
-    ensures { IfSome result (λ call. (line ≡ said.Command (command.Call call)) × (call.node ≡ node)) }
+    ensures { IfSome result (λ call. (line ≡ parsed.Command (command.Call call)) × (call.node ≡ node)) }
 {
     match line {
         Line::Command(named) => named_call(named, node),

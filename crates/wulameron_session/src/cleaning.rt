@@ -1,7 +1,7 @@
 //! The call by which it is cleaned up for dead nodes.
 
 use crate::log_nodes::SharedNodes;
-use crate::texts::{LOG, NODE_ALIVE, of_monitoring, of_trouble, telling};
+use crate::texts::{LOG, NODE_ALIVE, of_monitoring, of_trouble, text_frame};
 use iceoryx2_journal::cleaning::Cleaned;
 use iceoryx2_monitoring::error::MonitoringError;
 use iceoryx2_session::session::Session;
@@ -46,7 +46,7 @@ impl Given {
         }
     }
 
-    fn told(self, alloc: Global) -> Frame {
+    fn frame(self, alloc: Global) -> Frame {
         with_numbers(
             alloc,
             Numbers {
@@ -100,7 +100,7 @@ fn wanted_nodes<N: SharedNodes>(
 }
 
 /// The reply where there are no nodes to clean up for.
-fn told_unfound(alloc: Global, why: &Unfound) -> Frame {
+fn unfound_frame(alloc: Global, why: &Unfound) -> Frame {
     match why {
         Unfound::NotDead(NotDead::IsAlive { node: _ }) => with_code(alloc, NODE_ALIVE),
         Unfound::NotDead(NotDead::NeverClaimed { node: _ }) => with_code(alloc, NO_SUCH_ITEM),
@@ -158,10 +158,10 @@ fn clean_nodes<S: WorldStorage, D: DeadNodes>(
 }
 
 /// The reply where the log or a node's file refused.
-fn told_refused<S: WorldStorage + Troubled>(alloc: Global, session: &Session<S>) -> Frame {
+fn refused_frame<S: WorldStorage + Troubled>(alloc: Global, session: &Session<S>) -> Frame {
     match session.storage().trouble() {
         Some(trouble) => of_trouble(alloc, trouble),
-        None => telling(
+        None => text_frame(
             alloc,
             LOG,
             String::from_str(alloc, "the file of a dead node refused"),
@@ -179,12 +179,12 @@ fn clean_found<S: WorldStorage + Troubled, D: DeadNodes>(
 ) -> Frame {
     let outcome = clean_nodes(session, dead, nodes);
     if outcome.some_refused {
-        return told_refused(alloc, session);
+        return refused_frame(alloc, session);
     }
     if is_named && outcome.some_alive {
         return with_code(alloc, NODE_ALIVE);
     }
-    outcome.given.told(alloc)
+    outcome.given.frame(alloc)
 }
 
 /// What cleaning up for these nodes would give back in this world. `None` where the world refuses a step.
@@ -199,19 +199,19 @@ fn rehearse_all(world: &mut StoredWorld, nodes: &[u64]) -> Option<Given> {
 /// Tells what cleaning up for these nodes would give back.
 fn rehearse_found<N: SharedNodes>(alloc: Global, nodes: &N, found: &[u64]) -> Frame {
     let Some(mut world) = nodes.world(alloc) else {
-        return telling(
+        return text_frame(
             alloc,
             LOG,
             String::from_str(alloc, "the log can't be taken over as a whole"),
         );
     };
     match rehearse_all(&mut world, found) {
-        Some(given) => given.told(alloc),
-        None => telling(alloc, LOG, format!(in alloc; "the log {STAYS}")),
+        Some(given) => given.frame(alloc),
+        None => text_frame(alloc, LOG, format!(in alloc; "the log {STAYS}")),
     }
 }
 
-/// Cleans up for each dead node, or the one that the call names, or tells what that would give back.
+/// Cleans up for each dead node, or the one that the call names, or writes what that would give back.
 pub fn clean<S: WorldStorage + Troubled, N: SharedNodes>(
     alloc: Global,
     session: &mut Session<S>,
@@ -227,6 +227,6 @@ pub fn clean<S: WorldStorage + Troubled, N: SharedNodes>(
             }
             clean_found(alloc, session, nodes, &found, named.is_some())
         }
-        Err(why) => told_unfound(alloc, &why),
+        Err(why) => unfound_frame(alloc, &why),
     }
 }

@@ -1,12 +1,12 @@
 //! The session of a node over a storage that processes share, as a program in another language asks it.
 
 ghost use Rattle.negotiate_lines.specs.Lines.{IsLine};
-ghost use Rattle.negotiate_lines.specs.declared.line.Line.TheVariants as said;
+ghost use Rattle.negotiate_lines.specs.declared.line.Line.TheVariants as parsed;
 
 use crate::cleaning::clean;
 use crate::log_nodes::SharedNodes;
 use crate::sending::send;
-use crate::texts::{BAD_LINE, of_last_trouble, of_monitoring, saying, telling};
+use crate::texts::{BAD_LINE, done_text_frame, of_last_trouble, of_monitoring, text_frame};
 use iceoryx2_commands::command::{Command, SLOTS};
 use iceoryx2_monitoring::state::{NodeState, NodeStatus};
 use iceoryx2_session::world_storage::WorldStorage;
@@ -205,11 +205,11 @@ impl<S: WorldStorage + Troubled, N: SharedNodes + Drop> NodeSession<S, N> {
 
     // ---- a line
 
-    /// Answers a line, as the command `run` does. One that is no command is told what is wrong with it.
+    /// Answers a line, as the command `run` does. One that is no command is answered what is wrong with it.
     fn line(self, alloc: Global, line: &[u8]) -> (NodeSession<S, N>, Frame) {
         match line::parse(alloc, line) {
             Ok(Line::Blank) => (self, with_text(alloc, b"")),
-            Ok(Line::NotACommand) => (self, told_wrong(alloc, line)),
+            Ok(Line::NotACommand) => (self, wrong_line_frame(alloc, line)),
             Ok(Line::Command(command)) => self.command(alloc, line, command),
             Err(_) => (self, with_code(alloc, OUT_OF_MEMORY)),
         }
@@ -217,7 +217,7 @@ impl<S: WorldStorage + Troubled, N: SharedNodes + Drop> NodeSession<S, N> {
 
     /// Answers the command of a line.
     fn command(self, alloc: Global, line: &[u8], command: Command) -> (NodeSession<S, N>, Frame)
-        requires { IsLine line.now (said.Command command) }
+        requires { IsLine line.now (parsed.Command command) }
     {
         let NodeSession {
             node,
@@ -247,16 +247,16 @@ impl<S: WorldStorage + Troubled, N: SharedNodes + Drop> NodeSession<S, N> {
             statuses,
         };
         match answered {
-            Ok(()) => (session, saying(alloc, Ok(text))),
+            Ok(()) => (session, done_text_frame(alloc, Ok(text))),
             Err(_) => (session, with_code(alloc, OUT_OF_MEMORY)),
         }
     }
 }
 
 /// The reply to a line that is no command.
-fn told_wrong(alloc: Global, line: &[u8]) -> Frame {
+fn wrong_line_frame(alloc: Global, line: &[u8]) -> Frame {
     match wrong_in(alloc, line) {
-        Ok(Some(wrong)) => telling(alloc, BAD_LINE, format!(in alloc; "{wrong}")),
+        Ok(Some(wrong)) => text_frame(alloc, BAD_LINE, format!(in alloc; "{wrong}")),
         Ok(None) => with_code(alloc, BAD_LINE),
         Err(_) => with_code(alloc, OUT_OF_MEMORY),
     }

@@ -65,8 +65,8 @@ fn make<S: WorldStorage, D: DeadNodes>(
     reply
 }
 
-/// What is told of a request that was sent.
-fn told(alloc: Global, answer: Result<u64, SlotError>) -> Frame {
+/// What is answered to a request that was sent.
+fn sent_frame(alloc: Global, answer: Result<u64, SlotError>) -> Frame {
     match answer {
         Ok(number) => with_numbers(
             alloc,
@@ -107,7 +107,7 @@ pub fn send<S: WorldStorage, D: DeadNodes>(
                 return with_code(alloc, OTHER_NODE);
             }
             let reply = make(alloc, &mut state.session, dead, call);
-            told(alloc, sent(&reply))
+            sent_frame(alloc, sent(&reply))
         }
     }
 }

@@ -3,8 +3,8 @@
 use crate::log_nodes::SharedNodes;
 use crate::node_session::NodeSession;
 use iceoryx2_session::world_storage::WorldStorage;
-use negotiate_serve::ending::Fault;
-use negotiate_serve::output::say;
+use negotiate_serve::ending::ServeError;
+use negotiate_serve::output::write_out;
 use std::alloc::Global;
 use std::io::{Read, Write};
 use wulameron_calls::replies::with_code;
@@ -22,28 +22,32 @@ pub enum Stop {
     /// A call can't be read.
     Unread(ReadError),
     /// A reply can't be written.
-    Unwritten(Fault),
+    Unwritten(ServeError),
     /// 2^64 - 1 calls were answered.
     TooManyCalls,
 }
 
-impl From<Fault> for Stop {
+impl From<ServeError> for Stop {
     ghost use Rattle.std.specs.Prelude.{◌≡◌};
     ghost use Rattle.wulameron_session.specs.declared.serving.Stop.TheVariants as stop;
 
     ghost from_gives = { λ fault given. given ≡ stop.Unwritten fault };
 
-    fn from(fault: Fault) -> Stop {
+    fn from(fault: ServeError) -> Stop {
         Stop::Unwritten(fault)
     }
 }
 
 /// Writes a frame, and flushes it.
-pub fn write_frame<W: Write>(alloc: Global, frame: &Frame, output: &mut W) -> Result<(), Fault> {
+pub fn write_frame<W: Write>(
+    alloc: Global,
+    frame: &Frame,
+    output: &mut W,
+) -> Result<(), ServeError> {
     match encode(alloc, frame) {
-        Ok(bytes) => say(&bytes, output),
-        Err(EncodeError::OutOfMemory) => Err(Fault::OutOfMemory),
-        Err(EncodeError::TooLong) => Err(Fault::Writing),
+        Ok(bytes) => write_out(&bytes, output),
+        Err(EncodeError::OutOfMemory) => Err(ServeError::OutOfMemory),
+        Err(EncodeError::TooLong) => Err(ServeError::Writing),
     }
 }
 

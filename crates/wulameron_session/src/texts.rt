@@ -1,4 +1,4 @@
-//! The replies that tell by a text what is wrong.
+//! The replies that have as a text what is wrong.
 
 ghost use Rattle.std.specs.Prelude.{◌≡◌};
 
@@ -29,7 +29,7 @@ pub fn codes_of_texts()
 {}
 
 /// A reply of a code and a text, or that there was no memory.
-pub fn telling(alloc: Global, code: u32, text: Result<String, AllocError>) -> Frame {
+pub fn text_frame(alloc: Global, code: u32, text: Result<String, AllocError>) -> Frame {
     match text {
         Ok(text) => Frame {
             numbers: only(code),
@@ -41,13 +41,13 @@ pub fn telling(alloc: Global, code: u32, text: Result<String, AllocError>) -> Fr
 }
 
 /// A reply of a text.
-pub fn saying(alloc: Global, text: Result<String, AllocError>) -> Frame {
-    telling(alloc, DONE, text)
+pub fn done_text_frame(alloc: Global, text: Result<String, AllocError>) -> Frame {
+    text_frame(alloc, DONE, text)
 }
 
 /// The reply where this goes wrong at the log.
 pub fn of_trouble(alloc: Global, trouble: Trouble) -> Frame {
-    telling(alloc, LOG, format!(in alloc; "the log {trouble}"))
+    text_frame(alloc, LOG, format!(in alloc; "the log {trouble}"))
 }
 
 /// The reply where a node's file or the log's folder refuses.
@@ -57,7 +57,7 @@ pub fn of_monitoring(alloc: Global, error: &MonitoringError) -> Frame {
         MonitoringFault::NoFreeNode => NODE_IN_USE,
         MonitoringFault::File(_) => LOG,
     };
-    telling(
+    text_frame(
         alloc,
         code,
         format!(in alloc; "{}: {}", error.path(), error.fault()),

@@ -3,7 +3,7 @@ use Rattle.std.proofs.Common.{◌≡◌, ℕ, Option, Some, None, subst}
 use Rattle.std.specs.Prelude.{option_map}
 use Rattle.iceoryx2_access.specs.Registered.{Registered}
 use Rattle.iceoryx2_description.specs.Description.{Description}
-use Rattle.wulameron_state.specs.Reads.{FromSlot, ReadsService, TellsService, empty_code, of_held, of_none}
+use Rattle.wulameron_state.specs.Reads.{FromSlot, ReadsService, ReadsServiceAt, empty_code, of_held, of_none}
 
 abbrev description_of : Option Registered → Option Description
 description_of held = option_map (λ f. f.description) held
@@ -27,12 +27,12 @@ same_factory f g e = cc
 
 module _ (pattern number node new_pattern new_number new_node slot code : ℕ) where
   pub service_held : (held : Option Registered) (f : Registered) → Some f ≡ held → ReadsService f code new_pattern new_number new_node
-      → TellsService pattern number node new_pattern new_number new_node slot code held
+      → ReadsServiceAt pattern number node new_pattern new_number new_node slot code held
   service_held None f is so = absurd cc
   service_held (Some g) f is so = subst (λ (h : Registered). ReadsService h code new_pattern new_number new_node) (same_factory f g is) so
 
   pub service_none : (held : Option Registered) → None ≡ held → code ≡ empty_code slot
       → (new_pattern ≡ pattern) × (new_number ≡ number) × (new_node ≡ node)
-      → TellsService pattern number node new_pattern new_number new_node slot code held
+      → ReadsServiceAt pattern number node new_pattern new_number new_node slot code held
   service_none None is coded stays = (coded, stays.0, stays.1, stays.2)
   service_none (Some g) is coded stays = absurd cc

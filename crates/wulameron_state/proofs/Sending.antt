@@ -11,7 +11,7 @@ use Rattle.iceoryx2_session.specs.StandingSlots.{IsOfOwn}
 use Rattle.iceoryx2_world.specs.World.{World}
 use Rattle.wulameron_request.specs.Pending.{for_slot}
 use Rattle.wulameron_state.specs.Slots.{sent}
-use Rattle.wulameron_state.specs.States.{GoesAs, IsOfOwnNode, Sends, nothing, goes}
+use Rattle.wulameron_state.specs.States.{AppliesAs, IsOfOwnNode, Sends, nothing, goes}
 use Rattle.wulameron_state.specs.declared.error.SlotError.{SlotError}
 use Rattle.wulameron_state.specs.declared.error.SlotError.TheVariants.{NoRequest}
 
@@ -30,12 +30,12 @@ module _ {S : Type 0} {step : S → Letter → S → Type 0} {world : S → Worl
   not_sent (Some call) left is after = absurd cc
 
   pub is_sent : {answer : Result ℕ SlotError} {new : SessionOver S} (pending left : Option Call) (call : Call) → Some call ≡ for_slot slot pending → left ≡ None
-      → GoesAs step world sent old (command.Call call) answer new → Sends step world old slot pending answer new left
+      → AppliesAs step world sent old (command.Call call) answer new → Sends step world old slot pending answer new left
   is_sent None left call is after so = absurd cc
   is_sent {answer = answer} {new = new} (Some own) left call is after so =
       let same : call ≡ record own { slot = slot } = same_call call (record own { slot = slot }) is in
       subst (λ (o : Option Call). Sends step world old slot (Some own) answer new o) (sym after)
-      (goes (subst (λ (c : Call). GoesAs step world sent old (command.Call c) answer new) same so))
+      (goes (subst (λ (c : Call). AppliesAs step world sent old (command.Call c) answer new) same so))
 
 -- the call of a request of an own node is of that node, for whatever slot
 pub own_call : (own : ℕ → Bool) (config : Config) (slot : ℕ) (pending : Option Call) (call : Call) → Some call ≡ for_slot slot pending

@@ -13,7 +13,7 @@ use Rattle.iceoryx2_types.specs.Types.{Detail, HasNameLength, IsAlignment, detai
 use Rattle.iceoryx2_types.specs.declared.types.TypeVariant.{TypeVariant}
 use Rattle.iceoryx2_world.specs.Listing.{Lists}
 use Rattle.iceoryx2_world.specs.World.{World}
-use Rattle.iceoryx2_world.specs.declared.listing.Entry.{Entry}
+use Rattle.iceoryx2_world.specs.declared.listing.ListedService.{ListedService}
 use Rattle.wulameron_request.specs.Codes.{code_of as code_of_request, code_of_answer}
 use Rattle.wulameron_request.specs.Events as event_table
 use Rattle.wulameron_request.specs.Pending.{BeginsNot, InSettings, IsBegun, Pieces, TakesKey, TakesPair, TakesTime}
@@ -25,7 +25,7 @@ use Rattle.wulameron_request.specs.Requests.{Answer, Sets}
 use Rattle.wulameron_request.specs.declared.error.RequestError.{RequestError}
 use Rattle.wulameron_request.specs.declared.error.RequestError.TheVariants.{BadType, NotUtf8, OutOfMemory, UnknownSetting}
 use Rattle.wulameron_state.specs.Slots.{abandoned, closed, code_of}
-use Rattle.wulameron_state.specs.States.{GoesAs, Sends}
+use Rattle.wulameron_state.specs.States.{AppliesAs, Sends}
 use Rattle.wulameron_state.specs.declared.error.SlotError.{SlotError}
 use Rattle.wulameron_state.specs.declared.error.SlotError.TheVariants.{Refused}
 use Rattle.wulameron_state.specs.declared.state.State.{State}
@@ -45,13 +45,14 @@ abbrev pub code_of_slot : Result (Unit {0}) SlotError → ℕ
 code_of_slot (Ok done) = 0
 code_of_slot (Err error) = code_of error
 
--- What is told of a request that was sent: the service's number, or the refusal's, in its place. The other one stays.
-abbrev pub TellsSent : Result ℕ SlotError → (code number refusal new_number new_refusal : ℕ) → Type 0
-TellsSent (Ok found) code number refusal new_number new_refusal =
+-- What is answered to a request that was sent: the service's number, or the refusal's, in its place. The other one
+-- stays.
+abbrev pub WritesSent : Result ℕ SlotError → (code number refusal new_number new_refusal : ℕ) → Type 0
+WritesSent (Ok found) code number refusal new_number new_refusal =
     (code ≡ 0) × (new_number ≡ found) × (new_refusal ≡ refusal)
-TellsSent (Err (Refused why)) code number refusal new_number new_refusal =
+WritesSent (Err (Refused why)) code number refusal new_number new_refusal =
     (code ≡ 20) × (new_number ≡ number) × (new_refusal ≡ number_of why)
-TellsSent (Err error) code number refusal new_number new_refusal =
+WritesSent (Err error) code number refusal new_number new_refusal =
     (code ≡ code_of error) × (new_number ≡ number) × (new_refusal ≡ refusal)
 
 -- ---- pieces whose values are read first
@@ -135,17 +136,17 @@ abbrev pub InPending : {S : Type 0} → Asking → (code : ℕ) → (old new : S
 InPending asks code old new = asks old.pending code new.pending × (new ≡ record old { pending = new.pending })
 
 module _ {S : Type 0} (step : S → Letter → S → Type 0) (world : S → World) (code : ℕ) (old new : State S) where
-  -- The request that is pending is sent for a slot, and the service's number is told, or the refusal's.
+  -- The request that is pending is sent for a slot, and the service's number is written, or the refusal's.
   abbrev pub SendsFor : (slot number refusal new_number new_refusal : ℕ) → Type 0
   SendsFor slot number refusal new_number new_refusal = (answer : Result ℕ SlotError)
       × Sends step world (own_state old.session) slot old.pending answer (own_state new.session) new.pending
-      × TellsSent answer code number refusal new_number new_refusal
+      × WritesSent answer code number refusal new_number new_refusal
       × (new ≡ record old { session = new.session; pending = new.pending })
 
-  -- A slot's factory is closed, and the code tells whether it was.
+  -- A slot's factory is closed, and the code is whether it was.
   abbrev pub ClosesSlot : (slot : ℕ) → Type 0
   ClosesSlot slot = (answer : Result (Unit {0}) SlotError)
-      × GoesAs step world closed (own_state old.session) (command.Close slot) answer (own_state new.session)
+      × AppliesAs step world closed (own_state old.session) (command.Close slot) answer (own_state new.session)
       × (code ≡ code_of_slot answer) × (new ≡ record old { session = new.session })
 
   -- A slot lets go of what it holds, without an access.
@@ -155,12 +156,14 @@ module _ {S : Type 0} (step : S → Letter → S → Type 0) (world : S → Worl
   }) × (code ≡ code_of_slot (abandoned slot (held_at (own_state old.session).slots slot)))
       × (new ≡ record old { session = new.session })
 
--- A listing is kept, and told how many entries it has. Where there is no memory the last one stays.
-pub data TellsList (w : World) (old : List Entry) (count : ℕ) : (code : ℕ) → List Entry → (told : ℕ) → Type 0 where
-  listed : {new : List Entry} {told : ℕ} → Lists w new → told ≡ length new → TellsList w old count 0 new told
-  no_memory : TellsList w old count 4 old count
+-- A listing is kept, and how many entries it has is written. Where there is no memory the last one stays.
+pub data KeepsListing (w : World) (old : List ListedService) (count : ℕ)
+    : (code : ℕ) → List ListedService → (new_count : ℕ) → Type 0 where
+  listed : {new : List ListedService} {new_count : ℕ} → Lists w new → new_count ≡ length new
+      → KeepsListing w old count 0 new new_count
+  no_memory : KeepsListing w old count 4 old count
 
-abbrev pub ListsInto : {S : Type 0} (world : S → World) (code : ℕ) (old new : State S) (count told : ℕ) → Type 0
-ListsInto world code old new count told =
-    TellsList (world (own_state old.session).table) old.listing.items count code new.listing.items told
+abbrev pub ListsInto : {S : Type 0} (world : S → World) (code : ℕ) (old new : State S) (count new_count : ℕ) → Type 0
+ListsInto world code old new count new_count =
+    KeepsListing (world (own_state old.session).table) old.listing.items count code new.listing.items new_count
     × (new ≡ record old { listing = new.listing })

@@ -69,7 +69,7 @@ WritesTypeName (Err error) place length code new written =
 
 -- The bytes of a description are written into a place. There may be no memory for them, and then it is as it was.
 pub data WritesForm (d : Description) (place : List ℕ) (length code : ℕ) (new : List ℕ) (written : ℕ) : Type 0 where
-  told : {bytes : List ℕ} → IsForm d bytes → WritesText bytes place code new written
+  of_text : {bytes : List ℕ} → IsForm d bytes → WritesText bytes place code new written
       → WritesForm d place length code new written
   no_memory : code ≡ OUT_OF_MEMORY → new ≡ place → written ≡ length → WritesForm d place length code new written
 
@@ -79,7 +79,7 @@ pub data WritesForm (d : Description) (place : List ℕ) (length code : ℕ) (ne
 abbrev pub code_of_both : (first second : ℕ) → ℕ
 code_of_both first second = if first == 0 then second else 5
 
--- A key and its value are each written into its place, and the lengths of both are told.
+-- A key and its value are each written into its place, and the lengths of both are written.
 pub record WritesPair (pair : Pair) (key_place value_place : List ℕ) (code : ℕ) (new_key : List ℕ) (key_length : ℕ)
     (new_value : List ℕ) (value_length : ℕ) : Type 0 where
   pub first : ℕ
@@ -88,64 +88,65 @@ pub record WritesPair (pair : Pair) (key_place value_place : List ℕ) (code : �
   pub value : WritesText pair.value value_place second new_value value_length
   pub both : code ≡ code_of_both first second
 
--- Something is read of an attribute, where there is one of this index. Else the code tells it, and all places stay.
+-- Something is read of an attribute, where there is one of this index. Else the code is that of none, and all places
+-- stay.
 abbrev pub FromPair : (reads : Pair → Type 0) (code : ℕ) (kept : Type 0) → Option Pair → Type 0
 FromPair reads code kept (Some pair) = reads pair
 FromPair reads code kept None = (code ≡ NO_SUCH_ITEM) × kept
 
--- ---- what each read tells of what a slot holds
+-- ---- what each read gives of what a slot holds
 
-abbrev pub TellsService : (pattern number node new_pattern new_number new_node : ℕ)
+abbrev pub ReadsServiceAt : (pattern number node new_pattern new_number new_node : ℕ)
     → (slot code : ℕ) → Option Registered → Type 0
-TellsService pattern number node new_pattern new_number new_node slot code (Some held) =
+ReadsServiceAt pattern number node new_pattern new_number new_node slot code (Some held) =
     ReadsService held code new_pattern new_number new_node
-TellsService pattern number node new_pattern new_number new_node slot code None =
+ReadsServiceAt pattern number node new_pattern new_number new_node slot code None =
     (code ≡ empty_code slot) × (new_pattern ≡ pattern) × (new_number ≡ number) × (new_node ≡ node)
 
-abbrev pub TellsNumber : (setting value new_value : ℕ) → (slot code : ℕ) → Option Registered → Type 0
-TellsNumber setting value new_value slot code =
+abbrev pub ReadsNumberAt : (setting value new_value : ℕ) → (slot code : ℕ) → Option Registered → Type 0
+ReadsNumberAt setting value new_value slot code =
     FromSlot (λ d. ReadsNumber (number_in d.pattern setting) value code new_value) slot code
     (new_value ≡ value)
 
-abbrev pub TellsTime : (setting seconds nanoseconds new_seconds new_nanoseconds : ℕ)
+abbrev pub ReadsTimeAt : (setting seconds nanoseconds new_seconds new_nanoseconds : ℕ)
     → (slot code : ℕ) → Option Registered → Type 0
-TellsTime setting seconds nanoseconds new_seconds new_nanoseconds slot code =
+ReadsTimeAt setting seconds nanoseconds new_seconds new_nanoseconds slot code =
     FromSlot (λ d. ReadsTime (time_in d.pattern setting) seconds nanoseconds code
     new_seconds new_nanoseconds) slot code ((new_seconds ≡ seconds) × (new_nanoseconds ≡ nanoseconds))
 
-abbrev pub TellsType : (part variant size alignment new_variant new_size new_alignment : ℕ)
+abbrev pub ReadsTypeAt : (part variant size alignment new_variant new_size new_alignment : ℕ)
     → (slot code : ℕ) → Option Registered → Type 0
-TellsType part variant size alignment new_variant new_size new_alignment slot code =
+ReadsTypeAt part variant size alignment new_variant new_size new_alignment slot code =
     FromSlot (λ d. ReadsType (type_in d.pattern part) variant size alignment code
     new_variant new_size new_alignment) slot code
     ((new_variant ≡ variant) × (new_size ≡ size) × (new_alignment ≡ alignment))
 
-abbrev pub TellsCount : (count new_count : ℕ) → (slot code : ℕ) → Option Registered → Type 0
-TellsCount count new_count slot code =
+abbrev pub ReadsCountAt : (count new_count : ℕ) → (slot code : ℕ) → Option Registered → Type 0
+ReadsCountAt count new_count slot code =
     FromSlot (λ d. (code ≡ DONE) × (new_count ≡ length d.attributes)) slot code (new_count ≡ count)
 
 module _ (place : List ℕ) (before : ℕ) (new : List ℕ) (written : ℕ) where
-  abbrev pub TellsTypeName : (part : ℕ) → (slot code : ℕ) → Option Registered → Type 0
-  TellsTypeName part slot code =
+  abbrev pub WritesTypeNameAt : (part : ℕ) → (slot code : ℕ) → Option Registered → Type 0
+  WritesTypeNameAt part slot code =
       FromSlot (λ d. WritesTypeName (type_in d.pattern part) place before code new written) slot code
       ((new ≡ place) × (written ≡ before))
 
-  abbrev pub TellsName : (slot code : ℕ) → Option Registered → Type 0
-  TellsName slot code = FromSlot (λ d. WritesText d.name place code new written) slot code
+  abbrev pub WritesNameAt : (slot code : ℕ) → Option Registered → Type 0
+  WritesNameAt slot code = FromSlot (λ d. WritesText d.name place code new written) slot code
       ((new ≡ place) × (written ≡ before))
 
-  abbrev pub TellsHash : (slot code : ℕ) → Option Registered → Type 0
-  TellsHash slot code = FromSlot (λ d. WritesText d.hash.0 place code new written) slot code
+  abbrev pub WritesHashAt : (slot code : ℕ) → Option Registered → Type 0
+  WritesHashAt slot code = FromSlot (λ d. WritesText d.hash.0 place code new written) slot code
       ((new ≡ place) × (written ≡ before))
 
-  abbrev pub TellsForm : (slot code : ℕ) → Option Registered → Type 0
-  TellsForm slot code = FromSlot (λ d. WritesForm d place before code new written) slot code
+  abbrev pub WritesFormAt : (slot code : ℕ) → Option Registered → Type 0
+  WritesFormAt slot code = FromSlot (λ d. WritesForm d place before code new written) slot code
       ((new ≡ place) × (written ≡ before))
 
-abbrev pub TellsAttribute : (index : ℕ) (key : List ℕ) (key_length : ℕ) (value : List ℕ) (value_length : ℕ)
+abbrev pub WritesAttributeAt : (index : ℕ) (key : List ℕ) (key_length : ℕ) (value : List ℕ) (value_length : ℕ)
     (new_key : List ℕ) (new_key_length : ℕ) (new_value : List ℕ) (new_value_length : ℕ)
     → (slot code : ℕ) → Option Registered → Type 0
-TellsAttribute index key key_length value value_length new_key new_key_length new_value new_value_length slot code =
+WritesAttributeAt index key key_length value value_length new_key new_key_length new_value new_value_length slot code =
     let kept = (new_key ≡ key) × (new_key_length ≡ key_length) × (new_value ≡ value)
     × (new_value_length ≡ value_length) in
     FromSlot (λ d. FromPair

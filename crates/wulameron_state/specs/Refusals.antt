@@ -18,16 +18,17 @@ module _ (number : ℕ) (place : List ℕ) (length code : ℕ) (new : List ℕ) 
 
   -- The text of its error is written into a place, or there was no memory for it.
   pub data WritesName (refusal : Refusal) : Type 0 where
-    told : WritesText (refusal_text refusal) place code new written → WritesName refusal
+    of_text : WritesText (refusal_text refusal) place code new written → WritesName refusal
     no_memory : code ≡ 4 → IsKept → WritesName refusal
 
-  abbrev pub TellsName : Type 0
-  TellsName = OfRefusal number WritesName code IsKept
+  abbrev pub WritesRefusalName : Type 0
+  WritesRefusalName = OfRefusal number WritesName code IsKept
 
   -- When it comes is written into a place.
-  abbrev pub TellsCause : Type 0
-  TellsCause = OfRefusal number (λ r. WritesText (refusal_row r).comes_when place code new written) code IsKept
+  abbrev pub WritesRefusalCause : Type 0
+  WritesRefusalCause = OfRefusal number (λ r. WritesText (refusal_row r).comes_when place code new written) code IsKept
 
   -- What can be done is.
-  abbrev pub TellsAdvice : Type 0
-  TellsAdvice = OfRefusal number (λ r. WritesText (refusal_row r).what_can_be_done place code new written) code IsKept
+  abbrev pub WritesRefusalAdvice : Type 0
+  WritesRefusalAdvice = OfRefusal number (λ r. WritesText (refusal_row r).what_can_be_done place code new written)
+      code IsKept

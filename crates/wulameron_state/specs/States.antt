@@ -8,7 +8,7 @@ use Rattle.iceoryx2_commands.specs.declared.command.Command.TheVariants as comma
 use Rattle.iceoryx2_commands.specs.declared.command.Reply.{Reply}
 use Rattle.iceoryx2_description.specs.Defaults.{default_config}
 use Rattle.iceoryx2_description.specs.declared.config.Config.{Config}
-use Rattle.iceoryx2_session.specs.Sessions.{SessionOver, GoesBy}
+use Rattle.iceoryx2_session.specs.Sessions.{SessionOver, AppliesBy}
 use Rattle.iceoryx2_session.specs.Slots.{held_at}
 use Rattle.iceoryx2_session.specs.StandingSlots.{IsOfOwn, SlotsStandInWorld}
 use Rattle.iceoryx2_world.specs.Across.{Agrees}
@@ -36,9 +36,9 @@ IsOfOwnNode own config (Some call) = IsOfOwn own config (command.Call call)
 
 module _ {S : Type 0} (step : S → Letter → S → Type 0) (world : S → World) where
   -- A command leads from one state to another, and a caller gets this for its reply.
-  abbrev pub GoesAs : {R : Type 0} → (Reply → R) → SessionOver S → Command → R → SessionOver S → Type 0
-  GoesAs {R} answer_to old c answer new =
-      (reply : Reply) × GoesBy step world old c reply new × (answer ≡ answer_to reply)
+  abbrev pub AppliesAs : {R : Type 0} → (Reply → R) → SessionOver S → Command → R → SessionOver S → Type 0
+  AppliesAs {R} answer_to old c answer new =
+      (reply : Reply) × AppliesBy step world old c reply new × (answer ≡ answer_to reply)
 
   -- The request that is pending is sent for a slot, and none is pending then. The slot is tested first; where it is no
   -- free one, and where none is pending, all stays as it was.
@@ -49,5 +49,5 @@ module _ {S : Type 0} (step : S → Letter → S → Type 0) (world : S → Worl
         → Sends old slot pending (Err error.SlotInUse) old pending
     nothing : Sends old slot None (Err error.NoRequest) old None
     goes : {call : Call} {answer : Result ℕ SlotError} {new : SessionOver S}
-        → GoesAs sent old (command.Call (record call { slot = slot })) answer new
+        → AppliesAs sent old (command.Call (record call { slot = slot })) answer new
         → Sends old slot (Some call) answer new None

@@ -2,8 +2,8 @@
 
 ghost use Rattle.iceoryx2_session.specs.SessionStates.{own_state};
 ghost use Rattle.iceoryx2_session.specs.Slots.{held_at};
-ghost use Rattle.wulameron_state.specs.Reads.{TellsAttribute, TellsCount, TellsForm, TellsHash, TellsName, TellsNumber};
-ghost use Rattle.wulameron_state.specs.Reads.{TellsService, TellsTime, TellsType, TellsTypeName};
+ghost use Rattle.wulameron_state.specs.Reads.{WritesAttributeAt, ReadsCountAt, WritesFormAt, WritesHashAt, WritesNameAt, ReadsNumberAt};
+ghost use Rattle.wulameron_state.specs.Reads.{ReadsServiceAt, ReadsTimeAt, ReadsTypeAt, WritesTypeNameAt};
 
 use crate::reading::{
     DONE, agreed, code_of_empty, read_attribute, read_number, read_time, read_type, write_form,
@@ -22,7 +22,7 @@ pub fn service<S: WorldStorage>(
     number: &mut u64,
     node: &mut u64,
 ) -> u32
-    ensures { TellsService pattern.old number.old node.old pattern.new number.new node.new slot result
+    ensures { ReadsServiceAt pattern.old number.old node.old pattern.new number.new node.new slot result
         (held_at (own_state state.now.session).slots slot) }
 {
     match state.session.registration(slot) {
@@ -38,7 +38,7 @@ pub fn service<S: WorldStorage>(
 
 /// What was agreed on of a setting that is a number or a flag.
 pub fn number<S: WorldStorage>(state: &State<S>, slot: usize, setting: u32, value: &mut u64) -> u32
-    ensures { TellsNumber setting value.old value.new slot result (held_at (own_state state.now.session).slots slot) }
+    ensures { ReadsNumberAt setting value.old value.new slot result (held_at (own_state state.now.session).slots slot) }
 {
     match agreed(&state.session, slot) {
         Some(description) => read_number(description, setting, value),
@@ -54,7 +54,7 @@ pub fn time<S: WorldStorage>(
     seconds: &mut u64,
     nanoseconds: &mut u32,
 ) -> u32
-    ensures { TellsTime setting seconds.old nanoseconds.old seconds.new nanoseconds.new slot result
+    ensures { ReadsTimeAt setting seconds.old nanoseconds.old seconds.new nanoseconds.new slot result
         (held_at (own_state state.now.session).slots slot) }
 {
     match agreed(&state.session, slot) {
@@ -72,7 +72,7 @@ pub fn type_of<S: WorldStorage>(
     size: &mut u64,
     alignment: &mut u64,
 ) -> u32
-    ensures { TellsType part variant.old size.old alignment.old variant.new size.new alignment.new slot result
+    ensures { ReadsTypeAt part variant.old size.old alignment.old variant.new size.new alignment.new slot result
         (held_at (own_state state.now.session).slots slot) }
 {
     match agreed(&state.session, slot) {
@@ -89,7 +89,7 @@ pub fn type_name<S: WorldStorage>(
     output: &mut [u8],
     written: &mut usize,
 ) -> u32
-    ensures { TellsTypeName output.old written.old output.new written.new part slot result
+    ensures { WritesTypeNameAt output.old written.old output.new written.new part slot result
         (held_at (own_state state.now.session).slots slot) }
 {
     match agreed(&state.session, slot) {
@@ -105,7 +105,7 @@ pub fn name<S: WorldStorage>(
     output: &mut [u8],
     written: &mut usize,
 ) -> u32
-    ensures { TellsName output.old written.old output.new written.new slot result
+    ensures { WritesNameAt output.old written.old output.new written.new slot result
         (held_at (own_state state.now.session).slots slot) }
 {
     match agreed(&state.session, slot) {
@@ -121,7 +121,7 @@ pub fn hash<S: WorldStorage>(
     output: &mut [u8],
     written: &mut usize,
 ) -> u32
-    ensures { TellsHash output.old written.old output.new written.new slot result
+    ensures { WritesHashAt output.old written.old output.new written.new slot result
         (held_at (own_state state.now.session).slots slot) }
 {
     match agreed(&state.session, slot) {
@@ -132,7 +132,7 @@ pub fn hash<S: WorldStorage>(
 
 /// How many attributes the service has.
 pub fn attributes<S: WorldStorage>(state: &State<S>, slot: usize, count: &mut u64) -> u32
-    ensures { TellsCount count.old count.new slot result (held_at (own_state state.now.session).slots slot) }
+    ensures { ReadsCountAt count.old count.new slot result (held_at (own_state state.now.session).slots slot) }
 {
     match agreed(&state.session, slot) {
         Some(description) => {
@@ -144,7 +144,7 @@ pub fn attributes<S: WorldStorage>(state: &State<S>, slot: usize, count: &mut u6
 }
 
 /// The attribute of this index, ascending by key and then by value. Where one of them has more bytes than its place,
-/// the lengths of both are told.
+/// the lengths of both are written.
 pub fn attribute<S: WorldStorage>(
     state: &State<S>,
     slot: usize,
@@ -154,7 +154,7 @@ pub fn attribute<S: WorldStorage>(
     value: &mut [u8],
     value_length: &mut usize,
 ) -> u32
-    ensures { TellsAttribute index key.old key_length.old value.old value_length.old
+    ensures { WritesAttributeAt index key.old key_length.old value.old value_length.old
         key.new key_length.new value.new value_length.new slot result
         (held_at (own_state state.now.session).slots slot) }
 {
@@ -179,7 +179,7 @@ pub fn bytes<S: WorldStorage>(
     output: &mut [u8],
     written: &mut usize,
 ) -> u32
-    ensures { TellsForm output.old written.old output.new written.new slot result
+    ensures { WritesFormAt output.old written.old output.new written.new slot result
         (held_at (own_state state.now.session).slots slot) }
 {
     match agreed(&state.session, slot) {

@@ -5,7 +5,7 @@ ghost use Rattle.iceoryx2_session.specs.SessionStates.{own_nodes, own_state, wor
 ghost use Rattle.iceoryx2_world.specs.Across.{Agrees};
 ghost use Rattle.wulameron_state.specs.Asks.{AbandonsSlot, AddsAttribute, BeginsAs, ClosesSlot, InPending, ListsInto};
 ghost use Rattle.wulameron_state.specs.Asks.{MakesDetail, RequiresKey, SendsFor, SetsClockFault, SetsDuration};
-ghost use Rattle.wulameron_state.specs.Asks.{SetsNone, SetsNumber, SetsTime, SetsType, TellsSent, code_of_slot};
+ghost use Rattle.wulameron_state.specs.Asks.{SetsNone, SetsNumber, SetsTime, SetsType, WritesSent, code_of_slot};
 ghost use Rattle.wulameron_state.specs.Asks.{span_of};
 ghost use Rattle.wulameron_state.specs.States.{IsOfOwnNode, Stands};
 
@@ -174,12 +174,12 @@ pub fn send<S: WorldStorage>(
         → Stands own (world_state S.world state.new.session) }
 {
     let answer = state::send(&mut state.session, &mut state.pending, slot);
-    tell_sent(answer, number, refusal)
+    write_sent(answer, number, refusal)
 }
 
-/// Writes what is told of a request that was sent into its place, and gives the code.
-fn tell_sent(answer: Result<u64, SlotError>, number: &mut u64, refusal: &mut u32) -> u32
-    ensures { TellsSent answer result number.old refusal.old number.new refusal.new }
+/// Writes what is answered to a request that was sent into its place, and gives the code.
+fn write_sent(answer: Result<u64, SlotError>, number: &mut u64, refusal: &mut u32) -> u32
+    ensures { WritesSent answer result number.old refusal.old number.new refusal.new }
 {
     match answer {
         Ok(found) => {

@@ -1,7 +1,7 @@
 //! The entries of the last listing, one by one, as callers get them: a code, and values in their places.
 
 ghost use Rattle.std.specs.Prelude.{◌≡◌, IfOk, slice_get};
-ghost use Rattle.wulameron_state.specs.Entries.{Describes, TellsEntry, WritesHash, WritesName, known_name};
+ghost use Rattle.wulameron_state.specs.Entries.{Describes, ReadsEntry, WritesHash, WritesName, known_name};
 ghost use Rattle.wulameron_state.specs.Entries.{known_pattern, listed, max_nodes_of, nodes_of, number_of, state_of};
 ghost use Rattle.wulameron_state.specs.Reads.{WritesText};
 
@@ -9,7 +9,7 @@ use crate::reading::{DONE, NO_SUCH_ITEM, OUT_OF_MEMORY, write_text};
 use crate::state::State;
 use iceoryx2_byte_form::bytes::{DecodeError, decode};
 use iceoryx2_description::description::StaticConfig;
-use iceoryx2_world::listing::{Entry, ListedRow, ListedSegment};
+use iceoryx2_world::listing::{ListedRow, ListedSegment, ListedService};
 use std::alloc::{AllocError, Global};
 use wulameron_request::reading::pattern_of;
 
@@ -76,11 +76,11 @@ fn known_pattern_of(description: &Option<StaticConfig>) -> u32
     }
 }
 
-/// What is told of an entry by numbers: its state, its pattern, which is 0 where it isn't known, its number, how many
+/// What is given of an entry by numbers: its state, its pattern, which is 0 where it isn't known, its number, how many
 /// nodes have it, and how many may. 19 past the last entry, and 4 where there was no memory, and then the places stay.
 pub fn entry(
     alloc: Global,
-    listing: &[Entry],
+    listing: &[ListedService],
     index: usize,
     state: &mut u32,
     pattern: &mut u32,
@@ -88,7 +88,7 @@ pub fn entry(
     nodes: &mut u64,
     max_nodes: &mut u64,
 ) -> u32
-    ensures { TellsEntry result (listed state.old pattern.old number.old nodes.old max_nodes.old)
+    ensures { ReadsEntry result (listed state.old pattern.old number.old nodes.old max_nodes.old)
         (listed state.new pattern.new number.new nodes.new max_nodes.new) (slice_get listing.now index) }
 {
     let Some(entry) = listing.get(index) else {
@@ -124,7 +124,7 @@ fn write_known_name(
 /// The name of an entry, which is empty where it isn't known. 19 past the last entry, and 4 where there was no memory.
 pub fn entry_name(
     alloc: Global,
-    listing: &[Entry],
+    listing: &[ListedService],
     index: usize,
     output: &mut [u8],
     written: &mut usize,
@@ -141,7 +141,12 @@ pub fn entry_name(
 }
 
 /// The hash of an entry. 19 past the last one.
-pub fn entry_hash(listing: &[Entry], index: usize, output: &mut [u8], written: &mut usize) -> u32
+pub fn entry_hash(
+    listing: &[ListedService],
+    index: usize,
+    output: &mut [u8],
+    written: &mut usize,
+) -> u32
     ensures { WritesHash output.old written.old result output.new written.new (slice_get listing.now index) }
 {
     match listing.get(index) {

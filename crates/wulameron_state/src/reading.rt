@@ -172,7 +172,7 @@ fn both(first: u32, second: u32) -> u32
 }
 
 /// Writes the key and the value of an attribute into their places. Where one of them has more bytes than its place, the
-/// lengths of both are told.
+/// lengths of both are written.
 fn write_pair(
     pair: &Attribute,
     key: &mut [u8],

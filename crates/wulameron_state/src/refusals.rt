@@ -2,11 +2,11 @@
 
 ghost use Rattle.std.specs.Prelude.{◌≡◌, IfOk, string_bytes};
 ghost use Rattle.negotiate_serve.specs.Replies.{refusal_text};
-ghost use Rattle.wulameron_state.specs.Refusals.{TellsAdvice, TellsCause, TellsName};
+ghost use Rattle.wulameron_state.specs.Refusals.{WritesRefusalAdvice, WritesRefusalCause, WritesRefusalName};
 
 use crate::reading::{NO_SUCH_ITEM, OUT_OF_MEMORY, write_text};
 use iceoryx2_commands::command::Refusal;
-use negotiate_explain::refusals::Row;
+use negotiate_explain::refusals::RefusalRow;
 use std::alloc::{AllocError, Global};
 use wulameron_request::numbered::refusal_of;
 
@@ -30,7 +30,7 @@ fn error_text(alloc: Global, refusal: Refusal) -> Result<String, AllocError>
 /// Writes the text of the error that the refusal of this number has, as `EventOpenError::DoesNotExist`. 19 where it is
 /// the number of none, and 4 where there was no memory, after each of which the places stay as they were.
 pub fn name(alloc: Global, number: u32, output: &mut [u8], written: &mut usize) -> u32
-    ensures { TellsName number output.old written.old result output.new written.new }
+    ensures { WritesRefusalName number output.old written.old result output.new written.new }
 {
     match refusal_of(number) {
         Some(refusal) => match error_text(alloc, refusal) {
@@ -44,10 +44,14 @@ pub fn name(alloc: Global, number: u32, output: &mut [u8], written: &mut usize) 
 /// Writes when the refusal of this number comes: at which step of the call, and of what. 19 where it is the number of
 /// none, after which the places stay as they were.
 pub fn cause(number: u32, output: &mut [u8], written: &mut usize) -> u32
-    ensures { TellsCause number output.old written.old result output.new written.new }
+    ensures { WritesRefusalCause number output.old written.old result output.new written.new }
 {
     match refusal_of(number) {
-        Some(refusal) => write_text(Row::of(refusal).comes_when.as_bytes(), output, written),
+        Some(refusal) => write_text(
+            RefusalRow::of(refusal).comes_when.as_bytes(),
+            output,
+            written,
+        ),
         None => NO_SUCH_ITEM,
     }
 }
@@ -55,11 +59,11 @@ pub fn cause(number: u32, output: &mut [u8], written: &mut usize) -> u32
 /// Writes what can be done after the refusal of this number. 19 where it is the number of none, after which the places
 /// stay as they were.
 pub fn advice(number: u32, output: &mut [u8], written: &mut usize) -> u32
-    ensures { TellsAdvice number output.old written.old result output.new written.new }
+    ensures { WritesRefusalAdvice number output.old written.old result output.new written.new }
 {
     match refusal_of(number) {
         Some(refusal) => write_text(
-            Row::of(refusal).what_can_be_done.as_bytes(),
+            RefusalRow::of(refusal).what_can_be_done.as_bytes(),
             output,
             written,
         ),

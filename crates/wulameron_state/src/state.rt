@@ -14,7 +14,7 @@ ghost use Rattle.iceoryx2_world.specs.Listing.{Lists};
 ghost use Rattle.wulameron_state.specs.Slots as slots;
 ghost use Rattle.wulameron_state.specs.declared.error.SlotError.TheVariants.{OutOfMemory};
 ghost use Rattle.wulameron_state.specs.declared.words.Answer.TheVariants.{Nothing};
-ghost use Rattle.wulameron_state.specs.States.{GoesAs, IsOfOwnNode, Sends, Stands, fresh_session};
+ghost use Rattle.wulameron_state.specs.States.{AppliesAs, IsOfOwnNode, Sends, Stands, fresh_session};
 
 use crate::error::{SlotError, closed, sent};
 use crate::words::Answer;
@@ -23,7 +23,7 @@ use iceoryx2_description::config::Config;
 use iceoryx2_session::session::Session;
 use iceoryx2_session::world_storage::WorldStorage;
 use iceoryx2_table::table::Table;
-use iceoryx2_world::listing::Entry;
+use iceoryx2_world::listing::ListedService;
 use std::alloc::Global;
 use wulameron_request::pending::Pending;
 
@@ -32,7 +32,7 @@ use wulameron_request::pending::Pending;
 pub struct State<S> {
     pub session: Session<S>,
     pub pending: Pending,
-    pub listing: Vec<Entry>,
+    pub listing: Vec<ListedService>,
     pub answer: Answer,
 }
 
@@ -103,7 +103,7 @@ pub fn send<S: WorldStorage>(
 ///
 /// `NoSuchSlot`, `SlotEmpty`, and `NotClosed`, after which the slot holds it as before.
 pub fn close<S: WorldStorage>(session: &mut Session<S>, slot: usize) -> Result<(), SlotError>
-    ensures goes { GoesAs S.step S.world slots.closed (own_state session.old) (command.Close slot) result
+    ensures goes { AppliesAs S.step S.world slots.closed (own_state session.old) (command.Close slot) result
         (own_state session.new) }
 
     // Which nodes are own stays as it was.

@@ -6,10 +6,10 @@ ghost use Rattle.iceoryx2_session.specs.SessionStates.{own_nodes, own_state, wor
 ghost use Rattle.iceoryx2_session.specs.StandingSlots.{IsOfOwn};
 ghost use Rattle.iceoryx2_world.specs.Across.{Agrees};
 ghost use Rattle.negotiate_lines.specs.Lines.{IsLine};
-ghost use Rattle.negotiate_lines.specs.declared.line.Line.TheVariants as said;
+ghost use Rattle.negotiate_lines.specs.declared.line.Line.TheVariants as parsed;
 ghost use Rattle.negotiate_serve.specs.Replies.{GrowsBy};
 ghost use Rattle.wulameron_state.specs.States.{Stands};
-ghost use Rattle.wulameron_state.specs.Words.{AnswersCommand, CarriesOutLine, IsTextOf, KeepsReply, KeepsWrong};
+ghost use Rattle.wulameron_state.specs.Words.{AnswersCommand, CarriesOutLine, IsAnswerText, KeepsReply, KeepsWrong};
 ghost use Rattle.wulameron_state.specs.Words.{WritesAnswer};
 
 use crate::reading::{DONE, OUT_OF_MEMORY, write_text};
@@ -58,7 +58,7 @@ pub fn line<S: WorldStorage>(state: &mut State<S>, alloc: Global, line: &[u8]) -
 
     // and there the factories of all slots stand, if the line's call is of an own node.
     ensures stands { let own = own_nodes S.own state.old.session in Stands own (world_state S.world state.old.session)
-        → ((c : Command) → IsLine line.now (said.Command c) → IsOfOwn own (own_state state.old.session).config c)
+        → ((c : Command) → IsLine line.now (parsed.Command c) → IsOfOwn own (own_state state.old.session).config c)
         → Stands own (world_state S.world state.new.session) }
 {
     match parse(alloc, line) {
@@ -67,7 +67,7 @@ pub fn line<S: WorldStorage>(state: &mut State<S>, alloc: Global, line: &[u8]) -
             DONE
         }
         Ok(Line::Command(command)) => { carry_out(&mut state.session, &mut state.answer, command) }
-        Ok(Line::NotACommand) => tell_wrong(alloc, line, &mut state.answer),
+        Ok(Line::NotACommand) => answer_wrong(alloc, line, &mut state.answer),
         Err(_) => OUT_OF_MEMORY,
     }
 }
@@ -90,7 +90,7 @@ pub fn carry_out<S: WorldStorage>(
     keep(reply, slot, answer)
 }
 
-/// Keeps a reply, unless it tells that there was no memory.
+/// Keeps a reply, unless it is that there was no memory.
 fn keep(reply: Reply, slot: usize, answer: &mut Answer) -> u32
     ensures { KeepsReply slot answer.old reply result answer.new }
 {
@@ -104,7 +104,7 @@ fn keep(reply: Reply, slot: usize, answer: &mut Answer) -> u32
 }
 
 /// Keeps what is wrong with a line that is neither blank nor a command.
-fn tell_wrong(alloc: Global, line: &[u8], answer: &mut Answer) -> u32
+fn answer_wrong(alloc: Global, line: &[u8], answer: &mut Answer) -> u32
     ensures { KeepsWrong line.now answer.old result answer.new }
 {
     match wrong_in(alloc, line) {
@@ -122,7 +122,7 @@ fn tell_wrong(alloc: Global, line: &[u8], answer: &mut Answer) -> u32
 
 /// Writes the text of an answer behind another.
 fn put_text(answer: &Answer, text: &mut String) -> Result<(), AllocError>
-    ensures { OnOk result (GrowsBy (IsTextOf answer.now) (string_bytes text.old) (string_bytes text.new)) }
+    ensures { OnOk result (GrowsBy (IsAnswerText answer.now) (string_bytes text.old) (string_bytes text.new)) }
 {
     match answer {
         Answer::Nothing => Ok(()),
@@ -134,7 +134,7 @@ fn put_text(answer: &Answer, text: &mut String) -> Result<(), AllocError>
 /// The text of an answer: the lines of a reply, each with its end, or what is wrong with a line, without one.
 /// `AllocError` where there is no memory.
 pub fn text_of(alloc: Global, answer: &Answer) -> Result<String, AllocError>
-    ensures { IfOk result (λ text. IsTextOf answer.now (string_bytes text)) }
+    ensures { IfOk result (λ text. IsAnswerText answer.now (string_bytes text)) }
 {
     let mut text = String::new(alloc);
     match put_text(answer, &mut text) {

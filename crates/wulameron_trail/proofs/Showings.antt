@@ -11,21 +11,21 @@ use Rattle.iceoryx2_journal.specs.Follow.{IsFollowed}
 use Rattle.iceoryx2_world.specs.World.{World}
 use Rattle.wulameron_trail.specs.declared.showing.Silence.{Silence}
 use Rattle.wulameron_trail.specs.declared.stopping.ShowError.{ShowError}
-use Rattle.wulameron_trail.specs.Showings.{IsLine, FollowsSilently}
+use Rattle.wulameron_trail.specs.Showings.{IsShownLine, FollowsSilently}
 
 pub drawn_line : (d : Bool) (place : ℕ) (e : Entry) (old new : List ℕ) (r : Result (Unit {0}) AllocError) → d ≡ true → OnOk r (AddsMessage e old new)
-    → OnOk r ((line : List ℕ) × IsLine d place e line × (new ≡ old ++ line))
+    → OnOk r ((line : List ℕ) × IsShownLine d place e line × (new ≡ old ++ line))
 drawn_line d place e old new (Ok x) is adds =
     let line = message_head e ++ (flat_map escaped (chars adds.0) ++ codes "\n") in
-    (line, subst (λ (b : Bool). IsLine b place e line) (sym is) (adds.0, adds.1, refl), adds.2)
+    (line, subst (λ (b : Bool). IsShownLine b place e line) (sym is) (adds.0, adds.1, refl), adds.2)
 drawn_line d place e old new (Err x) is adds = tt
 
-pub told_line : (d : Bool) (place : ℕ) (e : Entry) (old new : List ℕ) (r : Result (Unit {0}) AllocError) → d ≡ false → OnOk r (AddsEntryLine place e old new)
-    → OnOk r ((line : List ℕ) × IsLine d place e line × (new ≡ old ++ line))
-told_line d place e old new (Ok x) is adds =
+pub entry_line_shown : (d : Bool) (place : ℕ) (e : Entry) (old new : List ℕ) (r : Result (Unit {0}) AllocError) → d ≡ false → OnOk r (AddsEntryLine place e old new)
+    → OnOk r ((line : List ℕ) × IsShownLine d place e line × (new ≡ old ++ line))
+entry_line_shown d place e old new (Ok x) is adds =
     let line = decimal place ++ (codes " " ++ (doer e ++ (adds.0 ++ codes "\n"))) in
-    (line, subst (λ (b : Bool). IsLine b place e line) (sym is) (adds.0, adds.1, refl), adds.2)
-told_line d place e old new (Err x) is adds = tt
+    (line, subst (λ (b : Bool). IsShownLine b place e line) (sym is) (adds.0, adds.1, refl), adds.2)
+entry_line_shown d place e old new (Err x) is adds = tt
 
 -- an entry is followed, and the text stays as it was
 pub followed_silently : (old : Silence) (e : Entry) (w : World) (text : List ℕ) (r : Result (Unit {0}) ShowError) → OnOk r (IsFollowed old.world e w)

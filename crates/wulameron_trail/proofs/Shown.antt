@@ -5,8 +5,8 @@ use Rattle.std.proofs.KnownBytes.{Appends-nil, Appends-trans, Keeps-refl}
 use Rattle.std.proofs.lemmas.List.{drop_at, drop-append-le}
 use Rattle.iceoryx2_log.specs.declared.entry.Entry.{Entry}
 use Rattle.iceoryx2_log.specs.Form.{IsForm, Begins}
-use Rattle.negotiate_serve.specs.Outputs.{IsFrontOf, Says}
-use Rattle.negotiate_serve.specs.declared.ending.Fault.{Fault}
+use Rattle.negotiate_serve.specs.Outputs.{IsFrontOf, Writes}
+use Rattle.negotiate_serve.specs.declared.ending.ServeError.{ServeError}
 use Rattle.wulameron_trail.specs.declared.printing.Rest.{Rest}
 use Rattle.wulameron_trail.specs.declared.stopping.ShowError.{ShowError}
 use Rattle.wulameron_trail.specs.declared.stopping.ShowError.TheVariants as why
@@ -62,15 +62,15 @@ module _ {P : Type 0} (Shows : P → Entry → List ℕ → P → Type 0) where
   of_line : (text cleared line : List ℕ) → cleared ≡ [] → text ≡ cleared ++ line → text ≡ line
   of_line text cleared line none is = is ∙ ap (λ (l : List ℕ). l ++ line) none
 
-  pub line_said : (e : Entry) (p q : P) (text cleared : List ℕ) (before after : Option (List ℕ)) → cleared ≡ [] → (line : List ℕ) × Shows p e line q × (text ≡ cleared ++ line)
-      → Says text (Ok tt) before after → ShowsOne Shows e p q (Ok tt) before after
-  line_said e p q text cleared before after none made says =
-      shown made.0 made.1 refl (subst (Appends before after) (of_line text cleared made.0 none made.2) says)
+  pub line_shown : (e : Entry) (p q : P) (text cleared : List ℕ) (before after : Option (List ℕ)) → cleared ≡ [] → (line : List ℕ) × Shows p e line q × (text ≡ cleared ++ line)
+      → Writes text (Ok tt) before after → ShowsOne Shows e p q (Ok tt) before after
+  line_shown e p q text cleared before after none made writes =
+      shown made.0 made.1 refl (subst (Appends before after) (of_line text cleared made.0 none made.2) writes)
 
-  pub line_cut : (e : Entry) (p q : P) (text cleared : List ℕ) (f : Fault) (before after : Option (List ℕ)) → cleared ≡ []
-      → (line : List ℕ) × Shows p e line q × (text ≡ cleared ++ line) → Says text (Err f) before after → ShowsOne Shows e p q (Err (stop.Failed f)) before after
-  line_cut e p q text cleared f before after none made says =
-      cut f made.0 says.1 made.1 refl (subst (IsFrontOf says.1) (of_line text cleared made.0 none made.2) says.2) says.3
+  pub line_cut : (e : Entry) (p q : P) (text cleared : List ℕ) (f : ServeError) (before after : Option (List ℕ)) → cleared ≡ []
+      → (line : List ℕ) × Shows p e line q × (text ≡ cleared ++ line) → Writes text (Err f) before after → ShowsOne Shows e p q (Err (stop.Failed f)) before after
+  line_cut e p q text cleared f before after none made writes =
+      cut f made.0 writes.1 made.1 refl (subst (IsFrontOf writes.1) (of_line text cleared made.0 none made.2) writes.2) writes.3
 
   pub line_unmade : (e : Entry) (p q : P) (w : ShowError) (s : Stop) (before : Option (List ℕ)) → s ≡ stop_of w → ShowsOne Shows e p q (Err s) before before
   line_unmade e p q w s before is = unshown w (ap Err is) (Keeps-refl before)
@@ -100,7 +100,7 @@ module _ {P : Type 0} (Shows : P → Entry → List ℕ → P → Type 0) where
         unread = subst (λ (l : List ℕ). IsUnread l left begins.rest) (sym is) (after_entry ahead left bytes e count unread begins within);
       }
 
-  cut_off : (bytes : List ℕ) (e : Entry) (count : ℕ) (p q : P) (f : Fault) (line front : List ℕ) (before after : Option (List ℕ)) → Begins bytes e count → Shows p e line q
+  cut_off : (bytes : List ℕ) (e : Entry) (count : ℕ) (p q : P) (f : ServeError) (line front : List ℕ) (before after : Option (List ℕ)) → Begins bytes e count → Shows p e line q
       → IsFrontOf front line → Appends before after front → ShowsRest Shows bytes p q (Err (stop.Failed f)) before after
   cut_off bytes e count p q f line front before after begins is of_line output = record {
     taken = begins.form;

@@ -5,7 +5,7 @@ use Rattle.iceoryx2_log.specs.declared.entry.Deed.TheVariants.{Moved as Mark}
 use Rattle.iceoryx2_log.specs.declared.entry.Entry.{Entry}
 use Rattle.iceoryx2_log.specs.Form.{IsForm, Begins}
 use Rattle.iceoryx2_file_log.specs.Remainder.{IsTorn}
-use Rattle.negotiate_serve.specs.declared.ending.Fault.{Fault}
+use Rattle.negotiate_serve.specs.declared.ending.ServeError.{ServeError}
 use Rattle.negotiate_serve.specs.Outputs.{IsFrontOf}
 use Rattle.wulameron_trail.specs.declared.printing.Rest.{Rest}
 use Rattle.wulameron_trail.specs.declared.printing.Rest.TheVariants as rest
@@ -29,7 +29,7 @@ module _ {P : Type 0} (Shows : P → Entry → List ℕ → P → Type 0) where
       : Type 0 where
     shown : (line : List ℕ) → Shows old e line new → result ≡ Ok tt → Appends before after line
         → ShowsOne e old new result before after
-    cut : (why : Fault) (line front : List ℕ) → Shows old e line new → result ≡ Err (stop.Failed why)
+    cut : (why : ServeError) (line front : List ℕ) → Shows old e line new → result ≡ Err (stop.Failed why)
         → IsFrontOf front line → Appends before after front → ShowsOne e old new result before after
     unshown : (why : ShowError) → result ≡ Err (stop_of why) → Keeps before after
         → ShowsOne e old new result before after

@@ -13,31 +13,31 @@ use Rattle.wulameron_trail.specs.EntryTexts.{AddsEntryLine}
 -- ---- lines
 
 -- It is the line of the entry with this number, in a diagram or alone.
-abbrev pub IsLine : (diagram : Bool) → ℕ → Entry → List ℕ → Type 0
-IsLine true place e line = AddsMessage e [] line
-IsLine false place e line = AddsEntryLine place e [] line
+abbrev pub IsShownLine : (diagram : Bool) → ℕ → Entry → List ℕ → Type 0
+IsShownLine true place e line = AddsMessage e [] line
+IsShownLine false place e line = AddsEntryLine place e [] line
 
 -- Each entry has its line, but for those with smaller numbers than the first that is wanted. The next has the next
 -- number, up to the greatest of 64 bits.
 pub record ShowsLine (old : Lines) (e : Entry) (line : List ℕ) (new : Lines) : Type 0 where
   pub left_out : old.place < old.from → line ≡ []
-  pub line_is : old.from ≤ old.place → IsLine old.is_diagram old.place e line
+  pub line_is : old.from ≤ old.place → IsShownLine old.is_diagram old.place e line
   pub next : new ≡ record old { place = min (old.place + 1) (2 ^ 64 - 1) }
 
 -- ---- changes
 
 -- the line of a change, for programs or for people
-abbrev pub change_said : (json : Bool) → Option Change → List ℕ
-change_said json None = []
-change_said true (Some c) = json_line c
-change_said false (Some c) = change_line c
+abbrev pub shown_change : (json : Bool) → Option Change → List ℕ
+shown_change json None = []
+shown_change true (Some c) = json_line c
+shown_change false (Some c) = change_line c
 
 -- The entry is followed, and the line is of what it changes; there is none where it changes nothing.
 pub record ShowsChange (old : Changes) (e : Entry) (line : List ℕ) (new : Changes) : Type 0 where
   pub followed : IsFollowed old.world e new.world
   pub change : Option Change
   pub changes : IsChangeOf old.world e new.world change
-  pub line_is : line ≡ change_said old.is_json change
+  pub line_is : line ≡ shown_change old.is_json change
   pub same : new.is_json ≡ old.is_json
 
 -- The entry is followed, and nothing is shown.

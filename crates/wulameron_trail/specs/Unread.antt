@@ -24,7 +24,7 @@ pub record BeginsWithDamage (bytes : List ℕ) : Type 0 where
   pub is : IsDamage damage
   pub parts : bytes ≡ damage ++ rest
 
--- What bytes are that are all there is for now.
+-- What bytes are that are all there is up to then.
 abbrev pub IsFrontIn : List ℕ → Front → Type 0
 IsFrontIn bytes (front.Whole e count) = Begins bytes e count
 IsFrontIn bytes front.Torn = IsTorn bytes

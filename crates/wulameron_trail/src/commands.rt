@@ -1,7 +1,7 @@
 //! The commands that print a log: its entries, what they change, and whether it is sound.
 
 ghost use Rattle.std.specs.Prelude.{◌≡◌};
-ghost use Rattle.wulameron_trail.specs.Commands.{SaysVerdict, TellsVerdict, status_of};
+ghost use Rattle.wulameron_trail.specs.Commands.{WritesVerdict, WritesVerdictOf, status_of};
 ghost use Rattle.wulameron_trail.specs.Commands.{verdict_status as status_of_verdict};
 
 use crate::checker::{Verdict, check as verdict_on};
@@ -13,9 +13,9 @@ use crate::showing::{Changes, Lines};
 use crate::stopping::Stop;
 use crate::verdicts::verdict_text;
 use iceoryx2_file_log::error::{FileFault, system_fault};
-use negotiate_serve::ending::{DONE, FAULT, Fault};
-use negotiate_serve::output::say;
-use negotiate_serve::report::report_fault;
+use negotiate_serve::ending::{DONE, FAULT, ServeError};
+use negotiate_serve::output::write_out;
+use negotiate_serve::report::report_failure;
 use std::alloc::Global;
 use std::fmt;
 use std::fs::File;
@@ -73,9 +73,9 @@ fn print_log<F: Files<File = File> + AllocGlobal, I: Pauses, W: Write>(
 fn print_head<W: Write>(alloc: Global, output: &mut W) -> Result<(), Stop> {
     let mut text = String::new(alloc);
     if begin_diagram(&mut text).is_err() {
-        return Err(Stop::Failed(Fault::OutOfMemory));
+        return Err(Stop::Failed(ServeError::OutOfMemory));
     }
-    match say(text.as_bytes(), output) {
+    match write_out(text.as_bytes(), output) {
         Ok(()) => Ok(()),
         Err(fault) => Err(Stop::Failed(fault)),
     }
@@ -142,7 +142,7 @@ pub fn check<F: Files<File = File> + AllocGlobal, W: Write, E: Write>(
         Ok(bytes) => match print_verdict(alloc, &bytes, output) {
             Ok(status) => status,
             Err(fault) => {
-                let _ = report_fault("wulameron", fault, errors);
+                let _ = report_failure("wulameron", fault, errors);
                 FAULT
             }
         },
@@ -165,27 +165,35 @@ fn read_whole<F: Files<File = File> + AllocGlobal>(
 
 /// Prints what a log's bytes are, and gives the status: 0 where they are sound, and else 1.
 ///
-/// `Fault` as `say` does, and where there is no memory; nothing is written then.
-pub fn print_verdict<W: Write>(alloc: Global, bytes: &[u8], output: &mut W) -> Result<u8, Fault>
-    ensures { TellsVerdict bytes.now result (W.contents output.old) (W.contents output.new) }
+/// `ServeError` as `write_out` does, and where there is no memory; nothing is written then.
+pub fn print_verdict<W: Write>(
+    alloc: Global,
+    bytes: &[u8],
+    output: &mut W,
+) -> Result<u8, ServeError>
+    ensures { WritesVerdictOf bytes.now result (W.contents output.old) (W.contents output.new) }
 {
     match verdict_on(alloc, bytes) {
-        Ok(verdict) => say_verdict(alloc, verdict, output),
-        Err(_) => Err(Fault::OutOfMemory),
+        Ok(verdict) => write_verdict(alloc, verdict, output),
+        Err(_) => Err(ServeError::OutOfMemory),
     }
 }
 
 /// Writes the line of a verdict, and gives its status.
-fn say_verdict<W: Write>(alloc: Global, verdict: Verdict, output: &mut W) -> Result<u8, Fault>
-    ensures { SaysVerdict verdict result (W.contents output.old) (W.contents output.new) }
+fn write_verdict<W: Write>(
+    alloc: Global,
+    verdict: Verdict,
+    output: &mut W,
+) -> Result<u8, ServeError>
+    ensures { WritesVerdict verdict result (W.contents output.old) (W.contents output.new) }
 {
     let mut text = String::new(alloc);
     match verdict_text(verdict, &mut text) {
-        Ok(()) => match say(text.as_bytes(), output) {
+        Ok(()) => match write_out(text.as_bytes(), output) {
             Ok(()) => Ok(verdict_status(verdict)),
             Err(fault) => Err(fault),
         },
-        Err(_) => Err(Fault::OutOfMemory),
+        Err(_) => Err(ServeError::OutOfMemory),
     }
 }
 
@@ -239,7 +247,7 @@ fn report_end<E: Write>(
                 Stop::Refused(fault) => {
                     report_trouble(alloc, path, Trouble::Refused(fault), errors)
                 }
-                Stop::Failed(fault) => report_fault("wulameron", fault, errors),
+                Stop::Failed(fault) => report_failure("wulameron", fault, errors),
             };
             FAULT
         }

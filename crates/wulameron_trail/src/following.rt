@@ -16,7 +16,7 @@ use iceoryx2_file_log::header::{self, HEADER_LENGTH, Header, HeaderError};
 use iceoryx2_file_log::opening::find_file;
 use iceoryx2_log::entry::Entry;
 use iceoryx2_table::table::stored::StoredWorld;
-use negotiate_serve::ending::Fault;
+use negotiate_serve::ending::ServeError;
 use std::alloc::Global;
 use std::fs::{File, Metadata};
 use std::io::{self, ErrorKind, Read, Seek, SeekFrom, Write};
@@ -265,5 +265,5 @@ pub fn follow<F: Files<File = File> + AllocGlobal, P: Follows, I: Pauses, W: Wri
         }
         goes_on = pauses.pause();
     }
-    Err(Stop::Failed(Fault::TooManyTries))
+    Err(Stop::Failed(ServeError::TooManyTries))
 }

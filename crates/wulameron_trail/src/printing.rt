@@ -12,7 +12,7 @@ use crate::stopping::{ShowError, Stop, stop_at};
 use iceoryx2_file_log::ahead::Ahead;
 use iceoryx2_file_log::remainder::Front;
 use iceoryx2_log::entry::Entry;
-use negotiate_serve::output::say;
+use negotiate_serve::output::write_out;
 use std::alloc::Global;
 use std::io::{Read, Write};
 
@@ -49,7 +49,7 @@ pub(crate) fn show_entry<P: Shows, W: Write>(
 {
     text.clear();
     match shown.show(entry, text) {
-        Ok(()) => match say(text.as_bytes(), output) {
+        Ok(()) => match write_out(text.as_bytes(), output) {
             Ok(()) => Ok(()),
             Err(fault) => Err(Stop::Failed(fault)),
         },

@@ -9,7 +9,7 @@ use crate::stopping::Stop;
 use iceoryx2_file_log::ahead::Ahead;
 use iceoryx2_file_log::error::{FileFault, system_fault};
 use iceoryx2_file_log::remainder::{Front, front_of};
-use negotiate_serve::ending::Fault;
+use negotiate_serve::ending::ServeError;
 use std::alloc::Global;
 use std::io::{ErrorKind, Read};
 
@@ -21,7 +21,7 @@ pub(crate) const TOO_OFTEN: Stop = Stop::Refused(FileFault::Failed {
     kind: ErrorKind::Interrupted,
 });
 
-/// Asks the reader once for bytes, and tells how many it gave, or `None` where it was interrupted.
+/// Asks the reader once for bytes, and returns how many it gave, or `None` where it was interrupted.
 fn read_once<R: Read>(reader: &mut R, piece: &mut [u8]) -> Result<Option<usize>, Stop>
     requires { 0 < length piece.old }
     ensures bound { IfOk result (λ given. IfSome given (λ count. count ≤ length piece.new)) }
@@ -36,7 +36,7 @@ fn read_once<R: Read>(reader: &mut R, piece: &mut [u8]) -> Result<Option<usize>,
     }
 }
 
-/// Reads bytes, at least one unless the reader has no more, and tells how many. An interrupted read is tried again.
+/// Reads bytes, at least one unless the reader has no more, and returns how many. An interrupted read is tried again.
 fn read_some<R: Read>(reader: &mut R, piece: &mut [u8]) -> Result<usize, Stop>
     requires { 0 < length piece.old }
     ensures bound { IfOk result (λ count. count ≤ length piece.new) }
@@ -50,7 +50,7 @@ fn read_some<R: Read>(reader: &mut R, piece: &mut [u8]) -> Result<usize, Stop>
     Err(TOO_OFTEN)
 }
 
-/// Reads on, and tells how many bytes came: none where the reader has no more.
+/// Reads on, and returns how many bytes came: none where the reader has no more.
 fn read_on<R: Read>(reader: &mut R, ahead: &mut Ahead) -> Result<usize, Stop>
     ensures unread { (bytes : List ℕ) → IsUnread ahead.old (R.remaining reader.old) bytes
         → OnOk result (IsUnread ahead.new (R.remaining reader.new) bytes) }
@@ -62,20 +62,20 @@ fn read_on<R: Read>(reader: &mut R, ahead: &mut Ahead) -> Result<usize, Stop>
     match read_some(reader, &mut piece) {
         Ok(count) => match ahead.add(&piece[..count]) {
             Ok(()) => Ok(count),
-            Err(_) => Err(Stop::Failed(Fault::OutOfMemory)),
+            Err(_) => Err(Stop::Failed(ServeError::OutOfMemory)),
         },
         Err(stop) => Err(stop),
     }
 }
 
-/// What bytes begin with that are all there is for now.
+/// What bytes begin with that are all there is up to then.
 fn front_in(alloc: Global, bytes: &[u8]) -> Result<Front, Stop>
     ensures front { IfOk result (IsFrontIn bytes.now) }
     ensures err { IfErr result IsOfReading }
 {
     match front_of(alloc, bytes, bytes.len() as u64) {
         Ok(front) => Ok(front),
-        Err(_) => Err(Stop::Failed(Fault::OutOfMemory)),
+        Err(_) => Err(Stop::Failed(ServeError::OutOfMemory)),
     }
 }
 

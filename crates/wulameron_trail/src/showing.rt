@@ -2,7 +2,7 @@
 
 ghost use Rattle.std.specs.Prelude.{◌≡◌, ◌++◌, ℕ, List, OnOk, string_bytes};
 ghost use Rattle.iceoryx2_journal.specs.Follow.{IsFollowed};
-ghost use Rattle.wulameron_trail.specs.Showings.{IsLine, change_said};
+ghost use Rattle.wulameron_trail.specs.Showings.{IsShownLine, shown_change};
 
 use crate::changes::{Change, change_json, change_of, change_text, standing_of};
 use crate::diagram::draw_entry;
@@ -27,7 +27,7 @@ pub struct Lines {
 
 /// Writes the line of the entry of this number.
 fn line_of(is_diagram: bool, place: u64, entry: &Entry, text: &mut String) -> Result<(), AllocError>
-    ensures { OnOk result ((line : List ℕ) × IsLine is_diagram place entry.now line
+    ensures { OnOk result ((line : List ℕ) × IsShownLine is_diagram place entry.now line
         × (string_bytes text.new ≡ string_bytes text.old ++ line)) }
 {
     if is_diagram {
@@ -64,8 +64,8 @@ pub struct Changes {
 }
 
 /// Writes the line of a change, if there is one.
-fn say_change(is_json: bool, change: Option<Change>, text: &mut String) -> Result<(), AllocError>
-    ensures { OnOk result (string_bytes text.new ≡ string_bytes text.old ++ change_said is_json change) }
+fn write_change(is_json: bool, change: Option<Change>, text: &mut String) -> Result<(), AllocError>
+    ensures { OnOk result (string_bytes text.new ≡ string_bytes text.old ++ shown_change is_json change) }
 {
     match change {
         None => Ok(()),
@@ -100,7 +100,7 @@ impl Shows for Changes {
         let before = standing_of(alloc, &self.world, entry)?;
         follow_entry(alloc, &mut self.world, entry)?;
         let change = change_of(alloc, before, entry, &self.world)?;
-        match say_change(self.is_json, change, text) {
+        match write_change(self.is_json, change, text) {
             Ok(()) => Ok(()),
             Err(_) => Err(ShowError::OutOfMemory),
         }

@@ -4,7 +4,7 @@ ghost use Rattle.std.specs.Prelude.{◌≡◌};
 ghost use Rattle.wulameron_trail.specs.Stopping.{stop_of};
 
 use iceoryx2_file_log::error::FileFault;
-use negotiate_serve::ending::Fault;
+use negotiate_serve::ending::ServeError;
 use std::alloc::AllocError;
 
 /// Why no more of a log is shown.
@@ -17,7 +17,7 @@ pub enum Stop {
     /// The log's file refused.
     Refused(FileFault),
     /// The output failed, or there was no memory.
-    Failed(Fault),
+    Failed(ServeError),
 }
 
 /// Why an entry isn't shown.
@@ -44,7 +44,7 @@ pub(crate) fn stop_at(error: ShowError) -> Stop
     ensures { result ≡ stop_of error }
 {
     match error {
-        ShowError::OutOfMemory => Stop::Failed(Fault::OutOfMemory),
+        ShowError::OutOfMemory => Stop::Failed(ServeError::OutOfMemory),
         ShowError::NotAnswered => Stop::NotAnswered,
     }
 }

@@ -4,9 +4,9 @@ use Rattle.std.specs.Prelude.{option_map, codes}
 use Rattle.iceoryx2_file_log.specs.declared.error.FileFault.{FileFault}
 use Rattle.iceoryx2_file_log.specs.declared.error.FileFault.TheVariants as file
 use Rattle.iceoryx2_file_log.specs.Errors.{fault_text}
-use Rattle.negotiate_serve.specs.declared.ending.Fault.{Fault}
-use Rattle.negotiate_serve.specs.declared.ending.Fault.TheVariants as fault
-use Rattle.negotiate_serve.specs.Outputs.{Says}
+use Rattle.negotiate_serve.specs.declared.ending.ServeError.{ServeError}
+use Rattle.negotiate_serve.specs.declared.ending.ServeError.TheVariants as failure
+use Rattle.negotiate_serve.specs.Outputs.{Writes}
 use Rattle.wulameron_trouble.specs.declared.trouble.Trouble.{Trouble}
 use Rattle.wulameron_trouble.specs.declared.trouble.Trouble.TheVariants as trouble
 
@@ -71,6 +71,6 @@ abbrev pub trouble_line : (path text : List ℕ) → List ℕ
 trouble_line path text = codes "wulameron: " ++ path ++ codes ": " ++ text ++ codes "\n"
 
 -- The line is written, as far as the writer takes it, or there was no memory for it.
-abbrev pub TellsLine : (line : List ℕ) → Result (Unit {0}) Fault → (old new : Option (List ℕ)) → Type 0
-TellsLine line (Err fault.OutOfMemory) old new = new ≡ old
-TellsLine line result old new = Says line result old new
+abbrev pub WritesLine : (line : List ℕ) → Result (Unit {0}) ServeError → (old new : Option (List ℕ)) → Type 0
+WritesLine line (Err failure.OutOfMemory) old new = new ≡ old
+WritesLine line result old new = Writes line result old new

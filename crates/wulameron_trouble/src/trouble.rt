@@ -3,7 +3,7 @@
 ghost use Rattle.std.specs.Prelude.{◌≡◌, List, ℕ, Option, Some, Bool, IfOk, string_bytes};
 ghost use Rattle.iceoryx2_file_log.specs.declared.error.FileFault as declared-fault;
 ghost use Rattle.wulameron_trouble.specs.declared.trouble.Trouble as declared;
-ghost use Rattle.wulameron_trouble.specs.Troubles.{TellsLine, advice_of, is_last, last_of, trouble_line, trouble_of};
+ghost use Rattle.wulameron_trouble.specs.Troubles.{WritesLine, advice_of, is_last, last_of, trouble_line, trouble_of};
 ghost use Rattle.wulameron_trouble.specs.Troubles.{concern_of, trouble_text};
 ghost use Rattle.iceoryx2_monitoring.specs.Errors.{fault_text as claim_text};
 
@@ -12,8 +12,8 @@ use iceoryx2_file_log::file_log::FileLog;
 use iceoryx2_journal::journal::Journal;
 use iceoryx2_log::log::Log;
 use iceoryx2_monitoring::error::MonitoringError;
-use negotiate_serve::ending::Fault;
-use negotiate_serve::output::say;
+use negotiate_serve::ending::ServeError;
+use negotiate_serve::output::write_out;
 use std::alloc::{AllocError, Global};
 use std::fmt;
 use std::fs::File;
@@ -156,37 +156,37 @@ impl<L: Refusing> Troubled for Journal<L> {
 
 /// Writes the line of a trouble with the log of this path.
 ///
-/// `Fault` as `say` does, and where there is no memory for the line.
+/// `ServeError` as `write_out` does, and where there is no memory for the line.
 pub fn report_trouble<E: Write>(
     alloc: Global,
     path: &str,
     trouble: Trouble,
     errors: &mut E,
-) -> Result<(), Fault>
+) -> Result<(), ServeError>
     ensures { (text : List ℕ) → trouble_text trouble ≡ Some text
-        → TellsLine (trouble_line path.now text) result (E.contents errors.old) (E.contents errors.new) }
+        → WritesLine (trouble_line path.now text) result (E.contents errors.old) (E.contents errors.new) }
 {
     match line_of(alloc, path, trouble) {
-        Ok(line) => say(line.as_bytes(), errors),
-        Err(_) => Err(Fault::OutOfMemory),
+        Ok(line) => write_out(line.as_bytes(), errors),
+        Err(_) => Err(ServeError::OutOfMemory),
     }
 }
 
 /// Writes the line of what is wrong with the log of this path, or is wanted of it.
 ///
-/// `Fault` as `say` does, and where there is no memory for the line.
+/// `ServeError` as `write_out` does, and where there is no memory for the line.
 pub fn report_wrong<D: fmt::Display + Copy, E: Write>(
     alloc: Global,
     path: &str,
     wrong: D,
     errors: &mut E,
-) -> Result<(), Fault>
+) -> Result<(), ServeError>
     ensures { (text : List ℕ) → D.output wrong ≡ Some text
-        → TellsLine (trouble_line path.now text) result (E.contents errors.old) (E.contents errors.new) }
+        → WritesLine (trouble_line path.now text) result (E.contents errors.old) (E.contents errors.new) }
 {
     match line_of(alloc, path, wrong) {
-        Ok(line) => say(line.as_bytes(), errors),
-        Err(_) => Err(Fault::OutOfMemory),
+        Ok(line) => write_out(line.as_bytes(), errors),
+        Err(_) => Err(ServeError::OutOfMemory),
     }
 }
 
@@ -204,55 +204,55 @@ fn line_of<D: fmt::Display + Copy>(
 
 /// Writes the line of a node that isn't claimed.
 ///
-/// `Fault` as `say` does, and where there is no memory for the line.
+/// `ServeError` as `write_out` does, and where there is no memory for the line.
 pub fn report_claim<E: Write>(
     alloc: Global,
     error: &MonitoringError,
     errors: &mut E,
-) -> Result<(), Fault>
+) -> Result<(), ServeError>
     ensures { (text : List ℕ) → claim_text error.now.fault ≡ Some text
-        → TellsLine (trouble_line (string_bytes error.now.path) text) result
+        → WritesLine (trouble_line (string_bytes error.now.path) text) result
         (E.contents errors.old) (E.contents errors.new) }
 {
     match line_of(alloc, error.path(), error.fault()) {
-        Ok(line) => say(line.as_bytes(), errors),
-        Err(_) => Err(Fault::OutOfMemory),
+        Ok(line) => write_out(line.as_bytes(), errors),
+        Err(_) => Err(ServeError::OutOfMemory),
     }
 }
 
-/// What was told of the log of this path.
+/// What was written of the log of this path.
 #[derive(Drop)]
 pub struct Watch<'a> {
     alloc: Global,
     path: &'a str,
-    told: Option<Trouble>,
+    last_written: Option<Trouble>,
 }
 
 impl<'a> Watch<'a> {
-    /// Nothing was told.
+    /// Nothing was written.
     pub fn new(alloc: Global, path: &'a str) -> Watch<'a> {
         Watch {
             alloc,
             path,
-            told: None,
+            last_written: None,
         }
     }
 
-    /// Tells what goes wrong, by a line, where it isn't what was told last. Answers it where the log isn't used any
+    /// Writes what goes wrong, as a line, where it isn't what was written last. Answers it where the log isn't used any
     /// more. The line is left out where it can't be written.
     pub fn look<S: Troubled, E: Write>(&mut self, watched: &S, errors: &mut E) -> Option<Trouble>
         ensures { result ≡ last_of (S.trouble watched.now) }
     {
         let trouble = watched.trouble();
-        self.tell(trouble, errors);
+        self.write_new(trouble, errors);
         last_trouble(trouble)
     }
 
-    fn tell<E: Write>(&mut self, trouble: Option<Trouble>, errors: &mut E)
-        ensures { self.new.told ≡ trouble }
+    fn write_new<E: Write>(&mut self, trouble: Option<Trouble>, errors: &mut E)
+        ensures { self.new.last_written ≡ trouble }
     {
-        let is_known = trouble == self.told;
-        self.told = trouble;
+        let is_known = trouble == self.last_written;
+        self.last_written = trouble;
         if is_known {
             return;
         }

@@ -11,7 +11,7 @@ use Rattle.iceoryx2_world.specs.declared.world.Row.{Row}
 use Rattle.iceoryx2_world.specs.declared.world.Row.TheVariants as row
 use Rattle.iceoryx2_world.specs.World.{World, Segment, segment_of}
 use Rattle.iceoryx2_byte_form.specs.Form.{IsForm}
-use Rattle.iceoryx2_table.specs.Book.{Holds}
+use Rattle.iceoryx2_table.specs.ServicesState.{HasBytes}
 use Rattle.std.specs.FinMap as map
 use Rattle.wulameron_view.specs.declared.services.Service.{Service}
 use Rattle.wulameron_view.specs.Services.{IsService, IsServiceOf, members_of, AreServices, none, one, other, rank, service_cmp}
@@ -54,7 +54,7 @@ module _ (w : World) where
 
 -- what is put together for a row is its service
 pub row_service : (w : World) (h : ServiceHash) (r : Row) (s : Service) (n : ℕ) (b bytes : List ℕ) (x : Segment)
-    → r ≡ row.Published n b → Holds r bytes → IsForm s.description bytes → Some x ≡ segment_of w h
+    → r ≡ row.Published n b → HasBytes r bytes → IsForm s.description bytes → Some x ≡ segment_of w h
     → s.hash ≡ h → s.number ≡ n → s.max_nodes ≡ x.capacity → s.members.items ≡ members_of w h (map.entries x.participants) → IsService w h r s
 row_service w h r s n b bytes x is holds form beside hash number room members =
     let same : bytes ≡ b = rw is at holds in

@@ -5,8 +5,8 @@ use Rattle.wulameron_view.specs.Looking.{Prints, printed, kept, WritesMade, Keep
 
 pub printed_of : {T : Type 0} (bytes : T → List ℕ) (IsText : List ℕ → Type 0) (IsWhy : LookError → Type 0) (made : Result T LookError) (r : Result (Unit {0}) LookError)
     (a b : Option (List ℕ)) → IfOk made (λ t. IsText (bytes t)) → IfErr made IsWhy → IfOk made (λ t. WritesMade (bytes t) r a b) → IfErr made (λ why. KeepsWhy why r a b) → Prints IsText IsWhy r a b
-printed_of bytes IsText IsWhy (Ok text) r a b is why says keeps = printed (bytes text) is says
-printed_of bytes IsText IsWhy (Err e) r a b is why says keeps = kept e why keeps
+printed_of bytes IsText IsWhy (Ok text) r a b is why writes keeps = printed (bytes text) is writes
+printed_of bytes IsText IsWhy (Err e) r a b is why writes keeps = kept e why keeps
 
 pub no_item : {A : Type 0} (xs : List A) → length xs < 1 → xs ≡ []
 no_item [] few = refl

@@ -8,7 +8,7 @@ use Rattle.iceoryx2_journal.specs.Journal.{JournalState, TakesAll, Fails}
 use Rattle.iceoryx2_log.specs.Log.{Contents}
 use Rattle.iceoryx2_monitoring.specs.declared.state.NodeStatus.{NodeStatus}
 use Rattle.iceoryx2_world.specs.World.{World}
-use Rattle.negotiate_serve.specs.Outputs.{Says}
+use Rattle.negotiate_serve.specs.Outputs.{Writes}
 use Rattle.wulameron_arguments.specs.declared.asked.Pattern.{Pattern}
 use Rattle.wulameron_arguments.specs.declared.asked.Pattern.TheVariants as kind
 use Rattle.wulameron_arguments.specs.declared.asked.Wanted.{Wanted}
@@ -87,8 +87,8 @@ NeverUnshown w _ = ⊥
 
 -- The output has taken a text, or a front of it.
 abbrev pub WritesMade : (text : List ℕ) → Result (Unit {0}) LookError → (old new : Option (List ℕ)) → Type 0
-WritesMade text (Ok x) old new = Says text (Ok x) old new
-WritesMade text (Err (look.Failed f)) old new = Says text (Err f) old new
+WritesMade text (Ok x) old new = Writes text (Ok x) old new
+WritesMade text (Err (look.Failed f)) old new = Writes text (Err f) old new
 WritesMade text (Err other) old new = ⊥
 
 -- It ends for this reason, and nothing is written.

@@ -7,10 +7,10 @@ use Rattle.iceoryx2_journal.specs.Journal.{JournalState}
 use Rattle.iceoryx2_log.specs.Log.{Contents}
 use Rattle.iceoryx2_monitoring.specs.declared.state.NodeStatus.{NodeStatus}
 use Rattle.iceoryx2_world.specs.World.{World}
-use Rattle.negotiate_serve.specs.declared.ending.Fault.{Fault}
+use Rattle.negotiate_serve.specs.declared.ending.ServeError.{ServeError}
 use Rattle.wulameron_trouble.specs.declared.trouble.Trouble.{Trouble}
 use Rattle.wulameron_trouble.specs.declared.trouble.Trouble.TheVariants as trouble
-use Rattle.wulameron_trouble.specs.Troubles.{TellsLine, trouble_text}
+use Rattle.wulameron_trouble.specs.Troubles.{WritesLine, trouble_text}
 use Rattle.wulameron_view.specs.declared.looking.LookError.{LookError}
 use Rattle.wulameron_view.specs.declared.looking.LookError.TheVariants as look
 use Rattle.wulameron_view.specs.Looking.{LooksAt, look_status}
@@ -41,13 +41,13 @@ unopened_text fault = trouble_text (trouble.Refused fault)
 -- ---- nodes
 
 -- 0, or 3 after a fault
-abbrev pub nodes_status : Result (Unit {0}) Fault → ℕ
+abbrev pub nodes_status : Result (Unit {0}) ServeError → ℕ
 nodes_status (Ok x) = 0
 nodes_status (Err f) = 3
 
 -- The nodes are printed, as far as the output takes them, and this is the status.
 pub record EndsNodes (json : Bool) (nodes : List NodeStatus) (before after : Option (List ℕ)) (status : ℕ)
     : Type 0 where
-  pub written : Result (Unit {0}) Fault
-  pub tells : TellsLine (nodes_printed json nodes) written before after
+  pub written : Result (Unit {0}) ServeError
+  pub writes : WritesLine (nodes_printed json nodes) written before after
   pub ends : status ≡ nodes_status written

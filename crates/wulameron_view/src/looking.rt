@@ -16,8 +16,8 @@ use iceoryx2_journal::journal::Journal;
 use iceoryx2_log::log::Log;
 use iceoryx2_monitoring::state::NodeStatus;
 use iceoryx2_table::table::stored::StoredWorld;
-use negotiate_serve::ending::{DONE, FAULT, Fault};
-use negotiate_serve::output::say;
+use negotiate_serve::ending::{DONE, FAULT, ServeError};
+use negotiate_serve::output::write_out;
 use std::alloc::{AllocError, Global};
 use std::io::Write;
 use wulameron_arguments::asked::{Pattern, Wanted};
@@ -35,17 +35,17 @@ pub enum LookError {
     /// Several services are.
     SeveralServices,
     /// The output refused, or there was no memory.
-    Failed(Fault),
+    Failed(ServeError),
 }
 
 impl From<AllocError> for LookError {
-    ghost use Rattle.negotiate_serve.specs.declared.ending.Fault.TheVariants as fault;
+    ghost use Rattle.negotiate_serve.specs.declared.ending.ServeError.TheVariants as failure;
     ghost use Rattle.wulameron_view.specs.declared.looking.LookError.TheVariants as look;
 
-    ghost from_gives = { λ error given. given ≡ look.Failed fault.OutOfMemory };
+    ghost from_gives = { λ error given. given ≡ look.Failed failure.OutOfMemory };
 
     fn from(_: AllocError) -> LookError {
-        LookError::Failed(Fault::OutOfMemory)
+        LookError::Failed(ServeError::OutOfMemory)
     }
 }
 
@@ -175,13 +175,13 @@ pub fn show_in(
 ///
 /// `Failed` where the output refuses; it has a front of the text then.
 pub fn print<W: Write>(made: Result<String, LookError>, output: &mut W) -> Result<(), LookError>
-    ensures said { IfOk made (λ text. WritesMade (string_bytes text) result
+    ensures written { IfOk made (λ text. WritesMade (string_bytes text) result
         (W.contents output.old) (W.contents output.new)) }
     ensures why { IfErr made (λ why. KeepsWhy why result (W.contents output.old) (W.contents output.new)) }
 {
     match made {
         Err(why) => Err(why),
-        Ok(text) => match say(text.as_bytes(), output) {
+        Ok(text) => match write_out(text.as_bytes(), output) {
             Ok(()) => Ok(()),
             Err(fault) => Err(LookError::Failed(fault)),
         },

@@ -24,7 +24,7 @@ pub enum Value {
     Deadline(Option<Deadline>),
 }
 
-/// The text by which a term says it; a deadline's creation time stands behind its length.
+/// The text by which a term means it; a deadline's creation time stands behind its length.
 impl fmt::Display for Value {
     ghost use Rattle.std.specs.Prelude.{Some};
     ghost use Rattle.wulameron_view.specs.ShowTexts.{value_text};

@@ -1,7 +1,7 @@
 //! The commands that look at a log in a file. They claim no node, make no file, and append nothing.
 
 ghost use Rattle.std.specs.Prelude.{◌≡◌, ℕ, List, Some, IfOk, string_bytes};
-ghost use Rattle.wulameron_trouble.specs.Troubles.{TellsLine, trouble_line};
+ghost use Rattle.wulameron_trouble.specs.Troubles.{WritesLine, trouble_line};
 ghost use Rattle.wulameron_view.specs.Looking.{IsListed, IsShown, IsUnshown, NeverUnshown, look_status};
 ghost use Rattle.wulameron_view.specs.Nodes.{nodes_printed};
 ghost use Rattle.wulameron_view.specs.Viewing.{EndsLook, EndsNodes, look_text, nodes_status, unopened_text};
@@ -13,9 +13,9 @@ use iceoryx2_file_log::error::FileFault;
 use iceoryx2_file_log::file_log::FileLog;
 use iceoryx2_journal::journal::Journal;
 use iceoryx2_monitoring::state::{self, NodeStatus};
-use negotiate_serve::ending::{DONE, FAULT, Fault};
-use negotiate_serve::output::say;
-use negotiate_serve::report::report_fault;
+use negotiate_serve::ending::{DONE, FAULT, ServeError};
+use negotiate_serve::output::write_out;
+use negotiate_serve::report::report_failure;
 use std::alloc::{AllocError, Global};
 use std::fs::File;
 use std::io::{ErrorKind, Write};
@@ -34,7 +34,7 @@ const NO_SERVICE: &str = "has no such service; see `wulameron list`";
 const SEVERAL_SERVICES: &str = "has several services of this name; name one by --pattern";
 
 /// Prints which services there are over the log in a file, as a table or as JSON. Gives the status with which the
-/// program ends: 0, or 3 after a fault, of which the writer of errors has a line.
+/// program ends: 0, or 3 after a failure, of which the writer of errors has a line.
 pub fn list<F: Files<File = File> + Clock + RandomSource + AllocGlobal, W: Write, E: Write>(
     rt: &F,
     look: &Look<'_>,
@@ -78,8 +78,8 @@ pub fn list_over<L: Refusing, W: Write, E: Write>(
 }
 
 /// Prints what was agreed of a service over the log in a file, and who has it, as lines or as JSON. Gives the status
-/// with which the program ends: 0; 1 where not one service is the wanted one; or 3 after a fault. The writer of errors
-/// has a line of these.
+/// with which the program ends: 0; 1 where not one service is the wanted one; or 3 after a failure. The writer of
+/// errors has a line of these.
 pub fn show<F: Files<File = File> + Clock + RandomSource + AllocGlobal, W: Write, E: Write>(
     rt: &F,
     show: &Show<'_>,
@@ -136,7 +136,7 @@ fn open_view<'a, F: Files<File = File> + Clock + RandomSource + AllocGlobal, E: 
 ) -> Option<(Journal<FileLog<&'a F>>, Vec<NodeStatus>)> {
     let alloc = rt.alloc();
     let Ok(path) = format!(in alloc; "{}", place.at) else {
-        let _ = report_fault("wulameron", Fault::OutOfMemory, errors);
+        let _ = report_failure("wulameron", ServeError::OutOfMemory, errors);
         return None;
     };
     match FileLog::open_existing(rt, path, place.options) {
@@ -171,15 +171,15 @@ fn view_of<'a, F: Files<File = File> + Clock + RandomSource + AllocGlobal, E: Wr
 
 /// Writes the line of why the log of this path isn't opened.
 ///
-/// `Fault` as `say` does, and where there is no memory for the line.
+/// `ServeError` as `write_out` does, and where there is no memory for the line.
 pub fn report_unopened<E: Write>(
     alloc: Global,
     path: &str,
     fault: FileFault,
     errors: &mut E,
-) -> Result<(), Fault>
+) -> Result<(), ServeError>
     ensures { (text : List ℕ) → unopened_text fault ≡ Some text
-        → TellsLine (trouble_line path.now text) result (E.contents errors.old) (E.contents errors.new) }
+        → WritesLine (trouble_line path.now text) result (E.contents errors.old) (E.contents errors.new) }
 {
     match fault {
         FileFault::Failed {
@@ -208,32 +208,32 @@ fn end_look<E: Write>(
 /// Writes why a look at the log of this path ended. Where nothing went wrong at a log that isn't read there was no
 /// memory.
 ///
-/// `Fault` as `say` does, and where there is no memory for the line.
+/// `ServeError` as `write_out` does, and where there is no memory for the line.
 pub fn report_look<E: Write>(
     alloc: Global,
     path: &str,
     trouble: Option<Trouble>,
     why: LookError,
     errors: &mut E,
-) -> Result<(), Fault>
+) -> Result<(), ServeError>
     ensures { (text : List ℕ) → look_text trouble why ≡ Some text
-        → TellsLine (trouble_line path.now text) result (E.contents errors.old) (E.contents errors.new) }
+        → WritesLine (trouble_line path.now text) result (E.contents errors.old) (E.contents errors.new) }
 {
     match why {
         LookError::Unread => match trouble {
             Some(trouble) => report_trouble(alloc, path, trouble, errors),
-            None => report_fault("wulameron", Fault::OutOfMemory, errors),
+            None => report_failure("wulameron", ServeError::OutOfMemory, errors),
         },
         LookError::NoService => report_wrong(alloc, path, NO_SERVICE, errors),
         LookError::SeveralServices => report_wrong(alloc, path, SEVERAL_SERVICES, errors),
-        LookError::Failed(fault) => report_fault("wulameron", fault, errors),
+        LookError::Failed(fault) => report_failure("wulameron", fault, errors),
     }
 }
 
 // ---- nodes
 
 /// Prints each node that has a file beside the log, by rising number, and whether it is alive, as lines or as JSON.
-/// Gives the status with which the program ends: 0, or 3 after a fault, of which the writer of errors has a line.
+/// Gives the status with which the program ends: 0, or 3 after a failure, of which the writer of errors has a line.
 pub fn nodes<F: Files<File = File> + AllocGlobal, W: Write, E: Write>(
     rt: &F,
     look: &Look<'_>,
@@ -265,14 +265,14 @@ pub fn print_nodes<W: Write, E: Write>(
     end_nodes(written, errors)
 }
 
-/// Writes the line of the fault that kept the nodes from being printed, if one did, and gives the status.
-fn end_nodes<E: Write>(written: Result<(), Fault>, errors: &mut E) -> u8
+/// Writes the line of the failure that kept the nodes from being printed, if one did, and gives the status.
+fn end_nodes<E: Write>(written: Result<(), ServeError>, errors: &mut E) -> u8
     ensures { result ≡ nodes_status written }
 {
     match written {
         Ok(()) => DONE,
         Err(fault) => {
-            let _ = report_fault("wulameron", fault, errors);
+            let _ = report_failure("wulameron", fault, errors);
             FAULT
         }
     }
@@ -284,12 +284,12 @@ fn write_nodes<W: Write>(
     nodes: &[NodeStatus],
     is_json: bool,
     output: &mut W,
-) -> Result<(), Fault>
-    ensures { TellsLine (nodes_printed is_json nodes.now) result (W.contents output.old) (W.contents output.new) }
+) -> Result<(), ServeError>
+    ensures { WritesLine (nodes_printed is_json nodes.now) result (W.contents output.old) (W.contents output.new) }
 {
     match nodes_in(alloc, nodes, is_json) {
-        Ok(text) => say(text.as_bytes(), output),
-        Err(_) => Err(Fault::OutOfMemory),
+        Ok(text) => write_out(text.as_bytes(), output),
+        Err(_) => Err(ServeError::OutOfMemory),
     }
 }
 

@@ -18,7 +18,7 @@ returns g c =
       prints = printed_of string_bytes (IsShown false states w which) (IsUnshown w which) c.show_in-text.result c.print-shown.result (g.W.Write.contents c.args.output.now) (g.W.Write.contents c.print-shown.new.output)
           (subst (λ (w : World). IfOk c.show_in-text.result (λ text. IsShown false states w which (string_bytes text))) seen c.show_in-text.ensures.shown)
           (subst (λ (w : World). IfErr c.show_in-text.result (IsUnshown w which)) seen c.show_in-text.ensures.unshown)
-          c.print-shown.ensures.said c.print-shown.ensures.why;
+          c.print-shown.ensures.written c.print-shown.ensures.why;
       waited = c.wait-waited.result;
       closed = c.carry_out-closed.result;
       closes = c.carry_out-closed.ensures.own;

@@ -1,5 +1,5 @@
 use Rattle.std.proofs.Common.{◌≡◌, true, inl, sym, subst}
-use Rattle.iceoryx2_traced.specs.Trace.{TracedState}
+use Rattle.iceoryx2_testing.specs.Trace.{TracedState}
 use Rattle.iceoryx2_world.specs.Across.{Agrees}
 use Rattle.explain_serve.specs.Traces.{HasItsRoom}
 use Rattle.explain_serve.proofs.Explaining.{fresh_room}

@@ -1,16 +1,16 @@
 use Rattle.std.proofs.Common.{◌+◌, Result, Ok, Err, refl, sym, subst, rules, arith, ◌∙◌}
 use Rattle.negotiate_serve.specs.declared.ending.Ending.{Ending}
-use Rattle.negotiate_serve.specs.declared.ending.Fault.{Fault}
+use Rattle.negotiate_serve.specs.declared.ending.ServeError.{ServeError}
 use Rattle.negotiate_serve.specs.Served.{AnswersAll}
 use Rattle.negotiate_serve.proofs.Answering.{nothing_so_far, turn_goes_on, turn_ends, turn_fails, too_many}
 use Rattle.negotiate_serve.specs.Transcripts.{LinesBy}
 use Rattle.wulameron_serve.specs.Lines.{AnswersWhileUsable}
-use Rattle.wulameron_serve.proofs.UntilHalted.{seen_fault, serving_is_no_end, log_ends, turn_also}
+use Rattle.wulameron_serve.proofs.UntilHalted.{seen_failure, serving_is_no_end, log_ends, turn_also}
 use Rattle.wulameron_serve.proofs.lines.answer_lines.Goals as goal
 
 pub loop-number-init : goal.loop-number-init
 loop-number-init g c = record {
-  said = λ input known. nothing_so_far (AnswersWhileUsable g.A.Troubled.trouble (LinesBy c.args.wrong_lines g.A.Answerer.answers)) c.args.answerer.now input (g.R.Read.remaining c.args.reader.now)
+  answered = λ input known. nothing_so_far (AnswersWhileUsable g.A.Troubled.trouble (LinesBy c.args.wrong_lines g.A.Answerer.answers)) c.args.answerer.now input (g.R.Read.remaining c.args.reader.now)
       (g.W.Write.contents c.args.output.now) known;
   stands = c.requires.stands;
   usable = c.requires.usable;
@@ -18,8 +18,8 @@ loop-number-init g c = record {
 
 pub loop-number-preserved : goal.loop-number-preserved
 loop-number-preserved g c = record {
-  said = λ input known.
-      let a = c.loop-number.invariant.said input known in
+  answered = λ input known.
+      let a = c.loop-number.invariant.answered input known in
       let Usable = AnswersWhileUsable g.A.Troubled.trouble (LinesBy c.args.wrong_lines g.A.Answerer.answers) in
       let left = g.R.Read.remaining c.answer_next.new.reader in
       let mid = g.W.Write.contents c.loop-number.output in
@@ -32,17 +32,17 @@ loop-number-preserved g c = record {
   usable = sym c.look.ensures ∙ search rules;
 }
 
-pub returns-in_err-ending-clause-said : goal.returns-in_err-ending-clause-said
-returns-in_err-ending-clause-said g c = λ input known.
-    let a = c.loop-number.invariant.said input known in
+pub returns-in_err-ending-clause-answered : goal.returns-in_err-ending-clause-answered
+returns-in_err-ending-clause-answered g c = λ input known.
+    let a = c.loop-number.invariant.answered input known in
     let Usable = AnswersWhileUsable g.A.Troubled.trouble (LinesBy c.args.wrong_lines g.A.Answerer.answers) in
     let next = g.R.Read.remaining c.answer_next.new.reader in
     let old = g.W.Write.contents c.args.output.now in
     let mid = g.W.Write.contents c.loop-number.output in
     let new = g.W.Write.contents c.answer_next.new.output in
     let fault = c.in_err-ending.field-0.0 in
-    subst (λ (r : Result Ending Fault). AnswersAll Usable c.args.answerer.now r input next old new)
-    (sym (seen_fault c.from_residual.result fault c.from_residual.ensures.1))
+    subst (λ (r : Result Ending ServeError). AnswersAll Usable c.args.answerer.now r input next old new)
+    (sym (seen_failure c.from_residual.result fault c.from_residual.ensures.1))
     (turn_fails Usable c.args.answerer.now input c.loop-number.number (g.R.Read.remaining c.loop-number.reader) next old mid new
     c.loop-number.answerer c.answer_next.new.answerer a fault
     (turn_also (LinesBy c.args.wrong_lines g.A.Answerer.answers) Usable c.loop-number.answerer (λ line text n by. (c.loop-number.invariant.usable, by)) (Err fault)
@@ -54,9 +54,9 @@ returns-in_err-ending-clause-stands g c = c.answer_next.ensures.stands c.loop-nu
 pub returns-in_err-ending-clause-log : goal.returns-in_err-ending-clause-log
 returns-in_err-ending-clause-log g c = serving_is_no_end (g.A.Troubled.trouble c.answer_next.new.answerer) c.from_residual.result c.in_err-ending.field-0.0 c.from_residual.ensures.1
 
-pub returns-in-Some-clause-said : goal.returns-in-Some-clause-said
-returns-in-Some-clause-said g c = λ input known.
-    let a = c.loop-number.invariant.said input known in
+pub returns-in-Some-clause-answered : goal.returns-in-Some-clause-answered
+returns-in-Some-clause-answered g c = λ input known.
+    let a = c.loop-number.invariant.answered input known in
     let Usable = AnswersWhileUsable g.A.Troubled.trouble (LinesBy c.args.wrong_lines g.A.Answerer.answers) in
     let left = g.R.Read.remaining c.answer_next.new.reader in
     let mid = g.W.Write.contents c.loop-number.output in
@@ -69,18 +69,18 @@ returns-in-Some-clause-said g c = λ input known.
 pub returns-in-Some-clause-stands : goal.returns-in-Some-clause-stands
 returns-in-Some-clause-stands g c = c.answer_next.ensures.stands c.loop-number.invariant.stands
 
-pub returns-clause-said : goal.returns-clause-said
-returns-clause-said g c = λ input known.
+pub returns-clause-answered : goal.returns-clause-answered
+returns-clause-answered g c = λ input known.
     too_many (AnswersWhileUsable g.A.Troubled.trouble (LinesBy c.args.wrong_lines g.A.Answerer.answers)) c.args.answerer.now input c.loop-number.number (g.R.Read.remaining c.loop-number.reader)
     (g.R.Read.remaining c.loop-number.reader) (g.W.Write.contents c.args.output.now) (g.W.Write.contents c.loop-number.output) c.loop-number.answerer
-    (omega (arith, c.loop-number-test.false, c.loop-number.auto.number-end)) (c.loop-number.invariant.said input known)
+    (omega (arith, c.loop-number-test.false, c.loop-number.auto.number-end)) (c.loop-number.invariant.answered input known)
 
 pub returns-clause-stands : goal.returns-clause-stands
 returns-clause-stands g c = c.loop-number.invariant.stands
 
-pub returns-in-Some-look-clause-said : goal.returns-in-Some-look-clause-said
-returns-in-Some-look-clause-said g c = λ input known.
-    let a = c.loop-number.invariant.said input known in
+pub returns-in-Some-look-clause-answered : goal.returns-in-Some-look-clause-answered
+returns-in-Some-look-clause-answered g c = λ input known.
+    let a = c.loop-number.invariant.answered input known in
     let Usable = AnswersWhileUsable g.A.Troubled.trouble (LinesBy c.args.wrong_lines g.A.Answerer.answers) in
     let left = g.R.Read.remaining c.answer_next.new.reader in
     let old = g.W.Write.contents c.args.output.now in

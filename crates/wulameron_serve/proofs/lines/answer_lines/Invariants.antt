@@ -6,7 +6,7 @@ use Rattle.wulameron_serve.proofs.lines.answer_lines.Given as goal
 
 abbrev pub invariant-loop-number : goal.invariant-loop-number
 invariant-loop-number g l = record {
-  said : (input : List ℕ) → g.R.Read.remaining l.fn.reader ≡ Some input
+  answered : (input : List ℕ) → g.R.Read.remaining l.fn.reader ≡ Some input
       → SoFar (AnswersWhileUsable g.A.Troubled.trouble (LinesBy l.fn.wrong_lines g.A.Answerer.answers)) l.fn.answerer input l.number (g.R.Read.remaining l.reader) (g.W.Write.contents l.fn.output) (g.W.Write.contents l.output) l.answerer;
   stands : g.A.Answerer.stands l.answerer;
   usable : IsUsable (g.A.Troubled.trouble l.answerer);

@@ -1,6 +1,6 @@
 use Rattle.std.proofs.Common.{Err, subst}
 use Rattle.negotiate_serve.specs.Served.{AnswersAll}
-use Rattle.negotiate_serve.proofs.Answering.{served, served_to_fault}
+use Rattle.negotiate_serve.proofs.Answering.{served, served_to_failure}
 use Rattle.wulameron_serve.specs.declared.lines.Halt.{Halt}
 use Rattle.negotiate_serve.specs.Transcripts.{LinesBy}
 use Rattle.wulameron_serve.specs.Lines.{AnswersWhileUsable, IsEndOf, seen_as}
@@ -10,7 +10,7 @@ use Rattle.wulameron_serve.proofs.lines.serve_lines.Goals as goal
 pub returns-in-Ok-clause-serves : goal.returns-in-Ok-clause-serves
 returns-in-Ok-clause-serves g c = λ input known.
     let done = served (AnswersWhileUsable g.A.Troubled.trouble (LinesBy c.args.wrong_lines g.A.Answerer.answers)) c.args.answerer.now input c.in-Ok.ending (g.R.Read.remaining c.answer_lines.new.reader)
-    (g.W.Write.contents c.args.output.now) (g.W.Write.contents c.answer_lines.new.output) (c.in-Ok.ensures.said input known) in
+    (g.W.Write.contents c.args.output.now) (g.W.Write.contents c.answer_lines.new.output) (c.in-Ok.ensures.answered input known) in
     (done.0, done.1)
 
 pub returns-in-Ok-clause-stands : goal.returns-in-Ok-clause-stands
@@ -23,7 +23,7 @@ returns-in-Log-clause-serves g c = λ input known.
     let old = g.W.Write.contents c.args.output.now in
     let new = g.W.Write.contents c.answer_lines.new.output in
     served_to_halt Usable c.args.answerer.now input left old new
-    (subst (λ (h : Halt). AnswersAll Usable c.args.answerer.now (seen_as (Err h)) input left old new) c.in-Log.is (c.in-Err.ensures.said input known))
+    (subst (λ (h : Halt). AnswersAll Usable c.args.answerer.now (seen_as (Err h)) input left old new) c.in-Log.is (c.in-Err.ensures.answered input known))
 
 pub returns-in-Log-clause-stands : goal.returns-in-Log-clause-stands
 returns-in-Log-clause-stands g c = c.answer_lines.ensures.stands
@@ -37,9 +37,9 @@ returns-in-Serving-clause-serves g c = λ input known.
     let left = g.R.Read.remaining c.answer_lines.new.reader in
     let old = g.W.Write.contents c.args.output.now in
     let mid = g.W.Write.contents c.answer_lines.new.output in
-    let new = g.W.Write.contents c.tell_fault-fault.new.output in
-    served_to_fault Usable c.args.answerer.now input c.in-Serving.fault c.tell_fault-fault.result left old mid new
-    (subst (λ (h : Halt). AnswersAll Usable c.args.answerer.now (seen_as (Err h)) input left old mid) c.in-Serving.is (c.in-Err.ensures.said input known)) c.tell_fault-fault.ensures
+    let new = g.W.Write.contents c.write_failure-fault.new.output in
+    served_to_failure Usable c.args.answerer.now input c.in-Serving.fault c.write_failure-fault.result left old mid new
+    (subst (λ (h : Halt). AnswersAll Usable c.args.answerer.now (seen_as (Err h)) input left old mid) c.in-Serving.is (c.in-Err.ensures.answered input known)) c.write_failure-fault.ensures
 
 pub returns-in-Serving-clause-stands : goal.returns-in-Serving-clause-stands
 returns-in-Serving-clause-stands g c = c.answer_lines.ensures.stands

@@ -12,5 +12,5 @@ returns-in-Ok-clause-serves g c = λ bytes known.
 
 pub returns-in-Err-clause-serves : goal.returns-in-Err-clause-serves
 returns-in-Err-clause-serves g c = λ bytes known.
-    served_nothing (AnswersWhileUsable g.A.Troubled.trouble (LinesBy c.args.wrong_lines g.A.Answerer.answers)) c.args.answerer.now bytes c.of_reading.result c.tell_fault-fault.result
-    (g.W.Write.contents c.args.output.now) (g.W.Write.contents c.tell_fault-fault.new.output) c.of_reading.ensures.of_reading c.tell_fault-fault.ensures
+    served_nothing (AnswersWhileUsable g.A.Troubled.trouble (LinesBy c.args.wrong_lines g.A.Answerer.answers)) c.args.answerer.now bytes c.of_reading.result c.write_failure-fault.result
+    (g.W.Write.contents c.args.output.now) (g.W.Write.contents c.write_failure-fault.new.output) c.of_reading.ensures.of_reading c.write_failure-fault.ensures

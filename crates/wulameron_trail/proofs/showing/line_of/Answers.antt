@@ -1,5 +1,5 @@
 use Rattle.std.proofs.Common.{string_bytes}
-use Rattle.wulameron_trail.proofs.Showings.{drawn_line, told_line}
+use Rattle.wulameron_trail.proofs.Showings.{drawn_line, entry_line_shown}
 use Rattle.wulameron_trail.proofs.showing.line_of.Goals as goal
 
 pub returns-then-is_diagram : goal.returns-then-is_diagram
@@ -8,4 +8,4 @@ returns-then-is_diagram c =
 
 pub returns : goal.returns
 returns c =
-    told_line c.args.is_diagram c.args.place c.args.entry.now (string_bytes c.args.text.now) (string_bytes c.entry_line.new.text) c.entry_line.result c.if-is_diagram.false c.entry_line.ensures
+    entry_line_shown c.args.is_diagram c.args.place c.args.entry.now (string_bytes c.args.text.now) (string_bytes c.entry_line.new.text) c.entry_line.result c.if-is_diagram.false c.entry_line.ensures

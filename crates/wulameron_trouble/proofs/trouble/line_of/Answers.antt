@@ -8,6 +8,6 @@ returns g c = λ text known.
     subst (λ (l : List ℕ). IfOk c.format.result (λ line. string_bytes line ≡ l))
     (ap (λ (l : List ℕ). codes "wulameron: " ++ l)
     (sym (append_assoc path (codes ": ") (text ++ codes "\n")) ∙ sym (append_assoc (path ++ codes ": ") text (codes "\n"))))
-    (subst (λ (said : Option (List ℕ)). IfOk c.format.result (λ line. IfSome
-    (option_append (Some (codes "wulameron: ")) (option_append (Some path) (option_append (Some (codes ": ")) (option_append said (Some (codes "\n"))))))
+    (subst (λ (middle : Option (List ℕ)). IfOk c.format.result (λ line. IfSome
+    (option_append (Some (codes "wulameron: ")) (option_append (Some path) (option_append (Some (codes ": ")) (option_append middle (Some (codes "\n"))))))
     (λ bytes. string_bytes line ≡ bytes))) known c.format.ensures.ok)

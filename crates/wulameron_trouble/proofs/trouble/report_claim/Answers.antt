@@ -1,13 +1,13 @@
 use Rattle.std.proofs.Common.{◌≡◌, List, ℕ, string_bytes, ap, subst, ◌∙◌}
 use Rattle.iceoryx2_monitoring.specs.Errors.{fault_text}
-use Rattle.negotiate_serve.specs.Outputs.{Says}
-use Rattle.wulameron_trouble.specs.Troubles.{TellsLine, trouble_line}
-use Rattle.wulameron_trouble.proofs.ToldLines.{tells_line}
+use Rattle.negotiate_serve.specs.Outputs.{Writes}
+use Rattle.wulameron_trouble.specs.Troubles.{WritesLine, trouble_line}
+use Rattle.wulameron_trouble.proofs.WrittenLines.{writes_line}
 use Rattle.wulameron_trouble.proofs.trouble.report_claim.Goals as goal
 
 pub returns-in-Ok : goal.returns-in-Ok
 returns-in-Ok g c = λ text known.
-    tells_line (trouble_line (string_bytes c.args.error.now.path) text) c.say.result (g.E.Write.contents c.args.errors.now) (g.E.Write.contents c.say.new.output)
-    (subst (λ (l : List ℕ). Says l c.say.result (g.E.Write.contents c.args.errors.now) (g.E.Write.contents c.say.new.output))
+    writes_line (trouble_line (string_bytes c.args.error.now.path) text) c.write_out.result (g.E.Write.contents c.args.errors.now) (g.E.Write.contents c.write_out.new.output)
+    (subst (λ (l : List ℕ). Writes l c.write_out.result (g.E.Write.contents c.args.errors.now) (g.E.Write.contents c.write_out.new.output))
     (c.as_bytes.ensures.value ∙ c.in-Ok.ensures text (ap fault_text c.fault.ensures ∙ known) ∙ ap (λ (p : List ℕ). trouble_line p text) c.path.ensures)
-    c.say.ensures)
+    c.write_out.ensures)

@@ -14,4 +14,4 @@ returns g c =
     (printed_of string_bytes (IsListed c.args.is_json c.args.states.now w) (NeverUnshown w) c.list_in.result c.print.result (g.W.Write.contents c.args.output.now) (g.W.Write.contents c.print.new.output)
     (subst (λ (w : World). IfOk c.list_in.result (λ text. IsListed c.args.is_json c.args.states.now w (string_bytes text))) c.world.ensures c.list_in.ensures.listed)
     (subst (λ (w : World). IfErr c.list_in.result (NeverUnshown w)) c.world.ensures c.list_in.ensures.unlisted)
-    c.print.ensures.said c.print.ensures.why)
+    c.print.ensures.written c.print.ensures.why)

@@ -14,4 +14,4 @@ returns g c =
     (printed_of string_bytes (IsShown c.args.is_json c.args.states.now w c.args.wanted) (λ why. IsUnshown w c.args.wanted why) c.show_in.result c.print.result (g.W.Write.contents c.args.output.now) (g.W.Write.contents c.print.new.output)
     (subst (λ (w : World). IfOk c.show_in.result (λ text. IsShown c.args.is_json c.args.states.now w c.args.wanted (string_bytes text))) c.world.ensures c.show_in.ensures.shown)
     (subst (λ (w : World). IfErr c.show_in.result (λ why. IsUnshown w c.args.wanted why)) c.world.ensures c.show_in.ensures.unshown)
-    c.print.ensures.said c.print.ensures.why)
+    c.print.ensures.written c.print.ensures.why)

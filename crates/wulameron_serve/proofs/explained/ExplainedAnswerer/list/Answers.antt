@@ -6,18 +6,18 @@ use Rattle.wulameron_serve.proofs.ExplainedAnswers.{room_refreshed}
 use Rattle.wulameron_serve.proofs.NodeAnswers.{stands_after, grows_as}
 use Rattle.wulameron_serve.proofs.explained.ExplainedAnswerer.list.Goals as goal
 
-pub returns-clause-said : goal.returns-clause-said
-returns-clause-said g c = λ before.
+pub returns-clause-answered : goal.returns-clause-answered
+returns-clause-answered g c = λ before.
     let old = own_state c.args.self.now.session in
     let mid = own_state c.refresh_inside.new.self in
     let new = own_state c.explain.new.self.session in
     let done = c.refresh_inside.ensures in
     let shown : RefreshesInside g.S.WorldStorage.world g.S.WorldStorage.own old mid = record { same = done.same; nodes = done.nodes; kept = done.kept } in
-    grows_as (λ said. IsExplained g.S.Storage.step g.S.WorldStorage.world mid c.args.line.now command.List said new)
-    (λ said. ExplainsFor g.S.Storage.step g.S.WorldStorage.world g.S.WorldStorage.own c.args.self.now.node old c.args.line.now command.List said new)
-    (λ said is. listed mid shown is)
+    grows_as (λ output. IsExplained g.S.Storage.step g.S.WorldStorage.world mid c.args.line.now command.List output new)
+    (λ output. ExplainsFor g.S.Storage.step g.S.WorldStorage.world g.S.WorldStorage.own c.args.self.now.node old c.args.line.now command.List output new)
+    (λ output is. listed mid shown is)
     c.explain.result (string_bytes c.args.text.now) (string_bytes c.explain.new.text)
-    (c.explain.ensures.said (room_refreshed g.S.WorldStorage.world g.S.WorldStorage.own old mid shown before.room))
+    (c.explain.ensures.answered (room_refreshed g.S.WorldStorage.world g.S.WorldStorage.own old mid shown before.room))
 
 pub returns-clause-stands : goal.returns-clause-stands
 returns-clause-stands g c = λ before.

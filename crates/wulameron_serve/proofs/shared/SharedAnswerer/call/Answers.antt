@@ -1,28 +1,28 @@
 use Rattle.std.proofs.Common.{◌≡◌, string_bytes, arith, sym, subst}
 use Rattle.iceoryx2_session.specs.SessionStates.{own_state}
 use Rattle.iceoryx2_commands.specs.declared.command.Command.TheVariants as command
-use Rattle.negotiate_serve.specs.Replies.{Tells}
-use Rattle.wulameron_serve.specs.Shared.{AnswersFor, SaysAgain, of_another, called, blocked, not_ours}
+use Rattle.negotiate_serve.specs.Replies.{IsReplyText}
+use Rattle.wulameron_serve.specs.Shared.{AnswersFor, AnswersAgain, of_another, called, blocked, not_ours}
 use Rattle.wulameron_serve.proofs.NodeAnswers.{call_of_own, stands_after, grows_as}
 use Rattle.wulameron_serve.proofs.shared.SharedAnswerer.call.Goals as goal
 
-pub returns-then-node-self-clause-said : goal.returns-then-node-self-clause-said
-returns-then-node-self-clause-said g c =
+pub returns-then-node-self-clause-answered : goal.returns-then-node-self-clause-answered
+returns-then-node-self-clause-answered g c =
     let another : c.args.call.node ≡ c.args.self.now.node → ⊥ = λ e. absurd (grind (arith, c.if-node-self.true, e)) in
-    grows_as (λ said. said ≡ not_ours c.args.call.node)
-    (λ said. AnswersFor g.S.Storage.step g.S.WorldStorage.world g.S.WorldStorage.own c.args.self.now.node c.args.line.now (own_state c.args.self.now.session) (command.Call c.args.call) said (own_state c.args.self.now.session))
-    (λ said is. subst (λ text. AnswersFor g.S.Storage.step g.S.WorldStorage.world g.S.WorldStorage.own c.args.self.now.node c.args.line.now (own_state c.args.self.now.session) (command.Call c.args.call) text (own_state c.args.self.now.session)) (sym is) (of_another another))
+    grows_as (λ output. output ≡ not_ours c.args.call.node)
+    (λ output. AnswersFor g.S.Storage.step g.S.WorldStorage.world g.S.WorldStorage.own c.args.self.now.node c.args.line.now (own_state c.args.self.now.session) (command.Call c.args.call) output (own_state c.args.self.now.session))
+    (λ output is. subst (λ text. AnswersFor g.S.Storage.step g.S.WorldStorage.world g.S.WorldStorage.own c.args.self.now.node c.args.line.now (own_state c.args.self.now.session) (command.Call c.args.call) text (own_state c.args.self.now.session)) (sym is) (of_another another))
     c.refuse_node.result (string_bytes c.args.text.now) (string_bytes c.refuse_node.new.text) c.refuse_node.ensures
 
-pub returns-then-is_blocked-clause-said : goal.returns-then-is_blocked-clause-said
-returns-then-is_blocked-clause-said g c =
+pub returns-then-is_blocked-clause-answered : goal.returns-then-is_blocked-clause-answered
+returns-then-is_blocked-clause-answered g c =
     let W = g.S.WorldStorage.world in
     let O = g.S.WorldStorage.own in
     let same : c.args.call.node ≡ c.args.self.now.node = grind (arith, c.if-node-self.false) in
-    grows_as (SaysAgain g.S.Storage.step W O c.args.self.now.node c.args.line.now c.carry_out-reply.result c.args.call.slot (own_state c.carry_out-reply.new.self) (own_state c.call_again.new.self.session))
-    (λ said. AnswersFor g.S.Storage.step W O c.args.self.now.node c.args.line.now (own_state c.args.self.now.session) (command.Call c.args.call) said (own_state c.call_again.new.self.session))
-    (λ said says. blocked c.carry_out-reply.result (own_state c.carry_out-reply.new.self) same c.carry_out-reply.ensures.own (sym c.if-is_blocked.ensures) says)
-    c.call_again.result (string_bytes c.args.text.now) (string_bytes c.call_again.new.text) c.call_again.ensures.said
+    grows_as (AnswersAgain g.S.Storage.step W O c.args.self.now.node c.args.line.now c.carry_out-reply.result c.args.call.slot (own_state c.carry_out-reply.new.self) (own_state c.call_again.new.self.session))
+    (λ output. AnswersFor g.S.Storage.step W O c.args.self.now.node c.args.line.now (own_state c.args.self.now.session) (command.Call c.args.call) output (own_state c.call_again.new.self.session))
+    (λ output is_text. blocked c.carry_out-reply.result (own_state c.carry_out-reply.new.self) same c.carry_out-reply.ensures.own (sym c.if-is_blocked.ensures) is_text)
+    c.call_again.result (string_bytes c.args.text.now) (string_bytes c.call_again.new.text) c.call_again.ensures.answered
 
 pub returns-then-is_blocked-clause-stands : goal.returns-then-is_blocked-clause-stands
 returns-then-is_blocked-clause-stands g c = λ before.
@@ -33,12 +33,12 @@ returns-then-is_blocked-clause-stands g c = λ before.
     (c.carry_out-reply.ensures.stands before.agrees before.stand (call_of_own g.S.WorldStorage.world g.S.WorldStorage.own c.args.self.now.node (own_state c.args.self.now.session) c.args.call before same))
     before)
 
-pub returns-clause-said : goal.returns-clause-said
-returns-clause-said g c =
+pub returns-clause-answered : goal.returns-clause-answered
+returns-clause-answered g c =
     let same : c.args.call.node ≡ c.args.self.now.node = grind (arith, c.if-node-self.false) in
-    grows_as (Tells c.args.call.slot c.carry_out-reply.result)
-    (λ said. AnswersFor g.S.Storage.step g.S.WorldStorage.world g.S.WorldStorage.own c.args.self.now.node c.args.line.now (own_state c.args.self.now.session) (command.Call c.args.call) said (own_state c.carry_out-reply.new.self))
-    (λ said tells. called c.carry_out-reply.result same c.carry_out-reply.ensures.own (sym c.if-is_blocked.ensures) tells)
+    grows_as (IsReplyText c.args.call.slot c.carry_out-reply.result)
+    (λ output. AnswersFor g.S.Storage.step g.S.WorldStorage.world g.S.WorldStorage.own c.args.self.now.node c.args.line.now (own_state c.args.self.now.session) (command.Call c.args.call) output (own_state c.carry_out-reply.new.self))
+    (λ output is_text. called c.carry_out-reply.result same c.carry_out-reply.ensures.own (sym c.if-is_blocked.ensures) is_text)
     c.describe.result (string_bytes c.args.text.now) (string_bytes c.describe.new.text) c.describe.ensures
 
 pub returns-clause-stands : goal.returns-clause-stands

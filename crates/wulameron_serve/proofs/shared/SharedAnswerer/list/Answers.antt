@@ -1,18 +1,18 @@
 use Rattle.std.proofs.Common.{string_bytes}
 use Rattle.iceoryx2_session.specs.SessionStates.{own_state}
 use Rattle.iceoryx2_commands.specs.declared.command.Command.TheVariants as command
-use Rattle.negotiate_serve.specs.Replies.{Tells}
+use Rattle.negotiate_serve.specs.Replies.{IsReplyText}
 use Rattle.wulameron_serve.specs.Shared.{AnswersFor, listed}
 use Rattle.wulameron_serve.proofs.NodeAnswers.{stands_after, grows_as}
 use Rattle.wulameron_serve.proofs.shared.SharedAnswerer.list.Goals as goal
 
-pub returns-clause-said : goal.returns-clause-said
-returns-clause-said g c =
-    grows_as (Tells 0 c.carry_out.result)
-    (λ said. AnswersFor g.S.Storage.step g.S.WorldStorage.world g.S.WorldStorage.own c.args.self.now.node c.args._line.now (own_state c.args.self.now.session) command.List said (own_state c.carry_out.new.self))
-    (λ said tells. listed c.carry_out.result (own_state c.refresh.new.self)
+pub returns-clause-answered : goal.returns-clause-answered
+returns-clause-answered g c =
+    grows_as (IsReplyText 0 c.carry_out.result)
+    (λ output. AnswersFor g.S.Storage.step g.S.WorldStorage.world g.S.WorldStorage.own c.args.self.now.node c.args._line.now (own_state c.args.self.now.session) command.List output (own_state c.carry_out.new.self))
+    (λ output is_text. listed c.carry_out.result (own_state c.refresh.new.self)
     (record { slots = c.refresh.ensures.slots; nodes = c.refresh.ensures.nodes; kept = c.refresh.ensures.kept })
-    c.carry_out.ensures.own tells)
+    c.carry_out.ensures.own is_text)
     c.describe.result (string_bytes c.args.text.now) (string_bytes c.describe.new.text) c.describe.ensures
 
 pub returns-clause-stands : goal.returns-clause-stands

@@ -1,5 +1,5 @@
 use Rattle.wulameron_state.specs.Words.{wrong, no_memory}
-use Rattle.wulameron_state.proofs.words.tell_wrong.Goals as goal
+use Rattle.wulameron_state.proofs.words.answer_wrong.Goals as goal
 
 pub returns-in-Ok : goal.returns-in-Ok
 returns-in-Ok c =
