@@ -1,6 +1,6 @@
 -- A storage that counts the accesses of another.
 use Rattle.std.specs.Prelude.{◌≡◌, ℕ, List}
-use Rattle.iceoryx2_access.specs.Counts.{one_more, CountsEach}
+use Rattle.iceoryx2_access.specs.Counts.{count_up, CountsEach}
 use Rattle.iceoryx2_access.specs.Letter.{Letter}
 use Rattle.iceoryx2_access.specs.Run.{Run}
 
@@ -13,7 +13,7 @@ pub record CountedState (S : Type 0) : Type 0 where
 pub record IsCountedAccess {S : Type 0} (step : S → Letter → S → Type 0) (old : CountedState S) (l : Letter)
     (new : CountedState S) : Type 0 where
   pub inside : step old.inner l new.inner
-  pub total : new.total ≡ one_more old.total
+  pub total : new.total ≡ count_up old.total
 
 -- What a word makes of a counted storage.
 module _ {S : Type 0} (step : S → Letter → S → Type 0) (a b : CountedState S) (word : List Letter) where

@@ -1,7 +1,7 @@
 //! A storage that counts the accesses of another.
 
 ghost use Rattle.std.specs.Prelude.{◌≡◌};
-ghost use Rattle.iceoryx2_access.specs.Counts.{one_more};
+ghost use Rattle.iceoryx2_access.specs.Counts.{count_up};
 
 use iceoryx2_access::storage::{
     Existence, FetchError, LockError, MakeSegmentError, OpenSegmentError, PublishError, Release,
@@ -51,7 +51,7 @@ impl<S> Counted<S> {
 
     /// Counts one access more.
     fn count(&mut self)
-        ensures { self.new ≡ record self.old { total = one_more self.old.total } }
+        ensures { self.new ≡ record self.old { total = count_up self.old.total } }
     {
         self.total = self.total.saturating_add(1);
     }

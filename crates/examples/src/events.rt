@@ -20,7 +20,7 @@ fn create(alloc: Global, table: &mut Table) -> Result<PortFactory<Local>> {
 }
 
 /// Prints what was agreed.
-fn tell(rt: &HostRuntime, factory: &PortFactory<Local>) -> Result<()> {
+fn print_facts(rt: &HostRuntime, factory: &PortFactory<Local>) -> Result<()> {
     let settings = factory.static_config();
     let listeners = settings.max_listeners;
     println!(rt; "  node 2 asks for 3 listeners, and there are {listeners}")?;
@@ -34,9 +34,9 @@ fn tell(rt: &HostRuntime, factory: &PortFactory<Local>) -> Result<()> {
 fn read(rt: &HostRuntime, table: &mut Table) -> Result<()> {
     let builder = service_builder(rt.alloc(), 2, NAME)?.event();
     let factory = builder.max_listeners(3).open(table)?;
-    let told = tell(rt, &factory);
+    let printed = print_facts(rt, &factory);
     close(factory, table)?;
-    told
+    printed
 }
 
 /// Node 3 wants no deadline and five listeners. Neither fits, and listeners are compared first.

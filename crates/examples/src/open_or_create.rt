@@ -20,7 +20,7 @@ fn call(alloc: Global, node: u64, key: &str, table: &mut Table) -> Result<Distan
 }
 
 /// Prints which node has created the service, and how many attributes it has.
-fn tell(rt: &HostRuntime, factory: &Distances) -> Result<()> {
+fn print_facts(rt: &HostRuntime, factory: &Distances) -> Result<()> {
     let (node, attributes) = (factory.node(), factory.attributes().len());
     let creator = factory.creator().context("no creator is told")?;
     println!(rt; "  node {node}: created by node {creator}, {attributes} attribute")?;
@@ -30,9 +30,9 @@ fn tell(rt: &HostRuntime, factory: &Distances) -> Result<()> {
 /// Node 2 opens what node 1 has created. The key that both require is that of their pair, so it is there.
 fn open(rt: &HostRuntime, table: &mut Table) -> Result<()> {
     let factory = call(rt.alloc(), 2, "unit", table)?;
-    let told = tell(rt, &factory);
+    let printed = print_facts(rt, &factory);
     close(factory, table)?;
-    told
+    printed
 }
 
 /// Runs the example. A create defines required pairs and no required keys: nodes 3 and 4 require another
@@ -43,11 +43,11 @@ pub fn run(rt: &HostRuntime, table: &mut Table) -> Result<()> {
     close(first, table)?;
     opened?;
     let third = call(rt.alloc(), 3, "robot", table)?;
-    let told = tell(rt, &third);
+    let printed = print_facts(rt, &third);
     let answer = call(rt.alloc(), 4, "robot", table);
     let error = refusal(answer, table);
     close(third, table)?;
-    told?;
+    printed?;
     println!(rt; "  node 4: {}", error?)?;
     Ok(())
 }

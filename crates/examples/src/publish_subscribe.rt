@@ -40,9 +40,9 @@ fn read(rt: &HostRuntime, table: &mut Table) -> Result<()> {
     let factory = open(rt.alloc(), 2, "2", table)?;
     let payload = factory.static_config().message_type_details.payload();
     let (name, size, alignment) = (payload.type_name(), payload.size(), payload.alignment());
-    let told = println!(rt; "  payload: {name}, {size} bytes at multiples of {alignment}");
+    let printed = println!(rt; "  payload: {name}, {size} bytes at multiples of {alignment}");
     close(factory, table)?;
-    Ok(told?)
+    Ok(printed?)
 }
 
 /// Runs the example. Node 3 requires another floor.

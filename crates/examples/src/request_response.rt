@@ -22,7 +22,7 @@ fn create(alloc: Global, table: &mut Table) -> Result<Planning> {
 }
 
 /// Prints what was agreed.
-fn tell(rt: &HostRuntime, factory: &Planning) -> Result<()> {
+fn print_facts(rt: &HostRuntime, factory: &Planning) -> Result<()> {
     let settings = factory.static_config();
     let request = settings.request_message_type_details.payload();
     let (variant, size) = (request.variant(), request.size());
@@ -36,9 +36,9 @@ fn tell(rt: &HostRuntime, factory: &Planning) -> Result<()> {
 fn read(rt: &HostRuntime, table: &mut Table) -> Result<()> {
     let builder = service_builder(rt.alloc(), 2, NAME)?.request_response::<Slice<Pose>, Route>();
     let factory = builder.max_response_buffer_size(2).open(table)?;
-    let told = tell(rt, &factory);
+    let printed = print_facts(rt, &factory);
     close(factory, table)?;
-    told
+    printed
 }
 
 /// Node 3 sends one pose in each request. So no setting is compared.

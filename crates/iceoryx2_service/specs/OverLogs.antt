@@ -4,7 +4,7 @@ use Rattle.iceoryx2_access.specs.Letter.{Letter}
 use Rattle.iceoryx2_log.specs.Log.{Contents}
 use Rattle.iceoryx2_journal.specs.Taking.{is_own}
 use Rattle.iceoryx2_journal.specs.Journal.{JournalState, IsJournalAccess}
-use Rattle.iceoryx2_open_or_create.specs.BuilderCalls.{BuilderCall}
+use Rattle.iceoryx2_rounds.specs.BuilderCalls.{BuilderCall}
 use Rattle.iceoryx2_call_laws.specs.Promise.{PromiseOver}
 
 module _ {L : Type 0} (contents : L → Option Contents) (nodes : List ℕ) where

@@ -7,7 +7,7 @@ ghost use Rattle.iceoryx2_types.specs.Types.{Message};
 ghost use Rattle.iceoryx2_description.specs.Span.{Span};
 ghost use Rattle.iceoryx2_description.specs.declared.description.ServiceHash.{ServiceHash};
 ghost use Rattle.iceoryx2_description.specs.declared.time.ClockFault.{ClockFault};
-ghost use Rattle.iceoryx2_open_or_create.specs.BuilderCalls.{Way};
+ghost use Rattle.iceoryx2_rounds.specs.BuilderCalls.{Way};
 ghost use Rattle.iceoryx2_event_builder.specs.Builder.{EventBuilderState};
 ghost use Rattle.iceoryx2_event_builder.specs.EventCalls.{event_call};
 ghost use Rattle.iceoryx2_publish_subscribe_builder.specs.Builder.{PublishSubscribeBuilderState};

@@ -1,4 +1,4 @@
-//! Sessions of commands, over which storages they are, what they are told, what they answer, and the laws of
+//! Sessions of commands, over which storages they are, what they are given, what they answer, and the laws of
 //! their calls over a table.
 
 pub use iceoryx2_call_laws::fault_laws::agreement_under_faults;

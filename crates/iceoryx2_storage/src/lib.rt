@@ -1,4 +1,4 @@
-//! The storages that a builder works over, under one name: the trait, the table, journals of a log that processes
+//! The storages that a builder works over, under one name: the trait, both tables, journals of a log that processes
 //! share, scripts, and traces of any.
 //!
 //! No code: the crates that it names state what they prove.
@@ -8,5 +8,4 @@ pub mod shared;
 pub mod table;
 
 pub use iceoryx2_access::storage;
-pub use iceoryx2_script::script;
-pub use iceoryx2_traced::traced;
+pub use iceoryx2_testing::{script, traced};

@@ -1,8 +1,17 @@
-//! A table within one process, its readers' answers, the steps of others that may wait at it, and services that
-//! stand in it.
+//! A table within one process and one for many services, what their readers answer, the steps of others that may
+//! wait at them, and services that stand in them.
 
+pub use finite_map::{FiniteMap, Key, Visit};
+pub use iceoryx2_large_table::keys::{Seat, ServiceKey, TagKey};
+pub use iceoryx2_large_table::kinds::{Kinds, Trees};
+pub use iceoryx2_large_table::local::ManyLocal;
+pub use iceoryx2_large_table::table::LargeTable;
+pub use iceoryx2_large_table::world::WorldOver;
 pub use iceoryx2_table::local::Local;
-pub use iceoryx2_table::table::Table;
+pub use iceoryx2_table::own_parts::OwnParts;
+pub use iceoryx2_table::rows::{RowState, StoredRow};
+pub use iceoryx2_table::segments::StoredSegment;
+pub use iceoryx2_table::table::{Table, TableOver};
 pub use iceoryx2_world::batches::{Act, Step};
-pub use iceoryx2_world::listing::{Entry, ListedRow, ListedSegment};
+pub use iceoryx2_world::listing::{ListedRow, ListedSegment, ListedService};
 pub use iceoryx2_world::world::Bytes;

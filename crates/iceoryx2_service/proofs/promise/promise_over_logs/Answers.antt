@@ -6,8 +6,8 @@ use Rattle.iceoryx2_journal.specs.Taking.{is_own}
 use Rattle.iceoryx2_journal.specs.Journal.{JournalState}
 use Rattle.iceoryx2_journal.proofs.Runs.{access_under}
 use Rattle.iceoryx2_builder.proofs.LawfulCalls.{event_call_is_lawful, publish_subscribe_call_is_lawful, request_response_call_is_lawful}
-use Rattle.iceoryx2_open_or_create.specs.BuilderCalls.{BuilderCall}
-use Rattle.iceoryx2_open_or_create.specs.LawfulCalls.{IsLawfulCall}
+use Rattle.iceoryx2_rounds.specs.BuilderCalls.{BuilderCall}
+use Rattle.iceoryx2_rounds.specs.LawfulCalls.{IsLawfulCall}
 use Rattle.iceoryx2_call_laws.proofs.calls.Promise.{promise_over}
 use Rattle.iceoryx2_service.specs.OverLogs.{IsAccessOf, PromiseOverLog}
 use Rattle.iceoryx2_service.proofs.promise.promise_over_logs.Goals as goal
